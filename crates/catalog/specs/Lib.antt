@@ -1,0 +1,3 @@
+pub mod Demo
+pub mod LookUp
+pub mod Valid

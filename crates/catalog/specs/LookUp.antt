@@ -1,0 +1,30 @@
+-- What a theme and an address name in a catalogue.
+use Rattle.std.specs.Prelude.{ℕ, ◌<◌, Option, option_and_then, slice_get, IsSomeAnd, Contains, IsSome}
+use Rattle.catalog.specs.declared.catalogue.Catalogue.{Catalogue}
+use Rattle.catalog.specs.declared.layer.Layer.{Layer}
+use Rattle.catalog.specs.declared.layer.Style.{Style}
+use Rattle.matrix_geometry.specs.declared.address.Address.{Address}
+use Rattle.matrix_geometry.specs.declared.matrix.Matrix.{Matrix}
+use Rattle.matrix_geometry.specs.declared.theme.Theme.{Theme}
+
+-- the layer of a theme
+abbrev pub layer_of : Catalogue → Theme → Option Layer
+layer_of c t = slice_get c.layers t.layer
+
+-- the style of a theme
+abbrev pub style_of : Catalogue → Theme → Option Style
+style_of c t = option_and_then (λ l. slice_get l.styles t.style) (layer_of c t)
+
+-- the matrix of this number in a grid
+abbrev pub matrix_in : Catalogue → ℕ → ℕ → Option Matrix
+matrix_in c grid z = option_and_then (λ g. slice_get g.matrices z) (slice_get c.grids grid)
+
+-- the matrix of a tile
+abbrev pub matrix_of : Catalogue → Address → Option Matrix
+matrix_of c a = matrix_in c a.grid a.z
+
+-- the tile lies in a matrix of one of its layer's grids
+pub record IsTile (c : Catalogue) (a : Address) : Type 0 where
+  pub layer : IsSomeAnd (layer_of c a.theme) (λ l. Contains l.grids a.grid)
+  pub style : IsSome (style_of c a.theme)
+  pub place : IsSomeAnd (matrix_of c a) (λ m. (a.row < m.rows) × (a.col < m.cols))

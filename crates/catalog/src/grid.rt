@@ -1,0 +1,11 @@
+use exact_ratio::items::Items;
+use exact_ratio::words::Words;
+use matrix_geometry::matrix::Matrix;
+
+/// A tile matrix set (OGC 07-057r7, section 6): matrices from coarse to fine, each with its name at the same place.
+#[derive(Drop)]
+pub struct Grid {
+    pub id: Words,
+    pub names: Items<Words>,
+    pub matrices: Items<Matrix>,
+}

@@ -1,0 +1,47 @@
+use exact_ratio::items::Items;
+use exact_ratio::words::Words;
+
+/// The colour of all values from `from` on, up to the next break.
+#[derive(Clone, Copy, Debug, PartialEq, Eq)]
+pub struct Break {
+    pub from: u8,
+    pub r: u8,
+    pub g: u8,
+    pub b: u8,
+}
+
+/// A style. Without breaks it is grey.
+#[derive(Drop)]
+pub struct Style {
+    pub id: Words,
+    pub breaks: Items<Break>,
+}
+
+/// A dimension of a layer, as its time or its level, with the values that it may have.
+#[derive(Drop)]
+pub struct Dimension {
+    pub id: Words,
+    pub values: Items<Words>,
+    /// The number of the value that counts where a request gives none.
+    pub default: Option<u32>,
+}
+
+/// A layer of the map.
+#[derive(Drop)]
+pub struct Layer {
+    pub id: Words,
+    /// The numbers of the grids on which it is served.
+    pub grids: Items<u32>,
+    pub styles: Items<Style>,
+    pub dims: Items<Dimension>,
+    /// How many tiles a metatile has across.
+    pub meta_x: u32,
+    /// How many tiles a metatile has downwards.
+    pub meta_y: u32,
+    /// How many pixels are rendered round a metatile and cut away.
+    pub gutter: u32,
+    /// The side of a ground cell, in units of the grid.
+    pub cell: u64,
+    /// The most bytes that its kept metatiles may take.
+    pub quota: Option<u64>,
+}
