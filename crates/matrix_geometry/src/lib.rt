@@ -6,5 +6,6 @@
 #![tactic(auto)]
 
 pub mod address;
+pub mod boxes;
 pub mod matrix;
 pub mod theme;

@@ -1,0 +1,23 @@
+use matrix_geometry::theme::Theme;
+
+/// How the tiles of a layer are gathered into metatiles.
+#[derive(Clone, Copy, Debug, PartialEq, Eq)]
+pub struct Factors {
+    /// How many tiles a metatile has across, 1 to 8.
+    pub x: u32,
+    /// How many tiles a metatile has downwards, 1 to 8.
+    pub y: u32,
+    /// How many pixels are rendered round it and cut away, 0 to 64.
+    pub gutter: u32,
+}
+
+/// One metatile: its theme, its grid, the number of its matrix in the grid, and its place among the metatiles of the
+/// matrix. Keys are ordered field by field.
+#[derive(Clone, Copy, Debug, PartialEq, Eq, PartialOrd, Ord)]
+pub struct MetaKey {
+    pub theme: Theme,
+    pub grid: u32,
+    pub z: u32,
+    pub row: u32,
+    pub col: u32,
+}

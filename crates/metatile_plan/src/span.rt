@@ -1,0 +1,6 @@
+/// A part of a text or a blob, in bytes.
+#[derive(Clone, Copy, Debug, PartialEq, Eq)]
+pub struct Span {
+    pub start: u32,
+    pub length: u32,
+}
