@@ -1,0 +1,58 @@
+ghost use Rattle.std.specs.Prelude.{◌≡◌, None};
+
+use crate::streams::{ByteSource, Failed};
+use std::fs::File;
+use std::io::{ErrorKind, Read};
+use std::rt::Files;
+
+/// How the file was found.
+#[derive(Drop)]
+enum Found {
+    Opened(File),
+    Absent,
+    Shut,
+}
+
+/// The bytes of a file. It tells no content.
+#[derive(Drop)]
+pub struct FileSource {
+    found: Found,
+    faults: u64,
+}
+
+impl FileSource {
+    /// Opens a file. An absent one has no bytes; of one that is there and can't be opened every take fails.
+    pub fn open<R: Files<File = File>>(rt: &R, path: &str) -> FileSource
+        ensures { ⟦<FileSource as ByteSource>⟧.faults result ≡ 0 }
+    {
+        let found = match File::open(rt, path) {
+            Ok(file) => Found::Opened(file),
+            Err(error) => {
+                if error.kind() == ErrorKind::NotFound {
+                    Found::Absent
+                } else {
+                    Found::Shut
+                }
+            }
+        };
+        FileSource { found, faults: 0 }
+    }
+}
+
+impl ByteSource for FileSource {
+    ghost left = { λ _. None };
+
+    ghost faults = { λ s. s.faults };
+
+    fn take(&mut self, into: &mut [u8]) -> Result<usize, Failed> {
+        let answer = match &mut self.found {
+            Found::Opened(file) => file.read(into).map_err(|_| Failed),
+            Found::Absent => Ok(0),
+            Found::Shut => Err(Failed),
+        };
+        if answer.is_err() {
+            self.faults = causes::one_more(self.faults);
+        }
+        answer
+    }
+}

@@ -1,0 +1,27 @@
+ghost use Rattle.std.specs.Prelude.{◌≡◌, ◌≤◌, take, length, IfErr, OnOk};
+ghost use Rattle.std.specs.Io.KnownBytes.{Appends};
+ghost use Rattle.causes.specs.Causes.{HasCause};
+
+use crate::streams::ByteSink;
+
+/// How many bytes went out before the write that failed.
+#[derive(Clone, Copy, Debug, PartialEq, Eq)]
+pub struct Sent(pub u64);
+
+/// Sends all of the bytes. `Sent(n)` where a write failed, and then exactly the first `n` went out.
+pub fn send<O: ByteSink>(sink: &mut O, bytes: &[u8]) -> Result<(), Sent>
+    ensures ok { OnOk result (Appends (O.taken sink.old) (O.taken sink.new) bytes.now) }
+    ensures err { IfErr result (λ sent. (sent.0 ≤ length bytes.now) × Appends (O.taken sink.old) (O.taken sink.new) (take sent.0 bytes.now)) }
+    ensures cause { HasCause (O.faults sink.old) (O.faults sink.new) result }
+    ensures apart { O.apart sink.new ≡ O.apart sink.old }
+{
+    let mut at = 0;
+    'sending: while at < bytes.len() {
+        let (_, rest) = bytes.split_at(at);
+        match sink.put(rest) {
+            Ok(count) => at += count,
+            Err(_) => return Err(Sent(at as u64)),
+        }
+    }
+    Ok(())
+}
