@@ -1,0 +1,10 @@
+//! The lines of a schedule: who acts, with which verb, and on what.
+//!
+//! Promises: `read_line` gives the line that a text spells, or its first fault (`specs/Line.antt`).
+//! Stands on metatile_plan, for its spans.
+#![tactic(auto)]
+
+pub mod line;
+#[cfg(test)]
+mod tests;
+pub mod verb;
