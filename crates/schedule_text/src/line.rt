@@ -1,4 +1,4 @@
-ghost use Rattle.std.specs.Prelude.{◌≡◌, ◌≤◌, ℕ, ◌+◌, ◌<◌, length, slice_index};
+ghost use Rattle.std.specs.Prelude.{◌≡◌, ◌≤◌, ℕ, ◌+◌, ◌<◌, length, slice_index, IfOk};
 ghost use Rattle.std.specs.Str.Parse.{AllDigits};
 ghost use Rattle.schedule_text.specs.Line.{digits_len, actor_of, line_of};
 
@@ -56,7 +56,8 @@ fn actor_of(digits: &[u8]) -> Option<u32>
 
 /// Reads one line, without its line feed. Each fault comes exactly where `LineFault` says, `TooLong` first.
 pub fn read_line(line: &[u8]) -> Result<Line, LineFault>
-    ensures { result ≡ line_of line.now }
+    ensures line { result ≡ line_of line.now }
+    ensures within { IfOk result (λ read. read.rest.start + read.rest.length ≡ length line.now) }
 {
     if line.len() > LINE_LIMIT {
         return Err(LineFault::TooLong);

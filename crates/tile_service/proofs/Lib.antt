@@ -1,0 +1,5 @@
+pub mod Headers
+pub mod Gets
+pub mod Serving
+pub mod FirstLine
+pub mod Known

@@ -1,0 +1,6 @@
+pub mod Sent
+pub mod Response
+pub mod Requests
+pub mod Lines
+pub mod Run
+pub mod OneLine

@@ -1,0 +1,105 @@
+ghost use Rattle.std.specs.Prelude.{◌≡◌, ◌+◌, ◌≤◌, ◌++◌, length, OnOk, OnErr, decimal};
+ghost use Rattle.std.specs.Io.KnownBytes.{Appends};
+ghost use Rattle.arrayvec.specs.ArrayVec.{array_vec_len};
+ghost use Rattle.causes.specs.Causes.{HasCause};
+ghost use Rattle.tile_service.specs.OneLine.{MayTell};
+ghost use Rattle.tile_service.specs.Response.{answer_line, answered};
+ghost use Rattle.tile_service.specs.Sent.{AppendsFront};
+
+use crate::outcome::Outcome;
+use crate::response::{no_memory, response_of};
+use arrayvec::ArrayVec;
+use http_wire::sending::{Sent, send};
+use http_wire::streams::ByteSink;
+use itoa::Buffer;
+use std::alloc::Global;
+
+fn add(text: &mut ArrayVec<u8, 128>, bytes: &[u8])
+    requires { array_vec_len text.old + length bytes.now ≤ 128 }
+    ensures items { text.new.items ≡ text.old.items ++ bytes.now }
+    ensures len { array_vec_len text.new ≡ array_vec_len text.old + length bytes.now }
+{
+    if text.try_extend_from_slice(bytes).is_err() {
+        unreachable!()
+    }
+}
+
+fn add_number(text: &mut ArrayVec<u8, 128>, number: u64)
+    requires { array_vec_len text.old + 20 ≤ 128 }
+    ensures items { text.new.items ≡ text.old.items ++ decimal number }
+    ensures len { array_vec_len text.new ≤ array_vec_len text.old + 20 }
+{
+    let mut buffer = Buffer::new();
+    add(text, buffer.format(number).as_bytes());
+}
+
+/// The line that stands before a response. It takes no memory.
+fn answer_line(line: u64, actor: u32, start: u64, bytes: usize) -> ArrayVec<u8, 128>
+    ensures { result.items ≡ answer_line line actor start bytes }
+{
+    let mut text = ArrayVec::new();
+    add(&mut text, b"answer ");
+    add_number(&mut text, line);
+    add(&mut text, b" ");
+    add_number(&mut text, u64::from(actor));
+    add(&mut text, b" ");
+    add_number(&mut text, start);
+    add(&mut text, b" ");
+    add_number(&mut text, bytes as u64);
+    add(&mut text, b"\n");
+    text
+}
+
+/// Sends all of the bytes, or a front of them.
+fn send_part<O: ByteSink>(sink: &mut O, bytes: &[u8]) -> Result<(), Sent>
+    ensures ok { OnOk result (Appends (O.taken sink.old) (O.taken sink.new) bytes.now) }
+    ensures err { OnErr result (AppendsFront (O.taken sink.old) (O.taken sink.new) bytes.now) }
+    ensures cause { HasCause (O.faults sink.old) (O.faults sink.new) result }
+{
+    match send(sink, bytes) {
+        Ok(()) => Ok(()),
+        Err(sent) => Err(sent),
+    }
+}
+
+/// Sends two parts, or a front of them.
+fn send_both<O: ByteSink>(sink: &mut O, first: &[u8], second: &[u8]) -> Result<(), Sent>
+    ensures ok { OnOk result (Appends (O.taken sink.old) (O.taken sink.new) (first.now ++ second.now)) }
+    ensures err { OnErr result (AppendsFront (O.taken sink.old) (O.taken sink.new) (first.now ++ second.now)) }
+    ensures cause { HasCause (O.faults sink.old) (O.faults sink.new) result }
+{
+    send_part(sink, first)?;
+    send_part(sink, second)
+}
+
+fn send_answer<O: ByteSink>(
+    output: &mut O,
+    line: u64,
+    actor: u32,
+    response: &[u8],
+) -> Result<(), Sent>
+    ensures ok { OnOk result (Appends (O.taken output.old) (O.taken output.new) (answer_line line actor line (length response.now) ++ response.now)) }
+    ensures err { OnErr result (AppendsFront (O.taken output.old) (O.taken output.new) (answer_line line actor line (length response.now) ++ response.now)) }
+    ensures cause { HasCause (O.faults output.old) (O.faults output.new) result }
+{
+    let head = answer_line(line, actor, line, response.len());
+    send_both(output, head.as_slice(), response)
+}
+
+/// Writes the answer to line `line`, which began there too. Where memory runs out, the answer says so.
+pub fn answer<O: ByteSink>(
+    alloc: Global,
+    output: &mut O,
+    line: u64,
+    actor: u32,
+    outcome: &Outcome,
+) -> Result<(), Sent>
+    ensures ok { OnOk result (MayTell outcome.now (λ o. Appends (O.taken output.old) (O.taken output.new) (answered line actor line o))) }
+    ensures err { OnErr result (MayTell outcome.now (λ o. AppendsFront (O.taken output.old) (O.taken output.new) (answered line actor line o))) }
+    ensures cause { HasCause (O.faults output.old) (O.faults output.new) result }
+{
+    match response_of(alloc, outcome) {
+        Ok(response) => send_answer(output, line, actor, response.as_slice()),
+        Err(_) => send_answer(output, line, actor, no_memory()),
+    }
+}
