@@ -3,3 +3,7 @@ pub mod Gets
 pub mod Serving
 pub mod FirstLine
 pub mod Known
+pub mod Answering
+pub mod OfCatalogue
+pub mod Fresh
+pub mod Far

@@ -4,3 +4,4 @@ pub mod Requests
 pub mod Lines
 pub mod Run
 pub mod OneLine
+pub mod Schedules

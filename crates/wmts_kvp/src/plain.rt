@@ -26,10 +26,10 @@ pub enum Plain {
 
 /// What a query of the form spells. A number of `MOST` stands for each greater one too.
 #[derive(Clone, Copy)]
-struct Spelling {
-    z: u32,
-    row: u64,
-    col: u64,
+pub struct Spelling {
+    pub z: u32,
+    pub row: u64,
+    pub col: u64,
 }
 
 const FRONT: &[u8] =

@@ -1,4 +1,4 @@
-use Rattle.std.proofs.Common.{rules, refl, None, Some, ◌≡◌, ◌∙◌, ap, subst, sym, arith}
+use Rattle.std.proofs.Common.{rules, refl, ◌∙◌, ap}
 use Rattle.cabinet.specs.Commands.{with_text}
 use Rattle.tile_service.specs.Requests.{calm}
 use Rattle.tile_service.proofs.Gets.{got_no_ask, got_spent, got_made, got_failed, got_no_render}

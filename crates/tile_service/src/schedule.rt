@@ -1,0 +1,60 @@
+ghost use Rattle.std.specs.Prelude.{◌≡◌};
+ghost use Rattle.catalog.specs.Demo.{demo};
+ghost use Rattle.catalog.specs.Valid.{IsValid};
+ghost use Rattle.tile_service.specs.Schedules.{Schedules, Outside, Input};
+
+use crate::counter::Counter;
+use crate::run_lines::{RunEnd, run_lines};
+use http_wire::inputs::{InputEnd, read_all};
+use http_wire::streams::{ByteSink, ByteSource};
+use source_render::source::Source;
+use std::alloc::Global;
+
+/// The most bytes of a schedule.
+const SCHEDULE_LIMIT: usize = 16_777_216;
+
+/// How a schedule ended.
+#[derive(Clone, Copy, Debug, PartialEq, Eq)]
+pub enum ScheduleEnd {
+    /// The input was read to its end, and every line was run.
+    Done,
+    /// This line was refused, counted from 1; the lines before it were run.
+    Line(u64),
+    /// A read of the input failed.
+    ReadFault,
+    /// A write of the output failed; no later line was run.
+    WriteFault,
+    /// The input has more bytes than a schedule may have.
+    TooLong,
+    /// Memory ran out before the first line.
+    OutOfMemory,
+}
+
+/// Reads a schedule whole, runs its lines in order, and writes the answers.
+pub fn run_schedule<S: Source, I: ByteSource, O: ByteSink>(
+    alloc: Global,
+    counter: &mut Counter,
+    source: &mut S,
+    input: &mut I,
+    output: &mut O,
+) -> ScheduleEnd
+    requires demo { counter.old.cabinet.catalogue ≡ demo }
+    requires valid { IsValid counter.old.cabinet.catalogue }
+    ensures { Schedules
+        (record { reads = record { before = I.faults input.old; after = I.faults input.new }; from = I.left input.old; to = I.left input.new })
+        (record { told = S.told source.old; renders = record { before = S.faults source.old; after = S.faults source.new }; writes = record { before = O.faults output.old; after = O.faults output.new }; from = O.taken output.old; to = O.taken output.new })
+        ((output.new ≡ output.old) × (source.new ≡ source.old) × (counter.new ≡ counter.old))
+        (record { cabinet = counter.old.cabinet }) (record { cabinet = counter.new.cabinet }) result }
+{
+    let text = match read_all(alloc, input, SCHEDULE_LIMIT) {
+        Ok(text) => text,
+        Err(InputEnd::ReadFault) => return ScheduleEnd::ReadFault,
+        Err(InputEnd::TooLong) => return ScheduleEnd::TooLong,
+        Err(InputEnd::OutOfMemory) => return ScheduleEnd::OutOfMemory,
+    };
+    match run_lines(alloc, counter, source, text.as_slice(), output) {
+        RunEnd::Done => ScheduleEnd::Done,
+        RunEnd::Line(n) => ScheduleEnd::Line(n),
+        RunEnd::WriteFault => ScheduleEnd::WriteFault,
+    }
+}
