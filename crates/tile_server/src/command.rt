@@ -1,0 +1,87 @@
+ghost use Rattle.std.specs.Prelude.{◌≡◌, ◌↔◌, IsTrue, IfOk};
+ghost use Rattle.cabinet.specs.Commands.{fresh_state};
+ghost use Rattle.catalog.specs.Demo.{demo};
+ghost use Rattle.catalog.specs.Valid.{IsValid};
+ghost use Rattle.tile_service.specs.Schedules.{Input, Outside};
+ghost use Rattle.tile_server.specs.Command.{IsSchedule, HasServed};
+
+use cabinet::cabinet::Cabinet;
+use catalog::catalogue::Catalogue;
+use exact_ratio::words::Words;
+use http_wire::streams::{ByteSink, ByteSource};
+use source_render::source::Source;
+use std::alloc::{AllocError, Global};
+use tile_service::counter::Counter;
+use tile_service::schedule::{ScheduleEnd, run_schedule};
+
+/// How a command ended.
+#[derive(Clone, Copy, Debug, PartialEq, Eq)]
+pub enum Status {
+    /// The input was read to its end, and all was written.
+    Done,
+    /// The words are no command.
+    Usage,
+    /// A read of the input failed.
+    ReadFault,
+    /// A write of the output failed.
+    WriteFault,
+    /// This line of the schedule was refused, counted from 1; the lines before it were run and answered.
+    Line(u64),
+    /// Memory ran out before the first line.
+    OutOfMemory,
+    /// The input has more bytes than a schedule may have.
+    TooLong,
+}
+
+fn is_schedule(words: &[Words]) -> bool
+    ensures { IsTrue result ↔ IsSchedule words.now }
+{
+    match words {
+        [word] => word.bytes() == b"schedule".as_slice(),
+        _ => false,
+    }
+}
+
+/// A cabinet in memory of the built-in catalogue.
+fn demo_counter(alloc: Global) -> Result<Counter, AllocError>
+    ensures cabinet { IfOk result (λ c. c.cabinet ≡ fresh_state demo) }
+    ensures valid { IfOk result (λ c. IsValid c.cabinet.catalogue) }
+{
+    let catalogue = Catalogue::demo(alloc)?;
+    Ok(Counter {
+        cabinet: Cabinet::memory(alloc, catalogue)?,
+    })
+}
+
+/// Does what the words say. The one command so far is `schedule`: it runs the lines of the input on a cabinet in memory
+/// of the built-in catalogue, and writes the answers. `Usage` exactly where the words are not that; each other status
+/// comes as `Status` says.
+pub fn run_command<S: Source, I: ByteSource, O: ByteSink>(
+    alloc: Global,
+    words: &[Words],
+    input: &mut I,
+    output: &mut O,
+    source: &mut S,
+) -> Status
+    ensures usage { (result ≡ Status.Usage) ↔ (IsSchedule words.now → ⊥) }
+    ensures unread { result ≡ Status.Usage → input.new ≡ input.old }
+    ensures served { HasServed
+        (record { reads = record { before = I.faults input.old; after = I.faults input.new }; from = I.left input.old; to = I.left input.new })
+        (record { told = S.told source.old; renders = record { before = S.faults source.old; after = S.faults source.new }; writes = record { before = O.faults output.old; after = O.faults output.new }; from = O.taken output.old; to = O.taken output.new })
+        ((output.new ≡ output.old) × (source.new ≡ source.old)) result }
+{
+    if !is_schedule(words) {
+        return Status::Usage;
+    }
+    let Ok(mut counter) = demo_counter(alloc) else {
+        return Status::OutOfMemory;
+    };
+    match run_schedule(alloc, &mut counter, source, input, output) {
+        ScheduleEnd::Done => Status::Done,
+        ScheduleEnd::Line(n) => Status::Line(n),
+        ScheduleEnd::ReadFault => Status::ReadFault,
+        ScheduleEnd::WriteFault => Status::WriteFault,
+        ScheduleEnd::TooLong => Status::TooLong,
+        ScheduleEnd::OutOfMemory => Status::OutOfMemory,
+    }
+}

@@ -1,0 +1,29 @@
+//! How a status is told to the operator: a line on standard error, and the code that the process ends with.
+use crate::command::Status;
+use std::io::Eprint;
+
+/// The code of a status.
+pub fn code_of(status: Status) -> u8 {
+    match status {
+        Status::Done => 0,
+        Status::Usage => 2,
+        Status::ReadFault => 4,
+        Status::WriteFault => 5,
+        Status::Line(_) => 7,
+        Status::OutOfMemory => 10,
+        Status::TooLong => 12,
+    }
+}
+
+/// Prints the line of a status on standard error; `Done` has none. A standard error that takes nothing changes nothing.
+pub fn tell(rt: &impl Eprint, status: Status) {
+    let _ = match status {
+        Status::Done => Ok(()),
+        Status::Usage => eprintln!(rt; "usage"),
+        Status::ReadFault => eprintln!(rt; "read fault"),
+        Status::WriteFault => eprintln!(rt; "write fault"),
+        Status::Line(line) => eprintln!(rt; "line {line}"),
+        Status::OutOfMemory => eprintln!(rt; "out of memory"),
+        Status::TooLong => eprintln!(rt; "too long"),
+    };
+}

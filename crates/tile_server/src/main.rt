@@ -1,0 +1,78 @@
+//! The program `tile_server`, a cache of map tiles.
+//!
+//! Promises: `run_command` does what its words say, and each of its statuses has its cause (`specs/Command.antt`). `main`
+//! is the trusted edge: it hands the process's words and streams to `run_command`, and tells its status.
+//! Stands on tile_service and the crates whose types its call names.
+#![tactic(auto)]
+
+mod command;
+mod fault_text;
+#[cfg(test)]
+mod tests;
+
+use command::{Status, run_command};
+use exact_ratio::words::Words;
+use fault_text::{code_of, tell};
+use http_wire::std_streams::{StdinSource, StdoutSink};
+use source_render::numbered::Numbered;
+use std::io::{Eprint, Print};
+use std::process::ExitCode;
+use std::rt::Env;
+use std::{env, io};
+
+const HELP: &str =
+    "tile_server schedule < LINES    runs the lines of a schedule on a cabinet in memory\n";
+
+const VERSION: &str = "tile_server 0.1.0\n";
+
+/// The words behind the program's name.
+fn words_of(rt: &(impl Env + AllocGlobal)) -> io::Result<Vec<Words>> {
+    let mut words = Vec::new(rt.alloc());
+    for word in env::args(rt)?.skip(1) {
+        words.push(Words::new(rt.alloc(), word.as_bytes())?)?;
+    }
+    Ok(words)
+}
+
+fn main(rt: HostRuntime) -> ExitCode {
+    let words = match words_of(&rt) {
+        Ok(words) => words,
+        Err(error) if error.kind() == io::ErrorKind::OutOfMemory => {
+            return ended(&rt, Status::OutOfMemory);
+        }
+        Err(_) => return ended(&rt, Status::Usage),
+    };
+    if let [word] = words.as_slice() {
+        if word.bytes() == b"--help".as_slice() {
+            return printed(&rt, HELP);
+        }
+        if word.bytes() == b"--version".as_slice() {
+            return printed(&rt, VERSION);
+        }
+    }
+    let mut input = StdinSource::new(rt.stdin());
+    let mut output = StdoutSink::new(rt.stdout());
+    let mut source = Numbered::new(0);
+    let status = run_command(
+        rt.alloc(),
+        words.as_slice(),
+        &mut input,
+        &mut output,
+        &mut source,
+    );
+    ended(&rt, status)
+}
+
+/// Tells a status on standard error, and gives its code.
+fn ended(rt: &impl Eprint, status: Status) -> ExitCode {
+    tell(rt, status);
+    ExitCode::from(code_of(status))
+}
+
+/// Prints a text on standard output.
+fn printed(rt: &(impl Print + Eprint), text: &str) -> ExitCode {
+    match rt.print(text) {
+        Ok(()) => ExitCode::from(code_of(Status::Done)),
+        Err(_) => ended(rt, Status::WriteFault),
+    }
+}
