@@ -49,7 +49,7 @@ abs-neg : (n : ℕ) → unsigned_abs (neg_ℤ (pos n)) ≡ n
 abs-neg zero = refl
 abs-neg (suc n) = refl
 
-abs-div : (n : ℤ) (g : ℕ) → unsigned_abs (int_div n (pos g)) ≡ unsigned_abs n / g
+pub abs-div : (n : ℤ) (g : ℕ) → unsigned_abs (int_div n (pos g)) ≡ unsigned_abs n / g
 abs-div (pos n) g = refl
 abs-div (negsuc n) g = abs-neg (suc n / g)
 
@@ -73,6 +73,12 @@ lowest_is n d h =
       positive = div_positive d _ h some is.1;
       lowest = rw (abs-div n (gcd (unsigned_abs n) (unsigned_abs d)), abs-div d (gcd (unsigned_abs n) (unsigned_abs d))) (no_common_part _ _ _ some is);
     }
+
+pub lowest_positive : (n d : ℤ) → pos 0 <ℤ n → pos 0 <ℤ d → pos 0 <ℤ (lowest n d).n
+unfolding lowest
+lowest_positive n d h k =
+    let least : 0 < unsigned_abs d = grind (arith, ints) in
+    div_positive n _ h (divisor_least (unsigned_abs n) (unsigned_abs d) least) (gcd_is (unsigned_abs n) (unsigned_abs d)).0
 
 crossed : (a b p q g : ℕ) → g * p ≡ a → g * q ≡ b → p * b ≡ a * q
 crossed a b p q g e f = rw (← e, ← f) (grind arith)

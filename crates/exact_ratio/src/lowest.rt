@@ -40,6 +40,7 @@ impl Ratio {
         requires bounded { least_i128 <ℤ n }
         ensures lowest { result ≡ lowest n d }
         ensures same_value { (result.n *ℤ d) ≡ (n *ℤ result.d) }
+        ensures stays_positive { pos 0 <ℤ n → pos 0 <ℤ result.n }
     {
         let divisor = gcd(n.unsigned_abs(), d.unsigned_abs()) as i128;
         Ratio {

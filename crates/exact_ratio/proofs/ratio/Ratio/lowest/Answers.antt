@@ -2,7 +2,7 @@ use Rattle.std.proofs.Common.{◌≡◌, refl, unsigned_abs}
 use Rattle.std.specs.Int.{w128}
 use Rattle.std.proofs.lemmas.Int.{to_z-of_z}
 use Rattle.exact_ratio.specs.Lowest.{gcd}
-use Rattle.exact_ratio.proofs.Divisors.{IsDivided, divided, lowest_is, lowest_same}
+use Rattle.exact_ratio.proofs.Divisors.{IsDivided, divided, lowest_is, lowest_positive, lowest_same}
 use Rattle.exact_ratio.proofs.ratio.Ratio.lowest.Goals as goal
 
 is_divided : (c : goal.After-gcd-divisor) → IsDivided c.args.n c.args.d c.gcd-divisor.result
@@ -28,3 +28,6 @@ returns-clause-lowest c = rw ((is_divided c).n_is, (is_divided c).d_is) refl
 
 pub returns-clause-same_value : goal.returns-clause-same_value
 returns-clause-same_value c = rw ((is_divided c).n_is, (is_divided c).d_is) (lowest_same c.args.n c.args.d c.requires.positive)
+
+pub returns-clause-stays_positive : goal.returns-clause-stays_positive
+returns-clause-stays_positive c = λ h. rw (is_divided c).n_is (lowest_positive c.args.n c.args.d h c.requires.positive)
