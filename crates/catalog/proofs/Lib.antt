@@ -1,1 +1,5 @@
 mod Comparisons
+mod DemoValid
+mod Distinct
+mod Passing
+mod Validity

@@ -61,6 +61,9 @@ is_near m = nat_le (unsigned_abs m.left) (10 ^ 17) && nat_le (unsigned_abs m.top
 abbrev pub is_fine : Matrix → Bool
 is_fine m = nat_le (unsigned_abs m.span.n) (10 ^ 20) && nat_le (unsigned_abs m.span.d) (10 ^ 18)
 
+abbrev pub has_span : Matrix → Bool
+has_span m = int_lt (pos 0) m.span.n && int_lt (pos 0) m.span.d
+
 abbrev pub has_tile : Matrix → Bool
 has_tile m = within 1 512 m.tile_w && within 1 512 m.tile_h
 
@@ -81,7 +84,7 @@ unfoldable pub matrix_test : ℕ → Matrix → Test
 matrix_test at m =
     first (
       unless (is_near m) (Limit field.MatrixCorner at) ∷
-      unless (int_lt (pos 0) m.span.n) (Bad field.Span at) ∷
+      unless (has_span m) (Bad field.Span at) ∷
       unless (is_fine m) (Limit field.Span at) ∷
       unless (has_tile m) (Limit field.Tile at) ∷
       unless (has_size m) (Limit field.Size at) ∷

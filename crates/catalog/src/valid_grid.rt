@@ -1,5 +1,5 @@
-ghost use Rattle.std.specs.Prelude.{◌≡◌, ◌<◌, ◌≤◌, ◌^◌, [], length, int_lt, pos, IsTrue};
-ghost use Rattle.catalog.specs.FirstFault.{is_near, is_fine, has_tile, has_size, is_extent, has_extent, matrix_test, matrices_test, grid_test};
+ghost use Rattle.std.specs.Prelude.{◌≡◌, ◌<◌, ◌≤◌, ◌^◌, [], length, IsTrue};
+ghost use Rattle.catalog.specs.FirstFault.{is_near, has_span, is_fine, has_tile, has_size, is_extent, has_extent, matrix_test, matrices_test, grid_test};
 
 use crate::fault::{CatalogueFault, Field};
 use crate::first_fault::{Entry, name_test, unless};
@@ -16,10 +16,10 @@ fn is_near(m: &Matrix) -> bool
         && m.top.unsigned_abs() <= 100_000_000_000_000_000
 }
 
-fn is_positive(m: &Matrix) -> bool
-    ensures { result ≡ int_lt (pos 0) m.now.span.n }
+fn has_span(m: &Matrix) -> bool
+    ensures { result ≡ has_span m.now }
 {
-    0 < m.span.n
+    0 < m.span.n && 0 < m.span.d
 }
 
 fn is_fine(m: &Matrix) -> bool
@@ -69,7 +69,7 @@ fn matrix_test(at: u32, m: &Matrix) -> Result<(), CatalogueFault>
     ensures { result ≡ matrix_test at m.now }
 {
     unless(is_near(m), CatalogueFault::Limit(Field::MatrixCorner, at))?;
-    unless(is_positive(m), CatalogueFault::Bad(Field::Span, at))?;
+    unless(has_span(m), CatalogueFault::Bad(Field::Span, at))?;
     unless(is_fine(m), CatalogueFault::Limit(Field::Span, at))?;
     unless(has_tile(m), CatalogueFault::Limit(Field::Tile, at))?;
     unless(has_size(m), CatalogueFault::Limit(Field::Size, at))?;

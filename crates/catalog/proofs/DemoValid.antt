@@ -1,0 +1,11 @@
+-- The built-in catalogue meets each test.
+use Rattle.std.proofs.Common.{refl}
+use Rattle.catalog.specs.Demo.{demo}
+use Rattle.catalog.specs.FirstFault.{first_fault, grid_test, layer_test, name_test, matrix_test, grid_number_test, style_test, are_small}
+use Rattle.catalog.specs.Names.{is_name}
+use Rattle.catalog.specs.Valid.{IsValid}
+use Rattle.catalog.proofs.Validity.{valid_met}
+
+pub demo_valid : IsValid demo
+unfolding first_fault grid_test layer_test name_test matrix_test grid_number_test style_test are_small is_name
+demo_valid = valid_met demo refl
