@@ -6,7 +6,9 @@
 //! Stands on matrix_geometry and exact_ratio.
 #![tactic(auto)]
 
+pub mod by_name;
 pub mod catalogue;
+mod copy;
 pub mod demo;
 pub mod fault;
 pub mod first_fault;
