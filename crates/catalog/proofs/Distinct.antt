@@ -80,7 +80,7 @@ each_distinct key test new before [] apart e = subst (λ (ys : List _). AreDisti
 each_distinct key test new before (x ∷ xs) apart e =
     let parts : (test before x ≡ Ok tt) × (each test (before ++ x ∷ []) xs ≡ Ok tt) = next_met _ _ e in
     let more : AreDistinct (map key (before ++ x ∷ [])) =
-            subst (λ (ys : List _). AreDistinct ys) (sym (map-append key before (x ∷ []))) (distinct_more (map key before) (key x) apart (new before x parts.0)) in
+    subst (λ (ys : List _). AreDistinct ys) (sym (map-append key before (x ∷ []))) (distinct_more (map key before) (key x) apart (new before x parts.0)) in
     subst (λ (ys : List _). AreDistinct (map key ys)) (append_assoc before (x ∷ []) xs) (each_distinct key test new (before ++ x ∷ []) xs more parts.1)
 
 -- texts of which none stands twice

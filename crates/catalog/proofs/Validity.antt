@@ -122,8 +122,7 @@ grid_met before g e =
     let after_count = next_met _ _ after_same.1 in
     let after_matrices = next_met _ _ after_count.1 in
     let same : length g.names ≡ length g.matrices = eqb-true _ _ (holds _ _ after_same.0) in
-    let count : within 1 30 (length g.matrices) ≡ true = holds _ _ after_count.0 in
-    (
+    let count : within 1 30 (length g.matrices) ≡ true = holds _ _ after_count.0 in (
       matrices_met [] g.names g.matrices same after_matrices.0,
       record {
         id = name_met (λ x. x.id) before field.GridId (length before) g.id after_id.0;
@@ -132,7 +131,7 @@ grid_met before g e =
         most = at_most 1 30 (length g.matrices) count;
         names = names_met [] g.names g.matrices same after_matrices.0;
         own_names = names_distinct [] g.names g.matrices same distinct_none after_matrices.0;
-      }
+      },
     )
 
 grid_new : (before : List Grid) (g : Grid) → grid_test before g ≡ Ok tt → IsNew (map (λ x. x.id) before) g.id
@@ -219,11 +218,11 @@ small_met : (grids : List Grid) (l : Layer) → are_small grids l.grids l.meta_x
 unfolding are_small
 small_met grids l e =
     all_met
-      (λ n. list_all (is_small l.meta_x l.meta_y l.gutter) (matrices_at (slice_get grids n)))
-      (λ n. AllByRecursion (IsSmallOn l) (matrices_at (slice_get grids n)))
-      (λ n h. all_met (is_small l.meta_x l.meta_y l.gutter) (IsSmallOn l) (λ m small. leb-true _ _ small) (matrices_at (slice_get grids n)) h)
-      l.grids
-      e
+    (λ n. list_all (is_small l.meta_x l.meta_y l.gutter) (matrices_at (slice_get grids n)))
+    (λ n. AllByRecursion (IsSmallOn l) (matrices_at (slice_get grids n)))
+    (λ n h. all_met (is_small l.meta_x l.meta_y l.gutter) (IsSmallOn l) (λ m small. leb-true _ _ small) (matrices_at (slice_get grids n)) h)
+    l.grids
+    e
 
 layer_met : (grids : List Grid) (before : List Layer) (l : Layer) → layer_test grids before l ≡ Ok tt → IsLayer l × IsServed grids l
 unfolding layer_test
@@ -244,8 +243,7 @@ layer_met grids before l e =
     let count : within 1 16 (length l.grids) ≡ true = holds _ _ after_grids.0 in
     let style_count : within 1 32 (length l.styles) ≡ true = holds _ _ after_count.0 in
     let meta = and_parts _ _ (holds _ _ after_meta.0) in
-    let cell : within 1 1000000000 l.cell ≡ true = holds _ _ after_cell.0 in
-    (
+    let cell : within 1 1000000000 l.cell ≡ true = holds _ _ after_cell.0 in (
       record {
         id = name_met (λ x. x.id) before field.LayerId at l.id after_id.0;
         grids_least = at_least 1 16 (length l.grids) count;
@@ -270,7 +268,7 @@ layer_met grids before l e =
       record {
         there = each_met (grid_number_test at grids) (λ n. n < length grids) (number_met at grids) [] l.grids after_numbers.0;
         small = small_met grids l (holds _ _ after_pixels.0);
-      }
+      },
     )
 
 layer_new : (grids : List Grid) (before : List Layer) (l : Layer) → layer_test grids before l ≡ Ok tt → IsNew (map (λ x. x.id) before) l.id

@@ -41,10 +41,10 @@ each test before (x ∷ xs) = next (test before x) (each test (before ++ x ∷ [
 unfoldable pub name_test : {A : Type 0} → (A → List ℕ) → List A → Field → ℕ → List ℕ → Test
 name_test name before f at text =
     first (
-      unless (is_name text) (Bad f at) ∷
-      unless (is_short text) (Limit f at) ∷
-      unless (not (is_taken name before text)) (Duplicate f at) ∷
-      [])
+    unless (is_name text) (Bad f at) ∷
+    unless (is_short text) (Limit f at) ∷
+    unless (not (is_taken name before text)) (Duplicate f at) ∷
+    [])
 
 -- a quota, where there is one
 abbrev pub quota_test : Field → ℕ → Option ℕ → Test
@@ -83,13 +83,13 @@ has_extent m =
 unfoldable pub matrix_test : ℕ → Matrix → Test
 matrix_test at m =
     first (
-      unless (is_near m) (Limit field.MatrixCorner at) ∷
-      unless (has_span m) (Bad field.Span at) ∷
-      unless (is_fine m) (Limit field.Span at) ∷
-      unless (has_tile m) (Limit field.Tile at) ∷
-      unless (has_size m) (Limit field.Size at) ∷
-      unless (has_extent m) (Limit field.Size at) ∷
-      [])
+    unless (is_near m) (Limit field.MatrixCorner at) ∷
+    unless (has_span m) (Bad field.Span at) ∷
+    unless (is_fine m) (Limit field.Span at) ∷
+    unless (has_tile m) (Limit field.Tile at) ∷
+    unless (has_size m) (Limit field.Size at) ∷
+    unless (has_extent m) (Limit field.Size at) ∷
+    [])
 
 -- the matrices of a grid, each with the name at its place
 abbrev pub matrices_test : List (List ℕ) → List (List ℕ) → List Matrix → Test
@@ -97,20 +97,20 @@ matrices_test before [] ms = Ok tt
 matrices_test before (n ∷ ns) [] = Ok tt
 matrices_test before (n ∷ ns) (m ∷ ms) =
     first (
-      name_test (λ t. t) before field.MatrixId (length before) n ∷
-      matrix_test (length before) m ∷
-      matrices_test (before ++ n ∷ []) ns ms ∷
-      [])
+    name_test (λ t. t) before field.MatrixId (length before) n ∷
+    matrix_test (length before) m ∷
+    matrices_test (before ++ n ∷ []) ns ms ∷
+    [])
 
 unfoldable pub grid_test : List Grid → Grid → Test
 grid_test before g =
     let at = length before in
     first (
-      name_test (λ x. x.id) before field.GridId at g.id ∷
-      unless (length g.names == length g.matrices) (Bad field.Matrices at) ∷
-      unless (within 1 30 (length g.matrices)) (Limit field.Matrices at) ∷
-      matrices_test [] g.names g.matrices ∷
-      [])
+    name_test (λ x. x.id) before field.GridId at g.id ∷
+    unless (length g.names == length g.matrices) (Bad field.Matrices at) ∷
+    unless (within 1 30 (length g.matrices)) (Limit field.Matrices at) ∷
+    matrices_test [] g.names g.matrices ∷
+    [])
 
 -- ---- layers
 
@@ -118,9 +118,9 @@ grid_test before g =
 unfoldable pub grid_number_test : ℕ → List Grid → List ℕ → ℕ → Test
 grid_number_test at grids before n =
     first (
-      unless (nat_lt n (length grids)) (Bad field.LayerGrids at) ∷
-      unless (not (list_any (λ m. m == n) before)) (Duplicate field.LayerGrids at) ∷
-      [])
+    unless (nat_lt n (length grids)) (Bad field.LayerGrids at) ∷
+    unless (not (list_any (λ m. m == n) before)) (Duplicate field.LayerGrids at) ∷
+    [])
 
 -- the breaks rise strictly, each above n
 abbrev pub rise_above : ℕ → List Break → Bool
@@ -136,28 +136,28 @@ unfoldable pub style_test : List Style → Style → Test
 style_test before s =
     let at = length before in
     first (
-      name_test (λ x. x.id) before field.StyleId at s.id ∷
-      unless (nat_le (length s.breaks) 256) (Limit field.Breaks at) ∷
-      unless (rise_from_zero s.breaks) (Bad field.Breaks at) ∷
-      [])
+    name_test (λ x. x.id) before field.StyleId at s.id ∷
+    unless (nat_le (length s.breaks) 256) (Limit field.Breaks at) ∷
+    unless (rise_from_zero s.breaks) (Bad field.Breaks at) ∷
+    [])
 
 -- a name of a dimension is told from the parameters of a query and from the dimensions before without regard to case
 unfoldable pub dimension_name_test : List Dimension → ℕ → List ℕ → Test
 dimension_name_test before at text =
     first (
-      unless (is_name text) (Bad field.DimensionId at) ∷
-      unless (is_short text) (Limit field.DimensionId at) ∷
-      unless (not (is_parameter text)) (Duplicate field.DimensionId at) ∷
-      unless (not (list_any (λ x. is_same x.id text) before)) (Duplicate field.DimensionId at) ∷
-      [])
+    unless (is_name text) (Bad field.DimensionId at) ∷
+    unless (is_short text) (Limit field.DimensionId at) ∷
+    unless (not (is_parameter text)) (Duplicate field.DimensionId at) ∷
+    unless (not (list_any (λ x. is_same x.id text) before)) (Duplicate field.DimensionId at) ∷
+    [])
 
 -- so many names, each at most 64 bytes long
 unfoldable pub names_test : ℕ → ℕ → Field → ℕ → List (List ℕ) → Test
 names_test low high f at names =
     first (
-      unless (list_all is_name names) (Bad f at) ∷
-      unless (within low high (length names) && list_all is_short names) (Limit f at) ∷
-      [])
+    unless (list_all is_name names) (Bad f at) ∷
+    unless (within low high (length names) && list_all is_short names) (Limit f at) ∷
+    [])
 
 -- the number of one of so many values
 abbrev pub default_test : ℕ → ℕ → Option ℕ → Test
@@ -168,11 +168,11 @@ unfoldable pub dimension_test : List Dimension → Dimension → Test
 dimension_test before d =
     let at = length before in
     first (
-      dimension_name_test before at d.id ∷
-      names_test 1 1024 field.Values at d.values ∷
-      unless (are_distinct d.values) (Duplicate field.Values at) ∷
-      default_test at (length d.values) d.default ∷
-      [])
+    dimension_name_test before at d.id ∷
+    names_test 1 1024 field.Values at d.values ∷
+    unless (are_distinct d.values) (Duplicate field.Values at) ∷
+    default_test at (length d.values) d.default ∷
+    [])
 
 -- both factors of a metatile are 1 to 8
 abbrev pub are_factors : ℕ → ℕ → Bool
@@ -195,31 +195,31 @@ unfoldable pub layer_test : List Grid → List Layer → Layer → Test
 layer_test grids before l =
     let at = length before in
     first (
-      name_test (λ x. x.id) before field.LayerId at l.id ∷
-      unless (within 1 16 (length l.grids)) (Limit field.LayerGrids at) ∷
-      each (grid_number_test at grids) [] l.grids ∷
-      unless (within 1 32 (length l.styles)) (Limit field.Styles at) ∷
-      each style_test [] l.styles ∷
-      unless (nat_le (length l.dims) 4) (Limit field.Dimensions at) ∷
-      each dimension_test [] l.dims ∷
-      unless (are_factors l.meta_x l.meta_y) (Limit field.Meta at) ∷
-      unless (nat_le l.gutter 64) (Limit field.Gutter at) ∷
-      unless (within 1 1000000000 l.cell) (Limit field.Cell at) ∷
-      quota_test field.LayerQuota at l.quota ∷
-      unless (are_small grids l.grids l.meta_x l.meta_y l.gutter) (Limit field.Meta at) ∷
-      [])
+    name_test (λ x. x.id) before field.LayerId at l.id ∷
+    unless (within 1 16 (length l.grids)) (Limit field.LayerGrids at) ∷
+    each (grid_number_test at grids) [] l.grids ∷
+    unless (within 1 32 (length l.styles)) (Limit field.Styles at) ∷
+    each style_test [] l.styles ∷
+    unless (nat_le (length l.dims) 4) (Limit field.Dimensions at) ∷
+    each dimension_test [] l.dims ∷
+    unless (are_factors l.meta_x l.meta_y) (Limit field.Meta at) ∷
+    unless (nat_le l.gutter 64) (Limit field.Gutter at) ∷
+    unless (within 1 1000000000 l.cell) (Limit field.Cell at) ∷
+    quota_test field.LayerQuota at l.quota ∷
+    unless (are_small grids l.grids l.meta_x l.meta_y l.gutter) (Limit field.Meta at) ∷
+    [])
 
 -- ---- the catalogue
 
 unfoldable pub first_fault : Catalogue → Test
 first_fault c =
     first (
-      unless (within 1 1048576 c.kept_limit) (Limit field.KeptLimit 0) ∷
-      unless (within 1 65536 c.cut_limit) (Limit field.CutLimit 0) ∷
-      unless (within 1 (2 ^ 40) c.blob_bytes) (Limit field.BlobBytes 0) ∷
-      quota_test field.Quota 0 c.quota ∷
-      unless (within 1 16 (length c.grids)) (Limit field.Grids 0) ∷
-      each grid_test [] c.grids ∷
-      unless (within 1 64 (length c.layers)) (Limit field.Layers 0) ∷
-      each (layer_test c.grids) [] c.layers ∷
-      [])
+    unless (within 1 1048576 c.kept_limit) (Limit field.KeptLimit 0) ∷
+    unless (within 1 65536 c.cut_limit) (Limit field.CutLimit 0) ∷
+    unless (within 1 (2 ^ 40) c.blob_bytes) (Limit field.BlobBytes 0) ∷
+    quota_test field.Quota 0 c.quota ∷
+    unless (within 1 16 (length c.grids)) (Limit field.Grids 0) ∷
+    each grid_test [] c.grids ∷
+    unless (within 1 64 (length c.layers)) (Limit field.Layers 0) ∷
+    each (layer_test c.grids) [] c.layers ∷
+    [])

@@ -29,7 +29,10 @@ pub fn name_test<T: Named>(
 {
     unless(is_name(name), CatalogueFault::Bad(field, at))?;
     unless(is_short(name), CatalogueFault::Limit(field, at))?;
-    unless(!is_taken(before, name), CatalogueFault::Duplicate(field, at))
+    unless(
+        !is_taken(before, name),
+        CatalogueFault::Duplicate(field, at),
+    )
 }
 
 /// Tests a list of `low` to `high` names.

@@ -17,6 +17,8 @@ pub mod layer;
 pub mod look_up;
 pub mod named;
 pub mod names;
+#[cfg(test)]
+mod tests;
 mod valid_dimension;
 mod valid_grid;
 mod valid_layer;

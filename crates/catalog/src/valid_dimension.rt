@@ -21,17 +21,22 @@ fn has_same(before: &[Dimension], name: &[u8]) -> bool
 
 /// Tests a name of a dimension beside the dimensions before.
 #[tactic(auto, unfolding(crate::specs::FirstFault::dimension_name_test))]
-pub fn dimension_name_test(
-    before: &[Dimension],
-    at: u32,
-    name: &[u8],
-) -> Result<(), CatalogueFault>
+pub fn dimension_name_test(before: &[Dimension], at: u32, name: &[u8]) -> Result<(), CatalogueFault>
     ensures { result ≡ dimension_name_test before.now at name.now }
 {
     unless(is_name(name), CatalogueFault::Bad(Field::DimensionId, at))?;
-    unless(is_short(name), CatalogueFault::Limit(Field::DimensionId, at))?;
-    unless(!is_parameter(name), CatalogueFault::Duplicate(Field::DimensionId, at))?;
-    unless(!has_same(before, name), CatalogueFault::Duplicate(Field::DimensionId, at))
+    unless(
+        is_short(name),
+        CatalogueFault::Limit(Field::DimensionId, at),
+    )?;
+    unless(
+        !is_parameter(name),
+        CatalogueFault::Duplicate(Field::DimensionId, at),
+    )?;
+    unless(
+        !has_same(before, name),
+        CatalogueFault::Duplicate(Field::DimensionId, at),
+    )
 }
 
 fn default_test(at: u32, count: usize, default: Option<u32>) -> Result<(), CatalogueFault>
@@ -57,7 +62,10 @@ fn dimension_test(before: &[Dimension], dimension: &Dimension) -> Result<(), Cat
     let values = dimension.values.as_slice();
     dimension_name_test(before, at, dimension.id.bytes())?;
     names_test(1, 1024, Field::Values, at, values)?;
-    unless(are_distinct(values), CatalogueFault::Duplicate(Field::Values, at))?;
+    unless(
+        are_distinct(values),
+        CatalogueFault::Duplicate(Field::Values, at),
+    )?;
     default_test(at, values.len(), dimension.default)
 }
 

@@ -171,7 +171,10 @@ fn layer_test(grids: &[Grid], before: &[Layer], layer: &Layer) -> Result<(), Cat
         CatalogueFault::Limit(Field::Dimensions, at),
     )?;
     each_dimension(layer.dims.as_slice())?;
-    unless(are_factors(meta_x, meta_y), CatalogueFault::Limit(Field::Meta, at))?;
+    unless(
+        are_factors(meta_x, meta_y),
+        CatalogueFault::Limit(Field::Meta, at),
+    )?;
     unless(gutter <= 64, CatalogueFault::Limit(Field::Gutter, at))?;
     unless(
         within(1, 1_000_000_000, layer.cell),

@@ -49,7 +49,10 @@ fn style_test(before: &[Style], style: &Style) -> Result<(), CatalogueFault>
 {
     let at = before.len() as u32;
     name_test(before, Field::StyleId, at, style.id.bytes())?;
-    unless(style.breaks.len() <= 256, CatalogueFault::Limit(Field::Breaks, at))?;
+    unless(
+        style.breaks.len() <= 256,
+        CatalogueFault::Limit(Field::Breaks, at),
+    )?;
     unless(
         rise_from_zero(style.breaks.as_slice()),
         CatalogueFault::Bad(Field::Breaks, at),
