@@ -1,5 +1,5 @@
 mod Comparisons
-mod DemoValid
+pub mod DemoValid
 mod Distinct
-mod Passing
-mod Validity
+pub mod Passing
+pub mod Validity

@@ -19,8 +19,8 @@ pub mod named;
 pub mod names;
 #[cfg(test)]
 mod tests;
-mod valid_dimension;
+pub mod valid_dimension;
 mod valid_grid;
-mod valid_layer;
-mod valid_style;
+pub mod valid_layer;
+pub mod valid_style;
 pub mod validate;

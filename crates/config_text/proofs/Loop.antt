@@ -41,7 +41,7 @@ ends seen form vs i before whole h w = sym w ∙ rw (drop_all i vs h) refl
 pub next_is : (a b : Test) → a ≡ Ok tt → b ≡ Ok tt → next a b ≡ Ok tt
 next_is a b e h = rw e h
 
-next_both : (a b : Test) → next a b ≡ Ok tt → (a ≡ Ok tt) × (b ≡ Ok tt)
+pub next_both : (a b : Test) → next a b ≡ Ok tt → (a ≡ Ok tt) × (b ≡ Ok tt)
 next_both (Ok tt) b e = (refl, e)
 next_both (Err f) b e = absurd cc
 

@@ -8,6 +8,7 @@ use Rattle.catalog.specs.declared.layer.Break.{Break}
 use Rattle.catalog.specs.declared.layer.Dimension.{Dimension}
 use Rattle.catalog.specs.declared.layer.Layer.{Layer}
 use Rattle.catalog.specs.declared.layer.Style.{Style}
+use Rattle.catalog.specs.declared.fault.Field.{Field}
 use Rattle.catalog.specs.declared.fault.Field.TheVariants as field
 use Rattle.catalog.specs.declared.fault.CatalogueFault.{CatalogueFault}
 use Rattle.catalog.specs.declared.fault.CatalogueFault.TheVariants.{Bad, Duplicate, Limit}
@@ -50,13 +51,18 @@ are_breaks rows = nat_le (length rows) 256 && list_all is_byte_row rows
 abbrev pub break_of : Row → Break
 break_of row = record { from = min row.from 255; r = min row.r 255; g = min row.g 255; b = min row.b 255 }
 
--- the form of every row, then the limits, then the order
+-- the limits of rows, then their order
+unfoldable pub breaks_in : List Row → Field → ℕ → Result (List Break) CatalogueFault
+breaks_in rows f at = do
+  few ← tested (unless (are_breaks rows) (Limit f at)) (map break_of rows)
+  tested (unless (rise_from_zero few) (Bad f at)) few
+
+-- the form of every row comes first
 unfoldable pub breaks : Form (List Break)
 breaks f at d = do
   ds ← items f at d
   rows ← entries (λ before. row_of at) [] ds
-  few ← tested (unless (are_breaks rows) (Limit f at)) (map break_of rows)
-  tested (unless (rise_from_zero few) (Bad f at)) few
+  breaks_in rows f at
 
 unfoldable pub style_of : List Style → Data → Result Style CatalogueFault
 style_of before d = do

@@ -4,4 +4,5 @@ pub mod Shape
 pub mod Settings
 pub mod Grids
 pub mod Layers
+pub mod Matrices
 pub mod Text

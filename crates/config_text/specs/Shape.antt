@@ -1,6 +1,6 @@
 -- Numbers of a matrix and of its grid: sizes, decimals, corners and spans.
-use Rattle.std.specs.Prelude.{ℕ, ◌&&◌, ◌==◌, List, [], ◌∷◌, length, Bool, true, false, not, Result, Ok, Err, Option, Some, None, min, nat_lt, nat_le, int_lt, pos, codes, if◌then◌else◌}
-use Rattle.std.specs.List.{list_all, list_any, before_first, after_first}
+use Rattle.std.specs.Prelude.{ℕ, ◌+◌, ◌&&◌, ◌==◌, List, [], ◌∷◌, length, take, drop, Bool, true, false, not, Result, Ok, Err, Option, Some, None, min, nat_lt, nat_le, int_lt, pos, codes, if◌then◌else◌}
+use Rattle.std.specs.List.{list_all, list_any, position_or_len}
 use Rattle.std.specs.Char.{is_ascii_digit}
 use Rattle.std.specs.Str.Parse.{digits_value}
 use Rattle.serde_json.specs.Data.{Data}
@@ -83,15 +83,16 @@ corner f at d = do
 abbrev pub is_nonzero : List ℕ → Bool
 is_nonzero text = list_all is_ascii_digit text && list_any (λ b. not (b == 48)) text
 
--- the text before the first `/`, and the text after it, which is 1 where none stands
-abbrev pub is_slash : ℕ → Bool
-is_slash b = b == 47
+-- the place of the first `/`, or the text's length where none stands
+abbrev pub slash_at : List ℕ → ℕ
+slash_at text = position_or_len (λ b. b == 47) text
 
 abbrev pub numerator : List ℕ → List ℕ
-numerator text = before_first is_slash text
+numerator text = take (slash_at text) text
 
+-- what stands after the `/`, and 1 where none stands
 abbrev pub denominator : List ℕ → List ℕ
-denominator text = if list_any is_slash text then after_first is_slash text else codes "1"
+denominator text = if nat_lt (slash_at text) (length text) then drop (slash_at text + 1) text else codes "1"
 
 -- n / d in lowest terms, of digits
 unfoldable pub span_of : List ℕ → List ℕ → Field → ℕ → Result Fraction CatalogueFault

@@ -5,13 +5,21 @@
 //! Stands on catalog, matrix_geometry, exact_ratio, serde_json and sha2.
 #![tactic(auto)]
 
+mod dimensions;
 mod each;
+mod grids;
 mod json;
+mod layers;
+mod matrices;
 mod member;
 mod name;
+mod read;
 mod row;
 mod settings;
 mod outermost;
 mod shape;
 mod spacing;
 mod span;
+mod styles;
+
+pub use read::read_catalogue;
