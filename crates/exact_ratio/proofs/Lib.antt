@@ -1,0 +1,4 @@
+pub mod Numbers
+pub mod Floors
+pub mod Divisors
+pub mod Refusals

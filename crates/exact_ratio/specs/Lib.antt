@@ -1,2 +1,4 @@
 pub mod Values
 pub mod Lowest
+pub mod Decimal
+pub mod Fractions

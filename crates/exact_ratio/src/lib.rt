@@ -7,6 +7,11 @@
 #![tactic(auto)]
 
 pub mod decimal;
+pub mod floor;
 pub mod items;
+pub mod lowest;
 pub mod ratio;
+pub mod read;
+#[cfg(test)]
+mod tests;
 pub mod words;

@@ -1,5 +1,6 @@
 -- the limits of a tile matrix
 use Rattle.std.specs.Prelude.{◌≤◌, ◌*◌, ◌^◌, ◌<ℤ◌, pos, unsigned_abs}
+use Rattle.matrix_geometry.specs.declared.boxes.Box9.{Box9}
 use Rattle.matrix_geometry.specs.declared.matrix.Matrix.{Matrix}
 
 -- The side of a pixel is positive, a fraction of small numbers; the corner is at most 10^8 units away; a tile has 1 to 512
@@ -21,3 +22,10 @@ pub record IsWithinLimits (m : Matrix) : Type 0 where
   pub rows_most : m.rows ≤ 2 ^ 31
   pub wide : m.cols * m.tile_w * unsigned_abs m.span.n ≤ 10 ^ 9 * unsigned_abs m.span.d
   pub high : m.rows * m.tile_h * unsigned_abs m.span.n ≤ 10 ^ 9 * unsigned_abs m.span.d
+
+-- each coordinate of the box is at most 10^8 units in size
+pub record IsReachable (b : Box9) : Type 0 where
+  pub min_x : unsigned_abs b.min_x ≤ 10 ^ 17
+  pub min_y : unsigned_abs b.min_y ≤ 10 ^ 17
+  pub max_x : unsigned_abs b.max_x ≤ 10 ^ 17
+  pub max_y : unsigned_abs b.max_y ≤ 10 ^ 17

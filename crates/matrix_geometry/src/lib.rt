@@ -7,5 +7,10 @@
 
 pub mod address;
 pub mod boxes;
+pub mod filter;
+pub mod geometry;
+pub mod making;
 pub mod matrix;
+#[cfg(test)]
+mod tests;
 pub mod theme;
