@@ -23,3 +23,6 @@ mod span;
 mod styles;
 
 pub use read::read_catalogue;
+
+#[cfg(test)]
+mod tests;
