@@ -1,3 +1,5 @@
 pub mod Demo
+pub mod FirstFault
 pub mod LookUp
+pub mod Names
 pub mod Valid

@@ -1,8 +1,10 @@
 -- What a theme and an address name in a catalogue.
-use Rattle.std.specs.Prelude.{ℕ, ◌<◌, Option, option_and_then, slice_get, IsSomeAnd, Contains, IsSome}
+use Rattle.std.specs.Prelude.{ℕ, ◌<◌, List, Option, option_and_then, slice_get, IsSomeAnd, Contains, IsSome}
 use Rattle.catalog.specs.declared.catalogue.Catalogue.{Catalogue}
+use Rattle.catalog.specs.declared.layer.Dimension.{Dimension}
 use Rattle.catalog.specs.declared.layer.Layer.{Layer}
 use Rattle.catalog.specs.declared.layer.Style.{Style}
+use Rattle.catalog.specs.Names.{place_named}
 use Rattle.matrix_geometry.specs.declared.address.Address.{Address}
 use Rattle.matrix_geometry.specs.declared.matrix.Matrix.{Matrix}
 use Rattle.matrix_geometry.specs.declared.theme.Theme.{Theme}
@@ -28,3 +30,27 @@ pub record IsTile (c : Catalogue) (a : Address) : Type 0 where
   pub layer : IsSomeAnd (layer_of c a.theme) (λ l. Contains l.grids a.grid)
   pub style : IsSome (style_of c a.theme)
   pub place : IsSomeAnd (matrix_of c a) (λ m. (a.row < m.rows) × (a.col < m.cols))
+
+-- Names to numbers: the first place whose entry has the name, and none exactly where no entry has it. In a valid catalogue
+-- it is the only one.
+abbrev pub layer_named : Catalogue → List ℕ → Option ℕ
+layer_named c name = place_named (λ l. l.id) c.layers name
+
+abbrev pub grid_named : Catalogue → List ℕ → Option ℕ
+grid_named c name = place_named (λ g. g.id) c.grids name
+
+-- a matrix of the grid of this number
+abbrev pub matrix_named : Catalogue → ℕ → List ℕ → Option ℕ
+matrix_named c grid name = option_and_then (λ g. place_named (λ n. n) g.names name) (slice_get c.grids grid)
+
+-- a style of the layer of this number
+abbrev pub style_named : Catalogue → ℕ → List ℕ → Option ℕ
+style_named c layer name = option_and_then (λ l. place_named (λ s. s.id) l.styles name) (slice_get c.layers layer)
+
+-- a dimension of a layer, by their numbers
+abbrev pub dimension_at : Catalogue → ℕ → ℕ → Option Dimension
+dimension_at c layer dim = option_and_then (λ l. slice_get l.dims dim) (slice_get c.layers layer)
+
+-- a value of this dimension
+abbrev pub value_named : Catalogue → ℕ → ℕ → List ℕ → Option ℕ
+value_named c layer dim name = option_and_then (λ d. place_named (λ v. v) d.values name) (dimension_at c layer dim)

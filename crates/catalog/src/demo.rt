@@ -72,6 +72,22 @@ fn demo_layer(alloc: Global) -> Result<Layer, AllocError>
     })
 }
 
+fn built_in(alloc: Global) -> Result<Catalogue, AllocError>
+    ensures { IfOk result (λ c. c ≡ demo) }
+{
+    Ok(Catalogue {
+        digest: EMPTY_DIGEST,
+        source: 0,
+        kept_limit: 64,
+        cut_limit: 16,
+        blob_bytes: 4096,
+        quota: None,
+        policy: Policy::Lru,
+        grids: Items::of(vec![in alloc; tiny(alloc)?]?),
+        layers: Items::of(vec![in alloc; demo_layer(alloc)?]?),
+    })
+}
+
 impl Catalogue {
     /// The catalogue that is used where none is given: one grid `tiny` of three matrices, and one grey layer `demo`.
     /// `AllocError` where memory runs out.
@@ -79,16 +95,6 @@ impl Catalogue {
         ensures demo { IfOk result (λ c. c ≡ demo) }
         ensures valid { IfOk result (λ c. IsValid c) }
     {
-        Ok(Catalogue {
-            digest: EMPTY_DIGEST,
-            source: 0,
-            kept_limit: 64,
-            cut_limit: 16,
-            blob_bytes: 4096,
-            quota: None,
-            policy: Policy::Lru,
-            grids: Items::of(vec![in alloc; tiny(alloc)?]?),
-            layers: Items::of(vec![in alloc; demo_layer(alloc)?]?),
-        })
+        built_in(alloc)
     }
 }

@@ -1,0 +1,7 @@
+mod Breaks
+mod Digits
+mod Lists
+mod Loop
+mod NamedMatrices
+mod Objects
+mod Valid

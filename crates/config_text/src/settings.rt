@@ -1,0 +1,12 @@
+use catalog::catalogue::Policy;
+
+/// The members of the outermost object before its lists.
+#[derive(Clone, Copy)]
+pub struct Settings {
+    pub source: u32,
+    pub kept_limit: u32,
+    pub cut_limit: u32,
+    pub blob_bytes: u64,
+    pub quota: Option<u64>,
+    pub policy: Policy,
+}
