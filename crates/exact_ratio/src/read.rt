@@ -75,7 +75,9 @@ fn is_negative(text: &[u8]) -> bool
 fn read_behind_sign(text: &[u8], start: usize, negative: bool) -> Result<Decimal, DecimalFault>
     requires start { start ≡ sign_len text.now }
     requires some { start < length text.now }
-    ensures value { result ≡ unless_left (left_at text.now start) (scaled_of negative (whole_digits text.now start) (part_digits text.now (digits_end text.now start))) }
+    ensures value { result ≡ unless_left
+        (left_at text.now start)
+        (scaled_of negative (whole_digits text.now start) (part_digits text.now (digits_end text.now start))) }
     ensures told { MatchResult result (λ _. IsDecimalText text.now) (IsFaultOf text.now) }
 {
     let point = digits_end(text, start);
