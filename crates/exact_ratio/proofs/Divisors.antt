@@ -45,7 +45,7 @@ no_common_part a b g h is = λ k in_a in_b.
 
 -- LOWEST TERMS
 
-abs-neg : (n : ℕ) → unsigned_abs (neg_ℤ (pos n)) ≡ n
+pub abs-neg : (n : ℕ) → unsigned_abs (neg_ℤ (pos n)) ≡ n
 abs-neg zero = refl
 abs-neg (suc n) = refl
 

@@ -2,3 +2,4 @@ pub mod Numbers
 pub mod Floors
 pub mod Divisors
 pub mod Refusals
+pub mod Left

@@ -15,24 +15,26 @@ digits_end text from = from + prefix_len is_ascii_digit (drop from text)
 abbrev pub sign_len : List ℕ → ℕ
 sign_len text = if starts_with_minus text then 1 else 0
 
--- The first place, from the whole part's start on, at which the form is left, the text's length where it ends too early;
--- none where the form is met. 46 is the point.
+-- WHERE THE FORM IS LEFT: the first such place, the text's length where it ends too early; none where the form is met
 
 -- none where the text ends at this place
 abbrev pub unless_at_end : List ℕ → ℕ → Option ℕ
 unless_at_end text place = if place == length text then None else Some place
 
--- the digits before the point end at `point`
+-- the digits before the point (46) end at this place
 abbrev pub left_behind : List ℕ → ℕ → Option ℕ
 left_behind text point =
     if not (slice_index text point == 46) then unless_at_end text point else
     (if digits_end text (point + 1) == point + 1 then Some (point + 1) else
     unless_at_end text (digits_end text (point + 1)))
 
+-- the sign ends at this place
 abbrev pub left_at : List ℕ → ℕ → Option ℕ
 left_at text start = if digits_end text start == start then Some start else left_behind text (digits_end text start)
 
--- the digits before the point, and those behind it
+-- THE NUMBER
+
+-- the digits from this place on, which stand before the point, and those behind the point that stands at this place
 abbrev pub whole_digits : List ℕ → ℕ → List ℕ
 whole_digits text start = slice_range text start (digits_end text start)
 
@@ -56,6 +58,7 @@ abbrev pub unless_left : Option ℕ → Result Scaled DecimalFault → Result Sc
 unless_left (Some place) number = Err (NotADigit place)
 unless_left None number = number
 
+-- the text as a decimal number, or its first fault
 unfoldable pub decimal_of : List ℕ → Result Scaled DecimalFault
 decimal_of text =
     let start = sign_len text in

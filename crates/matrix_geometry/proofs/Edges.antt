@@ -1,8 +1,9 @@
 -- the edges of a tile over one denominator
-use Rattle.std.proofs.Common.{◌≡◌, ℕ, zero, suc, ◌+◌, ◌*◌, ◌^◌, ◌≤◌, refl, ap, ◌∙◌, arith, ℤ, pos, negsuc, neg_ℤ, ◌+ℤ◌, ◌-ℤ◌, ◌*ℤ◌, ◌<ℤ◌, unsigned_abs, to_z, of_z}
+use Rattle.std.proofs.Common.{◌≡◌, ℕ, ◌+◌, ◌*◌, ◌^◌, ◌≤◌, refl, ap, ◌∙◌, arith, ℤ, pos, negsuc, neg_ℤ, ◌+ℤ◌, ◌-ℤ◌, ◌*ℤ◌, ◌<ℤ◌, unsigned_abs, to_z, of_z}
 use Rattle.std.specs.Int.{w128}
 use Rattle.std.proofs.Math.Nat.{mul_assoc, mul-le-mul, mul-le-mul_right}
 use Rattle.std.proofs.lemmas.Int.{ints}
+use Rattle.exact_ratio.proofs.Divisors.{abs-neg}
 use Rattle.exact_ratio.specs.Values.{Fraction}
 use Rattle.exact_ratio.specs.Fractions.{whole, ◌+ℚ◌, ◌-ℚ◌, ◌*ℚ◌, lowest_terms}
 use Rattle.exact_ratio.specs.Lowest.{lowest}
@@ -46,10 +47,7 @@ pub seen_pixels : (k : ℕ) → k ≤ 2 ^ 40 → to_z w128 (of_z w128 (pos k)) �
 seen_pixels k h = seen_of_size (pos k) (2 ^ 40) h (omega arith)
 
 pub abs-zero-sub : (k : ℕ) → unsigned_abs (pos 0 -ℤ pos k) ≡ k
-abs-zero-sub k = rw (zero-sub k) (abs-neg k) where
-  abs-neg : (n : ℕ) → unsigned_abs (neg_ℤ (pos n)) ≡ n
-  abs-neg zero = refl
-  abs-neg (suc n) = refl
+abs-zero-sub k = rw (zero-sub k) (abs-neg k)
 
 pub seen_back : (k : ℕ) → k ≤ 2 ^ 40 → to_z w128 (of_z w128 (pos 0 -ℤ pos k)) ≡ pos 0 -ℤ pos k
 seen_back k h = seen_of_size (pos 0 -ℤ pos k) (2 ^ 40) (rw (abs-zero-sub k) h) (omega arith)

@@ -31,7 +31,7 @@ both : (s t : Bool) → true ≡ (s && t) → (s ≡ true) × (t ≡ true)
 both true t h = (refl, sym h)
 both false t h = absurd (cc)
 
-le_is : (x y : ℕ) → nat_le x y ≡ true → x ≤ y
+pub le_is : (x y : ℕ) → nat_le x y ≡ true → x ≤ y
 le_is x y h = grind (arith, nat_tests)
 
 lt_is : (x y : ℕ) → nat_lt x y ≡ true → x < y

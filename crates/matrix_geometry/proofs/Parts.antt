@@ -1,17 +1,14 @@
 -- the numbers of a matrix from their parts
-use Rattle.std.proofs.Common.{◌≡◌, true, ◌&&◌, Some, None, refl, ℕ, ◌*◌, ◌^◌, ◌<◌, ◌≤◌, arith, ℤ, pos, negsuc, ◌*ℤ◌, ◌<ℤ◌, unsigned_abs, to_z, of_z}
+use Rattle.std.proofs.Common.{◌≡◌, true, ◌&&◌, Some, None, refl, ℕ, ◌*◌, ◌^◌, ◌≤◌, arith, ℤ, pos, negsuc, ◌*ℤ◌, ◌<ℤ◌, unsigned_abs, to_z, of_z}
 use Rattle.std.specs.Prelude.{int_div, if◌then◌else◌}
 use Rattle.std.specs.Int.{is_positive, w64, w128}
-use Rattle.std.proofs.Math.Nat.{div-le_of_le-mul, mul-le-mul, pow-le-pow_right}
+use Rattle.std.proofs.Math.Nat.{div-le_of_le-mul, mul-le-mul}
 use Rattle.std.proofs.lemmas.Int.{ints}
 use Rattle.exact_ratio.proofs.Divisors.{abs-div}
 use Rattle.exact_ratio.specs.Lowest.{lowest}
 use Rattle.exact_ratio.specs.Values.{Fraction, Scaled}
 use Rattle.matrix_geometry.specs.Making.{span_of_scale}
 use Rattle.matrix_geometry.proofs.Products.{abs-mul-le, seen_64_of_size, seen_of_size}
-
-pub tens_least : (i j : ℕ) → i ≤ j → 10 ^ i ≤ 10 ^ j
-tens_least i j h = let some : 0 < 10 = omega arith in pow-le-pow_right some h
 
 -- BILLIONTHS
 

@@ -71,10 +71,15 @@ range_between (Some rows) None = None
 range_between (Some rows) (Some cols) =
     Some (record { row_min = rows.0; row_max = rows.1; col_min = cols.0; col_max = cols.1 })
 
+abbrev pub rows_of : Matrix → Box9 → Option (ℕ × ℕ)
+rows_of m b = cut_to (least_row m b) (greatest_row m b) m.rows
+
+abbrev pub cols_of : Matrix → Box9 → Option (ℕ × ℕ)
+cols_of m b = cut_to (least_col m b) (greatest_col m b) m.cols
+
 -- the tiles of a box, none where they have no row or no column
 unfoldable pub range_of : Matrix → Box9 → Option Range
-range_of m b =
-    range_between (cut_to (least_row m b) (greatest_row m b) m.rows) (cut_to (least_col m b) (greatest_col m b) m.cols)
+range_of m b = range_between (rows_of m b) (cols_of m b)
 
 -- a tile of the matrix lies in the box: its row and column are between the floors
 pub record IsTileOfBox (m : Matrix) (b : Box9) (row col : ℕ) : Type 0 where

@@ -72,8 +72,12 @@ made_of (Some span) corner tile size =
     (if not (is_within_extent span tile size) then Err ExtentTooLarge else
     Ok (matrix_of_parts span corner tile size)))))
 
+-- none where it is 0 or less
+abbrev pub span_if_positive : Fraction → Option Fraction
+span_if_positive span = if is_positive span.n then Some span else None
+
 unfoldable pub made_of_span : Fraction → Corner → Size → Size → Result Matrix GridFault
-made_of_span span corner tile size = made_of (if is_positive span.n then Some span else None) corner tile size
+made_of_span span corner tile size = made_of (span_if_positive span) corner tile size
 
 -- a decimal number as a fraction
 abbrev pub fraction_of : Scaled → Fraction
@@ -87,6 +91,10 @@ pixel = record { n = pos 28; d = pos (10 ^ 5) }
 unfoldable pub span_of_scale : Scaled → Scaled → Fraction
 span_of_scale scale meters = lowest_terms ((fraction_of scale *ℚ pixel) /ℚ fraction_of meters)
 
+-- none where a number is 0 or less
+abbrev pub span_given : Scaled → Scaled → Option Fraction
+span_given scale meters =
+    if is_positive scale.units && is_positive meters.units then Some (span_of_scale scale meters) else None
+
 unfoldable pub made_of_scale : Scaled → Scaled → Corner → Size → Size → Result Matrix GridFault
-made_of_scale scale meters corner tile size =
-    made_of (if is_positive scale.units && is_positive meters.units then Some (span_of_scale scale meters) else None) corner tile size
+made_of_scale scale meters corner tile size = made_of (span_given scale meters) corner tile size

@@ -1,11 +1,11 @@
-ghost use Rattle.std.specs.Prelude.{◌≡◌, ℕ, ◌+◌, ◌*◌, ◌<◌, ◌≤◌, ◌^◌, ◌↔◌, ◌+ℤ◌, ◌-ℤ◌, ◌*ℤ◌, ◌<ℤ◌, pos, IsTrue, unsigned_abs};
+ghost use Rattle.std.specs.Prelude.{◌≡◌, ◌*◌, ◌<◌, ◌≤◌, ◌^◌, ◌+ℤ◌, ◌-ℤ◌, ◌*ℤ◌, ◌<ℤ◌, pos, IfSome, unsigned_abs};
 ghost use Rattle.std.specs.Int.{int_div_euclid};
 ghost use Rattle.exact_ratio.specs.Fractions.{lowest_terms};
 ghost use Rattle.exact_ratio.specs.Lowest.{lowest};
-ghost use Rattle.matrix_geometry.specs.Geometry.{IsTileOfBox, box_of, cut_to, greatest_col, greatest_row, least_col, least_row, left_edge, range_of, upper_edge};
+ghost use Rattle.matrix_geometry.specs.Geometry.{box_of, cols_of, cut_to, left_edge, range_of, rows_of, upper_edge};
 ghost use Rattle.matrix_geometry.specs.Away.{tiles_away};
 ghost use Rattle.matrix_geometry.specs.Limits.{IsReachable, IsWithinLimits};
-ghost use Rattle.matrix_geometry.specs.Ranges.{is_in_some_range};
+ghost use Rattle.matrix_geometry.specs.Ranges.{AreTilesOf, IsRangeOf};
 
 use crate::boxes::{Box9, Range, TileBox};
 use crate::matrix::Matrix;
@@ -33,7 +33,9 @@ fn edge(corner: i64, pixels: i128, span: &Ratio) -> Ratio
     requires d_positive { pos 0 <ℤ span.now.d }
     requires d { unsigned_abs span.now.d ≤ 10 ^ 18 }
     requires extent { unsigned_abs pixels * unsigned_abs span.now.n ≤ 10 ^ 9 * unsigned_abs span.now.d }
-    ensures { result ≡ lowest ((corner *ℤ span.now.d) +ℤ ((pixels *ℤ span.now.n) *ℤ pos (10 ^ 9))) (pos (10 ^ 9) *ℤ span.now.d) }
+    ensures { result ≡ lowest
+        ((corner *ℤ span.now.d) +ℤ ((pixels *ℤ span.now.n) *ℤ pos (10 ^ 9)))
+        (pos (10 ^ 9) *ℤ span.now.d) }
 {
     let n = edge_numerator(i128::from(corner), pixels, span.n, span.d);
     Ratio::lowest(n, 1_000_000_000 * span.d)
@@ -140,7 +142,7 @@ impl Matrix {
     fn cols_of_box(&self, b: &Box9) -> Option<(u32, u32)>
         requires limits { IsWithinLimits self.now }
         requires reachable { IsReachable b.now }
-        ensures { result ≡ cut_to (least_col self.now b.now) (greatest_col self.now b.now) self.now.cols }
+        ensures { result ≡ cols_of self.now b.now }
     {
         let to_left = distance(self.left, b.min_x);
         let to_right = distance(self.left, b.max_x);
@@ -154,7 +156,7 @@ impl Matrix {
     fn rows_of_box(&self, b: &Box9) -> Option<(u32, u32)>
         requires limits { IsWithinLimits self.now }
         requires reachable { IsReachable b.now }
-        ensures { result ≡ cut_to (least_row self.now b.now) (greatest_row self.now b.now) self.now.rows }
+        ensures { result ≡ rows_of self.now b.now }
     {
         let to_top = distance(b.max_y, self.top);
         let to_bottom = distance(b.min_y, self.top);
@@ -170,7 +172,8 @@ impl Matrix {
         requires limits { IsWithinLimits self.now }
         requires reachable { IsReachable b.now }
         ensures range { result ≡ range_of self.now b.now }
-        ensures tiles { (row col : ℕ) → row < self.now.rows → col < self.now.cols → (IsTrue (is_in_some_range result row col) ↔ IsTileOfBox self.now b.now row col) }
+        ensures inside { IfSome result (λ r. IsRangeOf self.now r) }
+        ensures tiles { AreTilesOf self.now b.now result }
     {
         let (row_min, row_max) = self.rows_of_box(b)?;
         let (col_min, col_max) = self.cols_of_box(b)?;

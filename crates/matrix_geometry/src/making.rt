@@ -3,7 +3,7 @@ ghost use Rattle.std.specs.Option.{ForSome};
 ghost use Rattle.std.specs.Int.{is_positive};
 ghost use Rattle.exact_ratio.specs.Lowest.{lowest};
 ghost use Rattle.matrix_geometry.specs.Limits.{IsWithinLimits};
-ghost use Rattle.matrix_geometry.specs.Making.{billionths_of, is_coordinate, is_corner, is_count, is_extent, is_fine_enough, is_matrix_size, is_side, is_tile_size, is_within_extent, made_of, made_of_scale, made_of_span, span_of_scale};
+ghost use Rattle.matrix_geometry.specs.Making.{billionths_of, is_coordinate, is_corner, is_count, is_extent, is_fine_enough, is_matrix_size, is_side, is_tile_size, is_within_extent, made_of, made_of_scale, made_of_span, span_given, span_if_positive};
 
 use crate::matrix::{Corner, Matrix, Size};
 use exact_ratio::decimal::Decimal;
@@ -166,7 +166,7 @@ fn made(span: Option<Ratio>, corner: &Corner, tile: Size, size: Size) -> Result<
 }
 
 fn positive(span: Ratio) -> Option<Ratio>
-    ensures value { result ≡ (if is_positive span.n then Some span else None) }
+    ensures value { result ≡ span_if_positive span }
     ensures positive { ForSome result (λ s. pos 0 <ℤ s.n) }
 {
     if span.n > 0 { Some(span) } else { None }
@@ -182,7 +182,9 @@ fn span_of_parts(scale: i128, scale_power: u64, meters: i128, meters_power: u64)
     requires scale_power_small { scale_power ≤ 10 ^ 15 }
     requires meters_power { 1 ≤ meters_power }
     requires meters_power_small { meters_power ≤ 10 ^ 15 }
-    ensures value { result ≡ lowest ((scale *ℤ pos 28) *ℤ pos meters_power) ((pos scale_power *ℤ pos (10 ^ 5)) *ℤ meters) }
+    ensures value { result ≡ lowest
+        ((scale *ℤ pos 28) *ℤ pos meters_power)
+        ((pos scale_power *ℤ pos (10 ^ 5)) *ℤ meters) }
     ensures positive { pos 0 <ℤ result.n }
 {
     // At most 10^18 * 28 * 10^15, and 10^15 * 10^5 * 10^18: that is 10^38, and 2^127 is above 1.7 * 10^38.
@@ -199,7 +201,7 @@ fn is_positive(x: &Decimal) -> bool
 
 /// The side of a pixel of the standard's 0.28 mm, in units; `None` where a number is 0 or less.
 fn span_of_scale(scale: &Decimal, meters: &Decimal) -> Option<Ratio>
-    ensures value { result ≡ (if is_positive scale.now.units && is_positive meters.now.units then Some (span_of_scale scale.now meters.now) else None) }
+    ensures value { result ≡ span_given scale.now meters.now }
     ensures positive { ForSome result (λ s. pos 0 <ℤ s.n) }
 {
     if !is_positive(scale) {

@@ -1,5 +1,5 @@
 use Rattle.std.proofs.Common.{arith}
-use Rattle.matrix_geometry.proofs.Parts.{tens_least}
+use Rattle.exact_ratio.proofs.Numbers.{tens_least}
 use Rattle.matrix_geometry.proofs.making.power_of_ten.Goals as goal
 
 pub returns-clause-positive : goal.returns-clause-positive
