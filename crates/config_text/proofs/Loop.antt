@@ -1,9 +1,6 @@
 -- The values of a list, read one after the other.
-use Rattle.std.proofs.Common.{◌≡◌, ℕ, ◌+◌, ◌<◌, ◌≤◌, List, [], ◌∷◌, ◌++◌, length, map, drop, get_or, Result, Ok, Err, refl, sym, ap, subst, ◌∙◌, arith, add-one, drop-cons, append_assoc}
+use Rattle.std.proofs.Common.{◌≡◌, ℕ, ◌+◌, ◌<◌, ◌≤◌, List, [], ◌∷◌, ◌++◌, length, map, drop, get_or, Result, Ok, Err, refl, sym, ap, subst, ◌∙◌, add-one, drop-cons, append_assoc}
 use Rattle.std.proofs.lemmas.List.{append-nil, drop_all}
-use Rattle.serde_json.specs.Data.{Data}
-use Rattle.serde_json.specs.View.{view}
-use Rattle.serde_json.specs.declared.value.Value.{Value}
 use Rattle.catalog.specs.declared.fault.CatalogueFault.{CatalogueFault}
 use Rattle.catalog.specs.declared.fault.CatalogueFault.TheVariants.{OutOfMemory, NotJson, Missing, Bad, Duplicate, Limit}
 use Rattle.catalog.specs.FirstFault.{Test, next, each}
