@@ -1,15 +1,13 @@
 -- A catalogue of which each test is met is valid.
-use Rattle.std.proofs.Common.{◌≡◌, ℕ, zero, suc, ◌+◌, ◌*◌, ◌^◌, ◌<◌, ◌≤◌, ◌<ℤ◌, ◌&&◌, ◌==◌, Bool, true, false, not, nat_le, nat_lt, int_lt, pos, unsigned_abs, IsTrue, List, [], ◌∷◌, ◌++◌, length, map, get_or, Option, Some, None, IfSome, OnOk, Result, Ok, Err, slice_get, refl, sym, ap, subst, ◌∙◌, arith, ℤ, append_assoc}
+use Rattle.std.proofs.Common.{◌≡◌, ℕ, suc, ◌^◌, ◌<◌, ◌≤◌, ◌<ℤ◌, ◌==◌, true, not, int_lt, List, [], ◌∷◌, ◌++◌, length, map, Option, Some, None, IfSome, OnOk, Ok, Err, slice_get, refl, sym, subst, arith, ℤ, append_assoc}
 use Rattle.std.specs.List.{AllByRecursion, list_all, list_any}
 use Rattle.std.specs.Char.{to_ascii_lowercase}
-use Rattle.std.specs.Str.{bytes_eq}
 use Rattle.std.proofs.lemmas.Bool.{leb-true, eqb-true, eq-eqb, and_parts}
 use Rattle.std.proofs.lemmas.Int.{ints}
 use Rattle.std.proofs.lemmas.List.{map-id, append-nil}
 use Rattle.matrix_geometry.specs.declared.matrix.Matrix.{Matrix}
 use Rattle.matrix_geometry.specs.Limits.{IsWithinLimits}
 use Rattle.catalog.specs.declared.catalogue.Catalogue.{Catalogue}
-use Rattle.catalog.specs.declared.fault.CatalogueFault.{CatalogueFault}
 use Rattle.catalog.specs.declared.fault.CatalogueFault.TheVariants.{Bad, Duplicate, Limit}
 use Rattle.catalog.specs.declared.fault.Field.{Field}
 use Rattle.catalog.specs.declared.fault.Field.TheVariants as field
@@ -17,11 +15,11 @@ use Rattle.catalog.specs.declared.grid.Grid.{Grid}
 use Rattle.catalog.specs.declared.layer.Dimension.{Dimension}
 use Rattle.catalog.specs.declared.layer.Layer.{Layer}
 use Rattle.catalog.specs.declared.layer.Style.{Style}
-use Rattle.catalog.specs.FirstFault.{Test, unless, next, first, each, matrix_test, is_near, has_span, is_fine, has_tile, has_size, has_extent, is_extent, name_test, matrices_test, grid_test, grid_number_test, style_test, rise_from_zero, dimension_name_test, names_test, default_test, dimension_test, are_factors, is_small, matrices_at, are_small, quota_test, layer_test, first_fault}
-use Rattle.catalog.specs.Names.{within, is_name, is_short, is_taken, are_distinct, is_parameter, is_same}
+use Rattle.catalog.specs.FirstFault.{Test, unless, next, matrix_test, name_test, matrices_test, grid_test, grid_number_test, style_test, dimension_name_test, names_test, default_test, dimension_test, is_small, matrices_at, are_small, quota_test, layer_test, first_fault}
+use Rattle.catalog.specs.Names.{within, is_name, is_short, is_taken, is_parameter, is_same}
 use Rattle.catalog.specs.Valid.{IsName, AreDistinct, IsGrid, IsNamedGrid, IsStyle, IsDimension, IsLayer, IsServed, IsSmallOn, IsValid}
-use Rattle.catalog.proofs.Passing.{next_met, met_at, holds, fails, at_least, at_most, each_met, all_met}
-use Rattle.catalog.proofs.Distinct.{IsNew, new_by, new_text, each_distinct, texts_distinct, distinct_none, distinct_more, equals_itself}
+use Rattle.catalog.proofs.Passing.{next_met, holds, fails, at_least, at_most, each_met, all_met}
+use Rattle.catalog.proofs.Distinct.{IsNew, new_by, new_text, each_distinct, texts_distinct, distinct_none, distinct_more}
 
 below_int : (a b : ℤ) → int_lt a b ≡ true → a <ℤ b
 below_int a b e = omega (arith, ints)

@@ -1,6 +1,6 @@
 -- The first fault of a catalogue: its members are tested in the order of the text that it may have been read from, objects of a
 -- list whole and one after the other, one line a test. A fault has the place of its object in its list, 0 for the outermost.
-use Rattle.std.specs.Prelude.{ℕ, ◌+◌, ◌*◌, ◌^◌, ◌&&◌, ◌||◌, ◌==◌, ⊤, List, [], ◌∷◌, ◌++◌, length, Bool, true, false, not, Result, Ok, Err, Option, Some, None, nat_le, nat_lt, int_lt, pos, unsigned_abs, slice_get}
+use Rattle.std.specs.Prelude.{ℕ, ◌+◌, ◌*◌, ◌^◌, ◌&&◌, ◌==◌, ⊤, List, [], ◌∷◌, ◌++◌, length, Bool, true, false, not, Result, Ok, Err, Option, Some, None, nat_le, nat_lt, int_lt, pos, unsigned_abs, slice_get}
 use Rattle.std.specs.List.{list_all, list_any}
 use Rattle.matrix_geometry.specs.declared.matrix.Matrix.{Matrix}
 use Rattle.catalog.specs.declared.catalogue.Catalogue.{Catalogue}

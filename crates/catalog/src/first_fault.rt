@@ -54,7 +54,7 @@ pub fn names_test(
 }
 
 /// Tests a quota, where there is one.
-pub fn quota_test(field: Field, at: u32, quota: Option<u64>) -> Result<(), CatalogueFault>
+pub(crate) fn quota_test(field: Field, at: u32, quota: Option<u64>) -> Result<(), CatalogueFault>
     ensures { result ≡ quota_test field at quota }
 {
     match quota {
@@ -64,7 +64,7 @@ pub fn quota_test(field: Field, at: u32, quota: Option<u64>) -> Result<(), Catal
 }
 
 /// What stands in a list of the catalogue and is tested after what stands before it.
-pub trait Entry: Sized {
+pub(crate) trait Entry: Sized {
     ghost test: { List Self → Self → Result ⊤ CatalogueFault };
 
     /// The first fault of the entry.
@@ -74,7 +74,7 @@ pub trait Entry: Sized {
 }
 
 /// The first fault of the entries of a list, one after the other.
-pub fn each<E: Entry>(entries: &[E]) -> Result<(), CatalogueFault>
+pub(crate) fn each<E: Entry>(entries: &[E]) -> Result<(), CatalogueFault>
     requires { length entries.now ≤ 2 ^ 32 }
     ensures { result ≡ each E.test [] entries.now }
 {

@@ -1,5 +1,5 @@
 -- As many breaks as rows.
-use Rattle.std.proofs.Common.{◌≡◌, ◌&&◌, nat_le, true, List, length, map, refl}
+use Rattle.std.proofs.Common.{◌≡◌, nat_le, true, List, length, map}
 use Rattle.std.specs.List.{list_all}
 use Rattle.std.proofs.lemmas.Bool.{and_parts}
 use Rattle.std.proofs.lemmas.List.{length-map}

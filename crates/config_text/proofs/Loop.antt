@@ -1,12 +1,10 @@
 -- The values of a list, read one after the other.
-use Rattle.std.proofs.Common.{◌≡◌, ℕ, ◌+◌, ◌<◌, ◌≤◌, List, [], ◌∷◌, ◌++◌, length, map, drop, get_or, Result, Ok, Err, refl, sym, ap, subst, ◌∙◌, arith, add-one, drop-cons, append_assoc}
+use Rattle.std.proofs.Common.{◌≡◌, ℕ, ◌+◌, ◌<◌, ◌≤◌, List, [], ◌∷◌, ◌++◌, length, map, drop, get_or, Result, Ok, refl, sym, ap, subst, ◌∙◌, add-one, drop-cons, append_assoc}
 use Rattle.std.proofs.lemmas.List.{append-nil, drop_all}
-use Rattle.serde_json.specs.Data.{Data}
-use Rattle.serde_json.specs.View.{view}
-use Rattle.serde_json.specs.declared.value.Value.{Value}
 use Rattle.catalog.specs.declared.fault.CatalogueFault.{CatalogueFault}
 use Rattle.catalog.specs.declared.fault.CatalogueFault.TheVariants.{OutOfMemory, NotJson, Missing, Bad, Duplicate, Limit}
 use Rattle.catalog.specs.FirstFault.{Test, next, each}
+use Rattle.catalog.proofs.Passing.{next_met}
 use Rattle.config_text.specs.Reading.{◌>>=◌, Fails, entries}
 
 -- the values from i on begin with v
@@ -41,14 +39,10 @@ ends seen form vs i before whole h w = sym w ∙ rw (drop_all i vs h) refl
 pub next_is : (a b : Test) → a ≡ Ok tt → b ≡ Ok tt → next a b ≡ Ok tt
 next_is a b e h = rw e h
 
-pub next_both : (a b : Test) → next a b ≡ Ok tt → (a ≡ Ok tt) × (b ≡ Ok tt)
-next_both (Ok tt) b e = (refl, e)
-next_both (Err f) b e = absurd cc
-
 more_after : {A : Type 0} (test : List A → A → Test) (before xs : List A) (x : A) → each test before xs ≡ Ok tt → test (before ++ xs) x ≡ Ok tt → each test before (xs ++ x ∷ []) ≡ Ok tt
 more_after test before [] x e t = next_is (test before x) (Ok tt) (subst (λ (ys : List _). test ys x ≡ Ok tt) (append-nil before) t) refl
 more_after test before (y ∷ ys) x e t =
-    let parts : (test before y ≡ Ok tt) × (each test (before ++ y ∷ []) ys ≡ Ok tt) = next_both _ _ e in
+    let parts : (test before y ≡ Ok tt) × (each test (before ++ y ∷ []) ys ≡ Ok tt) = next_met _ _ e in
     next_is (test before y) (each test (before ++ y ∷ []) (ys ++ x ∷ [])) parts.0 (more_after test (before ++ y ∷ []) ys x parts.1 (subst (λ (zs : List _). test zs x ≡ Ok tt) (sym (append_assoc before (y ∷ []) ys)) t))
 
 -- one more entry that meets its test

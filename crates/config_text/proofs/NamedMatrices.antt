@@ -1,7 +1,5 @@
 -- A matrix within the limits meets its test, and so do the matrices of a grid with their names.
-use Rattle.std.proofs.Common.{◌≡◌, ℕ, suc, ◌+◌, ◌<◌, ◌≤◌, ◌*◌, ◌^◌, ◌<ℤ◌, ◌&&◌, ◌==◌, Bool, true, false, nat_le, int_lt, pos, unsigned_abs, List, [], ◌∷◌, ◌++◌, length, map, Ok, ℤ, refl, sym, ap, subst, ◌∙◌, arith, length-append, append_assoc}
-use Rattle.std.specs.List.{list_any}
-use Rattle.std.specs.Str.{bytes_eq}
+use Rattle.std.proofs.Common.{◌≡◌, ℕ, ◌≤◌, ◌^◌, ◌<ℤ◌, ◌&&◌, ◌==◌, Bool, true, false, nat_le, int_lt, pos, List, [], ◌∷◌, ◌++◌, length, map, Ok, ℤ, refl, sym, subst, ◌∙◌, arith}
 use Rattle.std.proofs.lemmas.Bool.{eq-eqb, le-leb}
 use Rattle.std.proofs.lemmas.Int.{ints}
 use Rattle.std.proofs.lemmas.List.{length-map, map-append}
@@ -10,11 +8,12 @@ use Rattle.matrix_geometry.specs.Limits.{IsWithinLimits}
 use Rattle.catalog.specs.declared.fault.Field.{Field}
 use Rattle.catalog.specs.declared.fault.Field.TheVariants as field
 use Rattle.catalog.specs.declared.grid.Grid.{Grid}
-use Rattle.catalog.specs.FirstFault.{Test, grid_test, unless, next, first, each, name_test, matrix_test, matrices_test, is_near, has_span, is_fine, has_tile, has_size, has_extent, is_extent}
+use Rattle.catalog.specs.FirstFault.{grid_test, next, each, name_test, matrix_test, matrices_test, is_near, has_span, is_fine, has_tile, has_size, has_extent}
 use Rattle.catalog.specs.Names.{within, is_taken}
+use Rattle.catalog.proofs.Passing.{next_met}
 use Rattle.config_text.specs.Matrices.{named_matrix_test}
 use Rattle.config_text.specs.declared.spacing.NamedMatrix.{NamedMatrix}
-use Rattle.config_text.proofs.Loop.{next_is, next_both}
+use Rattle.config_text.proofs.Loop.{next_is}
 
 both_is : (a b : Bool) → a ≡ true → b ≡ true → (a && b) ≡ true
 both_is a b e h = rw e h
@@ -52,13 +51,13 @@ pub matrices_met : (before ms : List NamedMatrix) → each named_matrix_test bef
 unfolding named_matrix_test
 matrices_met before [] e = refl
 matrices_met before (m ∷ ms) e =
-    let here : (named_matrix_test before m ≡ Ok tt) × (each named_matrix_test (before ++ m ∷ []) ms ≡ Ok tt) = next_both _ _ e in
-    let named : (name_test (λ x. x.id) before field.MatrixId (length before) m.id ≡ Ok tt) × (next (matrix_test (length before) m.matrix) (Ok tt) ≡ Ok tt) = next_both _ _ here.0 in
+    let here : (named_matrix_test before m ≡ Ok tt) × (each named_matrix_test (before ++ m ∷ []) ms ≡ Ok tt) = next_met _ _ e in
+    let named : (name_test (λ x. x.id) before field.MatrixId (length before) m.id ≡ Ok tt) × (next (matrix_test (length before) m.matrix) (Ok tt) ≡ Ok tt) = next_met _ _ here.0 in
     let count : length (map (λ (x : NamedMatrix). x.id) before) ≡ length before = length-map before _ in
     let name : name_test (λ t. t) (map (λ x. x.id) before) field.MatrixId (length before) m.id ≡ Ok tt = sym (name_same before field.MatrixId (length before) m.id) ∙ named.0 in
     let rest : matrices_test (map (λ x. x.id) before ++ m.id ∷ []) (map (λ x. x.id) ms) (map (λ x. x.matrix) ms) ≡ Ok tt =
-            subst (λ (names : List (List ℕ)). matrices_test names (map (λ x. x.id) ms) (map (λ x. x.matrix) ms) ≡ Ok tt) (map-append (λ x. x.id) before (m ∷ [])) (matrices_met (before ++ m ∷ []) ms here.1) in
-    next_is _ _ (rw count name) (next_is _ _ (rw count (next_both _ _ named.1).0) (next_is _ _ rest refl))
+    subst (λ (names : List (List ℕ)). matrices_test names (map (λ x. x.id) ms) (map (λ x. x.matrix) ms) ≡ Ok tt) (map-append (λ x. x.id) before (m ∷ [])) (matrices_met (before ++ m ∷ []) ms here.1) in
+    next_is _ _ (rw count name) (next_is _ _ (rw count (next_met _ _ named.1).0) (next_is _ _ rest refl))
 
 -- as a grid has them
 pub matrices_of_grid_met : (ms : List NamedMatrix) (names : List (List ℕ)) (matrices : List Matrix) → each named_matrix_test [] ms ≡ Ok tt → names ≡ map (λ m. m.id) ms → matrices ≡ map (λ m. m.matrix) ms → matrices_test [] names matrices ≡ Ok tt

@@ -1,5 +1,5 @@
 -- What was read meets the tests of a catalogue.
-use Rattle.std.proofs.Common.{◌≡◌, ℕ, ◌≤◌, ◌^◌, ◌&&◌, Bool, true, List, [], length, nat_le, Ok, Option, Some, None, IfSome, refl}
+use Rattle.std.proofs.Common.{◌≡◌, ℕ, ◌≤◌, ◌^◌, Bool, true, List, [], length, nat_le, Ok, Option, Some, None, IfSome, refl}
 use Rattle.std.specs.List.{list_all}
 use Rattle.std.proofs.lemmas.Bool.{and_parts}
 use Rattle.catalog.specs.declared.catalogue.Catalogue.{Catalogue}
@@ -8,7 +8,7 @@ use Rattle.catalog.specs.declared.fault.Field.{Field}
 use Rattle.catalog.specs.declared.fault.Field.TheVariants as field
 use Rattle.catalog.specs.declared.grid.Grid.{Grid}
 use Rattle.catalog.specs.declared.layer.Layer.{Layer}
-use Rattle.catalog.specs.FirstFault.{Test, unless, next, each, name_test, names_test, quota_test, grid_test, grid_number_test, style_test, dimension_test, are_factors, are_small, layer_test, first_fault}
+use Rattle.catalog.specs.FirstFault.{unless, each, name_test, names_test, quota_test, grid_test, grid_number_test, style_test, dimension_test, are_factors, are_small, layer_test, first_fault}
 use Rattle.catalog.specs.Names.{within, is_short}
 use Rattle.catalog.proofs.Passing.{at_most, holds, next_met}
 use Rattle.config_text.proofs.Loop.{next_is}
@@ -34,19 +34,19 @@ quota_met f at None h = refl
 quota_met f at (Some n) h = rw (below (2 ^ 50) n h) refl
 
 pub layer_met : (grids : List Grid) (before : List Layer) (l : Layer) →
-  name_test (λ x. x.id) before field.LayerId (length before) l.id ≡ Ok tt →
-  within 1 16 (length l.grids) ≡ true →
-  each (grid_number_test (length before) grids) [] l.grids ≡ Ok tt →
-  within 1 32 (length l.styles) ≡ true →
-  each style_test [] l.styles ≡ Ok tt →
-  within 0 4 (length l.dims) ≡ true →
-  each dimension_test [] l.dims ≡ Ok tt →
-  are_factors l.meta_x l.meta_y ≡ true →
-  within 0 64 l.gutter ≡ true →
-  within 1 1000000000 l.cell ≡ true →
-  IfSome l.quota (λ n. within 0 (2 ^ 50) n ≡ true) →
-  are_small grids l.grids l.meta_x l.meta_y l.gutter ≡ true →
-  layer_test grids before l ≡ Ok tt
+    name_test (λ x. x.id) before field.LayerId (length before) l.id ≡ Ok tt →
+    within 1 16 (length l.grids) ≡ true →
+    each (grid_number_test (length before) grids) [] l.grids ≡ Ok tt →
+    within 1 32 (length l.styles) ≡ true →
+    each style_test [] l.styles ≡ Ok tt →
+    within 0 4 (length l.dims) ≡ true →
+    each dimension_test [] l.dims ≡ Ok tt →
+    are_factors l.meta_x l.meta_y ≡ true →
+    within 0 64 l.gutter ≡ true →
+    within 1 1000000000 l.cell ≡ true →
+    IfSome l.quota (λ n. within 0 (2 ^ 50) n ≡ true) →
+    are_small grids l.grids l.meta_x l.meta_y l.gutter ≡ true →
+    layer_test grids before l ≡ Ok tt
 unfolding layer_test
 layer_met grids before l name count numbers style_count styles dim_count dims meta gutter cell quota small =
     next_is _ _ name
@@ -63,15 +63,15 @@ layer_met grids before l name count numbers style_count styles dim_count dims me
     (next_is _ _ (unless_is _ _ small) refl)))))))))))
 
 pub catalogue_met : (c : Catalogue) →
-  within 1 1048576 c.kept_limit ≡ true →
-  within 1 65536 c.cut_limit ≡ true →
-  within 1 (2 ^ 40) c.blob_bytes ≡ true →
-  IfSome c.quota (λ n. within 0 (2 ^ 50) n ≡ true) →
-  within 1 16 (length c.grids) ≡ true →
-  each grid_test [] c.grids ≡ Ok tt →
-  within 1 64 (length c.layers) ≡ true →
-  each (layer_test c.grids) [] c.layers ≡ Ok tt →
-  first_fault c ≡ Ok tt
+    within 1 1048576 c.kept_limit ≡ true →
+    within 1 65536 c.cut_limit ≡ true →
+    within 1 (2 ^ 40) c.blob_bytes ≡ true →
+    IfSome c.quota (λ n. within 0 (2 ^ 50) n ≡ true) →
+    within 1 16 (length c.grids) ≡ true →
+    each grid_test [] c.grids ≡ Ok tt →
+    within 1 64 (length c.layers) ≡ true →
+    each (layer_test c.grids) [] c.layers ≡ Ok tt →
+    first_fault c ≡ Ok tt
 unfolding first_fault
 catalogue_met c kept cut blob quota grid_count grids layer_count layers =
     next_is _ _ (unless_is _ _ kept)

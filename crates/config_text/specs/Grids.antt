@@ -1,5 +1,5 @@
 -- The grids and their matrices (OGC 07-057r7, section 6).
-use Rattle.std.specs.Prelude.{ℕ, List, [], ◌∷◌, length, map, Result, Ok, Err, Option, Some, None, codes, pos}
+use Rattle.std.specs.Prelude.{ℕ, List, [], length, map, Result, Ok, Err, Option, Some, None, codes, pos}
 use Rattle.serde_json.specs.Data.{Data}
 use Rattle.serde_json.specs.Find.{get}
 use Rattle.exact_ratio.specs.Values.{Fraction, Scaled}

@@ -1,5 +1,5 @@
 -- The layers, their styles and their dimensions.
-use Rattle.std.specs.Prelude.{ℕ, ◌^◌, ◌&&◌, ◌==◌, List, [], ◌∷◌, length, map, min, Bool, not, nat_le, if◌then◌else◌, Result, Ok, Err, codes}
+use Rattle.std.specs.Prelude.{ℕ, ◌^◌, ◌&&◌, ◌==◌, List, [], ◌∷◌, length, map, min, Bool, not, nat_le, Result, Ok, Err, codes}
 use Rattle.std.specs.List.{list_all, list_any}
 use Rattle.serde_json.specs.Data.{Data}
 use Rattle.serde_json.specs.Find.{get, as_str}

@@ -7,6 +7,6 @@ use Rattle.config_text.specs.declared.spacing.NamedMatrix.{NamedMatrix}
 unfoldable pub named_matrix_test : List NamedMatrix → NamedMatrix → Test
 named_matrix_test before m =
     first (
-      name_test (λ x. x.id) before field.MatrixId (length before) m.id ∷
-      matrix_test (length before) m.matrix ∷
-      [])
+    name_test (λ x. x.id) before field.MatrixId (length before) m.id ∷
+    matrix_test (length before) m.matrix ∷
+    [])

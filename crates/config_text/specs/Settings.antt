@@ -1,5 +1,5 @@
 -- The members of the outermost object before its lists, in order.
-use Rattle.std.specs.Prelude.{ℕ, ◌^◌, List, Result, Ok, Err, codes, if◌then◌else◌}
+use Rattle.std.specs.Prelude.{◌^◌, Result, Ok, Err, codes, if◌then◌else◌}
 use Rattle.std.specs.Str.{bytes_eq}
 use Rattle.serde_json.specs.Data.{Data}
 use Rattle.serde_json.specs.Find.{get, as_str}

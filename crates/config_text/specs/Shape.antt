@@ -1,5 +1,5 @@
 -- Numbers of a matrix and of its grid: sizes, decimals, corners and spans.
-use Rattle.std.specs.Prelude.{ℕ, ◌+◌, ◌&&◌, ◌==◌, List, [], ◌∷◌, length, take, drop, Bool, true, false, not, Result, Ok, Err, Option, Some, None, min, nat_lt, nat_le, int_lt, pos, codes, if◌then◌else◌}
+use Rattle.std.specs.Prelude.{ℕ, ◌+◌, ◌&&◌, ◌==◌, List, [], ◌∷◌, length, take, drop, Bool, true, false, not, Result, Ok, Err, min, nat_lt, nat_le, int_lt, pos, codes, if◌then◌else◌}
 use Rattle.std.specs.List.{list_all, list_any, position_or_len}
 use Rattle.std.specs.Char.{is_ascii_digit}
 use Rattle.std.specs.Str.Parse.{digits_value}

@@ -26,12 +26,7 @@ use std::alloc::Global;
 
 /// The number of the grid of a name, beside the numbers before it.
 #[tactic(auto, unfolding(crate::specs::Layers::grid_number, catalog::specs::FirstFault::grid_number_test))]
-fn grid_number(
-    at: u32,
-    grids: &[Grid],
-    before: &[u32],
-    name: &[u8],
-) -> Result<u32, CatalogueFault>
+fn grid_number(at: u32, grids: &[Grid], before: &[u32], name: &[u8]) -> Result<u32, CatalogueFault>
     requires { length grids.now ≤ 16 }
     ensures gives { Gives (λ n. n) result (grid_number at grids.now before.now name.now) }
     ensures met { IfOk result (λ n. grid_number_test at grids.now before.now n ≡ Ok tt) }
@@ -73,7 +68,10 @@ fn factors(value: &Value, field: Field, at: u32) -> Result<Size, CatalogueFault>
     ensures met { IfOk result (λ s. are_factors s.w s.h ≡ true) }
 {
     let meta = size(value, field, at)?;
-    unless(are_factors(meta.w, meta.h), CatalogueFault::Limit(field, at))?;
+    unless(
+        are_factors(meta.w, meta.h),
+        CatalogueFault::Limit(field, at),
+    )?;
     Ok(meta)
 }
 

@@ -83,12 +83,7 @@ fn texts_of(alloc: Global, values: &[Value]) -> Result<Vec<Words>, AllocError>
 
 /// A list of texts.
 #[tactic(auto, unfolding(crate::specs::Member::texts))]
-fn texts(
-    alloc: Global,
-    value: &Value,
-    field: Field,
-    at: u32,
-) -> Result<Vec<Words>, CatalogueFault>
+fn texts(alloc: Global, value: &Value, field: Field, at: u32) -> Result<Vec<Words>, CatalogueFault>
     ensures { Gives (λ v. v.items) result (texts field at (view value.now)) }
 {
     let values = items(value, field, at)?;

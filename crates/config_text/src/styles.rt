@@ -104,12 +104,7 @@ fn tested_breaks(
 }
 
 #[tactic(auto, unfolding(crate::specs::Layers::breaks))]
-fn breaks(
-    alloc: Global,
-    value: &Value,
-    field: Field,
-    at: u32,
-) -> Result<Vec<Break>, CatalogueFault>
+fn breaks(alloc: Global, value: &Value, field: Field, at: u32) -> Result<Vec<Break>, CatalogueFault>
     requires { field ≡ Field.Breaks }
     ensures gives { Gives (λ v. v.items) result (breaks field at (view value.now)) }
     ensures few { IfOk result (λ v. nat_le (length v.items) 256 ≡ true) }

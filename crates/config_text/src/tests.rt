@@ -35,32 +35,39 @@ const WEB: &[u8] = br#"{"keptLimit":4096,"cutLimit":256,"blobBytes":1000000000,
 "layers":[{"id":"world","grids":["web"],"styles":[{"id":"grey","breaks":[]}],"meta":[4,4],"gutter":8,"cell":1000}]}
 "#;
 
-const NO_LAYERS: &[u8] = br#"{"blobBytes":1,"grids":[{"id":"g","corner":["-180","90"],"matrices":[{"id":"0","span":"45/64","tile":[256,256],"size":[2,1]}]}]}"#;
+const NO_LAYERS: &[u8] =
+    br#"{"blobBytes":1,"grids":[{"id":"g","corner":["-180","90"],"matrices":[{"id":"0","span":"45/64","tile":[256,256],"size":[2,1]}]}]}"#;
 
-const NUMBER_AS_SPAN: &[u8] = br#"{"blobBytes":1,"grids":[{"id":"g","corner":["-180","90"],"matrices":[{"id":"0","span":0.703125,"tile":[256,256],"size":[2,1]}]}],"layers":[{"id":"demo","grids":["g"],"styles":[{"id":"grey","breaks":[]}]}]}"#;
+const NUMBER_AS_SPAN: &[u8] =
+    br#"{"blobBytes":1,"grids":[{"id":"g","corner":["-180","90"],"matrices":[{"id":"0","span":0.703125,"tile":[256,256],"size":[2,1]}]}],"layers":[{"id":"demo","grids":["g"],"styles":[{"id":"grey","breaks":[]}]}]}"#;
 
-const DEGREES: &[u8] = br#"{"blobBytes":1,"grids":[{"id":"g","corner":["-180","90"],"matrices":[{"id":"0","span":"45/64","tile":[256,256],"size":[2,1]}]}],"layers":[{"id":"demo","grids":["g"],"styles":[{"id":"grey","breaks":[]}]}]}"#;
+const DEGREES: &[u8] =
+    br#"{"blobBytes":1,"grids":[{"id":"g","corner":["-180","90"],"matrices":[{"id":"0","span":"45/64","tile":[256,256],"size":[2,1]}]}],"layers":[{"id":"demo","grids":["g"],"styles":[{"id":"grey","breaks":[]}]}]}"#;
 
-const TOO_FINE: &[u8] = br#"{"blobBytes":1,"grids":[{"id":"g","metersPerUnit":"111319.49079327358","corner":["-180","90"],"matrices":[{"id":"0","scale":"2132.729583849784","tile":[256,256],"size":[2,1]}]}],"layers":[{"id":"demo","grids":["g"],"styles":[{"id":"grey","breaks":[]}]}]}"#;
+const TOO_FINE: &[u8] =
+    br#"{"blobBytes":1,"grids":[{"id":"g","metersPerUnit":"111319.49079327358","corner":["-180","90"],"matrices":[{"id":"0","scale":"2132.729583849784","tile":[256,256],"size":[2,1]}]}],"layers":[{"id":"demo","grids":["g"],"styles":[{"id":"grey","breaks":[]}]}]}"#;
 
-const TWO_OF_A_NAME: &[u8] = br#"{"blobBytes":1,"grids":[{"id":"g","corner":["-180","90"],"matrices":[{"id":"0","span":"45/64","tile":[256,256],"size":[2,1]}]}],"layers":[{"id":"demo","grids":["g"],"styles":[{"id":"grey","breaks":[]}]},{"id":"demo","grids":["g"],"styles":[{"id":"grey","breaks":[]}]}]}"#;
+const TWO_OF_A_NAME: &[u8] =
+    br#"{"blobBytes":1,"grids":[{"id":"g","corner":["-180","90"],"matrices":[{"id":"0","span":"45/64","tile":[256,256],"size":[2,1]}]}],"layers":[{"id":"demo","grids":["g"],"styles":[{"id":"grey","breaks":[]}]},{"id":"demo","grids":["g"],"styles":[{"id":"grey","breaks":[]}]}]}"#;
 
 #[test]
 fn demo_text_gives_the_demo(rt: HostRuntime) -> Result<(), Fail> {
     let demo = Catalogue::demo(rt.alloc())?;
-    let read = read_catalogue(rt.alloc(), DEMO).ok().ok_or("the text is a catalogue")?;
+    let read = read_catalogue(rt.alloc(), DEMO)
+        .ok()
+        .ok_or("the text is a catalogue")?;
     assert_eq!(rt; read.source, demo.source);
     assert_eq!(rt; read.kept_limit, demo.kept_limit);
     assert_eq!(rt; read.cut_limit, demo.cut_limit);
     assert_eq!(rt; read.blob_bytes, demo.blob_bytes);
     assert_eq!(rt; read.quota, demo.quota);
     assert_eq!(rt; read.policy, demo.policy);
-    assert_eq!(rt; read.layer_named(b"demo"), Some(0));
-    assert_eq!(rt; read.grid_named(b"tiny"), Some(0));
     let grid = read.grids.get(0).ok_or("a grid")?;
     let tiny = demo.grids.get(0).ok_or("the grid")?;
     assert!(rt; grid.matrices.as_slice() == tiny.matrices.as_slice());
+    assert!(rt; grid.id.bytes() == tiny.id.bytes());
     let layer = read.layers.get(0).ok_or("a layer")?;
+    assert!(rt; layer.id.bytes() == b"demo".as_slice());
     assert_eq!(rt; layer.grids.len(), 1);
     assert_eq!(rt; layer.styles.len(), 1);
     assert_eq!(rt; layer.dims.len(), 0);
@@ -74,7 +81,9 @@ fn demo_text_gives_the_demo(rt: HostRuntime) -> Result<(), Fail> {
 #[test]
 fn no_text_gives_the_demo(rt: HostRuntime) -> Result<(), Fail> {
     let demo = Catalogue::demo(rt.alloc())?;
-    let read = read_catalogue(rt.alloc(), b"").ok().ok_or("no bytes are a catalogue")?;
+    let read = read_catalogue(rt.alloc(), b"")
+        .ok()
+        .ok_or("no bytes are a catalogue")?;
     assert_eq!(rt; read.digest, demo.digest);
     Ok(())
 }
@@ -82,7 +91,9 @@ fn no_text_gives_the_demo(rt: HostRuntime) -> Result<(), Fail> {
 // The bytes of the digest are those of sha256sum.
 #[test]
 fn web_is_accepted(rt: HostRuntime) -> Result<(), Fail> {
-    let web = read_catalogue(rt.alloc(), WEB).ok().ok_or("the text is a catalogue")?;
+    let web = read_catalogue(rt.alloc(), WEB)
+        .ok()
+        .ok_or("the text is a catalogue")?;
     assert_eq!(rt; web.validate(), Ok(()));
     assert_eq!(rt; web.digest[0], 116);
     assert_eq!(rt; web.digest[31], 49);
@@ -93,18 +104,63 @@ fn web_is_accepted(rt: HostRuntime) -> Result<(), Fail> {
 
 #[test]
 fn spans(rt: HostRuntime) {
-    assert!(rt; matches!(read_catalogue(rt.alloc(), NUMBER_AS_SPAN), Err(CatalogueFault::Bad(Field::Span, 0))));
+    assert!(rt;
+        matches!(
+            read_catalogue(rt.alloc(), NUMBER_AS_SPAN),
+            Err(CatalogueFault::Bad(Field::Span, 0))
+        )
+    );
     assert!(rt; matches!(read_catalogue(rt.alloc(), DEGREES), Ok(_)));
-    assert!(rt; matches!(read_catalogue(rt.alloc(), TOO_FINE), Err(CatalogueFault::Limit(Field::Scale, 0))));
+    assert!(rt;
+        matches!(
+            read_catalogue(rt.alloc(), TOO_FINE),
+            Err(CatalogueFault::Limit(Field::Scale, 0))
+        )
+    );
 }
 
 #[test]
 fn first_faults(rt: HostRuntime) {
-    assert!(rt; matches!(read_catalogue(rt.alloc(), b"{"), Err(CatalogueFault::NotJson)));
-    assert!(rt; matches!(read_catalogue(rt.alloc(), b"[]"), Err(CatalogueFault::NotJson)));
-    assert!(rt; matches!(read_catalogue(rt.alloc(), b"{}"), Err(CatalogueFault::Missing(Field::BlobBytes, 0))));
-    assert!(rt; matches!(read_catalogue(rt.alloc(), b"{\"source\":-1}"), Err(CatalogueFault::Bad(Field::Source, 0))));
-    assert!(rt; matches!(read_catalogue(rt.alloc(), b"{\"keptLimit\":0,\"keptLimit\":1048577}"), Err(CatalogueFault::Limit(Field::KeptLimit, 0))));
-    assert!(rt; matches!(read_catalogue(rt.alloc(), NO_LAYERS), Err(CatalogueFault::Missing(Field::Layers, 0))));
-    assert!(rt; matches!(read_catalogue(rt.alloc(), TWO_OF_A_NAME), Err(CatalogueFault::Duplicate(Field::LayerId, 1))));
+    assert!(rt;
+        matches!(
+            read_catalogue(rt.alloc(), b"{"),
+            Err(CatalogueFault::NotJson)
+        )
+    );
+    assert!(rt;
+        matches!(
+            read_catalogue(rt.alloc(), b"[]"),
+            Err(CatalogueFault::NotJson)
+        )
+    );
+    assert!(rt;
+        matches!(
+            read_catalogue(rt.alloc(), b"{}"),
+            Err(CatalogueFault::Missing(Field::BlobBytes, 0))
+        )
+    );
+    assert!(rt;
+        matches!(
+            read_catalogue(rt.alloc(), b"{\"source\":-1}"),
+            Err(CatalogueFault::Bad(Field::Source, 0))
+        )
+    );
+    assert!(rt;
+        matches!(
+            read_catalogue(rt.alloc(), b"{\"keptLimit\":0,\"keptLimit\":1048577}"),
+            Err(CatalogueFault::Limit(Field::KeptLimit, 0))
+        )
+    );
+    assert!(rt;
+        matches!(
+            read_catalogue(rt.alloc(), NO_LAYERS),
+            Err(CatalogueFault::Missing(Field::Layers, 0))
+        )
+    );
+    assert!(rt;
+        matches!(
+            read_catalogue(rt.alloc(), TWO_OF_A_NAME),
+            Err(CatalogueFault::Duplicate(Field::LayerId, 1))
+        )
+    );
 }

@@ -1,4 +1,4 @@
-use Rattle.std.proofs.Common.{◌≡◌, ◌∷◌, ◌++◌, ℕ, List, [], Ok, arith, length-append, map, subst}
+use Rattle.std.proofs.Common.{◌≡◌, ℕ, List, [], Ok, arith, length-append, map, subst}
 use Rattle.std.proofs.lemmas.List.{map-id}
 use Rattle.std.proofs.lemmas.Result.{err_from_is_err_and}
 use Rattle.catalog.specs.FirstFault.{grid_number_test}
@@ -11,7 +11,7 @@ pub returns-in_err-number-clause-gives : goal.returns-in_err-number-clause-gives
 returns-in_err-number-clause-gives c =
     let p = err_from_is_err_and c.from_residual.result c.from_residual.ensures.1 in
     let fault : Fails c.in_err-number.field-0.0 (entries (grid_number c.args.at c.args.grids.now) [] (map (λ n. n) c.args.names.now)) =
-            stops (λ n. n) (grid_number c.args.at c.args.grids.now) c.args.names.now c.loop-name.name-index c.name-item.result c.loop-name.numbers.items c.in_err-number.field-0.0 _ c.loop-name-test.true c.name-item.is (rw (c.as_slice.ensures.value, c.bytes.ensures) at c.in_err-number.ensures.gives) c.loop-name.invariant.same in
+    stops (λ n. n) (grid_number c.args.at c.args.grids.now) c.args.names.now c.loop-name.name-index c.name-item.result c.loop-name.numbers.items c.in_err-number.field-0.0 _ c.loop-name-test.true c.name-item.is (rw (c.as_slice.ensures.value, c.bytes.ensures) at c.in_err-number.ensures.gives) c.loop-name.invariant.same in
     rw (p.1, p.2) (subst (λ (ns : List (List ℕ)). Fails c.in_err-number.field-0.0 (entries (grid_number c.args.at c.args.grids.now) [] ns)) (map-id c.args.names.now) fault)
 
 pub loop-name-preserved : goal.loop-name-preserved
@@ -26,4 +26,4 @@ loop-name-preserved c =
 pub returns-clause-gives : goal.returns-clause-gives
 returns-clause-gives c =
     subst (λ (ns : List (List ℕ)). entries (grid_number c.args.at c.args.grids.now) [] ns ≡ Ok c.loop-name.numbers.items) (map-id c.args.names.now)
-      (ends (λ n. n) (grid_number c.args.at c.args.grids.now) c.args.names.now c.loop-name.name-index c.loop-name.numbers.items _ c.loop-name-test.false c.loop-name.invariant.same)
+    (ends (λ n. n) (grid_number c.args.at c.args.grids.now) c.args.names.now c.loop-name.name-index c.loop-name.numbers.items _ c.loop-name-test.false c.loop-name.invariant.same)

@@ -1,4 +1,3 @@
-use Rattle.std.proofs.Common.{◌≡◌}
 use Rattle.catalog.proofs.DemoValid.{demo_met}
 use Rattle.config_text.proofs.read.catalogue_of.Goals as goal
 
