@@ -1,2 +1,12 @@
 pub mod Side
 pub mod Memory
+pub mod Fields
+pub mod Messages
+pub mod Streams
+pub mod Exceptions
+pub mod Answers
+pub mod Reader
+pub mod Causes
+pub mod Lengths
+pub mod Looks
+pub mod Outlines
