@@ -10,7 +10,8 @@ use Rattle.httparse.proofs.GrammarLemmas.{ReadsRequest-append, request_unique}
 use Rattle.std.specs.List.{list_any}
 use Rattle.http_wire.specs.Fields.{says_close}
 use Rattle.http_wire.specs.declared.outline.Outline.{Outline}
-use Rattle.http_wire.specs.Messages.{front, fields_of, method_of, body_length, BeginsWith, IsBad, IsNext, IsTruncated}
+use Rattle.http_wire.specs.Messages.{front, fields_of, method_of, body_length, BeginsWith, IsBad, IsNext, IsTruncated, HoldsMessage}
+use Rattle.http_wire.specs.Lines.{Extends}
 use Rattle.http_wire.specs.Outlines.{Judges, IsOutline}
 use Rattle.http_wire.specs.Answers.{TakesMessage}
 use Rattle.std.specs.Io.KnownBytes.{Keeps, IsAtEnd, prepend_known}
@@ -156,6 +157,20 @@ takes_before (Some x) None c m k t = absurd k
 takes_before (Some x) (Some y) None m k t = absurd t
 takes_before (Some x) (Some y) (Some z) m k t = subst (λ (l : List ℕ). IsNext l m z) k t
 
+-- an outline stays, whatever follows
+pub outline_more : (held more : List ℕ) (o : Outline) → IsOutline held o → IsOutline (held ++ more) o
+outline_more held more o is = record {
+  head = is.head;
+  begins = outline_in held more o is;
+  fits = omega (arith, is.fits, length-append held more);
+  said = is.said;
+  plain = is.plain;
+  bounded = is.bounded;
+  method = is.method;
+  target = is.target;
+  ends = is.ends;
+}
+
 -- a message that is held whole needs no byte more
 pub whole_message : (held new : List ℕ) (o : Outline) (m : Message) (rest : List ℕ) → new ≡ held → IsOutline new o → IsNext held m rest → o.start + o.size ≤ length new
 whole_message held new o m rest e is next =
@@ -164,3 +179,15 @@ whole_message held new o m rest e is next =
     let size : o.size ≡ length m.body = cc in
     let behind : length (drop o.start held) ≡ length (m.body ++ rest) = ap length one.1 in
     omega (arith, size, behind, length-drop o.start held, length-append m.body rest, is.fits, ap length e)
+
+-- bytes without a head hold no message
+pub no_message_none : (bytes : List ℕ) → HasNoRequest bytes → HoldsMessage bytes → ⊥
+no_message_none bytes none holds = none holds.2.head (holds.0.body ++ holds.1) holds.2.begins.reads
+
+-- nor do bytes that end within the body
+pub no_message_short : (held first new : List ℕ) (o : Outline) → first ≡ held → IsOutline first o → Extends held new → length new < o.start + o.size → HoldsMessage new → ⊥
+no_message_short held first new o e is more short holds =
+    let whole : new ≡ first ++ more.0 = more.1 ∙ ap (λ (l : List ℕ). l ++ more.0) (sym e) in
+    let here : IsOutline (first ++ more.0) o = outline_more first more.0 o is in
+    let fits = whole_message new (first ++ more.0) o holds.0 holds.1 (sym whole) here holds.2 in
+    omega (arith, fits, short, ap (λ (l : List ℕ). length l) whole)

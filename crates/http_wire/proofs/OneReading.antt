@@ -2,10 +2,10 @@
 use Rattle.std.proofs.Common.{◌≡◌, ℕ, zero, suc, ◌<◌, ◌≤◌, ◌⊎◌, Bool, true, false, cond, List, [], ◌∷◌, ◌++◌, length, length-append, take, get_or, Option, Some, None, IsSome, refl, sym, ◌∙◌, ap, subst, arith, append-nil, inl, inr}
 use Rattle.std.specs.Prelude.{codes, nat_lt, if◌then◌else◌}
 use Rattle.std.proofs.lemmas.Bool.Decides.{nat_tests}
-use Rattle.std.proofs.lemmas.List.{take_all, take_at, append_cancel_left}
+use Rattle.std.proofs.lemmas.List.{take_at, append_cancel_left}
 use Rattle.std.proofs.lemmas.Str.{IsUtf8-from_ascii}
 use Rattle.std.proofs.lemmas.List.Sums.{AllPass-from_list_all}
-use Rattle.httparse.specs.Grammar.{is_token_byte, is_uri_byte, RequestHead, print_request, print_blank, print_version, print_end, print_section, ReadsRequest, HasNoRequest, NeverHasRequest, EndsInTarget, lf}
+use Rattle.httparse.specs.Grammar.{is_token_byte, is_uri_byte, RequestHead, print_request, print_blank, print_version, print_end, print_section, ReadsRequest, NeverHasRequest, EndsInTarget, lf}
 use Rattle.httparse.specs.Spans.{RequestExceeds}
 use Rattle.httparse.proofs.GrammarLemmas.{request_unique, print_request-append}
 use Rattle.httparse.proofs.OnLiterals.{httparse_on_literals}

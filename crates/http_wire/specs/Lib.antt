@@ -8,5 +8,6 @@ pub mod Answers
 pub mod Reader
 pub mod Causes
 pub mod Lengths
+pub mod Lines
 pub mod Looks
 pub mod Outlines

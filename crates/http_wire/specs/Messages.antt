@@ -51,6 +51,10 @@ pub record IsNext (bytes : List ℕ) (message : Message) (rest : List ℕ) : Typ
   pub target : message.target ≡ head.target
   pub ends : message.last ≡ is_last head
 
+-- a whole message stands at the front of the bytes
+abbrev pub HoldsMessage : List ℕ → Type 0
+HoldsMessage bytes = (message : Message) × (rest : List ℕ) × IsNext bytes message rest
+
 -- the bytes that a head may take
 abbrev pub front : List ℕ → List ℕ
 front bytes = take 16384 bytes

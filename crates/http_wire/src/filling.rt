@@ -1,6 +1,8 @@
-ghost use Rattle.std.specs.Prelude.{◌≡◌, ◌≤◌, ◌<◌, true, false, IfOk, OnOk, length};
+ghost use Rattle.std.specs.Prelude.{◌≡◌, ◌≤◌, ◌<◌, true, false, max, IfOk, OnOk, OnErr, length};
 ghost use Rattle.std.specs.Io.KnownBytes.{prepend_known, Keeps, IsAtEnd};
 ghost use Rattle.http_wire.specs.Causes.{HasReadCause};
+ghost use Rattle.httparse.specs.Grammar.{HasNoRequest};
+ghost use Rattle.http_wire.specs.Lines.{is_line_byte, IsBlankUpTo, HasNoLineEnd, Extends};
 ghost use Rattle.http_wire.specs.Looks.{HoldsHead, MayHaveHead, SettlesStream};
 
 use crate::look::{Found, HEAD_LIMIT, at_end, step};
@@ -13,6 +15,8 @@ fn take_more<S: ByteSource>(held: &mut Vec<u8>, source: &mut S) -> Result<bool, 
     ensures stream { OnOk result (Keeps (prepend_known held.old.items (S.left source.old)) (prepend_known held.new.items (S.left source.new))) }
     ensures grows { IfOk result (λ more. more ≡ true → length held.old.items < length held.new.items) }
     ensures ends { IfOk result (λ more. more ≡ false → IsAtEnd (S.left source.new) × (held.new.items ≡ held.old.items)) }
+    ensures extends { OnOk result (Extends held.old.items held.new.items) }
+    ensures kept { OnErr result (held.new.items ≡ held.old.items) }
     ensures cause { HasReadCause (S.faults source.old) (S.faults source.new) result }
     ensures apart { S.apart source.new ≡ S.apart source.old }
 {
@@ -30,23 +34,24 @@ fn take_more<S: ByteSource>(held: &mut Vec<u8>, source: &mut S) -> Result<bool, 
     Ok(true)
 }
 
-/// Whether a line ends in the bytes from a place on.
-fn ends_line(held: &[u8], from: usize) -> bool
-    requires { from ≤ length held.now }
+/// Whether the byte is one of those of a line end.
+fn is_line_byte(byte: u8) -> bool
+    ensures { result ≡ is_line_byte byte }
 {
-    let (_, new) = held.split_at(from);
-    new.contains(&b'\n')
+    byte == b'\r' || byte == b'\n'
 }
 
 /// How many bytes at the front are those of line ends, of which the first `known` are.
 fn blank_front(held: &[u8], known: usize) -> usize
-    requires { known ≤ length held.now }
-    ensures { result ≤ length held.now }
+    requires known { known ≤ length held.now }
+    requires blank { IsBlankUpTo known held.now }
+    ensures within { result ≤ length held.now }
+    ensures grows { known ≤ result }
+    ensures blank { IsBlankUpTo result held.now }
 {
-    let (_, rest) = held.split_at(known);
     let mut blank = known;
-    for byte in rest {
-        if *byte != b'\r' && *byte != b'\n' {
+    for byte in &held[known..] {
+        if !is_line_byte(*byte) {
             return blank;
         }
         blank += 1;
@@ -54,12 +59,26 @@ fn blank_front(held: &[u8], known: usize) -> usize
     blank
 }
 
-/// Takes more bytes until a head can end in them: a line ends there, and not all lines are empty. A look costs as much as
-/// the bytes so far, so there is none before that, and pieces of one byte are read in a time that grows with their count.
+/// Whether a head may end in the bytes from a place on: a line ends there, and the bytes aren't empty lines alone.
+fn may_end_head(held: &[u8], from: usize, blank: usize) -> bool
+    requires { from ≤ length held.now }
+    ensures { result ≡ false → HasNoLineEnd (max blank from) (length held.now) held.now }
+{
+    if blank == held.len() {
+        return false;
+    }
+    let (_, new) = held.split_at(from);
+    new.contains(&b'\n')
+}
+
+/// Takes more bytes until a head may end in them, or they leave no room for one; false where none are left. A look at the
+/// bytes costs as much as they are many, so that it is worth while only then: pieces of one byte, and empty lines, are
+/// read in a time that grows with their number alone.
 fn take_line<S: ByteSource>(held: &mut Vec<u8>, source: &mut S) -> Result<bool, WireFault>
     ensures stream { OnOk result (Keeps (prepend_known held.old.items (S.left source.old)) (prepend_known held.new.items (S.left source.new))) }
     ensures grows { IfOk result (λ more. more ≡ true → length held.old.items < length held.new.items) }
     ensures ends { IfOk result (λ more. more ≡ false → IsAtEnd (S.left source.new) × (held.new.items ≡ held.old.items)) }
+    ensures waits { OnErr result (HasNoRequest held.old.items → HasNoRequest held.new.items) }
     ensures cause { HasReadCause (S.faults source.old) (S.faults source.new) result }
     ensures apart { S.apart source.new ≡ S.apart source.old }
 {
@@ -69,9 +88,7 @@ fn take_line<S: ByteSource>(held: &mut Vec<u8>, source: &mut S) -> Result<bool, 
         return Ok(false);
     }
     blank = blank_front(held.as_slice(), blank);
-    'line: while held.len() < HEAD_LIMIT
-        && (blank == held.len() || !ends_line(held.as_slice(), seen))
-    {
+    'line: while held.len() < HEAD_LIMIT && !may_end_head(held.as_slice(), seen, blank) {
         seen = held.len();
         if !take_more(held, source)? {
             return Ok(true);
@@ -91,6 +108,7 @@ fn read_on<S: ByteSource>(
     requires unsettled { MayHaveHead held.old.items }
     ensures stream { OnOk result (Keeps (prepend_known held.old.items (S.left source.old)) (prepend_known held.new.items (S.left source.new))) }
     ensures found { IfOk result (λ found. SettlesStream held.new.items headers.new (prepend_known held.new.items (S.left source.new)) found) }
+    ensures waits { OnErr result (HasNoRequest held.new.items) }
     ensures cause { HasReadCause (S.faults source.old) (S.faults source.new) result }
     ensures apart { S.apart source.new ≡ S.apart source.old }
 {
@@ -114,6 +132,7 @@ pub fn read_head<S: ByteSource>(
     ensures stream { OnOk result (Keeps (prepend_known held.old.items (S.left source.old)) (prepend_known held.new.items (S.left source.new))) }
     ensures found { IfOk result (λ found. SettlesStream held.new.items headers.new (prepend_known held.new.items (S.left source.new)) found) }
     ensures untouched { HoldsHead held.old.items → (source.new ≡ source.old) × (held.new ≡ held.old) }
+    ensures waits { OnErr result (HasNoRequest held.new.items) }
     ensures cause { HasReadCause (S.faults source.old) (S.faults source.new) result }
     ensures apart { S.apart source.new ≡ S.apart source.old }
 {
@@ -133,6 +152,7 @@ pub fn read_up_to<S: ByteSource>(
     ensures whole { IfOk result (λ whole. whole ≡ true → need ≤ length held.new.items) }
     ensures short { IfOk result (λ whole. whole ≡ false → IsAtEnd (S.left source.new) × (length held.new.items < need)) }
     ensures untouched { need ≤ length held.old.items → source.new ≡ source.old }
+    ensures waits { OnErr result ((length held.new.items < need) × Extends held.old.items held.new.items) }
     ensures cause { HasReadCause (S.faults source.old) (S.faults source.new) result }
     ensures apart { S.apart source.new ≡ S.apart source.old }
 {

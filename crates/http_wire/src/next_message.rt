@@ -1,8 +1,8 @@
-ghost use Rattle.std.specs.Prelude.{◌≡◌, ◌≤◌, ◌+◌, ℕ, List, length, take, drop, IfOk};
+ghost use Rattle.std.specs.Prelude.{◌≡◌, ◌≤◌, ◌+◌, length, take, drop, IfOk};
 ghost use Rattle.std.specs.Io.KnownBytes.{prepend_known};
 ghost use Rattle.http_wire.specs.Answers.{Answers, next_at, again_of, ended_of};
 ghost use Rattle.http_wire.specs.Causes.{HasReadCause};
-ghost use Rattle.http_wire.specs.Messages.{IsNext};
+ghost use Rattle.http_wire.specs.Messages.{HoldsMessage};
 
 use crate::filling::{read_head, read_up_to};
 use crate::look::Found;
@@ -68,7 +68,8 @@ pub fn next_of<S: ByteSource>(
     source: &mut S,
 ) -> Result<Next, WireFault>
     ensures answers { Answers (prepend_known held.old.items (S.left source.old)) (prepend_known held.new.items (S.left source.new)) result }
-    ensures untouched { (message : Message) (rest : List ℕ) → IsNext held.old.items message rest → source.new ≡ source.old }
+    ensures untouched { HoldsMessage held.old.items → source.new ≡ source.old }
+    ensures waits { result ≡ Err WireFault.ReadFault → ¬ (HoldsMessage held.new.items) }
     ensures cause { HasReadCause (S.faults source.old) (S.faults source.new) result }
     ensures apart { S.apart source.new ≡ S.apart source.old }
 {

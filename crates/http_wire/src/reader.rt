@@ -1,11 +1,11 @@
-ghost use Rattle.std.specs.Prelude.{◌≡◌, ℕ, List, [], None, IfOk, IfSome};
+ghost use Rattle.std.specs.Prelude.{◌≡◌, [], None, IfOk, IfSome};
 ghost use Rattle.http_wire.specs.Answers.{Answers, again_of, ended_of};
 ghost use Rattle.http_wire.specs.Causes.{HasReadCause};
-ghost use Rattle.http_wire.specs.Messages.{IsNext};
+ghost use Rattle.http_wire.specs.Messages.{HoldsMessage};
 ghost use Rattle.http_wire.specs.Reader.{stream};
 
 use crate::links::Link;
-use crate::message::{Ended, Message, Next, WireFault};
+use crate::message::{Ended, Next, WireFault};
 use crate::next_message::{again, ended_by, next_of};
 use std::alloc::{AllocError, Global};
 use std::marker::Model;
@@ -46,8 +46,9 @@ impl MessageReader {
         // How it has ended is kept, and answered again.
         ensures ends { self.old.ended ≡ None → self.new.ended ≡ ended_of result }
         ensures again { IfSome self.old.ended (λ ended. (result ≡ again_of ended) × (self.new ≡ self.old) × (link.new ≡ link.old)) }
-        // A message that is held whole waits for no byte.
-        ensures untouched { self.old.ended ≡ None → (message : Message) (rest : List ℕ) → IsNext self.old.held message rest → link.new ≡ link.old }
+        // A whole message waits for no further byte: held before, it leaves the link untouched, and no fault comes before it.
+        ensures untouched { self.old.ended ≡ None → HoldsMessage self.old.held → link.new ≡ link.old }
+        ensures waits { self.old.ended ≡ None → result ≡ Err WireFault.ReadFault → ¬ (HoldsMessage self.new.held) }
         ensures cause { self.old.ended ≡ None → HasReadCause (L.ByteSource.faults link.old) (L.ByteSource.faults link.new) result }
         // Nothing is sent.
         ensures taken { L.taken link.new ≡ L.taken link.old }

@@ -1,7 +1,6 @@
 use Rattle.std.proofs.Common.{subst, ℕ, List}
 use Rattle.httparse.specs.Grammar.{HasNoRequest}
 use Rattle.http_wire.specs.Messages.{front}
-use Rattle.http_wire.proofs.FrontGrows.{settled}
 use Rattle.http_wire.proofs.HeadAtFront.{no_head_none}
 use Rattle.http_wire.proofs.filling.read_head.Goals as goal
 
