@@ -6,7 +6,7 @@ pub mod Streams
 pub mod Exceptions
 pub mod Answers
 pub mod Reader
-pub mod Causes
+pub mod ReadCause
 pub mod Lengths
 pub mod Lines
 pub mod Looks

@@ -1,6 +1,6 @@
 ghost use Rattle.std.specs.Prelude.{◌≡◌, ◌≤◌, ◌<◌, true, false, max, IfOk, OnOk, OnErr, length};
 ghost use Rattle.std.specs.Io.KnownBytes.{prepend_known, Keeps, IsAtEnd};
-ghost use Rattle.http_wire.specs.Causes.{HasReadCause};
+ghost use Rattle.http_wire.specs.ReadCause.{HasReadCause};
 ghost use Rattle.httparse.specs.Grammar.{HasNoRequest};
 ghost use Rattle.http_wire.specs.Lines.{is_line_byte, IsBlankUpTo, HasNoLineEnd, Extends};
 ghost use Rattle.http_wire.specs.Looks.{HoldsHead, MayHaveHead, SettlesStream};

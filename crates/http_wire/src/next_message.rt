@@ -1,7 +1,7 @@
 ghost use Rattle.std.specs.Prelude.{◌≡◌, ◌≤◌, ◌+◌, length, take, drop, IfOk};
 ghost use Rattle.std.specs.Io.KnownBytes.{prepend_known};
 ghost use Rattle.http_wire.specs.Answers.{Answers, next_at, again_of, ended_of};
-ghost use Rattle.http_wire.specs.Causes.{HasReadCause};
+ghost use Rattle.http_wire.specs.ReadCause.{HasReadCause};
 ghost use Rattle.http_wire.specs.Messages.{HoldsMessage};
 
 use crate::filling::{read_head, read_up_to};

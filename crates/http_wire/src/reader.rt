@@ -1,6 +1,6 @@
 ghost use Rattle.std.specs.Prelude.{◌≡◌, [], None, IfOk, IfSome};
 ghost use Rattle.http_wire.specs.Answers.{Answers, again_of, ended_of};
-ghost use Rattle.http_wire.specs.Causes.{HasReadCause};
+ghost use Rattle.http_wire.specs.ReadCause.{HasReadCause};
 ghost use Rattle.http_wire.specs.Messages.{HoldsMessage};
 ghost use Rattle.http_wire.specs.Reader.{stream};
 

@@ -6,13 +6,14 @@ use Rattle.http_wire.specs.Lines.{IsBlankUpTo, HasNoLineEnd}
 use Rattle.http_wire.proofs.NoHeadYet.{still_none, blank_more, quiet_so_far, quiet_more, extends_more}
 use Rattle.http_wire.proofs.filling.take_line.Goals as goal
 
--- no head has ended in the bytes so far
+-- Whether a head may end in the last piece was asked before: it couldn't, so that none has ended in the bytes so far.
 pub returns-in_err-take_more-2-clause-waits : goal.returns-in_err-take_more-2-clause-waits
 returns-in_err-take_more-2-clause-waits g c =
     let p = err_from_is_err_and c.from_residual-in_err-take_more-2.result c.from_residual-in_err-take_more-2.ensures.1 in
+    let kept : c.take_more-in-line.new.held.items ≡ c.line.held.items = c.in_err-take_more-2.ensures.kept in
     rw p.1 (λ none.
     let quiet = quiet_so_far c.line.blank (length c.args.held.now.items) c.line.seen c.line.held.items _ c.as_slice-in-line.ensures.value c.line.invariant.quiet (c.may_end_head.ensures c.if-not-may_end_head.true) in
-    subst HasNoRequest (sym c.in_err-take_more-2.ensures.kept) (still_none c.args.held.now.items c.line.held.items c.line.blank none c.line.invariant.extends c.line.invariant.blank quiet))
+    subst HasNoRequest (sym {A = List ℕ} kept) (still_none c.args.held.now.items c.line.held.items c.line.blank none c.line.invariant.extends c.line.invariant.blank quiet))
 
 pub blank_front-blank-requires-in-line-clause-blank : goal.blank_front-blank-requires-in-line-clause-blank
 blank_front-blank-requires-in-line-clause-blank g c =
