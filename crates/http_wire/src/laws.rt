@@ -1,10 +1,12 @@
-ghost use Rattle.std.specs.Prelude.{◌≡◌, ◌∷◌, ◌++◌, [], ℕ, List, Option};
-ghost use Rattle.http_wire.specs.Answers.{TakesMessage};
+ghost use Rattle.std.specs.Prelude.{◌≡◌, ◌∷◌, ◌++◌, [], ℕ, List, Option, IfSome};
+ghost use Rattle.http_wire.specs.Answers.{AnswersNext, next_at};
 ghost use Rattle.http_wire.specs.Exceptions.{Agree, AgreeAfter};
 ghost use Rattle.http_wire.specs.Messages.{IsNext, StopsAs};
 ghost use Rattle.http_wire.specs.Streams.{Messages, StandIn};
 ghost use Rattle.http_wire.specs.declared.message.Message.{Message};
 ghost use Rattle.http_wire.specs.declared.message.Stop.{Stop};
+
+use crate::message::Next;
 
 /// One message stands at the front of the bytes, or none and the stream stops there in one way, but for the two
 /// exceptions.
@@ -19,7 +21,8 @@ pub fn one_reading()
     ensures { (bytes : List ℕ) (messages others : List Message) (s t : Stop) → Messages bytes messages s → Messages bytes others t → (messages ≡ others) × AgreeAfter bytes messages s t }
 {}
 
-/// A message that stands behind others is one more of them.
-pub fn one_more()
-    ensures { (bytes middle after : Option (List ℕ)) (messages : List Message) (message : Message) → StandIn bytes messages middle → TakesMessage middle message after → StandIn bytes (messages ++ message ∷ []) after }
+/// The answers of a reader make up the stream: a message is one more of it, and a stop is where it stops.
+pub fn each_answer()
+    ensures message { (bytes middle after : Option (List ℕ)) (messages : List Message) (message : Message) → StandIn bytes messages middle → AnswersNext middle after (Next.Message message) → StandIn bytes (messages ++ message ∷ []) after }
+    ensures stop { (bytes middle after : Option (List ℕ)) (messages : List Message) (stop : Stop) → StandIn bytes messages middle → AnswersNext middle after (next_at stop) → IfSome bytes (λ all. Messages all messages stop) }
 {}

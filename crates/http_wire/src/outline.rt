@@ -10,6 +10,9 @@ use exact_ratio::words::Words;
 use httparse::spans::{HeaderSpan, RequestSpans};
 use std::alloc::{AllocError, Global};
 
+/// The most bytes that a body may have.
+const BODY_LIMIT: u64 = 65536;
+
 /// What a message takes of its head.
 #[derive(Drop)]
 pub struct Outline {
@@ -40,7 +43,7 @@ fn judge(bytes: &[u8], headers: &[HeaderSpan]) -> Result<usize, u16>
     if has_field(bytes, headers, b"transfer-encoding") {
         return Err(501);
     }
-    if size > 65536 {
+    if size > BODY_LIMIT {
         return Err(413);
     }
     Ok(size as usize)
