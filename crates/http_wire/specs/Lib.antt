@@ -1,2 +1,13 @@
 pub mod Side
 pub mod Memory
+pub mod Fields
+pub mod Messages
+pub mod Streams
+pub mod Exceptions
+pub mod Answers
+pub mod Reader
+pub mod ReadCause
+pub mod Lengths
+pub mod Lines
+pub mod Looks
+pub mod Outlines

@@ -1,17 +1,26 @@
-//! Streams of bytes that come from outside or go there, with forms in memory and thin forms over the system.
+//! The messages of a stream of bytes, and the traits of what bytes come from and go to.
 //!
-//! Promises: `send` sends all of its bytes or exactly the first so many; `read_all` reads a source to its end; each
-//! fault has its cause in the count of the object handed in. A memory form tells what it holds; a form over the system
-//! tells nothing.
-//! Stands on causes, exact_ratio, `httparse` and `http`.
+//! Promises: `MessageReader::next` gives the next message of a link's stream, or how the stream stops, however the bytes
+//! are cut (`specs/Messages.antt`); `one_reading` says that a stream has one reading but for two stated exceptions; `send`
+//! sends all of its bytes or exactly the first so many; `read_all` reads a source to its end. Each fault has its cause in
+//! the count of the object handed in. A memory form tells what it holds, a form over the system tells nothing.
+//! Stands on causes and exact_ratio, and on `httparse` and `http` for heads and methods.
 #![tactic(auto)]
 
+mod fields;
 pub mod file_source;
+mod filling;
 pub mod inputs;
+pub mod laws;
 pub mod links;
+mod look;
 pub mod memory_link;
 pub mod memory_sink;
 pub mod memory_source;
+pub mod message;
+mod next_message;
+mod outline;
+pub mod reader;
 pub mod sending;
 pub mod std_streams;
 pub mod streams;
