@@ -8,7 +8,8 @@ use Rattle.disk_model.specs.Content.{Content, written, resized, TornWrite, TornC
 use Rattle.disk_model.specs.Images.{DiskState, Only, After, Elapses, Steps}
 use Rattle.disk_model.specs.Replay.{seen_after_call, Tears, seen_after, ImagesAfter, Left, state_after, first_of}
 use Rattle.disk_model.specs.Memory.{log_state}
-use Rattle.disk_model.specs.Lawful.{lawful, unchanged_write, unchanged_cut, torn_written, torn_resized}
+use Rattle.disk_model.specs.Lawful.{lawful}
+use Rattle.disk_model.specs.Writes.{unchanged_write, unchanged_cut, torn_written, torn_resized}
 use Rattle.disk_model.specs.declared.log.Log.{Log}
 use Rattle.disk_model.specs.declared.log.Call.{Call}
 use Rattle.disk_model.specs.declared.log.Call.TheVariants.{Written, WriteFailed, Resized, CutFailed, Synced}

@@ -4,7 +4,7 @@ use Rattle.std.proofs.lemmas.List.{take_more, length-take, length-replicate, get
 use Rattle.disk_model.specs.Content.{Content, written, TornWrite, TornCut}
 use Rattle.disk_model.specs.Crash.{noise, write_left, cut_left, call_left, crashed}
 use Rattle.disk_model.specs.Images.{After}
-use Rattle.disk_model.specs.Lawful.{unchanged_write, unchanged_cut, torn_written, torn_resized}
+use Rattle.disk_model.specs.Writes.{unchanged_write, unchanged_cut, torn_written, torn_resized}
 use Rattle.disk_model.specs.Replay.{Tears, ImagesAfter, seen_after, seen_after_call}
 use Rattle.disk_model.specs.declared.log.Call.{Call}
 use Rattle.disk_model.specs.declared.log.Call.TheVariants.{Written, WriteFailed, Resized, CutFailed, Synced}

@@ -5,3 +5,4 @@ pub mod Lawful
 pub mod Memory
 pub mod Moments
 pub mod Replay
+pub mod Writes

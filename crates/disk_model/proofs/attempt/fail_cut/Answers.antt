@@ -1,5 +1,5 @@
 use Rattle.disk_model.specs.Content.{TornCut}
-use Rattle.disk_model.specs.Lawful.{unchanged_cut}
+use Rattle.disk_model.specs.Writes.{unchanged_cut}
 use Rattle.disk_model.proofs.Calls.{either, steps_none, steps_cut_failed}
 use Rattle.disk_model.proofs.attempt.fail_cut.Goals as goal
 

@@ -1,5 +1,5 @@
 use Rattle.disk_model.specs.Content.{TornWrite}
-use Rattle.disk_model.specs.Lawful.{unchanged_write}
+use Rattle.disk_model.specs.Writes.{unchanged_write}
 use Rattle.disk_model.proofs.Calls.{either, steps_none, steps_write_failed}
 use Rattle.std.proofs.Common.{length}
 use Rattle.disk_model.proofs.attempt.fail_write.Goals as goal

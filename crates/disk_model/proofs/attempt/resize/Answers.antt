@@ -1,6 +1,6 @@
 use Rattle.std.proofs.lemmas.Result.{on_ok_weaker}
 use Rattle.disk_model.specs.Content.{TornCut}
-use Rattle.disk_model.specs.Lawful.{unchanged_cut}
+use Rattle.disk_model.specs.Writes.{unchanged_cut}
 use Rattle.disk_model.proofs.Calls.{either, steps_none, steps_resized, seen_resized}
 use Rattle.disk_model.proofs.attempt.resize.Goals as goal
 

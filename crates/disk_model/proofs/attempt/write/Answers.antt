@@ -1,6 +1,6 @@
 use Rattle.std.proofs.lemmas.Result.{on_ok_weaker}
 use Rattle.disk_model.specs.Content.{TornWrite}
-use Rattle.disk_model.specs.Lawful.{unchanged_write}
+use Rattle.disk_model.specs.Writes.{unchanged_write}
 use Rattle.disk_model.proofs.Calls.{either, steps_none, steps_written, seen_written}
 use Rattle.std.proofs.Common.{length}
 use Rattle.disk_model.proofs.attempt.write.Goals as goal
