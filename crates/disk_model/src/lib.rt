@@ -1,0 +1,30 @@
+//! A disk: what a read gives, and what a crash may leave.
+//!
+//! Between two syncs each written range, and the part past the old end, may hold any bytes after a crash; all other bytes
+//! stay. After a sync that succeeds, a crash leaves exactly what a read gives. `specs/Images.antt` has the words in which
+//! the contracts of all crates above say what each moment of a call may leave.
+//! Promises: `MemoryDisk` is such a disk, and `crash` leaves one of its images; `write_through` changes nothing but its
+//! range, at every moment. `FileDisk`, over a real file, tells nothing of what it holds: it is trusted, and only tested.
+//! Stands on causes.
+#![tactic(auto)]
+
+mod attempt;
+mod bytes;
+mod crash;
+mod disk;
+mod file;
+mod log;
+mod make;
+mod memory;
+mod memory_calls;
+mod pick;
+mod through;
+
+pub use disk::{Disk, Failed};
+pub use file::FileDisk;
+pub use memory::MemoryDisk;
+pub use pick::Pick;
+pub use through::write_through;
+
+#[cfg(test)]
+mod tests;

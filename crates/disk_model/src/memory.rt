@@ -1,0 +1,20 @@
+use crate::log::Log;
+use std::alloc::Global;
+
+/// A disk in memory. It keeps all that was done to it, so that it tells what a crash at any moment so far might have left,
+/// and `crash` leaves it.
+///
+/// Where memory runs out a call fails. A call that fails changes nothing that a read gives, and a crash may leave what it
+/// was to do.
+#[derive(Drop)]
+pub struct MemoryDisk {
+    pub(crate) alloc: Global,
+    pub(crate) log: Log,
+    /// The calls that fail, counted from 1.
+    pub(crate) fail: Vec<u64>,
+    /// How many calls there were.
+    pub(crate) made: u64,
+    /// From which number of calls on each fails.
+    pub(crate) stop_at: u64,
+    pub(crate) faults: u64,
+}

@@ -1,0 +1,71 @@
+-- What callers know of a journal beside its disk: what the images of a settled one open to, and that a write past it
+-- leaves it as it was.
+use Rattle.std.proofs.Common.{◌≡◌, ℕ, zero, suc, ◌+◌, ◌≤◌, length, refl, sym, ◌∙◌, ap, subst, arith, inl}
+use Rattle.disk_model.specs.Content.{Content, TornWrite}
+use Rattle.disk_model.specs.Images.{DiskState, Every, After, Leaves, ChangesBy}
+use Rattle.disk_model.specs.Moments.{leaves_as}
+use Rattle.gate_journal.specs.declared.journal.Journal.{Journal}
+use Rattle.gate_journal.specs.declared.standing.Standing.TheVariants.{Settled}
+use Rattle.gate_journal.specs.Layout.{Layout, half_at, gate_at, journal_length}
+use Rattle.gate_journal.specs.Opened.{bodies_at, opened, records}
+use Rattle.gate_journal.specs.Sound.{IsSoundAs, IsSound, Stands, SameBefore, IsSettled, layout_of, kept, kept_by, opens_by, room_of, slots_of, digest_of}
+use Rattle.gate_journal.proofs.Gates.{laid_out_opens}
+use Rattle.gate_journal.proofs.Places.{half_high}
+use Rattle.gate_journal.proofs.Same.{same_bodies, same_laid_out}
+
+length-bodies_at : (c : Content) (at n : ℕ) → length (bodies_at c at n) ≡ n
+length-bodies_at c at zero = refl
+length-bodies_at c at (suc n) = ap suc (length-bodies_at c (at + 64) n)
+
+-- its records and its room fill a half
+pub fills_half : (j : Journal) (c : Content) → room_of j + length (kept j c) ≡ slots_of j
+fills_half j c = let within = j.within in omega (arith, length-bodies_at c (half_at j.slots j.half) j.count)
+
+-- each image of the disk of a settled journal opens to its records
+pub settled_opens : (j : Journal) (disk : DiskState) → IsSettled j → IsSound j disk → Every disk.may_leave (λ c. opened (digest_of j) (slots_of j) c ≡ records (kept j disk.seen))
+settled_opens j disk settled sound c now =
+    let stood = (subst (λ s. IsSoundAs s j.gate (layout_of j) disk) settled sound c now).0 in
+    laid_out_opens (layout_of j) c j.within stood.laid_out ∙ ap records stood.same_records
+
+-- in an image that holds the whole journal, with the bytes of it as they were
+module _ (l : Layout) (fits : l.count ≤ l.slots) (at n : ℕ) (behind : journal_length l.slots ≤ at) (old new : DiskState) (sound : IsSoundAs Settled 0 l old) (reads : old.may_leave old.seen) (change : ChangesBy (TornWrite at n) old new) where
+  front : (d c : Content) → old.may_leave d → TornWrite at n d c → SameBefore (journal_length l.slots) d c
+  front d c was torn place lt = torn.others place (let whole = (sound d was).0.whole in omega arith) (inl (omega arith))
+
+  kept_front : (d c : Content) → SameBefore (journal_length l.slots) d c → kept_by l c ≡ kept_by l d
+  kept_front d c same = same_bodies d c (half_at l.slots l.half) l.count (λ i lo hi. same i (omega (arith, half_high l.slots l.half)))
+
+  stands : (c : Content) → After (TornWrite at n) old.may_leave c → Stands l old.seen c
+  stands c (d, was, torn) =
+      let stood = (sound d was).0 in
+      let same = front d c was torn in
+      record {
+        whole = let whole = stood.whole in let longer = torn.no_shorter in omega arith;
+        laid_out = same_laid_out l d c fits (λ i lo hi. same i (omega arith)) (λ k lt. same (gate_at l.slots l.half k) (omega (arith, half_high l.slots l.half))) stood.laid_out;
+        same_records = kept_front d c same ∙ stood.same_records;
+      }
+
+  pub kept_new : kept_by l new.seen ≡ kept_by l old.seen
+  kept_new = kept_front old.seen new.seen (front old.seen new.seen reads change.reads)
+
+  pub sound_new : IsSoundAs Settled 0 l new
+  sound_new c now =
+      let from = change.crash c now in
+      let stood = stands c from in (
+        record { whole = stood.whole; laid_out = stood.laid_out; same_records = stood.same_records ∙ sym kept_new },
+        λ place lt. front from.0 c from.1 from.2 place lt ∙ (sound from.0 from.1).1 place lt ∙ sym (front old.seen new.seen reads change.reads place lt),
+      )
+
+  pub moments_new : Leaves old new (λ c. opens_by l c ≡ records (kept_by l old.seen))
+  moments_new = leaves_as old new (After (TornWrite at n) old.may_leave) (λ c. opens_by l c ≡ records (kept_by l old.seen)) change.any_moment (λ c after.
+      let stood = stands c after in laid_out_opens l c fits stood.laid_out ∙ ap records stood.same_records)
+
+-- Calls that write past the journal alone leave a settled one as it is, and at each moment an image opens to its records.
+pub stays_behind : (j : Journal) (at n : ℕ) (old new : DiskState) → IsSettled j → IsSound j old → old.may_leave old.seen → journal_length (slots_of j) ≤ at → ChangesBy (TornWrite at n) old new
+    → IsSound j new × (kept j new.seen ≡ kept j old.seen) × Leaves old new (λ c. opened (digest_of j) (slots_of j) c ≡ records (kept j old.seen))
+stays_behind j at n old new settled sound reads behind change =
+    let settled_sound = subst (λ s. IsSoundAs s j.gate (layout_of j) old) settled sound in (
+      subst (λ s. IsSoundAs s j.gate (layout_of j) new) (sym settled) (sound_new (layout_of j) j.within at n behind old new settled_sound reads change),
+      kept_new (layout_of j) j.within at n behind old new settled_sound reads change,
+      moments_new (layout_of j) j.within at n behind old new settled_sound reads change,
+    )

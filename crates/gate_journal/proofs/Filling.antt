@@ -1,0 +1,83 @@
+-- What the slots of a half hold once they are written.
+use Rattle.std.proofs.Common.{◌≡◌, ℕ, zero, suc, ◌+◌, ◌*◌, ◌<◌, ◌≤◌, List, [], ◌∷◌, ◌++◌, replicate, length, get_or, refl, sym, ◌∙◌, ap, subst, arith, inl, inr}
+use Rattle.std.proofs.lemmas.Bool.{cases_lt}
+use Rattle.disk_model.specs.Content.{Content, byte_at, bytes_at, written, TornWrite}
+use Rattle.disk_model.specs.Images.{DiskState, Steps, ChangesBy}
+use Rattle.disk_model.specs.Moments.{changes_at, changes_then}
+use Rattle.disk_model.specs.Writes.{written_others}
+use Rattle.gate_journal.specs.Opened.{bodies_at}
+use Rattle.gate_journal.specs.Sound.{slot_of}
+use Rattle.gate_journal.proofs.Headers.{two_parts}
+use Rattle.gate_journal.proofs.Places.{written_bytes}
+use Rattle.gate_journal.proofs.Same.{same_bytes}
+
+-- a slot in place of one that isn't there yet
+pub slot_within : (bodies : List (List ℕ)) (k : ℕ) → k < length bodies → slot_of bodies k ≡ get_or bodies k [] ++ 1 ∷ []
+slot_within [] k lt = absurd (omega arith)
+slot_within (body ∷ bodies) zero lt = refl
+slot_within (body ∷ bodies) (suc k) lt = slot_within bodies k (omega arith)
+
+pub slot_past : (bodies : List (List ℕ)) (k : ℕ) → length bodies ≤ k → slot_of bodies k ≡ replicate 64 0
+slot_past [] k le = refl
+slot_past (body ∷ bodies) zero le = absurd (omega arith)
+slot_past (body ∷ bodies) (suc k) le = slot_past bodies k (omega arith)
+
+-- one slot more
+pub slots_more : (start k : ℕ) (bodies : List (List ℕ)) (slot : List ℕ) (old new : Content) → length slot ≡ 64 → slot ≡ slot_of bodies k → new ≡ written (start + 64 * k) slot old
+    → ((i : ℕ) → i < k → bytes_at old (start + 64 * i) 64 ≡ slot_of bodies i) → (i : ℕ) → i < k + 1 → bytes_at new (start + 64 * i) 64 ≡ slot_of bodies i
+slots_more start k bodies slot old new size is put each i lt = elim (cases_lt i k) [
+  | inl before ↦
+      same_bytes old new (start + 64 * i) 64 (λ place lo hi. ap (λ (c : Content). byte_at c place) put ∙ written_others (start + 64 * k) slot old place (inl (omega arith))) ∙ each i before
+  | inr le ↦
+      let this : i ≡ k = omega arith in
+      let here : start + 64 * i ≡ start + 64 * k = omega arith in
+      ap (λ (p : ℕ). bytes_at new p 64) here ∙ subst (λ (n : ℕ). bytes_at new (start + 64 * k) n ≡ slot) size (written_bytes (start + 64 * k) slot old new put) ∙ is ∙ ap (slot_of bodies) (sym this)
+]
+
+-- a write within a range is one of the range
+pub torn_within : (at n start m : ℕ) (c d : Content) → start ≤ at → at + n ≤ start + m → TornWrite at n c d → TornWrite start m c d
+torn_within at n start m c d low high torn = record {
+  no_shorter = torn.no_shorter;
+  no_longer = let longest = torn.no_longer in omega arith;
+  others = λ place lt out. torn.others place lt (elim out [ inl below ↦ inl (omega arith) | inr above ↦ inr (omega arith) ]);
+}
+
+torn_then : (start m : ℕ) (c d e : Content) → TornWrite start m c d → TornWrite start m d e → TornWrite start m c e
+torn_then start m c d e one two = record {
+  no_shorter = let a = one.no_shorter in let b = two.no_shorter in omega arith;
+  no_longer = let a = one.no_longer in let b = two.no_longer in omega arith;
+  others = λ place lt out. two.others place (let a = one.no_shorter in omega arith) out ∙ one.others place lt out;
+}
+
+-- one write more within a range
+pub torn_more : (at n start m : ℕ) (old mid new : DiskState) → start ≤ at → at + n ≤ start + m → ChangesBy (TornWrite start m) old mid → Steps (TornWrite at n) mid new → ChangesBy (TornWrite start m) old new
+torn_more at n start m old mid new low high before one =
+    changes_then (TornWrite start m) (TornWrite at n) (TornWrite start m) old mid new (λ c d torn. torn)
+    (λ c d e first next. torn_then start m c d e first (torn_within at n start m d e low high next)) before (changes_at (TornWrite at n) mid new one)
+
+-- the bodies of a half that is filled
+all_bodies : (c : Content) (at : ℕ) (bodies : List (List ℕ)) → ((i : ℕ) → i < length bodies → bytes_at c (at + 64 * i) 63 ≡ get_or bodies i []) → bodies_at c at (length bodies) ≡ bodies
+all_bodies c at [] each = refl
+all_bodies c at (body ∷ bodies) each =
+    let here : at + 64 * 0 ≡ at = omega arith in
+    let first : bytes_at c at 63 ≡ body = ap (λ (i : ℕ). bytes_at c i 63) (sym here) ∙ each 0 (omega arith) in
+    let rest : bodies_at c (at + 64) (length bodies) ≡ bodies = all_bodies c (at + 64) bodies (λ i lt. let e : at + 64 + 64 * i ≡ at + 64 * suc i = omega arith in ap (λ (k : ℕ). bytes_at c k 63) e ∙ each (suc i) (omega arith)) in
+    λ k. first k ∷ rest k
+
+-- Bodies of 63 bytes, in slots of 64.
+module _ (c : Content) (start slots : ℕ) (bodies : List (List ℕ)) (fits : length bodies ≤ slots) (long : (i : ℕ) → i < length bodies → length (get_or bodies i []) ≡ 63)
+    (filled : (k : ℕ) → k < slots → bytes_at c (start + 64 * k) 64 ≡ slot_of bodies k) where
+  open_parts : (k : ℕ) → k < length bodies → (bytes_at c (start + 64 * k) 63 ≡ get_or bodies k []) × (bytes_at c (start + 64 * k + 63) 1 ≡ 1 ∷ [])
+  open_parts k lt = two_parts c (start + 64 * k) 63 1 (get_or bodies k []) (1 ∷ []) (long k lt) (filled k (omega arith) ∙ slot_within bodies k lt)
+
+  shut_parts : (k : ℕ) → length bodies ≤ k → k < slots → (bytes_at c (start + 64 * k) 63 ≡ replicate 63 0) × (bytes_at c (start + 64 * k + 63) 1 ≡ 0 ∷ [])
+  shut_parts k le lt = two_parts c (start + 64 * k) 63 1 (replicate 63 0) (0 ∷ []) refl (filled k lt ∙ slot_past bodies k le)
+
+  pub filled_open : (k : ℕ) → k < length bodies → byte_at c (start + 64 * k + 63) ≡ 1
+  filled_open k lt = ap (λ (l : List ℕ). get_or l 0 0) (open_parts k lt).1
+
+  pub filled_shut : (k : ℕ) → length bodies ≤ k → k < slots → byte_at c (start + 64 * k + 63) ≡ 0
+  filled_shut k le lt = ap (λ (l : List ℕ). get_or l 0 0) (shut_parts k le lt).1
+
+  pub filled_bodies : bodies_at c start (length bodies) ≡ bodies
+  filled_bodies = all_bodies c start bodies (λ i lt. (open_parts i lt).0)

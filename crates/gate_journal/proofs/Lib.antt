@@ -1,0 +1,15 @@
+pub mod Appending
+pub mod Behind
+pub mod Causing
+pub mod Choosing
+pub mod Closing
+pub mod Deciding
+pub mod Filling
+pub mod Gates
+pub mod Gathering
+pub mod Headers
+pub mod Made
+pub mod Places
+pub mod Same
+pub mod Steps
+pub mod Switching

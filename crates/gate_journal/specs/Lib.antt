@@ -1,0 +1,5 @@
+pub mod Calls
+pub mod Layout
+pub mod Opened
+pub mod Reading
+pub mod Sound

@@ -1,0 +1,73 @@
+-- What opening a journal reads, and what it answers.
+use Rattle.std.specs.Prelude.{◌≡◌, ◌≢◌, ℕ, ◌+◌, ◌*◌, ◌<◌, ◌≤◌, List, length, true, false, Option, Some, None, MatchOption, Result, Ok, Err, IfErr, ⊤}
+use Rattle.causes.specs.Causes.{Rose}
+use Rattle.disk_model.specs.Content.{Content, byte_at}
+use Rattle.gate_journal.specs.declared.fault.OpenFault.{OpenFault}
+use Rattle.gate_journal.specs.declared.fault.OpenFault.TheVariants.{NotACache, CatalogueDiffers, BadRecord, Spent, DiskFault, OutOfMemory}
+use Rattle.gate_journal.specs.declared.half.Half.{Half}
+use Rattle.gate_journal.specs.declared.header.Header.{Header}
+use Rattle.gate_journal.specs.declared.opened.Opened.{Opened}
+use Rattle.gate_journal.specs.Layout.{header_at}
+use Rattle.gate_journal.specs.Opened.{counts, generation_at, digest_at, half_in_force, bodies_at, opened, no_cache, differs, records}
+use Rattle.gate_journal.specs.Sound.{kept}
+
+-- the header at a place, where it counts
+abbrev pub Says : Option Header → Content → ℕ → Type 0
+Says found c at = MatchOption found (counts c at ≡ false) (λ h. (counts c at ≡ true) × (h.generation ≡ generation_at c at) × (h.digest ≡ digest_at c at))
+
+-- the half in force with its header, where there is one
+abbrev pub SaysForce : Option (Half × Header) → Content → Type 0
+SaysForce found c = MatchOption found (half_in_force c ≡ None) (λ p. (half_in_force c ≡ Some p.0) × (p.1.generation ≡ generation_at c (header_at p.0)) × (p.1.digest ≡ digest_at c (header_at p.0)))
+
+-- of the first slots of a half exactly the first gates are open, and these are their bodies
+pub record HasRead (c : Content) (start slots : ℕ) (bodies : List (List ℕ)) : Type 0 where
+  pub fits : length bodies ≤ slots
+  pub opens : (k : ℕ) → k < length bodies → byte_at c (start + 64 * k + 63) ≡ 1
+  pub shut : (k : ℕ) → length bodies ≤ k → k < slots → byte_at c (start + 64 * k + 63) ≢ 1
+  pub bodies_are : bodies_at c start (length bodies) ≡ bodies
+
+-- of the first slots of a half an open gate stands behind a closed one
+pub record IsDisordered (c : Content) (start slots : ℕ) : Type 0 where
+  pub closed : ℕ
+  pub behind : ℕ
+  pub before : closed < behind
+  pub within : behind < slots
+  pub shut : byte_at c (start + 64 * closed + 63) ≢ 1
+  pub opens : byte_at c (start + 64 * behind + 63) ≡ 1
+
+-- the answer to an opening is what the disk opens to, but for a fault of the disk and want of memory
+abbrev pub OpensAs : List ℕ → ℕ → Content → Result Opened OpenFault → Type 0
+OpensAs digest slots c (Ok o) = (opened digest slots c ≡ records o.bodies.items) × (kept o.journal c ≡ o.bodies.items)
+OpensAs digest slots c (Err NotACache) = opened digest slots c ≡ no_cache
+OpensAs digest slots c (Err (CatalogueDiffers found asked)) = (opened digest slots c ≡ differs found) × (asked ≡ digest)
+OpensAs digest slots c (Err (BadRecord slot)) = ⊥
+OpensAs digest slots c (Err Spent) = ⊥
+OpensAs digest slots c (Err DiskFault) = ⊤
+OpensAs digest slots c (Err OutOfMemory) = ⊤
+
+-- A fault of the disk is told only where its count rose.
+abbrev pub IsReadCause : ℕ → ℕ → OpenFault → Type 0
+IsReadCause before now NotACache = ⊥
+IsReadCause before now (CatalogueDiffers found asked) = ⊥
+IsReadCause before now (BadRecord slot) = ⊥
+IsReadCause before now Spent = ⊥
+IsReadCause before now DiskFault = Rose before now
+IsReadCause before now OutOfMemory = ⊤
+
+-- reading fails by the disk or for want of memory alone
+pub record HasReadCause {T : Type 0} (before now : ℕ) (result : Result T OpenFault) : Type 0 where
+  pub later : before ≤ now
+  pub failed : IfErr result (IsReadCause before now)
+
+-- A fault of the disk is told only where its count rose, and no fault that comes of what the records say.
+abbrev pub IsOpenCause : ℕ → ℕ → OpenFault → Type 0
+IsOpenCause before now NotACache = ⊤
+IsOpenCause before now (CatalogueDiffers found asked) = ⊤
+IsOpenCause before now (BadRecord slot) = ⊥
+IsOpenCause before now Spent = ⊥
+IsOpenCause before now DiskFault = Rose before now
+IsOpenCause before now OutOfMemory = ⊤
+
+pub record HasOpenCause {T : Type 0} (before now : ℕ) (result : Result T OpenFault) : Type 0 where
+  pub later : before ≤ now
+  pub failed : IfErr result (IsOpenCause before now)

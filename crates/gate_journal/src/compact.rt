@@ -1,0 +1,114 @@
+ghost use Rattle.std.specs.Prelude.{◌≡◌, ◌≢◌, ◌+◌, ◌*◌, ◌-◌, ◌<◌, ◌≤◌, [], ◌∷◌, ◌++◌, ℕ, IsTrue, OnOk, OnErr, length, replicate, slice_index_or};
+ghost use Rattle.causes.specs.Causes.{HasCause};
+ghost use Rattle.disk_model.specs.Content.{byte_at, bytes_at, TornWrite};
+ghost use Rattle.disk_model.specs.Images.{Every, Only, ChangesBy};
+ghost use Rattle.gate_journal.specs.Calls.{Moves, KeepsRecords, IsFilled};
+ghost use Rattle.gate_journal.specs.Layout.{half_at, header_gate, other_half};
+ghost use Rattle.gate_journal.specs.Opened.{records};
+ghost use Rattle.gate_journal.specs.Sound.{IsAlike, IsSettled, IsSound, IsSoundAs, kept, layout_of, room_of, slot_of};
+ghost use Rattle.gate_journal.specs.declared.standing.Standing.TheVariants.{Settled, Pending};
+
+use crate::header::header_body;
+use crate::journal::Journal;
+use crate::standing::Standing;
+use crate::writes::{close_gate, open_gate, write_body};
+use disk_model::{Disk, Failed};
+
+/// A slot of a half that is to hold these bodies.
+fn filled_slot(bodies: &[[u8; 63]], k: u64) -> [u8; 64]
+    ensures { result ≡ slot_of bodies.now k }
+{
+    let mut slot = [0; 64];
+    let k = k as usize;
+    if k < bodies.len() {
+        slot[..63].copy_from_slice(&bodies[k]);
+        slot[63] = 1;
+    }
+    slot
+}
+
+impl Journal {
+    /// Closes the header of the other half, where its gate is open.
+    fn close_other<D: Disk>(&self, disk: &mut D) -> Result<(), Failed>
+        requires { IsTrue (D.told disk.old) → IsSoundAs Settled self.now.gate (layout_of self.now) (D.state disk.old) }
+        ensures told { D.told disk.new ≡ D.told disk.old }
+        ensures keeps { IsTrue (D.told disk.old) → KeepsRecords (layout_of self.now) (D.state disk.old) (D.state disk.new) }
+        ensures shut { IsTrue (D.told disk.old) → OnOk result
+            (Every (D.state disk.new).may_leave (λ c. byte_at c (header_gate (other_half self.now.half)) ≢ 1)) }
+        ensures cause { HasCause (D.faults disk.old) (D.faults disk.new) result }
+    {
+        let gate = self.half.other().header() + 63;
+        let mut byte = [0];
+        disk.read(gate, &mut byte)?;
+        if byte[0] == 1 {
+            close_gate(disk, gate)?;
+        }
+        Ok(())
+    }
+
+    /// Writes these bodies to the other half, with their gates open and all others closed, and syncs.
+    fn fill_other<D: Disk>(&self, disk: &mut D, bodies: &[[u8; 63]]) -> Result<(), Failed>
+        ensures told { D.told disk.new ≡ D.told disk.old }
+        ensures changes { IsTrue (D.told disk.old)
+            → ChangesBy (TornWrite (half_at self.now.slots (other_half self.now.half)) (64 * self.now.slots)) (D.state disk.old) (D.state disk.new) }
+        ensures durable { IsTrue (D.told disk.old) → OnOk result (Only (D.state disk.new).seen (D.state disk.new).may_leave) }
+        ensures slots { IsTrue (D.told disk.old) → OnOk result ((k : ℕ) → k < self.now.slots
+            → bytes_at (D.state disk.new).seen (half_at self.now.slots (other_half self.now.half) + 64 * k) 64 ≡ slot_of bodies.now k) }
+        ensures cause { HasCause (D.faults disk.old) (D.faults disk.new) result }
+    {
+        let start = self.half.other().start(self.slots);
+        for k in 0..self.slots {
+            disk.write_at(start + 64 * k, &filled_slot(bodies, k))?;
+        }
+        disk.sync()?;
+        Ok(())
+    }
+
+    /// Puts the other half in force, which holds these bodies behind a header whose gate is closed.
+    fn switch<D: Disk>(&mut self, disk: &mut D, bodies: &[[u8; 63]]) -> Result<(), Failed>
+        requires fits { length bodies.now ≤ self.old.slots }
+        requires filled { IsTrue (D.told disk.old) → IsFilled (layout_of self.old) bodies.now (D.state disk.old) }
+        ensures told { D.told disk.new ≡ D.told disk.old }
+        ensures alike { IsAlike self.old self.new }
+        ensures ok { OnOk result (IsSettled self.new × (room_of self.new ≡ self.old.slots - length bodies.now)) }
+        ensures err { OnErr result ((IsSettled self.new → ⊥) × (room_of self.new ≡ room_of self.old)) }
+        ensures moves { IsTrue (D.told disk.old)
+            → Moves result bodies.now (records bodies.now) self.old self.new (D.state disk.old) (D.state disk.new) }
+        ensures cause { HasCause (D.faults disk.old) (D.faults disk.new) result }
+    {
+        let half = self.half.other();
+        let header = half.header();
+        let generation = self.generation.wrapping_add(1);
+        self.standing = Standing::Pending;
+        write_body(disk, header, &header_body(generation, &self.digest))?;
+        self.gate = header + 63;
+        self.standing = Standing::Undecided;
+        open_gate(disk, header + 63)?;
+        self.half = half;
+        self.count = bodies.len() as u64;
+        self.generation = generation;
+        self.standing = Standing::Settled;
+        Ok(())
+    }
+
+    /// Writes these records to the other half and puts it in force. After `Ok` they are the records; at each moment an
+    /// image has the records from before, or these. `Failed` only where the disk's count of faults rose; the records are
+    /// then as before, and the journal is unsettled.
+    pub fn compact<D: Disk>(&mut self, disk: &mut D, bodies: &[[u8; 63]]) -> Result<(), Failed>
+        requires settled { IsSettled self.old }
+        requires fits { length bodies.now ≤ self.old.slots }
+        requires sound { IsTrue (D.told disk.old) → IsSound self.old (D.state disk.old) }
+        ensures told { D.told disk.new ≡ D.told disk.old }
+        ensures alike { IsAlike self.old self.new }
+        ensures ok { OnOk result (IsSettled self.new × (room_of self.new ≡ self.old.slots - length bodies.now)) }
+        ensures err { OnErr result ((IsSettled self.new → ⊥) × (room_of self.new ≡ room_of self.old)) }
+        ensures moves { IsTrue (D.told disk.old)
+            → Moves result bodies.now (records bodies.now) self.old self.new (D.state disk.old) (D.state disk.new) }
+        ensures cause { HasCause (D.faults disk.old) (D.faults disk.new) result }
+    {
+        self.standing = Standing::Pending;
+        self.close_other(disk)?;
+        self.fill_other(disk, bodies)?;
+        self.switch(disk, bodies)
+    }
+}

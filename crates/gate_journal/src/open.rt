@@ -1,0 +1,63 @@
+ghost use Rattle.std.specs.Prelude.{◌≡◌, ◌+◌, ◌≤◌, ◌^◌, IfOk, IsTrue, length};
+ghost use Rattle.disk_model.specs.Content.{Same};
+ghost use Rattle.disk_model.specs.Images.{Only, ChangesBy};
+ghost use Rattle.gate_journal.specs.Layout.{journal_length};
+ghost use Rattle.gate_journal.specs.Reading.{HasOpenCause, OpensAs};
+ghost use Rattle.gate_journal.specs.Sound.{IsSettled, IsSound, digest_of, room_of, slots_of};
+
+use crate::fault::OpenFault;
+use crate::journal::Journal;
+use crate::opened::Opened;
+use crate::reading::{half_of_headers, read_header, read_records};
+use crate::standing::Standing;
+use disk_model::Disk;
+use std::alloc::Global;
+
+impl Journal {
+    /// Opens the journal of a disk on which nothing is pending, as after a sync. A half has so many slots, 1 to 2^40. It is
+    /// settled. `NotACache` and `CatalogueDiffers` come exactly where the disk opens so, `DiskFault` only where its count of
+    /// faults rose, and no other fault but `OutOfMemory`. The disk is only read.
+    pub fn open<D: Disk>(
+        alloc: Global,
+        disk: &mut D,
+        digest: &[u8; 32],
+        slots: u64,
+    ) -> Result<Opened, OpenFault>
+        requires some { 1 ≤ slots }
+        requires limit { slots ≤ 2 ^ 40 }
+        requires clean { IsTrue (D.told disk.old) → Only (D.state disk.old).seen (D.state disk.old).may_leave }
+        ensures told { D.told disk.new ≡ D.told disk.old }
+        ensures journal { IfOk result (λ o. IsSettled o.journal × (slots_of o.journal ≡ slots) × (digest_of o.journal ≡ digest.now)
+            × (room_of o.journal + length o.bodies.items ≡ slots)) }
+        ensures opens { IsTrue (D.told disk.old) → OpensAs digest.now slots (D.state disk.old).seen result }
+        // On a disk that holds the journal whole, as `make` left it, the journal agrees with it.
+        ensures sound { IsTrue (D.told disk.old) → journal_length slots ≤ length (D.state disk.old).seen
+            → IfOk result (λ o. IsSound o.journal (D.state disk.new)) }
+        ensures quiet { IsTrue (D.told disk.old) → ChangesBy Same (D.state disk.old) (D.state disk.new) }
+        ensures cause { HasOpenCause (D.faults disk.old) (D.faults disk.new) result }
+    {
+        let first = read_header(disk, 0)?;
+        let second = read_header(disk, 64)?;
+        let Some((half, header)) = half_of_headers(first, second) else {
+            return Err(OpenFault::NotACache);
+        };
+        if header.digest != *digest {
+            return Err(OpenFault::CatalogueDiffers(header.digest, *digest));
+        }
+        let bodies = match read_records(alloc, disk, half.start(slots), slots) {
+            Ok(Some(bodies)) => bodies,
+            Ok(None) => return Err(OpenFault::NotACache),
+            Err(fault) => return Err(fault),
+        };
+        let journal = Journal {
+            slots,
+            half,
+            count: bodies.len() as u64,
+            generation: header.generation,
+            digest: header.digest,
+            standing: Standing::Settled,
+            gate: 0,
+        };
+        Ok(Opened { journal, bodies })
+    }
+}

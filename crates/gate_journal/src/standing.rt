@@ -1,0 +1,9 @@
+/// Whether the disk holds the records of a journal alone.
+#[derive(Clone, Copy, Debug, PartialEq, Eq, Drop)]
+pub enum Standing {
+    Settled,
+    /// A call failed, and no gate was written in it.
+    Pending,
+    /// A call failed that wrote a gate, which may be open or closed on the disk.
+    Undecided,
+}
