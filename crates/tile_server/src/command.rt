@@ -1,12 +1,12 @@
 ghost use Rattle.std.specs.Prelude.{◌≡◌, ◌↔◌, IsTrue, IfOk};
 ghost use Rattle.cabinet.specs.Commands.{fresh_state};
-ghost use Rattle.catalog.specs.Demo.{demo};
-ghost use Rattle.catalog.specs.Valid.{IsValid};
 ghost use Rattle.tile_service.specs.Schedules.{Input, Outside};
 ghost use Rattle.tile_server.specs.Command.{IsSchedule, HasServed};
 
+use crate::configured::{Unconfigured, configured};
 use cabinet::cabinet::Cabinet;
 use catalog::catalogue::Catalogue;
+use catalog::fault::CatalogueFault;
 use exact_ratio::words::Words;
 use http_wire::streams::{ByteSink, ByteSource};
 use source_render::source::Source;
@@ -21,7 +21,9 @@ pub enum Status {
     Done,
     /// The words are no command.
     Usage,
-    /// A read of the input failed.
+    /// The catalogue has this fault.
+    Catalogue(CatalogueFault),
+    /// A read of the catalogue or of the input failed.
     ReadFault,
     /// A write of the output failed.
     WriteFault,
@@ -29,7 +31,7 @@ pub enum Status {
     Line(u64),
     /// Memory ran out before the first line.
     OutOfMemory,
-    /// The input has more bytes than a schedule may have.
+    /// The catalogue or the schedule has more bytes than it may have.
     TooLong,
 }
 
@@ -42,30 +44,30 @@ fn is_schedule(words: &[Words]) -> bool
     }
 }
 
-/// A cabinet in memory of the built-in catalogue.
-fn demo_counter(alloc: Global) -> Result<Counter, AllocError>
-    ensures cabinet { IfOk result (λ c. c.cabinet ≡ fresh_state demo) }
-    ensures valid { IfOk result (λ c. IsValid c.cabinet.catalogue) }
+/// A cabinet in memory of a catalogue.
+fn counter_of(alloc: Global, catalogue: Catalogue) -> Result<Counter, AllocError>
+    ensures { IfOk result (λ c. c.cabinet ≡ fresh_state catalogue) }
 {
-    let catalogue = Catalogue::demo(alloc)?;
     Ok(Counter {
         cabinet: Cabinet::memory(alloc, catalogue)?,
     })
 }
 
-/// Does what the words say. The one command so far is `schedule`: it runs the lines of the input on a cabinet in memory
-/// of the built-in catalogue, and writes the answers. `Usage` exactly where the words are not that; each other status
-/// comes as `Status` says.
+/// Does what the words say. The one command so far is `schedule`: it reads the catalogue, runs the lines of the input on a
+/// cabinet in memory of that catalogue, and writes the answers. A catalogue of no bytes is the built-in one. `Usage`
+/// exactly where the words are not that; each other status comes as `Status` says.
 pub fn run_command<S: Source, I: ByteSource, O: ByteSink>(
     alloc: Global,
     words: &[Words],
+    catalogue: &mut I,
     input: &mut I,
     output: &mut O,
     source: &mut S,
 ) -> Status
     ensures usage { (result ≡ Status.Usage) ↔ (IsSchedule words.now → ⊥) }
-    ensures unread { result ≡ Status.Usage → input.new ≡ input.old }
+    ensures unread { result ≡ Status.Usage → (catalogue.new ≡ catalogue.old) × (input.new ≡ input.old) }
     ensures served { HasServed
+        (record { reads = record { before = I.faults catalogue.old; after = I.faults catalogue.new }; from = I.left catalogue.old; to = I.left catalogue.new })
         (record { reads = record { before = I.faults input.old; after = I.faults input.new }; from = I.left input.old; to = I.left input.new })
         (record { told = S.told source.old; renders = record { before = S.faults source.old; after = S.faults source.new }; writes = record { before = O.faults output.old; after = O.faults output.new }; from = O.taken output.old; to = O.taken output.new })
         ((output.new ≡ output.old) × (source.new ≡ source.old)) result }
@@ -73,7 +75,14 @@ pub fn run_command<S: Source, I: ByteSource, O: ByteSink>(
     if !is_schedule(words) {
         return Status::Usage;
     }
-    let Ok(mut counter) = demo_counter(alloc) else {
+    let catalogue = match configured(alloc, catalogue) {
+        Ok(catalogue) => catalogue,
+        Err(Unconfigured::ReadFault) => return Status::ReadFault,
+        Err(Unconfigured::TooLong) => return Status::TooLong,
+        Err(Unconfigured::Fault(fault)) => return Status::Catalogue(fault),
+        Err(Unconfigured::OutOfMemory) => return Status::OutOfMemory,
+    };
+    let Ok(mut counter) = counter_of(alloc, catalogue) else {
         return Status::OutOfMemory;
     };
     match run_schedule(alloc, &mut counter, source, input, output) {

@@ -6,24 +6,44 @@
 #![tactic(auto)]
 
 mod command;
+mod configured;
 mod fault_text;
+mod input;
 #[cfg(test)]
 mod tests;
 
 use command::{Status, run_command};
+use config_text::read_catalogue;
+use configured::CATALOGUE_LIMIT;
 use exact_ratio::words::Words;
 use fault_text::{code_of, tell};
+use http_wire::file_source::FileSource;
+use http_wire::inputs::read_all;
 use http_wire::std_streams::{StdinSource, StdoutSink};
+use input::Input;
 use source_render::numbered::Numbered;
+use std::fs::File;
 use std::io::{Eprint, Print};
 use std::process::ExitCode;
-use std::rt::Env;
+use std::rt::{Env, Files};
 use std::{env, io};
 
 const HELP: &str =
-    "tile_server schedule < LINES    runs the lines of a schedule on a cabinet in memory\n";
+    "tile_server schedule < LINES    runs the lines of a schedule on a cabinet in memory of the catalogue in catalogue.json\n";
 
 const VERSION: &str = "tile_server 0.1.0\n";
+
+/// The catalogue, a file of the folder that the program is run in.
+const CATALOGUE: &str = "catalogue.json";
+
+/// The number of the source in the catalogue; 0 where that is refused.
+fn source_of(rt: &(impl Files<File = File> + AllocGlobal)) -> u32 {
+    let mut file = FileSource::open(rt, CATALOGUE);
+    let Ok(text) = read_all(rt.alloc(), &mut file, CATALOGUE_LIMIT) else {
+        return 0;
+    };
+    read_catalogue(rt.alloc(), text.as_slice()).map_or(0, |catalogue| catalogue.source)
+}
 
 /// The words behind the program's name.
 fn words_of(rt: &(impl Env + AllocGlobal)) -> io::Result<Vec<Words>> {
@@ -50,12 +70,14 @@ fn main(rt: HostRuntime) -> ExitCode {
             return printed(&rt, VERSION);
         }
     }
-    let mut input = StdinSource::new(rt.stdin());
+    let mut catalogue = Input::File(FileSource::open(&rt, CATALOGUE));
+    let mut input = Input::Stdin(StdinSource::new(rt.stdin()));
     let mut output = StdoutSink::new(rt.stdout());
-    let mut source = Numbered::new(0);
+    let mut source = Numbered::new(source_of(&rt));
     let status = run_command(
         rt.alloc(),
         words.as_slice(),
+        &mut catalogue,
         &mut input,
         &mut output,
         &mut source,

@@ -1,3 +1,6 @@
+mod catalogues;
+mod queries;
+
 use crate::command::{Status, run_command};
 use exact_ratio::words::Words;
 use http_wire::memory_sink::MemorySink;
@@ -26,7 +29,8 @@ fn first_response(alloc: Global, cache: &str) -> Result<Vec<u8>, Fail> {
     Ok(response)
 }
 
-/// What the lines of a schedule come to, over this source.
+/// What the lines of a schedule come to on the built-in catalogue, over this source; the reads and writes of these numbers
+/// fail.
 fn ran<S: Source>(
     alloc: Global,
     lines: &str,
@@ -35,10 +39,18 @@ fn ran<S: Source>(
     writes: &[u64],
 ) -> Result<(Status, Vec<u8>), Fail> {
     let words = vec![in alloc; Words::new(alloc, b"schedule")?]?;
+    let mut catalogue = MemorySource::new(Vec::new(alloc), 7, Vec::new(alloc));
     let text = Vec::from_slice(alloc, lines.as_bytes())?;
     let mut input = MemorySource::new(text, 7, Vec::from_slice(alloc, reads)?);
     let mut output = MemorySink::new(alloc, Vec::from_slice(alloc, writes)?);
-    let status = run_command(alloc, words.as_slice(), &mut input, &mut output, source);
+    let status = run_command(
+        alloc,
+        words.as_slice(),
+        &mut catalogue,
+        &mut input,
+        &mut output,
+        source,
+    );
     Ok((status, Vec::from_slice(alloc, output.taken())?))
 }
 
@@ -139,11 +151,13 @@ fn other_words_and_a_long_schedule_are_refused(rt: HostRuntime) -> Result<(), Fa
     let alloc = rt.alloc();
     let mut output = MemorySink::new(alloc, Vec::new(alloc));
     let mut source = Numbered::new(0);
+    let mut catalogue = MemorySource::new(Vec::new(alloc), 7, Vec::new(alloc));
     let mut input = MemorySource::new(vec![in alloc; b'#'; 16_777_217]?, 65_536, Vec::new(alloc));
     let words = vec![in alloc; Words::new(alloc, b"make")?, Words::new(alloc, b"now")?]?;
     let status = run_command(
         alloc,
         words.as_slice(),
+        &mut catalogue,
         &mut input,
         &mut output,
         &mut source,
@@ -153,6 +167,7 @@ fn other_words_and_a_long_schedule_are_refused(rt: HostRuntime) -> Result<(), Fa
     let status = run_command(
         alloc,
         words.as_slice(),
+        &mut catalogue,
         &mut input,
         &mut output,
         &mut source,

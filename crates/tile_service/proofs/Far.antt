@@ -7,9 +7,9 @@ use Rattle.std.proofs.lemmas.List.Sums.{sum_by-append}
 use Rattle.cabinet.specs.Commands.{IsSound}
 use Rattle.causes.specs.Causes.{Rose, RoseBy}
 use Rattle.tile_service.specs.declared.run_lines.RunEnd.TheVariants.{Done, Line, WriteFault}
-use Rattle.tile_service.specs.Lines.{lines_of, step_of}
+use Rattle.tile_service.specs.Lines.{lines_of, deed_in}
 use Rattle.tile_service.specs.OneLine.{IsLine}
-use Rattle.tile_service.specs.Requests.{Chance}
+use Rattle.tile_service.specs.Requests.{Chance, calm}
 use Rattle.tile_service.specs.Run.{World, Answer, Run, run, behind, line_done, answer_text, failures, IsTrue}
 use Rattle.tile_service.specs.Schedules.{Outside, HasRun}
 use Rattle.tile_service.specs.Sent.{AppendsFront}
@@ -52,7 +52,7 @@ all_append P [] bs h k = k
 all_append P (a ∷ news) bs h k = (h.0, all_append P news bs h.1 k)
 
 -- one line, and then others
-one_line : (t u : World) (n : ℕ) (line : List ℕ) (c : Chance) (news : List Answer) → line_done t n c (step_of t.cabinet.catalogue line) ≡ Some (u, news)
+one_line : (t u : World) (n : ℕ) (line : List ℕ) (c : Chance) (news : List Answer) → line_done t n c (deed_in line) ≡ Some (u, news)
     → (tail : List (List ℕ)) (more : List Chance) → run t n (line ∷ tail) (c ∷ more) ≡ behind news (run u (n + 1) tail more)
 one_line t u n line c news e tail more = rw e refl
 
@@ -131,7 +131,7 @@ module _ (o : Outside) (w : World) (text : List ℕ) (n : ℕ) (rest : List ℕ)
         fresh = (run_fresh w 1 (f.done ++ []) (f.made ++ [])).1;
       }
 
-  pub run_refused : (line next : List ℕ) → lines_of rest ≡ line ∷ lines_of next → step_of t.cabinet.catalogue line ≡ None → HasRun o w text t (Line (n + 1))
+  pub run_refused : (line next : List ℕ) → lines_of rest ≡ line ∷ lines_of next → line_done t (n + 1) calm (deed_in line) ≡ None → HasRun o w text t (Line (n + 1))
   run_refused line next lines none =
       let last : run t (n + 1) (line ∷ lines_of next) [] ≡ record { answers = []; world = t; refused = Some (n + 1) } = rw none refl in
       let e : run w 1 (f.done ++ line ∷ lines_of next) (f.made ++ []) ≡ record { answers = f.answers ++ []; world = t; refused = Some (n + 1) } = f.goes (line ∷ lines_of next) [] ∙ ap (behind f.answers) last in

@@ -7,15 +7,15 @@ use Rattle.cabinet.specs.declared.entry.Entry.TheVariants.{Started, Stored, Ende
 use Rattle.cabinet.specs.History.{History, kept_as, next}
 use Rattle.cabinet.proofs.Fresher.{kept_fresh, begun_fresh, still_fresh}
 use Rattle.matrix_geometry.specs.declared.address.Address.{Address}
-use Rattle.tile_service.specs.declared.lines.Step.{Step}
-use Rattle.tile_service.specs.declared.lines.Step.TheVariants.{Nothing, Requested}
 use Rattle.tile_service.specs.declared.outcome.Outcome.{Outcome}
-use Rattle.tile_service.specs.declared.outcome.Outcome.TheVariants.{Tile, Outside, SourceFailed, Spent, NoMemory}
+use Rattle.tile_service.specs.declared.outcome.Outcome.TheVariants.{Tile, Refused, SourceFailed, Spent, NoMemory}
 use Rattle.tile_service.specs.declared.request.Request.{Request}
 use Rattle.tile_service.specs.declared.request.Request.TheVariants as request
-use Rattle.tile_service.specs.Lines.{step_of}
-use Rattle.tile_service.specs.Requests.{Want, Enough, AtAsk, AtRender, Chance, hit, spent, miss, rendered, got_at, served, IsFreshTile, IsFreshAnswer}
-use Rattle.tile_service.specs.Run.{World, Answer, told_at, line_done, Run, goes_on, first_of, rest_of, run, IsFresh}
+use Rattle.wmts_kvp.specs.declared.query.Query.{Query}
+use Rattle.wmts_kvp.specs.Reading.{query_reading}
+use Rattle.tile_service.specs.Lines.{Deed, Idle, Requests, deed_in, request_of}
+use Rattle.tile_service.specs.Requests.{Want, Enough, AtReading, AtAsk, AtRender, Chance, hit, spent, miss, rendered, got_at, served, IsFreshTile, IsFreshAnswer}
+use Rattle.tile_service.specs.Run.{World, Answer, told_at, read_done, query_done, line_done, Run, behind, goes_on, first_of, rest_of, run, IsFreshFor, IsFresh}
 
 -- a history goes on
 abbrev Extends : History → History → Type 0
@@ -34,11 +34,13 @@ Grown s a r = Extends s.history r.0.history × IsFreshTile r.0.history (length s
 
 hit_fresh : (s : State) (a : Address) (k : ℕ) → kept_as a (now s) ≡ Some k → (w : Want) → Grown s a (hit s a k w)
 hit_fresh s a k e AtAsk = (same_history s.history, tt)
+hit_fresh s a k e AtReading = (same_history s.history, tt)
 hit_fresh s a k e Enough = ((Used a ∷ [], refl), kept_fresh s.opening s.history (Used a ∷ []) (length s.history) a k e)
 hit_fresh s a k e AtRender = ((Used a ∷ [], refl), kept_fresh s.opening s.history (Used a ∷ []) (length s.history) a k e)
 
 spent_fresh : (s : State) (a : Address) (w : Want) → Grown s a (spent s w)
 spent_fresh s a AtAsk = (same_history s.history, tt)
+spent_fresh s a AtReading = (same_history s.history, tt)
 spent_fresh s a Enough = (same_history s.history, tt)
 spent_fresh s a AtRender = (same_history s.history, tt)
 
@@ -51,6 +53,7 @@ rendered_fresh s a k (Some text) = ((Started k a ∷ Stored k a ∷ [], two_more
 
 miss_fresh : (s : State) (a : Address) (k : ℕ) (w : Want) (given : Option (List ℕ)) → Grown s a (miss s a k w given)
 miss_fresh s a k AtAsk given = (same_history s.history, tt)
+miss_fresh s a k AtReading given = (same_history s.history, tt)
 miss_fresh s a k AtRender given = ((Started k a ∷ Ended k ∷ [], append_assoc s.history (Started k a ∷ []) (Ended k ∷ [])), tt)
 miss_fresh s a k Enough given = rendered_fresh s a k given
 
@@ -64,29 +67,33 @@ GrownFor s r done = Extends s.history done.0.history × IsFreshAnswer done.0.his
 
 served_fresh : (s : State) (c : Chance) (r : Request) → GrownFor s r (served s c r)
 served_fresh s c (request.Tile a) = got_at_fresh s a c (kept_as a (now s)) (next s.opening (now s)) refl
-served_fresh s c (request.Outside axis) = (same_history s.history, tt)
+served_fresh s c (request.Refused code locator) = (same_history s.history, tt)
 
 told_fresh : (h : History) (p : ℕ) (r : Request) (o : Outcome) (left : Bool) → IsFreshAnswer h p r o → IsFreshAnswer h p r (told_at left o)
 told_fresh h p r o true f = f
 told_fresh h p (request.Tile a) o false f = tt
-told_fresh h p (request.Outside axis) o false f = tt
+told_fresh h p (request.Refused code locator) o false f = tt
 
 -- LATER
 
 tile_later : (h more : History) (p : ℕ) (a : Address) (o : Outcome) → IsFreshTile h p a o → IsFreshTile (h ++ more) p a o
 tile_later h more p a (Tile hit k text) f = still_fresh h more p a k f
-tile_later h more p a (Outside axis) f = tt
+tile_later h more p a (Refused code locator) f = tt
 tile_later h more p a SourceFailed f = tt
 tile_later h more p a Spent f = tt
 tile_later h more p a NoMemory f = tt
 
 answer_later : (h more : History) (p : ℕ) (r : Request) (o : Outcome) → IsFreshAnswer h p r o → IsFreshAnswer (h ++ more) p r o
 answer_later h more p (request.Tile a) o f = tile_later h more p a o f
-answer_later h more p (request.Outside axis) o f = tt
+answer_later h more p (request.Refused code locator) o f = tt
+
+for_later : (h more : History) (p : ℕ) (r : Option Request) (o : Outcome) → IsFreshFor h p r o → IsFreshFor (h ++ more) p r o
+for_later h more p None o f = tt
+for_later h more p (Some r) o f = answer_later h more p r o f
 
 answers_later : (h g : History) → Extends h g → (answers : List Answer) → AllByRecursion (IsFresh h) answers → AllByRecursion (IsFresh g) answers
 answers_later h g x [] all = tt
-answers_later h g x (a ∷ answers) all = (rw x.1 (answer_later h x.0 a.place a.request a.outcome all.0), answers_later h g x answers all.1)
+answers_later h g x (a ∷ answers) all = (rw x.1 (for_later h x.0 a.place a.request a.outcome all.0), answers_later h g x answers all.1)
 
 all_joined : (P : Answer → Type 0) (xs ys : List Answer) → AllByRecursion P xs → AllByRecursion P ys → AllByRecursion P (xs ++ ys)
 all_joined P [] ys h k = k
@@ -101,12 +108,22 @@ abbrev LineFresh : World → Option (World × List Answer) → Type 0
 LineFresh w None = ⊤
 LineFresh w (Some done) = Extends w.cabinet.history done.0.cabinet.history × AllByRecursion (IsFresh done.0.cabinet.history) done.1
 
-line_fresh : (w : World) (n : ℕ) (c : Chance) (step : Option Step) → LineFresh w (line_done w n c step)
-line_fresh w n c None = tt
-line_fresh w n c (Some Nothing) = (same_history w.cabinet.history, tt)
-line_fresh w n c (Some (Requested actor r)) =
+read_fresh : (w : World) (n : ℕ) (c : Chance) (actor : ℕ) (r : Option Request) → LineFresh w (read_done w n c actor r)
+read_fresh w n c actor None = tt
+read_fresh w n c actor (Some r) =
     let g = served_fresh w.cabinet c r in
     (g.0, (told_fresh (served w.cabinet c r).0.history (length w.cabinet.history) r (served w.cabinet c r).1 c.left g.1, tt))
+
+query_fresh : (w : World) (n : ℕ) (c : Chance) (want : Want) (actor : ℕ) (q : Query) → LineFresh w (query_done w n c want actor q)
+query_fresh w n c AtReading actor q = (same_history w.cabinet.history, (tt, tt))
+query_fresh w n c Enough actor q = read_fresh w n c actor (request_of q)
+query_fresh w n c AtAsk actor q = read_fresh w n c actor (request_of q)
+query_fresh w n c AtRender actor q = read_fresh w n c actor (request_of q)
+
+line_fresh : (w : World) (n : ℕ) (c : Chance) (deed : Option Deed) → LineFresh w (line_done w n c deed)
+line_fresh w n c None = tt
+line_fresh w n c (Some Idle) = (same_history w.cabinet.history, tt)
+line_fresh w n c (Some (Requests actor query)) = query_fresh w n c c.want actor (query_reading w.cabinet.catalogue query)
 
 on_fresh : (w : World) (n : ℕ) (d : Option (World × List Answer)) (on : World → Run) → LineFresh w d → ((t : World) → RunFresh t (on t)) → RunFresh w (goes_on w n d on)
 on_fresh w n None on h k = (same_history w.cabinet.history, tt)
@@ -120,4 +137,4 @@ on_fresh w n (Some done) on h k =
 pub run_fresh : (w : World) (n : ℕ) (lines : List (List ℕ)) (cs : List Chance) → RunFresh w (run w n lines cs)
 run_fresh w n [] cs = (same_history w.cabinet.history, tt)
 run_fresh w n (line ∷ lines) cs =
-    on_fresh w n (line_done w n (first_of cs) (step_of w.cabinet.catalogue line)) (λ t. run t (n + 1) lines (rest_of cs)) (line_fresh w n (first_of cs) (step_of w.cabinet.catalogue line)) (λ t. run_fresh t (n + 1) lines (rest_of cs))
+    on_fresh w n (line_done w n (first_of cs) (deed_in line)) (λ t. run t (n + 1) lines (rest_of cs)) (line_fresh w n (first_of cs) (deed_in line)) (λ t. run_fresh t (n + 1) lines (rest_of cs))

@@ -4,6 +4,5 @@ pub mod Serving
 pub mod FirstLine
 pub mod Known
 pub mod Answering
-pub mod OfCatalogue
 pub mod Fresh
 pub mod Far

@@ -20,6 +20,7 @@ use Rattle.tile_service.specs.declared.request.Request.TheVariants as request
 -- where in a request memory ran out
 pub data Want : Type 0 where
   Enough : Want
+  AtReading : Want
   AtAsk : Want
   AtRender : Want
 
@@ -39,12 +40,14 @@ calm = record { want = Enough; rendered = None; left = true }
 -- it is kept under this number
 abbrev pub hit : State → Address → ℕ → Want → State × Outcome
 hit s a k AtAsk = (s, outcome.NoMemory)
+hit s a k AtReading = (s, outcome.NoMemory)
 hit s a k Enough = (with_entry s (Used a), outcome.Tile true k (kept_text s a))
 hit s a k AtRender = (with_entry s (Used a), outcome.Tile true k (kept_text s a))
 
 -- no number is left
 abbrev pub spent : State → Want → State × Outcome
 spent s AtAsk = (s, outcome.NoMemory)
+spent s AtReading = (s, outcome.NoMemory)
 spent s Enough = (s, outcome.Spent)
 spent s AtRender = (s, outcome.Spent)
 
@@ -59,6 +62,7 @@ rendered s a k (Some text) = (with_text (with_entry s (Started k a)) k a text, o
 -- it is rendered under this number
 abbrev pub miss : State → Address → ℕ → Want → Option (List ℕ) → State × Outcome
 miss s a k AtAsk given = (s, outcome.NoMemory)
+miss s a k AtReading given = (s, outcome.NoMemory)
 miss s a k AtRender given = (lost s a k, outcome.NoMemory)
 miss s a k Enough given = rendered s a k given
 
@@ -74,36 +78,36 @@ got s a c = got_at s a c (kept_as a (now s)) (next s.opening (now s))
 
 abbrev pub served : State → Chance → Request → State × Outcome
 served s c (request.Tile a) = got s a c
-served s c (request.Outside axis) = (s, outcome.Outside axis)
+served s c (request.Refused code locator) = (s, outcome.Refused code locator)
 
 -- what is asked for is of the catalogue
-abbrev pub IsOfCatalogue : Catalogue → Request → Type 0
-IsOfCatalogue c (request.Tile a) = IsTile c a
-IsOfCatalogue c (request.Outside axis) = ⊤
+abbrev pub IsOf : Catalogue → Request → Type 0
+IsOf c (request.Tile a) = IsTile c a
+IsOf c (request.Refused code locator) = ⊤
 
 -- a tile that is answered has the text of its number
 abbrev pub IsTrueTile : Catalogue → Address → Outcome → Type 0
 IsTrueTile c a (outcome.Tile hit k text) = text ≡ tile_text c k a
-IsTrueTile c a (outcome.Outside axis) = ⊤
+IsTrueTile c a (outcome.Refused code locator) = ⊤
 IsTrueTile c a outcome.SourceFailed = ⊤
 IsTrueTile c a outcome.Spent = ⊤
 IsTrueTile c a outcome.NoMemory = ⊤
 
 abbrev pub IsTrueAnswer : Catalogue → Request → Outcome → Type 0
 IsTrueAnswer c (request.Tile a) o = IsTrueTile c a o
-IsTrueAnswer c (request.Outside axis) o = ⊤
+IsTrueAnswer c (request.Refused code locator) o = ⊤
 
 -- a tile that is answered is fresh at an ask that was made when the history had p entries
 abbrev pub IsFreshTile : History → ℕ → Address → Outcome → Type 0
 IsFreshTile h p a (outcome.Tile hit k text) = IsFresh h p a k
-IsFreshTile h p a (outcome.Outside axis) = ⊤
+IsFreshTile h p a (outcome.Refused code locator) = ⊤
 IsFreshTile h p a outcome.SourceFailed = ⊤
 IsFreshTile h p a outcome.Spent = ⊤
 IsFreshTile h p a outcome.NoMemory = ⊤
 
 abbrev pub IsFreshAnswer : History → ℕ → Request → Outcome → Type 0
 IsFreshAnswer h p (request.Tile a) o = IsFreshTile h p a o
-IsFreshAnswer h p (request.Outside axis) o = ⊤
+IsFreshAnswer h p (request.Refused code locator) o = ⊤
 
 -- From s a request came to t with this outcome, while the source, which tells this number or none, went from one count
 -- of faults to another: the outcome is that of the request under some chance; that the source failed is answered only

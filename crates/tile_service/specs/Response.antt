@@ -1,19 +1,30 @@
 -- The bytes of answers: responses after HTTP/1.1 (RFC 9112), and the exception report of OWS Common 1.1 (OGC 06-121r3).
-use Rattle.std.specs.Prelude.{ℕ, Bool, if◌then◌else◌, List, [], ◌∷◌, ◌++◌, length, codes, decimal}
-use Rattle.wmts_kvp.specs.declared.plain.Axis.{Axis}
-use Rattle.wmts_kvp.specs.declared.plain.Axis.TheVariants.{Row, Col}
+use Rattle.std.specs.Prelude.{ℕ, Bool, if◌then◌else◌, ◌==◌, List, [], ◌∷◌, ◌++◌, length, codes, decimal}
+use Rattle.exception_report.specs.declared.code.Code.TheVariants.{NoApplicableCode}
+use Rattle.exception_report.specs.declared.code.Locator.TheVariants.{Nowhere}
+use Rattle.exception_report.specs.Report.{report_of}
+use Rattle.exception_report.specs.Status.{status_of}
 use Rattle.tile_service.specs.declared.outcome.Outcome.{Outcome}
-use Rattle.tile_service.specs.declared.outcome.Outcome.TheVariants.{Tile, Outside, SourceFailed, Spent, NoMemory}
+use Rattle.tile_service.specs.declared.outcome.Outcome.TheVariants.{Tile, Refused, SourceFailed, Spent, NoMemory}
 
 -- the header of the body's type, where there is a body
 abbrev pub type_header : List ℕ → List ℕ → List ℕ
 type_header kind [] = []
 type_header kind (b ∷ bs) = codes "Content-Type: " ++ kind ++ codes "\r\n"
 
--- a response: the status and its phrase, the headers in order, and the body
-abbrev pub response : List ℕ → List ℕ → List ℕ → List ℕ → List ℕ
+-- a status and its phrase (RFC 9110, section 15)
+abbrev pub status_text : ℕ → List ℕ
+status_text status =
+    if status == 200 then codes "200 OK" else
+    (if status == 400 then codes "400 Bad Request" else
+    (if status == 501 then codes "501 Not Implemented" else
+    (if status == 503 then codes "503 Service Unavailable" else
+    codes "500 Internal Server Error")))
+
+-- a response: the status line, the headers in order, and the body
+abbrev pub response : ℕ → List ℕ → List ℕ → List ℕ → List ℕ
 response status kind more body =
-    codes "HTTP/1.1 " ++ status ++ codes "\r\n" ++ type_header kind body ++ codes "Content-Length: " ++ decimal (length body) ++ codes "\r\n" ++ more ++ codes "\r\n" ++ body
+    codes "HTTP/1.1 " ++ status_text status ++ codes "\r\n" ++ type_header kind body ++ codes "Content-Length: " ++ decimal (length body) ++ codes "\r\n" ++ more ++ codes "\r\n" ++ body
 
 abbrev pub cache_result : Bool → List ℕ
 cache_result hit = if hit then codes "HIT" else codes "MISS"
@@ -22,23 +33,13 @@ cache_result hit = if hit then codes "HIT" else codes "MISS"
 abbrev pub tile_headers : Bool → ℕ → List ℕ
 tile_headers hit number = codes "geowebcache-cache-result: " ++ cache_result hit ++ codes "\r\ntile-render: " ++ decimal number ++ codes "\r\n"
 
--- an exception report: its code, and the attribute of its locator
-abbrev pub report : List ℕ → List ℕ → List ℕ
-report code locator =
-    codes "<?xml version=\"1.0\" encoding=\"UTF-8\"?>\n<ExceptionReport xmlns=\"http://www.opengis.net/ows/1.1\" version=\"1.1.0\">\n<Exception exceptionCode=\""
-    ++ code ++ codes "\"" ++ locator ++ codes "/>\n</ExceptionReport>\n"
-
-abbrev pub locator_of : Axis → List ℕ
-locator_of Row = codes " locator=\"TileRow\""
-locator_of Col = codes " locator=\"TileCol\""
-
 -- the response to a request with this outcome
 abbrev pub response_of : Outcome → List ℕ
-response_of (Tile hit number text) = response (codes "200 OK") (codes "image/x-portable-pixmap") (tile_headers hit number) text
-response_of (Outside axis) = response (codes "400 Bad Request") (codes "text/xml") [] (report (codes "TileOutOfRange") (locator_of axis))
-response_of SourceFailed = response (codes "500 Internal Server Error") (codes "text/xml") [] (report (codes "NoApplicableCode") [])
-response_of Spent = response (codes "500 Internal Server Error") (codes "text/plain") [] (codes "numbers spent\n")
-response_of NoMemory = response (codes "503 Service Unavailable") [] [] []
+response_of (Tile hit number text) = response 200 (codes "image/x-portable-pixmap") (tile_headers hit number) text
+response_of (Refused code locator) = response (status_of code) (codes "text/xml") [] (report_of code locator)
+response_of SourceFailed = response 500 (codes "text/xml") [] (report_of NoApplicableCode Nowhere)
+response_of Spent = response 500 (codes "text/plain") [] (codes "numbers spent\n")
+response_of NoMemory = response 503 [] [] []
 
 -- the line that stands before a response: the answered line, its actor, the line of its start, and the response's length
 abbrev pub answer_line : ℕ → ℕ → ℕ → ℕ → List ℕ

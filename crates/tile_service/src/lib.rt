@@ -10,7 +10,6 @@ mod answer;
 pub mod counter;
 mod lines;
 pub mod outcome;
-mod report;
 pub mod request;
 mod response;
 mod run_line;

@@ -1,18 +1,22 @@
-ghost use Rattle.std.specs.Prelude.{◌≡◌, ◌+◌, ◌<◌, ◌≤◌, ◌∷◌, length};
-ghost use Rattle.tile_service.specs.Lines.{lines_of, line_length, target_reading, requested, step_with, is_idle, step_of};
+ghost use Rattle.std.specs.Prelude.{◌≡◌, ◌<◌, ◌≤◌, ◌==◌, ◌∷◌, length, not, IfSome};
+ghost use Rattle.std.specs.List.{prefix_len};
+ghost use Rattle.std.specs.Option.{option_map};
+ghost use Rattle.catalog.specs.declared.catalogue.Catalogue.{Catalogue};
+ghost use Rattle.wmts_kvp.specs.Reading.{IsOfCatalogue};
+ghost use Rattle.tile_service.specs.Requests.{IsOf};
+ghost use Rattle.tile_service.specs.Lines.{lines_of, line_length, deed_of, requested, deed_with, is_idle, deed_in, request_of};
 
 use crate::request::Request;
-use catalog::catalogue::Catalogue;
 use schedule_text::line::{LINE_LIMIT, read_line};
 use schedule_text::verb::Verb;
-use wmts_kvp::plain::{Plain, read_plain};
+use wmts_kvp::query::Query;
 
 /// What a line does.
 #[derive(Clone, Copy, Debug)]
-pub enum Step {
+pub enum Step<'a> {
     Nothing,
-    /// This actor makes this request.
-    Requested(u32, Request),
+    /// This actor makes the request of this query.
+    Requested(u32, &'a [u8]),
 }
 
 fn line_length(text: &[u8]) -> usize
@@ -53,38 +57,48 @@ fn is_idle(line: &[u8]) -> bool
     }
 }
 
-fn target_reading(catalogue: &Catalogue, target: &[u8]) -> Plain
-    ensures { result ≡ target_reading catalogue.now target.now }
+/// Where the path of a target ends.
+fn path_len(target: &[u8]) -> usize
+    ensures value { result ≡ prefix_len (λ b. not (b == 63)) target.now }
+    ensures within { result ≤ length target.now }
 {
-    match target.strip_prefix(b"/wmts?") {
-        Some(query) => read_plain(catalogue, query),
-        None => Plain::Other,
+    let mut count = 0;
+    for byte in target {
+        if *byte == b'?' {
+            return count;
+        }
+        count += 1;
     }
+    count
 }
 
-fn requested(actor: u32, plain: Plain) -> Option<Step>
-    ensures { result ≡ requested actor plain }
+fn requested(actor: u32, target: &[u8]) -> Option<Step<'_>>
+    ensures { option_map deed_of result ≡ requested actor target.now }
 {
-    match plain {
-        Plain::Tile(address) => Some(Step::Requested(actor, Request::Tile(address))),
-        Plain::Out(axis) => Some(Step::Requested(actor, Request::Outside(axis))),
-        Plain::Other => None,
+    let (path, behind) = target.split_at(path_len(target));
+    if path != b"/wmts".as_slice() {
+        return None;
     }
+    let query = match behind {
+        [] => behind,
+        [_, query @ ..] => query,
+    };
+    Some(Step::Requested(actor, query))
 }
 
-fn step_with(catalogue: &Catalogue, actor: u32, verb: Verb, rest: &[u8]) -> Option<Step>
-    ensures { result ≡ step_with catalogue.now actor verb rest.now }
+fn step_with(actor: u32, verb: Verb, rest: &[u8]) -> Option<Step<'_>>
+    ensures { option_map deed_of result ≡ deed_with actor verb rest.now }
 {
     match verb {
-        Verb::Get => requested(actor, target_reading(catalogue, rest)),
+        Verb::Get => requested(actor, rest),
         Verb::Ask | Verb::Force | Verb::Step | Verb::Truncate | Verb::Expire => None,
     }
 }
 
 /// What a line does; `None` where it is refused.
-#[tactic(auto, unfolding(crate::specs::Lines::step_of))]
-pub fn step_of(catalogue: &Catalogue, line: &[u8]) -> Option<Step>
-    ensures { result ≡ step_of catalogue.now line.now }
+#[tactic(auto, unfolding(crate::specs::Lines::deed_in))]
+pub fn step_of(line: &[u8]) -> Option<Step<'_>>
+    ensures { option_map deed_of result ≡ deed_in line.now }
 {
     if line.len() > LINE_LIMIT {
         return None;
@@ -96,5 +110,17 @@ pub fn step_of(catalogue: &Catalogue, line: &[u8]) -> Option<Step>
         return None;
     };
     let (_, rest) = line.split_at(read.rest.start as usize);
-    step_with(catalogue, read.actor, read.verb, rest)
+    step_with(read.actor, read.verb, rest)
+}
+
+/// What the reading of a query asks for; the capabilities are not served yet.
+pub fn request_of(query: Query) -> Option<Request>
+    ensures value { result ≡ request_of query }
+    ensures tile { (c : Catalogue) → IsOfCatalogue c query → IfSome result (IsOf c) }
+{
+    match query {
+        Query::Tile(address) => Some(Request::Tile(address)),
+        Query::Capabilities => None,
+        Query::Refused(code, locator) => Some(Request::Refused(code, locator)),
+    }
 }

@@ -1,13 +1,13 @@
 use exact_ratio::words::Words;
-use wmts_kvp::plain::Axis;
+use exception_report::code::{Code, Locator};
 
 /// How a request ended.
 #[derive(Drop)]
 pub enum Outcome {
     /// The tile: whether a kept one gave it, the number of its render, and its text.
     Tile(bool, u64, Words),
-    /// The tile lies outside its matrix.
-    Outside(Axis),
+    /// The request is refused.
+    Refused(Code, Locator),
     /// The source failed at the rendering.
     SourceFailed,
     /// No number of a render is left.

@@ -4,27 +4,27 @@ ghost use Rattle.catalog.specs.LookUp.{IsTile};
 ghost use Rattle.catalog.specs.Valid.{IsValid};
 ghost use Rattle.causes.specs.Causes.{Rose};
 ghost use Rattle.raster_field.specs.TileText.{tile_text, header};
-ghost use Rattle.tile_service.specs.Requests.{Chance, got, IsTrueTile, IsOfCatalogue, Serves};
+ghost use Rattle.tile_service.specs.Requests.{Chance, got, IsTrueTile, IsOf, Serves};
 
 use crate::outcome::Outcome;
 use cabinet::asked::Asked;
 use cabinet::cabinet::Cabinet;
 use catalog::catalogue::Catalogue;
 use exact_ratio::words::Words;
+use exception_report::code::{Code, Locator};
 use itoa::Buffer;
 use matrix_geometry::address::Address;
 use matrix_geometry::matrix::Matrix;
 use source_render::source::Source;
 use std::alloc::{AllocError, Global};
-use wmts_kvp::plain::Axis;
 
 /// What is asked for.
-#[derive(Clone, Copy, Debug, PartialEq, Eq)]
+#[derive(Drop)]
 pub enum Request {
     /// A tile of the catalogue.
     Tile(Address),
-    /// A tile that lies outside its matrix on this axis.
-    Outside(Axis),
+    /// What the reading of the request refuses.
+    Refused(Code, Locator),
 }
 
 /// Why there is no text of a render.
@@ -133,15 +133,15 @@ pub fn serve<S: Source>(
     alloc: Global,
     cabinet: &mut Cabinet,
     source: &mut S,
-    request: &Request,
+    request: Request,
 ) -> Outcome
     requires valid { IsValid cabinet.old.catalogue }
-    requires tile { IsOfCatalogue cabinet.old.catalogue request.now }
-    ensures serves { Serves (S.told source.old) (S.faults source.old) (S.faults source.new) cabinet.old request.now cabinet.new result }
+    requires tile { IsOf cabinet.old.catalogue request }
+    ensures serves { Serves (S.told source.old) (S.faults source.old) (S.faults source.new) cabinet.old request cabinet.new result }
     ensures told { S.told source.new ≡ S.told source.old }
 {
     match request {
-        Request::Tile(address) => get(alloc, cabinet, source, address),
-        Request::Outside(axis) => Outcome::Outside(*axis),
+        Request::Tile(address) => get(alloc, cabinet, source, &address),
+        Request::Refused(code, locator) => Outcome::Refused(code, locator),
     }
 }

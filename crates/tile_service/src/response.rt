@@ -1,11 +1,13 @@
-ghost use Rattle.std.specs.Prelude.{◌≡◌, ◌++◌, IfOk, OnOk, codes, [], length};
-ghost use Rattle.tile_service.specs.Response.{type_header, response, tile_headers, report, response_of};
+ghost use Rattle.std.specs.Prelude.{◌≡◌, ◌++◌, IfOk, OnOk, codes, []};
+ghost use Rattle.exception_report.specs.Report.{report_of};
+ghost use Rattle.exception_report.specs.Status.{status_of};
+ghost use Rattle.tile_service.specs.Response.{type_header, status_text, response, tile_headers, response_of};
 
 use crate::outcome::Outcome;
-use crate::report::report;
+use exception_report::code::{Code, Locator};
+use exception_report::report::{report, status_of};
 use itoa::Buffer;
 use std::alloc::{AllocError, Global};
-use wmts_kvp::plain::Axis;
 
 /// Adds the header of a body's type, where there is a body.
 fn add_type(text: &mut Vec<u8>, kind: &[u8], body: &[u8]) -> Result<(), AllocError>
@@ -20,19 +22,32 @@ fn add_type(text: &mut Vec<u8>, kind: &[u8], body: &[u8]) -> Result<(), AllocErr
     Ok(())
 }
 
+/// A status and its phrase.
+fn status_text(status: u16) -> &'static [u8]
+    ensures { result.now ≡ status_text status }
+{
+    match status {
+        200 => b"200 OK",
+        400 => b"400 Bad Request",
+        501 => b"501 Not Implemented",
+        503 => b"503 Service Unavailable",
+        _ => b"500 Internal Server Error",
+    }
+}
+
 /// A response in one buffer.
 fn response(
     alloc: Global,
-    status: &[u8],
+    status: u16,
     kind: &[u8],
     more: &[u8],
     body: &[u8],
 ) -> Result<Vec<u8>, AllocError>
-    ensures { IfOk result (λ v. v.items ≡ response status.now kind.now more.now body.now) }
+    ensures { IfOk result (λ v. v.items ≡ response status kind.now more.now body.now) }
 {
     let mut buffer = Buffer::new();
     let mut text = Vec::from_slice(alloc, b"HTTP/1.1 ")?;
-    text.extend_from_slice(status)?;
+    text.extend_from_slice(status_text(status))?;
     text.extend_from_slice(b"\r\n")?;
     add_type(&mut text, kind, body)?;
     text.extend_from_slice(b"Content-Length: ")?;
@@ -60,35 +75,11 @@ fn tile_headers(alloc: Global, hit: bool, number: u64) -> Result<Vec<u8>, AllocE
     Ok(text)
 }
 
-fn reported(
-    alloc: Global,
-    status: &[u8],
-    code: &[u8],
-    locator: &[u8],
-) -> Result<Vec<u8>, AllocError>
-    ensures { IfOk result (λ v. v.items ≡ response status.now (codes "text/xml") [] (report code.now locator.now)) }
+fn reported(alloc: Global, code: Code, locator: &Locator) -> Result<Vec<u8>, AllocError>
+    ensures { IfOk result (λ v. v.items ≡ response (status_of code) (codes "text/xml") [] (report_of code locator.now)) }
 {
     let body = report(alloc, code, locator)?;
-    response(alloc, status, b"text/xml", b"", body.as_slice())
-}
-
-fn outside(alloc: Global, axis: Axis) -> Result<Vec<u8>, AllocError>
-    ensures { IfOk result (λ v. v.items ≡ response_of (Outcome.Outside axis)) }
-{
-    match axis {
-        Axis::Row => reported(
-            alloc,
-            b"400 Bad Request",
-            b"TileOutOfRange",
-            b" locator=\"TileRow\"",
-        ),
-        Axis::Col => reported(
-            alloc,
-            b"400 Bad Request",
-            b"TileOutOfRange",
-            b" locator=\"TileCol\"",
-        ),
-    }
+    response(alloc, status_of(code), b"text/xml", b"", body.as_slice())
 }
 
 /// The response to a request with this outcome, in one buffer. `AllocError` where memory runs out.
@@ -100,27 +91,16 @@ pub fn response_of(alloc: Global, outcome: &Outcome) -> Result<Vec<u8>, AllocErr
             let more = tile_headers(alloc, *hit, *number)?;
             response(
                 alloc,
-                b"200 OK",
+                200,
                 b"image/x-portable-pixmap",
                 more.as_slice(),
                 text.bytes(),
             )
         }
-        Outcome::Outside(axis) => outside(alloc, *axis),
-        Outcome::SourceFailed => reported(
-            alloc,
-            b"500 Internal Server Error",
-            b"NoApplicableCode",
-            b"",
-        ),
-        Outcome::Spent => response(
-            alloc,
-            b"500 Internal Server Error",
-            b"text/plain",
-            b"",
-            b"numbers spent\n",
-        ),
-        Outcome::NoMemory => response(alloc, b"503 Service Unavailable", b"", b"", b""),
+        Outcome::Refused(code, locator) => reported(alloc, *code, locator),
+        Outcome::SourceFailed => reported(alloc, Code::NoApplicableCode, &Locator::Nowhere),
+        Outcome::Spent => response(alloc, 500, b"text/plain", b"", b"numbers spent\n"),
+        Outcome::NoMemory => response(alloc, 503, b"", b"", b""),
     }
 }
 

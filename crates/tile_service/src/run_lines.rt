@@ -1,5 +1,4 @@
 ghost use Rattle.std.specs.Prelude.{◌≡◌, ◌<◌, ◌^◌, length};
-ghost use Rattle.catalog.specs.Demo.{demo};
 ghost use Rattle.catalog.specs.Valid.{IsValid};
 ghost use Rattle.tile_service.specs.Schedules.{HasRun, Outside};
 
@@ -27,7 +26,6 @@ pub fn run_lines<S: Source, O: ByteSink>(
     text: &[u8],
     output: &mut O,
 ) -> RunEnd
-    requires demo { counter.old.cabinet.catalogue ≡ demo }
     requires valid { IsValid counter.old.cabinet.catalogue }
     requires short { length text.now < 2 ^ 32 }
     ensures { HasRun (record { told = S.told source.old; renders = record { before = S.faults source.old; after = S.faults source.new }; writes = record { before = O.faults output.old; after = O.faults output.new }; from = O.taken output.old; to = O.taken output.new }) (record { cabinet = counter.old.cabinet }) text.now (record { cabinet = counter.new.cabinet }) result }

@@ -1,5 +1,4 @@
 ghost use Rattle.std.specs.Prelude.{◌≡◌};
-ghost use Rattle.catalog.specs.Demo.{demo};
 ghost use Rattle.catalog.specs.Valid.{IsValid};
 ghost use Rattle.tile_service.specs.Schedules.{Schedules, Outside, Input};
 
@@ -38,8 +37,7 @@ pub fn run_schedule<S: Source, I: ByteSource, O: ByteSink>(
     input: &mut I,
     output: &mut O,
 ) -> ScheduleEnd
-    requires demo { counter.old.cabinet.catalogue ≡ demo }
-    requires valid { IsValid counter.old.cabinet.catalogue }
+    requires { IsValid counter.old.cabinet.catalogue }
     ensures { Schedules
         (record { reads = record { before = I.faults input.old; after = I.faults input.new }; from = I.left input.old; to = I.left input.new })
         (record { told = S.told source.old; renders = record { before = S.faults source.old; after = S.faults source.new }; writes = record { before = O.faults output.old; after = O.faults output.new }; from = O.taken output.old; to = O.taken output.new })

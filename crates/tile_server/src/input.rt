@@ -1,0 +1,26 @@
+ghost use Rattle.std.specs.Prelude.{None};
+ghost use Rattle.tile_server.specs.Faults.{faults_of};
+
+use http_wire::file_source::FileSource;
+use http_wire::std_streams::StdinSource;
+use http_wire::streams::{ByteSource, Failed};
+
+/// Where the program reads from: a file, or standard input. It tells no content.
+#[derive(Drop)]
+pub enum Input {
+    File(FileSource),
+    Stdin(StdinSource),
+}
+
+impl ByteSource for Input {
+    ghost left = { λ _. None };
+
+    ghost faults = { faults_of };
+
+    fn take(&mut self, into: &mut [u8]) -> Result<usize, Failed> {
+        match self {
+            Input::File(file) => file.take(into),
+            Input::Stdin(stdin) => stdin.take(into),
+        }
+    }
+}
