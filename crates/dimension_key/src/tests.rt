@@ -48,7 +48,7 @@ fn sea(alloc: Global) -> Result<Catalogue, AllocError> {
 #[test]
 fn values_are_named_defaulted_or_refused(rt: HostRuntime) -> Result<(), Fail> {
     let catalogue = sea(rt.alloc())?;
-    assert!(rt; catalogue.validate().is_ok());
+    catalogue.validate()?;
     let mut draft = ThemeDraft::new(0, 0);
     assert!(rt; draft.next_dimension(&catalogue).is_some());
     assert_eq!(rt; draft.add(&catalogue, Some(b"c")), Err(DimFault::Invalid));
