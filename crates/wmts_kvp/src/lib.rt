@@ -1,10 +1,19 @@
-//! Queries for tiles: so far the one plain form of a GetTile query by key-value pairs (OGC 07-057r7, section 7.2).
+//! Queries by key-value pairs (OGC 07-057r7, sections 7.1 and 7.2).
 //!
-//! Promises: `read_plain` is the reading of the form (`specs/Plain.antt`): the tile, the axis on which it lies outside
-//! its matrix, or neither.
-//! Stands on catalog and matrix_geometry.
+//! Promises: `read_query` is the reading of the query's decoded pairs by the table of parameters (`specs/Reading.antt`): one
+//! tile of the catalogue, the capabilities, or the refusal of the first row that fails. `read_plain` is the reading of one
+//! plain form (`specs/Plain.antt`).
+//! Stands on dimension_key, exception_report, catalog, matrix_geometry, exact_ratio and form_urlencoded.
 #![tactic(auto)]
 
+mod end;
+mod number;
+mod pairs;
 pub mod plain;
+pub mod query;
+#[cfg(test)]
+mod query_tests;
+mod rows;
 #[cfg(test)]
 mod tests;
+mod theme;

@@ -1,0 +1,71 @@
+ghost use Rattle.std.specs.Prelude.{◌≡◌, OnErr, IsSome, MatchResult, Ok, Err, option_copied};
+ghost use Rattle.catalog.specs.LookUp.{dimension_at};
+ghost use Rattle.catalog.specs.Valid.{IsValid};
+ghost use Rattle.dimension_key.specs.Draft.{draft_of, default_of, drafted};
+
+use crate::draft::{DimFault, ThemeDraft};
+use catalog::catalogue::Catalogue;
+use catalog::layer::Dimension;
+use matrix_geometry::theme::Theme;
+
+/// The number of a dimension's default.
+fn default_of(catalogue: &Catalogue, layer: u32, dim: u32) -> Option<u32>
+    ensures { result ≡ default_of catalogue.now layer dim }
+{
+    let layer = catalogue.layers.get(layer as usize)?;
+    let dimension = layer.dims.get(dim as usize)?;
+    dimension.default
+}
+
+impl ThemeDraft {
+    /// A draft with no value yet, of a theme of this layer and style.
+    pub fn new(layer: u32, style: u32) -> ThemeDraft
+        ensures { result ≡ draft_of layer style }
+    {
+        ThemeDraft {
+            theme: Theme {
+                layer,
+                style,
+                dims: [0; 4],
+            },
+            count: 0,
+        }
+    }
+
+    /// The layer's dimension whose value is read next; `None` exactly where each has its value.
+    pub fn next_dimension<'a>(&self, catalogue: &'a Catalogue) -> Option<&'a Dimension>
+        ensures { option_copied result ≡ dimension_at catalogue.now self.now.theme.layer self.now.count }
+    {
+        let layer = catalogue.layers.get(self.theme.layer as usize)?;
+        layer.dims.get(self.count as usize)
+    }
+
+    /// Reads the value of the layer's next dimension, its default where there is none. `Missing` exactly where there is
+    /// neither, `Invalid` exactly where the value isn't listed; the draft then stays as it was.
+    pub fn add(&mut self, catalogue: &Catalogue, value: Option<&[u8]>) -> Result<(), DimFault>
+        requires valid { IsValid catalogue.now }
+        requires more { IsSome (dimension_at catalogue.now self.old.theme.layer self.old.count) }
+        ensures answer { MatchResult result
+            (λ _. drafted catalogue.now (option_copied value.entry) self.old ≡ Ok self.new)
+            (λ fault. drafted catalogue.now (option_copied value.entry) self.old ≡ Err fault) }
+        ensures refused { OnErr result (self.new ≡ self.old) }
+    {
+        let layer = self.theme.layer;
+        let number = match value {
+            None => default_of(catalogue, layer, self.count).ok_or(DimFault::Missing)?,
+            Some(text) => catalogue
+                .value_named(layer, self.count, text)
+                .ok_or(DimFault::Invalid)?,
+        };
+        self.theme.dims[self.count as usize] = number;
+        self.count += 1;
+        Ok(())
+    }
+
+    /// The theme of the values that were read; whole once each dimension of the layer has its value.
+    pub fn done(self) -> Theme
+        ensures { result ≡ self.theme }
+    {
+        self.theme
+    }
+}

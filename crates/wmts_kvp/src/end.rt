@@ -1,0 +1,10 @@
+use exception_report::code::Code;
+
+/// What ends the reading of a query before its last row.
+#[derive(Clone, Copy)]
+pub enum End<'a> {
+    /// The document of the service's capabilities is asked for.
+    Document,
+    /// The code of a refusal and its locator.
+    Refusal(Code, &'a [u8]),
+}

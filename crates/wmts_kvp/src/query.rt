@@ -1,0 +1,88 @@
+ghost use Rattle.std.specs.Prelude.{◌≡◌, ◌<◌, IfOk, length};
+ghost use Rattle.catalog.specs.LookUp.{IsTile};
+ghost use Rattle.catalog.specs.Valid.{IsValid};
+ghost use Rattle.dimension_key.specs.Draft.{draft_of};
+ghost use Rattle.wmts_kvp.specs.Ends.{row_of};
+ghost use Rattle.wmts_kvp.specs.Reading.{address_of, reading, query_reading, IsOfCatalogue};
+
+use crate::end::End;
+use crate::pairs::pairs_of;
+use crate::rows;
+use crate::theme::theme;
+use catalog::catalogue::Catalogue;
+use exact_ratio::words::Words;
+use exception_report::code::{Code, Locator};
+use matrix_geometry::address::Address;
+use std::alloc::{AllocError, Global};
+
+/// What a request asks for.
+#[derive(Drop)]
+pub enum Query {
+    /// A tile.
+    Tile(Address),
+    /// The document of the service's capabilities.
+    Capabilities,
+    /// Nothing: the refusal's code, and where in the request its reason lies.
+    Refused(Code, Locator),
+}
+
+/// The rows of the table of parameters in order, each with the name that a refusal gives.
+#[tactic(auto, unfolding(crate::specs::Reading::address_of))]
+fn address_of<'a>(catalogue: &'a Catalogue, pairs: &'a [(Words, Words)]) -> Result<Address, End<'a>>
+    requires { IsValid catalogue.now }
+    ensures value { row_of result ≡ address_of catalogue.now pairs.now }
+    ensures tile { IfOk result (IsTile catalogue.now) }
+{
+    rows::fixed(pairs, b"service", b"WMTS")?;
+    rows::operation(pairs, b"request")?;
+    rows::fixed(pairs, b"version", b"1.0.0")?;
+    let layer = rows::layer(catalogue, pairs, b"layer")?;
+    let style = rows::style(catalogue, layer, pairs, b"style")?;
+    rows::fixed(pairs, b"format", b"image/x-portable-pixmap")?;
+    let draft = theme(catalogue, pairs, layer, style)?;
+    let grid = rows::grid(catalogue, layer, pairs, b"TileMatrixSet")?;
+    let z = rows::matrix(catalogue, grid, pairs, b"TileMatrix")?;
+    let row = rows::digits(pairs, b"TileRow")?;
+    let col = rows::digits(pairs, b"TileCol")?;
+    let row = rows::in_range(b"TileRow", rows::rows_of(catalogue, grid, z), row)?;
+    let col = rows::in_range(b"TileCol", rows::cols_of(catalogue, grid, z), col)?;
+    Ok(Address {
+        theme: draft.done(),
+        grid,
+        z,
+        row,
+        col,
+    })
+}
+
+/// Reads what decoded pairs of names and values ask for. `AllocError` where memory runs out.
+#[tactic(auto, unfolding(crate::specs::Reading::reading))]
+pub fn read_pairs(
+    alloc: Global,
+    catalogue: &Catalogue,
+    pairs: &[(Words, Words)],
+) -> Result<Query, AllocError>
+    requires { IsValid catalogue.now }
+    ensures reading { IfOk result (λ q. q ≡ reading catalogue.now pairs.now) }
+    ensures tile { IfOk result (λ q. IsOfCatalogue catalogue.now q) }
+{
+    match address_of(catalogue, pairs) {
+        Ok(address) => Ok(Query::Tile(address)),
+        Err(End::Document) => Ok(Query::Capabilities),
+        Err(End::Refusal(code, locator)) => {
+            let locator = Words::new(alloc, locator)?;
+            Ok(Query::Refused(code, Locator::At(locator)))
+        }
+    }
+}
+
+/// Reads what a query asks for, the part of a request's target behind its `?`. `AllocError` where memory runs out.
+#[tactic(auto, unfolding(crate::specs::Reading::query_reading))]
+pub fn read_query(alloc: Global, catalogue: &Catalogue, query: &[u8]) -> Result<Query, AllocError>
+    requires { IsValid catalogue.now }
+    ensures reading { IfOk result (λ q. q ≡ query_reading catalogue.now query.now) }
+    ensures tile { IfOk result (λ q. IsOfCatalogue catalogue.now q) }
+{
+    let pairs = pairs_of(alloc, query)?;
+    read_pairs(alloc, catalogue, pairs.as_slice())
+}

@@ -1,0 +1,213 @@
+ghost use Rattle.std.specs.Prelude.{◌≡◌, ◌<◌, ◌==◌, ℕ, true, IfOk, IfSome, IsSomeAnd, length, option_copied, slice_get};
+ghost use Rattle.std.specs.List.{list_any};
+ghost use Rattle.std.specs.Str.Parse.{digits_value};
+ghost use Rattle.catalog.specs.LookUp.{layer_named, matrix_in, matrix_named};
+ghost use Rattle.catalog.specs.Valid.{IsValid};
+ghost use Rattle.exception_report.specs.declared.code.Code.TheVariants.{MissingParameterValue, InvalidParameterValue, TileOutOfRange};
+ghost use Rattle.wmts_kvp.specs.Ends.{row_of, text_row, number_row};
+ghost use Rattle.wmts_kvp.specs.Pairs.{value_of};
+ghost use Rattle.wmts_kvp.specs.Rows.{some_or, parameter, equal, requested, style_or_first, grids_of, grid_of, number, is_number, rows_of, cols_of, below};
+
+use crate::end::End;
+use crate::number::{below, is_number};
+use crate::pairs::value_of;
+use catalog::catalogue::Catalogue;
+use catalog::layer::Layer;
+use exact_ratio::words::Words;
+use exception_report::code::Code;
+use matrix_geometry::matrix::Matrix;
+
+/// The value of a parameter that must be there.
+fn given<'a>(pairs: &'a [(Words, Words)], name: &'a [u8]) -> Result<&'a [u8], End<'a>>
+    ensures { text_row result ≡ some_or MissingParameterValue name.now (value_of pairs.now name.now) }
+{
+    match value_of(pairs, name) {
+        Some(value) => Ok(value),
+        None => Err(End::Refusal(Code::MissingParameterValue, name)),
+    }
+}
+
+/// What the value of a parameter names, where it names something.
+fn named<'a>(name: &'a [u8], found: Option<u32>) -> Result<u32, End<'a>>
+    ensures value { row_of result ≡ some_or InvalidParameterValue name.now found }
+    ensures number { IfOk result (λ number. found ≡ Some number) }
+{
+    match found {
+        Some(number) => Ok(number),
+        None => Err(End::Refusal(Code::InvalidParameterValue, name)),
+    }
+}
+
+/// A parameter that has one value only.
+pub fn fixed<'a>(pairs: &'a [(Words, Words)], name: &'a [u8], text: &[u8]) -> Result<(), End<'a>>
+    ensures { row_of result ≡ parameter pairs.now name.now MissingParameterValue InvalidParameterValue (equal text.now) }
+{
+    let value = given(pairs, name)?;
+    if value == text {
+        Ok(())
+    } else {
+        Err(End::Refusal(Code::InvalidParameterValue, name))
+    }
+}
+
+/// The operation: GetTile is read on.
+pub fn operation<'a>(pairs: &'a [(Words, Words)], name: &'a [u8]) -> Result<(), End<'a>>
+    ensures { row_of result ≡ requested pairs.now name.now MissingParameterValue }
+{
+    let value = given(pairs, name)?;
+    if value == b"GetCapabilities".as_slice() {
+        return Err(End::Document);
+    }
+    if value == b"GetTile".as_slice() {
+        Ok(())
+    } else {
+        Err(End::Refusal(Code::OperationNotSupported, value))
+    }
+}
+
+/// The number of the layer.
+pub fn layer<'a>(
+    catalogue: &Catalogue,
+    pairs: &'a [(Words, Words)],
+    name: &'a [u8],
+) -> Result<u32, End<'a>>
+    requires { IsValid catalogue.now }
+    ensures value { row_of result ≡ parameter pairs.now name.now MissingParameterValue InvalidParameterValue (layer_named catalogue.now) }
+    ensures there { IfOk result (λ layer. layer < length catalogue.now.layers) }
+{
+    let value = given(pairs, name)?;
+    named(name, catalogue.layer_named(value))
+}
+
+fn style_or_first(catalogue: &Catalogue, layer: u32, name: &[u8]) -> Option<u32>
+    requires valid { IsValid catalogue.now }
+    requires layer { layer < length catalogue.now.layers }
+    ensures value { result ≡ style_or_first catalogue.now layer name.now }
+    ensures there { IfSome result (λ style. IsSomeAnd (slice_get catalogue.now.layers layer) (λ l. style < length l.styles)) }
+{
+    if name.is_empty() {
+        Some(0)
+    } else {
+        catalogue.style_named(layer, name)
+    }
+}
+
+/// The number of the style in its layer.
+pub fn style<'a>(
+    catalogue: &Catalogue,
+    layer: u32,
+    pairs: &'a [(Words, Words)],
+    name: &'a [u8],
+) -> Result<u32, End<'a>>
+    requires valid { IsValid catalogue.now }
+    requires layer { layer < length catalogue.now.layers }
+    ensures value { row_of result ≡ parameter pairs.now name.now MissingParameterValue InvalidParameterValue (style_or_first catalogue.now layer) }
+    ensures there { IfOk result (λ style. IsSomeAnd (slice_get catalogue.now.layers layer) (λ l. style < length l.styles)) }
+{
+    let value = given(pairs, name)?;
+    named(name, style_or_first(catalogue, layer, value))
+}
+
+fn is_served(layer: &Layer, grid: u32) -> bool
+    ensures { result ≡ list_any (λ n. n == grid) layer.now.grids }
+{
+    layer.grids.as_slice().contains(&grid)
+}
+
+fn grid_of(catalogue: &Catalogue, layer: u32, name: &[u8]) -> Option<u32>
+    requires { IsValid catalogue.now }
+    ensures value { result ≡ grid_of catalogue.now layer name.now }
+    ensures there { IfSome result (λ grid. grid < length catalogue.now.grids) }
+    ensures served { IfSome result (λ grid. list_any (λ n. n == grid) (grids_of catalogue.now layer) ≡ true) }
+{
+    let grid = catalogue.grid_named(name)?;
+    let layer = catalogue.layers.get(layer as usize)?;
+    if is_served(layer, grid) {
+        Some(grid)
+    } else {
+        None
+    }
+}
+
+/// The number of the grid, one of the layer's.
+pub fn grid<'a>(
+    catalogue: &Catalogue,
+    layer: u32,
+    pairs: &'a [(Words, Words)],
+    name: &'a [u8],
+) -> Result<u32, End<'a>>
+    requires { IsValid catalogue.now }
+    ensures value { row_of result ≡ parameter pairs.now name.now MissingParameterValue InvalidParameterValue (grid_of catalogue.now layer) }
+    ensures there { IfOk result (λ grid. grid < length catalogue.now.grids) }
+    ensures served { IfOk result (λ grid. list_any (λ n. n == grid) (grids_of catalogue.now layer) ≡ true) }
+{
+    let value = given(pairs, name)?;
+    named(name, grid_of(catalogue, layer, value))
+}
+
+/// The number of the matrix in its grid.
+pub fn matrix<'a>(
+    catalogue: &Catalogue,
+    grid: u32,
+    pairs: &'a [(Words, Words)],
+    name: &'a [u8],
+) -> Result<u32, End<'a>>
+    requires valid { IsValid catalogue.now }
+    requires grid { grid < length catalogue.now.grids }
+    ensures { row_of result ≡ parameter pairs.now name.now MissingParameterValue InvalidParameterValue (matrix_named catalogue.now grid) }
+{
+    let value = given(pairs, name)?;
+    named(name, catalogue.matrix_named(grid, value))
+}
+
+/// A row or a column as its digits.
+pub fn digits<'a>(pairs: &'a [(Words, Words)], name: &'a [u8]) -> Result<&'a [u8], End<'a>>
+    ensures value { number_row result ≡ parameter pairs.now name.now MissingParameterValue InvalidParameterValue number }
+    ensures form { IfOk result (λ text. is_number text.now ≡ true) }
+{
+    let value = given(pairs, name)?;
+    if is_number(value) {
+        Ok(value)
+    } else {
+        Err(End::Refusal(Code::InvalidParameterValue, name))
+    }
+}
+
+fn matrix_in(catalogue: &Catalogue, grid: u32, z: u32) -> Option<&Matrix>
+    ensures { option_copied result ≡ matrix_in catalogue.now grid z }
+{
+    let grid = catalogue.grids.get(grid as usize)?;
+    grid.matrices.get(z as usize)
+}
+
+/// How many rows a matrix has.
+pub fn rows_of(catalogue: &Catalogue, grid: u32, z: u32) -> u32
+    ensures { result ≡ rows_of catalogue.now grid z }
+{
+    match matrix_in(catalogue, grid, z) {
+        Some(matrix) => matrix.rows,
+        None => 0,
+    }
+}
+
+/// How many columns a matrix has.
+pub fn cols_of(catalogue: &Catalogue, grid: u32, z: u32) -> u32
+    ensures { result ≡ cols_of catalogue.now grid z }
+{
+    match matrix_in(catalogue, grid, z) {
+        Some(matrix) => matrix.cols,
+        None => 0,
+    }
+}
+
+/// The number that digits spell, below the limit.
+pub fn in_range<'a>(name: &'a [u8], limit: u32, digits: &[u8]) -> Result<u32, End<'a>>
+    requires { is_number digits.now ≡ true }
+    ensures value { row_of result ≡ some_or TileOutOfRange name.now (below limit (digits_value 10 digits.now)) }
+    ensures below { IfOk result (λ number. number < limit) }
+{
+    match below(limit, digits) {
+        Some(number) => Ok(number),
+        None => Err(End::Refusal(Code::TileOutOfRange, name)),
+    }
+}

@@ -1,0 +1,55 @@
+ghost use Rattle.std.specs.Prelude.{◌≡◌, ◌<◌, IfOk, IsSome, length};
+ghost use Rattle.catalog.specs.LookUp.{dimension_at};
+ghost use Rattle.catalog.specs.Valid.{IsValid};
+ghost use Rattle.dimension_key.specs.Draft.{draft_of, drafted};
+ghost use Rattle.wmts_kvp.specs.Ends.{row_of};
+ghost use Rattle.wmts_kvp.specs.Pairs.{value_of};
+ghost use Rattle.wmts_kvp.specs.Rows.{or_refusal, dimensions_of, dimensions};
+
+use crate::end::End;
+use crate::pairs::value_of;
+use catalog::catalogue::Catalogue;
+use dimension_key::draft::{DimFault, ThemeDraft};
+use exact_ratio::words::Words;
+use exception_report::code::Code;
+
+/// The draft with the value that the pairs give to the layer's next dimension, which has this name.
+fn with_value<'a>(
+    mut draft: ThemeDraft,
+    catalogue: &Catalogue,
+    pairs: &[(Words, Words)],
+    name: &'a [u8],
+) -> Result<ThemeDraft, End<'a>>
+    requires valid { IsValid catalogue.now }
+    requires more { IsSome (dimension_at catalogue.now draft.theme.layer draft.count) }
+    ensures { row_of result ≡ or_refusal name.now (drafted catalogue.now (value_of pairs.now name.now) draft) }
+{
+    match draft.add(catalogue, value_of(pairs, name)) {
+        Ok(()) => Ok(draft),
+        Err(DimFault::Missing) => Err(End::Refusal(Code::MissingParameterValue, name)),
+        Err(DimFault::Invalid) => Err(End::Refusal(Code::InvalidParameterValue, name)),
+    }
+}
+
+#[tactic(auto, using(crate::proofs::Dimensions::dimension_ends, crate::proofs::Dimensions::dimensions_done))]
+/// The theme of a layer and style with the values that the pairs give to the layer's dimensions, in the catalogue's order.
+pub fn theme<'a>(
+    catalogue: &'a Catalogue,
+    pairs: &[(Words, Words)],
+    layer: u32,
+    style: u32,
+) -> Result<ThemeDraft, End<'a>>
+    requires valid { IsValid catalogue.now }
+    ensures value { row_of result ≡ dimensions catalogue.now pairs.now (dimensions_of catalogue.now layer) (draft_of layer style) }
+    ensures layer { IfOk result (λ draft. draft.theme.layer ≡ layer) }
+    ensures style { IfOk result (λ draft. draft.theme.style ≡ style) }
+{
+    let mut draft = ThemeDraft::new(layer, style);
+    let Some(entry) = catalogue.layers.get(layer as usize) else {
+        return Ok(draft);
+    };
+    for dimension in entry.dims.as_slice() {
+        draft = with_value(draft, catalogue, pairs, dimension.id.bytes())?;
+    }
+    Ok(draft)
+}
