@@ -1,18 +1,14 @@
 //! Queries by key-value pairs (OGC 07-057r7, sections 7.1 and 7.2).
 //!
 //! Promises: `read_query` is the reading of the query's decoded pairs by the table of parameters (`specs/Reading.antt`): one
-//! tile of the catalogue, the capabilities, or the refusal of the first row that fails. `read_plain` is the reading of one
-//! plain form (`specs/Plain.antt`).
+//! tile of the catalogue, the capabilities, or the refusal of the first row that fails.
 //! Stands on dimension_key, exception_report, catalog, matrix_geometry, exact_ratio and form_urlencoded.
 #![tactic(auto)]
 
 mod end;
 mod number;
 mod pairs;
-pub mod plain;
 pub mod query;
-#[cfg(test)]
-mod query_tests;
 mod rows;
 #[cfg(test)]
 mod tests;
