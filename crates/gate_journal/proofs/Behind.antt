@@ -1,16 +1,18 @@
 -- What callers know of a journal beside its disk: what the images of a settled one open to, and that a write past it
 -- leaves it as it was.
-use Rattle.std.proofs.Common.{◌≡◌, ℕ, zero, suc, ◌+◌, ◌≤◌, length, refl, sym, ◌∙◌, ap, subst, arith, inl}
-use Rattle.disk_model.specs.Content.{Content, TornWrite}
+use Rattle.std.proofs.Common.{◌≡◌, ◌⊎◌, ℕ, zero, suc, ◌+◌, ◌≤◌, length, refl, sym, ◌∙◌, ap, subst, arith, inl, inr}
+use Rattle.std.proofs.lemmas.Bool.{cases_eq}
+use Rattle.disk_model.specs.Content.{Content, byte_at, TornWrite}
 use Rattle.disk_model.specs.Images.{DiskState, Every, After, Leaves, ChangesBy}
 use Rattle.disk_model.specs.Moments.{leaves_as}
 use Rattle.gate_journal.specs.declared.journal.Journal.{Journal}
-use Rattle.gate_journal.specs.declared.standing.Standing.TheVariants.{Settled}
+use Rattle.gate_journal.specs.declared.standing.Standing.{Standing}
+use Rattle.gate_journal.specs.declared.standing.Standing.TheVariants.{Settled, Pending, Undecided}
 use Rattle.gate_journal.specs.Layout.{Layout, half_at, gate_at, journal_length}
 use Rattle.gate_journal.specs.Opened.{bodies_at, opened, records}
-use Rattle.gate_journal.specs.Sound.{IsSoundAs, IsSound, Stands, SameBefore, IsSettled, layout_of, kept, kept_by, opens_by, room_of, slots_of, digest_of}
+use Rattle.gate_journal.specs.Sound.{IsSoundAs, IsSound, Stands, SameBefore, IsSettled, layout_of, kept, kept_by, opens_by, room_of, slots_of, digest_of, other, other_as}
 use Rattle.gate_journal.proofs.Gates.{laid_out_opens}
-use Rattle.gate_journal.proofs.Places.{half_high}
+use Rattle.gate_journal.proofs.Places.{half_high, same_here}
 use Rattle.gate_journal.proofs.Same.{same_bodies, same_laid_out}
 
 length-bodies_at : (c : Content) (at n : ℕ) → length (bodies_at c at n) ≡ n
@@ -26,6 +28,22 @@ pub settled_opens : (j : Journal) (disk : DiskState) → IsSettled j → IsSound
 settled_opens j disk settled sound c now =
     let stood = (subst (λ s. IsSoundAs s j.gate (layout_of j) disk) settled sound c now).0 in
     laid_out_opens (layout_of j) c j.within stood.laid_out ∙ ap records stood.same_records
+
+-- Each image of the disk of any journal opens to its records, or to what is undecided.
+sound_opens_as : (standing : Standing) (gate : ℕ) (l : Layout) (disk : DiskState) → l.count ≤ l.slots → IsSoundAs standing gate l disk
+    → Every disk.may_leave (λ c. (opens_by l c ≡ records (kept_by l disk.seen)) ⊎ (opens_by l c ≡ other_as standing gate l disk.seen))
+sound_opens_as Settled gate l disk fits sound c now = let stood = (sound c now).0 in inl (laid_out_opens l c fits stood.laid_out ∙ ap records stood.same_records)
+sound_opens_as Pending gate l disk fits sound c now = let stood = sound c now in inl (laid_out_opens l c fits stood.laid_out ∙ ap records stood.same_records)
+sound_opens_as Undecided gate l disk fits sound c now =
+    let wavering = sound c now c (same_here gate 1 c) in
+    elim (cases_eq (byte_at c gate) 1) [
+      | inl held ↦ inr (wavering.opens held)
+      | inr not ↦ inl (laid_out_opens l c fits (wavering.shut not) ∙ ap records wavering.same_records)
+    ]
+
+pub sound_opens : (j : Journal) (disk : DiskState) → IsSound j disk
+    → Every disk.may_leave (λ c. (opened (digest_of j) (slots_of j) c ≡ records (kept j disk.seen)) ⊎ (opened (digest_of j) (slots_of j) c ≡ other j disk.seen))
+sound_opens j disk sound = sound_opens_as j.standing j.gate (layout_of j) disk j.within sound
 
 -- in an image that holds the whole journal, with the bytes of it as they were
 module _ (l : Layout) (fits : l.count ≤ l.slots) (at n : ℕ) (behind : journal_length l.slots ≤ at) (old new : DiskState) (sound : IsSoundAs Settled 0 l old) (reads : old.may_leave old.seen) (change : ChangesBy (TornWrite at n) old new) where
