@@ -60,6 +60,7 @@ fn values_are_named_defaulted_or_refused(rt: HostRuntime) -> Result<(), Fail> {
     assert!(rt; draft.next_dimension(&catalogue).is_some());
     assert_eq!(rt; draft.add(&catalogue, Some(b"10")), Ok(()));
     assert!(rt; draft.next_dimension(&catalogue).is_none());
-    assert_eq!(rt; draft.done().dims, [0, 1, 0, 0]);
+    let dims = draft.done().dims;
+    assert_eq!(rt; dims, [0, 1, 0, 0]);
     Ok(())
 }

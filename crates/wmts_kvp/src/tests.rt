@@ -138,8 +138,9 @@ fn dimensions_come_before_the_grid(rt: HostRuntime) -> Result<(), Fail> {
     let front =
         "service=WMTS&request=GetTile&version=1.0.0&layer=sea&style=grey&format=image/x-portable-pixmap&TileMatrix=2&TileRow=0&TileCol=0&TileMatrixSet=";
     let whole = format!(in alloc; "{front}tiny&level=10")?;
-    let found = tile(alloc, &catalogue, &whole)?;
-    assert!(rt; matches!(found, Some(address) if address.theme.dims == [0, 1, 0, 0]));
+    let found = tile(alloc, &catalogue, &whole)?.ok_or("no tile")?;
+    let dims = found.theme.dims;
+    assert_eq!(rt; dims, [0, 1, 0, 0]);
     for grid in ["tiny", "none"] {
         let query = format!(in alloc; "{front}{grid}")?;
         let expected = (Code::MissingParameterValue, "level", 198);
