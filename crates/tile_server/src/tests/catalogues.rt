@@ -11,10 +11,10 @@ use std::test::Fail;
 pub const SETTINGS: &str =
     "{\"source\":0,\"keptLimit\":64,\"cutLimit\":16,\"blobBytes\":4096,\"policy\":\"lru\",\"grids\":[{\"id\":\"tiny\",\"corner\":[\"0\",\"16\"],\"matrices\":[{\"id\":\"0\",\"span\":\"8\",\"tile\":[2,2],\"size\":[1,1]},{\"id\":\"1\",\"span\":\"4\",\"tile\":[2,2],\"size\":[2,2]},{\"id\":\"2\",\"span\":\"2\",\"tile\":[2,2],\"size\":[4,4]}]}],\"layers\":[";
 
-/// A layer of this name with this member added.
-fn layer(alloc: Global, id: &str, member: &str) -> Result<String, Fail> {
+/// A layer of this name with metatiles of these factors and this gutter.
+fn layer(alloc: Global, id: &str, meta: &str, gutter: u32) -> Result<String, Fail> {
     Ok(format!(in alloc;
-        "{{\"id\":\"{id}\",\"grids\":[\"tiny\"],\"styles\":[{{\"id\":\"grey\",\"breaks\":[]}}]{member}}}"
+        "{{\"id\":\"{id}\",\"grids\":[\"tiny\"],\"styles\":[{{\"id\":\"grey\",\"breaks\":[]}}],\"meta\":{meta},\"gutter\":{gutter}}}"
     )?)
 }
 
@@ -40,9 +40,12 @@ fn status_with(alloc: Global, text: &[u8], reads: &[u64]) -> Result<Status, Fail
 #[test]
 fn a_catalogue_is_read_before_the_schedule(rt: HostRuntime) -> Result<(), Fail> {
     let alloc = rt.alloc();
-    let text = format!(in alloc; "{SETTINGS}{}]}}", layer(alloc, "wood", ",\"quota\":46")?)?;
+    let text = format!(in alloc; "{SETTINGS}{}]}}", layer(alloc, "wood", "[1,1]", 0)?)?;
     assert_eq!(rt; status_with(alloc, text.as_bytes(), &[])?, Status::Done);
-    assert_eq!(rt; status_with(alloc, text.as_bytes(), &[1])?, Status::ReadFault);
+    assert_eq!(rt;
+        status_with(alloc, text.as_bytes(), &[1])?,
+        Status::ReadFault
+    );
     let long = vec![in alloc; b' '; 1_048_577]?;
     assert_eq!(rt; status_with(alloc, long.as_slice(), &[])?, Status::TooLong);
     Ok(())
@@ -53,21 +56,30 @@ fn faults_of_the_catalogue_are_told(rt: HostRuntime) -> Result<(), Fail> {
     let alloc = rt.alloc();
     let not_json = status_with(alloc, b"{", &[])?;
     assert_eq!(rt; not_json, Status::Catalogue(CatalogueFault::NotJson));
-    let demo = layer(alloc, "demo", "")?;
+    let demo = layer(alloc, "demo", "[1,1]", 0)?;
     let twice = format!(in alloc; "{SETTINGS}{demo},{demo}]}}")?;
     let duplicate = CatalogueFault::Duplicate(Field::LayerId, 1);
-    assert_eq!(rt; status_with(alloc, twice.as_bytes(), &[])?, Status::Catalogue(duplicate));
+    assert_eq!(rt;
+        status_with(alloc, twice.as_bytes(), &[])?,
+        Status::Catalogue(duplicate)
+    );
     Ok(())
 }
 
 #[test]
 fn metatiles_and_gutters_are_refused(rt: HostRuntime) -> Result<(), Fail> {
     let alloc = rt.alloc();
-    let demo = layer(alloc, "demo", "")?;
-    for member in [",\"meta\":[2,1]", ",\"meta\":[1,2]", ",\"gutter\":1"] {
-        let text = format!(in alloc; "{SETTINGS}{demo},{}]}}", layer(alloc, "sea", member)?)?;
+    let demo = layer(alloc, "demo", "[1,1]", 0)?;
+    for (meta, gutter) in [("[2,1]", 0), ("[1,2]", 0), ("[1,1]", 1)] {
+        let text = format!(in alloc;
+            "{SETTINGS}{demo},{}]}}",
+            layer(alloc, "sea", meta, gutter)?
+        )?;
         let refused = CatalogueFault::Limit(Field::Meta, 1);
-        assert_eq!(rt; status_with(alloc, text.as_bytes(), &[])?, Status::Catalogue(refused));
+        assert_eq!(rt;
+            status_with(alloc, text.as_bytes(), &[])?,
+            Status::Catalogue(refused)
+        );
     }
     Ok(())
 }

@@ -5,6 +5,7 @@ use config_text::read_catalogue;
 use exception_report::code::{Code, Locator};
 use source_render::numbered::Numbered;
 use std::alloc::Global;
+use std::process::Abort;
 use std::test::Fail;
 use wmts_kvp::query::{Query, read_query};
 
@@ -44,7 +45,10 @@ fn rows_are_numbers_of_digits(rt: HostRuntime) -> Result<(), Fail> {
         assert_eq!(rt; answered(alloc, target.as_str())?, refused);
     }
     let target = format!(in alloc; "{TARGET}0&TileRow=000&TileCol=0")?;
-    assert_eq!(rt; answered(alloc, target.as_str())?, first_response(alloc, "MISS")?);
+    assert_eq!(rt;
+        answered(alloc, target.as_str())?,
+        first_response(alloc, "MISS")?
+    );
     Ok(())
 }
 
@@ -52,7 +56,10 @@ fn rows_are_numbers_of_digits(rt: HostRuntime) -> Result<(), Fail> {
 fn a_missing_parameter_comes_before_a_wrong_one(rt: HostRuntime) -> Result<(), Fail> {
     let alloc = rt.alloc();
     let answer = answered(alloc, "/wmts?service=WMTS&request=GetTile&layer=none")?;
-    assert_eq!(rt; answer, refusal(alloc, "MissingParameterValue", "version", 200)?);
+    assert_eq!(rt;
+        answer,
+        refusal(alloc, "MissingParameterValue", "version", 200)?
+    );
     Ok(())
 }
 
@@ -69,10 +76,10 @@ fn names_have_no_case_and_values_are_decoded(rt: HostRuntime) -> Result<(), Fail
 }
 
 /// How a query of the layer with dimensions is read.
-fn read(alloc: Global, rest: &str) -> Result<Query, Fail> {
+fn read(rt: &impl Abort, alloc: Global, rest: &str) -> Result<Query, Fail> {
     let text = format!(in alloc; "{SETTINGS}{SEA}")?;
     let Ok(catalogue) = read_catalogue(alloc, text.as_bytes()) else {
-        unreachable!()
+        panic!(rt; "the catalogue is refused")
     };
     let query = format!(in alloc;
         "{START}sea&style=grey&format=image/x-portable-pixmap&TileMatrix=2&TileRow=0&TileCol=0&{rest}"
@@ -83,8 +90,8 @@ fn read(alloc: Global, rest: &str) -> Result<Query, Fail> {
 #[test]
 fn dimensions_are_read_before_the_grid(rt: HostRuntime) -> Result<(), Fail> {
     let alloc = rt.alloc();
-    let Query::Tile(address) = read(alloc, "TileMatrixSet=tiny&level=10")? else {
-        unreachable!()
+    let Query::Tile(address) = read(&rt, alloc, "TileMatrixSet=tiny&level=10")? else {
+        panic!(rt; "no tile")
     };
     assert_eq!(rt; (address.theme.layer, address.z), (1, 2));
     assert_eq!(rt; address.theme.dims, [0, 1, 0, 0]);
@@ -102,8 +109,8 @@ fn dimensions_are_read_before_the_grid(rt: HostRuntime) -> Result<(), Fail> {
             "TileMatrixSet",
         ),
     ] {
-        let Query::Refused(code, Locator::At(name)) = read(alloc, rest)? else {
-            unreachable!()
+        let Query::Refused(code, Locator::At(name)) = read(&rt, alloc, rest)? else {
+            panic!(rt; "not refused")
         };
         assert_eq!(rt; code, expected);
         assert_eq!(rt; name.bytes(), locator.as_bytes());
