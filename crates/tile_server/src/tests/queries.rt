@@ -1,4 +1,3 @@
-use crate::command::Status;
 use crate::tests::catalogues::SETTINGS;
 use crate::tests::{TARGET, first_response, ran};
 use config_text::read_catalogue;
@@ -15,40 +14,45 @@ const START: &str = "service=WMTS&request=GetTile&version=1.0.0&layer=";
 const SEA: &str =
     "{\"id\":\"demo\",\"grids\":[\"tiny\"],\"styles\":[{\"id\":\"grey\",\"breaks\":[]}],\"meta\":[1,1]},{\"id\":\"sea\",\"grids\":[\"tiny\"],\"styles\":[{\"id\":\"grey\",\"breaks\":[]},{\"id\":\"two\",\"breaks\":[[0,0,0,255],[128,255,255,255]]}],\"dimensions\":[{\"id\":\"time\",\"values\":[\"a\",\"b\"],\"default\":\"a\"},{\"id\":\"level\",\"values\":[\"0\",\"10\"]}],\"meta\":[2,2],\"gutter\":1}]}";
 
-/// What a GET of this target is answered with, behind the head of the answer.
+/// What a GET of this target is answered with.
 fn answered(alloc: Global, target: &str) -> Result<Vec<u8>, Fail> {
     let line = format!(in alloc; "0 GET {target}\n")?;
-    let (status, output) = ran(alloc, line.as_str(), &mut Numbered::new(0), &[], &[])?;
-    let (_, answer) = output.as_slice().split_at("answer 1 0 1 100\n".len());
-    if status == Status::Done {
-        Ok(Vec::from_slice(alloc, answer)?)
-    } else {
-        Ok(Vec::new(alloc))
-    }
+    let (_, output) = ran(alloc, line.as_str(), &mut Numbered::new(0), &[], &[])?;
+    Ok(output)
 }
 
-/// The response that refuses a request.
+/// The answer of the first line with this response.
+fn answer(alloc: Global, response: &[u8]) -> Result<Vec<u8>, Fail> {
+    let head = format!(in alloc; "answer 1 0 1 {}\n", response.len())?;
+    let mut answer = head.into_bytes();
+    answer.extend_from_slice(response)?;
+    Ok(answer)
+}
+
+/// The answer that refuses a request.
 fn refusal(alloc: Global, code: &str, locator: &str, length: usize) -> Result<Vec<u8>, Fail> {
     let text = format!(in alloc;
         "HTTP/1.1 400 Bad Request\r\nContent-Type: text/xml\r\nContent-Length: {length}\r\n\r\n<?xml version=\"1.0\" encoding=\"UTF-8\"?>\n<ExceptionReport xmlns=\"http://www.opengis.net/ows/1.1\" version=\"1.1.0\">\n<Exception exceptionCode=\"{code}\" locator=\"{locator}\"/>\n</ExceptionReport>\n"
     )?;
-    Ok(text.into_bytes())
+    answer(alloc, text.as_bytes())
+}
+
+/// The answer with the first tile, rendered anew.
+fn first_answer(alloc: Global) -> Result<Vec<u8>, Fail> {
+    answer(alloc, first_response(alloc, "MISS")?.as_slice())
 }
 
 #[test]
 fn rows_are_numbers_of_digits(rt: HostRuntime) -> Result<(), Fail> {
     let alloc = rt.alloc();
     let refused = refusal(alloc, "InvalidParameterValue", "TileRow", 200)?;
-    assert_eq!(rt; refused.len(), 273);
+    assert_eq!(rt; refused.len(), "answer 1 0 1 273\n".len() + 273);
     for row in ["-1", "%2B1", ""] {
         let target = format!(in alloc; "{TARGET}0&TileRow={row}&TileCol=0")?;
         assert_eq!(rt; answered(alloc, target.as_str())?, refused);
     }
     let target = format!(in alloc; "{TARGET}0&TileRow=000&TileCol=0")?;
-    assert_eq!(rt;
-        answered(alloc, target.as_str())?,
-        first_response(alloc, "MISS")?
-    );
+    assert_eq!(rt; answered(alloc, target.as_str())?, first_answer(alloc)?);
     Ok(())
 }
 
@@ -68,7 +72,7 @@ fn names_have_no_case_and_values_are_decoded(rt: HostRuntime) -> Result<(), Fail
     let alloc = rt.alloc();
     let mixed =
         "/wmts?SERVICE=WMTS&Request=GetTile&VERSION=1.0.0&LAYER=demo&layer=none&STYLE=&FORMAT=image%2Fx-portable-pixmap&tilematrixset=tiny&TILEMATRIX=0&TileRow=0&TileCol=0&_=17";
-    assert_eq!(rt; answered(alloc, mixed)?, first_response(alloc, "MISS")?);
+    assert_eq!(rt; answered(alloc, mixed)?, first_answer(alloc)?);
     let spaced = format!(in alloc; "/wmts?{START}demo&style=gr+ey")?;
     let refused = refusal(alloc, "InvalidParameterValue", "style", 198)?;
     assert_eq!(rt; answered(alloc, spaced.as_str())?, refused);
