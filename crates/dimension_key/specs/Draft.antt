@@ -2,7 +2,6 @@
 use Rattle.std.specs.Prelude.{ℕ, ◌+◌, List, [], ◌∷◌, Option, Some, None, ok_or, option_and_then, Result, Ok, Err, slice_set}
 use Rattle.catalog.specs.declared.catalogue.Catalogue.{Catalogue}
 use Rattle.catalog.specs.LookUp.{dimension_at, value_named}
-use Rattle.matrix_geometry.specs.declared.theme.Theme.{Theme}
 use Rattle.dimension_key.specs.declared.draft.DimFault.{DimFault}
 use Rattle.dimension_key.specs.declared.draft.DimFault.TheVariants.{Missing, Invalid}
 use Rattle.dimension_key.specs.declared.draft.ThemeDraft.{ThemeDraft}

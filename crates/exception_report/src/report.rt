@@ -32,9 +32,9 @@ fn locator_text(alloc: Global, locator: &Locator) -> Result<Vec<u8>, AllocError>
     Ok(text)
 }
 
-#[tactic(auto, unfolding(crate::specs::Report::report_of))]
 /// The exception report of a code and a locator (OGC 06-121r3, section 8): four lines of XML in UTF-8, with the locator
 /// escaped. `AllocError` where memory runs out.
+#[tactic(auto, unfolding(crate::specs::Report::report_of))]
 pub fn report(alloc: Global, code: Code, locator: &Locator) -> Result<Vec<u8>, AllocError>
     ensures { IfOk result (λ v. v.items ≡ report_of code locator.now) }
 {

@@ -1,5 +1,5 @@
 -- The line that made a request, and its answer.
-use Rattle.std.proofs.Common.{◌≡◌, ℕ, ◌≤◌, Bool, true, false, List, [], ◌∷◌, length, Option, Some, None, inl, inr, ◌⊎◌, refl, sym, subst, ◌∙◌, arith, flat_map, append-nil}
+use Rattle.std.proofs.Common.{◌≡◌, ℕ, ◌≤◌, Bool, true, false, List, [], ◌∷◌, length, Option, Some, None, inl, inr, refl, sym, subst, ◌∙◌, arith, flat_map, append-nil}
 use Rattle.std.specs.Io.KnownBytes.{Appends}
 use Rattle.cabinet.specs.Commands.{State, now}
 use Rattle.cabinet.specs.History.{kept_as, next}
@@ -12,9 +12,9 @@ use Rattle.tile_service.specs.declared.request.Request.{Request}
 use Rattle.tile_service.specs.declared.request.Request.TheVariants as request
 use Rattle.tile_service.specs.Lines.{Idle, Requests, deed_in, request_of}
 use Rattle.tile_service.specs.OneLine.{MayTell, IsUnread, IsServed, Answered, IsLine}
-use Rattle.tile_service.specs.Requests.{Want, Enough, AtReading, AtAsk, AtRender, Chance, calm, got_at, served, IsTrueAnswer, Serves}
+use Rattle.tile_service.specs.Requests.{Want, Enough, AtReading, AtAsk, AtRender, Chance, calm, got_at, served, IsTrueAnswer}
 use Rattle.tile_service.specs.Response.{answered}
-use Rattle.tile_service.specs.Run.{World, Answer, told_at, answer_to, unread, read_done, query_done, line_done, failures, answer_text}
+use Rattle.tile_service.specs.Run.{World, Answer, told_at, answer_to, query_done, line_done, failures, answer_text}
 use Rattle.tile_service.specs.Sent.{AppendsFront}
 
 -- memory was left to read the request

@@ -15,7 +15,7 @@ use Rattle.wmts_kvp.specs.declared.query.Query.{Query}
 use Rattle.wmts_kvp.specs.Reading.{query_reading}
 use Rattle.tile_service.specs.Lines.{Deed, Idle, Requests, deed_in, request_of}
 use Rattle.tile_service.specs.Requests.{Want, Enough, AtReading, AtAsk, AtRender, Chance, hit, spent, miss, rendered, got_at, served, IsFreshTile, IsFreshAnswer}
-use Rattle.tile_service.specs.Run.{World, Answer, told_at, read_done, query_done, line_done, Run, behind, goes_on, first_of, rest_of, run, IsFreshFor, IsFresh}
+use Rattle.tile_service.specs.Run.{World, Answer, told_at, read_done, query_done, line_done, Run, goes_on, first_of, rest_of, run, IsFreshFor, IsFresh}
 
 -- a history goes on
 abbrev Extends : History → History → Type 0

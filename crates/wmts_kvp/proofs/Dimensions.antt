@@ -1,18 +1,11 @@
 -- One dimension more.
-use Rattle.std.proofs.Common.{◌≡◌, ℕ, suc, ◌+◌, ◌<◌, ◌≤◌, List, [], ◌∷◌, length, get_or, drop, Option, Some, None, Result, Ok, Err, refl, subst, ap, ◌∙◌, sym, arith}
-use Rattle.std.specs.Option.{IsSome, option_and_then}
-use Rattle.std.specs.List.{slice_get}
+use Rattle.std.proofs.Common.{◌≡◌, ℕ, suc, ◌<◌, ◌≤◌, List, length, get_or, drop, Ok, Err, ap, ◌∙◌}
 use Rattle.std.proofs.Math.Seq.{drop-cons}
 use Rattle.std.proofs.Math.ListN.{drop_of_length-le}
-use Rattle.std.proofs.lemmas.Option.{slice_get-get_or}
 use Rattle.catalog.specs.declared.catalogue.Catalogue.{Catalogue}
 use Rattle.catalog.specs.declared.layer.Dimension.{Dimension}
-use Rattle.catalog.specs.declared.layer.Layer.{Layer}
-use Rattle.catalog.specs.LookUp.{dimension_at}
-use Rattle.dimension_key.specs.declared.draft.DimFault.{DimFault}
-use Rattle.dimension_key.specs.declared.draft.DimFault.TheVariants.{Missing, Invalid}
 use Rattle.dimension_key.specs.declared.draft.ThemeDraft.{ThemeDraft}
-use Rattle.dimension_key.specs.Draft.{drafted, or_fault, number_in, with_number}
+use Rattle.dimension_key.specs.Draft.{drafted}
 use Rattle.wmts_kvp.specs.declared.query.Query.{Query}
 use Rattle.wmts_kvp.specs.Pairs.{value_of}
 use Rattle.wmts_kvp.specs.Rows.{Row, or_refusal, dimensions, ◌>>=◌}

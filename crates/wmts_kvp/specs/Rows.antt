@@ -12,7 +12,7 @@ use Rattle.dimension_key.specs.declared.draft.DimFault.TheVariants.{Missing, Inv
 use Rattle.dimension_key.specs.declared.draft.ThemeDraft.{ThemeDraft}
 use Rattle.dimension_key.specs.Draft.{drafted}
 use Rattle.exception_report.specs.declared.code.Code.{Code}
-use Rattle.exception_report.specs.declared.code.Code.TheVariants.{OperationNotSupported, MissingParameterValue, InvalidParameterValue, TileOutOfRange}
+use Rattle.exception_report.specs.declared.code.Code.TheVariants.{OperationNotSupported, MissingParameterValue, InvalidParameterValue}
 use Rattle.exception_report.specs.declared.code.Locator.TheVariants.{At}
 use Rattle.wmts_kvp.specs.declared.query.Query.{Query}
 use Rattle.wmts_kvp.specs.declared.query.Query.TheVariants.{Capabilities, Refused}

@@ -20,8 +20,8 @@ pub fn is_number(text: &[u8]) -> bool
     !text.is_empty() && are_digits(text)
 }
 
-#[tactic(auto, using(crate::proofs::Numbers::capped_digit, crate::proofs::Numbers::digits_left, crate::proofs::Numbers::digit_code))]
 /// The number that digits spell, or `MOST` where it is greater.
+#[tactic(auto, using(crate::proofs::Numbers::capped_digit, crate::proofs::Numbers::digits_left, crate::proofs::Numbers::digit_code))]
 fn capped(digits: &[u8]) -> u64
     requires { AllDigits 10 digits.now }
     ensures { result ≡ min (digits_value 10 digits.now) (2 ^ 32) }
@@ -33,8 +33,8 @@ fn capped(digits: &[u8]) -> u64
     value
 }
 
-#[tactic(auto, using(crate::proofs::Numbers::digits_of_number))]
 /// The number that digits spell, however many, where it is below the limit.
+#[tactic(auto, using(crate::proofs::Numbers::digits_of_number))]
 pub fn below(limit: u32, digits: &[u8]) -> Option<u32>
     requires { is_number digits.now ≡ true }
     ensures value { result ≡ below limit (digits_value 10 digits.now) }

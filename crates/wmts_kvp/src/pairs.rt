@@ -6,9 +6,9 @@ use exact_ratio::words::Words;
 use form_urlencoded::parse;
 use std::alloc::{AllocError, Global};
 
-#[tactic(auto, unfolding(crate::specs::Pairs::pairs_of))]
 /// The pairs of names and values of a query in order, decoded as a form is (URL Standard, section 5.1). `AllocError` where
 /// memory runs out.
+#[tactic(auto, unfolding(crate::specs::Pairs::pairs_of))]
 pub fn pairs_of(alloc: Global, query: &[u8]) -> Result<Vec<(Words, Words)>, AllocError>
     ensures { IfOk result (λ pairs. pairs.items ≡ pairs_of query.now) }
 {

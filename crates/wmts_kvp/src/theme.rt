@@ -31,8 +31,8 @@ fn with_value<'a>(
     }
 }
 
-#[tactic(auto, using(crate::proofs::Dimensions::dimension_ends, crate::proofs::Dimensions::dimensions_done))]
 /// The theme of a layer and style with the values that the pairs give to the layer's dimensions, in the catalogue's order.
+#[tactic(auto, using(crate::proofs::Dimensions::dimension_ends, crate::proofs::Dimensions::dimensions_done))]
 pub fn theme<'a>(
     catalogue: &'a Catalogue,
     pairs: &[(Words, Words)],
