@@ -26,7 +26,7 @@ NoneFreeBelow taken size bytes place = (lower : ℕ) → lower < place → IsFre
 abbrev pub NoneFree : List Part → ℕ → ℕ → Type 0
 NoneFree taken size bytes = (place : ℕ) → IsFree taken size (part_at place bytes) → ⊥
 
--- the part that is taken in one space, and in the other is not; all else is as it was
+-- the space after is the one before with this part taken: it stands in its place among the others, and there is one fewer to spare
 pub record IsTaken (before : Space) (p : Part) (after : Space) : Type 0 where
   pub entered : after.parts ≡ inserted p before.parts
   pub same_size : after.size ≡ before.size
