@@ -1,0 +1,13 @@
+//! The parts of a space of bytes that are taken, and the search for a hole.
+//!
+//! Promises: the taken parts are in order and no byte lies in two; `Extents::take` takes the lowest place at which the
+//! bytes are free, and answers `None` exactly where there is none; `claim_at` takes a part exactly where it is free;
+//! `give` takes that one part out. What takes or gives a part asks for no memory.
+//! Stands on nothing.
+#![tactic(auto)]
+
+pub mod extents;
+mod holes;
+pub mod part;
+#[cfg(test)]
+mod tests;
