@@ -1,48 +1,12 @@
 -- `contains` is reflexive and transitive
-use Rattle.std.proofs.Common.{ℕ, ◌≡◌, ◌≤◌, ◌&&◌, ◌==◌, Bool, true, false, refl, ◌∙◌, arith, eq-eqb, List, [], ◌∷◌, Option, Some, None, ℤ, ◌≤ℤ◌, IsTrue}
+use Rattle.std.proofs.Common.{◌≡◌, ◌&&◌, ◌==◌, refl, arith, List, [], ◌∷◌, length, Option, Some, None, ℕ, ℤ, IsTrue, ap, Bool}
 use Rattle.std.specs.Prelude.{nat_le, int_le}
-use Rattle.std.proofs.lemmas.Bool.Decides.{nat_tests}
+use Rattle.std.specs.List.{list_all, zip}
 use Rattle.std.proofs.lemmas.Int.{ints}
 use Rattle.matrix_geometry.specs.declared.boxes.Box9.{Box9}
 use Rattle.truncation_list.specs.declared.cover.Cover.{Cover}
-use Rattle.truncation_list.specs.Contains.{contains, contains_box, contains_filter, contains_number, contains_numbers, contains_zoom}
-
--- TESTS
-
-pub both : (s t : Bool) → IsTrue (s && t) → IsTrue s × IsTrue t
-both true t h = (refl, h)
-both false t h = absurd (cc)
-
-pub join : (s t : Bool) → IsTrue s → IsTrue t → IsTrue (s && t)
-join true t h k = k
-join false t h k = absurd (cc)
-
-pub le_is : (x y : ℕ) → IsTrue (nat_le x y) → x ≤ y
-le_is x y h = grind (arith, nat_tests)
-
-pub is_le : (x y : ℕ) → x ≤ y → IsTrue (nat_le x y)
-is_le x y h = grind (arith, nat_tests)
-
-pub eq_is : (x y : ℕ) → IsTrue (x == y) → x ≡ y
-eq_is x y h = grind (arith, nat_tests)
-
-pub is_eq : (x y : ℕ) → x ≡ y → IsTrue (x == y)
-is_eq x y h = eq-eqb x y h
-
-pub int_le_is : (x y : ℤ) → IsTrue (int_le x y) → x ≤ℤ y
-int_le_is x y h = grind (arith, ints)
-
-pub is_int_le : (x y : ℤ) → x ≤ℤ y → IsTrue (int_le x y)
-is_int_le x y h = grind (arith, ints)
-
-pub le_through : (x y z : ℕ) → IsTrue (nat_le x y) → IsTrue (nat_le y z) → IsTrue (nat_le x z)
-le_through x y z h k = let a = le_is x y h in let b = le_is y z k in is_le x z (omega arith)
-
-pub int_le_through : (x y z : ℤ) → IsTrue (int_le x y) → IsTrue (int_le y z) → IsTrue (int_le x z)
-int_le_through x y z h k = let a = int_le_is x y h in let b = int_le_is y z k in is_int_le x z (omega (arith, ints))
-
-pub eq_through : (x y z : ℕ) → IsTrue (x == y) → IsTrue (y == z) → IsTrue (x == z)
-eq_through x y z h k = is_eq x z (eq_is x y h ∙ eq_is y z k)
+use Rattle.truncation_list.specs.Contains.{contains, contains_box, contains_filter, contains_number, contains_numbers, contains_x, contains_y, contains_zoom}
+use Rattle.truncation_list.proofs.Tests.{both, eq_through, five, int_le_through, is_eq, is_int_le, is_le, join, join_five, le_through}
 
 -- EACH PART
 
@@ -55,16 +19,16 @@ pub record Holds (o i : Box9) : Type 0 where
 
 pub box_holds : (o i : Box9) → IsTrue (contains_box (Some o) (Some i)) → Holds o i
 box_holds o i h =
-    let three = both (int_le o.min_x i.min_x && int_le o.min_y i.min_y && int_le i.max_x o.max_x) (int_le i.max_y o.max_y) h in
-    let two = both (int_le o.min_x i.min_x && int_le o.min_y i.min_y) (int_le i.max_x o.max_x) three.0 in
-    let one = both (int_le o.min_x i.min_x) (int_le o.min_y i.min_y) two.0 in
-    record { min_x = one.0; min_y = one.1; max_x = two.1; max_y = three.1 }
+    let t = both (contains_x o i) (contains_y o i) h in
+    let x = both (int_le o.min_x i.min_x) (int_le i.max_x o.max_x) t.0 in
+    let y = both (int_le o.min_y i.min_y) (int_le i.max_y o.max_y) t.1 in
+    record { min_x = x.0; min_y = y.0; max_x = x.1; max_y = y.1 }
 
 pub holds_box : (o i : Box9) → Holds o i → IsTrue (contains_box (Some o) (Some i))
 holds_box o i h =
-    join (int_le o.min_x i.min_x && int_le o.min_y i.min_y && int_le i.max_x o.max_x) (int_le i.max_y o.max_y)
-    (join (int_le o.min_x i.min_x && int_le o.min_y i.min_y) (int_le i.max_x o.max_x) (join (int_le o.min_x i.min_x) (int_le o.min_y i.min_y) h.min_x h.min_y) h.max_x)
-    h.max_y
+    join (contains_x o i) (contains_y o i)
+    (join (int_le o.min_x i.min_x) (int_le i.max_x o.max_x) h.min_x h.max_x)
+    (join (int_le o.min_y i.min_y) (int_le i.max_y o.max_y) h.min_y h.max_y)
 
 box_through : (a b c : Option Box9) → IsTrue (contains_box a b) → IsTrue (contains_box b c) → IsTrue (contains_box a c)
 box_through None b c h k = refl
@@ -110,21 +74,16 @@ pub record Within (o i : Cover) : Type 0 where
 
 pub contains_within : (o i : Cover) → IsTrue (contains o i) → Within o i
 contains_within o i h =
-    let e = both ((o.layer == i.layer) && (o.grid == i.grid) && contains_zoom o i && contains_box o.bounds i.bounds) (contains_filter o.filter i.filter) h in
-    let d = both ((o.layer == i.layer) && (o.grid == i.grid) && contains_zoom o i) (contains_box o.bounds i.bounds) e.0 in
-    let c = both ((o.layer == i.layer) && (o.grid == i.grid)) (contains_zoom o i) d.0 in
-    let b = both (o.layer == i.layer) (o.grid == i.grid) c.0 in
-    let z = both (nat_le o.z_start i.z_start) (nat_le i.z_stop o.z_stop) c.1 in
-    let f = both (contains_number o.filter.style i.filter.style) (contains_numbers o.filter.dims i.filter.dims) e.1 in
-    record { layer = b.0; grid = b.1; z_start = z.0; z_stop = z.1; bounds = d.1; style = f.0; dims = f.1 }
+    let t = five (o.layer == i.layer) (o.grid == i.grid) (contains_zoom o i) (contains_box o.bounds i.bounds) (contains_filter o.filter i.filter) h in
+    let z = both (nat_le o.z_start i.z_start) (nat_le i.z_stop o.z_stop) t.2 in
+    let f = both (contains_number o.filter.style i.filter.style) (contains_numbers o.filter.dims i.filter.dims) t.4 in
+    record { layer = t.0; grid = t.1; z_start = z.0; z_stop = z.1; bounds = t.3; style = f.0; dims = f.1 }
 
 pub within_contains : (o i : Cover) → Within o i → IsTrue (contains o i)
 within_contains o i w =
     let z = join (nat_le o.z_start i.z_start) (nat_le i.z_stop o.z_stop) w.z_start w.z_stop in
     let f = join (contains_number o.filter.style i.filter.style) (contains_numbers o.filter.dims i.filter.dims) w.style w.dims in
-    let c = join ((o.layer == i.layer) && (o.grid == i.grid)) (contains_zoom o i) (join (o.layer == i.layer) (o.grid == i.grid) w.layer w.grid) z in
-    let d = join ((o.layer == i.layer) && (o.grid == i.grid) && contains_zoom o i) (contains_box o.bounds i.bounds) c w.bounds in
-    join ((o.layer == i.layer) && (o.grid == i.grid) && contains_zoom o i && contains_box o.bounds i.bounds) (contains_filter o.filter i.filter) d f
+    join_five (o.layer == i.layer) (o.grid == i.grid) (contains_zoom o i) (contains_box o.bounds i.bounds) (contains_filter o.filter i.filter) w.layer w.grid z w.bounds f
 
 pub contains_through : (a b c : Cover) → IsTrue (contains a b) → IsTrue (contains b c) → IsTrue (contains a c)
 contains_through a b c h k =
@@ -168,3 +127,9 @@ contains_itself a =
       style = number_itself a.filter.style;
       dims = numbers_itself a.filter.dims;
     })
+
+-- lists of one length, pair by pair
+pub zip-contains_numbers : (outers inners : List (Option ℕ)) → length outers ≡ length inners → list_all (λ p. contains_number p.0 p.1) (zip outers inners) ≡ contains_numbers outers inners
+zip-contains_numbers [] inners h = refl
+zip-contains_numbers (o ∷ os) [] h = absurd (omega arith)
+zip-contains_numbers (o ∷ os) (i ∷ is) h = ap (λ (rest : Bool). contains_number o i && rest) (zip-contains_numbers os is (omega arith))

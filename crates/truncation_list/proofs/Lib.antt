@@ -1,2 +1,4 @@
+pub mod Tests
 pub mod Containment
+pub mod Tiles
 pub mod Answering

@@ -4,12 +4,18 @@ use Rattle.matrix_geometry.specs.declared.boxes.Box9.{Box9}
 use Rattle.matrix_geometry.specs.declared.theme.Filter.{Filter}
 use Rattle.truncation_list.specs.declared.cover.Cover.{Cover}
 
--- the outer one has no box, or both have one and the outer holds the inner, edges included
+-- the outer box holds the inner one from left to right, and from bottom to top, edges included
+abbrev pub contains_x : Box9 → Box9 → Bool
+contains_x outer inner = int_le outer.min_x inner.min_x && int_le inner.max_x outer.max_x
+
+abbrev pub contains_y : Box9 → Box9 → Bool
+contains_y outer inner = int_le outer.min_y inner.min_y && int_le inner.max_y outer.max_y
+
+-- the outer one has no box, or both have one and the outer holds the inner
 abbrev pub contains_box : Option Box9 → Option Box9 → Bool
 contains_box None inner = true
 contains_box (Some outer) None = false
-contains_box (Some outer) (Some inner) =
-    int_le outer.min_x inner.min_x && int_le outer.min_y inner.min_y && int_le inner.max_x outer.max_x && int_le inner.max_y outer.max_y
+contains_box (Some outer) (Some inner) = contains_x outer inner && contains_y outer inner
 
 -- the outer number is any, or equals the inner one
 abbrev pub contains_number : Option ℕ → Option ℕ → Bool

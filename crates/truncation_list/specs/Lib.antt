@@ -1,2 +1,3 @@
 pub mod Contains
+pub mod Covers
 pub mod Books
