@@ -6,6 +6,7 @@ use Rattle.truncation_list.specs.declared.book.Book.{Book}
 use Rattle.truncation_list.specs.declared.book.Cut.{Cut}
 use Rattle.truncation_list.specs.declared.book.FrontedBook.{FrontedBook}
 use Rattle.truncation_list.specs.Books.{AnswersFor, AnswersForBook, AnswersForFronted, Outdoes, greatest_number, last_seen}
+use Rattle.truncation_list.specs.Purge.{IsAbove}
 use Rattle.truncation_list.proofs.Containment.{contains_through}
 
 pub outdoes_through : (a b c : Cut) → Outdoes a b → Outdoes b c → Outdoes a c
@@ -76,6 +77,10 @@ seen_grows a b h =
     let f = h.floor in
     let g = greatest_at_most (last_seen a) b.cuts (All-weaker (AnswersFor a) (λ cut. cut.number ≤ last_seen a) (seen_answered a) b.cuts h.cuts) in
     omega arith
+
+pub seen_below : (number : ℕ) (book : Book) → last_seen book < number → IsAbove number book.cuts
+seen_below number book h =
+    All-weaker (Contains book.cuts) (λ cut. cut.number < number) (λ cut c. let l = listed_at_most book.cuts cut c in omega arith) book.cuts (All-contains_itself book.cuts)
 
 pub seen_of_both : (a b c : Book) → AnswersForBook a b → AnswersForBook a c → (a ≡ b) ⊎ (a ≡ c) → last_seen a ≡ max (last_seen b) (last_seen c)
 seen_of_both a b c h k (inl e) = let x = seen_grows a c k in let s : last_seen a ≡ last_seen b = ap last_seen e in omega arith

@@ -6,7 +6,7 @@ use Rattle.std.proofs.lemmas.Int.{ints}
 use Rattle.matrix_geometry.specs.declared.boxes.Box9.{Box9}
 use Rattle.truncation_list.specs.declared.cover.Cover.{Cover}
 use Rattle.truncation_list.specs.Contains.{contains, contains_box, contains_filter, contains_number, contains_numbers, contains_x, contains_y, contains_zoom}
-use Rattle.truncation_list.proofs.Tests.{both, eq_through, five, int_le_through, is_eq, is_int_le, is_le, join, join_five, le_through}
+use Rattle.truncation_list.proofs.Decided.{both, eq_through, five, int_le_through, is_eq, is_int_le, is_le, join, join_five, le_through}
 
 -- EACH PART
 

@@ -10,7 +10,7 @@ use Rattle.matrix_geometry.specs.Ranges.{is_in_range, is_in_some_range}
 use Rattle.truncation_list.specs.declared.block.Block.{Block}
 use Rattle.truncation_list.specs.declared.cover.Cover.{Cover}
 use Rattle.truncation_list.specs.Covers.{CoversSome, has_tile, hits, is_in_bounds, is_in_zoom, meets_bounds, meets_some}
-use Rattle.truncation_list.proofs.Tests.{both, five, four, is_le, join, join_five, join_four, le_is}
+use Rattle.truncation_list.proofs.Decided.{both, five, four, is_le, join, join_five, join_four, le_is}
 
 -- RANGES
 

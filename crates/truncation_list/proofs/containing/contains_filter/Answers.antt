@@ -1,7 +1,7 @@
 use Rattle.std.proofs.Common.{◌≡◌, ◌∙◌, length, arith}
 use Rattle.truncation_list.specs.Contains.{contains_number, contains_numbers}
 use Rattle.truncation_list.proofs.Containment.{zip-contains_numbers}
-use Rattle.truncation_list.proofs.Tests.{true_and}
+use Rattle.truncation_list.proofs.Decided.{true_and}
 use Rattle.truncation_list.proofs.containing.contains_filter.Goals as goal
 
 pub returns-then-contains_number : goal.returns-then-contains_number
