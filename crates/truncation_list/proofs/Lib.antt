@@ -6,3 +6,4 @@ pub mod Remaining
 pub mod Settled
 pub mod Last
 pub mod Boxes
+pub mod Rule

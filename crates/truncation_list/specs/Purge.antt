@@ -1,5 +1,5 @@
 -- The purge of a book, and how cuts are added to it.
-use Rattle.std.specs.Prelude.{ℕ, ◌<◌, max, Bool, true, false, ◌||◌, nat_lt, if◌then◌else◌, List, [], ◌∷◌, ◌++◌, fold, Option, Some, None}
+use Rattle.std.specs.Prelude.{ℕ, ◌<◌, max, Bool, true, false, not, ◌&&◌, ◌||◌, nat_lt, filter, if◌then◌else◌, List, [], ◌∷◌, ◌++◌, fold, Option, Some, None}
 use Rattle.std.specs.List.{All, list_any}
 use Rattle.truncation_list.specs.declared.book.Book.{Book}
 use Rattle.truncation_list.specs.declared.book.Cut.{Cut}
@@ -33,7 +33,7 @@ abbrev pub is_within : Option Cover → Cut → Bool
 is_within None cut = false
 is_within (Some cover) cut = contains cover cut.cover
 
--- the cover of a listed cut of a greater number does
+-- the cover of a later cut does
 abbrev pub is_outdone : List Cut → Cut → Bool
 is_outdone later cut = list_any (λ other. contains other.cover cut.cover) later
 
@@ -50,6 +50,18 @@ abbrev pub remaining : Option Cover → Option ℕ → List Cut → List Cut
 remaining cover least [] = []
 remaining cover least (cut ∷ later) =
     if goes cover least later cut then remaining cover least later else cut ∷ remaining cover least later
+
+-- THE SAME IN THE WORDS OF THE RULE, for which the order is no matter
+
+-- the cover of another listed cut of a greater number contains this cut's
+abbrev pub is_outdone_among : List Cut → Cut → Bool
+is_outdone_among cuts cut = list_any (λ other. nat_lt cut.number other.number && contains other.cover cut.cover) cuts
+
+abbrev pub remaining_by_rule : Option Cover → Option ℕ → List Cut → List Cut
+remaining_by_rule cover least cuts =
+    filter (λ cut. not (is_within cover cut || is_old least cut || is_outdone_among cuts cut)) cuts
+
+-- THE FLOOR
 
 -- the floor rises to the greatest cut that meets the test on numbers, whatever else it meets
 abbrev pub raised : Option ℕ → ℕ → Cut → ℕ

@@ -1,5 +1,5 @@
 //! What holds of all covers and books.
-ghost use Rattle.std.specs.Prelude.{IsTrue, None, Option, Some, max, ℕ, ◌<◌, ◌≡◌, ◌≤◌, ◌⊎◌};
+ghost use Rattle.std.specs.Prelude.{IsTrue, List, None, Option, Some, max, ℕ, ◌<◌, ◌≡◌, ◌≤◌, ◌⊎◌};
 ghost use Rattle.matrix_geometry.specs.declared.address.Address.{Address};
 ghost use Rattle.matrix_geometry.specs.declared.matrix.Matrix.{Matrix};
 ghost use Rattle.matrix_geometry.specs.Limits.{IsWithinLimits};
@@ -10,7 +10,7 @@ ghost use Rattle.truncation_list.specs.declared.cover.Cover.{Cover};
 ghost use Rattle.truncation_list.specs.Books.{AnswersFor, AnswersForBook, AnswersForFronted, last_seen};
 ghost use Rattle.truncation_list.specs.Contains.{contains};
 ghost use Rattle.truncation_list.specs.Covers.{IsWithinReach, covers};
-ghost use Rattle.truncation_list.specs.Purge.{IsAbove, IsByNumber, IsInOrder, added, purged, with_cut, with_floor};
+ghost use Rattle.truncation_list.specs.Purge.{IsAbove, IsByNumber, IsInOrder, added, purged, remaining, remaining_by_rule, with_cut, with_floor};
 
 /// A cover contains itself, and what a cover contains that it contains. It is for each tile that a cover which it contains
 /// is for.
@@ -37,10 +37,12 @@ pub fn laws_of_fronted_books()
     ensures transitive { (a b c : FrontedBook) → AnswersForFronted a b → AnswersForFronted b c → AnswersForFronted a c }
 {}
 
-/// What a purge does to any book whose cuts stand by number. The book after an `add` answers for the one before it and for
-/// the new cut, and the order stays; the book after a purge alone, after an `enter` and after a `raise` answers for the one
-/// before it. The floor stays below the least number that is kept or running, and below each number above all cuts.
+/// What a purge does to a book whose cuts stand by number. It takes out what the rule says of all listed cuts. The book
+/// after an `add` answers for the one before it and for the new cut, and the order stays; the book after a purge alone, after
+/// an `enter` and after a `raise` answers for the one before it. The floor stays below the least number that is kept or
+/// running, and below each number above all cuts.
 pub fn laws_of_purges()
+    ensures rule { (cover : Option Cover) (least : Option ℕ) (cuts : List Cut) → IsByNumber cuts → remaining cover least cuts ≡ remaining_by_rule cover least cuts }
     ensures added { (number : ℕ) (cover : Cover) (least : Option ℕ) (book : Book) → IsByNumber book.cuts → IsAbove number book.cuts → AnswersForBook (added number cover least book) book }
     ensures lists { (number : ℕ) (cover : Cover) (least : Option ℕ) (book : Book) → AnswersFor (added number cover least book) (record { number = number; cover = cover }) }
     ensures order { (number : ℕ) (cover : Cover) (least : Option ℕ) (book : Book) → IsInOrder book.cuts → IsAbove number book.cuts → IsWithinReach cover → IsInOrder (added number cover least book).cuts }

@@ -17,12 +17,13 @@ use std::marker::Model;
 /// The cuts in force by number, and a floor. Contracts see its book, and how many more cuts it has room for; it holds at
 /// most 2^32 - 1 of them.
 ///
-/// In the calls below `least` is the least number that is kept or running, `None` where there is none.
+/// In the calls below `least` is the least number that is kept or running, `None` where there is none. Each call goes over
+/// the cuts once, but for the first purge after an `enter`, and `full` before it: they compare each cut with the later ones.
 #[derive(Drop)]
 pub struct CutList {
     cuts: Vec<Cut>,
     floor: u64,
-    /// Whether no cut is known to lie within a later one. `enter` alone leaves that open.
+    /// Whether it is known that no cut lies within a later one. `enter` alone forgets it.
     is_settled: bool,
 }
 
@@ -55,6 +56,7 @@ impl CutList {
         ensures book { self.new.book ≡ self.old.book }
         ensures ready { OnOk result (IsReady self.new _cover.now) }
     {
+        // A plain list needs the same room for every cover.
         if self.cuts.len() >= u32::MAX as usize {
             return Err(AllocError);
         }

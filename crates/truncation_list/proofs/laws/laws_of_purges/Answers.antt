@@ -1,10 +1,12 @@
 use Rattle.truncation_list.proofs.Remaining.{added_answers, entered_answers, floor_below_above, floor_below_least, in_order_added, lists_new, purged_answers, raised_answers}
 use Rattle.truncation_list.specs.Purge.{purged}
 use Rattle.std.proofs.Common.{Some}
+use Rattle.truncation_list.proofs.Rule.{remaining_is_by_rule}
 use Rattle.truncation_list.proofs.laws.laws_of_purges.Goals as goal
 
 pub returns : goal.returns
 returns c = record {
+  rule = remaining_is_by_rule;
   added = added_answers;
   lists = λ number cover least book. lists_new number cover (purged (Some cover) least book);
   order = in_order_added;
