@@ -8,7 +8,7 @@ use Rattle.std.proofs.lemmas.List.Folds.{list_any-append}
 use Rattle.truncation_list.specs.declared.book.Cut.{Cut}
 use Rattle.truncation_list.specs.declared.cover.Cover.{Cover}
 use Rattle.truncation_list.specs.Contains.{contains}
-use Rattle.truncation_list.specs.Purge.{IsByNumber, goes, is_old, is_outdone, is_outdone_among, is_within, remaining, remaining_by_rule}
+use Rattle.truncation_list.specs.Purge.{IsByNumber, is_old, is_outdone, is_outdone_among, is_within, remaining, remaining_by_rule}
 
 any_none : (p : Cut → Bool) (cuts : List Cut) → All (λ cut. p cut ≡ false) cuts → list_any p cuts ≡ false
 any_none p [] h = refl
