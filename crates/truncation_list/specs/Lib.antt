@@ -1,0 +1,5 @@
+pub mod Contains
+pub mod Covers
+pub mod Books
+pub mod Purge
+pub mod Listed

@@ -1,0 +1,30 @@
+-- What a list of cuts is seen as.
+use Rattle.std.specs.Prelude.{ℕ, ◌≡◌, ◌<◌, ◌≤◌, false, List, [], ◌∷◌, IsTrue, Option, Some, None}
+use Rattle.std.specs.List.{All, Any}
+use Rattle.matrix_geometry.specs.declared.address.Address.{Address}
+use Rattle.matrix_geometry.specs.declared.matrix.Matrix.{Matrix}
+use Rattle.truncation_list.specs.declared.book.Book.{Book}
+use Rattle.truncation_list.specs.declared.book.Cut.{Cut}
+use Rattle.truncation_list.specs.declared.cover.Cover.{Cover}
+use Rattle.truncation_list.specs.Covers.{covers}
+use Rattle.truncation_list.specs.Purge.{is_outdone}
+
+-- its book, and how many more cuts it has room for
+pub record Listed : Type 0 where
+  pub book : Book
+  pub room : ℕ
+
+-- a cut of this cover can be added with no memory taken
+abbrev pub IsReady : Listed → Cover → Type 0
+IsReady listed cover = 0 < listed.room
+
+-- no cut lies within a later one, so that the next purge needs no test of pairs
+abbrev pub IsSettled : List Cut → Type 0
+IsSettled [] = Unit {0}
+IsSettled (cut ∷ later) = (is_outdone later cut ≡ false) × IsSettled later
+
+-- the greatest number of a cut that covers the tile, none where no cut does
+abbrev pub IsLastCovering : List Cut → Matrix → Address → Option ℕ → Type 0
+IsLastCovering cuts m a None = All (λ cut. covers cut.cover m a ≡ false) cuts
+IsLastCovering cuts m a (Some number) =
+    Any (λ cut. (cut.number ≡ number) × IsTrue (covers cut.cover m a)) cuts × All (λ cut. IsTrue (covers cut.cover m a) → cut.number ≤ number) cuts

@@ -1,0 +1,19 @@
+//! Truncations: which tiles a cover is for, the list of the cuts in force, and what that list still answers for.
+//!
+//! Promises: a cover covers a tile exactly by the geometry of its box, and hits a block exactly where it covers a tile of
+//! it; a list is purged and its floor rises exactly by the rules of `specs/Purge.antt`, so that it answers for each cut that
+//! it ever listed; the last covering cut is the greatest one. `laws` has what holds of all covers and books.
+//! Stands on matrix_geometry.
+#![tactic(auto)]
+
+pub mod block;
+pub mod book;
+pub mod containing;
+pub mod cover;
+pub mod covering;
+pub mod fault;
+pub mod laws;
+pub mod list;
+mod purge;
+#[cfg(test)]
+mod tests;

@@ -1,0 +1,171 @@
+ghost use Rattle.std.specs.Prelude.{IfOk, IsTrue, OnOk, Some, length, max, slice_get, ◌<◌, ◌≡◌, ◌≤◌, ◌↔◌, None};
+ghost use Rattle.matrix_geometry.specs.Limits.{IsWithinLimits};
+ghost use Rattle.truncation_list.specs.declared.cover.Cover.{Cover};
+ghost use Rattle.truncation_list.specs.Books.{AnswersForBook, last_seen};
+ghost use Rattle.truncation_list.specs.Covers.{IsWithinReach};
+ghost use Rattle.truncation_list.specs.Listed.{IsLastCovering, IsReady};
+ghost use Rattle.truncation_list.specs.Purge.{IsAbove, IsInOrder, added, empty_book, purged, remaining, with_cut, with_floor};
+
+use crate::book::Cut;
+use crate::cover::Cover;
+use crate::purge::{count_remaining, last_covering, purge};
+use matrix_geometry::address::Address;
+use matrix_geometry::matrix::Matrix;
+use std::alloc::{AllocError, Global};
+use std::marker::Model;
+
+/// The cuts in force by number, and a floor. Contracts see its book, and how many more cuts it has room for; it holds at
+/// most 2^32 - 1 of them.
+///
+/// In the calls below `least` is the least number that is kept or running, `None` where there is none. Each call goes over
+/// the cuts once, but for the first purge after an `enter`, and `full` before it: they compare each cut with the later ones.
+#[derive(Drop)]
+pub struct CutList {
+    cuts: Vec<Cut>,
+    floor: u64,
+    /// Whether it is known that no cut lies within a later one. `enter` alone forgets it.
+    is_settled: bool,
+}
+
+impl Model for CutList {
+    ghost use Rattle.std.specs.Prelude.{IsTrue, min, vec_capacity, vec_len, ◌-◌, ◌^◌, ◌≤◌};
+    ghost use Rattle.truncation_list.specs.Listed.{IsSettled, Listed};
+    ghost use Rattle.truncation_list.specs.Purge.{IsInOrder};
+
+    ghost Value = { Listed };
+
+    ghost view = { λ l. record { book = record { cuts = l.cuts.items; floor = l.floor }; room = min (vec_capacity l.cuts) (2 ^ 32 - 1) - vec_len l.cuts } };
+
+    ghost invariant = { λ l. IsInOrder l.cuts.items × (IsTrue l.is_settled → IsSettled l.cuts.items) × (vec_len l.cuts ≤ 2 ^ 32 - 1) };
+}
+
+impl CutList {
+    /// A list without a cut, whose floor is 0.
+    pub fn new(alloc: Global) -> Result<CutList, AllocError>
+        ensures { IfOk result (λ list. list.book ≡ empty_book) }
+    {
+        Ok(CutList {
+            cuts: Vec::new(alloc),
+            floor: 0,
+            is_settled: true,
+        })
+    }
+
+    /// Makes the list ready for a cut of this cover. It stays ready for it until the next `reserve`, `add` or `enter`.
+    pub fn reserve(&mut self, _alloc: Global, _cover: &Cover) -> Result<(), AllocError>
+        ensures book { self.new.book ≡ self.old.book }
+        ensures ready { OnOk result (IsReady self.new _cover.now) }
+    {
+        // A plain list needs the same room for every cover.
+        if self.cuts.len() >= u32::MAX as usize {
+            return Err(AllocError);
+        }
+        self.cuts.reserve(1)
+    }
+
+    /// Whether `limit` or more cuts stay after the purge for this cover.
+    pub fn full(&self, cover: &Cover, least: Option<u64>, limit: u32) -> bool
+        ensures { IsTrue result ↔ (limit ≤ length (purged (Some cover.now) least self.now.book).cuts) }
+    {
+        let count = count_remaining(&self.cuts, &Some(*cover), least, self.is_settled);
+        limit as usize <= count
+    }
+
+    /// Purges for this cover, and adds its cut.
+    pub fn add(&mut self, number: u64, cover: &Cover, least: Option<u64>)
+        requires ready { IsReady self.old cover.now }
+        requires above { IsAbove number self.old.book.cuts }
+        requires reachable { IsWithinReach cover.now }
+        ensures book { self.new.book ≡ added number cover.now least self.old.book }
+        ensures answers { AnswersForBook self.new.book self.old.book }
+    {
+        self.floor = purge(
+            &mut self.cuts,
+            self.floor,
+            &Some(*cover),
+            least,
+            self.is_settled,
+        );
+        self.is_settled = true;
+        self.cuts.push_reserved(Cut {
+            number,
+            cover: *cover,
+        });
+    }
+
+    /// Adds a cut without a purge.
+    pub fn enter(&mut self, number: u64, cover: &Cover)
+        requires ready { IsReady self.old cover.now }
+        requires above { IsAbove number self.old.book.cuts }
+        requires reachable { IsWithinReach cover.now }
+        ensures book { self.new.book ≡ with_cut number cover.now self.old.book }
+        ensures answers { AnswersForBook self.new.book self.old.book }
+    {
+        self.is_settled = false;
+        self.cuts.push_reserved(Cut {
+            number,
+            cover: *cover,
+        });
+    }
+
+    /// Purges, and adds no cut.
+    pub fn purge(&mut self, least: Option<u64>)
+        ensures book { self.new.book ≡ purged None least self.old.book }
+        ensures answers { AnswersForBook self.new.book self.old.book }
+        ensures ready { (cover : Cover) → IsReady self.old cover → IsReady self.new cover }
+    {
+        self.floor = purge(&mut self.cuts, self.floor, &None, least, self.is_settled);
+        self.is_settled = true;
+    }
+
+    /// Raises the floor to this number, where it is below it.
+    pub fn raise(&mut self, floor: u64)
+        ensures book { self.new.book ≡ with_floor floor self.old.book }
+        ensures answers { AnswersForBook self.new.book self.old.book }
+        ensures ready { (cover : Cover) → IsReady self.old cover → IsReady self.new cover }
+    {
+        self.floor = self.floor.max(floor);
+    }
+
+    /// A cut by its place in the order of numbers, counted from 0: its number and its cover.
+    pub fn cut_at(&self, i: u32) -> (u64, Cover)
+        requires { i < length self.now.book.cuts }
+        ensures { slice_get self.now.book.cuts i ≡ Some (record { number = result.0; cover = result.1 }) }
+    {
+        let cut = self.cuts[i as usize];
+        (cut.number, cut.cover)
+    }
+
+    /// The greatest number of a listed cut that covers a tile, `None` where none does; `m` is the tile's matrix.
+    pub fn last(&self, m: &Matrix, a: &Address) -> Option<u64>
+        requires { IsWithinLimits m.now }
+        ensures { IsLastCovering self.now.book.cuts m.now a.now result }
+    {
+        last_covering(&self.cuts, m, a)
+    }
+
+    /// The greatest cut that the list has seen: the greater of its floor and its greatest listed number.
+    pub fn seen(&self) -> u64
+        ensures { result ≡ last_seen self.now.book }
+    {
+        match self.cuts.last() {
+            None => self.floor,
+            Some(cut) => self.floor.max(cut.number),
+        }
+    }
+
+    /// The number up to which each cut is answered for without being listed.
+    pub fn floor(&self) -> u64
+        ensures { result ≡ self.now.book.floor }
+    {
+        self.floor
+    }
+
+    /// How many cuts are listed. They stand by number, and their boxes are within reach.
+    pub fn count(&self) -> u32
+        ensures count { result ≡ length self.now.book.cuts }
+        ensures order { IsInOrder self.now.book.cuts }
+    {
+        self.cuts.len() as u32
+    }
+}
