@@ -1,5 +1,5 @@
 -- The fields of a spelling, read at their places, make its record.
-use Rattle.std.proofs.Common.{◌≡◌, ℕ, zero, suc, ◌+◌, ◌-◌, ◌^◌, ◌<◌, ◌==◌, if◌then◌else◌, ℤ, List, [], ◌∷◌, ◌++◌, length, drop, map, replicate, Option, Some, None, IfSome, FitsSigned, refl, sym, ap, ◌∙◌, add-one, arith, append_assoc}
+use Rattle.std.proofs.Common.{◌≡◌, ℕ, suc, ◌+◌, ◌-◌, ◌^◌, ◌<◌, ◌==◌, if◌then◌else◌, ℤ, List, [], ◌∷◌, ◌++◌, length, drop, map, replicate, Option, Some, None, IfSome, FitsSigned, refl, sym, ap, ◌∙◌, add-one, arith, append_assoc}
 use Rattle.std.proofs.lemmas.List.{drop-drop}
 use Rattle.std.proofs.Math.Facts.{Fits-of_z}
 use Rattle.std.proofs.lemmas.Int.{to_z-of_z}
@@ -15,7 +15,7 @@ use Rattle.record_text.specs.declared.entries.Record.{Record}
 use Rattle.record_text.specs.declared.entries.Record.TheVariants.{Opened, Stored, Dropped, Cut}
 use Rattle.record_text.specs.Fits.{Fits, FitsBox, FitsCover, FitsFilter, FitsMetatile}
 use Rattle.record_text.specs.Reading.{number_at, values_at, metatile_at, coordinate_at, box_at, bounds_at, wanted_of, filter_at, cover_at, entry_of}
-use Rattle.record_text.specs.Spelling.{theme, position, metatile, blob, coordinate, bounds, wanted, filter, cover, fields, filled, spelling}
+use Rattle.record_text.specs.Spelling.{position, metatile, blob, coordinate, bounds, wanted, filter, cover, fields, spelling}
 
 -- a number stands where its bytes begin
 reads : (width at x : ℕ) (bytes rest : List ℕ) → x < 256 ^ width → drop at bytes ≡ big_bytes width x ++ rest → number_at width at bytes ≡ x

@@ -1,5 +1,5 @@
 -- A body is the spelling of no record but the one that its fields make.
-use Rattle.std.proofs.Common.{◌≡◌, ℕ, List, Bool, false, Option, Some, None, is_some, nat_eq, sym, ap, ◌∙◌, subst}
+use Rattle.std.proofs.Common.{◌≡◌, ℕ, List, false, Option, Some, None, is_some, nat_eq, sym, ap, ◌∙◌, subst}
 use Rattle.std.proofs.lemmas.Bool.{false≢true}
 use Rattle.std.proofs.lemmas.Cmp.{nat_list_eq_equiv}
 use Rattle.std.specs.Cmp.Lexicographic.{pointwise}
@@ -15,7 +15,7 @@ IsDecoded body result = (entry : Record) → (result ≡ Some entry → Fits ent
 no_entry : (a : Record) → None ≡ Some a → ⊥
 no_entry a none = false≢true (ap is_some none)
 
-same_entry : (a b : Record) → Some a ≡ Some b → a ≡ b
+pub same_entry : (a b : Record) → Some a ≡ Some b → a ≡ b
 same_entry a b same = cc
 
 -- what a record that fits and is spelled so was read as

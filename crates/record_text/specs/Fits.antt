@@ -1,5 +1,5 @@
 -- Which records have numbers that fit their fields.
-use Rattle.std.specs.Prelude.{ℕ, ◌≡◌, ◌<◌, ◌^◌, List, length, map, IfSome, FitsSigned}
+use Rattle.std.specs.Prelude.{◌≡◌, ◌<◌, ◌^◌, length, map, IfSome, FitsSigned}
 use Rattle.std.specs.Int.{w64}
 use Rattle.std.specs.List.{AllByRecursion}
 use Rattle.matrix_geometry.specs.declared.boxes.Box9.{Box9}

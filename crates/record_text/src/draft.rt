@@ -43,7 +43,10 @@ impl Draft {
     {
         let Draft { mut body, end } = self;
         BigEndian::write_uint(&mut body[end..], value, width);
-        Draft { body, end: end + width }
+        Draft {
+            body,
+            end: end + width,
+        }
     }
 
     /// The body: what is written, and zeros.

@@ -84,7 +84,10 @@ fn with_box(draft: Draft, edges: Box9) -> Draft
     ensures bytes { result ≡ draft ++ bounds (Some edges) }
     ensures size { length result ≡ length draft + 33 }
 {
-    let lower = with_coordinate(with_coordinate(draft.number(1, 1), edges.min_x), edges.min_y);
+    let lower = with_coordinate(
+        with_coordinate(draft.number(1, 1), edges.min_x),
+        edges.min_y,
+    );
     with_coordinate(with_coordinate(lower, edges.max_x), edges.max_y)
 }
 
@@ -132,12 +135,7 @@ fn with_filter(draft: Draft, admitted: &Filter) -> Draft
     ensures size { length result ≡ length draft + 9 }
 {
     let [first, second, third, fourth] = admitted.dims;
-    let values = [
-        wanted(first),
-        wanted(second),
-        wanted(third),
-        wanted(fourth),
-    ];
+    let values = [wanted(first), wanted(second), wanted(third), wanted(fourth)];
     with_values(draft.number(u64::from(wanted(admitted.style)), 1), values)
 }
 

@@ -1,4 +1,4 @@
-use Rattle.std.proofs.Common.{◌≡◌, ◌∙◌, sym, ap, Some, subst}
+use Rattle.std.proofs.Common.{◌∙◌, sym, subst}
 use Rattle.std.specs.Cmp.Lexicographic.{same_text}
 use Rattle.record_text.proofs.Decoded.{IsDecoded, decoded_none, decoded_other, decoded_some, other_bytes}
 use Rattle.record_text.proofs.reading.decode.Goals as goal
