@@ -1,0 +1,4 @@
+pub mod Back
+pub mod Decoded
+pub mod Drafts
+pub mod Sizes

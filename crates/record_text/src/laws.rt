@@ -1,0 +1,11 @@
+//! What holds of all spellings.
+ghost use Rattle.std.specs.Prelude.{◌≡◌, length};
+ghost use Rattle.record_text.specs.declared.entries.Record.{Record};
+ghost use Rattle.record_text.specs.Fits.{Fits};
+ghost use Rattle.record_text.specs.Spelling.{spelling};
+
+/// Of records whose numbers fit their fields: no two share a spelling, and each spelling has 63 bytes.
+pub fn laws_of_spellings()
+    ensures distinct { (a b : Record) → Fits a → Fits b → spelling a ≡ spelling b → a ≡ b }
+    ensures size { (entry : Record) → Fits entry → length (spelling entry) ≡ 63 }
+{}

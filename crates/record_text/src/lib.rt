@@ -1,0 +1,14 @@
+//! The records of a journal as bytes.
+//!
+//! Promises: `encode` writes the one spelling of a record, and `decode` reads a body exactly where it is the spelling of a
+//! record whose numbers fit their fields. No two such records share a spelling (`laws_of_spellings`).
+//! Stands on truncation_list, metatile_plan and matrix_geometry for the types of the fields, and on byteorder for numbers.
+#![tactic(auto)]
+
+mod draft;
+pub mod entries;
+pub mod laws;
+pub mod reading;
+#[cfg(test)]
+mod tests;
+pub mod writing;
