@@ -4,7 +4,6 @@ use Rattle.std.proofs.lemmas.List.Elements.{All-pop, All-push}
 use Rattle.std.specs.Prelude.{Option, Some, None, IfSome}
 use Rattle.atomic_table.specs.declared.shared.Seat.{Seat}
 use Rattle.atomic_table.specs.Table.{Me}
-use Rattle.truncation_list.specs.declared.book.Book.{Book}
 use Rattle.truncation_list.specs.declared.book.FrontedBook.{FrontedBook}
 use Rattle.truncation_list.specs.Books.{AnswersForFronted, last_seen}
 use Rattle.truncation_list.proofs.Answering.{fronted_through, seen_of_both}
@@ -12,10 +11,10 @@ use Rattle.turnstile.specs.declared.view.Known.{Known}
 use Rattle.turnstile.specs.declared.view.Opening.{Opening}
 use Rattle.turnstile.specs.declared.view.View.{View}
 use Rattle.turnstile.specs.declared.view.Made.{Made}
-use Rattle.turnstile.specs.declared.view.Stage.{Stage}
-use Rattle.turnstile.specs.Views.{after_turn, first_view, known_after, made_of, newcomer, notes, one_less}
+use Rattle.turnstile.specs.declared.view.Stage.TheVariants.{Out}
+use Rattle.turnstile.specs.Views.{after_turn, first_view, made_of, newcomer, notes, one_less}
 use Rattle.turnstile.specs.Steps.{Found, Gathers, HeardBy}
-use Rattle.turnstile.specs.Passes.{Holding, IsReady, Turned, Unturned, fresh_pass, holding_of, known_by, knows, seen_by}
+use Rattle.turnstile.specs.Passes.{Holding, IsReady, Stays, Turned, Unturned, fresh_pass, holding_of, known_by, knows, seen_by}
 
 -- who gathered what two knew, and may find a chest: so may each of them
 pub found_mine : {C H : Type 0} (charter : C → H) (sound : C → Type 0) (book : C → FrontedBook) (mine theirs both : Known H) (chest : C) → Gathers mine theirs both → Found charter sound book both chest → Found charter sound book mine chest
@@ -51,10 +50,11 @@ module _ {S C H N : Type 0} where
     pub seen : (knows u).own.book ≡ left
     pub shows : holding_of u ≡ seen_by (holding_of s) left gained
 
-  pub ended : (s t u : Seat S (View C H N)) (stage : Stage C) (xs : List (ℕ × S)) (left : FrontedBook) (gained : List (Made N)) → IsReady 1 s → t.me ≡ (record (knows s) { stage = stage }, xs) → t.table_id ≡ s.table_id
-      → u.me ≡ (after_turn (knows t) left gained, []) → u.table_id ≡ t.table_id → Ended s u left gained
-  ended s t u stage xs left gained ready taken same given same' =
-      let after : u.me ≡ (after_turn (knows s) left gained, []) = given ∙ ap (λ (m : Me S (View C H N)). (after_turn m.0 left gained, [])) taken in
+  pub ended : (s t u : Seat S (View C H N)) (chest : C) (xs : List (ℕ × S)) (left : FrontedBook) (gained : C → List (Made N)) → IsReady 1 s → t.me ≡ (record (knows s) { stage = Out chest }, xs) → t.table_id ≡ s.table_id
+      → ((found : C) → (knows t).stage ≡ Out found → u.me ≡ (after_turn (knows t) left (gained found), [])) → u.table_id ≡ t.table_id → Ended s u left (gained chest)
+  ended s t u chest xs left gained ready taken same given same' =
+      let out : (knows t).stage ≡ Out chest = ap (λ (m : Me S (View C H N)). m.0.stage) taken in
+      let after : u.me ≡ (after_turn (knows s) left (gained chest), []) = given chest out ∙ ap (λ (m : Me S (View C H N)). (after_turn m.0 left (gained chest), [])) taken in
       let table : u.table_id ≡ s.table_id = same' ∙ same in
       record {
         ready = record {
@@ -66,6 +66,11 @@ module _ {S C H N : Type 0} where
         seen = ap (λ (m : Me S (View C H N)). m.0.own.book) after;
         shows = λ i. record { table = table i; charter = (after i).0.own.charter; told = (after i).0.own.told; book = (after i).0.own.book; made = (after i).0.made };
       }
+
+-- a turn changes neither the table, nor the charter, nor the mark
+pub stays_by : {S C H N : Type 0} (s u : Seat S (View C H N)) (left : FrontedBook) (gained : List (Made N)) (pass : Holding H N) → holding_of s ≡ pass → holding_of u ≡ seen_by (holding_of s) left gained → Stays pass (holding_of u)
+stays_by {S} {C} {H} {N} s u left gained pass is shows = subst (λ (p : Holding H N). Stays p (holding_of u)) is
+    record { table = ap (λ (p : Holding H N). p.table) shows; charter = ap (λ (p : Holding H N). p.charter) shows; told = ap (λ (p : Holding H N). p.told) shows }
 
 pub of_some : {A : Type 0} (P : A → Type 0) (o : Option A) (a : A) → o ≡ Some a → IfSome o P → P a
 of_some P None a e p = absurd (cc)

@@ -1,13 +1,13 @@
 -- Each kind of step keeps the rule of a turnstile, and tells what it tells.
-use Rattle.std.proofs.Common.{◌≡◌, ◌∙◌, ℕ, zero, suc, ◌+◌, ◌-◌, ◌<◌, ◌≤◌, ◌==◌, ◌≢◌, ◌⊎◌, inl, inr, ⊎_elim, Bool, true, false, true≢false, List, [], ◌∷◌, ◌++◌, length, set, get_or, sym, refl, ap, subst, arith, length-set, get_or-set_same}
-use Rattle.std.specs.Prelude.{Option, Some, None}
+use Rattle.std.proofs.Common.{◌≡◌, ◌∙◌, ℕ, ◌+◌, ◌-◌, ◌<◌, ◌==◌, ◌≢◌, ◌⊎◌, inl, inr, ⊎_elim, Bool, true, true≢false, List, [], ◌∷◌, ◌++◌, set, get_or, sym, refl, ap, subst, arith, length-set, get_or-set_same}
+use Rattle.std.specs.Prelude.{Some}
 use mathlib.Core.Logic.{dite}
 use mathlib.Core.Option.{none, some, some-injective}
 use native.Mathlib.Decide.{ℕ_discrete}
 use lib.ListN.{get_elem?}
 use lib.Seq.{set-get_or}
 use prog.Atomic.{either}
-use Rattle.atomic_table.specs.Table.{State, Me, Step, step, Act, keeps, takes, gives, Valid, stepped, carried_after, rest, Allows, Splits, Joins, opening, Final, Seen}
+use Rattle.atomic_table.specs.Table.{State, Me, Step, step, Act, keeps, takes, gives, Valid, stepped, carried_after, Allows, Splits, Joins, opening, Final, Seen}
 use Rattle.atomic_table.proofs.Lists.{set_here, set_else, set_again, exchanged}
 use Rattle.truncation_list.specs.declared.book.FrontedBook.{FrontedBook}
 use Rattle.truncation_list.specs.Books.{AnswersForFronted}
@@ -18,7 +18,7 @@ use Rattle.turnstile.specs.declared.view.Opening.{Opening}
 use Rattle.turnstile.specs.declared.view.Stage.TheVariants.{Idle, Out}
 use Rattle.turnstile.specs.declared.view.View.{View}
 use Rattle.turnstile.specs.Views.{Slot, after_turn, first_view, hearing, known_after, known_from, newcomer, notes, one_less, parts_of, spent}
-use Rattle.turnstile.specs.Rule.{Agree, Fits, Holds, Kept, Stands, total_of}
+use Rattle.turnstile.specs.Rule.{Agree, Fits, Holds, Kept, Stands}
 use Rattle.turnstile.specs.Steps.{Found, Gathers, gave, learned, took}
 use Rattle.turnstile.specs.Passes.{MayReturn}
 use Rattle.turnstile.proofs.Seats.{at_one, each_set, inside, one_part, same_load, total_set, two_parts}

@@ -1,21 +1,18 @@
 -- The rule of a turnstile, as views change.
-use Rattle.std.proofs.Common.{◌≡◌, ◌∙◌, ℕ, ◌+◌, ◌<◌, ◌≤◌, ◌≢◌, ◌⊎◌, inl, inr, ⊎_elim, Bool, true, List, [], ◌∷◌, ◌++◌, set, get_or, sym, refl, ap, subst, arith}
-use Rattle.std.specs.Prelude.{Option, Some, None}
+use Rattle.std.proofs.Common.{◌≡◌, ◌∙◌, ℕ, ◌+◌, ◌<◌, ◌≢◌, ◌⊎◌, inl, inr, ⊎_elim, true, List, [], ◌∷◌, ◌++◌, set, get_or, sym, refl, ap, subst, arith}
 use mathlib.Core.Logic.{dite}
 use mathlib.Core.Option.{some, some-injective}
 use native.Mathlib.Decide.{ℕ_discrete}
 use lib.ListN.{get_elem?}
 use Rattle.atomic_table.specs.Table.{State}
-use Rattle.atomic_table.proofs.Lists.{at_set, at_snoc, set_here, set_else, at_longer}
+use Rattle.atomic_table.proofs.Lists.{set_here, set_else, at_longer}
 use Rattle.truncation_list.specs.declared.book.FrontedBook.{FrontedBook}
-use Rattle.truncation_list.specs.Books.{AnswersForFronted}
-use Rattle.truncation_list.proofs.Answering.{fronted_itself, fronted_through}
 use Rattle.turnstile.specs.declared.view.Known.{Known}
 use Rattle.turnstile.specs.declared.view.Stage.{Stage}
 use Rattle.turnstile.specs.declared.view.Stage.TheVariants.{Idle, Out}
 use Rattle.turnstile.specs.declared.view.View.{View}
 use Rattle.turnstile.specs.Views.{Slot, parts_of}
-use Rattle.turnstile.specs.Rule.{Agree, Fits, Holds, Kept, Stands, total_of}
+use Rattle.turnstile.specs.Rule.{Agree, Holds, Kept, Stands}
 use Rattle.turnstile.proofs.Seats.{each_set, each_snoc, inside, total_set, total_snoc}
 
 pub agree_sym : (a b : FrontedBook) → Agree a b → Agree b a

@@ -1,5 +1,5 @@
 -- What contracts see of a turnstile and of its passes, and what each call does to them.
-use Rattle.std.specs.Prelude.{◌≡◌, ℕ, ◌<◌, ◌≤◌, ◌⊎◌, Bool, true, List, [], ◌∷◌, ◌++◌, Option, Some}
+use Rattle.std.specs.Prelude.{◌≡◌, ℕ, ◌⊎◌, Bool, true, List, [], ◌∷◌, ◌++◌, Option, Some}
 use Rattle.atomic_table.specs.Seated.{TableId}
 use Rattle.atomic_table.specs.declared.shared.Seat.{Seat}
 use Rattle.truncation_list.specs.declared.book.FrontedBook.{FrontedBook}
@@ -8,7 +8,7 @@ use Rattle.turnstile.specs.declared.view.Known.{Known}
 use Rattle.turnstile.specs.declared.view.Made.{Made}
 use Rattle.turnstile.specs.declared.view.Stage.TheVariants.{Idle, Out}
 use Rattle.turnstile.specs.declared.view.View.{View}
-use Rattle.turnstile.specs.Views.{made_of, known_from}
+use Rattle.turnstile.specs.Views.{made_of}
 use Rattle.turnstile.specs.Steps.{Found}
 
 -- which turnstile it is, and how many passes were made for it
@@ -38,6 +38,12 @@ module _ {H N : Type 0} where
   -- a pass that has seen the book of a chest, and made these besides
   abbrev pub seen_by : Holding H N → FrontedBook → List (Made N) → Holding H N
   seen_by pass left gained = record { table = pass.table; charter = pass.charter; told = pass.told; book = left; made = pass.made ++ gained }
+
+  -- what no call changes: of which turnstile a pass is, the charter, and the mark
+  pub record Stays (before after : Holding H N) : Type 0 where
+    pub table : after.table ≡ before.table
+    pub charter : after.charter ≡ before.charter
+    pub told : after.told ≡ before.told
 
   -- a pass heard what another one had seen
   pub record Met (mine theirs after : Holding H N) : Type 0 where

@@ -1,5 +1,5 @@
 -- What each step on a turnstile's table tells the seat that takes it.
-use Rattle.std.specs.Prelude.{◌≡◌, ◌≢◌, ℕ, ◌+◌, ◌⊎◌, Bool, true, List, [], ◌∷◌, Some}
+use Rattle.std.specs.Prelude.{◌≡◌, ◌≢◌, ℕ, ◌+◌, ◌⊎◌, true, [], ◌∷◌, Some}
 use Rattle.atomic_table.specs.Table.{Me, Step}
 use Rattle.truncation_list.specs.declared.book.FrontedBook.{FrontedBook}
 use Rattle.truncation_list.specs.Books.{AnswersForFronted}

@@ -1,5 +1,5 @@
 -- What a turn is noted as, and what the view of a seat at a turnstile is after each step.
-use Rattle.std.specs.Prelude.{◌≡◌, ℕ, ◌+◌, ◌-◌, Bool, true, false, List, [], ◌∷◌, ◌++◌, Option, Some, None}
+use Rattle.std.specs.Prelude.{ℕ, ◌+◌, ◌-◌, Bool, true, false, List, [], ◌∷◌, ◌++◌, Option, Some, None}
 use Rattle.truncation_list.specs.declared.book.FrontedBook.{FrontedBook}
 use Rattle.turnstile.specs.declared.view.Known.{Known}
 use Rattle.turnstile.specs.declared.view.Lodged.{Lodged}

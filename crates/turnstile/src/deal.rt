@@ -26,6 +26,7 @@ pub fn deal_out<C: Chest>(
     requires first { seat.me ≡ (first_view C.charter C.book opening.now, []) }
     requires latest { latest ≡ last_seen (C.book opening.now.start.chest).book }
     ensures count { IfOk result (λ all. length all.items ≡ passes) }
+    ensures own { IfOk result (λ all. All (λ p. p.table ≡ gate.now.table.shared.table_id) all.items) }
     ensures each { IfOk result (λ all. All (λ p. p ≡ fresh_pass C.charter C.book gate.now.table.shared.table_id opening.now.start.chest opening.now.start.told) all.items) }
 {
     let mut seat = seat;

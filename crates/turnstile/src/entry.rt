@@ -30,6 +30,7 @@ impl<C: Chest + Drop> Turnstile<C> {
         requires passes { (0 < passes) × (passes ≤ 64) }
         requires sound { told ≡ true → C.sound chest }
         ensures count { IfOk result (λ e. (length e.passes ≡ passes) × (e.turnstile.passes ≡ passes)) }
+        ensures own { IfOk result (λ e. All (λ p. p.table ≡ e.turnstile.table) e.passes) }
         ensures each { IfOk result (λ e. All (λ p. p ≡ fresh_pass C.charter C.book e.turnstile.table chest told) e.passes) }
     {
         let latest = chest.latest();

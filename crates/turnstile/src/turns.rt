@@ -1,7 +1,7 @@
 //! Turns, and passes that meet.
 ghost use Rattle.std.specs.Prelude.{◌≡◌, true, IfErr, IfOk, IfSome};
 ghost use Rattle.truncation_list.specs.Books.{last_seen};
-ghost use Rattle.turnstile.specs.Passes.{Met, Turned, Unturned};
+ghost use Rattle.turnstile.specs.Passes.{Met, Stays, Turned, Unturned};
 
 use crate::chest::Chest;
 use crate::pass::Pass;
@@ -26,6 +26,7 @@ impl<C: Chest> Turnstile<C> {
         requires own { pass.old.table ≡ self.now.table }
         requires admitted { IfSome pass.old.charter (λ h. C.admits h command) }
         requires sound { pass.old.told ≡ true → IfSome pass.old.charter (λ h. C.keeps_sound h command) }
+        ensures stays { Stays pass.old pass.new }
         ensures done { IfOk result (λ r. Turned C.charter C.sound C.book C.shown C.note C.may_reply pass.old pass.new command r) }
         ensures refused { IfErr result (λ _. Unturned C.charter C.sound C.book C.shown C.as_before pass.old pass.new) }
         ensures memory { IfErr result (λ _. ¬ (C.takes_no_memory command)) }
@@ -70,6 +71,7 @@ impl<C: Chest> Turnstile<C> {
         requires admitted { IfSome pass.old.charter (λ h. C.admits h command) }
         requires plain { C.takes_no_memory command }
         requires sound { pass.old.told ≡ true → IfSome pass.old.charter (λ h. C.keeps_sound h command) }
+        ensures stays { Stays pass.old pass.new }
         ensures done { Turned C.charter C.sound C.book C.shown C.note C.may_reply pass.old pass.new command result }
     {
         let mut chest = self.gate.take(rt, &mut pass.seat);
@@ -99,6 +101,7 @@ impl<C: Chest> Turnstile<C> {
     /// Two passes tell each other what they have seen: each has then a book that answers for both. Nobody waits.
     pub fn meet(&self, a: &mut Pass<C>, b: &mut Pass<C>)
         requires own { (a.old.table ≡ self.now.table) × (b.old.table ≡ self.now.table) }
+        ensures stays { Stays a.old a.new × Stays b.old b.new }
         ensures a { Met a.old b.old a.new }
         ensures b { Met b.old a.old b.new }
     {

@@ -1,6 +1,6 @@
-use Rattle.std.proofs.Common.{◌≡◌, ◌∙◌, ◌+◌, refl, ap, subst, arith, length}
+use Rattle.std.proofs.Common.{◌≡◌, ◌∙◌, refl, ap, subst, arith}
 use Rattle.turnstile.specs.Steps.{Found}
-use Rattle.turnstile.specs.Passes.{known_by, holding_of}
+use Rattle.turnstile.specs.Passes.{known_by}
 use Rattle.turnstile.proofs.Held.{found_of_pass, heard_more, one_longer, popped, pushed}
 use Rattle.turnstile.proofs.deal.gather.Goals as goal
 

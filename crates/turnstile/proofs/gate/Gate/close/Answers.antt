@@ -1,4 +1,4 @@
-use Rattle.std.proofs.Common.{◌≡◌, ◌∙◌, refl, sym, subst, arith, slice_index_or, false, true, Some}
+use Rattle.std.proofs.Common.{◌≡◌, ◌∙◌, refl, sym, arith, slice_index_or, false, true, Some}
 use Rattle.std.specs.Slots.{slots_filled, slots_items}
 use Rattle.turnstile.specs.Steps.{Found}
 use Rattle.turnstile.specs.Passes.{knows}
