@@ -1,5 +1,5 @@
 -- What seats and passes know after the calls.
-use Rattle.std.proofs.Common.{◌≡◌, ◌∙◌, ℕ, ◌+◌, ◌-◌, ◌⊎◌, inl, inr, max, Bool, true, List, [], ◌∷◌, ◌++◌, All, length, length-append, sym, refl, ap, subst, arith}
+use Rattle.std.proofs.Common.{◌≡◌, ◌∙◌, ℕ, ◌+◌, ◌⊎◌, inl, inr, max, Bool, true, List, [], ◌∷◌, ◌++◌, All, length, length-append, sym, refl, ap, subst, arith}
 use Rattle.std.proofs.lemmas.List.Elements.{All-pop, All-push}
 use Rattle.std.specs.Prelude.{Option, Some, None, IfSome}
 use Rattle.atomic_table.specs.declared.shared.Seat.{Seat}
@@ -8,13 +8,12 @@ use Rattle.truncation_list.specs.declared.book.FrontedBook.{FrontedBook}
 use Rattle.truncation_list.specs.Books.{AnswersForFronted, last_seen}
 use Rattle.truncation_list.proofs.Answering.{fronted_through, seen_of_both}
 use Rattle.turnstile.specs.declared.view.Known.{Known}
-use Rattle.turnstile.specs.declared.view.Opening.{Opening}
 use Rattle.turnstile.specs.declared.view.View.{View}
 use Rattle.turnstile.specs.declared.view.Made.{Made}
 use Rattle.turnstile.specs.declared.view.Stage.TheVariants.{Out}
-use Rattle.turnstile.specs.Views.{after_turn, first_view, made_of, newcomer, notes, one_less}
+use Rattle.turnstile.specs.Views.{after_turn, made_of, newcomer, notes}
 use Rattle.turnstile.specs.Steps.{Found, Gathers, HeardBy}
-use Rattle.turnstile.specs.Passes.{Holding, IsReady, Stays, Turned, Unturned, fresh_pass, holding_of, known_by, knows, seen_by}
+use Rattle.turnstile.specs.Passes.{Holding, IsReady, Stays, Turned, Unturned, holding_of, known_by, knows, seen_by}
 
 -- who gathered what two knew, and may find a chest: so may each of them
 pub found_mine : {C H : Type 0} (charter : C → H) (sound : C → Type 0) (book : C → FrontedBook) (mine theirs both : Known H) (chest : C) → Gathers mine theirs both → Found charter sound book both chest → Found charter sound book mine chest
@@ -146,7 +145,7 @@ module _ {S C H N : Type 0} where
         seen_by_both (knows a).own (knows b).own k.both m n em en k.gathers ∙ sym (ap (λ (z : Known H). last_seen z.book.book) both),
       )
 
--- PASSES DEALT OUT AND GATHERED
+-- PASSES GATHERED
 
 module _ {S C H N : Type 0} where
   pub heard_more : (s t u : Seat S (View C H N)) → IsReady (knows s).parts s → IsReady 1 t → u.me.1 ≡ s.me.1 → HeardBy (knows s) (knows t) (knows u) → IsReady (knows u).parts u × ((knows u).parts ≡ (knows s).parts + 1)
@@ -169,33 +168,6 @@ module _ {S C H N : Type 0} where
         subst (λ (p : Holding H N). Found charter sound book (known_by p) chest) same (found_theirs charter sound book (knows s).own (knows t).own h.both chest h.gathers f'),
         found_mine charter sound book (knows s).own (knows t).own h.both chest h.gathers f',
       )
-
-  -- a seat that was dealt out of one with the first view, or is what is left of it, is that of a new pass
-  pub record Dealt (charter : C → H) (book : C → FrontedBook) (key : Opening C) (d : Seat S (View C H N)) : Type 0 where
-    pub ready : IsReady 1 d
-    pub seen : (knows d).own.book ≡ book key.start.chest
-    pub shows : holding_of d ≡ fresh_pass charter book d.table_id key.start.chest key.start.told
-
-  pub dealt : (charter : C → H) (book : C → FrontedBook) (key : Opening C) (d : Seat S (View C H N)) → d.me ≡ (record (first_view charter book key) { parts = 1 }, []) → Dealt charter book key d
-  dealt charter book key d is = record {
-    ready = record {
-      live = ap (λ (m : Me S (View C H N)). m.0.live) is;
-      parts_is = ap (λ (m : Me S (View C H N)). m.0.parts) is;
-      idle = ap (λ (m : Me S (View C H N)). m.0.stage) is;
-      carries = ap (λ (m : Me S (View C H N)). m.1) is;
-    };
-    seen = ap (λ (m : Me S (View C H N)). m.0.own.book) is;
-    shows = λ i. record { table = d.table_id; charter = (is i).0.own.charter; told = (is i).0.own.told; book = (is i).0.own.book; made = (is i).0.made };
-  }
-
-  -- the parts that are left after one is dealt out
-  pub less_one : (charter : C → H) (book : C → FrontedBook) (key : Opening C) (s t : Seat S (View C H N)) (k k' : ℕ) → s.me ≡ (record (first_view charter book key) { parts = k }, []) → t.me ≡ (one_less (knows s), s.me.1) → k - 1 ≡ k'
-      → t.me ≡ (record (first_view charter book key) { parts = k' }, [])
-  less_one charter book key s t k k' is left e = left ∙ (ap (λ (m : Me S (View C H N)). (one_less m.0, m.1)) is ∙ ap (λ (j : ℕ). (record (first_view charter book key) { parts = j }, [])) e)
-
-  pub one_of : (charter : C → H) (book : C → FrontedBook) (key : Opening C) (s d : Seat S (View C H N)) (k : ℕ) → s.me ≡ (record (first_view charter book key) { parts = k }, []) → d.me ≡ (newcomer 1 (knows s), [])
-      → d.me ≡ (record (first_view charter book key) { parts = 1 }, [])
-  one_of charter book key s d k is taken = taken ∙ ap (λ (m : Me S (View C H N)). (newcomer 1 m.0, [])) is
 
 -- LISTS OF PASSES
 

@@ -15,10 +15,6 @@ use Rattle.turnstile.specs.Views.{Slot, parts_of}
 use Rattle.turnstile.specs.Rule.{Agree, Holds, Kept, Stands}
 use Rattle.turnstile.proofs.Seats.{each_set, each_snoc, inside, total_set, total_snoc}
 
-pub agree_sym : (a b : FrontedBook) → Agree a b → Agree b a
-agree_sym a b (inl p) = inr p
-agree_sym a b (inr p) = inl p
-
 -- WHO HAS THE TURN
 
 -- a view that has no turn, since the chest is home, stands wherever the turn goes
