@@ -12,7 +12,7 @@ use Rattle.turnstile.specs.declared.view.Stage.{Stage}
 use Rattle.turnstile.specs.declared.view.Stage.TheVariants.{Idle, Out}
 use Rattle.turnstile.specs.declared.view.View.{View}
 use Rattle.turnstile.specs.Views.{Slot, parts_of}
-use Rattle.turnstile.specs.Rule.{Agree, Holds, Kept, Stands}
+use Rattle.turnstile.specs.Rule.{Holds, Kept, Stands}
 use Rattle.turnstile.proofs.Seats.{each_set, each_snoc, inside, total_set, total_snoc}
 
 -- WHO HAS THE TURN
