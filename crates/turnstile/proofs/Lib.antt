@@ -1,0 +1,5 @@
+mod OneField
+pub mod Seats
+pub mod Rules
+pub mod Moves
+pub mod Held

@@ -1,0 +1,29 @@
+//! A turnstile: one value behind one atomic word, which passes take in turn.
+//!
+//! A `Chest` is a value with a book of truncations, which commands change: a cache, or a board of jobs. A `Turnstile`
+//! keeps it in one slot, and whoever has a `Pass` takes it out, does one command and puts it back, from any thread.
+//! Promises, for every chest: each turn is one command on the one chest, whose book answers for all that the pass had
+//! seen; the pass has then seen what the turn left, and its list gained one note. After `meet` both passes have a book
+//! that answers for both. `close` gives the chest back once all passes are returned.
+//! Stands on truncation_list (books), trace (data for contracts alone) and atomic_table (the atomic steps).
+#![tactic(auto)]
+
+mod chest;
+mod deal;
+mod entry;
+mod gate;
+mod pass;
+mod start;
+mod steps;
+mod turns;
+mod turnstile;
+mod view;
+
+pub use chest::Chest;
+pub use entry::Entry;
+pub use pass::Pass;
+pub use turnstile::Turnstile;
+pub use view::{Known, Made};
+
+#[cfg(test)]
+mod tests;
