@@ -1,10 +1,11 @@
 -- The text of a tile: a binary PPM image (the Netpbm description of PPM), its part of the picture of a render.
-use Rattle.std.specs.Prelude.{ℕ, ◌+◌, ◌*◌, List, [], ◌∷◌, ◌++◌, Option, Some, None, codes, decimal}
+use Rattle.std.specs.Prelude.{ℕ, ◌+◌, ◌*◌, List, [], ◌∷◌, ◌++◌, Option, Some, None}
 use Rattle.std.specs.List.{flat_map, range_with_len}
 use Rattle.catalog.specs.declared.catalogue.Catalogue.{Catalogue}
 use Rattle.catalog.specs.LookUp.{matrix_of}
 use Rattle.matrix_geometry.specs.declared.address.Address.{Address}
 use Rattle.matrix_geometry.specs.declared.matrix.Matrix.{Matrix}
+use Rattle.metatile_plan.specs.Texts.{header}
 use Rattle.raster_field.specs.declared.colour.Colour.{Colour}
 use Rattle.raster_field.specs.Picture.{Scene, scene_of, colour_at}
 
@@ -19,9 +20,6 @@ pixel_row s x y width = flat_map (λ i. bytes_of (colour_at s (x + i) y)) (range
 abbrev pub tile_pixels : Scene → ℕ → ℕ → List ℕ
 tile_pixels s row col =
     flat_map (λ j. pixel_row s (col * s.matrix.tile_w) (row * s.matrix.tile_h + j) s.matrix.tile_w) (range_with_len 0 s.matrix.tile_h)
-
-abbrev pub header : Matrix → List ℕ
-header m = codes "P6\n" ++ decimal m.tile_w ++ codes " " ++ decimal m.tile_h ++ codes "\n255\n"
 
 -- the pixels of a tile in a scene, if the catalogue has that scene
 abbrev pub pixels_in : Option Scene → ℕ → ℕ → List ℕ

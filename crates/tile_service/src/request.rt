@@ -3,7 +3,8 @@ ghost use Rattle.cabinet.specs.Commands.{IsSound};
 ghost use Rattle.catalog.specs.LookUp.{IsTile};
 ghost use Rattle.catalog.specs.Valid.{IsValid};
 ghost use Rattle.causes.specs.Causes.{Rose};
-ghost use Rattle.raster_field.specs.TileText.{tile_text, header};
+ghost use Rattle.metatile_plan.specs.Texts.{header};
+ghost use Rattle.raster_field.specs.TileText.{tile_text};
 ghost use Rattle.tile_service.specs.Requests.{Chance, got, IsTrueTile, IsOf, Serves};
 
 use crate::outcome::Outcome;
