@@ -4,6 +4,7 @@
 //! Stands on matrix_geometry.
 #![tactic(auto)]
 
+pub mod keys;
 pub mod metatile;
 pub mod span;
 pub mod window;
