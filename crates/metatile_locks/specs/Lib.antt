@@ -1,1 +1,3 @@
 pub mod Tickets
+pub mod Running
+pub mod Calls

@@ -6,4 +6,5 @@
 #![tactic(auto)]
 
 pub mod render;
+pub mod replies;
 pub mod ticket;
