@@ -1,84 +1,125 @@
--- What contracts see of a cabinet, and its commands, a row for each reply.
-use Rattle.std.specs.Prelude.{ℕ, ◌≡◌, ◌+◌, ◌-◌, ◌^◌, ◌≤◌, List, [], ◌∷◌, ◌++◌, length, map, Some, None, find, All, ⊤}
-use Rattle.std.specs.Option.{option_map_or}
+-- The commands of a cabinet, a row for each reply: where it comes, and the cabinet after it.
+use Rattle.std.specs.Prelude.{ℕ, ◌≡◌, ◌≤◌, ◌<◌, ◌⊎◌, List, length, Option, Some, None, IsSome, ⊤}
 use Rattle.catalog.specs.declared.catalogue.Catalogue.{Catalogue}
 use Rattle.matrix_geometry.specs.declared.address.Address.{Address}
+use Rattle.metatile_locks.specs.declared.render.Render.{Render}
+use Rattle.metatile_locks.specs.Running.{running_for, render_of}
+use Rattle.metatile_locks.specs.Tickets.{Ticketed}
+use Rattle.metatile_plan.specs.declared.metatile.MetaKey.{MetaKey}
+use Rattle.raster_field.specs.Blocks.{block_of, tile_part}
 use Rattle.raster_field.specs.TileText.{tile_text}
-use Rattle.cabinet.specs.declared.asked.Asked.{Asked}
-use Rattle.cabinet.specs.declared.asked.Asked.TheVariants.{Hit, Ticket, Spent}
-use Rattle.cabinet.specs.declared.entry.Entry.{Entry}
-use Rattle.cabinet.specs.declared.entry.Entry.TheVariants.{Started, Stored, Used}
-use Rattle.cabinet.specs.declared.render.KeptTile.{KeptTile}
-use Rattle.cabinet.specs.declared.render.Render.{Render}
+use Rattle.truncation_list.specs.declared.book.Book.{Book}
+use Rattle.truncation_list.specs.declared.cover.Cover.{Cover}
+use Rattle.truncation_list.specs.Purge.{purged}
+use Rattle.cabinet.specs.declared.entry.Entry.TheVariants as entry
+use Rattle.cabinet.specs.declared.kept.Kept.{Kept}
+use Rattle.cabinet.specs.declared.replies.Asked.{Asked}
+use Rattle.cabinet.specs.declared.replies.Asked.TheVariants as asked
+use Rattle.cabinet.specs.declared.replies.Forced.{Forced}
+use Rattle.cabinet.specs.declared.replies.Forced.TheVariants as forced
+use Rattle.cabinet.specs.declared.replies.Finished.{Finished}
+use Rattle.cabinet.specs.declared.replies.Finished.TheVariants as finished
+use Rattle.cabinet.specs.declared.replies.CutReply.{CutReply}
+use Rattle.cabinet.specs.declared.replies.CutReply.TheVariants as cut
 use Rattle.cabinet.specs.Fresh.{IsFresh}
-use Rattle.cabinet.specs.History.{History, Standing, nothing, standing, kept_as, ticket_for, next, render_of, Possible}
-use Rattle.cabinet.specs.Places.{is_of, shelved}
+use Rattle.cabinet.specs.Gaps.{gap_for}
+use Rattle.cabinet.specs.History.{Standing, kept_of, but, next, numbers, least_of}
+use Rattle.cabinet.specs.State.{State, now, with_entry, with_blob, with_cut, kept_text}
 
--- a cabinet: its catalogue, the number of its opening, what happened in it, and the tiles that it keeps
-pub record State : Type 0 where
-  pub catalogue : Catalogue
-  pub opening : ℕ
-  pub history : History
-  pub tiles : List KeptTile
+-- ASK AND FORCE
 
--- what stands now
-abbrev pub now : State → Standing
-now s = standing (nothing s.opening) s.history
+-- no render of the metatile runs, and the next number is given for it
+pub record IsGiven (s : State) (m : MetaKey) (t : Ticketed) (new : State) : Type 0 where
+  pub none_runs : running_for m (now s).out ≡ None
+  pub number : next s.opening (now s) ≡ Some t.number
+  pub meta : t.meta ≡ m
+  pub state : new ≡ with_entry s (entry.Started t.number m)
 
--- a cabinet in memory in which nothing has happened
-abbrev pub fresh_state : Catalogue → State
-fresh_state c = record { catalogue = c; opening = 0; history = []; tiles = [] }
+-- a render of the metatile runs that is not overtaken, and has this number
+abbrev pub IsBusy : State → MetaKey → ℕ → State → Type 0
+IsBusy s m k new = (running_for m (now s).out ≡ Some k) × (new ≡ s)
 
--- the cabinet after an entry that keeps and drops no text
-abbrev pub with_entry : State → Entry → State
-with_entry s e = record { catalogue = s.catalogue; opening = s.opening; history = s.history ++ e ∷ []; tiles = s.tiles }
+-- none runs, and no number is left
+abbrev pub IsSpent : State → MetaKey → State → Type 0
+IsSpent s m new = (running_for m (now s).out ≡ None) × (next s.opening (now s) ≡ None) × (new ≡ s)
 
--- the cabinet after the text of a render is kept
-abbrev pub with_text : State → ℕ → Address → List ℕ → State
-with_text s k a text =
-    record { catalogue = s.catalogue; opening = s.opening; history = s.history ++ Stored k a ∷ []; tiles = shelved (record { render = render_of k a; text = text }) s.tiles }
+-- the metatile is kept under this number, and these bytes are the tile's part of its blob
+pub record IsHit (s : State) (a : Address) (k : ℕ) (bytes : List ℕ) (new : State) : Type 0 where
+  pub kept : Kept
+  pub is_kept : kept_of (block_of s.catalogue a) (now s) ≡ Some kept
+  pub number : k ≡ kept.number
+  pub part : bytes ≡ tile_part s.catalogue a (kept_text s (block_of s.catalogue a))
+  pub state : new ≡ with_entry s (entry.Used (block_of s.catalogue a))
 
--- the text that is kept for a tile
-abbrev pub kept_text : State → Address → List ℕ
-kept_text s a = option_map_or (λ t. t.text) (find (λ t. is_of a t.render) s.tiles) []
-
--- each text that is kept is that of its tile in the picture of its number
-abbrev pub IsSound : State → Type 0
-IsSound s = All (λ t. t.text ≡ tile_text s.catalogue t.render.number t.render.address) s.tiles
-
--- the history is one that commands can make
-abbrev pub IsPossible : State → Type 0
-IsPossible s = Possible (nothing s.opening) s.history
-
--- ASK: a reply to s, and the cabinet after it
+abbrev pub IsUnkept : State → Address → Type 0
+IsUnkept s a = kept_of (block_of s.catalogue a) (now s) ≡ None
 
 abbrev pub Asks : State → Address → Asked → State → Type 0
-Asks s a (Hit k bytes) t = (kept_as a (now s) ≡ Some k) × (bytes.items ≡ kept_text s a) × (t ≡ with_entry s (Used a))
-Asks s a (Ticket k) t = (kept_as a (now s) ≡ None) × (next s.opening (now s) ≡ Some k) × (t ≡ with_entry s (Started k a))
-Asks s a Spent t = (kept_as a (now s) ≡ None) × (next s.opening (now s) ≡ None) × (t ≡ s)
+Asks s a (asked.Hit k bytes) new = IsHit s a k bytes.items new
+Asks s a (asked.Busy k) new = IsUnkept s a × IsBusy s (block_of s.catalogue a) k new
+Asks s a asked.Spent new = IsUnkept s a × IsSpent s (block_of s.catalogue a) new
+Asks s a (asked.Ticket t) new = IsUnkept s a × IsGiven s (block_of s.catalogue a) t new
 
--- a ticket that is given is out
-abbrev pub IsGiven : Address → Asked → State → Type 0
-IsGiven a (Hit k bytes) t = ⊤
-IsGiven a (Ticket k) t = ticket_for k (now t) ≡ Some a
-IsGiven a Spent t = ⊤
+abbrev pub Forces : State → MetaKey → Forced → State → Type 0
+Forces s m (forced.Busy k) new = IsBusy s m k new
+Forces s m forced.Spent new = IsSpent s m new
+Forces s m (forced.Ticket t) new = IsGiven s m t new
+
+-- FINISH AND ABANDON
+
+-- the ticket's render runs, with this mark
+abbrev pub Runs : State → Ticketed → Option ℕ → Type 0
+Runs s t mark = render_of t (now s).out ≡ Some (record { number = t.number; meta = t.meta; mark = mark })
+
+-- how many other metatiles are kept
+abbrev pub others : State → MetaKey → ℕ
+others s m = length (but m (now s).kept)
+
+-- where the ticket's blob of so many bytes would lie; the region of the metatile's older blob still counts as taken
+abbrev pub place_for : State → ℕ → Option ℕ
+place_for s bytes = gap_for s.catalogue (now s).kept bytes
+
+abbrev pub kept_at : Ticketed → ℕ → ℕ → Kept
+kept_at t place bytes = record { number = t.number; meta = t.meta; place = place; length = bytes }
+
+abbrev pub Finishes : State → Ticketed → List ℕ → Finished → State → Type 0
+Finishes s t blob finished.Stranger new = (render_of t (now s).out ≡ None) × (new ≡ s)
+Finishes s t blob (finished.Overtaken cut) new = Runs s t (Some cut) × (new ≡ with_entry s (entry.Ended t.number))
+Finishes s t blob finished.Full new = Runs s t None × (s.catalogue.kept_limit ≤ others s t.meta) × (new ≡ with_entry s (entry.Ended t.number))
+Finishes s t blob finished.NoRoom new =
+    Runs s t None × (others s t.meta < s.catalogue.kept_limit) × (place_for s (length blob) ≡ None) × (new ≡ with_entry s (entry.Ended t.number))
+Finishes s t blob finished.Kept new =
+    Runs s t None × (others s t.meta < s.catalogue.kept_limit) × ((place : ℕ) × (place_for s (length blob) ≡ Some place) × (new ≡ with_blob s (kept_at t place (length blob)) blob))
+
+-- a stranger's ticket changes nothing
+abbrev pub Abandons : State → Ticketed → State → Type 0
+Abandons s t new =
+    ((render_of t (now s).out ≡ None) × (new ≡ s)) ⊎ (IsSome (render_of t (now s).out) × (new ≡ with_entry s (entry.Ended t.number)))
+
+-- CUT
+
+-- the book that a purge for the cover would leave
+abbrev pub book_before : State → Cover → Book
+book_before s cover = purged (Some cover) (least_of (numbers (now s).out (now s).kept)) (now s).book
+
+abbrev pub Cuts : State → Cover → CutReply → State → Type 0
+Cuts s cover (cut.Done t) new =
+    (next s.opening (now s) ≡ Some t) × (length (book_before s cover).cuts < s.catalogue.cut_limit) × (new ≡ with_cut s t cover)
+Cuts s cover cut.Full new = IsSome (next s.opening (now s)) × (s.catalogue.cut_limit ≤ length (book_before s cover).cuts) × (new ≡ s)
+Cuts s cover cut.Spent new = (next s.opening (now s) ≡ None) × (new ≡ s)
+
+-- WHAT REPLIES PROMISE
 
 -- the bytes of a hit are the text of the tile
 abbrev pub IsTrueHit : Catalogue → Address → Asked → Type 0
-IsTrueHit c a (Hit k bytes) = bytes.items ≡ tile_text c k a
-IsTrueHit c a (Ticket k) = ⊤
-IsTrueHit c a Spent = ⊤
+IsTrueHit c a (asked.Hit k bytes) = bytes.items ≡ tile_text c k a
+IsTrueHit c a (asked.Ticket t) = ⊤
+IsTrueHit c a (asked.Busy k) = ⊤
+IsTrueHit c a asked.Spent = ⊤
 
--- what is handed out, or is to be rendered, is fresh at an ask when the history had p entries
-abbrev pub IsFreshReply : History → ℕ → Address → Asked → Type 0
-IsFreshReply h p a (Hit k bytes) = IsFresh h p a k
-IsFreshReply h p a (Ticket k) = IsFresh h p a k
-IsFreshReply h p a Spent = ⊤
-
--- WHAT HOLDS of the parts of a cabinet
-
-pub record IsConsistent (h : History) (last : ℕ) (tiles : List KeptTile) (renders : List Render) (room : ℕ) : Type 0 where
-  pub possible : Possible (nothing 0) h
-  pub stands : standing (nothing 0) h ≡ record { front = last; kept = map (λ t. t.render) tiles; out = renders }
-  pub left : last ≤ 2 ^ 40 - 1
-  pub has_room : length tiles + length renders ≤ room
+-- what is handed out, or is to be rendered, is fresh at the ask, at which the history of s stood
+abbrev pub IsFreshReply : State → Address → Asked → State → Type 0
+IsFreshReply s a (asked.Hit k bytes) new = IsFresh s.catalogue new.history (length s.history) a k
+IsFreshReply s a (asked.Ticket t) new = IsFresh s.catalogue new.history (length s.history) a t.number
+IsFreshReply s a (asked.Busy k) new = ⊤
+IsFreshReply s a asked.Spent new = ⊤

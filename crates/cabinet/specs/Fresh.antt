@@ -1,31 +1,119 @@
--- What a render must meet to answer a request for a tile whose ask was made when the history had p entries.
-use Rattle.std.specs.Prelude.{ℕ, ◌≡◌, [], ◌∷◌, take, ◌⊎◌, ⊤}
+-- Which histories are possible, what each of them keeps, and when a render is fresh.
+use Rattle.std.specs.Prelude.{ℕ, ◌≡◌, ◌≢◌, ◌+◌, ◌<◌, ◌≤◌, true, List, [], ◌∷◌, ◌++◌, take, fold, Option, Some, None, ◌⊎◌, IsSome, IsTrue, Contains, ⊤}
 use Rattle.std.specs.List.{AllByRecursion}
+use Rattle.catalog.specs.declared.catalogue.Catalogue.{Catalogue}
 use Rattle.matrix_geometry.specs.declared.address.Address.{Address}
+use Rattle.metatile_locks.specs.declared.render.Render.{Render}
+use Rattle.metatile_locks.specs.Running.{render_of, running_for, unmarked, OneRuns}
+use Rattle.metatile_plan.specs.declared.metatile.MetaKey.{MetaKey}
+use Rattle.raster_field.specs.Blocks.{block_of, blob_size, IsMeta}
+use Rattle.truncation_list.specs.declared.book.Cut.{Cut}
+use Rattle.truncation_list.specs.Books.{AnswersFor}
+use Rattle.truncation_list.specs.Purge.{IsInOrder}
 use Rattle.cabinet.specs.declared.entry.Entry.{Entry}
-use Rattle.cabinet.specs.declared.entry.Entry.TheVariants.{Started, Stored, Ended, Used}
-use Rattle.cabinet.specs.History.{History}
+use Rattle.cabinet.specs.declared.entry.Entry.TheVariants as entry
+use Rattle.cabinet.specs.declared.kept.Kept.{Kept}
+use Rattle.cabinet.specs.Gaps.{gap_for}
+use Rattle.cabinet.specs.History.{History, Standing, after, kept_of}
+use Rattle.cabinet.specs.Hits.{hits_of, covers_in, IsCoverOf}
 
--- the entry begins or keeps the render k of the tile
-abbrev pub IsRenderOf : ℕ → Address → Entry → Type 0
-IsRenderOf k a (Started j b) = (j ≡ k) × (b ≡ a)
-IsRenderOf k a (Stored j b) = (j ≡ k) × (b ≡ a)
-IsRenderOf k a (Ended j) = ⊥
-IsRenderOf k a (Used b) = ⊥
+-- WHICH HISTORIES ARE POSSIBLE
 
--- the render k of the tile stands in the history
-abbrev pub Stands : ℕ → Address → History → Type 0
-Stands k a [] = ⊥
-Stands k a (e ∷ es) = IsRenderOf k a e ⊎ Stands k a es
+-- the entry comes where the commands let it
+abbrev pub May : Catalogue → Standing → Entry → Type 0
+May c s (entry.Started k m) = (k ≡ s.front + 1) × (running_for m s.out ≡ None) × IsMeta c m
+May c s (entry.Cut t cover) = (t ≡ s.front + 1) × IsCoverOf c cover
+May c s (entry.Missed t) = t ≡ s.front + 1
+May c s (entry.Stored k m place length) =
+    (render_of (record { number = k; meta = m }) s.out ≡ Some (unmarked k m)) × (length ≡ blob_size c m) × (gap_for c s.kept length ≡ Some place)
+May c s (entry.Ended k) = ⊤
+May c s (entry.Used m) = IsSome (kept_of m s)
+May c s (entry.Dropped m) = IsSome (kept_of m s)
 
--- the render k is newer than the entry, where the entry is a truncation that covers the tile; no entry is one yet
-abbrev pub IsNoOlder : ℕ → Address → Entry → Type 0
-IsNoOlder k a (Started j b) = ⊤
-IsNoOlder k a (Stored j b) = ⊤
-IsNoOlder k a (Ended j) = ⊤
-IsNoOlder k a (Used b) = ⊤
+abbrev pub Possible : Catalogue → Standing → History → Type 0
+Possible c s [] = ⊤
+Possible c s (e ∷ es) = May c s e × Possible c (after c s e) es
 
--- a render of the tile, newer than each truncation of the first p entries that covers it
-pub record IsFresh (h : History) (p : ℕ) (a : Address) (k : ℕ) : Type 0 where
-  pub stands : Stands k a h
-  pub above : AllByRecursion (IsNoOlder k a) (take p h)
+-- THE CUTS of a history, purged ones too
+
+abbrev pub cuts_after : List Cut → Entry → List Cut
+cuts_after cuts (entry.Started k m) = cuts
+cuts_after cuts (entry.Cut t cover) = cuts ++ record { number = t; cover = cover } ∷ []
+cuts_after cuts (entry.Missed t) = cuts
+cuts_after cuts (entry.Stored k m place length) = cuts
+cuts_after cuts (entry.Ended k) = cuts
+cuts_after cuts (entry.Used m) = cuts
+cuts_after cuts (entry.Dropped m) = cuts
+
+abbrev pub cuts_of : History → List Cut
+cuts_of h = fold cuts_after [] h
+
+-- WHAT EACH HISTORY KEEPS TO
+
+-- the number is above each of the cuts that hits the metatile
+abbrev pub IsNewer : Catalogue → List Cut → ℕ → MetaKey → Type 0
+IsNewer c cuts n m = AllByRecursion (λ k. IsTrue (hits_of c k.cover m) → k.number < n) cuts
+
+pub record HoldsOfKept (c : Catalogue) (cuts : List Cut) (front floor : ℕ) (t : Kept) : Type 0 where
+  pub given : t.number ≤ front
+  pub above_floor : floor < t.number
+  pub newer : IsNewer c cuts t.number t.meta
+
+pub record HoldsOfRender (c : Catalogue) (cuts : List Cut) (front floor : ℕ) (r : Render) : Type 0 where
+  pub given : r.number ≤ front
+  pub above_floor : floor < r.number
+  pub newer : r.mark ≡ None → IsNewer c cuts r.number r.meta
+
+-- what stands after a history with these cuts: each kept number, and each running one that is not overtaken, is above
+-- every cut that hits its metatile, purged ones too; the floor is below them all; and the book answers for every cut
+pub record Holds (c : Catalogue) (cuts : List Cut) (s : Standing) : Type 0 where
+  pub given : AllByRecursion (λ k. k.number ≤ s.front) cuts
+  pub floor_given : s.book.floor ≤ s.front
+  pub listed : AllByRecursion (λ k. Contains cuts k) s.book.cuts
+  pub order : IsInOrder s.book.cuts
+  pub answers : AllByRecursion (AnswersFor s.book) cuts
+  pub kept : AllByRecursion (HoldsOfKept c cuts s.front s.book.floor) s.kept
+  pub out : AllByRecursion (HoldsOfRender c cuts s.front s.book.floor) s.out
+
+-- any two of the list differ in what f says of them
+abbrev pub ApartBy : {X : Type 0} → (X → ℕ) → List X → Type 0
+ApartBy f [] = ⊤
+ApartBy f (x ∷ xs) = AllByRecursion (λ y. f x ≢ f y) xs × ApartBy f xs
+
+-- kept and running numbers differ, and of the renders of one metatile at most one is not overtaken
+pub record Differ (s : Standing) : Type 0 where
+  pub out : ApartBy (λ r. r.number) s.out
+  pub kept : ApartBy (λ t. t.number) s.kept
+  pub both : AllByRecursion (λ r. AllByRecursion (λ t. r.number ≢ t.number) s.kept) s.out
+  pub one_runs : OneRuns s.out
+
+-- FRESH
+
+-- the entry begins or keeps the render k of the metatile
+abbrev pub IsRenderOf : ℕ → MetaKey → Entry → Type 0
+IsRenderOf k m (entry.Started j n) = (j ≡ k) × (n ≡ m)
+IsRenderOf k m (entry.Cut t cover) = ⊥
+IsRenderOf k m (entry.Missed t) = ⊥
+IsRenderOf k m (entry.Stored j n place length) = (j ≡ k) × (n ≡ m)
+IsRenderOf k m (entry.Ended j) = ⊥
+IsRenderOf k m (entry.Used n) = ⊥
+IsRenderOf k m (entry.Dropped n) = ⊥
+
+abbrev pub Begins : ℕ → MetaKey → History → Type 0
+Begins k m [] = ⊥
+Begins k m (e ∷ es) = IsRenderOf k m e ⊎ Begins k m es
+
+-- the render k is newer than the entry, where the entry is a truncation that covers the tile
+abbrev pub IsNoOlder : Catalogue → ℕ → Address → Entry → Type 0
+IsNoOlder c k a (entry.Started j n) = ⊤
+IsNoOlder c k a (entry.Cut t cover) = IsTrue (covers_in c cover a) → t < k
+IsNoOlder c k a (entry.Missed t) = ⊤
+IsNoOlder c k a (entry.Stored j n place length) = ⊤
+IsNoOlder c k a (entry.Ended j) = ⊤
+IsNoOlder c k a (entry.Used n) = ⊤
+IsNoOlder c k a (entry.Dropped n) = ⊤
+
+-- k is a render of the tile's metatile, and newer than each truncation of the first p entries that covers the tile
+pub record IsFresh (c : Catalogue) (h : History) (p : ℕ) (a : Address) (k : ℕ) : Type 0 where
+  pub begins : Begins k (block_of c a) h
+  pub above : AllByRecursion (IsNoOlder c k a) (take p h)

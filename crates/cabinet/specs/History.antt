@@ -1,84 +1,113 @@
--- A history of a cabinet is the list of what happened in it, the oldest entry first. What stands after it, what is kept
--- and which renders run, is a function of the history.
-use Rattle.std.specs.Prelude.{ℕ, ◌≡◌, ◌+◌, ◌-◌, ◌*◌, ◌^◌, max, ◌==◌, nat_lt, if◌then◌else◌, List, [], ◌∷◌, ◌++◌, find, fold, Option, Some, None, IsSome}
-use Rattle.std.specs.Option.{option_map}
-use Rattle.matrix_geometry.specs.declared.address.Address.{Address}
+-- A history of a cabinet is the list of what happened in it, the oldest entry first. What stands after it, that is what
+-- is kept, which renders run, and the book of truncations, is a function of the history.
+use Rattle.std.specs.Prelude.{ℕ, ◌+◌, ◌-◌, ◌*◌, ◌^◌, max, Bool, not, ◌==◌, nat_lt, if◌then◌else◌, List, [], ◌∷◌, ◌++◌, map, filter, find, fold, Option, Some, None}
+use Rattle.std.specs.Option.{option_map, option_and_then}
+use Rattle.catalog.specs.declared.catalogue.Catalogue.{Catalogue}
+use Rattle.metatile_locks.specs.declared.render.Render.{Render}
+use Rattle.metatile_locks.specs.Running.{begun, marked, overtaken, without, unmarked}
+use Rattle.metatile_locks.specs.Tickets.{Ticketed}
+use Rattle.metatile_plan.specs.declared.metatile.MetaKey.{MetaKey}
+use Rattle.metatile_plan.specs.Keys.{same_meta}
+use Rattle.truncation_list.specs.declared.book.Book.{Book}
+use Rattle.truncation_list.specs.declared.cover.Cover.{Cover}
+use Rattle.truncation_list.specs.Purge.{empty_book, added}
 use Rattle.cabinet.specs.declared.entry.Entry.{Entry}
-use Rattle.cabinet.specs.declared.entry.Entry.TheVariants.{Started, Stored, Ended, Used}
-use Rattle.cabinet.specs.declared.render.Render.{Render}
-use Rattle.cabinet.specs.Places.{same_tile, is_of, has_number, but, without}
+use Rattle.cabinet.specs.declared.entry.Entry.TheVariants.{Started, Cut, Missed, Stored, Ended, Used, Dropped}
+use Rattle.cabinet.specs.declared.kept.Kept.{Kept}
+use Rattle.cabinet.specs.Hits.{hits_of}
 
 abbrev pub History : Type 0
 History = List Entry
 
 -- WHAT STANDS
 
--- the greatest number that was given, what is kept, and which renders are out
+-- the greatest number that was given, what is kept, the renders that run with the last cut that hit each, and the book
 pub record Standing : Type 0 where
   pub front : ℕ
-  pub kept : List Render
+  pub kept : List Kept
   pub out : List Render
+  pub book : Book
 
 -- nothing happened in the opening e, whose numbers are e * 2^40 + 1 and so on
 abbrev pub nothing : ℕ → Standing
-nothing e = record { front = e * 2 ^ 40; kept = []; out = [] }
+nothing e = record { front = e * 2 ^ 40; kept = []; out = []; book = empty_book }
 
-abbrev pub render_of : ℕ → Address → Render
-render_of k a = record { number = k; address = a }
+abbrev pub lesser : Option ℕ → ℕ → Option ℕ
+lesser None n = Some n
+lesser (Some m) n = if nat_lt n m then Some n else Some m
+
+abbrev pub least_of : List ℕ → Option ℕ
+least_of ns = fold lesser None ns
+
+-- the kept and the running numbers, those of overtaken renders included
+abbrev pub numbers : List Render → List Kept → List ℕ
+numbers out kept = map (λ r. r.number) out ++ map (λ t. t.number) kept
+
+abbrev pub is_of : MetaKey → Kept → Bool
+is_of m t = same_meta t.meta m
+
+-- what is kept but of this metatile
+abbrev pub but : MetaKey → List Kept → List Kept
+but m ts = filter (λ t. not (is_of m t)) ts
+
+-- what is kept that the cover does not hit
+abbrev pub spared : Catalogue → Cover → List Kept → List Kept
+spared c cover ts = filter (λ t. not (hits_of c cover t.meta)) ts
 
 -- what one entry does
-abbrev pub after : Standing → Entry → Standing
-after s (Started k a) = record { front = max s.front k; kept = s.kept; out = s.out ++ render_of k a ∷ [] }
-after s (Stored k a) = record { front = s.front; kept = but a s.kept ++ render_of k a ∷ []; out = without k s.out }
-after s (Ended k) = record { front = s.front; kept = s.kept; out = without k s.out }
-after s (Used a) = s
+abbrev pub after : Catalogue → Standing → Entry → Standing
+after c s (Started k m) = record { front = max s.front k; kept = s.kept; out = begun k m s.out; book = s.book }
+after c s (Cut t cover) =
+    record { front = max s.front t; kept = spared c cover s.kept; out = overtaken (hits_of c cover) t s.out; book = added t cover (least_of (numbers s.out s.kept)) s.book }
+after c s (Missed t) = record { front = max s.front t; kept = s.kept; out = s.out; book = s.book }
+after c s (Stored k m place length) =
+    record { front = s.front; kept = but m s.kept ++ record { number = k; meta = m; place = place; length = length } ∷ []; out = without k s.out; book = s.book }
+after c s (Ended k) = record { front = s.front; kept = s.kept; out = without k s.out; book = s.book }
+after c s (Used m) = s
+after c s (Dropped m) = record { front = s.front; kept = but m s.kept; out = s.out; book = s.book }
 
-abbrev pub standing : Standing → History → Standing
-standing s h = fold after s h
+abbrev pub standing : Catalogue → Standing → History → Standing
+standing c s h = fold (after c) s h
 
--- the number under which the tile is kept
-abbrev pub kept_as : Address → Standing → Option ℕ
-kept_as a s = option_map (λ r. r.number) (find (is_of a) s.kept)
-
--- the tile of a ticket, while it is out
-abbrev pub ticket_for : ℕ → Standing → Option Address
-ticket_for k s = option_map (λ r. r.address) (find (has_number k) s.out)
+-- what is kept of a metatile
+abbrev pub kept_of : MetaKey → Standing → Option Kept
+kept_of m s = find (is_of m) s.kept
 
 -- the next number of the opening e, while one of its 2^40 - 1 is left
 abbrev pub next : ℕ → Standing → Option ℕ
 next e s = if nat_lt s.front (e * 2 ^ 40 + (2 ^ 40 - 1)) then Some (s.front + 1) else None
 
--- WHICH HISTORIES ARE POSSIBLE
+-- ONE METATILE AND ONE NUMBER, a sentence each
 
--- the entry comes where the commands let it
-abbrev pub May : Standing → Entry → Type 0
-May s (Started k a) = k ≡ s.front + 1
-May s (Stored k a) = ticket_for k s ≡ Some a
-May s (Ended k) = IsSome (ticket_for k s)
-May s (Used a) = IsSome (kept_as a s)
+-- a metatile is kept from its Stored on, until a later Stored or Dropped of it or a later Cut that hits it
+abbrev pub kept_after : Catalogue → MetaKey → Option Kept → Entry → Option Kept
+kept_after c m was (Started k n) = was
+kept_after c m was (Cut t cover) = if hits_of c cover m then None else was
+kept_after c m was (Missed t) = was
+kept_after c m was (Stored k n place length) = if same_meta n m then Some (record { number = k; meta = n; place = place; length = length }) else was
+kept_after c m was (Ended k) = was
+kept_after c m was (Used n) = was
+kept_after c m was (Dropped n) = if same_meta n m then None else was
 
-abbrev pub Possible : Standing → History → Type 0
-Possible s [] = Unit {0}
-Possible s (e ∷ es) = May s e × Possible (after s e) es
+abbrev pub kept : Catalogue → History → MetaKey → Option Kept
+kept c h m = fold (kept_after c m) None h
 
--- ONE TILE AND ONE NUMBER, a sentence each
+-- a render runs from its Started on, until its Stored or Ended, with the last Cut since then that hit it
+abbrev pub render_after : Catalogue → ℕ → Option Render → Entry → Option Render
+render_after c k was (Started j n) = if j == k then Some (unmarked k n) else was
+render_after c k was (Cut t cover) = option_map (marked (hits_of c cover) t) was
+render_after c k was (Missed t) = was
+render_after c k was (Stored j n place length) = if j == k then None else was
+render_after c k was (Ended j) = if j == k then None else was
+render_after c k was (Used n) = was
+render_after c k was (Dropped n) = was
 
--- a tile is kept from its Stored on, until a later Stored of it
-abbrev pub kept_after : Address → Option ℕ → Entry → Option ℕ
-kept_after a was (Started k b) = was
-kept_after a was (Stored k b) = if same_tile b a then Some k else was
-kept_after a was (Ended k) = was
-kept_after a was (Used b) = was
+abbrev pub render : Catalogue → History → ℕ → Option Render
+render c h k = fold (render_after c k) None h
 
-abbrev pub kept : Address → History → Option ℕ
-kept a h = fold (kept_after a) None h
+-- the render of a ticket: none where its number does not run for its metatile
+abbrev pub of_meta : MetaKey → Render → Option Render
+of_meta m r = if same_meta r.meta m then Some r else None
 
--- a render runs from its Started on, until its Stored or its Ended
-abbrev pub running_after : ℕ → Option Address → Entry → Option Address
-running_after k was (Started j a) = if j == k then Some a else was
-running_after k was (Stored j a) = if j == k then None else was
-running_after k was (Ended j) = if j == k then None else was
-running_after k was (Used a) = was
-
-abbrev pub running : ℕ → History → Option Address
-running k h = fold (running_after k) None h
+abbrev pub ticket_render : Catalogue → History → Ticketed → Option Render
+ticket_render c h t = option_and_then (of_meta t.meta) (render c h t.number)

@@ -1,4 +1,6 @@
-pub mod Places
+pub mod Hits
+pub mod Gaps
 pub mod History
 pub mod Fresh
+pub mod State
 pub mod Commands

@@ -1,5 +1,5 @@
 -- The calls of a lock table, a line for each reply.
-use Rattle.std.specs.Prelude.{◌≡◌, ℕ, List, Some, None}
+use Rattle.std.specs.Prelude.{◌≡◌, ℕ, List, Option, Some, None}
 use Rattle.metatile_plan.specs.declared.metatile.MetaKey.{MetaKey}
 use Rattle.metatile_locks.specs.declared.render.Render.{Render}
 use Rattle.metatile_locks.specs.declared.replies.Begin.{Begin}
@@ -14,7 +14,7 @@ Begins rs m k (begins.Busy j) new = (running_for m rs ≡ Some j) × (new ≡ rs
 Begins rs m k (begins.Ticket t) new = (running_for m rs ≡ None) × (t ≡ record { number = k; meta = m }) × (new ≡ begun k m rs)
 
 -- the render of the ticket stands, with this mark
-abbrev pub Stands : List Render → Ticketed → Rattle.std.specs.Prelude.Option ℕ → Type 0
+abbrev pub Stands : List Render → Ticketed → Option ℕ → Type 0
 Stands rs t mark = render_of t rs ≡ Some (record { number = t.number; meta = t.meta; mark = mark })
 
 abbrev pub Ends : List Render → Ticketed → End → List Render → Type 0

@@ -1,5 +1,5 @@
 -- The renders that run, and the marks of those that a truncation overtook.
-use Rattle.std.specs.Prelude.{ℕ, ◌≡◌, ◌<◌, Bool, false, ◌==◌, ◌&&◌, not, is_none, if◌then◌else◌, List, [], ◌∷◌, ◌++◌, map, filter, find, Option, Some, None, slice_get}
+use Rattle.std.specs.Prelude.{ℕ, ◌≡◌, ◌<◌, Bool, true, false, ◌==◌, ◌&&◌, not, is_none, if◌then◌else◌, List, [], ◌∷◌, ◌++◌, map, filter, find, Option, Some, None, slice_get}
 use Rattle.std.specs.List.{AllByRecursion}
 use Rattle.std.specs.Option.{option_map, option_map_or}
 use Rattle.catalog.specs.declared.grid.Grid.{Grid}
@@ -73,7 +73,7 @@ overtaken is_hit t rs = map (marked is_hit t) rs
 -- of the renders of one metatile at most one is not overtaken
 abbrev pub OneRuns : List Render → Type 0
 OneRuns [] = Unit {0}
-OneRuns (r ∷ rs) = AllByRecursion (λ x. same_meta x.meta r.meta ≡ Rattle.std.specs.Prelude.true → r.mark ≡ None → x.mark ≡ None → ⊥) rs × OneRuns rs
+OneRuns (r ∷ rs) = AllByRecursion (λ x. same_meta x.meta r.meta ≡ true → r.mark ≡ None → x.mark ≡ None → ⊥) rs × OneRuns rs
 
 -- the number is above those of all the renders
 abbrev pub IsAboveAll : ℕ → List Render → Type 0

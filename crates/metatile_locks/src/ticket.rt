@@ -29,7 +29,7 @@ impl Ticket {
         }
     }
 
-    pub(crate) fn spend(self) -> (u64, MetaKey)
+    pub fn spend(self) -> (u64, MetaKey)
         ensures { self ≡ record { number = result.0; meta = result.1 } }
     {
         let Ticket { number, meta } = self;

@@ -1,0 +1,64 @@
+-- What contracts see of a cabinet.
+use Rattle.std.specs.Prelude.{ℕ, ◌≡◌, ◌+◌, ◌*◌, ◌-◌, ◌^◌, ◌≤◌, ◌<◌, List, [], ◌∷◌, ◌++◌, length, map, filter, find, not, Some, None, ⊤}
+use Rattle.std.specs.List.{AllByRecursion}
+use Rattle.std.specs.Option.{option_map_or}
+use Rattle.catalog.specs.declared.catalogue.Catalogue.{Catalogue}
+use Rattle.catalog.specs.Valid.{IsValid}
+use Rattle.metatile_plan.specs.declared.metatile.MetaKey.{MetaKey}
+use Rattle.raster_field.specs.Blocks.{block_text, blob_size}
+use Rattle.truncation_list.specs.declared.cover.Cover.{Cover}
+use Rattle.cabinet.specs.declared.entry.Entry.{Entry}
+use Rattle.cabinet.specs.declared.entry.Entry.TheVariants as entry
+use Rattle.cabinet.specs.declared.kept.Kept.{Kept}
+use Rattle.cabinet.specs.declared.kept.KeptBlob.{KeptBlob}
+use Rattle.cabinet.specs.Fresh.{Possible}
+use Rattle.cabinet.specs.History.{History, Standing, nothing, standing, is_of}
+use Rattle.cabinet.specs.Hits.{hits_of}
+
+-- a cabinet: its catalogue, the number of its opening, what happened in it, and the blobs that it keeps
+pub record State : Type 0 where
+  pub catalogue : Catalogue
+  pub opening : ℕ
+  pub history : History
+  pub blobs : List KeptBlob
+
+-- what stands now
+abbrev pub now : State → Standing
+now s = standing s.catalogue (nothing s.opening) s.history
+
+-- a cabinet in memory in which nothing has happened
+abbrev pub fresh_state : Catalogue → State
+fresh_state c = record { catalogue = c; opening = 0; history = []; blobs = [] }
+
+-- the cabinet after an entry that keeps and drops no blob
+abbrev pub with_entry : State → Entry → State
+with_entry s e = record { catalogue = s.catalogue; opening = s.opening; history = s.history ++ e ∷ []; blobs = s.blobs }
+
+-- the cabinet after a blob is kept
+abbrev pub with_blob : State → Kept → List ℕ → State
+with_blob s t text =
+    record { catalogue = s.catalogue; opening = s.opening; history = s.history ++ entry.Stored t.number t.meta t.place t.length ∷ []; blobs = filter (λ b. not (is_of t.meta b.kept)) s.blobs ++ record { kept = t; text = text } ∷ [] }
+
+-- the cabinet after a truncation
+abbrev pub with_cut : State → ℕ → Cover → State
+with_cut s t cover =
+    record { catalogue = s.catalogue; opening = s.opening; history = s.history ++ entry.Cut t cover ∷ []; blobs = filter (λ b. not (hits_of s.catalogue cover b.kept.meta)) s.blobs }
+
+-- the blob that is kept of a metatile
+abbrev pub kept_text : State → MetaKey → List ℕ
+kept_text s m = option_map_or (λ b. b.text) (find (λ b. is_of m b.kept) s.blobs) []
+
+-- WHAT HOLDS OF EACH CABINET
+
+-- its catalogue is valid, its history is one that commands can make, its blobs are those that the history keeps, each of its
+-- metatile's length
+pub record IsKnown (s : State) : Type 0 where
+  pub valid : IsValid s.catalogue
+  pub possible : Possible s.catalogue (nothing s.opening) s.history
+  pub blobs : map (λ b. b.kept) s.blobs ≡ (now s).kept
+  pub lengths : AllByRecursion (λ b. (length b.text ≡ b.kept.length) × (b.kept.length ≡ blob_size s.catalogue b.kept.meta)) s.blobs
+  pub left : (now s).front ≤ s.opening * 2 ^ 40 + (2 ^ 40 - 1)
+
+-- SOUND: each blob that is kept is that of its metatile in the picture of its number
+abbrev pub IsSound : State → Type 0
+IsSound s = AllByRecursion (λ b. b.text ≡ block_text s.catalogue b.kept.number b.kept.meta) s.blobs

@@ -1,0 +1,20 @@
+use exact_ratio::words::Words;
+use metatile_plan::metatile::MetaKey;
+
+/// A metatile that is kept: the number of its render, and where its blob lies.
+#[derive(Clone, Copy, Debug, PartialEq, Eq)]
+pub struct Kept {
+    pub number: u64,
+    pub meta: MetaKey,
+    /// Where its region starts, in bytes from the start of the blobs.
+    pub place: u64,
+    /// How many bytes its region has.
+    pub length: u32,
+}
+
+/// A kept metatile with its blob, which lies in memory.
+#[derive(Drop)]
+pub struct KeptBlob {
+    pub kept: Kept,
+    pub text: Words,
+}

@@ -1,0 +1,49 @@
+use metatile_locks::ticket::Ticket;
+
+/// What an ask is answered.
+pub enum Asked {
+    /// The metatile of the tile is kept: the number of its render, and the text of the tile.
+    Hit(u64, Vec<u8>),
+    /// The caller is to render the metatile, and then to finish or abandon it.
+    Ticket(Ticket),
+    /// A render of the metatile runs that is not overtaken, with this number.
+    Busy(u64),
+    /// The metatile is not kept, no render of it runs, and no number is left.
+    Spent,
+}
+
+/// What a force is answered.
+pub enum Forced {
+    /// The caller is to render the metatile, and then to finish or abandon it.
+    Ticket(Ticket),
+    /// A render of the metatile runs that is not overtaken, with this number.
+    Busy(u64),
+    /// No render of the metatile runs, and no number is left.
+    Spent,
+}
+
+/// What a finish is answered. In all cases but `Stranger` the render has ended.
+#[derive(Clone, Copy, Debug, PartialEq, Eq)]
+pub enum Finished {
+    /// No render of the ticket's number and metatile runs here; nothing changed.
+    Stranger,
+    /// The last truncation that overtook the render has this number; nothing is kept of it.
+    Overtaken(u64),
+    /// As many other metatiles are kept as may be; nothing is kept of the render.
+    Full,
+    /// No gap between the kept regions has room for the blob; nothing is kept of the render.
+    NoRoom,
+    /// The blob is kept.
+    Kept,
+}
+
+/// What a cut is answered.
+#[derive(Clone, Copy, Debug, PartialEq, Eq)]
+pub enum CutReply {
+    /// The truncation was done, and has this number.
+    Done(u64),
+    /// As many cuts would stay in force as may be; nothing changed.
+    Full,
+    /// No number is left; nothing changed.
+    Spent,
+}
