@@ -1,5 +1,5 @@
 -- The calls of a lock table, a line for each reply.
-use Rattle.std.specs.Prelude.{◌≡◌, ℕ, List, Option, Some, None}
+use Rattle.std.specs.Prelude.{◌≡◌, ◌+◌, ℕ, List, Option, Some, None}
 use Rattle.metatile_plan.specs.declared.metatile.MetaKey.{MetaKey}
 use Rattle.metatile_locks.specs.declared.render.Render.{Render}
 use Rattle.metatile_locks.specs.declared.replies.Begin.{Begin}
@@ -12,6 +12,11 @@ use Rattle.metatile_locks.specs.Tickets.{Ticketed}
 abbrev pub Begins : List Render → MetaKey → ℕ → Begin → List Render → Type 0
 Begins rs m k (begins.Busy j) new = (running_for m rs ≡ Some j) × (new ≡ rs)
 Begins rs m k (begins.Ticket t) new = (running_for m rs ≡ None) × (t ≡ record { number = k; meta = m }) × (new ≡ begun k m rs)
+
+-- a ticket takes up the room of one render
+abbrev pub TakesRoom : Begin → ℕ → ℕ → Type 0
+TakesRoom (begins.Busy j) old new = new ≡ old
+TakesRoom (begins.Ticket t) old new = new + 1 ≡ old
 
 -- the render of the ticket stands, with this mark
 abbrev pub Stands : List Render → Ticketed → Option ℕ → Type 0

@@ -1,5 +1,5 @@
 -- The renders that run, and the marks of those that a truncation overtook.
-use Rattle.std.specs.Prelude.{ℕ, ◌≡◌, ◌<◌, Bool, true, false, ◌==◌, ◌&&◌, not, is_none, if◌then◌else◌, List, [], ◌∷◌, ◌++◌, map, filter, find, Option, Some, None, slice_get}
+use Rattle.std.specs.Prelude.{ℕ, ◌≡◌, ◌<◌, ◌≤◌, Bool, true, false, ◌==◌, ◌&&◌, not, is_none, if◌then◌else◌, List, [], ◌∷◌, ◌++◌, map, filter, find, Option, Some, None, IsSome, IsSomeAnd, slice_get, ⊤}
 use Rattle.std.specs.List.{AllByRecursion}
 use Rattle.std.specs.Option.{option_map, option_map_or}
 use Rattle.catalog.specs.declared.grid.Grid.{Grid}
@@ -7,7 +7,7 @@ use Rattle.matrix_geometry.specs.declared.matrix.Matrix.{Matrix}
 use Rattle.metatile_plan.specs.declared.metatile.Factors.{Factors}
 use Rattle.metatile_plan.specs.declared.metatile.MetaKey.{MetaKey}
 use Rattle.metatile_plan.specs.Keys.{same_meta}
-use Rattle.metatile_plan.specs.Plan.{tiles_of}
+use Rattle.metatile_plan.specs.Plan.{tiles_of, IsPlan, IsMetaIn}
 use Rattle.truncation_list.specs.declared.block.Block.{Block}
 use Rattle.truncation_list.specs.declared.cover.Cover.{Cover}
 use Rattle.truncation_list.specs.Covers.{hits}
@@ -61,6 +61,11 @@ block f x m = record { theme = m.theme; grid = m.grid; z = m.z; tiles = tiles_of
 abbrev pub hits_in : Factors → Grid → Cover → MetaKey → Bool
 hits_in f grid cover m = option_map_or (λ x. hits cover x (block f x m)) (slice_get grid.matrices m.z) false
 
+-- where the metatile is of the cover's layer and grid, it lies in a matrix of the grid, for which the factors are a plan
+abbrev pub LiesIn : Factors → Grid → Cover → MetaKey → Type 0
+LiesIn f grid cover m =
+    m.theme.layer ≡ cover.layer → m.grid ≡ cover.grid → IsSomeAnd (slice_get grid.matrices m.z) (λ x. IsPlan f x × IsMetaIn f x m)
+
 -- the render is marked where the cover hits it
 abbrev pub marked : (MetaKey → Bool) → ℕ → Render → Render
 marked is_hit t r = if is_hit r.meta then record { number = r.number; meta = r.meta; mark = Some t } else r
@@ -72,9 +77,19 @@ overtaken is_hit t rs = map (marked is_hit t) rs
 
 -- of the renders of one metatile at most one is not overtaken
 abbrev pub OneRuns : List Render → Type 0
-OneRuns [] = Unit {0}
+OneRuns [] = ⊤
 OneRuns (r ∷ rs) = AllByRecursion (λ x. same_meta x.meta r.meta ≡ true → r.mark ≡ None → x.mark ≡ None → ⊥) rs × OneRuns rs
+
+-- the numbers rise, so that no two are one
+abbrev pub NumbersRise : List Render → Type 0
+NumbersRise [] = ⊤
+NumbersRise (r ∷ rs) = AllByRecursion (λ x. r.number < x.number) rs × NumbersRise rs
 
 -- the number is above those of all the renders
 abbrev pub IsAboveAll : ℕ → List Render → Type 0
 IsAboveAll k rs = AllByRecursion (λ r. r.number < k) rs
+
+-- a render has the number, and none a lesser one; there is none where no render runs
+abbrev pub IsLeast : Option ℕ → List Render → Type 0
+IsLeast None rs = rs ≡ []
+IsLeast (Some k) rs = IsSome (find (has_number k) rs) × AllByRecursion (λ r. k ≤ r.number) rs

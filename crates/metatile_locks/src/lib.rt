@@ -1,10 +1,15 @@
 //! The renders that run, and the tickets for them.
 //!
 //! Promises: of the renders of one metatile at most one is not overtaken; a render is marked exactly where a truncation
-//! that came after its start hits it; a ticket is made by `Locks::begin` alone (`specs/Running.antt`).
+//! that came after its start hits it; a ticket is made by `Locks::begin` alone (`specs/Running.antt`, `specs/Calls.antt`).
 //! Stands on truncation_list, metatile_plan, catalog and matrix_geometry.
 #![tactic(auto)]
 
+pub mod hitting;
+pub mod locks;
 pub mod render;
 pub mod replies;
+mod table;
+#[cfg(test)]
+mod tests;
 pub mod ticket;
