@@ -52,3 +52,33 @@ bottom_of f m k = min (((tiles_of f m k).row_max + 1) * m.tile_h + f.gutter) (m.
 abbrev pub window_of : Factors → Matrix → MetaKey → Window
 window_of f m k =
     record { meta = k; x = left_of f m k; y = top_of f m k; width = right_of f m k - left_of f m k; height = bottom_of f m k - top_of f m k }
+
+-- WHERE A TILE LIES
+
+-- the tile is in the range
+pub record IsIn (r : Range) (row col : ℕ) : Type 0 where
+  pub row_min : r.row_min ≤ row
+  pub row_max : row ≤ r.row_max
+  pub col_min : r.col_min ≤ col
+  pub col_max : col ≤ r.col_max
+
+-- the range has a tile, its tiles lie in the matrix, and they are no more than the factors say each way
+pub record IsBlockOf (f : Factors) (m : Matrix) (r : Range) : Type 0 where
+  pub rows : r.row_min ≤ r.row_max
+  pub row_max : r.row_max < m.rows
+  pub row_most : r.row_max < r.row_min + f.y
+  pub cols : r.col_min ≤ r.col_max
+  pub col_max : r.col_max < m.cols
+  pub col_most : r.col_max < r.col_min + f.x
+
+-- the window has all pixels of the tiles, lies within the matrix, and is small
+pub record IsWindowOn (m : Matrix) (r : Range) (w : Window) : Type 0 where
+  pub left : w.x ≤ r.col_min * m.tile_w
+  pub right : (r.col_max + 1) * m.tile_w ≤ w.x + w.width
+  pub top : w.y ≤ r.row_min * m.tile_h
+  pub bottom : (r.row_max + 1) * m.tile_h ≤ w.y + w.height
+  pub wide : w.x + w.width ≤ m.cols * m.tile_w
+  pub high : w.y + w.height ≤ m.rows * m.tile_h
+  pub width_most : w.width ≤ 4224
+  pub height_most : w.height ≤ 4224
+  pub small : w.width * w.height ≤ 4500000
