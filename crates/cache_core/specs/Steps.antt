@@ -1,0 +1,126 @@
+-- A request for a tile as single events: an ask or a force, the render, and the finish. What happens by chance in an
+-- event, that memory runs out, and what a rendering gives or that it fails, is taken as it happened; all else is fixed.
+use Rattle.std.specs.Prelude.{ℕ, ◌≡◌, Bool, true, false, nat_le, if◌then◌else◌, List, [], length, Option, Some, None}
+use Rattle.cabinet.specs.declared.entry.Entry.TheVariants as entry
+use Rattle.cabinet.specs.declared.kept.Kept.{Kept}
+use Rattle.cabinet.specs.Commands.{others, place_for, kept_at}
+use Rattle.cabinet.specs.History.{kept_of, next}
+use Rattle.cabinet.specs.State.{State, now, with_entry, with_blob, kept_text}
+use Rattle.matrix_geometry.specs.declared.address.Address.{Address}
+use Rattle.metatile_locks.specs.declared.render.Render.{Render}
+use Rattle.metatile_locks.specs.Running.{running_for, render_of}
+use Rattle.metatile_locks.specs.Tickets.{Ticketed}
+use Rattle.metatile_plan.specs.declared.metatile.MetaKey.{MetaKey}
+use Rattle.raster_field.specs.Blocks.{block_of, tile_part}
+use Rattle.cache_core.specs.declared.actor.Actor.{Actor}
+use Rattle.cache_core.specs.declared.actor.Actor.TheVariants.{Idle, Waiting, Holding, Rendered, Failed}
+use Rattle.cache_core.specs.declared.outcome.Outcome.{Outcome}
+use Rattle.cache_core.specs.declared.outcome.Outcome.TheVariants as outcome
+use Rattle.cache_core.specs.declared.outcome.Tile.{Tile}
+
+-- what an event came to: the cabinet after it, the actor, and the outcome where the request ended
+pub record Stepped : Type 0 where
+  pub cabinet : State
+  pub actor : Actor
+  pub outcome : Option Outcome
+
+abbrev pub goes_on : State → Actor → Stepped
+goes_on s actor = record { cabinet = s; actor = actor; outcome = None }
+
+abbrev pub ends : State → Outcome → Stepped
+ends s o = record { cabinet = s; actor = Idle; outcome = Some o }
+
+-- THE ASK AND THE FORCE
+
+abbrev pub tile_at : Bool → ℕ → List ℕ → Tile
+tile_at hit k bytes = record { hit = hit; number = k; bytes = bytes }
+
+-- the metatile is kept: the tile is its part of the blob
+abbrev pub hit : State → Address → Kept → Stepped
+hit s a t = ends (with_entry s (entry.Used (block_of s.catalogue a))) (outcome.Tile (tile_at true t.number (tile_part s.catalogue a (kept_text s (block_of s.catalogue a)))))
+
+abbrev pub ticket_for : State → Address → ℕ → Ticketed
+ticket_for s a k = record { number = k; meta = block_of s.catalogue a }
+
+-- the next number, where one is left, is given for a render
+abbrev pub given : State → Address → Option ℕ → Stepped
+given s a None = ends s outcome.Spent
+given s a (Some k) = goes_on (with_entry s (entry.Started k (block_of s.catalogue a))) (Holding (ticket_for s a k) a)
+
+-- while a render of the metatile runs that is not overtaken, the actor waits
+abbrev pub unless_busy : State → Address → Bool → Option ℕ → Stepped
+unless_busy s a force (Some j) = goes_on s (Waiting a force)
+unless_busy s a force None = given s a (next s.opening (now s))
+
+abbrev pub render_wanted : State → Address → Bool → Stepped
+render_wanted s a force = unless_busy s a force (running_for (block_of s.catalogue a) (now s).out)
+
+abbrev pub unless_kept : State → Address → Option Kept → Stepped
+unless_kept s a (Some t) = hit s a t
+unless_kept s a None = render_wanted s a false
+
+abbrev pub asked : State → Address → Bool → Stepped
+asked s a true = render_wanted s a true
+asked s a false = unless_kept s a (kept_of (block_of s.catalogue a) (now s))
+
+-- with a force no kept tile is an answer; memory is left, or runs out
+abbrev pub began : State → Address → Bool → Bool → Stepped
+began s a force false = ends s outcome.NoMemory
+began s a force true = asked s a force
+
+-- THE END OF A RENDER
+
+-- the ticket is taken off; a stranger's ticket changes nothing
+abbrev pub off : State → Ticketed → Option Render → State
+off s t None = s
+off s t (Some r) = with_entry s (entry.Ended t.number)
+
+abbrev pub abandoned : State → Ticketed → State
+abandoned s t = off s t (render_of t (now s).out)
+
+abbrev pub stored : State → Ticketed → List ℕ → Option ℕ → State
+stored s t blob None = with_entry s (entry.Ended t.number)
+stored s t blob (Some place) = with_blob s (kept_at t place (length blob)) blob
+
+-- as many others as may be are kept, or there is no place, or the blob is kept
+abbrev pub with_room : State → Ticketed → List ℕ → Bool → State
+with_room s t blob true = with_entry s (entry.Ended t.number)
+with_room s t blob false = stored s t blob (place_for s (length blob))
+
+abbrev pub unless_overtaken : State → Ticketed → List ℕ → Option ℕ → State
+unless_overtaken s t blob (Some cut) = with_entry s (entry.Ended t.number)
+unless_overtaken s t blob None = with_room s t blob (nat_le s.catalogue.kept_limit (others s t.meta))
+
+abbrev pub ended : State → Ticketed → List ℕ → Option Render → State
+ended s t blob None = s
+ended s t blob (Some r) = unless_overtaken s t blob r.mark
+
+abbrev pub finished : State → Ticketed → List ℕ → State
+finished s t blob = ended s t blob (render_of t (now s).out)
+
+-- THE RENDER
+
+-- a rendering that failed, or the blob that it gave
+abbrev pub painted : State → Ticketed → Address → Option (List ℕ) → Stepped
+painted s t a None = goes_on s (Failed t)
+painted s t a (Some blob) = goes_on s (Rendered t blob (tile_at false t.number (tile_part s.catalogue a blob)))
+
+abbrev pub rendered : State → Ticketed → Address → Bool → Option (List ℕ) → Stepped
+rendered s t a false blob = ends (abandoned s t) outcome.NoMemory
+rendered s t a true blob = painted s t a blob
+
+-- THE NEXT EVENT of an actor: memory is left or runs out, and a rendering gives this blob or fails
+abbrev pub advanced : State → Actor → Bool → Option (List ℕ) → Stepped
+advanced s Idle left blob = goes_on s Idle
+advanced s (Waiting a force) left blob = began s a force left
+advanced s (Holding t a) left blob = rendered s t a left blob
+advanced s (Rendered t text tile) left blob = ends (finished s t text) (outcome.Tile tile)
+advanced s (Failed t) left blob = ends (abandoned s t) outcome.SourceFailed
+
+-- an actor that gives up abandons its ticket
+abbrev pub given_up : State → Actor → State
+given_up s Idle = s
+given_up s (Waiting a force) = s
+given_up s (Holding t a) = abandoned s t
+given_up s (Rendered t text tile) = abandoned s t
+given_up s (Failed t) = abandoned s t

@@ -1,0 +1,21 @@
+use exact_ratio::words::Words;
+
+/// A tile that is answered: whether a kept metatile gave it, the number of its render, and its text.
+#[derive(Drop)]
+pub struct Tile {
+    pub hit: bool,
+    pub number: u64,
+    pub bytes: Words,
+}
+
+/// How a request for a tile ended.
+#[derive(Drop)]
+pub enum Outcome {
+    Tile(Tile),
+    /// The source failed at the rendering.
+    SourceFailed,
+    /// No number of a render is left.
+    Spent,
+    /// Memory ran out.
+    NoMemory,
+}
