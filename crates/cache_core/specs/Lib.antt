@@ -1,3 +1,4 @@
 pub mod Steps
 pub mod Shown
 pub mod Fits
+pub mod Begun

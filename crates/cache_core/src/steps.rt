@@ -1,18 +1,22 @@
-ghost use Rattle.std.specs.Prelude.{ℕ, ◌≡◌, ◌≤◌, Bool, List, None, Option, Some, length};
+ghost use Rattle.std.specs.Prelude.{ℕ, ◌≡◌, ◌≤◌, Bool, true, false, List, None, Option, Some};
 ghost use Rattle.cabinet.specs.State.{IsSound};
 ghost use Rattle.catalog.specs.LookUp.{IsTile};
 ghost use Rattle.catalog.specs.Valid.{IsValid};
 ghost use Rattle.causes.specs.Causes.{Rose};
 ghost use Rattle.matrix_geometry.specs.declared.address.Address.{Address};
 ghost use Rattle.cache_core.specs.Fits.{IsFit, IsTrueActor, IsTrueOutcome, IsFreshActor, IsFreshOutcome};
+ghost use Rattle.cache_core.specs.Begun.{Begins};
 ghost use Rattle.cache_core.specs.Shown.{shown, IsFailed, IsIdle};
-ghost use Rattle.cache_core.specs.Steps.{began, advanced, given_up};
+ghost use Rattle.cache_core.specs.Steps.{advanced, given_up, tile_at};
 
 use crate::actor::{Actor, Step};
-use crate::outcome::Outcome;
+use crate::outcome::{Outcome, Tile};
 use cabinet::cabinet::Cabinet;
+use cabinet::replies::{Asked, Forced};
+use exact_ratio::words::Words;
 use matrix_geometry::address::Address;
 use raster_field::laws::laws_of_metatiles;
+use raster_field::layout::block_of;
 use source_render::source::Source;
 use std::alloc::Global;
 
@@ -36,19 +40,53 @@ fn ends(outcome: Outcome) -> Step
     }
 }
 
-/// Asks for a tile, or forces a render of its metatile, as the first event of a request.
-pub fn begin(_alloc: Global, cabinet: &mut Cabinet, address: &Address, _force: bool) -> Step
-    requires { IsTile cabinet.old.catalogue address.now }
-    ensures began { (left : Bool) × (shown result cabinet.new ≡ began cabinet.old address.now _force left) }
-    ensures fits { IsFit cabinet.old.catalogue address.now result.actor }
-    ensures sound { IsSound cabinet.old → IsSound cabinet.new × IsTrueOutcome cabinet.old.catalogue address.now result.outcome }
-    ensures actor { IsTrueActor cabinet.old.catalogue result.actor }
-    ensures not_failed { IsFailed result.actor → ⊥ }
-    ensures catalogue { cabinet.new.catalogue ≡ cabinet.old.catalogue }
+fn hit(number: u64, bytes: Vec<u8>) -> Step
+    ensures actor { result.actor ≡ Actor.Idle }
+    ensures outcome { result.outcome ≡ Some (Outcome.Tile (tile_at true number bytes.items)) }
 {
-    let _ = cabinet.catalogue();
-    let _ = address;
-    ends(Outcome::NoMemory)
+    ends(Outcome::Tile(Tile {
+        hit: true,
+        number,
+        bytes: Words::of(bytes),
+    }))
+}
+
+fn ask(alloc: Global, cabinet: &mut Cabinet, address: &Address) -> Step
+    requires { IsTile cabinet.old.catalogue address.now }
+    ensures { Begins cabinet.old address.now false result cabinet.new }
+{
+    match cabinet.ask(alloc, address) {
+        Err(_) => ends(Outcome::NoMemory),
+        Ok(Asked::Spent) => ends(Outcome::Spent),
+        Ok(Asked::Busy(_)) => goes_on(Actor::Waiting(*address, false)),
+        Ok(Asked::Ticket(ticket)) => goes_on(Actor::Holding(ticket, *address)),
+        Ok(Asked::Hit(number, bytes)) => hit(number, bytes),
+    }
+}
+
+fn force(alloc: Global, cabinet: &mut Cabinet, address: &Address) -> Step
+    requires { IsTile cabinet.old.catalogue address.now }
+    ensures { Begins cabinet.old address.now true result cabinet.new }
+{
+    cabinet.known();
+    let meta = block_of(cabinet.catalogue(), address);
+    match cabinet.force(alloc, &meta) {
+        Err(_) => ends(Outcome::NoMemory),
+        Ok(Forced::Spent) => ends(Outcome::Spent),
+        Ok(Forced::Busy(_)) => goes_on(Actor::Waiting(*address, true)),
+        Ok(Forced::Ticket(ticket)) => goes_on(Actor::Holding(ticket, *address)),
+    }
+}
+
+/// Asks for a tile, or forces a render of its metatile, as the first event of a request.
+pub fn begin(alloc: Global, cabinet: &mut Cabinet, address: &Address, with_force: bool) -> Step
+    requires { IsTile cabinet.old.catalogue address.now }
+    ensures { Begins cabinet.old address.now with_force result cabinet.new }
+{
+    if with_force {
+        return force(alloc, cabinet, address);
+    }
+    ask(alloc, cabinet, address)
 }
 
 /// Makes the next event of an actor that is not idle.

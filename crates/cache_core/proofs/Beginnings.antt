@@ -1,0 +1,90 @@
+-- The first event of a request: a ticket that is given, and a hit.
+use Rattle.std.proofs.Common.{◌≡◌, ℕ, Bool, true, false, List, Option, Some, None, refl, sym, ◌∙◌, ap, subst}
+use Rattle.cabinet.specs.Commands.{IsGiven, IsHit, IsUnkept}
+use Rattle.cabinet.specs.declared.entry.Entry.{Entry}
+use Rattle.cabinet.specs.declared.entry.Entry.TheVariants as entry
+use Rattle.cabinet.specs.State.{State, with_entry, now, kept_text, IsSound}
+use Rattle.catalog.specs.LookUp.{IsTile}
+use Rattle.matrix_geometry.specs.declared.address.Address.{Address}
+use Rattle.metatile_locks.specs.Tickets.{Ticketed}
+use Rattle.raster_field.specs.Blocks.{block_of, tile_part}
+use Rattle.raster_field.specs.TileText.{tile_text}
+use Rattle.cache_core.specs.declared.actor.Actor.{Actor}
+use Rattle.cache_core.specs.declared.actor.Actor.TheVariants.{Idle, Holding}
+use Rattle.cache_core.specs.declared.actor.Step.{Step}
+use Rattle.cache_core.specs.declared.outcome.Outcome.{Outcome}
+use Rattle.cache_core.specs.declared.outcome.Outcome.TheVariants as outcome
+use Rattle.cache_core.specs.Begun.{Begins}
+use Rattle.cache_core.specs.Fits.{IsFit, IsAtWork, IsTrueActor, IsTrueOutcome}
+use Rattle.cache_core.specs.Shown.{shown, IsFailed}
+use Rattle.cache_core.specs.Steps.{Stepped, began, asked, unless_kept, render_wanted, unless_busy, given, goes_on, ends, hit, ticket_for, tile_at}
+
+shown_as : (step : Step) (t : State) (actor : Actor) (o : Option Outcome) → step.actor ≡ actor → step.outcome ≡ o → shown step t ≡ record { cabinet = t; actor = actor; outcome = o }
+shown_as step t actor o e f = rw e (rw f refl)
+
+entry_sound : (s t : State) (e : Entry) → t ≡ with_entry s e → IsSound s → IsSound t
+entry_sound s t e h sound = subst IsSound (sym h) sound
+
+entry_catalogue : (s t : State) (e : Entry) → t ≡ with_entry s e → t.catalogue ≡ s.catalogue
+entry_catalogue s t e h = ap (λ u. u.catalogue) h
+
+-- A TICKET
+
+module _ (s t : State) (a : Address) (k : Ticketed) (step : Step) (tile : IsTile s.catalogue a) (is_given : IsGiven s (block_of s.catalogue a) k t) (actor : step.actor ≡ Holding k a) (no_outcome : step.outcome ≡ None) where
+  ticket_is : ticket_for s a k.number ≡ k
+  ticket_is = rw (sym is_given.meta) refl
+
+  wanted : (force : Bool) → render_wanted s a force ≡ goes_on (with_entry s (entry.Started k.number (block_of s.catalogue a))) (Holding (ticket_for s a k.number) a)
+  wanted force = ap (unless_busy s a force) is_given.none_runs ∙ ap (given s a) is_given.number
+
+  step_is : (force : Bool) → shown step t ≡ render_wanted s a force
+  step_is force = shown_as step t (Holding k a) None actor no_outcome ∙ sym (wanted force ∙ rw ticket_is (rw is_given.state refl))
+
+  fits : IsFit s.catalogue a step.actor
+  fits = let P : Actor → Type 0 = IsAtWork s.catalogue a in record { tile = tile; work = subst P (sym actor) (refl, is_given.meta) }
+
+  is_true : IsTrueActor s.catalogue step.actor
+  is_true = let P : Actor → Type 0 = IsTrueActor s.catalogue in subst P (sym actor) tt
+
+  answers : IsTrueOutcome s.catalogue a step.outcome
+  answers = let P : Option Outcome → Type 0 = IsTrueOutcome s.catalogue a in subst P (sym no_outcome) tt
+
+  goes_well : IsFailed step.actor → ⊥
+  goes_well f = let P : Actor → Type 0 = IsFailed in subst P actor f
+
+  module _ (force : Bool) (is_step : shown step t ≡ began s a force true) where
+    pub begins_with : Begins s a force step t
+    begins_with = record {
+      left = true; began = is_step; fits = fits; actor = is_true; not_failed = goes_well;
+      sound = entry_sound s t (entry.Started k.number (block_of s.catalogue a)) is_given.state;
+      truth = λ sound. answers;
+      catalogue = entry_catalogue s t (entry.Started k.number (block_of s.catalogue a)) is_given.state;
+    }
+
+  pub ticket_forced : Begins s a true step t
+  ticket_forced = begins_with true (step_is true)
+
+  pub ticket_asked : IsUnkept s a → Begins s a false step t
+  ticket_asked unkept = begins_with false (step_is false ∙ sym (ap (unless_kept s a) unkept))
+
+-- A HIT
+
+pub hit_asked : (s t : State) (a : Address) (k : ℕ) (bytes : List ℕ) (step : Step) → IsTile s.catalogue a → IsHit s a k bytes t → step.actor ≡ Idle
+    → step.outcome ≡ Some (outcome.Tile (tile_at true k bytes)) → (IsSound s → bytes ≡ tile_text s.catalogue k a) → Begins s a false step t
+hit_asked s t a k bytes step tile is_hit idle ended true_bytes =
+    let P : Actor → Type 0 = IsAtWork s.catalogue a in
+    let Q : Actor → Type 0 = IsTrueActor s.catalogue in
+    let R : Actor → Type 0 = IsFailed in
+    let Truly : Option Outcome → Type 0 = IsTrueOutcome s.catalogue a in
+    let m = block_of s.catalogue a in
+    let same : ends t (outcome.Tile (tile_at true k bytes)) ≡ hit s a is_hit.kept = rw is_hit.state (rw is_hit.number (rw is_hit.part refl)) in
+    record {
+      left = true;
+      began = shown_as step t Idle (Some (outcome.Tile (tile_at true k bytes))) idle ended ∙ same ∙ sym (ap (unless_kept s a) is_hit.is_kept);
+      fits = record { tile = tile; work = subst P (sym idle) tt };
+      actor = subst Q (sym idle) tt;
+      not_failed = λ f. subst R idle f;
+      sound = entry_sound s t (entry.Used m) is_hit.state;
+      truth = λ sound. subst Truly (sym ended) (true_bytes sound);
+      catalogue = entry_catalogue s t (entry.Used m) is_hit.state;
+    }
