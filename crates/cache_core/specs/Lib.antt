@@ -2,3 +2,4 @@ pub mod Steps
 pub mod Shown
 pub mod Fits
 pub mod Begun
+pub mod Advanced

@@ -5,6 +5,7 @@ ghost use Rattle.catalog.specs.Valid.{IsValid};
 ghost use Rattle.causes.specs.Causes.{Rose};
 ghost use Rattle.matrix_geometry.specs.declared.address.Address.{Address};
 ghost use Rattle.cache_core.specs.Fits.{IsFit, IsTrueActor, IsTrueOutcome, IsFreshActor, IsFreshOutcome};
+ghost use Rattle.cache_core.specs.Advanced.{Advances};
 ghost use Rattle.cache_core.specs.Begun.{Begins};
 ghost use Rattle.cache_core.specs.Shown.{shown, IsFailed, IsIdle};
 ghost use Rattle.cache_core.specs.Steps.{advanced, given_up, tile_at};
@@ -15,6 +16,7 @@ use cabinet::cabinet::Cabinet;
 use cabinet::replies::{Asked, Forced};
 use exact_ratio::words::Words;
 use matrix_geometry::address::Address;
+use metatile_locks::ticket::Ticket;
 use raster_field::laws::laws_of_metatiles;
 use raster_field::layout::block_of;
 use source_render::source::Source;
@@ -89,43 +91,39 @@ pub fn begin(alloc: Global, cabinet: &mut Cabinet, address: &Address, with_force
     ask(alloc, cabinet, address)
 }
 
-/// Makes the next event of an actor that is not idle.
-pub fn advance<S: Source>(
-    _alloc: Global,
-    cabinet: &mut Cabinet,
-    source: &mut S,
-    actor: Actor,
-) -> Step
-    requires busy { IsIdle actor → ⊥ }
-    requires fits { (a : Address) × IsFit cabinet.old.catalogue a actor }
-    ensures advanced { (left : Bool) × (blob : Option (List ℕ)) × (shown result cabinet.new ≡ advanced cabinet.old actor left blob) }
-    ensures fits { (a : Address) → IsFit cabinet.old.catalogue a actor → IsFit cabinet.old.catalogue a result.actor }
-    ensures sound { S.told source.old ≡ Some cabinet.old.catalogue.source → IsSound cabinet.old → IsTrueActor cabinet.old.catalogue actor → IsSound cabinet.new × IsTrueActor cabinet.old.catalogue result.actor }
-    ensures truth { (a : Address) → IsFit cabinet.old.catalogue a actor → S.told source.old ≡ Some cabinet.old.catalogue.source → IsSound cabinet.old → IsTrueActor cabinet.old.catalogue actor → IsTrueOutcome cabinet.old.catalogue a result.outcome }
-    ensures cause { IsFailed result.actor → Rose (S.faults source.old) (S.faults source.new) }
-    ensures later { S.faults source.old ≤ S.faults source.new }
-    ensures told { S.told source.new ≡ S.told source.old }
-    ensures catalogue { cabinet.new.catalogue ≡ cabinet.old.catalogue }
+/// Asks again, or forces again.
+fn ask_again(alloc: Global, cabinet: &mut Cabinet, address: &Address, with_force: bool) -> Step
+    requires { IsTile cabinet.old.catalogue address.now }
+    ensures { (told : Option ℕ) (n : ℕ) → Advances told n n cabinet.old (Actor.Waiting address.now with_force) result cabinet.new }
 {
-    let _ = &*source;
-    match actor {
-        Actor::Idle => goes_on(Actor::Idle),
-        Actor::Waiting(_, _) => ends(Outcome::NoMemory),
-        Actor::Holding(ticket, _) => {
-            cabinet.abandon(ticket);
-            ends(Outcome::NoMemory)
-        }
-        Actor::Rendered(ticket, blob, tile) => {
-            laws_of_metatiles();
-            cabinet.known();
-            let _ = cabinet.finish(ticket, blob.into_vec());
-            ends(Outcome::Tile(tile))
-        }
-        Actor::Failed(ticket) => {
-            cabinet.abandon(ticket);
-            ends(Outcome::SourceFailed)
-        }
-    }
+    begin(alloc, cabinet, address, with_force)
+}
+
+/// Hands in the blob of a render, and answers its tile.
+fn hand_in(cabinet: &mut Cabinet, ticket: Ticket, blob: Words, tile: Tile) -> Step
+    requires { (a : Address) × IsFit cabinet.old.catalogue a (Actor.Rendered ticket blob tile) }
+    ensures { (told : Option ℕ) (n : ℕ) → Advances told n n cabinet.old (Actor.Rendered ticket blob tile) result cabinet.new }
+{
+    laws_of_metatiles();
+    cabinet.known();
+    let _ = cabinet.finish(ticket, blob.into_vec());
+    ends(Outcome::Tile(tile))
+}
+
+/// Gives a ticket back at which the source failed.
+fn give_back(cabinet: &mut Cabinet, ticket: Ticket) -> Step
+    ensures { (told : Option ℕ) (n : ℕ) → Advances told n n cabinet.old (Actor.Failed ticket) result cabinet.new }
+{
+    cabinet.abandon(ticket);
+    ends(Outcome::SourceFailed)
+}
+
+/// Gives a ticket back where memory ran out.
+fn run_out(cabinet: &mut Cabinet, ticket: Ticket, _address: &Address) -> Step
+    ensures { (told : Option ℕ) (n : ℕ) → Advances told n n cabinet.old (Actor.Holding ticket _address.now) result cabinet.new }
+{
+    cabinet.abandon(ticket);
+    ends(Outcome::NoMemory)
 }
 
 /// Ends a request without an outcome: a ticket that the actor holds is abandoned.
