@@ -1,0 +1,4 @@
+pub mod Metas
+pub mod Pieces
+pub mod Splices
+pub mod Windows

@@ -1,5 +1,5 @@
 -- Metatiles in the terms of a catalogue: which one holds a tile, and what its blob is.
-use Rattle.std.specs.Prelude.{ℕ, List, [], length, take, drop, Option, Some, None, IsSome, IsSomeAnd, Contains}
+use Rattle.std.specs.Prelude.{ℕ, List, [], take, drop, IsSome, IsSomeAnd, Contains}
 use Rattle.std.specs.List.{flat_map, range_with_len}
 use Rattle.std.specs.Option.{option_map_or}
 use Rattle.catalog.specs.declared.catalogue.Catalogue.{Catalogue}

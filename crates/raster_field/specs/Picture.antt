@@ -1,5 +1,5 @@
 -- The picture of a render: one colour for each pixel of a whole matrix. It knows no window, no metatile and no gutter.
-use Rattle.std.specs.Prelude.{ℕ, ◌≡◌, ◌+◌, ◌*◌, ◌/◌, ◌%◌, List, [], ◌∷◌, Option, Some, nat_le, if◌then◌else◌, fold, unsigned_abs, option_and_then}
+use Rattle.std.specs.Prelude.{ℕ, ◌+◌, ◌*◌, ◌/◌, ◌%◌, List, [], ◌∷◌, Option, Some, nat_le, if◌then◌else◌, fold, unsigned_abs, option_and_then}
 use Rattle.catalog.specs.declared.catalogue.Catalogue.{Catalogue}
 use Rattle.catalog.specs.declared.layer.Break.{Break}
 use Rattle.catalog.specs.declared.layer.Layer.{Layer}

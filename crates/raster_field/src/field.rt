@@ -1,0 +1,78 @@
+//! The values of the pixels of a numbered picture.
+ghost use Rattle.std.specs.Prelude.{◌≡◌, ◌+◌, ◌*◌, ◌^◌, ◌<◌, ◌≤◌, length};
+ghost use Rattle.catalog.specs.Valid.{IsLayer, IsValid};
+ghost use Rattle.matrix_geometry.specs.Limits.{IsWithinLimits};
+ghost use Rattle.raster_field.specs.Blocks.{IsMeta};
+ghost use Rattle.raster_field.specs.Fields.{IsPixel, field_value};
+ghost use Rattle.raster_field.specs.Picture.{cell_at, shade_of, weighted};
+
+use crate::layout::{layer_of, matrix_of};
+use catalog::catalogue::Catalogue;
+use catalog::layer::Layer;
+use matrix_geometry::matrix::Matrix;
+use matrix_geometry::theme::Theme;
+use metatile_plan::metatile::MetaKey;
+
+fn wide(number: u32) -> u128
+    ensures value { result ≡ number }
+    ensures bound { result < 2 ^ 32 }
+{
+    u128::from(number)
+}
+
+fn weighted_sum(dims: &[u32]) -> u128
+    requires { length dims.now ≤ 4 }
+    ensures value { result ≡ weighted 1 dims.now }
+    ensures bound { result < 2 ^ 40 }
+{
+    let mut sum: u128 = 0;
+    let mut weight: u128 = 1;
+    for value in dims {
+        sum += weight * u128::from(*value);
+        weight += 1;
+    }
+    sum
+}
+
+/// What all pixels of a picture have in common.
+pub fn shade_of(source: u32, number: u64, theme: &Theme) -> u128
+    ensures value { result ≡ shade_of source number theme.now }
+    ensures bound { result < 2 ^ 80 }
+{
+    let dims = weighted_sum(&theme.dims);
+    u128::from(source) + 7 * u128::from(number) + 31 * wide(theme.layer) + 131 * dims
+}
+
+/// The ground cell of a pixel's column, or of its row.
+pub fn cell_at(matrix: &Matrix, layer: &Layer, x: u64) -> u128
+    requires matrix { IsWithinLimits matrix.now }
+    requires layer { IsLayer layer.now }
+    requires x { x < 2 ^ 41 }
+    ensures value { result ≡ cell_at matrix.now.span layer.now.cell x }
+    ensures bound { result < 2 ^ 112 }
+{
+    let n = matrix.span.n.unsigned_abs();
+    let d = matrix.span.d.unsigned_abs();
+    (2 * u128::from(x) + 1) * n / (2 * d * u128::from(layer.cell))
+}
+
+/// The value of a pixel of the whole matrix of a metatile, in the picture of a source and a render.
+pub fn field_value(
+    catalogue: &Catalogue,
+    id: u32,
+    number: u64,
+    meta: &MetaKey,
+    x: u64,
+    y: u64,
+) -> u8
+    requires valid { IsValid catalogue.now }
+    requires meta { IsMeta catalogue.now meta.now }
+    requires pixel { IsPixel catalogue.now meta.now x y }
+    ensures { result ≡ field_value catalogue.now id number meta.now x y }
+{
+    let matrix = matrix_of(catalogue, meta);
+    let layer = layer_of(catalogue, meta);
+    let across = cell_at(matrix, layer, x);
+    let down = cell_at(matrix, layer, y);
+    ((shade_of(id, number, &meta.theme) + 17 * across + 13 * down) % 256) as u8
+}
