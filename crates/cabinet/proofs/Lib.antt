@@ -1,0 +1,6 @@
+pub mod Lists
+pub mod Hits
+pub mod Holding
+pub mod Rooted
+pub mod Sentences
+pub mod Numbers
