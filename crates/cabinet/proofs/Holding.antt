@@ -1,5 +1,5 @@
 -- Each possible history keeps its numbers, its floor and its book: what is kept is newer than each cut that hits it.
-use Rattle.std.proofs.Common.{ℕ, ◌≡◌, ◌+◌, ◌<◌, ◌≤◌, max, Bool, true, false, cond, not, List, [], ◌∷◌, ◌++◌, map, filter, fold, find, Option, Some, None, IsTrue, refl, sym, ap, subst, ◌∙◌, arith}
+use Rattle.std.proofs.Common.{ℕ, ◌≡◌, ◌+◌, ◌<◌, ◌≤◌, max, Bool, true, false, cond, not, List, [], ◌∷◌, ◌++◌, map, fold, Option, Some, None, IsTrue, refl, sym, ap, subst, ◌∙◌, arith}
 use Rattle.std.specs.Prelude.{nat_lt}
 use Rattle.std.specs.List.{AllByRecursion, Contains}
 use Rattle.std.proofs.lemmas.Bool.Decides.{nat_tests}
@@ -25,11 +25,11 @@ use Rattle.metatile_locks.proofs.Lists.{all_joined, all_weaker, all_map, all_pas
 use Rattle.cabinet.specs.declared.entry.Entry.{Entry}
 use Rattle.cabinet.specs.declared.entry.Entry.TheVariants as entry
 use Rattle.cabinet.specs.declared.kept.Kept.{Kept}
-use Rattle.cabinet.specs.Hits.{hits_of, covers_in}
+use Rattle.cabinet.specs.Hits.{hits_of}
 use Rattle.cabinet.specs.History.{History, Standing, nothing, numbers, lesser, least_of, is_of, but, after, standing, kept_of}
 use Rattle.cabinet.specs.Fresh.{May, Possible, cuts_after, cuts_of, IsNewer, HoldsOfKept, HoldsOfRender, Holds, IsNoOlder}
 use Rattle.cabinet.proofs.Hits.{covered_hit}
-use Rattle.cabinet.proofs.Lists.{all_push, all_left, all_right, all_found, all_contained, all_both, all_of_map, all_of}
+use Rattle.cabinet.proofs.Lists.{all_push, all_left, all_right, all_found, all_contained, all_both, all_of_map}
 
 pub holds_nothing : (c : Catalogue) (e : ℕ) → Holds c [] (nothing e)
 holds_nothing c e = record {
@@ -161,7 +161,7 @@ listed_cut : (cuts : List Cut) (k : Cut) (least : Option ℕ) (book : Book) → 
 listed_cut cuts k least book a =
     let longer = all_weaker (Contains cuts) (Contains (cuts ++ k ∷ [])) (λ x h. Contains-append_left cuts (k ∷ []) x h) book.cuts a in
     let stay = recursion_from_All (Contains (cuts ++ k ∷ [])) (remaining (Some k.cover) least book.cuts)
-        (all_remaining (Contains (cuts ++ k ∷ [])) (Some k.cover) least book.cuts (All-from_recursion (Contains (cuts ++ k ∷ [])) book.cuts longer)) in
+    (all_remaining (Contains (cuts ++ k ∷ [])) (Some k.cover) least book.cuts (All-from_recursion (Contains (cuts ++ k ∷ [])) book.cuts longer)) in
     all_push (Contains (cuts ++ k ∷ [])) (remaining (Some k.cover) least book.cuts) k stay (Contains-push cuts k)
 
 under_both : (floor : ℕ) (out : List Render) (kept : List Kept) → AllByRecursion (λ r. floor < r.number) out → AllByRecursion (λ t. floor < t.number) kept → AllByRecursion (λ n. floor < n) (numbers out kept)

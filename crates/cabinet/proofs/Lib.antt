@@ -4,3 +4,5 @@ pub mod Holding
 pub mod Rooted
 pub mod Sentences
 pub mod Numbers
+pub mod Fresher
+pub mod Rows

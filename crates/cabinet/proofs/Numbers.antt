@@ -1,5 +1,5 @@
 -- Kept and running numbers differ, and what runs agrees with the sentence on each number.
-use Rattle.std.proofs.Common.{◌&&◌, ℕ, ◌≡◌, ◌≢◌, ◌<◌, ◌≤◌, Bool, true, false, cond, not, ◌==◌, List, [], ◌∷◌, ◌++◌, map, filter, fold, find, is_none, Option, Some, None, refl, sym, ap, subst, ◌∙◌, arith, eq-eqb}
+use Rattle.std.proofs.Common.{◌&&◌, ℕ, ◌≡◌, ◌≢◌, Bool, true, false, cond, not, ◌==◌, List, [], ◌∷◌, ◌++◌, filter, fold, find, is_none, Option, Some, None, refl, sym, ap, subst, ◌∙◌, arith, eq-eqb}
 use Rattle.std.specs.List.{AllByRecursion}
 use Rattle.std.specs.Option.{option_map, option_or, option_and_then}
 use Rattle.std.proofs.lemmas.List.Folds.{find-append}
@@ -19,7 +19,7 @@ use Rattle.cabinet.specs.declared.entry.Entry.TheVariants as entry
 use Rattle.cabinet.specs.declared.kept.Kept.{Kept}
 use Rattle.cabinet.specs.Hits.{hits_of}
 use Rattle.cabinet.specs.History.{History, Standing, nothing, is_of, but, spared, after, standing, render_after, render, of_meta, ticket_render}
-use Rattle.cabinet.specs.Fresh.{May, Possible, cuts_after, cuts_of, Holds, HoldsOfRender, HoldsOfKept, ApartBy, Differ}
+use Rattle.cabinet.specs.Fresh.{May, Possible, cuts_after, Holds, HoldsOfRender, HoldsOfKept, ApartBy, Differ}
 use Rattle.cabinet.proofs.Holding.{holds_step, holds_nothing}
 use Rattle.cabinet.proofs.Lists.{all_push, all_found, all_both}
 
