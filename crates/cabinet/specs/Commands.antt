@@ -2,7 +2,6 @@
 use Rattle.std.specs.Prelude.{ℕ, ◌≡◌, ◌≤◌, ◌<◌, ◌⊎◌, List, length, Option, Some, None, IsSome, ⊤}
 use Rattle.catalog.specs.declared.catalogue.Catalogue.{Catalogue}
 use Rattle.matrix_geometry.specs.declared.address.Address.{Address}
-use Rattle.metatile_locks.specs.declared.render.Render.{Render}
 use Rattle.metatile_locks.specs.Running.{running_for, render_of}
 use Rattle.metatile_locks.specs.Tickets.{Ticketed}
 use Rattle.metatile_plan.specs.declared.metatile.MetaKey.{MetaKey}
@@ -23,7 +22,7 @@ use Rattle.cabinet.specs.declared.replies.CutReply.{CutReply}
 use Rattle.cabinet.specs.declared.replies.CutReply.TheVariants as cut
 use Rattle.cabinet.specs.Fresh.{IsFresh}
 use Rattle.cabinet.specs.Gaps.{gap_for}
-use Rattle.cabinet.specs.History.{Standing, kept_of, but, next, numbers, least_of}
+use Rattle.cabinet.specs.History.{kept_of, but, next, numbers, least_of}
 use Rattle.cabinet.specs.State.{State, now, with_entry, with_blob, with_cut, kept_text}
 
 -- ASK AND FORCE
@@ -123,3 +122,9 @@ IsFreshReply s a (asked.Hit k bytes) new = IsFresh s.catalogue new.history (leng
 IsFreshReply s a (asked.Ticket t) new = IsFresh s.catalogue new.history (length s.history) a t.number
 IsFreshReply s a (asked.Busy k) new = ⊤
 IsFreshReply s a asked.Spent new = ⊤
+
+-- what is to be rendered for a force of the tile's metatile is fresh at the force
+abbrev pub IsFreshForced : State → Address → Forced → State → Type 0
+IsFreshForced s a (forced.Ticket t) new = IsFresh s.catalogue new.history (length s.history) a t.number
+IsFreshForced s a (forced.Busy k) new = ⊤
+IsFreshForced s a forced.Spent new = ⊤

@@ -1,5 +1,5 @@
 -- Which histories are possible, what each of them keeps, and when a render is fresh.
-use Rattle.std.specs.Prelude.{ℕ, ◌≡◌, ◌≢◌, ◌+◌, ◌<◌, ◌≤◌, true, List, [], ◌∷◌, ◌++◌, take, fold, Option, Some, None, ◌⊎◌, IsSome, IsTrue, Contains, ⊤}
+use Rattle.std.specs.Prelude.{ℕ, ◌≡◌, ◌≢◌, ◌+◌, ◌<◌, ◌≤◌, List, [], ◌∷◌, ◌++◌, take, fold, Some, None, ◌⊎◌, IsSome, IsTrue, Contains, ⊤}
 use Rattle.std.specs.List.{AllByRecursion}
 use Rattle.catalog.specs.declared.catalogue.Catalogue.{Catalogue}
 use Rattle.matrix_geometry.specs.declared.address.Address.{Address}

@@ -1,5 +1,5 @@
 -- Which metatiles of a catalogue a cover hits, and which covers are of a catalogue.
-use Rattle.std.specs.Prelude.{ℕ, ◌≡◌, ◌≤◌, ◌<◌, Bool, false, List, [], ◌∷◌, Option, Some, None, IfSome, IsSome, IsSomeAnd, Contains, slice_get, length, ⊤}
+use Rattle.std.specs.Prelude.{ℕ, ◌≡◌, ◌<◌, Bool, false, List, [], ◌∷◌, Option, None, IfSome, IsSome, IsSomeAnd, Contains, slice_get, length, ⊤}
 use Rattle.std.specs.Option.{option_map_or}
 use Rattle.catalog.specs.declared.catalogue.Catalogue.{Catalogue}
 use Rattle.catalog.specs.declared.layer.Dimension.{Dimension}

@@ -1,5 +1,5 @@
 -- What contracts see of a cabinet.
-use Rattle.std.specs.Prelude.{ℕ, ◌≡◌, ◌+◌, ◌*◌, ◌-◌, ◌^◌, ◌≤◌, ◌<◌, List, [], ◌∷◌, ◌++◌, length, map, filter, find, not, Some, None, ⊤}
+use Rattle.std.specs.Prelude.{ℕ, ◌≡◌, ◌+◌, ◌*◌, ◌-◌, ◌^◌, ◌≤◌, List, [], ◌∷◌, ◌++◌, length, map, filter, find, not}
 use Rattle.std.specs.List.{AllByRecursion}
 use Rattle.std.specs.Option.{option_map_or}
 use Rattle.catalog.specs.declared.catalogue.Catalogue.{Catalogue}
@@ -58,6 +58,12 @@ pub record IsKnown (s : State) : Type 0 where
   pub blobs : map (λ b. b.kept) s.blobs ≡ (now s).kept
   pub lengths : AllByRecursion (λ b. (length b.text ≡ b.kept.length) × (b.kept.length ≡ blob_size s.catalogue b.kept.meta)) s.blobs
   pub left : (now s).front ≤ s.opening * 2 ^ 40 + (2 ^ 40 - 1)
+
+-- the cabinet is known, and has the catalogue and the opening of the one before
+pub record IsKnownAs (s new : State) : Type 0 where
+  pub known : IsKnown new
+  pub same_catalogue : new.catalogue ≡ s.catalogue
+  pub same_opening : new.opening ≡ s.opening
 
 -- SOUND: each blob that is kept is that of its metatile in the picture of its number
 abbrev pub IsSound : State → Type 0

@@ -1,1 +1,50 @@
-//! What holds of each history that a cabinet can have.
+//! What holds of each history that a cabinet can have, and what each row of a command leaves.
+ghost use Rattle.std.specs.Prelude.{Contains, List, Some, find, length, ℕ, ◌++◌, ◌≡◌, ◌≤◌};
+ghost use Rattle.catalog.specs.declared.catalogue.Catalogue.{Catalogue};
+ghost use Rattle.catalog.specs.LookUp.{IsTile};
+ghost use Rattle.catalog.specs.Valid.{IsValid};
+ghost use Rattle.matrix_geometry.specs.declared.address.Address.{Address};
+ghost use Rattle.metatile_locks.specs.Running.{has_number, render_of, running_for, unmarked};
+ghost use Rattle.metatile_locks.specs.Tickets.{Ticketed};
+ghost use Rattle.metatile_plan.specs.declared.metatile.MetaKey.{MetaKey};
+ghost use Rattle.raster_field.specs.Blocks.{IsMeta, blob_size, block_of};
+ghost use Rattle.truncation_list.specs.declared.book.Cut.{Cut};
+ghost use Rattle.truncation_list.specs.declared.cover.Cover.{Cover};
+ghost use Rattle.truncation_list.specs.Books.{AnswersFor};
+ghost use Rattle.cabinet.specs.declared.kept.Kept.{Kept};
+ghost use Rattle.cabinet.specs.declared.replies.Asked.{Asked};
+ghost use Rattle.cabinet.specs.declared.replies.CutReply.{CutReply};
+ghost use Rattle.cabinet.specs.declared.replies.Finished.{Finished};
+ghost use Rattle.cabinet.specs.declared.replies.Forced.{Forced};
+ghost use Rattle.cabinet.specs.Commands.{Abandons, Asks, Cuts, Finishes, Forces, IsFreshForced, IsFreshReply};
+ghost use Rattle.cabinet.specs.Fresh.{Differ, Holds, IsFresh, Possible, cuts_of};
+ghost use Rattle.cabinet.specs.Hits.{IsCoverOf};
+ghost use Rattle.cabinet.specs.History.{History, kept, kept_of, nothing, render, standing, ticket_render};
+ghost use Rattle.cabinet.specs.State.{IsKnown, IsKnownAs, State};
+
+/// What stands after a history agrees with the sentence on each metatile, each number and each ticket. What is kept for a
+/// tile is fresh at each place of the history, and stays so. Kept and running numbers keep to the cuts, the book answers for
+/// every cut that there was, and numbers differ.
+pub fn laws_of_histories()
+    ensures kept_is { (c : Catalogue) (opening : ℕ) (h : History) (m : MetaKey) → kept_of m (standing c (nothing opening) h) ≡ kept c h m }
+    ensures render_is { (c : Catalogue) (opening : ℕ) (h : History) (k : ℕ) → Possible c (nothing opening) h → find (has_number k) (standing c (nothing opening) h).out ≡ render c h k }
+    ensures ticket_is { (c : Catalogue) (opening : ℕ) (h : History) (t : Ticketed) → Possible c (nothing opening) h → render_of t (standing c (nothing opening) h).out ≡ ticket_render c h t }
+    ensures running_is { (c : Catalogue) (opening : ℕ) (h : History) (m : MetaKey) (k : ℕ) → Possible c (nothing opening) h → render c h k ≡ Some (unmarked k m) → running_for m (standing c (nothing opening) h).out ≡ Some k }
+    ensures fresh { (c : Catalogue) (opening : ℕ) (h : History) (p : ℕ) (a : Address) (t : Kept) → IsValid c → IsTile c a → Possible c (nothing opening) h → kept_of (block_of c a) (standing c (nothing opening) h) ≡ Some t → IsFresh c h p a t.number }
+    ensures later { (c : Catalogue) (h : History) (more : History) (p : ℕ) (a : Address) (k : ℕ) → p ≤ length h → IsFresh c h p a k → IsFresh c (h ++ more) p a k }
+    ensures holds { (c : Catalogue) (opening : ℕ) (h : History) → Possible c (nothing opening) h → Holds c (cuts_of h) (standing c (nothing opening) h) }
+    ensures answers { (c : Catalogue) (opening : ℕ) (h : History) (cut : Cut) → Possible c (nothing opening) h → Contains (cuts_of h) cut → AnswersFor (standing c (nothing opening) h).book cut }
+    ensures differ { (c : Catalogue) (opening : ℕ) (h : History) → Possible c (nothing opening) h → Differ (standing c (nothing opening) h) }
+{}
+
+/// Each row of a command leaves a known cabinet with the catalogue and the opening of before. The number of a hit or a
+/// ticket is fresh at the place of its ask or force.
+pub fn laws_of_rows()
+    ensures asks { (s : State) (new : State) (a : Address) (r : Asked) → IsKnown s → IsTile s.catalogue a → Asks s a r new → IsKnownAs s new }
+    ensures forces { (s : State) (new : State) (m : MetaKey) (r : Forced) → IsKnown s → IsMeta s.catalogue m → Forces s m r new → IsKnownAs s new }
+    ensures finishes { (s : State) (new : State) (t : Ticketed) (blob : List ℕ) (r : Finished) → IsKnown s → length blob ≡ blob_size s.catalogue t.meta → Finishes s t blob r new → IsKnownAs s new }
+    ensures abandons { (s : State) (new : State) (t : Ticketed) → IsKnown s → Abandons s t new → IsKnownAs s new }
+    ensures cuts { (s : State) (new : State) (cover : Cover) (r : CutReply) → IsKnown s → IsCoverOf s.catalogue cover → Cuts s cover r new → IsKnownAs s new }
+    ensures asks_fresh { (s : State) (new : State) (a : Address) (r : Asked) → IsKnown s → IsTile s.catalogue a → Asks s a r new → IsFreshReply s a r new }
+    ensures forces_fresh { (s : State) (new : State) (a : Address) (r : Forced) → IsKnown s → IsTile s.catalogue a → Forces s (block_of s.catalogue a) r new → IsFreshForced s a r new }
+{}

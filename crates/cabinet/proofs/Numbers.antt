@@ -1,0 +1,221 @@
+-- Kept and running numbers differ, and what runs agrees with the sentence on each number.
+use Rattle.std.proofs.Common.{◌&&◌, ℕ, ◌≡◌, ◌≢◌, Bool, true, false, cond, not, ◌==◌, List, [], ◌∷◌, ◌++◌, filter, fold, find, is_none, Option, Some, None, refl, sym, ap, subst, ◌∙◌, arith, eq-eqb}
+use Rattle.std.specs.List.{AllByRecursion}
+use Rattle.std.specs.Option.{option_map, option_or, option_and_then}
+use Rattle.std.proofs.lemmas.List.Folds.{find-append}
+use Rattle.std.proofs.lemmas.Bool.Decides.{nat_tests}
+use Rattle.catalog.specs.declared.catalogue.Catalogue.{Catalogue}
+use Rattle.metatile_plan.specs.declared.metatile.MetaKey.{MetaKey}
+use Rattle.metatile_plan.specs.Keys.{same_meta}
+use Rattle.metatile_plan.proofs.Same.{same_meta_is, same_meta_self}
+use Rattle.truncation_list.specs.declared.book.Cut.{Cut}
+use Rattle.metatile_locks.specs.declared.render.Render.{Render}
+use Rattle.metatile_locks.specs.Running.{overtaken, marked, unmarked, without, has_number, is_render_of, running_for, runs_for, render_of, OneRuns}
+use Rattle.metatile_locks.specs.Tickets.{Ticketed}
+use Rattle.metatile_locks.proofs.Lists.{all_weaker, all_map, all_passed, all_filter, find_filter}
+use Rattle.metatile_locks.proofs.Runs.{both, one, Differs, marked_is, none_runs, one_begun, one_filter, one_overtaken}
+use Rattle.cabinet.specs.declared.entry.Entry.{Entry}
+use Rattle.cabinet.specs.declared.entry.Entry.TheVariants as entry
+use Rattle.cabinet.specs.declared.kept.Kept.{Kept}
+use Rattle.cabinet.specs.Hits.{hits_of}
+use Rattle.cabinet.specs.History.{History, Standing, nothing, is_of, but, spared, after, standing, render_after, render, of_meta, ticket_render}
+use Rattle.cabinet.specs.Fresh.{May, Possible, cuts_after, Holds, HoldsOfRender, HoldsOfKept, ApartBy, Differ}
+use Rattle.cabinet.proofs.Holding.{holds_step, holds_nothing}
+use Rattle.cabinet.proofs.Lists.{all_push, all_found, all_both}
+
+-- NUMBERS THAT DIFFER
+
+apart_filter : {X : Type 0} (f : X → ℕ) (p : X → Bool) (xs : List X) → ApartBy f xs → ApartBy f (filter p xs)
+apart_filter f p [] a = tt
+apart_filter f p (x ∷ xs) a = chosen (p x) (apart_filter f p xs a.1)
+  where
+    chosen : (v : Bool) → ApartBy f (filter p xs) → ApartBy f (cond v (x ∷ filter p xs) (filter p xs))
+    chosen true rest = (all_filter (λ y. f x ≢ f y) p xs a.0, rest)
+    chosen false rest = rest
+
+apart_push : {X : Type 0} (f : X → ℕ) (xs : List X) (y : X) → ApartBy f xs → AllByRecursion (λ x. f x ≢ f y) xs → ApartBy f (xs ++ y ∷ [])
+apart_push f [] y a b = (tt, tt)
+apart_push f (x ∷ xs) y a b = (all_push (λ z. f x ≢ f z) xs y a.0 b.0, apart_push f xs y a.1 b.1)
+
+apart_marked : (is_hit : MetaKey → Bool) (t : ℕ) (rs : List Render) → ApartBy (λ r. r.number) rs → ApartBy (λ r. r.number) (overtaken is_hit t rs)
+apart_marked is_hit t [] a = tt
+apart_marked is_hit t (r ∷ rs) a = (
+  all_map (marked is_hit t) (λ (y : Render). (marked is_hit t r).number ≢ y.number) rs
+      (all_weaker (λ (y : Render). r.number ≢ y.number) (λ y. (marked is_hit t r).number ≢ (marked is_hit t y).number) (λ y h e. h (sym (marked_is is_hit t r).number ∙ e ∙ (marked_is is_hit t y).number)) rs a.0),
+  apart_marked is_hit t rs a.1,
+)
+
+-- the number differs from all kept ones
+abbrev OffKept : List Kept → ℕ → Type 0
+OffKept kept n = AllByRecursion (λ t. n ≢ t.number) kept
+
+both_marked : (is_hit : MetaKey → Bool) (t : ℕ) (kept : List Kept) (rs : List Render) → AllByRecursion (λ r. OffKept kept r.number) rs → AllByRecursion (λ r. OffKept kept r.number) (overtaken is_hit t rs)
+both_marked is_hit t kept rs a = all_map (marked is_hit t) (λ (r : Render). OffKept kept r.number) rs
+    (all_weaker (λ (r : Render). OffKept kept r.number) (λ r. OffKept kept (marked is_hit t r).number) (λ r h. subst (OffKept kept) (sym (marked_is is_hit t r).number) h) rs a)
+
+each_fewer : (q : Kept → Bool) (kept : List Kept) (out : List Render) → AllByRecursion (λ r. OffKept kept r.number) out → AllByRecursion (λ r. OffKept (filter q kept) r.number) out
+each_fewer q kept out a = all_weaker (λ (r : Render). OffKept kept r.number) (λ r. OffKept (filter q kept) r.number) (λ r h. all_filter (λ (t : Kept). r.number ≢ t.number) q kept h) out a
+
+each_unit : (rs : List Render) → AllByRecursion (λ (r : Render). Unit {0}) rs
+each_unit [] = tt
+each_unit (r ∷ rs) = (tt, each_unit rs)
+
+not_number : (k : ℕ) (r : Render) → not (has_number k r) ≡ true → r.number ≢ k
+not_number k r e n = let h : has_number k r ≡ true = eq-eqb r.number k n in absurd (let f : not (has_number k r) ≡ not true = ap not h in cc)
+
+stored_both : (t : Kept) (kept : List Kept) (out : List Render) → AllByRecursion (λ r. OffKept kept r.number) (without t.number out) → AllByRecursion (λ r. OffKept (kept ++ t ∷ []) r.number) (without t.number out)
+stored_both t kept out a =
+    let numbers : AllByRecursion (λ (r : Render). r.number ≢ t.number) (without t.number out) = all_passed (λ (r : Render). Unit {0}) (λ r. r.number ≢ t.number) (λ r. not (has_number t.number r)) (λ r e u. not_number t.number r e) out (each_unit out) in
+    all_weaker (λ (r : Render). OffKept kept r.number × (r.number ≢ t.number)) (λ r. OffKept (kept ++ t ∷ []) r.number)
+    (λ r h. all_push (λ (x : Kept). r.number ≢ x.number) kept t h.0 h.1) (without t.number out)
+    (all_both (λ (r : Render). OffKept kept r.number) (λ r. r.number ≢ t.number) (without t.number out) a numbers)
+
+differ_started : (c : Catalogue) (cuts : List Cut) (s : Standing) (k : ℕ) (m : MetaKey) → Holds c cuts s → Differ s → May c s (entry.Started k m) → Differ (after c s (entry.Started k m))
+differ_started c cuts s k m h d may = record {
+  out = apart_push (λ (r : Render). r.number) s.out (unmarked k m) d.out
+      (all_weaker (HoldsOfRender c cuts s.front s.book.floor) (λ r. r.number ≢ k) (λ r x e. let g = x.given in let i = may.0 in absurd (omega arith)) s.out h.out);
+  kept = d.kept;
+  both = all_push (λ (r : Render). OffKept s.kept r.number) s.out (unmarked k m) d.both
+      (all_weaker (HoldsOfKept c cuts s.front s.book.floor) (λ t. k ≢ t.number) (λ t x e. let g = x.given in let i = may.0 in absurd (omega arith)) s.kept h.kept);
+  one_runs = one_begun k m s.out (none_runs m s.out may.1) d.one_runs;
+}
+
+differ_stored : (c : Catalogue) (s : Standing) (t : Kept) → Differ s → May c s (entry.Stored t.number t.meta t.place t.length) → Differ (after c s (entry.Stored t.number t.meta t.place t.length))
+differ_stored c s t d may =
+    let r = all_found (λ (r : Render). OffKept s.kept r.number) (is_render_of (record { number = t.number; meta = t.meta })) s.out (unmarked t.number t.meta) d.both may.0 in
+    let fewer = each_fewer (λ x. not (is_of t.meta x)) s.kept (without t.number s.out) (all_filter (λ (r : Render). OffKept s.kept r.number) (λ r. not (has_number t.number r)) s.out d.both) in
+    record {
+      out = apart_filter (λ (r : Render). r.number) (λ r. not (has_number t.number r)) s.out d.out;
+      kept = apart_push (λ (x : Kept). x.number) (but t.meta s.kept) t (apart_filter (λ (x : Kept). x.number) (λ x. not (is_of t.meta x)) s.kept d.kept)
+          (all_filter (λ (x : Kept). x.number ≢ t.number) (λ x. not (is_of t.meta x)) s.kept (all_weaker (λ (x : Kept). t.number ≢ x.number) (λ x. x.number ≢ t.number) (λ x f e. f (sym e)) s.kept r));
+      both = stored_both t (but t.meta s.kept) s.out fewer;
+      one_runs = one_filter (λ r. not (has_number t.number r)) s.out d.one_runs;
+    }
+
+differ_step : (c : Catalogue) (cuts : List Cut) (s : Standing) (e : Entry) → Holds c cuts s → Differ s → May c s e → Differ (after c s e)
+differ_step c cuts s (entry.Started k m) h d may = differ_started c cuts s k m h d may
+differ_step c cuts s (entry.Cut t cover) h d may = record {
+  out = apart_marked (hits_of c cover) t s.out d.out;
+  kept = apart_filter (λ (x : Kept). x.number) (λ x. not (hits_of c cover x.meta)) s.kept d.kept;
+  both = both_marked (hits_of c cover) t (spared c cover s.kept) s.out (each_fewer (λ x. not (hits_of c cover x.meta)) s.kept s.out d.both);
+  one_runs = one_overtaken (hits_of c cover) t s.out d.one_runs;
+}
+differ_step c cuts s (entry.Missed t) h d may = record { out = d.out; kept = d.kept; both = d.both; one_runs = d.one_runs }
+differ_step c cuts s (entry.Stored k m place length) h d may = differ_stored c s (record { number = k; meta = m; place = place; length = length }) d may
+differ_step c cuts s (entry.Ended k) h d may = record {
+  out = apart_filter (λ (r : Render). r.number) (λ r. not (has_number k r)) s.out d.out;
+  kept = d.kept;
+  both = all_filter (λ (r : Render). OffKept s.kept r.number) (λ r. not (has_number k r)) s.out d.both;
+  one_runs = one_filter (λ r. not (has_number k r)) s.out d.one_runs;
+}
+differ_step c cuts s (entry.Used m) h d may = d
+differ_step c cuts s (entry.Dropped m) h d may = record {
+  out = d.out;
+  kept = apart_filter (λ (x : Kept). x.number) (λ x. not (is_of m x)) s.kept d.kept;
+  both = each_fewer (λ x. not (is_of m x)) s.kept s.out d.both;
+  one_runs = d.one_runs;
+}
+
+differ_run : (c : Catalogue) (cuts : List Cut) (s : Standing) (h : History) → Holds c cuts s → Differ s → Possible c s h → Differ (standing c s h)
+differ_run c cuts s [] hold d may = d
+differ_run c cuts s (e ∷ es) hold d may = differ_run c (cuts_after cuts e) (after c s e) es (holds_step c cuts s e hold may.0) (differ_step c cuts s e hold d may.0) may.1
+
+pub differ_is : (c : Catalogue) (opening : ℕ) (h : History) → Possible c (nothing opening) h → Differ (standing c (nothing opening) h)
+differ_is c opening h may = differ_run c [] (nothing opening) h (holds_nothing c opening) (record { out = tt; kept = tt; both = tt; one_runs = tt }) may
+
+-- BY NUMBER
+
+find_marked : (is_hit : MetaKey → Bool) (t k : ℕ) (rs : List Render) → find (has_number k) (overtaken is_hit t rs) ≡ option_map (marked is_hit t) (find (has_number k) rs)
+find_marked is_hit t k [] = refl
+find_marked is_hit t k (r ∷ rs) = chosen (has_number k r) (ap (λ (n : ℕ). n == k) (marked_is is_hit t r).number) (find_marked is_hit t k rs)
+  where
+    chosen : (v : Bool) → has_number k (marked is_hit t r) ≡ v → find (has_number k) (overtaken is_hit t rs) ≡ option_map (marked is_hit t) (find (has_number k) rs)
+        → cond (has_number k (marked is_hit t r)) (Some (marked is_hit t r)) (find (has_number k) (overtaken is_hit t rs)) ≡ option_map (marked is_hit t) (cond v (Some r) (find (has_number k) rs))
+    chosen true e ih = rw e refl
+    chosen false e ih = rw e ih
+
+nowhere : (k : ℕ) (rs : List Render) → AllByRecursion (λ r. r.number ≢ k) rs → find (has_number k) rs ≡ None
+nowhere k [] a = refl
+nowhere k (r ∷ rs) a = let n = a.0 in let e : (r.number == k) ≡ false = grind (arith, nat_tests) in rw e (nowhere k rs a.1)
+
+begun_at : (k j : ℕ) (m : MetaKey) (f : Option Render) (v : Bool) → (v ≡ true → j ≡ k) → (v ≡ true → f ≡ None) → option_or f (cond v (Some (unmarked j m)) None) ≡ cond v (Some (unmarked k m)) f
+begun_at k j m f true e n = rw (n refl, e refl) refl
+begun_at k j m None false e n = refl
+begun_at k j m (Some r) false e n = refl
+
+off_at : (v : Bool) (f : Option Render) → cond (not v) f None ≡ cond v None f
+off_at true f = refl
+off_at false f = refl
+
+without_is : (k j : ℕ) (rs : List Render) → find (has_number k) (without j rs) ≡ cond (j == k) None (find (has_number k) rs)
+without_is k j rs = find_filter (has_number k) (λ r. not (has_number j r)) (not (j == k)) (λ r is. let n : r.number ≡ k = one r.number k is in grind (arith, nat_tests)) rs ∙ off_at (j == k) (find (has_number k) rs)
+
+render_step : (c : Catalogue) (cuts : List Cut) (k : ℕ) (s : Standing) (e : Entry) → Holds c cuts s → May c s e → find (has_number k) (after c s e).out ≡ render_after c k (find (has_number k) s.out) e
+render_step c cuts k s (entry.Started j m) h may =
+    find-append (has_number k) s.out (unmarked j m ∷ [])
+    ∙ begun_at k j m (find (has_number k) s.out) (j == k) (λ e. one j k e) (λ e. nowhere k s.out (all_weaker (HoldsOfRender c cuts s.front s.book.floor) (λ r. r.number ≢ k) (λ r x n. let g = x.given in let i = may.0 in let q : j ≡ k = one j k e in absurd (omega arith)) s.out h.out))
+render_step c cuts k s (entry.Cut t cover) h may = find_marked (hits_of c cover) t k s.out
+render_step c cuts k s (entry.Missed t) h may = refl
+render_step c cuts k s (entry.Stored j m place length) h may = without_is k j s.out
+render_step c cuts k s (entry.Ended j) h may = without_is k j s.out
+render_step c cuts k s (entry.Used m) h may = refl
+render_step c cuts k s (entry.Dropped m) h may = refl
+
+render_run : (c : Catalogue) (cuts : List Cut) (k : ℕ) (s : Standing) (h : History) → Holds c cuts s → Possible c s h → find (has_number k) (standing c s h).out ≡ fold (render_after c k) (find (has_number k) s.out) h
+render_run c cuts k s [] hold may = refl
+render_run c cuts k s (e ∷ es) hold may =
+    render_run c (cuts_after cuts e) k (after c s e) es (holds_step c cuts s e hold may.0) may.1 ∙ ap (λ (o : Option Render). fold (render_after c k) o es) (render_step c cuts k s e hold may.0)
+
+pub render_is : (c : Catalogue) (opening : ℕ) (h : History) (k : ℕ) → Possible c (nothing opening) h → find (has_number k) (standing c (nothing opening) h).out ≡ render c h k
+render_is c opening h k may = render_run c [] k (nothing opening) h (holds_nothing c opening) may
+
+-- BY NUMBER AND METATILE
+
+no_render : (t : Ticketed) (rs : List Render) → AllByRecursion (λ r. t.number ≢ r.number) rs → render_of t rs ≡ None
+no_render t [] a = refl
+no_render t (r ∷ rs) a =
+    let n = a.0 in
+    let e : (r.number == t.number) ≡ false = grind (arith, nat_tests) in
+    rw e (no_render t rs a.1)
+
+render_at : (t : Ticketed) (r : Render) (rs : List Render) (v w : Bool) → has_number t.number r ≡ v → same_meta r.meta t.meta ≡ w → AllByRecursion (λ y. r.number ≢ y.number) rs
+    → render_of t rs ≡ option_and_then (of_meta t.meta) (find (has_number t.number) rs)
+    → cond (v && w) (Some r) (render_of t rs) ≡ option_and_then (of_meta t.meta) (cond v (Some r) (find (has_number t.number) rs))
+render_at t r rs true true e f a ih = rw f refl
+render_at t r rs true false e f a ih = rw f (no_render t rs (subst (λ (n : ℕ). AllByRecursion (λ (y : Render). n ≢ y.number) rs) (one r.number t.number e) a))
+render_at t r rs false w e f a ih = ih
+
+-- where numbers differ, the render of a ticket is the one of its number, if that is of its metatile
+by_number : (t : Ticketed) (rs : List Render) → ApartBy (λ r. r.number) rs → render_of t rs ≡ option_and_then (of_meta t.meta) (find (has_number t.number) rs)
+by_number t [] a = refl
+by_number t (r ∷ rs) a = render_at t r rs (has_number t.number r) (same_meta r.meta t.meta) refl refl a.0 (by_number t rs a.1)
+
+pub ticket_is : (c : Catalogue) (opening : ℕ) (h : History) (t : Ticketed) → Possible c (nothing opening) h → render_of t (standing c (nothing opening) h).out ≡ ticket_render c h t
+ticket_is c opening h t may = by_number t (standing c (nothing opening) h).out (differ_is c opening h may).out ∙ ap (option_and_then (of_meta t.meta)) (render_is c opening h t.number may)
+
+-- BY METATILE
+
+none_is : (o : Option ℕ) → is_none o ≡ true → o ≡ None
+none_is None e = refl
+none_is (Some n) e = absurd (cc)
+
+found_runs : (m : MetaKey) (k : ℕ) (rs : List Render) → OneRuns rs → find (has_number k) rs ≡ Some (unmarked k m) → running_for m rs ≡ Some k
+found_runs m k [] o e = absurd (cc)
+found_runs m k (x ∷ xs) o e = at (has_number k x) (runs_for m x) refl refl (λ f. found_runs m k xs o.1 f) e
+  where
+    at : (v w : Bool) → has_number k x ≡ v → runs_for m x ≡ w → (find (has_number k) xs ≡ Some (unmarked k m) → running_for m xs ≡ Some k)
+        → cond v (Some x) (find (has_number k) xs) ≡ Some (unmarked k m) → option_map (λ r. r.number) (cond w (Some x) (find (runs_for m) xs)) ≡ Some k
+    at true true n r ih e = ap Some (one x.number k n)
+    at true false n r ih e =
+        let same : x ≡ unmarked k m = cc in
+        let t : runs_for m x ≡ true = subst (λ (y : Render). runs_for m y ≡ true) (sym same) (rw (same_meta_self m) refl) in
+        absurd (let f : true ≡ false = sym t ∙ r in cc)
+    at false true n r ih e =
+        let p = both (same_meta x.meta m) (is_none x.mark) r in
+        let a = all_found (Differs x) (has_number k) xs (unmarked k m) o.0 e in
+        let same : x.meta ≡ m = same_meta_is x.meta m p.0 in
+        absurd (a (subst (λ (y : MetaKey). same_meta m y ≡ true) (sym same) (same_meta_self m)) (none_is x.mark p.1) refl)
+    at false false n r ih e = ih e
+
+pub running_is : (c : Catalogue) (opening : ℕ) (h : History) (m : MetaKey) (k : ℕ) → Possible c (nothing opening) h → render c h k ≡ Some (unmarked k m) → running_for m (standing c (nothing opening) h).out ≡ Some k
+running_is c opening h m k may e = found_runs m k (standing c (nothing opening) h).out (differ_is c opening h may).one_runs (render_is c opening h k may ∙ e)

@@ -1,0 +1,168 @@
+-- Each row of a command leaves a cabinet of which all that is said of cabinets holds, and what it hands out is fresh.
+use Rattle.std.proofs.Common.{ℕ, ◌≡◌, ◌+◌, ◌-◌, ◌*◌, ◌^◌, ◌<◌, ◌≤◌, Bool, true, false, cond, not, List, [], ◌∷◌, ◌++◌, length, map, filter, Some, None, refl, sym, ap, subst, ◌∙◌, inl, inr, arith}
+use Rattle.std.specs.Prelude.{nat_lt}
+use Rattle.std.specs.List.{AllByRecursion}
+use Rattle.std.proofs.lemmas.Bool.Decides.{nat_tests}
+use Rattle.std.proofs.lemmas.Grind.{fold-append}
+use Rattle.std.proofs.lemmas.List.{map-append}
+use Rattle.catalog.specs.declared.catalogue.Catalogue.{Catalogue}
+use Rattle.catalog.specs.LookUp.{IsTile}
+use Rattle.matrix_geometry.specs.declared.address.Address.{Address}
+use Rattle.metatile_plan.specs.declared.metatile.MetaKey.{MetaKey}
+use Rattle.raster_field.specs.Blocks.{IsMeta, block_of, blob_size}
+use Rattle.raster_field.proofs.Metas.{tile_meta}
+use Rattle.truncation_list.specs.declared.cover.Cover.{Cover}
+use Rattle.metatile_locks.specs.Tickets.{Ticketed}
+use Rattle.metatile_locks.proofs.Lists.{all_filter}
+use Rattle.cabinet.specs.declared.entry.Entry.{Entry}
+use Rattle.cabinet.specs.declared.entry.Entry.TheVariants as entry
+use Rattle.cabinet.specs.declared.kept.Kept.{Kept}
+use Rattle.cabinet.specs.declared.kept.KeptBlob.{KeptBlob}
+use Rattle.cabinet.specs.declared.replies.Asked.{Asked}
+use Rattle.cabinet.specs.declared.replies.Asked.TheVariants as asked
+use Rattle.cabinet.specs.declared.replies.Forced.{Forced}
+use Rattle.cabinet.specs.declared.replies.Forced.TheVariants as forced
+use Rattle.cabinet.specs.declared.replies.Finished.{Finished}
+use Rattle.cabinet.specs.declared.replies.Finished.TheVariants as finished
+use Rattle.cabinet.specs.declared.replies.CutReply.{CutReply}
+use Rattle.cabinet.specs.declared.replies.CutReply.TheVariants as reply
+use Rattle.cabinet.specs.Hits.{hits_of, IsCoverOf}
+use Rattle.cabinet.specs.History.{History, Standing, nothing, standing, after, next, is_of, but, spared}
+use Rattle.cabinet.specs.Fresh.{May, Possible, IsFresh}
+use Rattle.cabinet.specs.State.{State, now, with_entry, IsKnown, IsKnownAs}
+use Rattle.cabinet.specs.Commands.{Asks, Forces, Finishes, Abandons, Cuts, IsGiven, IsFreshReply, IsFreshForced, kept_at}
+use Rattle.cabinet.proofs.Fresher.{begun_fresh, kept_fresh, still_fresh}
+use Rattle.cabinet.proofs.Lists.{all_push, map_filter}
+
+pub possible_more : (c : Catalogue) (s : Standing) (h : History) (e : Entry) → Possible c s h → May c (standing c s h) e → Possible c s (h ++ e ∷ [])
+possible_more c s [] e a b = (b, tt)
+possible_more c s (x ∷ xs) e a b = (a.0, possible_more c (after c s x) xs e a.1 b)
+
+pub stood_more : (c : Catalogue) (s : Standing) (h : History) (e : Entry) → standing c s (h ++ e ∷ []) ≡ after c (standing c s h) e
+stood_more c s h e = rw fold-append refl
+
+-- NUMBERS
+
+pub record IsNext (front top k : ℕ) : Type 0 where
+  pub number : k ≡ front + 1
+  pub left : k ≤ top
+
+next_at : (front top k : ℕ) (v : Bool) → nat_lt front top ≡ v → cond v (Some (front + 1)) None ≡ Some k → IsNext front top k
+next_at front top k true is e = let d : front + 1 ≡ k = cc in let l : front < top = grind (arith, nat_tests) in record { number = sym d; left = omega arith }
+next_at front top k false is e = absurd (cc)
+
+pub next_is : (e : ℕ) (s : Standing) (k : ℕ) → next e s ≡ Some k → IsNext s.front (e * 2 ^ 40 + (2 ^ 40 - 1)) k
+next_is e s k h = next_at s.front (e * 2 ^ 40 + (2 ^ 40 - 1)) k (nat_lt s.front (e * 2 ^ 40 + (2 ^ 40 - 1))) refl h
+
+-- KNOWN
+
+the_same : (s t : State) → IsKnown s → t ≡ s → IsKnownAs s t
+the_same s t k is = rw is (record { known = k; same_catalogue = refl; same_opening = refl })
+
+-- one entry more, and what is kept then
+pub one_more : (s : State) (e : Entry) (blobs : List KeptBlob) → IsKnown s → May s.catalogue (now s) e → map (λ b. b.kept) blobs ≡ (after s.catalogue (now s) e).kept
+    → AllByRecursion (λ b. (length b.text ≡ b.kept.length) × (b.kept.length ≡ blob_size s.catalogue b.kept.meta)) blobs → (after s.catalogue (now s) e).front ≤ s.opening * 2 ^ 40 + (2 ^ 40 - 1)
+    → IsKnown (record { catalogue = s.catalogue; opening = s.opening; history = s.history ++ e ∷ []; blobs = blobs })
+one_more s e blobs k may kept long left =
+    let stood = stood_more s.catalogue (nothing s.opening) s.history e in
+    record {
+      valid = k.valid;
+      possible = possible_more s.catalogue (nothing s.opening) s.history e k.possible may;
+      blobs = kept ∙ ap (λ (x : Standing). x.kept) (sym stood);
+      lengths = long;
+      left = subst (λ (x : Standing). x.front ≤ s.opening * 2 ^ 40 + (2 ^ 40 - 1)) (sym stood) left;
+    }
+
+-- an entry that keeps and drops nothing
+entered : (s t : State) (e : Entry) → IsKnown s → May s.catalogue (now s) e → (after s.catalogue (now s) e).kept ≡ (now s).kept → (after s.catalogue (now s) e).front ≤ s.opening * 2 ^ 40 + (2 ^ 40 - 1) → t ≡ with_entry s e → IsKnownAs s t
+entered s t e k may kept left is = rw is (record { known = one_more s e s.blobs k may (k.blobs ∙ sym kept) k.lengths left; same_catalogue = refl; same_opening = refl })
+
+ended : (s t : State) (n : ℕ) → IsKnown s → t ≡ with_entry s (entry.Ended n) → IsKnownAs s t
+ended s t n k is = entered s t (entry.Ended n) k tt refl k.left is
+
+given : (s : State) (m : MetaKey) (ticket : Ticketed) (t : State) → IsKnown s → IsMeta s.catalogue m → IsGiven s m ticket t → IsKnownAs s t
+given s m ticket t k meta g =
+    let n = next_is s.opening (now s) ticket.number g.number in
+    let l = n.left in let f = k.left in
+    entered s t (entry.Started ticket.number m) k (n.number, g.none_runs, meta) refl (omega arith) g.state
+
+pub asks_known : (s t : State) (a : Address) (r : Asked) → IsKnown s → IsTile s.catalogue a → Asks s a r t → IsKnownAs s t
+asks_known s t a (asked.Hit n bytes) k tile r = entered s t (entry.Used (block_of s.catalogue a)) k (rw r.is_kept refl) refl k.left r.state
+asks_known s t a (asked.Busy n) k tile r = the_same s t k r.1.1
+asks_known s t a asked.Spent k tile r = the_same s t k r.1.2
+asks_known s t a (asked.Ticket ticket) k tile r = given s (block_of s.catalogue a) ticket t k (tile_meta s.catalogue a tile) r.1
+
+pub forces_known : (s t : State) (m : MetaKey) (r : Forced) → IsKnown s → IsMeta s.catalogue m → Forces s m r t → IsKnownAs s t
+forces_known s t m (forced.Busy n) k meta r = the_same s t k r.1
+forces_known s t m forced.Spent k meta r = the_same s t k r.2
+forces_known s t m (forced.Ticket ticket) k meta r = given s m ticket t k meta r
+
+-- what is kept, and another one in the place of its metatile's older one
+pub map_stored : (t : Kept) (text : List ℕ) (blobs : List KeptBlob) (kept : List Kept) → map (λ b. b.kept) blobs ≡ kept → map (λ b. b.kept) (filter (λ b. not (is_of t.meta b.kept)) blobs ++ record { kept = t; text = text } ∷ []) ≡ but t.meta kept ++ t ∷ []
+map_stored t text blobs kept e =
+    map-append (λ (b : KeptBlob). b.kept) (filter (λ b. not (is_of t.meta b.kept)) blobs) (record { kept = t; text = text } ∷ [])
+    ∙ ap (λ (ts : List Kept). ts ++ t ∷ []) (map_filter (λ (b : KeptBlob). b.kept) (λ x. not (is_of t.meta x)) blobs ∙ ap (but t.meta) e)
+
+stored : (s t : State) (ticket : Ticketed) (blob : List ℕ) → IsKnown s → length blob ≡ blob_size s.catalogue ticket.meta → Finishes s ticket blob finished.Kept t → IsKnownAs s t
+stored s t ticket blob k long r =
+    let place = r.2.0 in
+    let new = kept_at ticket r.2.0 (length blob) in
+    rw r.2.2 (record {
+      known = one_more s (entry.Stored ticket.number ticket.meta r.2.0 (length blob)) (filter (λ b. not (is_of ticket.meta b.kept)) s.blobs ++ record { kept = new; text = blob } ∷ []) k
+          (r.0, long, r.2.1) (map_stored new blob s.blobs (now s).kept k.blobs)
+          (all_push (λ (b : KeptBlob). (length b.text ≡ b.kept.length) × (b.kept.length ≡ blob_size s.catalogue b.kept.meta)) (filter (λ b. not (is_of ticket.meta b.kept)) s.blobs) (record { kept = new; text = blob })
+          (all_filter (λ (b : KeptBlob). (length b.text ≡ b.kept.length) × (b.kept.length ≡ blob_size s.catalogue b.kept.meta)) (λ b. not (is_of ticket.meta b.kept)) s.blobs k.lengths) (refl, long)) k.left;
+      same_catalogue = refl;
+      same_opening = refl;
+    })
+
+pub finishes_known : (s t : State) (ticket : Ticketed) (blob : List ℕ) (r : Finished) → IsKnown s → length blob ≡ blob_size s.catalogue ticket.meta → Finishes s ticket blob r t → IsKnownAs s t
+finishes_known s t ticket blob finished.Stranger k long r = the_same s t k r.1
+finishes_known s t ticket blob (finished.Overtaken c) k long r = ended s t ticket.number k r.1
+finishes_known s t ticket blob finished.Full k long r = ended s t ticket.number k r.2
+finishes_known s t ticket blob finished.NoRoom k long r = ended s t ticket.number k r.3
+finishes_known s t ticket blob finished.Kept k long r = stored s t ticket blob k long r
+
+pub abandons_known : (s t : State) (ticket : Ticketed) → IsKnown s → Abandons s ticket t → IsKnownAs s t
+abandons_known s t ticket k (inl r) = the_same s t k r.1
+abandons_known s t ticket k (inr r) = ended s t ticket.number k r.1
+
+pub map_spared : (c : Catalogue) (cover : Cover) (blobs : List KeptBlob) (kept : List Kept) → map (λ b. b.kept) blobs ≡ kept → map (λ b. b.kept) (filter (λ b. not (hits_of c cover b.kept.meta)) blobs) ≡ spared c cover kept
+map_spared c cover blobs kept e = map_filter (λ (b : KeptBlob). b.kept) (λ t. not (hits_of c cover t.meta)) blobs ∙ ap (spared c cover) e
+
+done : (s t : State) (cover : Cover) (n : ℕ) → IsKnown s → IsCoverOf s.catalogue cover → Cuts s cover (reply.Done n) t → IsKnownAs s t
+done s t cover n k of r =
+    let x = next_is s.opening (now s) n r.0 in
+    let l = x.left in let f = k.left in
+    rw r.2 (record {
+      known = one_more s (entry.Cut n cover) (filter (λ b. not (hits_of s.catalogue cover b.kept.meta)) s.blobs) k (x.number, of) (map_spared s.catalogue cover s.blobs (now s).kept k.blobs)
+          (all_filter (λ (b : KeptBlob). (length b.text ≡ b.kept.length) × (b.kept.length ≡ blob_size s.catalogue b.kept.meta)) (λ b. not (hits_of s.catalogue cover b.kept.meta)) s.blobs k.lengths) (omega arith);
+      same_catalogue = refl;
+      same_opening = refl;
+    })
+
+pub cuts_known : (s t : State) (cover : Cover) (r : CutReply) → IsKnown s → IsCoverOf s.catalogue cover → Cuts s cover r t → IsKnownAs s t
+cuts_known s t cover reply.Spent k of r = the_same s t k r.1
+cuts_known s t cover reply.Full k of r = the_same s t k r.2
+cuts_known s t cover (reply.Done n) k of r = done s t cover n k of r
+
+-- FRESH
+
+given_fresh : (s : State) (a : Address) (ticket : Ticketed) (t : State) → IsKnown s → IsTile s.catalogue a → IsGiven s (block_of s.catalogue a) ticket t → IsFresh s.catalogue t.history (length s.history) a ticket.number
+given_fresh s a ticket t k tile g =
+    subst (λ (x : State). IsFresh s.catalogue x.history (length s.history) a ticket.number) (sym g.state)
+    (begun_fresh s.catalogue s.opening s.history a ticket.number k.valid tile k.possible (next_is s.opening (now s) ticket.number g.number).number)
+
+pub asks_fresh : (s t : State) (a : Address) (r : Asked) → IsKnown s → IsTile s.catalogue a → Asks s a r t → IsFreshReply s a r t
+asks_fresh s t a (asked.Hit n bytes) k tile r =
+    let h = s.history ++ entry.Used (block_of s.catalogue a) ∷ [] in
+    let f = still_fresh s.catalogue s.history (entry.Used (block_of s.catalogue a) ∷ []) (length s.history) a r.kept.number (omega arith) (kept_fresh s.catalogue s.opening s.history (length s.history) a r.kept k.valid tile k.possible r.is_kept) in
+    subst (λ (m : ℕ). IsFresh s.catalogue t.history (length s.history) a m) (sym r.number) (subst (λ (x : State). IsFresh s.catalogue x.history (length s.history) a r.kept.number) (sym r.state) f)
+asks_fresh s t a (asked.Busy n) k tile r = tt
+asks_fresh s t a asked.Spent k tile r = tt
+asks_fresh s t a (asked.Ticket ticket) k tile r = given_fresh s a ticket t k tile r.1
+
+pub forces_fresh : (s t : State) (a : Address) (r : Forced) → IsKnown s → IsTile s.catalogue a → Forces s (block_of s.catalogue a) r t → IsFreshForced s a r t
+forces_fresh s t a (forced.Busy n) k tile r = tt
+forces_fresh s t a forced.Spent k tile r = tt
+forces_fresh s t a (forced.Ticket ticket) k tile r = given_fresh s a ticket t k tile r

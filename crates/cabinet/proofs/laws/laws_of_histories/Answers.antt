@@ -1,0 +1,22 @@
+use Rattle.truncation_list.specs.Books.{AnswersFor}
+use Rattle.cabinet.specs.History.{nothing, standing}
+use Rattle.cabinet.specs.Fresh.{cuts_of}
+use Rattle.cabinet.proofs.Fresher.{kept_fresh, still_fresh}
+use Rattle.cabinet.proofs.Holding.{holds_of}
+use Rattle.cabinet.proofs.Lists.{all_contained}
+use Rattle.cabinet.proofs.Numbers.{differ_is, render_is, running_is, ticket_is}
+use Rattle.cabinet.proofs.Sentences.{kept_is}
+use Rattle.cabinet.proofs.laws.laws_of_histories.Goals as goal
+
+pub returns : goal.returns
+returns c = record {
+  kept_is = kept_is;
+  render_is = render_is;
+  ticket_is = ticket_is;
+  running_is = running_is;
+  fresh = kept_fresh;
+  later = still_fresh;
+  holds = holds_of;
+  answers = λ c e h cut may has. all_contained (AnswersFor (standing c (nothing e) h).book) (cuts_of h) cut (holds_of c e h may).answers has;
+  differ = differ_is;
+}
