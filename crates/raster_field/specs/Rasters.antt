@@ -1,9 +1,14 @@
 -- What a raster shows, and the picture on a window.
-use Rattle.std.specs.Prelude.{ℕ, ◌≡◌, ◌+◌, ◌*◌, List, ◌++◌, length, take, drop, get_or, replicate, Option, Some, None}
+use Rattle.std.specs.Prelude.{ℕ, ◌≡◌, ◌+◌, ◌*◌, ◌≤◌, List, ◌++◌, length, take, drop, get_or, replicate, Option, Some, None, IsSomeAnd}
 use Rattle.std.specs.List.{flat_map, range_with_len}
+use Rattle.std.specs.Option.{option_map_or}
 use Rattle.catalog.specs.declared.catalogue.Catalogue.{Catalogue}
+use Rattle.catalog.specs.LookUp.{matrix_in}
+use Rattle.metatile_plan.specs.declared.metatile.MetaKey.{MetaKey}
 use Rattle.metatile_plan.specs.declared.window.Window.{Window}
+use Rattle.metatile_plan.specs.Plan.{window_of}
 use Rattle.raster_field.specs.declared.colour.Colour.{Colour}
+use Rattle.raster_field.specs.Blocks.{factors_at}
 use Rattle.raster_field.specs.Picture.{Scene, scene_of}
 use Rattle.raster_field.specs.TileText.{pixel_row}
 
@@ -47,6 +52,20 @@ abbrev pub with_row : ℕ → List ℕ → Image → Image
 with_row y row r = with_bytes (place_of r 0 y) row r
 
 -- WINDOWS OF A PICTURE
+
+-- the window of a metatile of the catalogue; where the catalogue hasn't its matrix, one of no pixels
+abbrev pub window_in : Catalogue → MetaKey → Window
+window_in c k = option_map_or (λ m. window_of (factors_at c k.theme) m k) (matrix_in c k.grid k.z) (record { meta = k; x = 0; y = 0; width = 0; height = 0 })
+
+-- a window of the metatile, within its matrix
+pub record IsWindowOf (c : Catalogue) (k : MetaKey) (w : Window) : Type 0 where
+  pub meta : w.meta ≡ k
+  pub within : IsSomeAnd (matrix_in c k.grid k.z) (λ m. (w.x + w.width ≤ m.cols * m.tile_w) × (w.y + w.height ≤ m.rows * m.tile_h))
+
+-- the raster has the window's size
+pub record HasSize (r : Image) (w : Window) : Type 0 where
+  pub width : r.width ≡ w.width
+  pub height : r.height ≡ w.height
 
 -- the pixels of a scene on a window, by rows from the top
 abbrev pub window_pixels : Scene → Window → List ℕ

@@ -1,18 +1,20 @@
 //! What a catalogue says of a metatile: its layer, its style, its matrix and its factors.
-ghost use Rattle.std.specs.Prelude.{◌≡◌, Some};
+ghost use Rattle.std.specs.Prelude.{◌≡◌, ◌≤◌, Some};
 ghost use Rattle.catalog.specs.LookUp.{IsTile, layer_of, matrix_in, style_of};
 ghost use Rattle.catalog.specs.Valid.{IsLayer, IsValid};
 ghost use Rattle.matrix_geometry.specs.Limits.{IsWithinLimits};
 ghost use Rattle.metatile_plan.specs.Plan.{IsMetaIn, IsPlan};
 ghost use Rattle.raster_field.specs.Blocks.{IsMeta, blob_size, block_of, factors_at, factors_of};
+ghost use Rattle.raster_field.specs.Rasters.{IsWindowOf, window_in};
 
 use catalog::catalogue::Catalogue;
 use catalog::layer::{Layer, Style};
 use matrix_geometry::address::Address;
 use matrix_geometry::matrix::Matrix;
 use metatile_plan::metatile::{Factors, MetaKey};
-use metatile_plan::plan::meta_of;
+use metatile_plan::plan::{meta_of, window};
 use metatile_plan::spans::blob_len;
+use metatile_plan::window::Window;
 
 /// The layer of a metatile of the catalogue.
 pub fn layer_of<'a>(catalogue: &'a Catalogue, meta: &MetaKey) -> &'a Layer
@@ -110,4 +112,17 @@ pub fn blob_size(catalogue: &Catalogue, meta: &MetaKey) -> u32
 {
     let layout = layout_of(catalogue, meta);
     blob_len(meta, &layout.factors, &layout.matrix)
+}
+
+/// The window of a metatile of the catalogue: the pixels that are rendered for it.
+pub fn window_at(catalogue: &Catalogue, meta: &MetaKey) -> Window
+    requires valid { IsValid catalogue.now }
+    requires meta { IsMeta catalogue.now meta.now }
+    ensures window { result ≡ window_in catalogue.now meta.now }
+    ensures within { IsWindowOf catalogue.now meta.now result }
+    ensures width { result.width ≤ 4224 }
+    ensures height { result.height ≤ 4224 }
+{
+    let layout = layout_of(catalogue, meta);
+    window(meta, &layout.factors, &layout.matrix)
 }

@@ -1,6 +1,6 @@
 //! Rasters: the pixels of a window.
 ghost use Rattle.std.specs.Prelude.{IfOk, ℕ, ◌+◌, ◌*◌, ◌<◌, ◌≡◌, ◌≤◌, ◌++◌, drop, length, take};
-ghost use Rattle.raster_field.specs.Rasters.{IsWhole, blank, colour_in, part_of_row, place_of, spliced, with_bytes, with_row};
+ghost use Rattle.raster_field.specs.Rasters.{HasSize, IsWhole, blank, colour_in, part_of_row, place_of, spliced, with_bytes, with_row};
 
 use crate::colour::Colour;
 use metatile_plan::window::Window;
@@ -39,7 +39,8 @@ impl Raster {
     pub fn new(alloc: Global, window: &Window) -> Result<Raster, AllocError>
         requires width { window.now.width ≤ 4224 }
         requires height { window.now.height ≤ 4224 }
-        ensures { IfOk result (λ r. r ≡ blank window.now) }
+        ensures black { IfOk result (λ r. r ≡ blank window.now) }
+        ensures size { IfOk result (λ r. HasSize r window.now) }
     {
         let size = window.height as usize * (window.width as usize * 3);
         Ok(Raster {
@@ -52,6 +53,7 @@ impl Raster {
     /// How many columns it has.
     pub fn width(&self) -> u32
         ensures width { result ≡ self.now.width }
+        ensures most { result ≤ 4224 }
         ensures whole { IsWhole self.now }
     {
         self.width
@@ -60,6 +62,7 @@ impl Raster {
     /// How many rows it has.
     pub fn height(&self) -> u32
         ensures height { result ≡ self.now.height }
+        ensures most { result ≤ 4224 }
         ensures whole { IsWhole self.now }
     {
         self.height
