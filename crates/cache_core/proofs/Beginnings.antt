@@ -1,8 +1,9 @@
 -- The first event of a request: a ticket that is given, and a hit.
-use Rattle.std.proofs.Common.{◌≡◌, ℕ, Bool, true, false, List, Option, Some, None, refl, sym, ◌∙◌, ap, subst}
+use Rattle.std.proofs.Common.{◌≡◌, ℕ, Bool, true, false, List, [], ◌∷◌, length, Option, Some, None, refl, sym, ◌∙◌, ap, subst}
 use Rattle.cabinet.specs.Commands.{IsGiven, IsHit, IsUnkept}
 use Rattle.cabinet.specs.declared.entry.Entry.{Entry}
 use Rattle.cabinet.specs.declared.entry.Entry.TheVariants as entry
+use Rattle.cabinet.specs.Fresh.{IsFresh}
 use Rattle.cabinet.specs.State.{State, with_entry, now, kept_text, IsSound}
 use Rattle.catalog.specs.LookUp.{IsTile}
 use Rattle.matrix_geometry.specs.declared.address.Address.{Address}
@@ -15,7 +16,7 @@ use Rattle.cache_core.specs.declared.actor.Step.{Step}
 use Rattle.cache_core.specs.declared.outcome.Outcome.{Outcome}
 use Rattle.cache_core.specs.declared.outcome.Outcome.TheVariants as outcome
 use Rattle.cache_core.specs.Begun.{Begins}
-use Rattle.cache_core.specs.Fits.{IsFit, IsAtWork, IsTrueActor, IsTrueOutcome}
+use Rattle.cache_core.specs.Fits.{IsFit, IsAtWork, IsTrueActor, IsTrueOutcome, IsFreshActor, IsFreshOutcome, Extends}
 use Rattle.cache_core.specs.Shown.{shown, IsFailed}
 use Rattle.cache_core.specs.Steps.{Stepped, began, asked, unless_kept, render_wanted, unless_busy, given, goes_on, ends, hit, ticket_for, tile_at}
 
@@ -25,12 +26,15 @@ shown_as step t actor o e f = rw e (rw f refl)
 entry_sound : (s t : State) (e : Entry) → t ≡ with_entry s e → IsSound s → IsSound t
 entry_sound s t e h sound = subst IsSound (sym h) sound
 
+entry_grows : (s t : State) (e : Entry) → t ≡ with_entry s e → Extends s.history t.history
+entry_grows s t e h = (e ∷ [], ap (λ u. u.history) h)
+
 entry_catalogue : (s t : State) (e : Entry) → t ≡ with_entry s e → t.catalogue ≡ s.catalogue
 entry_catalogue s t e h = ap (λ u. u.catalogue) h
 
 -- A TICKET
 
-module _ (s t : State) (a : Address) (k : Ticketed) (step : Step) (tile : IsTile s.catalogue a) (is_given : IsGiven s (block_of s.catalogue a) k t) (actor : step.actor ≡ Holding k a) (no_outcome : step.outcome ≡ None) where
+module _ (s t : State) (a : Address) (k : Ticketed) (step : Step) (tile : IsTile s.catalogue a) (is_given : IsGiven s (block_of s.catalogue a) k t) (actor : step.actor ≡ Holding k a) (no_outcome : step.outcome ≡ None) (fresh : IsFresh s.catalogue t.history (length s.history) a k.number) where
   ticket_is : ticket_for s a k.number ≡ k
   ticket_is = rw (sym is_given.meta) refl
 
@@ -49,6 +53,12 @@ module _ (s t : State) (a : Address) (k : Ticketed) (step : Step) (tile : IsTile
   answers : IsTrueOutcome s.catalogue a step.outcome
   answers = let P : Option Outcome → Type 0 = IsTrueOutcome s.catalogue a in subst P (sym no_outcome) tt
 
+  holds_fresh : IsFreshActor s.catalogue t.history (length s.history) a step.actor
+  holds_fresh = let P : Actor → Type 0 = IsFreshActor s.catalogue t.history (length s.history) a in subst P (sym actor) fresh
+
+  nothing_stale : IsFreshOutcome s.catalogue t.history (length s.history) a step.outcome
+  nothing_stale = let P : Option Outcome → Type 0 = IsFreshOutcome s.catalogue t.history (length s.history) a in subst P (sym no_outcome) tt
+
   goes_well : IsFailed step.actor → ⊥
   goes_well f = let P : Actor → Type 0 = IsFailed in subst P actor f
 
@@ -58,6 +68,8 @@ module _ (s t : State) (a : Address) (k : Ticketed) (step : Step) (tile : IsTile
       left = true; began = is_step; fits = fits; actor = is_true; not_failed = goes_well;
       sound = entry_sound s t (entry.Started k.number (block_of s.catalogue a)) is_given.state;
       truth = λ sound. answers;
+      held_fresh = holds_fresh; fresh = nothing_stale;
+      grows = entry_grows s t (entry.Started k.number (block_of s.catalogue a)) is_given.state;
       catalogue = entry_catalogue s t (entry.Started k.number (block_of s.catalogue a)) is_given.state;
     }
 
@@ -70,12 +82,15 @@ module _ (s t : State) (a : Address) (k : Ticketed) (step : Step) (tile : IsTile
 -- A HIT
 
 pub hit_asked : (s t : State) (a : Address) (k : ℕ) (bytes : List ℕ) (step : Step) → IsTile s.catalogue a → IsHit s a k bytes t → step.actor ≡ Idle
-    → step.outcome ≡ Some (outcome.Tile (tile_at true k bytes)) → (IsSound s → bytes ≡ tile_text s.catalogue k a) → Begins s a false step t
-hit_asked s t a k bytes step tile is_hit idle ended true_bytes =
+    → step.outcome ≡ Some (outcome.Tile (tile_at true k bytes)) → (IsSound s → bytes ≡ tile_text s.catalogue k a)
+    → IsFresh s.catalogue t.history (length s.history) a k → Begins s a false step t
+hit_asked s t a k bytes step tile is_hit idle ended true_bytes is_fresh =
     let P : Actor → Type 0 = IsAtWork s.catalogue a in
     let Q : Actor → Type 0 = IsTrueActor s.catalogue in
     let R : Actor → Type 0 = IsFailed in
     let Truly : Option Outcome → Type 0 = IsTrueOutcome s.catalogue a in
+    let Held : Actor → Type 0 = IsFreshActor s.catalogue t.history (length s.history) a in
+    let Answered : Option Outcome → Type 0 = IsFreshOutcome s.catalogue t.history (length s.history) a in
     let m = block_of s.catalogue a in
     let same : ends t (outcome.Tile (tile_at true k bytes)) ≡ hit s a is_hit.kept = rw is_hit.state (rw is_hit.number (rw is_hit.part refl)) in
     record {
@@ -86,5 +101,8 @@ hit_asked s t a k bytes step tile is_hit idle ended true_bytes =
       not_failed = λ f. subst R idle f;
       sound = entry_sound s t (entry.Used m) is_hit.state;
       truth = λ sound. subst Truly (sym ended) (true_bytes sound);
+      held_fresh = subst Held (sym idle) tt;
+      fresh = subst Answered (sym ended) is_fresh;
+      grows = entry_grows s t (entry.Used m) is_hit.state;
       catalogue = entry_catalogue s t (entry.Used m) is_hit.state;
     }

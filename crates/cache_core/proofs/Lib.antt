@@ -1,2 +1,3 @@
 pub mod Truth
 pub mod Beginnings
+pub mod Endings

@@ -1,18 +1,19 @@
 -- What a further event of a request came to.
-use Rattle.std.specs.Prelude.{ℕ, ◌≡◌, ◌≤◌, Bool, List, Option, Some}
+use Rattle.std.specs.Prelude.{ℕ, ◌≡◌, ◌≤◌, Bool, List, length, Option, Some}
 use Rattle.cabinet.specs.State.{State, IsSound}
 use Rattle.causes.specs.Causes.{Rose}
 use Rattle.matrix_geometry.specs.declared.address.Address.{Address}
 use Rattle.cache_core.specs.declared.actor.Actor.{Actor}
 use Rattle.cache_core.specs.declared.actor.Step.{Step}
-use Rattle.cache_core.specs.Fits.{IsFit, IsTrueActor, IsTrueOutcome}
+use Rattle.cache_core.specs.Fits.{IsFit, IsTrueActor, IsTrueOutcome, IsFreshActor, IsFreshOutcome, Extends, place_of}
 use Rattle.cache_core.specs.Shown.{shown, IsFailed}
 use Rattle.cache_core.specs.Steps.{advanced}
 
 -- From s an actor came to t by its next event, while the source, which tells this number or none, went from one count of
 -- faults to another: memory was left for it or not, a rendering gave a blob or failed, and all else is fixed. An actor that
 -- fits a request fits it afterwards. The source has failed at a render only where its count rose. Where the source tells that
--- it is the catalogue's, what is kept, held and answered stays true.
+-- it is the catalogue's, what is kept, held and answered stays true. What is held and answered
+-- is fresh at the request's place.
 pub record Advances (told : Option ℕ) (before after : ℕ) (s : State) (actor : Actor) (step : Step) (t : State) : Type 0 where
   pub left : Bool
   pub blob : Option (List ℕ)
@@ -23,4 +24,7 @@ pub record Advances (told : Option ℕ) (before after : ℕ) (s : State) (actor 
   pub sound : told ≡ Some s.catalogue.source → IsSound s → IsTrueActor s.catalogue actor → IsSound t
   pub held : told ≡ Some s.catalogue.source → IsSound s → IsTrueActor s.catalogue actor → IsTrueActor s.catalogue step.actor
   pub truth : (a : Address) → IsFit s.catalogue a actor → told ≡ Some s.catalogue.source → IsSound s → IsTrueActor s.catalogue actor → IsTrueOutcome s.catalogue a step.outcome
+  pub held_fresh : (a : Address) (p : ℕ) → IsFit s.catalogue a actor → p ≤ length s.history → IsFreshActor s.catalogue s.history p a actor → IsFreshActor s.catalogue t.history (place_of actor (length s.history) p) a step.actor
+  pub fresh : (a : Address) (p : ℕ) → IsFit s.catalogue a actor → p ≤ length s.history → IsFreshActor s.catalogue s.history p a actor → IsFreshOutcome s.catalogue t.history (place_of actor (length s.history) p) a step.outcome
+  pub grows : Extends s.history t.history
   pub catalogue : t.catalogue ≡ s.catalogue

@@ -1,14 +1,15 @@
 -- What the first event of a request came to.
-use Rattle.std.specs.Prelude.{ℕ, ◌≡◌, Bool}
+use Rattle.std.specs.Prelude.{ℕ, ◌≡◌, Bool, length}
 use Rattle.cabinet.specs.State.{State, IsSound}
 use Rattle.matrix_geometry.specs.declared.address.Address.{Address}
 use Rattle.cache_core.specs.declared.actor.Step.{Step}
-use Rattle.cache_core.specs.Fits.{IsFit, IsTrueActor, IsTrueOutcome}
+use Rattle.cache_core.specs.Fits.{IsFit, IsTrueActor, IsTrueOutcome, IsFreshActor, IsFreshOutcome, Extends}
 use Rattle.cache_core.specs.Shown.{shown, IsFailed}
 use Rattle.cache_core.specs.Steps.{began}
 
 -- From s a request for a tile, with force or without, came to t by its first event: memory was left for it or not, and all
--- else is fixed. The actor fits the request, the cabinet stays sound, and what is answered from a sound one is true.
+-- else is fixed. The actor fits the request, the cabinet stays sound, what is answered from a sound one is true, and
+-- what is held or answered is fresh at this ask.
 pub record Begins (s : State) (a : Address) (force : Bool) (step : Step) (t : State) : Type 0 where
   pub left : Bool
   pub began : shown step t ≡ began s a force left
@@ -17,4 +18,7 @@ pub record Begins (s : State) (a : Address) (force : Bool) (step : Step) (t : St
   pub not_failed : IsFailed step.actor → ⊥
   pub sound : IsSound s → IsSound t
   pub truth : IsSound s → IsTrueOutcome s.catalogue a step.outcome
+  pub held_fresh : IsFreshActor s.catalogue t.history (length s.history) a step.actor
+  pub fresh : IsFreshOutcome s.catalogue t.history (length s.history) a step.outcome
+  pub grows : Extends s.history t.history
   pub catalogue : t.catalogue ≡ s.catalogue

@@ -1,5 +1,5 @@
 -- Which actors fit a catalogue and a request, and when what they hold is true.
-use Rattle.std.specs.Prelude.{ℕ, ◌≡◌, ◌≢◌, false, List, length, Option, Some, None, ⊤}
+use Rattle.std.specs.Prelude.{ℕ, ◌≡◌, false, List, ◌++◌, length, Option, Some, None, ⊤}
 use Rattle.catalog.specs.declared.catalogue.Catalogue.{Catalogue}
 use Rattle.catalog.specs.LookUp.{IsTile}
 use Rattle.cabinet.specs.Fresh.{IsFresh}
@@ -21,7 +21,7 @@ IsTicketFor c a t = t.meta ≡ block_of c a
 -- the blob is of the metatile's length, and the tile is its part of it under the ticket's number
 pub record IsBlobFor (c : Catalogue) (a : Address) (t : Ticketed) (blob : List ℕ) (tile : Tile) : Type 0 where
   pub ticket : IsTicketFor c a t
-  pub length : Rattle.std.specs.Prelude.length blob ≡ blob_size c t.meta
+  pub size : length blob ≡ blob_size c t.meta
   pub miss : tile.hit ≡ false
   pub number : tile.number ≡ t.number
   pub part : tile.bytes ≡ tile_part c a blob
@@ -68,3 +68,16 @@ IsFreshOutcome c h p a (Some (outcome.Tile tile)) = IsFresh c h p a tile.number
 IsFreshOutcome c h p a (Some outcome.SourceFailed) = ⊤
 IsFreshOutcome c h p a (Some outcome.Spent) = ⊤
 IsFreshOutcome c h p a (Some outcome.NoMemory) = ⊤
+
+-- HISTORIES GO ON
+
+abbrev pub Extends : History → History → Type 0
+Extends h g = (more : History) × (g ≡ h ++ more)
+
+-- the place of a request after an event: that of its last ask or force
+abbrev pub place_of : Actor → ℕ → ℕ → ℕ
+place_of Idle here place = place
+place_of (Waiting a force) here place = here
+place_of (Holding t a) here place = place
+place_of (Rendered t blob tile) here place = place
+place_of (Failed t) here place = place

@@ -13,6 +13,7 @@ ghost use Rattle.cache_core.specs.Steps.{advanced, given_up, tile_at};
 use crate::actor::{Actor, Step};
 use crate::outcome::{Outcome, Tile};
 use cabinet::cabinet::Cabinet;
+use cabinet::laws::laws_of_rows;
 use cabinet::replies::{Asked, Forced};
 use exact_ratio::words::Words;
 use matrix_geometry::address::Address;
@@ -70,6 +71,7 @@ fn force(alloc: Global, cabinet: &mut Cabinet, address: &Address) -> Step
     requires { IsTile cabinet.old.catalogue address.now }
     ensures { Begins cabinet.old address.now true result cabinet.new }
 {
+    laws_of_rows();
     cabinet.known();
     let meta = block_of(cabinet.catalogue(), address);
     match cabinet.force(alloc, &meta) {

@@ -1,0 +1,84 @@
+-- The last event of a request: its ticket is handed in or given back.
+use Rattle.std.proofs.Common.{◌≡◌, ◌≤◌, ℕ, Bool, true, List, [], ◌∷◌, ◌++◌, length, Option, Some, None, inl, inr, refl, sym, ◌∙◌, ap, subst, arith, append-nil}
+use Rattle.cabinet.specs.Commands.{Abandons, Finishes, kept_at}
+use Rattle.cabinet.specs.declared.entry.Entry.TheVariants as entry
+use Rattle.cabinet.specs.declared.replies.Finished.{Finished}
+use Rattle.cabinet.specs.declared.replies.Finished.TheVariants as finished
+use Rattle.cabinet.specs.Fresh.{IsFresh}
+use Rattle.cabinet.specs.History.{History}
+use Rattle.cabinet.specs.State.{State, IsSound}
+use Rattle.cabinet.proofs.Fresher.{still_fresh}
+use Rattle.catalog.specs.declared.catalogue.Catalogue.{Catalogue}
+use Rattle.matrix_geometry.specs.declared.address.Address.{Address}
+use Rattle.metatile_locks.specs.Tickets.{Ticketed}
+use Rattle.cache_core.specs.declared.actor.Actor.{Actor}
+use Rattle.cache_core.specs.declared.actor.Actor.TheVariants.{Idle}
+use Rattle.cache_core.specs.declared.actor.Step.{Step}
+use Rattle.cache_core.specs.declared.outcome.Outcome.{Outcome}
+use Rattle.cache_core.specs.Advanced.{Advances}
+use Rattle.cache_core.specs.Fits.{IsFit, IsAtWork, IsTrueActor, IsTrueOutcome, IsFreshActor, IsFreshOutcome, Extends, place_of}
+use Rattle.cache_core.specs.Shown.{shown, IsFailed}
+use Rattle.cache_core.specs.Steps.{Stepped, advanced, ends}
+
+-- HISTORIES GO ON
+
+same_history : (s t : State) → t ≡ s → Extends s.history t.history
+same_history s t e = ([], ap (λ u. u.history) e ∙ sym (append-nil s.history))
+
+pub abandons_grow : (s t : State) (k : Ticketed) → Abandons s k t → Extends s.history t.history
+abandons_grow s t k (inl h) = same_history s t h.1
+abandons_grow s t k (inr h) = (entry.Ended k.number ∷ [], ap (λ u. u.history) h.1)
+
+pub finishes_grow : (s t : State) (k : Ticketed) (blob : List ℕ) (r : Finished) → Finishes s k blob r t → Extends s.history t.history
+finishes_grow s t k blob finished.Stranger h = same_history s t h.1
+finishes_grow s t k blob (finished.Overtaken cut) h = (entry.Ended k.number ∷ [], ap (λ u. u.history) h.1)
+finishes_grow s t k blob finished.Full h = (entry.Ended k.number ∷ [], ap (λ u. u.history) h.2)
+finishes_grow s t k blob finished.NoRoom h = (entry.Ended k.number ∷ [], ap (λ u. u.history) h.3)
+finishes_grow s t k blob finished.Kept h =
+    let kept = kept_at k h.2.0 (length blob) in (entry.Stored kept.number kept.meta kept.place kept.length ∷ [], ap (λ u. u.history) h.2.2)
+
+pub extends_fresh : (c : Catalogue) (h g : History) (p : ℕ) (a : Address) (k : ℕ) → Extends h g → p ≤ length h → IsFresh c h p a k → IsFresh c g p a k
+extends_fresh c h g p a k more within fresh = let P : History → Type 0 = λ x. IsFresh c x p a k in subst P (sym more.1) (still_fresh c h more.0 p a k within fresh)
+
+-- THE CATALOGUE STAYS
+
+pub abandons_catalogue : (s t : State) (k : Ticketed) → Abandons s k t → t.catalogue ≡ s.catalogue
+abandons_catalogue s t k (inl h) = ap (λ u. u.catalogue) h.1
+abandons_catalogue s t k (inr h) = ap (λ u. u.catalogue) h.1
+
+pub finishes_catalogue : (s t : State) (k : Ticketed) (blob : List ℕ) (r : Finished) → Finishes s k blob r t → t.catalogue ≡ s.catalogue
+finishes_catalogue s t k blob finished.Stranger h = ap (λ u. u.catalogue) h.1
+finishes_catalogue s t k blob (finished.Overtaken cut) h = ap (λ u. u.catalogue) h.1
+finishes_catalogue s t k blob finished.Full h = ap (λ u. u.catalogue) h.2
+finishes_catalogue s t k blob finished.NoRoom h = ap (λ u. u.catalogue) h.3
+finishes_catalogue s t k blob finished.Kept h = ap (λ u. u.catalogue) h.2.2
+
+-- THE LAST EVENT
+
+pub ending : (told : Option ℕ) (n : ℕ) (s t : State) (actor : Actor) (step : Step) (o : Outcome) (left : Bool) (blob : Option (List ℕ))
+    → step.actor ≡ Idle → step.outcome ≡ Some o → ends t o ≡ advanced s actor left blob → Extends s.history t.history → t.catalogue ≡ s.catalogue
+    → (told ≡ Some s.catalogue.source → IsSound s → IsTrueActor s.catalogue actor → IsSound t)
+    → ((a : Address) → IsFit s.catalogue a actor → IsTrueActor s.catalogue actor → IsTrueOutcome s.catalogue a (Some o))
+    → ((a : Address) (p : ℕ) → IsFit s.catalogue a actor → p ≤ length s.history → IsFreshActor s.catalogue s.history p a actor → IsFreshOutcome s.catalogue t.history (place_of actor (length s.history) p) a (Some o))
+    → Advances told n n s actor step t
+ending told n s t actor step o left blob idle ended is_step grows catalogue sound truth fresh =
+    let c = s.catalogue in
+    let Truly : Option Outcome → Address → Type 0 = λ x a. IsTrueOutcome c a x in
+    let Fresh : Option Outcome → ℕ → Address → Type 0 = λ x p a. IsFreshOutcome c t.history p a x in
+    let Works : Actor → Address → Type 0 = λ x a. IsAtWork c a x in
+    let Held : Actor → Type 0 = λ x. IsTrueActor c x in
+    let Young : Actor → ℕ → Address → Type 0 = λ x p a. IsFreshActor c t.history p a x in
+    let Failing : Actor → Type 0 = IsFailed in
+    record {
+      left = left; blob = blob;
+      advanced = rw idle (rw ended is_step);
+      fits = λ a fit. record { tile = fit.tile; work = subst (λ x. Works x a) (sym idle) tt };
+      later = omega arith;
+      cause = λ f. absurd (subst Failing idle f);
+      sound = sound;
+      held = λ h k l. subst Held (sym idle) tt;
+      truth = λ a fit h k l. subst (λ x. Truly x a) (sym ended) (truth a fit l);
+      held_fresh = λ a p fit within young. subst (λ x. Young x (place_of actor (length s.history) p) a) (sym idle) tt;
+      fresh = λ a p fit within young. subst (λ x. Fresh x (place_of actor (length s.history) p) a) (sym ended) (fresh a p fit within young);
+      grows = grows; catalogue = catalogue;
+    }
