@@ -1,7 +1,9 @@
 //! A source that is lent is a source.
 use crate::source::{Failed, Source};
 use catalog::catalogue::Catalogue;
-use matrix_geometry::address::Address;
+use metatile_locks::ticket::Ticket;
+use metatile_plan::window::Window;
+use raster_field::raster::Raster;
 
 impl<S: Source> Source for &mut S {
     ghost told = { λ s. S.told s.now };
@@ -11,10 +13,10 @@ impl<S: Source> Source for &mut S {
     fn render(
         &mut self,
         catalogue: &Catalogue,
-        number: u64,
-        address: &Address,
-        into: &mut [u8],
+        ticket: &Ticket,
+        window: &Window,
+        into: &mut Raster,
     ) -> Result<(), Failed> {
-        (**self).render(catalogue, number, address, into)
+        (**self).render(catalogue, ticket, window, into)
     }
 }

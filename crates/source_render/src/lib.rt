@@ -1,15 +1,13 @@
-//! Sources of pictures: what renders the pixels that a cache keeps.
+//! Sources of pictures: what renders the windows of which a cache cuts its tiles.
 //!
-//! Promises: `Source::render` leaves the picture of the asked number on the asked tile, where the source tells and is the
-//! catalogue's; it answers `Failed` only where the source's count of faults rose. `Numbered` never fails, and
-//! `Scripted` fails at its listed calls alone.
-//! Stands on raster_field, catalog, matrix_geometry and causes.
+//! Promises: `Source::render` leaves in the raster the picture of the ticket's number on the window, where the source tells
+//! and is the catalogue's; it answers `Failed` only where the source's count of faults rose. `Numbered` never fails, and
+//! `Scripted` fails at its listed calls alone. Stands on raster_field, metatile_locks, catalog, metatile_plan and causes.
 #![tactic(auto)]
 
 mod lent;
 pub mod numbered;
 mod painter;
+mod palette;
 pub mod scripted;
 pub mod source;
-#[cfg(test)]
-mod tests;

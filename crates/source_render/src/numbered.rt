@@ -1,9 +1,15 @@
-ghost use Rattle.std.specs.Prelude.{◌≡◌, Some};
+ghost use Rattle.std.specs.Prelude.{IsOk, OnOk, Some, ◌≡◌};
+ghost use Rattle.causes.specs.Causes.{HasCause};
+ghost use Rattle.catalog.specs.Valid.{IsValid};
+ghost use Rattle.raster_field.specs.Blocks.{IsMeta};
+ghost use Rattle.raster_field.specs.Rasters.{HasSize, IsWindowOf, picture_on};
 
 use crate::painter::paint;
 use crate::source::{Failed, Source};
 use catalog::catalogue::Catalogue;
-use matrix_geometry::address::Address;
+use metatile_locks::ticket::Ticket;
+use metatile_plan::window::Window;
+use raster_field::raster::Raster;
 
 /// A source of numbered pictures, which never fails.
 #[derive(Debug, Drop)]
@@ -28,11 +34,28 @@ impl Source for Numbered {
     fn render(
         &mut self,
         catalogue: &Catalogue,
-        number: u64,
-        address: &Address,
-        into: &mut [u8],
-    ) -> Result<(), Failed> {
-        paint(self.id, catalogue, number, address, into);
+        ticket: &Ticket,
+        window: &Window,
+        into: &mut Raster,
+    ) -> Result<(), Failed>
+        requires valid { IsValid catalogue.now }
+        requires meta { IsMeta catalogue.now ticket.now.meta }
+        requires window { IsWindowOf catalogue.now ticket.now.meta window.now }
+        requires size { HasSize into.old window.now }
+        ensures picture { OnOk result (Some self.old.id ≡ Some catalogue.now.source → into.new ≡ picture_on catalogue.now catalogue.now.source ticket.now.number window.now) }
+        ensures size { HasSize into.new window.now }
+        ensures cause { HasCause 0 0 result }
+        ensures told { Some self.new.id ≡ Some self.old.id }
+        ensures never { IsOk result }
+    {
+        paint(
+            self.id,
+            catalogue,
+            ticket.number(),
+            &ticket.meta(),
+            window,
+            into,
+        );
         Ok(())
     }
 }

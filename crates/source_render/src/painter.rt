@@ -1,159 +1,204 @@
-//! The pixels of a numbered picture.
-ghost use Rattle.std.specs.Prelude.{◌≡◌, ℕ, ◌+◌, ◌*◌, ◌^◌, ◌<◌, ◌≤◌, ◌++◌, length, take};
-ghost use Rattle.catalog.specs.LookUp.{IsTile};
-ghost use Rattle.catalog.specs.Valid.{IsValid, IsLayer};
+//! The pixels of a numbered picture on a window.
+ghost use Rattle.std.specs.Prelude.{◌≡◌, ◌+◌, ◌*◌, ◌%◌, ◌^◌, ◌<◌, ◌≤◌, ◌++◌, Some, length, take};
+ghost use Rattle.catalog.specs.Valid.{IsLayer, IsValid};
 ghost use Rattle.matrix_geometry.specs.Limits.{IsWithinLimits};
-ghost use Rattle.raster_field.specs.Picture.{cell_at, weighted, shade_of, value_at};
-ghost use Rattle.raster_field.specs.TileText.{bytes_of, pixel_row, tile_pixels, pixels, pixel_bytes};
-ghost use Rattle.source_render.specs.Shown.{shown};
+ghost use Rattle.raster_field.specs.Blocks.{IsMeta};
+ghost use Rattle.raster_field.specs.Picture.{cell_at, shade_of, value_at};
+ghost use Rattle.raster_field.specs.Rasters.{HasSize, IsWhole, IsWindowOf, picture_in, picture_on};
+ghost use Rattle.raster_field.specs.TileText.{pixel_row};
+ghost use Rattle.source_render.specs.Shown.{AreShares, IsPalette, shown};
 
+use crate::palette::{palette_of, put_pixel};
 use catalog::catalogue::Catalogue;
 use catalog::layer::{Layer, Style};
-use matrix_geometry::address::Address;
 use matrix_geometry::matrix::Matrix;
 use matrix_geometry::theme::Theme;
-use raster_field::colour::{Colour, colour_of};
+use metatile_plan::metatile::MetaKey;
+use metatile_plan::window::Window;
+use raster_field::colour::Colour;
+use raster_field::field::{cell_at, shade_of};
+use raster_field::layout::{layer_of, matrix_of, style_of};
+use raster_field::raster::Raster;
+
+/// The most columns of a window: 8 tiles of 512, and 64 on both sides.
+pub const MOST: usize = 4224;
+
+/// The bytes of so many pixels.
+const BYTES: usize = 12_672;
 
 /// What is painted: the render of a number, by a source, of a theme on a matrix.
 #[derive(Clone, Copy)]
-struct Painter<'a> {
-    source: u32,
-    number: u64,
-    theme: Theme,
-    matrix: Matrix,
-    layer: &'a Layer,
-    style: &'a Style,
+pub struct Painter<'a> {
+    pub source: u32,
+    pub number: u64,
+    pub theme: Theme,
+    pub matrix: Matrix,
+    pub layer: &'a Layer,
+    pub style: &'a Style,
 }
 
-fn wide(number: u32) -> u128
-    ensures value { result ≡ number }
-    ensures bound { result < 2 ^ 32 }
-{
-    u128::from(number)
-}
-
-fn weighted_sum(dims: &[u32]) -> u128
-    requires { length dims.now ≤ 4 }
-    ensures value { result ≡ weighted 1 dims.now }
-    ensures bound { result < 2 ^ 40 }
-{
-    let mut sum: u128 = 0;
-    let mut weight: u128 = 1;
-    for value in dims {
-        sum += weight * u128::from(*value);
-        weight += 1;
-    }
-    sum
-}
-
-/// What all pixels of a picture have in common.
-fn shade_of(source: u32, number: u64, theme: &Theme) -> u128
-    ensures value { result ≡ shade_of source number theme.now }
-    ensures bound { result < 2 ^ 80 }
-{
-    let dims = weighted_sum(&theme.dims);
-    u128::from(source) + 7 * u128::from(number) + 31 * wide(theme.layer) + 131 * dims
-}
-
-/// The ground cell of a pixel's column, or of its row.
-fn cell_at(matrix: &Matrix, layer: &Layer, x: u64) -> u128
+/// What a column adds to a value, less all whole 256.
+fn share_of(matrix: &Matrix, layer: &Layer, x: u64) -> u8
     requires matrix { IsWithinLimits matrix.now }
     requires layer { IsLayer layer.now }
     requires x { x < 2 ^ 41 }
-    ensures value { result ≡ cell_at matrix.now.span layer.now.cell x }
-    ensures bound { result < 2 ^ 112 }
+    ensures { result ≡ (17 * cell_at matrix.now.span layer.now.cell x) % 256 }
 {
-    let n = matrix.span.n.unsigned_abs();
-    let d = matrix.span.d.unsigned_abs();
-    (2 * u128::from(x) + 1) * n / (2 * d * u128::from(layer.cell))
+    (17 * cell_at(matrix, layer, x) % 256) as u8
 }
 
-fn put_pixel(into: &mut [u8], at: usize, colour: Colour)
-    requires { at + 3 ≤ length into.old }
-    ensures { take (at + 3) into.new ≡ take at into.old ++ bytes_of colour }
+/// What so many columns from `first` on add to a value.
+fn shares_of(matrix: &Matrix, layer: &Layer, first: u64, count: u32) -> [u8; MOST]
+    requires matrix { IsWithinLimits matrix.now }
+    requires layer { IsLayer layer.now }
+    requires count { count ≤ 4224 }
+    requires first { first + count ≤ 2 ^ 41 }
+    ensures { AreShares matrix.now.span layer.now.cell first count result }
 {
-    into[at] = colour.r;
-    into[at + 1] = colour.g;
-    into[at + 2] = colour.b;
+    let mut shares = [0; MOST];
+    for i in 0..count {
+        shares[i as usize] = share_of(matrix, layer, first + u64::from(i));
+    }
+    shares
+}
+
+fn sum_of(base: u8, share: u8) -> u8
+    ensures { result ≡ (base + share) % 256 }
+{
+    base.wrapping_add(share)
+}
+
+/// Sets a row of a raster.
+fn put_row(into: &mut Raster, y: u32, row: &[u8])
+    requires y { y < into.old.height }
+    requires row { length row.now ≡ into.old.width * 3 }
+    requires whole { IsWhole into.old }
+    ensures width { into.new.width ≡ into.old.width }
+    ensures height { into.new.height ≡ into.old.height }
+    ensures whole { IsWhole into.new }
+    ensures rows { take ((y + 1) * (into.old.width * 3)) into.new.bytes ≡ take (y * (into.old.width * 3)) into.old.bytes ++ row.now }
+{
+    into.set_row(y, row);
 }
 
 impl Painter<'_> {
-    /// The value of a pixel whose row's cell and whose shade are known.
-    fn value_at(&self, shade: u128, down: u128, x: u64, y: u64) -> u8
+    /// What a row of pixels adds to a value, with all that the pixels have in common.
+    fn base_of(&self, y: u64) -> u8
         requires matrix { IsWithinLimits self.now.matrix }
         requires layer { IsLayer self.now.layer.now }
-        requires shade { shade ≡ shade_of self.now.source self.now.number self.now.theme }
-        requires shade_bound { shade < 2 ^ 80 }
-        requires down { down ≡ cell_at self.now.matrix.span self.now.layer.now.cell y }
-        requires down_bound { down < 2 ^ 112 }
-        requires x { x < 2 ^ 41 }
-        ensures { result ≡ value_at (shown self.now) x y }
-    {
-        let across = cell_at(&self.matrix, self.layer, x);
-        ((shade + 17 * across + 13 * down) % 256) as u8
-    }
-
-    /// Paints so many pixels to the right of pixel (x, y) from byte `at` on.
-    #[tactic(auto, using(crate::proofs::Ranges::flat_map_range_more, std::proofs::lemmas::List::append_assoc))]
-    fn paint_row(&self, x: u64, y: u64, width: u32, into: &mut [u8], at: usize)
-        requires matrix { IsWithinLimits self.now.matrix }
-        requires layer { IsLayer self.now.layer.now }
-        requires x { x + width ≤ 2 ^ 41 }
         requires y { y < 2 ^ 41 }
-        requires room { at + 3 * width ≤ length into.old }
-        ensures { take (at + 3 * width) into.new ≡ take at into.old ++ pixel_row (shown self.now) x y width }
+        ensures { result ≡ (shade_of self.now.source self.now.number self.now.theme + 13 * cell_at self.now.matrix.span self.now.layer.now.cell y) % 256 }
     {
-        let shade = shade_of(self.source, self.number, &self.theme);
         let down = cell_at(&self.matrix, self.layer, y);
-        let mut next = at;
+        ((shade_of(self.source, self.number, &self.theme) + 13 * down) % 256) as u8
+    }
+
+    /// Paints so many pixels to the right of pixel (x, y).
+    #[tactic(auto, using(crate::proofs::Rows::value_of_parts, raster_field::proofs::Pieces::pieces_more, std::proofs::lemmas::List::append_assoc))]
+    fn paint_row(
+        &self,
+        palette: &[Colour; 256],
+        shares: &[u8; MOST],
+        x: u64,
+        y: u64,
+        width: u32,
+        into: &mut [u8],
+    )
+        requires matrix { IsWithinLimits self.now.matrix }
+        requires layer { IsLayer self.now.layer.now }
+        requires palette { IsPalette self.now.style.now.breaks palette.now }
+        requires shares { AreShares self.now.matrix.span self.now.layer.now.cell x width shares.now }
+        requires width { width ≤ 4224 }
+        requires y { y < 2 ^ 41 }
+        requires room { length into.old ≡ width * 3 }
+        ensures { into.new ≡ pixel_row (shown self.now) x y width }
+    {
+        let base = self.base_of(y);
         for i in 0..width {
-            let value = self.value_at(shade, down, x + u64::from(i), y);
-            put_pixel(into, next, colour_of(self.style, value));
-            next += 3;
+            let value = sum_of(base, shares[i as usize]);
+            put_pixel(into, i as usize * 3, palette[value as usize]);
         }
     }
 
-    /// Paints the pixels of a tile, by rows.
-    #[tactic(auto, using(crate::proofs::Ranges::flat_map_range_more, std::proofs::lemmas::List::append_assoc))]
-    fn paint_tile(&self, row: u32, col: u32, into: &mut [u8])
+    /// Paints the rows of a window, each in `row` first.
+    #[tactic(auto, using(raster_field::proofs::Pieces::pieces_more))]
+    fn paint_rows(
+        &self,
+        palette: &[Colour; 256],
+        shares: &[u8; MOST],
+        window: &Window,
+        row: &mut [u8],
+        into: &mut Raster,
+    )
         requires matrix { IsWithinLimits self.now.matrix }
         requires layer { IsLayer self.now.layer.now }
-        requires tile { (row < self.now.matrix.rows) × (col < self.now.matrix.cols) }
-        requires size { length into.old ≡ 3 * self.now.matrix.tile_w * self.now.matrix.tile_h }
-        ensures { into.new ≡ tile_pixels (shown self.now) row col }
+        requires palette { IsPalette self.now.style.now.breaks palette.now }
+        requires shares { AreShares self.now.matrix.span self.now.layer.now.cell window.now.x window.now.width shares.now }
+        requires width { window.now.width ≤ 4224 }
+        requires bottom { window.now.y + window.now.height ≤ 2 ^ 41 }
+        requires room { length row.old ≡ window.now.width * 3 }
+        requires size { HasSize into.old window.now }
+        requires whole { IsWhole into.old }
+        ensures { into.new ≡ picture_in (Some (shown self.now)) window.now }
     {
-        let left = u64::from(col) * u64::from(self.matrix.tile_w);
-        let top = u64::from(row) * u64::from(self.matrix.tile_h);
-        let width = 3 * self.matrix.tile_w as usize;
-        let mut at = 0;
-        for j in 0..self.matrix.tile_h {
-            self.paint_row(left, top + u64::from(j), self.matrix.tile_w, into, at);
-            at += width;
+        for j in 0..window.height {
+            self.paint_row(
+                palette,
+                shares,
+                window.x,
+                window.y + u64::from(j),
+                window.width,
+                row,
+            );
+            put_row(into, j, row);
         }
+    }
+
+    /// Paints a window.
+    fn paint(&self, window: &Window, into: &mut Raster)
+        requires matrix { IsWithinLimits self.now.matrix }
+        requires layer { IsLayer self.now.layer.now }
+        requires right { window.now.x + window.now.width ≤ 2 ^ 41 }
+        requires bottom { window.now.y + window.now.height ≤ 2 ^ 41 }
+        requires size { HasSize into.old window.now }
+        ensures { into.new ≡ picture_in (Some (shown self.now)) window.now }
+    {
+        let width = into.width();
+        let palette = palette_of(self.style);
+        let shares = shares_of(&self.matrix, self.layer, window.x, width);
+        let mut row = [0; BYTES];
+        self.paint_rows(
+            &palette,
+            &shares,
+            window,
+            &mut row[..width as usize * 3],
+            into,
+        );
     }
 }
 
-/// Paints the pixels of a tile of a catalogue, by rows, as the source of this number shows them in this render.
-pub fn paint(source: u32, catalogue: &Catalogue, number: u64, address: &Address, into: &mut [u8])
+/// Paints the picture of a source and a render on a window of a metatile of the catalogue.
+pub fn paint(
+    source: u32,
+    catalogue: &Catalogue,
+    number: u64,
+    meta: &MetaKey,
+    window: &Window,
+    into: &mut Raster,
+)
     requires valid { IsValid catalogue.now }
-    requires tile { IsTile catalogue.now address.now }
-    requires size { length into.old ≡ pixel_bytes catalogue.now address.now }
-    ensures { into.new ≡ pixels catalogue.now source number address.now }
+    requires meta { IsMeta catalogue.now meta.now }
+    requires window { IsWindowOf catalogue.now meta.now window.now }
+    requires size { HasSize into.old window.now }
+    ensures { into.new ≡ picture_on catalogue.now source number window.now }
 {
-    let (Some(matrix), Some(layer), Some(style)) = (
-        catalogue.matrix_at(address),
-        catalogue.layer_at(address),
-        catalogue.style_at(address),
-    ) else {
-        unreachable!()
-    };
     let painter = Painter {
         source,
         number,
-        theme: address.theme,
-        matrix: *matrix,
-        layer,
-        style,
+        theme: meta.theme,
+        matrix: *matrix_of(catalogue, meta),
+        layer: layer_of(catalogue, meta),
+        style: style_of(catalogue, meta),
     };
-    painter.paint_tile(address.row, address.col, into);
+    painter.paint(window, into);
 }

@@ -1,9 +1,15 @@
-ghost use Rattle.std.specs.Prelude.{◌≡◌, Some};
+ghost use Rattle.std.specs.Prelude.{Contains, IsErr, OnOk, Some, true, min, ◌+◌, ◌-◌, ◌^◌, ◌↔◌, ◌≡◌};
+ghost use Rattle.causes.specs.Causes.{HasCause};
+ghost use Rattle.catalog.specs.Valid.{IsValid};
+ghost use Rattle.raster_field.specs.Blocks.{IsMeta};
+ghost use Rattle.raster_field.specs.Rasters.{HasSize, IsWindowOf, picture_on};
 
 use crate::painter::paint;
 use crate::source::{Failed, Source};
 use catalog::catalogue::Catalogue;
-use matrix_geometry::address::Address;
+use metatile_locks::ticket::Ticket;
+use metatile_plan::window::Window;
+use raster_field::raster::Raster;
 
 /// A source of numbered pictures that fails at listed calls, for tests.
 #[derive(Debug, Drop)]
@@ -18,6 +24,8 @@ impl Scripted {
     /// The source of this number, which fails at the calls in `fail`, counted from 1.
     pub fn new(id: u32, fail: Vec<u64>) -> Scripted
         ensures id { result.id ≡ id }
+        ensures fail { result.fail.items ≡ fail.items }
+        ensures calls { result.calls ≡ 0 }
         ensures faults { result.faults ≡ 0 }
     {
         Scripted {
@@ -26,6 +34,16 @@ impl Scripted {
             calls: 0,
             faults: 0,
         }
+    }
+
+    /// Counts a call, and tells whether it is to fail.
+    fn next_fails(&mut self) -> bool
+        ensures calls { self.new.calls ≡ min (self.old.calls + 1) (2 ^ 64 - 1) }
+        ensures told { (result ≡ true) ↔ Contains self.old.fail.items self.new.calls }
+        ensures rest { (self.new.id ≡ self.old.id) × (self.new.fail.items ≡ self.old.fail.items) × (self.new.faults ≡ self.old.faults) }
+    {
+        self.calls = self.calls.saturating_add(1);
+        self.fail.as_slice().contains(&self.calls)
     }
 }
 
@@ -37,16 +55,34 @@ impl Source for Scripted {
     fn render(
         &mut self,
         catalogue: &Catalogue,
-        number: u64,
-        address: &Address,
-        into: &mut [u8],
-    ) -> Result<(), Failed> {
-        self.calls = self.calls.saturating_add(1);
-        if self.fail.as_slice().contains(&self.calls) {
+        ticket: &Ticket,
+        window: &Window,
+        into: &mut Raster,
+    ) -> Result<(), Failed>
+        requires valid { IsValid catalogue.now }
+        requires meta { IsMeta catalogue.now ticket.now.meta }
+        requires window { IsWindowOf catalogue.now ticket.now.meta window.now }
+        requires size { HasSize into.old window.now }
+        ensures picture { OnOk result (Some self.old.id ≡ Some catalogue.now.source → into.new ≡ picture_on catalogue.now catalogue.now.source ticket.now.number window.now) }
+        ensures size { HasSize into.new window.now }
+        ensures cause { HasCause self.old.faults self.new.faults result }
+        ensures told { Some self.new.id ≡ Some self.old.id }
+        ensures calls { self.new.calls ≡ min (self.old.calls + 1) (2 ^ 64 - 1) }
+        ensures fail { self.new.fail.items ≡ self.old.fail.items }
+        ensures listed { IsErr result ↔ Contains self.old.fail.items self.new.calls }
+    {
+        if self.next_fails() {
             self.faults = causes::one_more(self.faults);
             return Err(Failed);
         }
-        paint(self.id, catalogue, number, address, into);
+        paint(
+            self.id,
+            catalogue,
+            ticket.number(),
+            &ticket.meta(),
+            window,
+            into,
+        );
         Ok(())
     }
 }

@@ -1,12 +1,14 @@
-ghost use Rattle.std.specs.Prelude.{◌≡◌, ℕ, length, OnOk, Some};
+ghost use Rattle.std.specs.Prelude.{◌≡◌, ℕ, OnOk, Some};
 ghost use Rattle.std.specs.declared.option.Option.{Option};
 ghost use Rattle.causes.specs.Causes.{HasCause};
-ghost use Rattle.catalog.specs.LookUp.{IsTile};
 ghost use Rattle.catalog.specs.Valid.{IsValid};
-ghost use Rattle.raster_field.specs.TileText.{pixels, pixel_bytes};
+ghost use Rattle.raster_field.specs.Blocks.{IsMeta};
+ghost use Rattle.raster_field.specs.Rasters.{HasSize, IsWindowOf, picture_on};
 
 use catalog::catalogue::Catalogue;
-use matrix_geometry::address::Address;
+use metatile_locks::ticket::Ticket;
+use metatile_plan::window::Window;
+use raster_field::raster::Raster;
 
 /// A rendering that failed.
 #[derive(Clone, Copy, Debug, PartialEq, Eq)]
@@ -20,19 +22,21 @@ pub trait Source: Drop {
     /// How often it has failed. The count stays at its last value, 2^64 - 1.
     ghost faults: { Self → ℕ };
 
-    /// Renders the pixels of one tile under a render's number, three bytes a pixel, by rows from the top. `Failed` only
-    /// where the count of faults rose; `into` is then of no use.
+    /// Renders the picture of a ticket's number on a window of the ticket's metatile. `Failed` only where the count of faults
+    /// rose; `into` then shows anything.
     fn render(
         &mut self,
         catalogue: &Catalogue,
-        number: u64,
-        address: &Address,
-        into: &mut [u8],
+        ticket: &Ticket,
+        window: &Window,
+        into: &mut Raster,
     ) -> Result<(), Failed>
         requires valid { IsValid catalogue.now }
-        requires tile { IsTile catalogue.now address.now }
-        requires size { length into.old ≡ pixel_bytes catalogue.now address.now }
-        ensures picture { OnOk result (told self.old ≡ Some catalogue.now.source → into.new ≡ pixels catalogue.now catalogue.now.source number address.now) }
+        requires meta { IsMeta catalogue.now ticket.now.meta }
+        requires window { IsWindowOf catalogue.now ticket.now.meta window.now }
+        requires size { HasSize into.old window.now }
+        ensures picture { OnOk result (told self.old ≡ Some catalogue.now.source → into.new ≡ picture_on catalogue.now catalogue.now.source ticket.now.number window.now) }
+        ensures size { HasSize into.new window.now }
         ensures cause { HasCause (faults self.old) (faults self.new) result }
         ensures told { told self.new ≡ told self.old };
 }
