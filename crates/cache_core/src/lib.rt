@@ -7,4 +7,5 @@
 
 pub mod actor;
 pub mod outcome;
+mod render;
 pub mod steps;

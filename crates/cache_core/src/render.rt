@@ -1,0 +1,125 @@
+//! The render of a blob, and the copy of a tile out of it.
+ghost use Rattle.std.specs.Prelude.{ℕ, ◌≡◌, ◌≤◌, IfErr, IfOk, Some, length};
+ghost use Rattle.catalog.specs.LookUp.{IsTile};
+ghost use Rattle.catalog.specs.Valid.{IsValid};
+ghost use Rattle.causes.specs.Causes.{Rose};
+ghost use Rattle.raster_field.specs.Blocks.{IsMeta, blob_size, block_of, block_text, tile_part};
+ghost use Rattle.raster_field.specs.Rasters.{HasSize, picture_on, window_in};
+
+use catalog::catalogue::Catalogue;
+use exact_ratio::words::Words;
+use matrix_geometry::address::Address;
+use metatile_locks::ticket::Ticket;
+use metatile_plan::metatile::MetaKey;
+use ppm_slice::parts::tile_bytes;
+use ppm_slice::slicing::slice_blob;
+use raster_field::layout::{block_of, layout_of, window_at};
+use raster_field::raster::Raster;
+use source_render::source::Source;
+use std::alloc::{AllocError, Global};
+
+/// Why there is no blob.
+#[derive(Clone, Copy, Debug, PartialEq, Eq)]
+pub enum RenderFault {
+    /// The source failed.
+    Source,
+    /// Memory ran out.
+    Memory,
+}
+
+impl From<AllocError> for RenderFault {
+    ghost use Rattle.std.specs.Prelude.{◌≡◌};
+    ghost use Rattle.cache_core.specs.declared.render.RenderFault.TheVariants.{Memory};
+
+    ghost from_gives = { λ _ e. e ≡ Memory };
+
+    fn from(_: AllocError) -> Self {
+        RenderFault::Memory
+    }
+}
+
+/// The picture of a ticket's number on the window of its metatile, where the source tells.
+fn picture_of<S: Source>(
+    alloc: Global,
+    catalogue: &Catalogue,
+    source: &mut S,
+    ticket: &Ticket,
+) -> Result<Raster, RenderFault>
+    requires valid { IsValid catalogue.now }
+    requires meta { IsMeta catalogue.now ticket.now.meta }
+    ensures size { IfOk result (λ r. HasSize r (window_in catalogue.now ticket.now.meta)) }
+    ensures picture { IfOk result (λ r. S.told source.old ≡ Some catalogue.now.source → r ≡ picture_on catalogue.now catalogue.now.source ticket.now.number (window_in catalogue.now ticket.now.meta)) }
+    ensures later { S.faults source.old ≤ S.faults source.new }
+    ensures cause { IfErr result (λ e. e ≡ RenderFault.Source → Rose (S.faults source.old) (S.faults source.new)) }
+    ensures told { S.told source.new ≡ S.told source.old }
+{
+    let window = window_at(catalogue, &ticket.meta());
+    let mut raster = Raster::new(alloc, &window)?;
+    match source.render(catalogue, ticket, &window, &mut raster) {
+        Ok(()) => Ok(raster),
+        Err(_) => Err(RenderFault::Source),
+    }
+}
+
+/// The blob of a metatile of the catalogue out of a raster of its window. `AllocError` where memory runs out.
+fn blob_in(
+    alloc: Global,
+    catalogue: &Catalogue,
+    meta: &MetaKey,
+    raster: &Raster,
+) -> Result<Words, AllocError>
+    requires valid { IsValid catalogue.now }
+    requires meta { IsMeta catalogue.now meta.now }
+    requires size { HasSize raster.now (window_in catalogue.now meta.now) }
+    ensures size { IfOk result (λ blob. length blob ≡ blob_size catalogue.now meta.now) }
+    ensures text { IfOk result (λ blob. (number : ℕ) → raster.now ≡ picture_on catalogue.now catalogue.now.source number (window_in catalogue.now meta.now) → blob ≡ block_text catalogue.now number meta.now) }
+{
+    let layout = layout_of(catalogue, meta);
+    let blob = slice_blob(alloc, meta, &layout.factors, &layout.matrix, raster)?;
+    Ok(Words::of(blob))
+}
+
+/// The blob of a ticket's metatile, in the picture of the ticket's number where the source tells.
+pub fn blob_of<S: Source>(
+    alloc: Global,
+    catalogue: &Catalogue,
+    source: &mut S,
+    ticket: &Ticket,
+) -> Result<Words, RenderFault>
+    requires valid { IsValid catalogue.now }
+    requires meta { IsMeta catalogue.now ticket.now.meta }
+    ensures size { IfOk result (λ blob. length blob ≡ blob_size catalogue.now ticket.now.meta) }
+    ensures text { IfOk result (λ blob. S.told source.old ≡ Some catalogue.now.source → blob ≡ block_text catalogue.now ticket.now.number ticket.now.meta) }
+    ensures later { S.faults source.old ≤ S.faults source.new }
+    ensures cause { IfErr result (λ e. e ≡ RenderFault.Source → Rose (S.faults source.old) (S.faults source.new)) }
+    ensures told { S.told source.new ≡ S.told source.old }
+{
+    let raster = picture_of(alloc, catalogue, source, ticket)?;
+    let blob = blob_in(alloc, catalogue, &ticket.meta(), &raster)?;
+    Ok(blob)
+}
+
+/// A copy of the text of a tile in a blob of its metatile. `AllocError` where memory runs out.
+pub fn tile_in(
+    alloc: Global,
+    catalogue: &Catalogue,
+    blob: &Words,
+    address: &Address,
+) -> Result<Words, AllocError>
+    requires valid { IsValid catalogue.now }
+    requires tile { IsTile catalogue.now address.now }
+    requires size { length blob.now ≡ blob_size catalogue.now (block_of catalogue.now address.now) }
+    ensures { IfOk result (λ text. text ≡ tile_part catalogue.now address.now blob.now) }
+{
+    let meta = block_of(catalogue, address);
+    let layout = layout_of(catalogue, &meta);
+    let text = tile_bytes(
+        blob.bytes(),
+        &meta,
+        &layout.factors,
+        &layout.matrix,
+        address.row,
+        address.col,
+    );
+    Words::new(alloc, text)
+}
