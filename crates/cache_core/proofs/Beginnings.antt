@@ -65,10 +65,15 @@ module _ (s t : State) (a : Address) (k : Ticketed) (step : Step) (tile : IsTile
   module _ (force : Bool) (is_step : shown step t ≡ began s a force true) where
     pub begins_with : Begins s a force step t
     begins_with = record {
-      left = true; began = is_step; fits = fits; actor = is_true; not_failed = goes_well;
+      left = true;
+      began = is_step;
+      fits = fits;
+      actor = is_true;
+      not_failed = goes_well;
       sound = entry_sound s t (entry.Started k.number (block_of s.catalogue a)) is_given.state;
       truth = λ sound. answers;
-      held_fresh = holds_fresh; fresh = nothing_stale;
+      held_fresh = holds_fresh;
+      fresh = nothing_stale;
       grows = entry_grows s t (entry.Started k.number (block_of s.catalogue a)) is_given.state;
       catalogue = entry_catalogue s t (entry.Started k.number (block_of s.catalogue a)) is_given.state;
     }

@@ -1,5 +1,5 @@
 -- The last event of a request: its ticket is handed in or given back.
-use Rattle.std.proofs.Common.{◌≡◌, ◌≤◌, ℕ, Bool, true, List, [], ◌∷◌, ◌++◌, length, Option, Some, None, inl, inr, refl, sym, ◌∙◌, ap, subst, arith, append-nil}
+use Rattle.std.proofs.Common.{◌≡◌, ◌≤◌, ℕ, Bool, true, false, List, [], ◌∷◌, ◌++◌, length, Option, Some, None, inl, inr, refl, sym, ◌∙◌, ap, subst, arith, append-nil}
 use Rattle.cabinet.specs.Commands.{Abandons, Finishes, kept_at}
 use Rattle.cabinet.specs.declared.entry.Entry.TheVariants as entry
 use Rattle.cabinet.specs.declared.replies.Finished.{Finished}
@@ -11,14 +11,15 @@ use Rattle.cabinet.proofs.Fresher.{still_fresh}
 use Rattle.catalog.specs.declared.catalogue.Catalogue.{Catalogue}
 use Rattle.matrix_geometry.specs.declared.address.Address.{Address}
 use Rattle.metatile_locks.specs.Tickets.{Ticketed}
+use Rattle.raster_field.specs.Blocks.{blob_size, block_text, tile_part}
 use Rattle.cache_core.specs.declared.actor.Actor.{Actor}
-use Rattle.cache_core.specs.declared.actor.Actor.TheVariants.{Idle}
+use Rattle.cache_core.specs.declared.actor.Actor.TheVariants.{Idle, Holding, Rendered}
 use Rattle.cache_core.specs.declared.actor.Step.{Step}
 use Rattle.cache_core.specs.declared.outcome.Outcome.{Outcome}
 use Rattle.cache_core.specs.Advanced.{Advances}
 use Rattle.cache_core.specs.Fits.{IsFit, IsAtWork, IsTrueActor, IsTrueOutcome, IsFreshActor, IsFreshOutcome, Extends, place_of}
 use Rattle.cache_core.specs.Shown.{shown, IsFailed}
-use Rattle.cache_core.specs.Steps.{Stepped, advanced, ends}
+use Rattle.cache_core.specs.Steps.{Stepped, advanced, ends, tile_at}
 
 -- HISTORIES GO ON
 
@@ -55,13 +56,13 @@ finishes_catalogue s t k blob finished.Kept h = ap (λ u. u.catalogue) h.2.2
 
 -- THE LAST EVENT
 
-pub ending : (told : Option ℕ) (n : ℕ) (s t : State) (actor : Actor) (step : Step) (o : Outcome) (left : Bool) (blob : Option (List ℕ))
+pub ending : (told : Option ℕ) (before after : ℕ) → before ≤ after → (s t : State) (actor : Actor) (step : Step) (o : Outcome) (left : Bool) (blob : Option (List ℕ))
     → step.actor ≡ Idle → step.outcome ≡ Some o → ends t o ≡ advanced s actor left blob → Extends s.history t.history → t.catalogue ≡ s.catalogue
     → (told ≡ Some s.catalogue.source → IsSound s → IsTrueActor s.catalogue actor → IsSound t)
     → ((a : Address) → IsFit s.catalogue a actor → IsTrueActor s.catalogue actor → IsTrueOutcome s.catalogue a (Some o))
     → ((a : Address) (p : ℕ) → IsFit s.catalogue a actor → p ≤ length s.history → IsFreshActor s.catalogue s.history p a actor → IsFreshOutcome s.catalogue t.history (place_of actor (length s.history) p) a (Some o))
-    → Advances told n n s actor step t
-ending told n s t actor step o left blob idle ended is_step grows catalogue sound truth fresh =
+    → Advances told before after s actor step t
+ending told before after later s t actor step o left blob idle ended is_step grows catalogue sound truth fresh =
     let c = s.catalogue in
     let Truly : Option Outcome → Address → Type 0 = λ x a. IsTrueOutcome c a x in
     let Fresh : Option Outcome → ℕ → Address → Type 0 = λ x p a. IsFreshOutcome c t.history p a x in
@@ -70,15 +71,50 @@ ending told n s t actor step o left blob idle ended is_step grows catalogue soun
     let Young : Actor → ℕ → Address → Type 0 = λ x p a. IsFreshActor c t.history p a x in
     let Failing : Actor → Type 0 = IsFailed in
     record {
-      left = left; blob = blob;
+      left = left;
+      blob = blob;
       advanced = rw idle (rw ended is_step);
       fits = λ a fit. record { tile = fit.tile; work = subst (λ x. Works x a) (sym idle) tt };
-      later = omega arith;
+      later = later;
       cause = λ f. absurd (subst Failing idle f);
       sound = sound;
       held = λ h k l. subst Held (sym idle) tt;
       truth = λ a fit h k l. subst (λ x. Truly x a) (sym ended) (truth a fit l);
       held_fresh = λ a p fit within young. subst (λ x. Young x (place_of actor (length s.history) p) a) (sym idle) tt;
       fresh = λ a p fit within young. subst (λ x. Fresh x (place_of actor (length s.history) p) a) (sym ended) (fresh a p fit within young);
-      grows = grows; catalogue = catalogue;
+      grows = grows;
+      catalogue = catalogue;
+    }
+
+-- THE RENDER
+
+-- a blob was rendered, and its tile copied
+pub painted_on : (told : Option ℕ) (before after : ℕ) → before ≤ after → (s : State) (k : Ticketed) (a : Address) (blob bytes : List ℕ) (step : Step)
+    → IsFit s.catalogue a (Holding k a) → length blob ≡ blob_size s.catalogue k.meta → bytes ≡ tile_part s.catalogue a blob
+    → (told ≡ Some s.catalogue.source → blob ≡ block_text s.catalogue k.number k.meta)
+    → step.actor ≡ Rendered k blob (tile_at false k.number bytes) → step.outcome ≡ None → Advances told before after s (Holding k a) step s
+painted_on told before after later s k a blob bytes step fit size part text actor going =
+    let c = s.catalogue in
+    let tile = tile_at false k.number bytes in
+    let now_at : Actor = Rendered k blob tile in
+    let Works : Actor → Address → Type 0 = λ x b. IsAtWork c b x in
+    let Held : Actor → Type 0 = λ x. IsTrueActor c x in
+    let Young : Actor → ℕ → Address → Type 0 = λ x p b. IsFreshActor c s.history p b x in
+    let Truly : Option Outcome → Address → Type 0 = λ x b. IsTrueOutcome c b x in
+    let Fresh : Option Outcome → ℕ → Address → Type 0 = λ x p b. IsFreshOutcome c s.history p b x in
+    let Failing : Actor → Type 0 = IsFailed in
+    record {
+      left = true;
+      blob = Some blob;
+      advanced = rw actor (rw going (rw part refl));
+      fits = λ b fit_b. record { tile = fit_b.tile; work = subst (λ x. Works x b) (sym actor) (record { ticket = fit_b.work.1; size = size; miss = refl; number = refl; part = part ∙ ap (λ x. tile_part c x blob) fit_b.work.0 }) };
+      later = later;
+      cause = λ f. absurd (subst Failing actor f);
+      sound = λ h sound l. sound;
+      held = λ h sound l. subst Held (sym actor) (text h);
+      truth = λ b fit_b h sound l. subst (λ x. Truly x b) (sym going) tt;
+      held_fresh = λ b p fit_b within young. subst (λ x. Young x p b) (sym actor) young;
+      fresh = λ b p fit_b within young. subst (λ x. Fresh x p b) (sym going) tt;
+      grows = ([], sym (append-nil s.history));
+      catalogue = refl;
     }

@@ -1,10 +1,11 @@
-ghost use Rattle.std.specs.Prelude.{ℕ, ◌≡◌, ◌≤◌, Bool, true, false, List, None, Option, Some};
+ghost use Rattle.std.specs.Prelude.{ℕ, ◌≡◌, ◌≤◌, Bool, true, false, List, None, Option, Some, IfErr, IfOk, length};
 ghost use Rattle.cabinet.specs.State.{IsSound};
 ghost use Rattle.catalog.specs.LookUp.{IsTile};
 ghost use Rattle.catalog.specs.Valid.{IsValid};
 ghost use Rattle.causes.specs.Causes.{Rose};
 ghost use Rattle.matrix_geometry.specs.declared.address.Address.{Address};
-ghost use Rattle.cache_core.specs.Fits.{IsFit, IsTrueActor, IsTrueOutcome, IsFreshActor, IsFreshOutcome};
+ghost use Rattle.raster_field.specs.Blocks.{blob_size, block_text, tile_part};
+ghost use Rattle.cache_core.specs.Fits.{IsTicketFor, IsFit, IsTrueActor, IsTrueOutcome, IsFreshActor, IsFreshOutcome};
 ghost use Rattle.cache_core.specs.Advanced.{Advances};
 ghost use Rattle.cache_core.specs.Begun.{Begins};
 ghost use Rattle.cache_core.specs.Shown.{shown, IsFailed, IsIdle};
@@ -12,9 +13,11 @@ ghost use Rattle.cache_core.specs.Steps.{advanced, given_up, tile_at};
 
 use crate::actor::{Actor, Step};
 use crate::outcome::{Outcome, Tile};
+use crate::render::{RenderFault, blob_of, tile_in};
 use cabinet::cabinet::Cabinet;
 use cabinet::laws::laws_of_rows;
 use cabinet::replies::{Asked, Forced};
+use catalog::catalogue::Catalogue;
 use exact_ratio::words::Words;
 use matrix_geometry::address::Address;
 use metatile_locks::ticket::Ticket;
@@ -122,10 +125,89 @@ fn give_back(cabinet: &mut Cabinet, ticket: Ticket) -> Step
 
 /// Gives a ticket back where memory ran out.
 fn run_out(cabinet: &mut Cabinet, ticket: Ticket, _address: &Address) -> Step
-    ensures { (told : Option ℕ) (n : ℕ) → Advances told n n cabinet.old (Actor.Holding ticket _address.now) result cabinet.new }
+    ensures { (told : Option ℕ) (before after : ℕ) → before ≤ after → Advances told before after cabinet.old (Actor.Holding ticket _address.now) result cabinet.new }
 {
     cabinet.abandon(ticket);
     ends(Outcome::NoMemory)
+}
+
+/// A blob that was rendered, and the copy of its tile.
+struct Sliced {
+    blob: Words,
+    bytes: Words,
+}
+
+/// Renders the blob of a ticket's metatile, and copies its tile.
+fn painted<S: Source>(
+    alloc: Global,
+    catalogue: &Catalogue,
+    source: &mut S,
+    ticket: &Ticket,
+    address: &Address,
+) -> Result<Sliced, RenderFault>
+    requires valid { IsValid catalogue.now }
+    requires tile { IsTile catalogue.now address.now }
+    requires ticket { IsTicketFor catalogue.now address.now ticket.now }
+    ensures size { IfOk result (λ p. length p.blob ≡ blob_size catalogue.now ticket.now.meta) }
+    ensures part { IfOk result (λ p. p.bytes ≡ tile_part catalogue.now address.now p.blob) }
+    ensures text { IfOk result (λ p. S.told source.old ≡ Some catalogue.now.source → p.blob ≡ block_text catalogue.now ticket.now.number ticket.now.meta) }
+    ensures later { S.faults source.old ≤ S.faults source.new }
+    ensures cause { IfErr result (λ e. e ≡ RenderFault.Source → Rose (S.faults source.old) (S.faults source.new)) }
+    ensures told { S.told source.new ≡ S.told source.old }
+{
+    laws_of_metatiles();
+    let blob = blob_of(alloc, catalogue, source, ticket)?;
+    let bytes = tile_in(alloc, catalogue, &blob, address)?;
+    Ok(Sliced { blob, bytes })
+}
+
+/// Renders the blob of a ticket.
+fn render<S: Source>(
+    alloc: Global,
+    cabinet: &mut Cabinet,
+    source: &mut S,
+    ticket: Ticket,
+    address: &Address,
+) -> Step
+    requires { IsFit cabinet.old.catalogue address.now (Actor.Holding ticket address.now) }
+    ensures advances { Advances (S.told source.old) (S.faults source.old) (S.faults source.new) cabinet.old (Actor.Holding ticket address.now) result cabinet.new }
+    ensures told { S.told source.new ≡ S.told source.old }
+{
+    cabinet.known();
+    match painted(alloc, cabinet.catalogue(), source, &ticket, address) {
+        Ok(Sliced { blob, bytes }) => {
+            let number = ticket.number();
+            let tile = Tile {
+                hit: false,
+                number,
+                bytes,
+            };
+            goes_on(Actor::Rendered(ticket, blob, tile))
+        }
+        Err(RenderFault::Source) => goes_on(Actor::Failed(ticket)),
+        Err(RenderFault::Memory) => run_out(cabinet, ticket, address),
+    }
+}
+
+/// Makes the next event of an actor. An idle one has none.
+pub fn advance<S: Source>(
+    alloc: Global,
+    cabinet: &mut Cabinet,
+    source: &mut S,
+    actor: Actor,
+) -> Step
+    requires busy { IsIdle actor → ⊥ }
+    requires fits { (a : Address) × IsFit cabinet.old.catalogue a actor }
+    ensures advances { Advances (S.told source.old) (S.faults source.old) (S.faults source.new) cabinet.old actor result cabinet.new }
+    ensures told { S.told source.new ≡ S.told source.old }
+{
+    match actor {
+        Actor::Idle => goes_on(Actor::Idle),
+        Actor::Waiting(address, with_force) => ask_again(alloc, cabinet, &address, with_force),
+        Actor::Holding(ticket, address) => render(alloc, cabinet, source, ticket, &address),
+        Actor::Rendered(ticket, blob, tile) => hand_in(cabinet, ticket, blob, tile),
+        Actor::Failed(ticket) => give_back(cabinet, ticket),
+    }
 }
 
 /// Ends a request without an outcome: a ticket that the actor holds is abandoned.

@@ -6,7 +6,7 @@ use Rattle.cache_core.proofs.Truth.{abandoned_sound}
 use Rattle.cache_core.proofs.steps.run_out.Goals as goal
 
 pub returns : goal.returns
-returns c told n =
+returns c told before after later =
     let s = c.args.cabinet.now in let t = c.abandon.new.self in let k = c.args.ticket in let row = c.abandon.ensures in
-    ending told n s t (Holding k c.args._address.now) c.ends.result NoMemory false None c.ends.ensures.actor c.ends.ensures.outcome (search Rattle.std.proofs.Common.rules)
-      (abandons_grow s t k row) (abandons_catalogue s t k row) (λ h sound l. abandoned_sound s t k row sound) (λ a fit l. tt) (λ a p fit within young. tt)
+    ending told before after later s t (Holding k c.args._address.now) c.ends.result NoMemory false None c.ends.ensures.actor c.ends.ensures.outcome (search Rattle.std.proofs.Common.rules)
+    (abandons_grow s t k row) (abandons_catalogue s t k row) (λ h sound l. abandoned_sound s t k row sound) (λ a fit l. tt) (λ a p fit within young. tt)
