@@ -1,0 +1,86 @@
+-- The reading of the path of a RESTful request (OGC 07-057r7, section 10): the capabilities at their one path, and a tile at
+-- `/rest/wmts/<layer>/{Style}/{each dimension}/{TileMatrixSet}/{TileMatrix}/{TileRow}/{TileCol}.ppm`.
+use Rattle.std.specs.Prelude.{ℕ, ◌+◌, ◌-◌, Bool, true, ◌==◌, ◌&&◌, not, nat_lt, if◌then◌else◌, List, [], ◌∷◌, ◌++◌, length, take, drop, get_or, map, zip, Option, Some, None, option_map, option_and_then, unwrap_or, codes, bytes_eq}
+use Rattle.std.specs.List.{list_all, slice_split}
+use Rattle.std.specs.Option.{option_map_or}
+use Rattle.std.specs.Str.{is_utf8}
+use Rattle.std.specs.Str.Lossy.{utf8_lossy}
+use Rattle.catalog.specs.declared.catalogue.Catalogue.{Catalogue}
+use Rattle.catalog.specs.declared.layer.Dimension.{Dimension}
+use Rattle.catalog.specs.LookUp.{layer_named}
+use Rattle.percent_encoding.specs.Percent.{percent_decode}
+use Rattle.wmts_kvp.specs.declared.query.Query.{Query}
+use Rattle.wmts_kvp.specs.declared.query.Query.TheVariants.{Capabilities}
+use Rattle.wmts_kvp.specs.Reading.{reading}
+use Rattle.wmts_kvp.specs.Rows.{dimensions_of}
+
+abbrev pub capabilities_path : List ℕ
+capabilities_path = codes "/rest/wmts/WMTSCapabilities.xml"
+
+-- a text without the front, where it begins so
+abbrev pub after : List ℕ → List ℕ → Option (List ℕ)
+after front text = if bytes_eq (take (length front) text) front then Some (drop (length front) text) else None
+
+-- a text without the ending, where it ends so
+abbrev pub before : List ℕ → List ℕ → Option (List ℕ)
+before ending text =
+    if bytes_eq (drop (length text - length ending) text) ending then Some (take (length text - length ending) text) else None
+
+-- the segments behind `/rest/wmts/`, the last one without its `.ppm`
+unfoldable pub segments_of : List ℕ → Option (List (List ℕ))
+segments_of path =
+    option_map (slice_split (λ b. b == 47)) (option_and_then (before (codes ".ppm")) (after (codes "/rest/wmts/") path))
+
+-- 6 to 10 segments, none of them empty, as the last one has its `.ppm`
+unfoldable pub are_segments : List (List ℕ) → Bool
+are_segments segments =
+    nat_lt 5 (length segments) && nat_lt (length segments) 11
+    && list_all (λ s. nat_lt 0 (length s)) (take (length segments - 1) segments)
+
+-- a segment as text: escapes decoded, and U+FFFD for each sequence that isn't UTF-8
+abbrev pub text_of : List ℕ → List ℕ
+text_of segment = utf8_lossy (percent_decode segment)
+
+-- the number of the layer that the first text names
+abbrev pub layer_of : Catalogue → List (List ℕ) → Option ℕ
+layer_of c texts = layer_named c (get_or texts 0 [])
+
+-- its dimensions
+abbrev pub dimensions_there : Catalogue → List (List ℕ) → List Dimension
+dimensions_there c texts = unwrap_or (option_map (dimensions_of c) (layer_of c texts)) []
+
+-- where there is such a layer, each of its dimensions has a text
+abbrev pub is_complete : Catalogue → List (List ℕ) → Bool
+is_complete c texts =
+    option_map_or (λ layer. length texts == 6 + length (dimensions_of c layer)) (layer_of c texts) true
+
+-- the parameters that the segments give, in order
+abbrev pub names_of : List Dimension → List (List ℕ)
+names_of ds =
+    (codes "layer" ∷ codes "style" ∷ map (λ d. d.id) ds)
+    ++ (codes "TileMatrixSet" ∷ codes "TileMatrix" ∷ codes "TileRow" ∷ codes "TileCol" ∷ [])
+
+-- the parameters that have one value for all tiles
+abbrev pub supplied : List (List ℕ × List ℕ)
+supplied =
+    (codes "service", codes "WMTS") ∷ (codes "request", codes "GetTile") ∷ (codes "version", codes "1.0.0")
+    ∷ (codes "format", codes "image/x-portable-pixmap") ∷ []
+
+-- the pairs that the texts spell
+unfoldable pub pairs_of : Catalogue → List (List ℕ) → List (List ℕ × List ℕ)
+pairs_of c texts = supplied ++ zip (names_of (dimensions_there c texts)) texts
+
+-- what texts ask for
+abbrev pub texts_reading : Catalogue → List (List ℕ) → Option Query
+texts_reading c texts = if is_complete c texts then Some (reading c (pairs_of c texts)) else None
+
+-- what segments ask for
+unfoldable pub segments_reading : Catalogue → List (List ℕ) → Option Query
+segments_reading c segments = if are_segments segments then texts_reading c (map text_of segments) else None
+
+-- what a path asks for, where it asks for anything
+unfoldable pub path_reading : Catalogue → List ℕ → Option Query
+path_reading c path =
+    if not (is_utf8 path) then None
+    else if bytes_eq path capabilities_path then Some Capabilities
+    else option_and_then (segments_reading c) (segments_of path)
