@@ -1,8 +1,7 @@
 -- The reading of the path of a RESTful request (OGC 07-057r7, section 10): the capabilities at their one path, and a tile at
 -- `/rest/wmts/<layer>/{Style}/{each dimension}/{TileMatrixSet}/{TileMatrix}/{TileRow}/{TileCol}.ppm`.
-use Rattle.std.specs.Prelude.{ℕ, ◌+◌, ◌-◌, Bool, true, ◌==◌, ◌&&◌, not, nat_lt, if◌then◌else◌, List, [], ◌∷◌, ◌++◌, length, take, drop, get_or, map, zip, Option, Some, None, option_map, option_and_then, unwrap_or, codes, bytes_eq}
+use Rattle.std.specs.Prelude.{ℕ, ◌+◌, ◌-◌, Bool, true, ◌==◌, ◌&&◌, not, nat_lt, if◌then◌else◌, List, [], ◌∷◌, ◌++◌, length, take, drop, map, zip, Option, Some, None, option_map, option_and_then, unwrap_or, codes, bytes_eq}
 use Rattle.std.specs.List.{list_all, slice_split}
-use Rattle.std.specs.Option.{option_map_or}
 use Rattle.std.specs.Str.{is_utf8}
 use Rattle.std.specs.Str.Lossy.{utf8_lossy}
 use Rattle.catalog.specs.declared.catalogue.Catalogue.{Catalogue}
@@ -17,6 +16,10 @@ use Rattle.wmts_kvp.specs.Rows.{dimensions_of}
 abbrev pub capabilities_path : List ℕ
 capabilities_path = codes "/rest/wmts/WMTSCapabilities.xml"
 
+-- what a tile's path begins with
+abbrev pub front : List ℕ
+front = codes "/rest/wmts/"
+
 -- a text without the front, where it begins so
 abbrev pub after : List ℕ → List ℕ → Option (List ℕ)
 after front text = if bytes_eq (take (length front) text) front then Some (drop (length front) text) else None
@@ -26,10 +29,13 @@ abbrev pub before : List ℕ → List ℕ → Option (List ℕ)
 before ending text =
     if bytes_eq (drop (length text - length ending) text) ending then Some (take (length text - length ending) text) else None
 
+-- what stands between `/rest/wmts/` and `.ppm`
+unfoldable pub inside : List ℕ → Option (List ℕ)
+inside path = option_and_then (before (codes ".ppm")) (after front path)
+
 -- the segments behind `/rest/wmts/`, the last one without its `.ppm`
-unfoldable pub segments_of : List ℕ → Option (List (List ℕ))
-segments_of path =
-    option_map (slice_split (λ b. b == 47)) (option_and_then (before (codes ".ppm")) (after (codes "/rest/wmts/") path))
+abbrev pub segments_of : List ℕ → Option (List (List ℕ))
+segments_of path = option_map (slice_split (λ b. b == 47)) (inside path)
 
 -- 6 to 10 segments, none of them empty, as the last one has its `.ppm`
 unfoldable pub are_segments : List (List ℕ) → Bool
@@ -41,18 +47,14 @@ are_segments segments =
 abbrev pub text_of : List ℕ → List ℕ
 text_of segment = utf8_lossy (percent_decode segment)
 
--- the number of the layer that the first text names
-abbrev pub layer_of : Catalogue → List (List ℕ) → Option ℕ
-layer_of c texts = layer_named c (get_or texts 0 [])
+-- the dimensions of a layer, where there is one
+abbrev pub dimensions_at : Catalogue → Option ℕ → List Dimension
+dimensions_at c layer = unwrap_or (option_map (dimensions_of c) layer) []
 
--- its dimensions
-abbrev pub dimensions_there : Catalogue → List (List ℕ) → List Dimension
-dimensions_there c texts = unwrap_or (option_map (dimensions_of c) (layer_of c texts)) []
-
--- where there is such a layer, each of its dimensions has a text
-abbrev pub is_complete : Catalogue → List (List ℕ) → Bool
-is_complete c texts =
-    option_map_or (λ layer. length texts == 6 + length (dimensions_of c layer)) (layer_of c texts) true
+-- where there is a layer, each of its dimensions has a text
+abbrev pub is_complete : Catalogue → Option ℕ → ℕ → Bool
+is_complete c None count = true
+is_complete c (Some layer) count = count == 6 + length (dimensions_of c layer)
 
 -- the parameters that the segments give, in order
 abbrev pub names_of : List Dimension → List (List ℕ)
@@ -66,13 +68,23 @@ supplied =
     (codes "service", codes "WMTS") ∷ (codes "request", codes "GetTile") ∷ (codes "version", codes "1.0.0")
     ∷ (codes "format", codes "image/x-portable-pixmap") ∷ []
 
--- the pairs that the texts spell
-unfoldable pub pairs_of : Catalogue → List (List ℕ) → List (List ℕ × List ℕ)
-pairs_of c texts = supplied ++ zip (names_of (dimensions_there c texts)) texts
+-- the pairs that texts spell under these names
+abbrev pub pairs_under : List (List ℕ) → List (List ℕ) → List (List ℕ × List ℕ)
+pairs_under names texts = supplied ++ zip names texts
 
--- what texts ask for
+-- the pairs that the texts of a layer spell
+unfoldable pub pairs_of : Catalogue → Option ℕ → List (List ℕ) → List (List ℕ × List ℕ)
+pairs_of c layer texts = pairs_under (names_of (dimensions_at c layer)) texts
+
+-- what texts ask for in a layer, where there is one
+abbrev pub layer_reading : Catalogue → Option ℕ → List (List ℕ) → Option Query
+layer_reading c layer texts =
+    if is_complete c layer (length texts) then Some (reading c (pairs_of c layer texts)) else None
+
+-- what texts ask for, of which the first names the layer
 abbrev pub texts_reading : Catalogue → List (List ℕ) → Option Query
-texts_reading c texts = if is_complete c texts then Some (reading c (pairs_of c texts)) else None
+texts_reading c [] = None
+texts_reading c (first ∷ rest) = layer_reading c (layer_named c first) (first ∷ rest)
 
 -- what segments ask for
 unfoldable pub segments_reading : Catalogue → List (List ℕ) → Option Query

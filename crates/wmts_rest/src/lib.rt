@@ -6,4 +6,8 @@
 #![tactic(auto)]
 
 mod route;
+mod segments;
+mod spelling;
 pub mod table;
+#[cfg(test)]
+mod tests;
