@@ -12,6 +12,7 @@ mod lines;
 pub mod outcome;
 pub mod request;
 mod response;
+mod routes;
 mod run_line;
 mod run_lines;
 pub mod schedule;
