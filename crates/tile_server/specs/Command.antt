@@ -109,26 +109,26 @@ pub record Inputs : Type 0 where
   pub capabilities : Input
   pub lines : Input
 
--- That nothing was done to an input, or to output and source, is a fact of its own for each of them.
-module _ (i : Inputs) (o : Outside) (Capabilities Lines Others : Type 0) where
+-- That an input stays as it was, or output and source do, is a fact of its own for each of them.
+module _ (i : Inputs) (o : Outside) (CapabilitiesStay LinesStay OthersStay : Type 0) where
   -- both files were read, and the schedule was run with them and ended so
   abbrev pub HasEnded : ScheduleEnd → Type 0
-  HasEnded e = (c : Catalogue) × IsRead i.catalogue (Ok c) × (text : List ℕ) × IsDocument i.capabilities text × (t : World) × Schedules i.lines o Others (fresh_world c text) t e
+  HasEnded e = (c : Catalogue) × IsRead i.catalogue (Ok c) × (text : List ℕ) × IsDocument i.capabilities text × (t : World) × Schedules i.lines o OthersStay (fresh_world c text) t e
 
-  -- one input is the first of which its fact holds: those before it were read, and nothing was done to those behind it
+  -- one input is the first of which its fact holds: those before it were read, and those behind it stay as they were
   abbrev pub AtFirst : Type 0 → Type 0 → Type 0 → Type 0
   AtFirst OfCatalogue OfCapabilities OfLines =
-      (OfCatalogue × Capabilities × Lines)
-      ⊎ ((c : Catalogue) × IsRead i.catalogue (Ok c) × OfCapabilities × Lines)
+      (OfCatalogue × CapabilitiesStay × LinesStay)
+      ⊎ ((c : Catalogue) × IsRead i.catalogue (Ok c) × OfCapabilities × LinesStay)
       ⊎ ((c : Catalogue) × IsRead i.catalogue (Ok c) × (text : List ℕ) × IsDocument i.capabilities text × OfLines)
 
-  -- what each status says; where no line was run, output and source are as they were
+  -- what each status says; where no line was run, output and source stay as they were
   abbrev pub HasServed : Type 0 → Status → Type 0
-  HasServed Catalogue status.Usage = Catalogue × Capabilities × Lines × Others
-  HasServed Catalogue (status.Catalogue fault) = IsRead i.catalogue (Err fault) × Capabilities × Lines × Others
-  HasServed Catalogue status.ReadFault = AtFirst (HasRisen i.catalogue) (HasRisen i.capabilities) (HasRisen i.lines) × Others
-  HasServed Catalogue status.TooLong = AtFirst (IsTooLongText i.catalogue) (IsTooLongDocument i.capabilities) (IsTooLong i.lines) × Others
-  HasServed Catalogue status.OutOfMemory = AtFirst ⊤ ⊤ ⊤ × Others
-  HasServed Catalogue status.Done = HasEnded end.Done
-  HasServed Catalogue (status.Line n) = HasEnded (end.Line n)
-  HasServed Catalogue status.WriteFault = HasEnded end.WriteFault
+  HasServed CatalogueStays status.Usage = CatalogueStays × CapabilitiesStay × LinesStay × OthersStay
+  HasServed CatalogueStays (status.Catalogue fault) = IsRead i.catalogue (Err fault) × CapabilitiesStay × LinesStay × OthersStay
+  HasServed CatalogueStays status.ReadFault = AtFirst (HasRisen i.catalogue) (HasRisen i.capabilities) (HasRisen i.lines) × OthersStay
+  HasServed CatalogueStays status.TooLong = AtFirst (IsTooLongText i.catalogue) (IsTooLongDocument i.capabilities) (IsTooLong i.lines) × OthersStay
+  HasServed CatalogueStays status.OutOfMemory = AtFirst ⊤ ⊤ ⊤ × OthersStay
+  HasServed CatalogueStays status.Done = HasEnded end.Done
+  HasServed CatalogueStays (status.Line n) = HasEnded (end.Line n)
+  HasServed CatalogueStays status.WriteFault = HasEnded end.WriteFault
