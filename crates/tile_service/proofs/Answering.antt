@@ -1,5 +1,5 @@
 -- The line that made a request, and its answer.
-use Rattle.std.proofs.Common.{◌≡◌, ℕ, ◌≤◌, Bool, true, false, List, [], ◌∷◌, length, Option, Some, None, inl, inr, refl, sym, subst, ◌∙◌, arith, flat_map, append-nil}
+use Rattle.std.proofs.Common.{◌≡◌, ℕ, ◌≤◌, Bool, true, false, List, [], ◌∷◌, length, Option, Some, None, inl, inr, refl, sym, subst, arith, flat_map, append-nil}
 use Rattle.std.specs.Io.KnownBytes.{Appends}
 use Rattle.causes.specs.Causes.{Rose, RoseBy}
 use Rattle.http_wire.specs.declared.message.Message.{Message}
@@ -11,10 +11,10 @@ use Rattle.tile_service.specs.declared.request.Request.{Request}
 use Rattle.tile_service.specs.declared.routes.Route.{Route}
 use Rattle.tile_service.specs.Lines.{Idle, Sends, get, deed_in}
 use Rattle.tile_service.specs.OneLine.{MayTell, IsUnread, Answered, IsLine}
-use Rattle.tile_service.specs.Requests.{calm, tile_of, IsTrueTile, IsTrueAnswer, Serves}
+use Rattle.tile_service.specs.Requests.{calm, tile_of, IsTrueTile, Serves}
 use Rattle.tile_service.specs.Response.{framed, response_with}
 use Rattle.tile_service.specs.Routes.{path_of, route_of, request_at}
-use Rattle.tile_service.specs.Run.{World, LineChance, Answer, calm_line, told_at, line_done, is_failed, failures, answer_text}
+use Rattle.tile_service.specs.Run.{World, Answer, calm_line, told_at, line_done, failures, answer_text}
 use Rattle.tile_service.specs.Sent.{AppendsFront}
 
 -- the one answer of a line
@@ -96,10 +96,3 @@ module _ (told : Option ℕ) (before after : ℕ) (w t : World) (n : ℕ) (line 
     pub cut_line : (from to : Option (List ℕ)) (Cause : Type 0) → Answered told before after w.cabinet w.capabilities asked t.cabinet o → MayTell o (λ p. AppendsFront from to (framed n actor n (response_with false p))) → Cause
         → (answers : List Answer) × IsLine told before after w n line t answers × AppendsFront from to (flat_map answer_text answers) × Cause
     cut_line from to Cause h k c = let r = line_told (AppendsFront from to) h k in (r.0, r.1, r.2, c)
-
--- a message that leads to what isn't served yet is refused
-pub line_refused : (w : World) (n : ℕ) (line : List ℕ) (actor : ℕ) (target : List ℕ) → deed_in line ≡ Some (Sends actor (get target)) → route_of (get target).method (path_of target) ≡ None → line_done w n calm_line (deed_in line) ≡ None
-line_refused w n line actor target e none = rw (e, none) refl
-
-pub line_bad : (w : World) (n : ℕ) (line : List ℕ) → deed_in line ≡ None → line_done w n calm_line (deed_in line) ≡ None
-line_bad w n line e = rw e refl

@@ -1,5 +1,5 @@
 -- The chances that explain what a request for a tile came to.
-use Rattle.std.proofs.Common.{◌≡◌, ℕ, List, Option, Some, None, refl, sym, true, false}
+use Rattle.std.proofs.Common.{◌≡◌, ℕ, List, Option, Some, None, refl, sym, false}
 use Rattle.cabinet.specs.Commands.{State, Asks, now, with_entry, with_text}
 use Rattle.cabinet.specs.declared.asked.Asked.TheVariants as asked
 use Rattle.cabinet.specs.declared.entry.Entry.TheVariants.{Ended}

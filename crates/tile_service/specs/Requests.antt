@@ -1,6 +1,6 @@
 -- One request and its outcome, as a function of the cabinet. What happens by chance in it, that memory runs out or that
 -- the rendering fails, and what a rendering gives, is taken as it happened; all else is fixed.
-use Rattle.std.specs.Prelude.{ℕ, ◌≡◌, ◌≤◌, Bool, true, false, List, Option, Some, None, IfSome}
+use Rattle.std.specs.Prelude.{ℕ, ◌≡◌, ◌≤◌, true, false, List, Option, Some, None, IfSome}
 use Rattle.cabinet.specs.Commands.{State, now, with_entry, with_text, kept_text, IsSound}
 use Rattle.cabinet.specs.declared.entry.Entry.TheVariants.{Started, Ended, Used}
 use Rattle.cabinet.specs.Fresh.{IsFresh}

@@ -1,5 +1,5 @@
 -- The bytes of answers: responses after HTTP/1.1 (RFC 9112), and the exception report of OWS Common 1.1 (OGC 06-121r3).
-use Rattle.std.specs.Prelude.{ℕ, Bool, true, false, if◌then◌else◌, ◌==◌, ◌||◌, List, [], ◌∷◌, ◌++◌, length, Option, Some, None, codes, decimal}
+use Rattle.std.specs.Prelude.{ℕ, Bool, true, if◌then◌else◌, ◌==◌, ◌||◌, List, [], ◌∷◌, ◌++◌, length, Option, Some, None, codes, decimal}
 use Rattle.exception_report.specs.declared.code.Code.TheVariants.{NoApplicableCode}
 use Rattle.exception_report.specs.declared.code.Locator.TheVariants.{Nowhere}
 use Rattle.exception_report.specs.Report.{report_of}

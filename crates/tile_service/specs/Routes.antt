@@ -1,5 +1,5 @@
 -- The table of paths: what a message asks for, by its method and the path of its target.
-use Rattle.std.specs.Prelude.{ℕ, ◌+◌, ◌==◌, not, nat_eq, if◌then◌else◌, List, take, drop, Bool, Option, Some, None, codes}
+use Rattle.std.specs.Prelude.{ℕ, ◌+◌, ◌==◌, not, nat_eq, if◌then◌else◌, List, take, drop, Option, Some, None, codes}
 use Rattle.std.specs.List.{prefix_len, starts_with}
 use Rattle.std.specs.Str.{bytes_eq}
 use Rattle.catalog.specs.declared.catalogue.Catalogue.{Catalogue}

@@ -4,7 +4,7 @@ use Rattle.http_wire.specs.declared.message.Method.TheVariants.{Get}
 use Rattle.tile_service.specs.Lines.{deed_of}
 use Rattle.tile_service.specs.Routes.{route_of}
 use Rattle.tile_service.specs.Run.{World}
-use Rattle.tile_service.proofs.Answering.{line_nothing, done_line, cut_line, line_refused}
+use Rattle.tile_service.proofs.Answering.{line_nothing, done_line, cut_line}
 use Rattle.tile_service.proofs.Known.{appends_nothing}
 use Rattle.tile_service.proofs.run_line.run_line.Goals as goal
 
