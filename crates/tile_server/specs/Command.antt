@@ -9,6 +9,8 @@ use Rattle.catalog.specs.declared.fault.Field.TheVariants.{Meta}
 use Rattle.catalog.specs.declared.layer.Layer.{Layer}
 use Rattle.causes.specs.Causes.{Rose}
 use Rattle.config_text.specs.Text.{catalogue_of}
+use Rattle.http_wire.specs.declared.inputs.InputEnd.{InputEnd}
+use Rattle.http_wire.specs.declared.inputs.InputEnd.TheVariants as input_end
 use Rattle.tile_service.specs.declared.schedule.ScheduleEnd.{ScheduleEnd}
 use Rattle.tile_service.specs.declared.schedule.ScheduleEnd.TheVariants as end
 use Rattle.tile_service.specs.Run.{World}
@@ -18,10 +20,15 @@ use Rattle.tile_server.specs.declared.command.Status.TheVariants as status
 use Rattle.tile_server.specs.declared.configured.Unconfigured.{Unconfigured}
 use Rattle.tile_server.specs.declared.configured.Unconfigured.TheVariants as unconfigured
 use Rattle.tile_server.specs.declared.configured.TheConstants.{CATALOGUE_LIMIT}
+use Rattle.tile_server.specs.declared.described.TheConstants.{CAPABILITIES_LIMIT}
 
 -- the words are the one word `schedule`
 abbrev pub IsSchedule : List (List ℕ) → Type 0
 IsSchedule words = words ≡ codes "schedule" ∷ []
+
+-- a read of an input failed
+abbrev pub HasRisen : Input → Type 0
+HasRisen i = Rose i.reads.before i.reads.after
 
 -- THE CATALOGUE
 
@@ -67,29 +74,61 @@ IsTooLongText i = (text : List ℕ) × Consumes i.from i.to text × (length text
 
 abbrev pub Configures : Input → Result Catalogue Unconfigured → Type 0
 Configures i (Ok c) = IsRead i (Ok c)
-Configures i (Err unconfigured.ReadFault) = Rose i.reads.before i.reads.after
+Configures i (Err unconfigured.ReadFault) = HasRisen i
 Configures i (Err unconfigured.TooLong) = IsTooLongText i
 Configures i (Err (unconfigured.Fault fault)) = IsRead i (Err fault)
 Configures i (Err unconfigured.OutOfMemory) = ⊤
 
+-- THE CAPABILITIES
+
+-- the input was read to its end, and this is its text, the document of the capabilities
+pub record IsDocument (i : Input) (text : List ℕ) : Type 0 where
+  pub read : Consumes i.from i.to text
+  pub at_end : IsAtEnd i.to
+  pub short : length text ≤ CAPABILITIES_LIMIT
+
+-- one byte more than the document may have was taken
+abbrev pub IsTooLongDocument : Input → Type 0
+IsTooLongDocument i = (text : List ℕ) × Consumes i.from i.to text × (length text ≡ CAPABILITIES_LIMIT + 1)
+
+abbrev pub Describes : Input → Result (List ℕ) InputEnd → Type 0
+Describes i (Ok text) = IsDocument i text
+Describes i (Err input_end.ReadFault) = HasRisen i
+Describes i (Err input_end.TooLong) = IsTooLongDocument i
+Describes i (Err input_end.OutOfMemory) = ⊤
+
 -- THE COMMAND
 
--- a cabinet in memory of a catalogue, in which nothing has happened
-abbrev pub fresh_world : Catalogue → World
-fresh_world c = record { cabinet = fresh_state c }
+-- a cabinet in memory of a catalogue, in which nothing has happened, beside the document of the capabilities
+abbrev pub fresh_world : Catalogue → List ℕ → World
+fresh_world c text = record { cabinet = fresh_state c; capabilities = text }
 
--- the catalogue was read, and the schedule was run there and ended so
-abbrev pub HasEnded : Input → Input → Outside → Type 0 → ScheduleEnd → Type 0
-HasEnded k i o Untouched e = (c : Catalogue) × IsRead k (Ok c) × (t : World) × Schedules i o Untouched (fresh_world c) t e
+-- the inputs of a command: the catalogue's, the capabilities' and the schedule's
+pub record Inputs : Type 0 where
+  pub catalogue : Input
+  pub capabilities : Input
+  pub lines : Input
 
--- What each status says, of the catalogue's input k, the schedule's input i and what was seen of the outside; where no
--- line was run, output and source are as they were.
-abbrev pub HasServed : Input → Input → Outside → Type 0 → Status → Type 0
-HasServed k i o Untouched status.Done = HasEnded k i o Untouched end.Done
-HasServed k i o Untouched (status.Line n) = HasEnded k i o Untouched (end.Line n)
-HasServed k i o Untouched status.WriteFault = HasEnded k i o Untouched end.WriteFault
-HasServed k i o Untouched status.ReadFault = (Rose k.reads.before k.reads.after ⊎ Rose i.reads.before i.reads.after) × Untouched
-HasServed k i o Untouched status.TooLong = (IsTooLongText k ⊎ IsTooLong i) × Untouched
-HasServed k i o Untouched (status.Catalogue fault) = IsRead k (Err fault) × Untouched
-HasServed k i o Untouched status.OutOfMemory = Untouched
-HasServed k i o Untouched status.Usage = Untouched
+-- That an input stays as it was, or output and source do, is a fact of its own for each of them.
+module _ (i : Inputs) (o : Outside) (CapabilitiesStay LinesStay OthersStay : Type 0) where
+  -- both files were read, and the schedule was run with them and ended so
+  abbrev pub HasEnded : ScheduleEnd → Type 0
+  HasEnded e = (c : Catalogue) × IsRead i.catalogue (Ok c) × (text : List ℕ) × IsDocument i.capabilities text × (t : World) × Schedules i.lines o OthersStay (fresh_world c text) t e
+
+  -- one input is the first of which its fact holds: those before it were read, and those behind it stay as they were
+  abbrev pub AtFirst : Type 0 → Type 0 → Type 0 → Type 0
+  AtFirst OfCatalogue OfCapabilities OfLines =
+      (OfCatalogue × CapabilitiesStay × LinesStay)
+      ⊎ ((c : Catalogue) × IsRead i.catalogue (Ok c) × OfCapabilities × LinesStay)
+      ⊎ ((c : Catalogue) × IsRead i.catalogue (Ok c) × (text : List ℕ) × IsDocument i.capabilities text × OfLines)
+
+  -- what each status says; where no line was run, output and source stay as they were
+  abbrev pub HasServed : Type 0 → Status → Type 0
+  HasServed CatalogueStays status.Usage = CatalogueStays × CapabilitiesStay × LinesStay × OthersStay
+  HasServed CatalogueStays (status.Catalogue fault) = IsRead i.catalogue (Err fault) × CapabilitiesStay × LinesStay × OthersStay
+  HasServed CatalogueStays status.ReadFault = AtFirst (HasRisen i.catalogue) (HasRisen i.capabilities) (HasRisen i.lines) × OthersStay
+  HasServed CatalogueStays status.TooLong = AtFirst (IsTooLongText i.catalogue) (IsTooLongDocument i.capabilities) (IsTooLong i.lines) × OthersStay
+  HasServed CatalogueStays status.OutOfMemory = AtFirst ⊤ ⊤ ⊤ × OthersStay
+  HasServed CatalogueStays status.Done = HasEnded end.Done
+  HasServed CatalogueStays (status.Line n) = HasEnded (end.Line n)
+  HasServed CatalogueStays status.WriteFault = HasEnded end.WriteFault

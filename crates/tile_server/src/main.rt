@@ -7,6 +7,7 @@
 
 mod command;
 mod configured;
+mod described;
 mod fault_text;
 mod input;
 #[cfg(test)]
@@ -35,6 +36,9 @@ const VERSION: &str = "tile_server 0.1.0\n";
 
 /// The catalogue, a file of the folder that the program is run in.
 const CATALOGUE: &str = "catalogue.json";
+
+/// The document of the capabilities, a file of that folder.
+const CAPABILITIES: &str = "capabilities.xml";
 
 /// The number of the source in the catalogue; 0 where that is refused.
 fn source_of(rt: &(impl Files<File = File> + AllocGlobal)) -> u32 {
@@ -71,6 +75,7 @@ fn main(rt: HostRuntime) -> ExitCode {
         }
     }
     let mut catalogue = Input::File(FileSource::open(&rt, CATALOGUE));
+    let mut capabilities = Input::File(FileSource::open(&rt, CAPABILITIES));
     let mut input = Input::Stdin(StdinSource::new(rt.stdin()));
     let mut output = StdoutSink::new(rt.stdout());
     let mut source = Numbered::new(source_of(&rt));
@@ -78,6 +83,7 @@ fn main(rt: HostRuntime) -> ExitCode {
         rt.alloc(),
         words.as_slice(),
         &mut catalogue,
+        &mut capabilities,
         &mut input,
         &mut output,
         &mut source,

@@ -1,4 +1,6 @@
+mod capabilities;
 mod catalogues;
+mod paths;
 mod queries;
 
 use crate::command::{Status, run_command};
@@ -30,7 +32,7 @@ fn first_response(alloc: Global, cache: &str) -> Result<Vec<u8>, Fail> {
 }
 
 /// What the lines of a schedule come to on the built-in catalogue, over this source; the reads and writes of these numbers
-/// fail.
+/// fail. The document of the capabilities has no bytes.
 fn ran<S: Source>(
     alloc: Global,
     lines: &str,
@@ -40,6 +42,7 @@ fn ran<S: Source>(
 ) -> Result<(Status, Vec<u8>), Fail> {
     let words = vec![in alloc; Words::new(alloc, b"schedule")?]?;
     let mut catalogue = MemorySource::new(Vec::new(alloc), 7, Vec::new(alloc));
+    let mut capabilities = MemorySource::new(Vec::new(alloc), 7, Vec::new(alloc));
     let text = Vec::from_slice(alloc, lines.as_bytes())?;
     let mut input = MemorySource::new(text, 7, Vec::from_slice(alloc, reads)?);
     let mut output = MemorySink::new(alloc, Vec::from_slice(alloc, writes)?);
@@ -47,6 +50,7 @@ fn ran<S: Source>(
         alloc,
         words.as_slice(),
         &mut catalogue,
+        &mut capabilities,
         &mut input,
         &mut output,
         source,
@@ -152,12 +156,14 @@ fn other_words_and_a_long_schedule_are_refused(rt: HostRuntime) -> Result<(), Fa
     let mut output = MemorySink::new(alloc, Vec::new(alloc));
     let mut source = Numbered::new(0);
     let mut catalogue = MemorySource::new(Vec::new(alloc), 7, Vec::new(alloc));
+    let mut capabilities = MemorySource::new(Vec::new(alloc), 7, Vec::new(alloc));
     let mut input = MemorySource::new(vec![in alloc; b'#'; 16_777_217]?, 65_536, Vec::new(alloc));
     let words = vec![in alloc; Words::new(alloc, b"make")?, Words::new(alloc, b"now")?]?;
     let status = run_command(
         alloc,
         words.as_slice(),
         &mut catalogue,
+        &mut capabilities,
         &mut input,
         &mut output,
         &mut source,
@@ -168,6 +174,7 @@ fn other_words_and_a_long_schedule_are_refused(rt: HostRuntime) -> Result<(), Fa
         alloc,
         words.as_slice(),
         &mut catalogue,
+        &mut capabilities,
         &mut input,
         &mut output,
         &mut source,

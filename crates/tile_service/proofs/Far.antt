@@ -9,8 +9,7 @@ use Rattle.causes.specs.Causes.{Rose, RoseBy}
 use Rattle.tile_service.specs.declared.run_lines.RunEnd.TheVariants.{Done, Line, WriteFault}
 use Rattle.tile_service.specs.Lines.{lines_of, deed_in}
 use Rattle.tile_service.specs.OneLine.{IsLine}
-use Rattle.tile_service.specs.Requests.{Chance, calm}
-use Rattle.tile_service.specs.Run.{World, Answer, Run, run, behind, line_done, answer_text, failures, IsTrue}
+use Rattle.tile_service.specs.Run.{World, LineChance, Answer, Run, calm_line, run, behind, line_done, answer_text, failures, IsTrue}
 use Rattle.tile_service.specs.Schedules.{Outside, HasRun}
 use Rattle.tile_service.specs.Sent.{AppendsFront}
 use Rattle.tile_service.proofs.Fresh.{run_fresh}
@@ -19,10 +18,10 @@ use Rattle.tile_service.proofs.Known.{appends_more, appends_nothing, front_secon
 -- n lines of the text are done, and the rest is not
 pub record Far (told : Option ℕ) (before after : ℕ) (from to : Option (List ℕ)) (w : World) (text : List ℕ) (n : ℕ) (rest : List ℕ) (t : World) : Type 0 where
   pub done : List (List ℕ)
-  pub made : List Chance
+  pub made : List LineChance
   pub answers : List Answer
   pub split : lines_of text ≡ done ++ lines_of rest
-  pub goes : (tail : List (List ℕ)) (more : List Chance) → run w 1 (done ++ tail) (made ++ more) ≡ behind answers (run t (n + 1) tail more)
+  pub goes : (tail : List (List ℕ)) (more : List LineChance) → run w 1 (done ++ tail) (made ++ more) ≡ behind answers (run t (n + 1) tail more)
   pub written : Appends from to (flat_map answer_text answers)
   pub failed : RoseBy (failures answers) before after
   pub sound : told ≡ Some w.cabinet.catalogue.source → IsSound w.cabinet → IsSound t.cabinet
@@ -52,13 +51,13 @@ all_append P [] bs h k = k
 all_append P (a ∷ news) bs h k = (h.0, all_append P news bs h.1 k)
 
 -- one line, and then others
-one_line : (t u : World) (n : ℕ) (line : List ℕ) (c : Chance) (news : List Answer) → line_done t n c (deed_in line) ≡ Some (u, news)
-    → (tail : List (List ℕ)) (more : List Chance) → run t n (line ∷ tail) (c ∷ more) ≡ behind news (run u (n + 1) tail more)
+one_line : (t u : World) (n : ℕ) (line : List ℕ) (c : LineChance) (news : List Answer) → line_done t n c (deed_in line) ≡ Some (u, news)
+    → (tail : List (List ℕ)) (more : List LineChance) → run t n (line ∷ tail) (c ∷ more) ≡ behind news (run u (n + 1) tail more)
 one_line t u n line c news e tail more = rw e refl
 
 module _ (told told' : Option ℕ) (before mid after : ℕ) (from via to : Option (List ℕ)) (w : World) (text : List ℕ) (n : ℕ) (rest line next : List ℕ) (t u : World) (news : List Answer)
     (f : Far told before mid from via w text n rest t) (same : told' ≡ told) (lines : lines_of rest ≡ line ∷ lines_of next) (l : IsLine told' mid after t (n + 1) line u news) where
-  goes_more : (tail : List (List ℕ)) (more : List Chance) → run w 1 ((f.done ++ line ∷ []) ++ tail) ((f.made ++ l.chance ∷ []) ++ more) ≡ behind (f.answers ++ news) (run u (n + 1 + 1) tail more)
+  goes_more : (tail : List (List ℕ)) (more : List LineChance) → run w 1 ((f.done ++ line ∷ []) ++ tail) ((f.made ++ l.chance ∷ []) ++ more) ≡ behind (f.answers ++ news) (run u (n + 1 + 1) tail more)
   goes_more tail more =
       rw (append_assoc f.done (line ∷ []) tail, append_assoc f.made (l.chance ∷ []) more) (
       f.goes (line ∷ tail) (l.chance ∷ more)
@@ -131,7 +130,7 @@ module _ (o : Outside) (w : World) (text : List ℕ) (n : ℕ) (rest : List ℕ)
         fresh = (run_fresh w 1 (f.done ++ []) (f.made ++ [])).1;
       }
 
-  pub run_refused : (line next : List ℕ) → lines_of rest ≡ line ∷ lines_of next → line_done t (n + 1) calm (deed_in line) ≡ None → HasRun o w text t (Line (n + 1))
+  pub run_refused : (line next : List ℕ) → lines_of rest ≡ line ∷ lines_of next → line_done t (n + 1) calm_line (deed_in line) ≡ None → HasRun o w text t (Line (n + 1))
   run_refused line next lines none =
       let last : run t (n + 1) (line ∷ lines_of next) [] ≡ record { answers = []; world = t; refused = Some (n + 1) } = rw none refl in
       let e : run w 1 (f.done ++ line ∷ lines_of next) (f.made ++ []) ≡ record { answers = f.answers ++ []; world = t; refused = Some (n + 1) } = f.goes (line ∷ lines_of next) [] ∙ ap (behind f.answers) last in

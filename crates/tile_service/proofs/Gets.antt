@@ -1,5 +1,5 @@
 -- The chances that explain what a request for a tile came to.
-use Rattle.std.proofs.Common.{◌≡◌, ℕ, List, Option, Some, None, refl, sym, true, false}
+use Rattle.std.proofs.Common.{◌≡◌, ℕ, List, Option, Some, None, refl, sym, false}
 use Rattle.cabinet.specs.Commands.{State, Asks, now, with_entry, with_text}
 use Rattle.cabinet.specs.declared.asked.Asked.TheVariants as asked
 use Rattle.cabinet.specs.declared.entry.Entry.TheVariants.{Ended}
@@ -16,7 +16,7 @@ looked_up : (s : State) (a : Address) (x : Chance) (o n : Option ℕ) → kept_a
 looked_up s a x o n e f = rw (sym e, sym f) refl
 
 abbrev no_ask : Chance
-no_ask = record { want = AtAsk; rendered = None; left = true }
+no_ask = record { want = AtAsk; rendered = None }
 
 none_asked : (s : State) (a : Address) (o n : Option ℕ) → (s, NoMemory) ≡ got_at s a no_ask o n
 none_asked s a (Some k) n = refl
@@ -31,10 +31,10 @@ got_spent s t a h = (calm, rw h.2 (looked_up s a calm None None h.0 h.1))
 
 module _ (s t u : State) (a : Address) (k : ℕ) (h : Asks s a (asked.Ticket k) t) where
   pub got_made : (text : List ℕ) → u ≡ with_text t k a text → Explained s a u (Tile false k text)
-  got_made text e = let x : Chance = record { want = Enough; rendered = Some text; left = true } in (x, rw (e, h.2) (looked_up s a x None (Some k) h.0 h.1))
+  got_made text e = let x : Chance = record { want = Enough; rendered = Some text } in (x, rw (e, h.2) (looked_up s a x None (Some k) h.0 h.1))
 
   pub got_failed : u ≡ with_entry t (Ended k) → Explained s a u SourceFailed
   got_failed e = (calm, rw (e, h.2) (looked_up s a calm None (Some k) h.0 h.1))
 
   pub got_no_render : u ≡ with_entry t (Ended k) → Explained s a u NoMemory
-  got_no_render e = let x : Chance = record { want = AtRender; rendered = None; left = true } in (x, rw (e, h.2) (looked_up s a x None (Some k) h.0 h.1))
+  got_no_render e = let x : Chance = record { want = AtRender; rendered = None } in (x, rw (e, h.2) (looked_up s a x None (Some k) h.0 h.1))

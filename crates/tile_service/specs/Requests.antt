@@ -1,6 +1,6 @@
 -- One request and its outcome, as a function of the cabinet. What happens by chance in it, that memory runs out or that
 -- the rendering fails, and what a rendering gives, is taken as it happened; all else is fixed.
-use Rattle.std.specs.Prelude.{ℕ, ◌≡◌, ◌≤◌, Bool, true, false, List, Option, Some, None, ⊤}
+use Rattle.std.specs.Prelude.{ℕ, ◌≡◌, ◌≤◌, true, false, List, Option, Some, None, IfSome}
 use Rattle.cabinet.specs.Commands.{State, now, with_entry, with_text, kept_text, IsSound}
 use Rattle.cabinet.specs.declared.entry.Entry.TheVariants.{Started, Ended, Used}
 use Rattle.cabinet.specs.Fresh.{IsFresh}
@@ -20,34 +20,29 @@ use Rattle.tile_service.specs.declared.request.Request.TheVariants as request
 -- where in a request memory ran out
 pub data Want : Type 0 where
   Enough : Want
-  AtReading : Want
   AtAsk : Want
   AtRender : Want
 
--- what happened by chance in a request: where memory ran out, what the rendering gave, or nothing where it failed, and
--- whether memory was left for the answer
+-- what happened by chance in a request: where memory ran out, and what the rendering gave, or nothing where it failed
 pub record Chance : Type 0 where
   pub want : Want
   pub rendered : Option (List ℕ)
-  pub left : Bool
 
 -- nothing happened by chance
 abbrev pub calm : Chance
-calm = record { want = Enough; rendered = None; left = true }
+calm = record { want = Enough; rendered = None }
 
 -- A TILE that is asked for: the cabinet after it, and its outcome
 
 -- it is kept under this number
 abbrev pub hit : State → Address → ℕ → Want → State × Outcome
 hit s a k AtAsk = (s, outcome.NoMemory)
-hit s a k AtReading = (s, outcome.NoMemory)
 hit s a k Enough = (with_entry s (Used a), outcome.Tile true k (kept_text s a))
 hit s a k AtRender = (with_entry s (Used a), outcome.Tile true k (kept_text s a))
 
 -- no number is left
 abbrev pub spent : State → Want → State × Outcome
 spent s AtAsk = (s, outcome.NoMemory)
-spent s AtReading = (s, outcome.NoMemory)
 spent s Enough = (s, outcome.Spent)
 spent s AtRender = (s, outcome.Spent)
 
@@ -62,7 +57,6 @@ rendered s a k (Some text) = (with_text (with_entry s (Started k a)) k a text, o
 -- it is rendered under this number
 abbrev pub miss : State → Address → ℕ → Want → Option (List ℕ) → State × Outcome
 miss s a k AtAsk given = (s, outcome.NoMemory)
-miss s a k AtReading given = (s, outcome.NoMemory)
 miss s a k AtRender given = (lost s a k, outcome.NoMemory)
 miss s a k Enough given = rendered s a k given
 
@@ -74,49 +68,68 @@ got_at s a c None (Some k) = miss s a k c.want c.rendered
 abbrev pub got : State → Address → Chance → State × Outcome
 got s a c = got_at s a c (kept_as a (now s)) (next s.opening (now s))
 
+-- THE DOCUMENT of the capabilities that is asked for
+
+abbrev pub copied : State → List ℕ → Want → State × Outcome
+copied s document AtAsk = (s, outcome.NoMemory)
+copied s document Enough = (s, outcome.Document document)
+copied s document AtRender = (s, outcome.Document document)
+
 -- REQUESTS
 
-abbrev pub served : State → Chance → Request → State × Outcome
-served s c (request.Tile a) = got s a c
-served s c (request.Refused code locator) = (s, outcome.Refused code locator)
+-- what a request comes to, where this is the document of the capabilities
+abbrev pub served : State → List ℕ → Chance → Request → State × Outcome
+served s document c (request.Tile a) = got s a c
+served s document c request.Capabilities = copied s document c.want
+served s document c (request.Refused code locator) = (s, outcome.Refused code locator)
+served s document c request.NotFound = (s, outcome.NotFound)
+served s document c request.WrongMethod = (s, outcome.WrongMethod)
 
--- what is asked for is of the catalogue
+-- the tile that a request asks for
+abbrev pub tile_of : Request → Option Address
+tile_of (request.Tile a) = Some a
+tile_of request.Capabilities = None
+tile_of (request.Refused code locator) = None
+tile_of request.NotFound = None
+tile_of request.WrongMethod = None
+
+-- the number and the text of a tile that is answered
+abbrev pub tile_in : Outcome → Option (ℕ × List ℕ)
+tile_in (outcome.Tile hit k text) = Some (k, text)
+tile_in (outcome.Document text) = None
+tile_in (outcome.Refused code locator) = None
+tile_in outcome.NotFound = None
+tile_in outcome.WrongMethod = None
+tile_in outcome.SourceFailed = None
+tile_in outcome.Spent = None
+tile_in outcome.NoMemory = None
+
+-- a tile that is asked for is of the catalogue
 abbrev pub IsOf : Catalogue → Request → Type 0
-IsOf c (request.Tile a) = IsTile c a
-IsOf c (request.Refused code locator) = ⊤
+IsOf c r = IfSome (tile_of r) (IsTile c)
 
 -- a tile that is answered has the text of its number
 abbrev pub IsTrueTile : Catalogue → Address → Outcome → Type 0
-IsTrueTile c a (outcome.Tile hit k text) = text ≡ tile_text c k a
-IsTrueTile c a (outcome.Refused code locator) = ⊤
-IsTrueTile c a outcome.SourceFailed = ⊤
-IsTrueTile c a outcome.Spent = ⊤
-IsTrueTile c a outcome.NoMemory = ⊤
+IsTrueTile c a o = IfSome (tile_in o) (λ t. t.1 ≡ tile_text c t.0 a)
 
 abbrev pub IsTrueAnswer : Catalogue → Request → Outcome → Type 0
-IsTrueAnswer c (request.Tile a) o = IsTrueTile c a o
-IsTrueAnswer c (request.Refused code locator) o = ⊤
+IsTrueAnswer c r o = IfSome (tile_of r) (λ a. IsTrueTile c a o)
 
 -- a tile that is answered is fresh at an ask that was made when the history had p entries
 abbrev pub IsFreshTile : History → ℕ → Address → Outcome → Type 0
-IsFreshTile h p a (outcome.Tile hit k text) = IsFresh h p a k
-IsFreshTile h p a (outcome.Refused code locator) = ⊤
-IsFreshTile h p a outcome.SourceFailed = ⊤
-IsFreshTile h p a outcome.Spent = ⊤
-IsFreshTile h p a outcome.NoMemory = ⊤
+IsFreshTile h p a o = IfSome (tile_in o) (λ t. IsFresh h p a t.0)
 
 abbrev pub IsFreshAnswer : History → ℕ → Request → Outcome → Type 0
-IsFreshAnswer h p (request.Tile a) o = IsFreshTile h p a o
-IsFreshAnswer h p (request.Refused code locator) o = ⊤
+IsFreshAnswer h p r o = IfSome (tile_of r) (λ a. IsFreshTile h p a o)
 
 -- From s a request came to t with this outcome, while the source, which tells this number or none, went from one count
 -- of faults to another: the outcome is that of the request under some chance; that the source failed is answered only
 -- where its count rose; and where the source tells that it is the catalogue's, what is kept stays true and so is the tile.
-pub record Serves (told : Option ℕ) (before after : ℕ) (s : State) (r : Request) (t : State) (o : Outcome) : Type 0 where
+pub record Serves (source : Option ℕ) (before after : ℕ) (s : State) (document : List ℕ) (r : Request) (t : State) (o : Outcome) : Type 0 where
   pub chance : Chance
-  pub made : (t, o) ≡ served s chance r
+  pub made : (t, o) ≡ served s document chance r
   pub later : before ≤ after
   pub cause : o ≡ outcome.SourceFailed → Rose before after
-  pub sound : told ≡ Some s.catalogue.source → IsSound s → IsSound t
-  pub truth : told ≡ Some s.catalogue.source → IsSound s → IsTrueAnswer s.catalogue r o
+  pub sound : source ≡ Some s.catalogue.source → IsSound s → IsSound t
+  pub truth : source ≡ Some s.catalogue.source → IsSound s → IsTrueAnswer s.catalogue r o
   pub catalogue : t.catalogue ≡ s.catalogue

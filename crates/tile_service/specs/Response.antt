@@ -1,30 +1,33 @@
 -- The bytes of answers: responses after HTTP/1.1 (RFC 9112), and the exception report of OWS Common 1.1 (OGC 06-121r3).
-use Rattle.std.specs.Prelude.{ℕ, Bool, if◌then◌else◌, ◌==◌, List, [], ◌∷◌, ◌++◌, length, codes, decimal}
+use Rattle.std.specs.Prelude.{ℕ, Bool, true, if◌then◌else◌, ◌==◌, ◌||◌, List, [], ◌∷◌, ◌++◌, length, Option, Some, None, codes, decimal}
 use Rattle.exception_report.specs.declared.code.Code.TheVariants.{NoApplicableCode}
 use Rattle.exception_report.specs.declared.code.Locator.TheVariants.{Nowhere}
 use Rattle.exception_report.specs.Report.{report_of}
 use Rattle.exception_report.specs.Status.{status_of}
+use Rattle.http_wire.specs.declared.message.Message.{Message}
 use Rattle.tile_service.specs.declared.outcome.Outcome.{Outcome}
-use Rattle.tile_service.specs.declared.outcome.Outcome.TheVariants.{Tile, Refused, SourceFailed, Spent, NoMemory}
+use Rattle.tile_service.specs.declared.outcome.Outcome.TheVariants.{Tile, Document, Refused, NotFound, WrongMethod, SourceFailed, Spent, NoMemory}
 
--- the header of the body's type, where there is a body
-abbrev pub type_header : List ℕ → List ℕ → List ℕ
-type_header kind [] = []
-type_header kind (b ∷ bs) = codes "Content-Type: " ++ kind ++ codes "\r\n"
+-- THE HEAD
 
 -- a status and its phrase (RFC 9110, section 15)
 abbrev pub status_text : ℕ → List ℕ
 status_text status =
     if status == 200 then codes "200 OK" else
     (if status == 400 then codes "400 Bad Request" else
+    (if status == 404 then codes "404 Not Found" else
+    (if status == 405 then codes "405 Method Not Allowed" else
+    (if status == 409 then codes "409 Conflict" else
+    (if status == 413 then codes "413 Payload Too Large" else
+    (if status == 431 then codes "431 Request Header Fields Too Large" else
     (if status == 501 then codes "501 Not Implemented" else
     (if status == 503 then codes "503 Service Unavailable" else
-    codes "500 Internal Server Error")))
+    codes "500 Internal Server Error"))))))))
 
--- a response: the status line, the headers in order, and the body
-abbrev pub response : ℕ → List ℕ → List ℕ → List ℕ → List ℕ
-response status kind more body =
-    codes "HTTP/1.1 " ++ status_text status ++ codes "\r\n" ++ type_header kind body ++ codes "Content-Length: " ++ decimal (length body) ++ codes "\r\n" ++ more ++ codes "\r\n" ++ body
+-- the header of the body's type, where there is a body
+abbrev pub type_header : List ℕ → List ℕ → List ℕ
+type_header kind [] = []
+type_header kind (b ∷ bs) = codes "Content-Type: " ++ kind ++ codes "\r\n"
 
 abbrev pub cache_result : Bool → List ℕ
 cache_result hit = if hit then codes "HIT" else codes "MISS"
@@ -33,18 +36,52 @@ cache_result hit = if hit then codes "HIT" else codes "MISS"
 abbrev pub tile_headers : Bool → ℕ → List ℕ
 tile_headers hit number = codes "geowebcache-cache-result: " ++ cache_result hit ++ codes "\r\ntile-render: " ++ decimal number ++ codes "\r\n"
 
--- the response to a request with this outcome
-abbrev pub response_of : Outcome → List ℕ
-response_of (Tile hit number text) = response 200 (codes "image/x-portable-pixmap") (tile_headers hit number) text
-response_of (Refused code locator) = response (status_of code) (codes "text/xml") [] (report_of code locator)
-response_of SourceFailed = response 500 (codes "text/xml") [] (report_of NoApplicableCode Nowhere)
-response_of Spent = response 500 (codes "text/plain") [] (codes "numbers spent\n")
-response_of NoMemory = response 503 [] [] []
+-- the header that closes a connection
+abbrev pub close_header : Bool → List ℕ
+close_header closes = if closes then codes "Connection: close\r\n" else []
+
+-- THE RESPONSE
+
+-- the status line, the headers in order, and the body
+abbrev pub response_text : ℕ → List ℕ → List ℕ → Bool → List ℕ → List ℕ
+response_text status kind more closes body =
+    codes "HTTP/1.1 " ++ status_text status ++ codes "\r\n" ++ type_header kind body ++ codes "Content-Length: " ++ decimal (length body) ++ codes "\r\n" ++ more ++ close_header closes ++ codes "\r\n" ++ body
+
+-- a status alone
+abbrev pub bare : Bool → ℕ → List ℕ
+bare closes status = response_text status [] [] closes []
+
+-- a response to a request with this outcome, which closes its connection or does not
+abbrev pub response_with : Bool → Outcome → List ℕ
+response_with closes (Tile hit number text) = response_text 200 (codes "image/x-portable-pixmap") (tile_headers hit number) closes text
+response_with closes (Document text) = response_text 200 (codes "text/xml") [] closes text
+response_with closes (Refused code locator) = response_text (status_of code) (codes "text/xml") [] closes (report_of code locator)
+response_with closes NotFound = bare closes 404
+response_with closes WrongMethod = bare closes 405
+response_with closes SourceFailed = response_text 500 (codes "text/xml") [] closes (report_of NoApplicableCode Nowhere)
+response_with closes Spent = response_text 500 (codes "text/plain") [] closes (codes "numbers spent\n")
+response_with closes NoMemory = bare closes 503
+
+-- a response closes its connection where its message is the last of it or the 10,000th of its session, and where it
+-- answers bytes that are no message
+abbrev pub closes : Option Message → ℕ → Bool
+closes None i = true
+closes (Some message) i = message.last || i == 10000
+
+-- the response to the i-th message of a session, counted from 1, or to bytes that are no message, by the outcome
+abbrev pub response : Option Message → ℕ → Outcome → List ℕ
+response message i o = response_with (closes message i) o
+
+-- ANSWERS OF A SCHEDULE
 
 -- the line that stands before a response: the answered line, its actor, the line of its start, and the response's length
 abbrev pub answer_line : ℕ → ℕ → ℕ → ℕ → List ℕ
 answer_line line actor start bytes = codes "answer " ++ decimal line ++ codes " " ++ decimal actor ++ codes " " ++ decimal start ++ codes " " ++ decimal bytes ++ codes "\n"
 
--- an answer of a schedule: its line, and the response
-abbrev pub answered : ℕ → ℕ → ℕ → Outcome → List ℕ
-answered line actor start o = answer_line line actor start (length (response_of o)) ++ response_of o
+-- a response behind its line
+abbrev pub framed : ℕ → ℕ → ℕ → List ℕ → List ℕ
+framed line actor start text = answer_line line actor start (length text) ++ text
+
+-- an answer of a schedule: each message counts as the first of its session
+abbrev pub answered : ℕ → ℕ → ℕ → Message → Outcome → List ℕ
+answered line actor start message o = framed line actor start (response (Some message) 1 o)

@@ -10,8 +10,7 @@ use Rattle.tile_service.specs.declared.schedule.ScheduleEnd.{ScheduleEnd}
 use Rattle.tile_service.specs.declared.schedule.ScheduleEnd.TheVariants.{Done, Line, ReadFault, WriteFault, TooLong, OutOfMemory}
 use Rattle.tile_service.specs.declared.schedule.TheConstants.{SCHEDULE_LIMIT}
 use Rattle.tile_service.specs.Lines.{lines_of}
-use Rattle.tile_service.specs.Requests.{Chance}
-use Rattle.tile_service.specs.Run.{World, Run, run, output_of, failures, IsTrue, IsFresh}
+use Rattle.tile_service.specs.Run.{World, LineChance, Run, run, output_of, failures, IsTrue, IsFresh}
 use Rattle.tile_service.specs.Sent.{AppendsFront}
 
 -- THE OUTSIDE
@@ -55,7 +54,7 @@ Ends o r t run_end.WriteFault = Rose o.writes.before o.writes.after × AppendsFr
 -- number; and each tile is fresh at its ask.
 pub record HasRun (o : Outside) (w : World) (text : List ℕ) (t : World) (end : RunEnd) : Type 0 where
   pub lines : List (List ℕ)
-  pub chances : List Chance
+  pub chances : List LineChance
   pub through : GoesThrough (lines_of text) end lines
   pub ends : Ends o (run w 1 lines chances) t end
   pub failed : RoseBy (failures (run w 1 lines chances).answers) o.renders.before o.renders.after

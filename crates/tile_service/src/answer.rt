@@ -1,13 +1,13 @@
-ghost use Rattle.std.specs.Prelude.{◌≡◌, ◌+◌, ◌≤◌, ◌++◌, length, OnOk, OnErr, decimal};
+ghost use Rattle.std.specs.Prelude.{◌≡◌, ◌+◌, ◌≤◌, ◌++◌, false, length, OnOk, OnErr, decimal};
 ghost use Rattle.std.specs.Io.KnownBytes.{Appends};
 ghost use Rattle.arrayvec.specs.ArrayVec.{array_vec_len};
 ghost use Rattle.causes.specs.Causes.{HasCause};
 ghost use Rattle.tile_service.specs.OneLine.{MayTell};
-ghost use Rattle.tile_service.specs.Response.{answer_line, answered};
+ghost use Rattle.tile_service.specs.Response.{answer_line, framed, response_with};
 ghost use Rattle.tile_service.specs.Sent.{AppendsFront};
 
 use crate::outcome::Outcome;
-use crate::response::{no_memory, response_of};
+use crate::response::{no_memory, response_with};
 use arrayvec::ArrayVec;
 use http_wire::sending::{Sent, send};
 use http_wire::streams::ByteSink;
@@ -78,15 +78,16 @@ fn send_answer<O: ByteSink>(
     actor: u32,
     response: &[u8],
 ) -> Result<(), Sent>
-    ensures ok { OnOk result (Appends (O.taken output.old) (O.taken output.new) (answer_line line actor line (length response.now) ++ response.now)) }
-    ensures err { OnErr result (AppendsFront (O.taken output.old) (O.taken output.new) (answer_line line actor line (length response.now) ++ response.now)) }
+    ensures ok { OnOk result (Appends (O.taken output.old) (O.taken output.new) (framed line actor line response.now)) }
+    ensures err { OnErr result (AppendsFront (O.taken output.old) (O.taken output.new) (framed line actor line response.now)) }
     ensures cause { HasCause (O.faults output.old) (O.faults output.new) result }
 {
     let head = answer_line(line, actor, line, response.len());
     send_both(output, head.as_slice(), response)
 }
 
-/// Writes the answer to line `line`, which began there too. Where memory runs out, the answer says so.
+/// Writes the answer to line `line`, which began there too, and closes no connection. Where memory runs out, the answer
+/// says so.
 pub fn answer<O: ByteSink>(
     alloc: Global,
     output: &mut O,
@@ -94,12 +95,12 @@ pub fn answer<O: ByteSink>(
     actor: u32,
     outcome: &Outcome,
 ) -> Result<(), Sent>
-    ensures ok { OnOk result (MayTell outcome.now (λ o. Appends (O.taken output.old) (O.taken output.new) (answered line actor line o))) }
-    ensures err { OnErr result (MayTell outcome.now (λ o. AppendsFront (O.taken output.old) (O.taken output.new) (answered line actor line o))) }
+    ensures ok { OnOk result (MayTell outcome.now (λ o. Appends (O.taken output.old) (O.taken output.new) (framed line actor line (response_with false o)))) }
+    ensures err { OnErr result (MayTell outcome.now (λ o. AppendsFront (O.taken output.old) (O.taken output.new) (framed line actor line (response_with false o)))) }
     ensures cause { HasCause (O.faults output.old) (O.faults output.new) result }
 {
-    match response_of(alloc, outcome) {
+    match response_with(alloc, false, outcome) {
         Ok(response) => send_answer(output, line, actor, response.as_slice()),
-        Err(_) => send_answer(output, line, actor, no_memory()),
+        Err(_) => send_answer(output, line, actor, no_memory(false)),
     }
 }

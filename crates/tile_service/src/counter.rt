@@ -1,7 +1,13 @@
 use cabinet::cabinet::Cabinet;
+use exact_ratio::words::Words;
+use wmts_rest::table::RestTable;
 
-/// Where one thread is served: a cabinet, and later what else its answers need.
+/// Where one thread is served.
 #[derive(Drop)]
 pub struct Counter {
     pub cabinet: Cabinet,
+    /// How paths of tiles are read.
+    pub rest: RestTable,
+    /// The document of the service's capabilities, as the operator wrote it.
+    pub capabilities: Words,
 }

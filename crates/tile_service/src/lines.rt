@@ -1,22 +1,16 @@
-ghost use Rattle.std.specs.Prelude.{◌≡◌, ◌<◌, ◌≤◌, ◌==◌, ◌∷◌, length, not, IfSome};
-ghost use Rattle.std.specs.List.{prefix_len};
+ghost use Rattle.std.specs.Prelude.{◌≡◌, ◌<◌, ◌≤◌, ◌∷◌, length};
 ghost use Rattle.std.specs.Option.{option_map};
-ghost use Rattle.catalog.specs.declared.catalogue.Catalogue.{Catalogue};
-ghost use Rattle.wmts_kvp.specs.Reading.{IsOfCatalogue};
-ghost use Rattle.tile_service.specs.Requests.{IsOf};
-ghost use Rattle.tile_service.specs.Lines.{lines_of, line_length, deed_of, requested, deed_with, is_idle, deed_in, request_of};
+ghost use Rattle.tile_service.specs.Lines.{lines_of, line_length, deed_of, deed_with, is_idle, deed_in};
 
-use crate::request::Request;
 use schedule_text::line::{LINE_LIMIT, read_line};
 use schedule_text::verb::Verb;
-use wmts_kvp::query::Query;
 
 /// What a line does.
 #[derive(Clone, Copy, Debug)]
 pub enum Step<'a> {
     Nothing,
-    /// This actor makes the request of this query.
-    Requested(u32, &'a [u8]),
+    /// This actor gets this target.
+    Gets(u32, &'a [u8]),
 }
 
 fn line_length(text: &[u8]) -> usize
@@ -57,40 +51,11 @@ fn is_idle(line: &[u8]) -> bool
     }
 }
 
-/// Where the path of a target ends.
-fn path_len(target: &[u8]) -> usize
-    ensures value { result ≡ prefix_len (λ b. not (b == 63)) target.now }
-    ensures within { result ≤ length target.now }
-{
-    let mut count = 0;
-    for byte in target {
-        if *byte == b'?' {
-            return count;
-        }
-        count += 1;
-    }
-    count
-}
-
-fn requested(actor: u32, target: &[u8]) -> Option<Step<'_>>
-    ensures { option_map deed_of result ≡ requested actor target.now }
-{
-    let (path, behind) = target.split_at(path_len(target));
-    if path != b"/wmts".as_slice() {
-        return None;
-    }
-    let query = match behind {
-        [] => behind,
-        [_, query @ ..] => query,
-    };
-    Some(Step::Requested(actor, query))
-}
-
 fn step_with(actor: u32, verb: Verb, rest: &[u8]) -> Option<Step<'_>>
     ensures { option_map deed_of result ≡ deed_with actor verb rest.now }
 {
     match verb {
-        Verb::Get => requested(actor, rest),
+        Verb::Get => Some(Step::Gets(actor, rest)),
         Verb::Ask | Verb::Force | Verb::Step | Verb::Truncate | Verb::Expire => None,
     }
 }
@@ -111,16 +76,4 @@ pub fn step_of(line: &[u8]) -> Option<Step<'_>>
     };
     let (_, rest) = line.split_at(read.rest.start as usize);
     step_with(read.actor, read.verb, rest)
-}
-
-/// What the reading of a query asks for; the capabilities are not served yet.
-pub fn request_of(query: Query) -> Option<Request>
-    ensures value { result ≡ request_of query }
-    ensures tile { (c : Catalogue) → IsOfCatalogue c query → IfSome result (IsOf c) }
-{
-    match query {
-        Query::Tile(address) => Some(Request::Tile(address)),
-        Query::Capabilities => None,
-        Query::Refused(code, locator) => Some(Request::Refused(code, locator)),
-    }
 }

@@ -1,11 +1,11 @@
 ghost use Rattle.std.specs.Prelude.{◌≡◌, ℕ, ◌≤◌, Some, IfOk, IfErr};
-ghost use Rattle.cabinet.specs.Commands.{IsSound};
+ghost use Rattle.cabinet.specs.Commands.{State, IsSound};
 ghost use Rattle.catalog.specs.LookUp.{IsTile};
 ghost use Rattle.catalog.specs.Valid.{IsValid};
 ghost use Rattle.causes.specs.Causes.{Rose};
 ghost use Rattle.metatile_plan.specs.Texts.{header};
 ghost use Rattle.raster_field.specs.TileText.{tile_text};
-ghost use Rattle.tile_service.specs.Requests.{Chance, got, IsTrueTile, IsOf, Serves};
+ghost use Rattle.tile_service.specs.Requests.{Chance, Want, got, copied, IsTrueTile, IsOf, Serves};
 
 use crate::outcome::Outcome;
 use cabinet::asked::Asked;
@@ -24,8 +24,14 @@ use std::alloc::{AllocError, Global};
 pub enum Request {
     /// A tile of the catalogue.
     Tile(Address),
+    /// The document of the capabilities.
+    Capabilities,
     /// What the reading of the request refuses.
     Refused(Code, Locator),
+    /// Its path leads nowhere.
+    NotFound,
+    /// Its path takes another method.
+    WrongMethod,
 }
 
 /// Why there is no text of a render.
@@ -129,20 +135,35 @@ fn get<S: Source>(
     }
 }
 
-/// Serves a request from a cabinet and a source. A tile that is not kept is rendered and kept.
+/// The document of the capabilities.
+fn document(alloc: Global, text: &[u8]) -> Outcome
+    ensures { (want : Want) × ((s : State) → (s, result) ≡ copied s text.now want) }
+{
+    match Words::new(alloc, text) {
+        Ok(copy) => Outcome::Document(copy),
+        Err(_) => Outcome::NoMemory,
+    }
+}
+
+/// Serves a request from a cabinet, the document of the capabilities and a source. A tile that is not kept is rendered and
+/// kept.
 pub fn serve<S: Source>(
     alloc: Global,
     cabinet: &mut Cabinet,
+    capabilities: &[u8],
     source: &mut S,
     request: Request,
 ) -> Outcome
     requires valid { IsValid cabinet.old.catalogue }
     requires tile { IsOf cabinet.old.catalogue request }
-    ensures serves { Serves (S.told source.old) (S.faults source.old) (S.faults source.new) cabinet.old request cabinet.new result }
+    ensures serves { Serves (S.told source.old) (S.faults source.old) (S.faults source.new) cabinet.old capabilities.now request cabinet.new result }
     ensures told { S.told source.new ≡ S.told source.old }
 {
     match request {
         Request::Tile(address) => get(alloc, cabinet, source, &address),
+        Request::Capabilities => document(alloc, capabilities),
         Request::Refused(code, locator) => Outcome::Refused(code, locator),
+        Request::NotFound => Outcome::NotFound,
+        Request::WrongMethod => Outcome::WrongMethod,
     }
 }

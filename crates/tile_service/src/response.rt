@@ -1,7 +1,7 @@
 ghost use Rattle.std.specs.Prelude.{◌≡◌, ◌++◌, IfOk, OnOk, codes, []};
 ghost use Rattle.exception_report.specs.Report.{report_of};
 ghost use Rattle.exception_report.specs.Status.{status_of};
-ghost use Rattle.tile_service.specs.Response.{type_header, status_text, response, tile_headers, response_of};
+ghost use Rattle.tile_service.specs.Response.{type_header, status_text, close_header, response_text, tile_headers, bare, response_with};
 
 use crate::outcome::Outcome;
 use exception_report::code::{Code, Locator};
@@ -29,9 +29,25 @@ fn status_text(status: u16) -> &'static [u8]
     match status {
         200 => b"200 OK",
         400 => b"400 Bad Request",
+        404 => b"404 Not Found",
+        405 => b"405 Method Not Allowed",
+        409 => b"409 Conflict",
+        413 => b"413 Payload Too Large",
+        431 => b"431 Request Header Fields Too Large",
         501 => b"501 Not Implemented",
         503 => b"503 Service Unavailable",
         _ => b"500 Internal Server Error",
+    }
+}
+
+/// The header that closes a connection.
+fn close_header(closes: bool) -> &'static [u8]
+    ensures { result.now ≡ close_header closes }
+{
+    if closes {
+        b"Connection: close\r\n"
+    } else {
+        b""
     }
 }
 
@@ -41,9 +57,10 @@ fn response(
     status: u16,
     kind: &[u8],
     more: &[u8],
+    closes: bool,
     body: &[u8],
 ) -> Result<Vec<u8>, AllocError>
-    ensures { IfOk result (λ v. v.items ≡ response status kind.now more.now body.now) }
+    ensures { IfOk result (λ v. v.items ≡ response_text status kind.now more.now closes body.now) }
 {
     let mut buffer = Buffer::new();
     let mut text = Vec::from_slice(alloc, b"HTTP/1.1 ")?;
@@ -54,6 +71,7 @@ fn response(
     text.extend_from_slice(buffer.format(body.len()).as_bytes())?;
     text.extend_from_slice(b"\r\n")?;
     text.extend_from_slice(more)?;
+    text.extend_from_slice(close_header(closes))?;
     text.extend_from_slice(b"\r\n")?;
     text.extend_from_slice(body)?;
     Ok(text)
@@ -75,38 +93,76 @@ fn tile_headers(alloc: Global, hit: bool, number: u64) -> Result<Vec<u8>, AllocE
     Ok(text)
 }
 
-fn reported(alloc: Global, code: Code, locator: &Locator) -> Result<Vec<u8>, AllocError>
-    ensures { IfOk result (λ v. v.items ≡ response (status_of code) (codes "text/xml") [] (report_of code locator.now)) }
+/// A status alone.
+fn bare(alloc: Global, closes: bool, status: u16) -> Result<Vec<u8>, AllocError>
+    ensures { IfOk result (λ v. v.items ≡ bare closes status) }
 {
-    let body = report(alloc, code, locator)?;
-    response(alloc, status_of(code), b"text/xml", b"", body.as_slice())
+    response(alloc, status, b"", b"", closes, b"")
 }
 
-/// The response to a request with this outcome, in one buffer. `AllocError` where memory runs out.
-pub fn response_of(alloc: Global, outcome: &Outcome) -> Result<Vec<u8>, AllocError>
-    ensures { IfOk result (λ v. v.items ≡ response_of outcome.now) }
+fn tile(
+    alloc: Global,
+    closes: bool,
+    hit: bool,
+    number: u64,
+    text: &[u8],
+) -> Result<Vec<u8>, AllocError>
+    ensures { IfOk result (λ v. v.items ≡ response_text 200 (codes "image/x-portable-pixmap") (tile_headers hit number) closes text.now) }
+{
+    let more = tile_headers(alloc, hit, number)?;
+    response(
+        alloc,
+        200,
+        b"image/x-portable-pixmap",
+        more.as_slice(),
+        closes,
+        text,
+    )
+}
+
+fn reported(
+    alloc: Global,
+    closes: bool,
+    code: Code,
+    locator: &Locator,
+) -> Result<Vec<u8>, AllocError>
+    ensures { IfOk result (λ v. v.items ≡ response_text (status_of code) (codes "text/xml") [] closes (report_of code locator.now)) }
+{
+    let body = report(alloc, code, locator)?;
+    response(
+        alloc,
+        status_of(code),
+        b"text/xml",
+        b"",
+        closes,
+        body.as_slice(),
+    )
+}
+
+/// The response to a request with this outcome, in one buffer; `closes` says whether it closes its connection.
+/// `AllocError` where memory runs out.
+pub fn response_with(alloc: Global, closes: bool, outcome: &Outcome) -> Result<Vec<u8>, AllocError>
+    ensures { IfOk result (λ v. v.items ≡ response_with closes outcome.now) }
 {
     match outcome {
-        Outcome::Tile(hit, number, text) => {
-            let more = tile_headers(alloc, *hit, *number)?;
-            response(
-                alloc,
-                200,
-                b"image/x-portable-pixmap",
-                more.as_slice(),
-                text.bytes(),
-            )
-        }
-        Outcome::Refused(code, locator) => reported(alloc, *code, locator),
-        Outcome::SourceFailed => reported(alloc, Code::NoApplicableCode, &Locator::Nowhere),
-        Outcome::Spent => response(alloc, 500, b"text/plain", b"", b"numbers spent\n"),
-        Outcome::NoMemory => response(alloc, 503, b"", b"", b""),
+        Outcome::Tile(hit, number, text) => tile(alloc, closes, *hit, *number, text.bytes()),
+        Outcome::Document(text) => response(alloc, 200, b"text/xml", b"", closes, text.bytes()),
+        Outcome::Refused(code, locator) => reported(alloc, closes, *code, locator),
+        Outcome::NotFound => bare(alloc, closes, 404),
+        Outcome::WrongMethod => bare(alloc, closes, 405),
+        Outcome::SourceFailed => reported(alloc, closes, Code::NoApplicableCode, &Locator::Nowhere),
+        Outcome::Spent => response(alloc, 500, b"text/plain", b"", closes, b"numbers spent\n"),
+        Outcome::NoMemory => bare(alloc, closes, 503),
     }
 }
 
 /// The response where memory ran out. It takes none.
-pub fn no_memory() -> &'static [u8]
-    ensures { result.now ≡ response_of Outcome.NoMemory }
+pub fn no_memory(closes: bool) -> &'static [u8]
+    ensures { result.now ≡ response_with closes Outcome.NoMemory }
 {
-    b"HTTP/1.1 503 Service Unavailable\r\nContent-Length: 0\r\n\r\n"
+    if closes {
+        b"HTTP/1.1 503 Service Unavailable\r\nContent-Length: 0\r\nConnection: close\r\n\r\n"
+    } else {
+        b"HTTP/1.1 503 Service Unavailable\r\nContent-Length: 0\r\n\r\n"
+    }
 }

@@ -28,7 +28,7 @@ pub fn run_lines<S: Source, O: ByteSink>(
 ) -> RunEnd
     requires valid { IsValid counter.old.cabinet.catalogue }
     requires short { length text.now < 2 ^ 32 }
-    ensures { HasRun (record { told = S.told source.old; renders = record { before = S.faults source.old; after = S.faults source.new }; writes = record { before = O.faults output.old; after = O.faults output.new }; from = O.taken output.old; to = O.taken output.new }) (record { cabinet = counter.old.cabinet }) text.now (record { cabinet = counter.new.cabinet }) result }
+    ensures { HasRun (record { told = S.told source.old; renders = record { before = S.faults source.old; after = S.faults source.new }; writes = record { before = O.faults output.old; after = O.faults output.new }; from = O.taken output.old; to = O.taken output.new }) (record { cabinet = counter.old.cabinet; capabilities = counter.old.capabilities }) text.now (record { cabinet = counter.new.cabinet; capabilities = counter.new.capabilities }) result }
 {
     let mut rest = text;
     let mut lines = 0;

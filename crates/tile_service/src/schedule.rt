@@ -42,7 +42,7 @@ pub fn run_schedule<S: Source, I: ByteSource, O: ByteSink>(
         (record { reads = record { before = I.faults input.old; after = I.faults input.new }; from = I.left input.old; to = I.left input.new })
         (record { told = S.told source.old; renders = record { before = S.faults source.old; after = S.faults source.new }; writes = record { before = O.faults output.old; after = O.faults output.new }; from = O.taken output.old; to = O.taken output.new })
         ((output.new ≡ output.old) × (source.new ≡ source.old) × (counter.new ≡ counter.old))
-        (record { cabinet = counter.old.cabinet }) (record { cabinet = counter.new.cabinet }) result }
+        (record { cabinet = counter.old.cabinet; capabilities = counter.old.capabilities }) (record { cabinet = counter.new.cabinet; capabilities = counter.new.capabilities }) result }
 {
     let text = match read_all(alloc, input, SCHEDULE_LIMIT) {
         Ok(text) => text,

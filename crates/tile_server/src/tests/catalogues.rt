@@ -23,6 +23,7 @@ fn status_with(alloc: Global, text: &[u8], reads: &[u64]) -> Result<Status, Fail
     let words = vec![in alloc; Words::new(alloc, b"schedule")?]?;
     let text = Vec::from_slice(alloc, text)?;
     let mut catalogue = MemorySource::new(text, 65_536, Vec::from_slice(alloc, reads)?);
+    let mut capabilities = MemorySource::new(Vec::new(alloc), 7, Vec::new(alloc));
     let mut input = MemorySource::new(Vec::new(alloc), 7, Vec::new(alloc));
     let mut output = MemorySink::new(alloc, Vec::new(alloc));
     let mut source = Numbered::new(0);
@@ -30,6 +31,7 @@ fn status_with(alloc: Global, text: &[u8], reads: &[u64]) -> Result<Status, Fail
         alloc,
         words.as_slice(),
         &mut catalogue,
+        &mut capabilities,
         &mut input,
         &mut output,
         &mut source,

@@ -11,18 +11,18 @@ use wmts_kvp::query::{Query, read_query};
 const START: &str = "service=WMTS&request=GetTile&version=1.0.0&layer=";
 
 /// The layers behind the built-in one in the catalogue of the queries with dimensions.
-const SEA: &str =
+pub const SEA: &str =
     "{\"id\":\"demo\",\"grids\":[\"tiny\"],\"styles\":[{\"id\":\"grey\",\"breaks\":[]}],\"meta\":[1,1]},{\"id\":\"sea\",\"grids\":[\"tiny\"],\"styles\":[{\"id\":\"grey\",\"breaks\":[]},{\"id\":\"two\",\"breaks\":[[0,0,0,255],[128,255,255,255]]}],\"dimensions\":[{\"id\":\"time\",\"values\":[\"a\",\"b\"],\"default\":\"a\"},{\"id\":\"level\",\"values\":[\"0\",\"10\"]}],\"meta\":[2,2],\"gutter\":1}]}";
 
 /// What a GET of this target is answered with.
-fn answered(alloc: Global, target: &str) -> Result<Vec<u8>, Fail> {
+pub fn answered(alloc: Global, target: &str) -> Result<Vec<u8>, Fail> {
     let line = format!(in alloc; "0 GET {target}\n")?;
     let (_, output) = ran(alloc, line.as_str(), &mut Numbered::new(0), &[], &[])?;
     Ok(output)
 }
 
 /// The answer of the first line with this response.
-fn answer(alloc: Global, response: &[u8]) -> Result<Vec<u8>, Fail> {
+pub fn answer(alloc: Global, response: &[u8]) -> Result<Vec<u8>, Fail> {
     let head = format!(in alloc; "answer 1 0 1 {}\n", response.len())?;
     let mut answer = head.into_bytes();
     answer.extend_from_slice(response)?;
@@ -30,7 +30,7 @@ fn answer(alloc: Global, response: &[u8]) -> Result<Vec<u8>, Fail> {
 }
 
 /// The answer that refuses a request.
-fn refusal(alloc: Global, code: &str, locator: &str, length: usize) -> Result<Vec<u8>, Fail> {
+pub fn refusal(alloc: Global, code: &str, locator: &str, length: usize) -> Result<Vec<u8>, Fail> {
     let text = format!(in alloc;
         "HTTP/1.1 400 Bad Request\r\nContent-Type: text/xml\r\nContent-Length: {length}\r\n\r\n<?xml version=\"1.0\" encoding=\"UTF-8\"?>\n<ExceptionReport xmlns=\"http://www.opengis.net/ows/1.1\" version=\"1.1.0\">\n<Exception exceptionCode=\"{code}\" locator=\"{locator}\"/>\n</ExceptionReport>\n"
     )?;
@@ -38,7 +38,7 @@ fn refusal(alloc: Global, code: &str, locator: &str, length: usize) -> Result<Ve
 }
 
 /// The answer with the first tile, rendered anew.
-fn first_answer(alloc: Global) -> Result<Vec<u8>, Fail> {
+pub fn first_answer(alloc: Global) -> Result<Vec<u8>, Fail> {
     answer(alloc, first_response(alloc, "MISS")?.as_slice())
 }
 

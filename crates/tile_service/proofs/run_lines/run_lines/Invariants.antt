@@ -5,7 +5,7 @@ use Rattle.tile_service.proofs.run_lines.run_lines.Given as goal
 abbrev pub invariant-loop-rest : goal.invariant-loop-rest
 invariant-loop-rest g l = record {
   so_far : Far (g.S.Source.told l.initial.source) (g.S.Source.faults l.initial.source) (g.S.Source.faults l.source) (g.O.ByteSink.taken l.initial.output) (g.O.ByteSink.taken l.output)
-      (record { cabinet = l.initial.counter.cabinet }) l.text l.lines l.rest (record { cabinet = l.counter.cabinet });
+      (record { cabinet = l.initial.counter.cabinet; capabilities = l.initial.counter.capabilities }) l.text l.lines l.rest (record { cabinet = l.counter.cabinet; capabilities = l.counter.capabilities });
   told : g.S.Source.told l.source ≡ g.S.Source.told l.initial.source;
   later : g.O.ByteSink.faults l.initial.output ≤ g.O.ByteSink.faults l.output;
   few : l.lines + length l.rest ≤ length l.text;

@@ -1,6 +1,6 @@
 use Rattle.std.proofs.Common.{◌≡◌, ◌+◌, ◌==◌, not, drop}
 use Rattle.std.specs.List.{prefix_len}
-use Rattle.tile_service.proofs.lines.path_len.Given as goal
+use Rattle.tile_service.proofs.routes.path_len.Given as goal
 
 abbrev pub invariant-loop-byte : goal.invariant-loop-byte
 invariant-loop-byte l = record {

@@ -1,0 +1,8 @@
+/// What a path is routed to.
+#[derive(Clone, Copy, Debug, PartialEq, Eq)]
+pub enum Route {
+    /// The document of the service's capabilities.
+    Capabilities,
+    /// A tile, which the segments behind `/rest/wmts/` name.
+    Tile,
+}
