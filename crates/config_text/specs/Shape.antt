@@ -15,8 +15,9 @@ use Rattle.exact_ratio.specs.declared.decimal.DecimalFault.{DecimalFault}
 use Rattle.exact_ratio.specs.declared.decimal.DecimalFault.TheVariants.{Empty, NotADigit, TooLong}
 use Rattle.matrix_geometry.specs.declared.matrix.Corner.{Corner}
 use Rattle.matrix_geometry.specs.declared.matrix.Size.{Size}
+use Rattle.json_forms.specs.Forms.{number_of}
 use Rattle.config_text.specs.Reading.{◌>>=◌}
-use Rattle.config_text.specs.Member.{Form, of_kind, number_of, items}
+use Rattle.config_text.specs.Member.{Form, of_kind, items}
 
 -- a list of two values
 abbrev pub two_of : List Data → Field → ℕ → Result (Data × Data) CatalogueFault
