@@ -1,7 +1,5 @@
 mod Breaks
 mod Digits
-mod Lists
 mod Loop
 mod NamedMatrices
-mod Objects
 mod Valid

@@ -16,8 +16,9 @@ use Rattle.catalog.specs.FirstFault.{unless, dimension_name_test, rise_from_zero
 use Rattle.catalog.specs.Names.{place_named}
 use Rattle.matrix_geometry.specs.declared.matrix.Size.{Size}
 use Rattle.config_text.specs.declared.row.Row.{Row}
+use Rattle.json_forms.specs.Forms.{number_of}
 use Rattle.config_text.specs.Reading.{◌>>=◌, tested, entries}
-use Rattle.config_text.specs.Member.{Form, required, or, if_any, of_kind, number_of, items, objects, name_beside, names, own_names, whole}
+use Rattle.config_text.specs.Member.{Form, required, or, if_any, of_kind, items, objects, name_beside, names, own_names, whole}
 use Rattle.config_text.specs.Shape.{size}
 
 -- ---- styles

@@ -1,8 +1,9 @@
 -- What a member of an object may be. Of a member the form is tested first, then its limits, then what it names.
-use Rattle.std.specs.Prelude.{ℕ, List, [], ◌∷◌, length, map, Bool, Result, Ok, Err, Option, Some, None, is_some, unwrap_or, if◌then◌else◌, option_and_then, option_map}
+use Rattle.std.specs.Prelude.{ℕ, List, [], length, map, Bool, Result, Ok, Err, Option, Some, None, is_some, unwrap_or, if◌then◌else◌}
 use Rattle.std.specs.List.{list_all}
-use Rattle.serde_json.specs.Data.{Data, Items, no_items, item}
-use Rattle.serde_json.specs.Find.{as_number, as_u64, as_str, as_array, as_object}
+use Rattle.serde_json.specs.Data.{Data}
+use Rattle.serde_json.specs.Find.{as_str, as_object}
+use Rattle.json_forms.specs.Forms.{number_of, values_of}
 use Rattle.catalog.specs.declared.fault.Field.{Field}
 use Rattle.catalog.specs.declared.fault.CatalogueFault.{CatalogueFault}
 use Rattle.catalog.specs.declared.fault.CatalogueFault.TheVariants.{Missing, Bad, Duplicate, Limit}
@@ -32,10 +33,6 @@ abbrev pub of_kind : {A : Type 0} → Option A → Field → ℕ → Result A Ca
 of_kind None f at = Err (Bad f at)
 of_kind (Some x) f at = Ok x
 
--- a number without a sign, a fraction or an exponent, below 2^64
-abbrev pub number_of : Data → Option ℕ
-number_of d = option_and_then as_u64 (as_number d)
-
 -- a whole number from low to high
 unfoldable pub whole : ℕ → ℕ → Form ℕ
 whole low high f at d = do
@@ -43,12 +40,8 @@ whole low high f at d = do
   tested (unless (within low high n) (Limit f at)) n
 
 -- the values of a list
-abbrev pub list_of : Items → List Data
-list_of no_items = []
-list_of (item d ds) = d ∷ list_of ds
-
 abbrev pub items : Form (List Data)
-items f at d = of_kind (option_map list_of (as_array d)) f at
+items f at d = of_kind (values_of d) f at
 
 abbrev pub is_object : Data → Bool
 is_object d = is_some (as_object d)

@@ -1,9 +1,7 @@
 -- Reading in order, with the first fault met.
-use Rattle.std.specs.Prelude.{ℕ, ◌≡◌, List, [], ◌∷◌, ◌++◌, Result, Ok, Err, Option, Some, None, if◌then◌else◌}
-use Rattle.std.specs.Str.{is_utf8}
+use Rattle.std.specs.Prelude.{ℕ, ◌≡◌, List, [], ◌∷◌, ◌++◌, Result, Ok, Err, Option, Some, None}
 use Rattle.serde_json.specs.Data.{Data}
-use Rattle.serde_json.specs.Read.{read}
-use Rattle.serde_json.specs.Find.{as_object}
+use Rattle.json_forms.specs.Forms as forms
 use Rattle.catalog.specs.declared.fault.CatalogueFault.{CatalogueFault}
 use Rattle.catalog.specs.declared.fault.CatalogueFault.TheVariants.{OutOfMemory, NotJson, Missing, Bad, Duplicate, Limit}
 use Rattle.catalog.specs.FirstFault.{Test}
@@ -39,10 +37,10 @@ abbrev pub Gives : {X A : Type 0} → (X → A) → Result X CatalogueFault → 
 Gives view (Ok x) reading = reading ≡ Ok (view x)
 Gives view (Err e) reading = Fails e reading
 
--- the value of a text that is one JSON object (RFC 8259)
+-- the value of a text that is one JSON object
 abbrev pub object_or : Option Data → Result Data CatalogueFault
 object_or None = Err NotJson
-object_or (Some d) = elim (as_object d) [ None ↦ Err NotJson | Some _ ↦ Ok d ]
+object_or (Some d) = Ok d
 
 unfoldable pub object_of : List ℕ → Result Data CatalogueFault
-object_of text = if is_utf8 text then object_or (read text) else Err NotJson
+object_of text = object_or (forms.object_of text)

@@ -1,5 +1,5 @@
 -- Numbers of a matrix and of its grid: sizes, decimals, corners and spans.
-use Rattle.std.specs.Prelude.{ℕ, ◌+◌, ◌&&◌, ◌==◌, List, [], ◌∷◌, length, take, drop, Bool, true, false, not, Result, Ok, Err, min, nat_lt, nat_le, int_lt, pos, codes, if◌then◌else◌}
+use Rattle.std.specs.Prelude.{ℕ, ◌+◌, ◌&&◌, ◌==◌, List, [], ◌∷◌, length, take, drop, Bool, not, Result, Ok, Err, min, nat_lt, nat_le, int_lt, pos, codes, if◌then◌else◌}
 use Rattle.std.specs.List.{list_all, list_any, position_or_len}
 use Rattle.std.specs.Char.{is_ascii_digit}
 use Rattle.std.specs.Str.Parse.{digits_value}
@@ -8,15 +8,16 @@ use Rattle.serde_json.specs.Find.{as_str}
 use Rattle.catalog.specs.declared.fault.Field.{Field}
 use Rattle.catalog.specs.declared.fault.CatalogueFault.{CatalogueFault}
 use Rattle.catalog.specs.declared.fault.CatalogueFault.TheVariants.{Bad, Limit}
-use Rattle.exact_ratio.specs.Decimal.{decimal_of}
 use Rattle.exact_ratio.specs.Lowest.{lowest_of}
 use Rattle.exact_ratio.specs.Values.{Fraction, Scaled}
-use Rattle.exact_ratio.specs.declared.decimal.DecimalFault.{DecimalFault}
-use Rattle.exact_ratio.specs.declared.decimal.DecimalFault.TheVariants.{Empty, NotADigit, TooLong}
 use Rattle.matrix_geometry.specs.declared.matrix.Corner.{Corner}
 use Rattle.matrix_geometry.specs.declared.matrix.Size.{Size}
+use Rattle.json_forms.specs.Decimals.{decimal_text}
+use Rattle.json_forms.specs.Forms.{number_of}
+use Rattle.json_forms.specs.declared.decimal.DecimalText.{DecimalText}
+use Rattle.json_forms.specs.declared.decimal.DecimalText.TheVariants as texts
 use Rattle.config_text.specs.Reading.{◌>>=◌}
-use Rattle.config_text.specs.Member.{Form, of_kind, number_of, items}
+use Rattle.config_text.specs.Member.{Form, of_kind, items}
 
 -- a list of two values
 abbrev pub two_of : List Data → Field → ℕ → Result (Data × Data) CatalogueFault
@@ -41,17 +42,16 @@ size f at d = do
   h ← of_kind (number_of pair.1) f at
   Ok (record { w = wide w; h = wide h })
 
--- a decimal number, not too long
-abbrev pub of_decimal : Result Scaled DecimalFault → Field → ℕ → Result Scaled CatalogueFault
-of_decimal (Ok x) f at = Ok x
-of_decimal (Err Empty) f at = Err (Bad f at)
-of_decimal (Err (NotADigit place)) f at = Err (Bad f at)
-of_decimal (Err TooLong) f at = Err (Limit f at)
+-- the number of a decimal text that isn't too long
+abbrev pub limited : DecimalText → Field → ℕ → Result Scaled CatalogueFault
+limited (texts.Number x) f at = Ok x
+limited texts.TooLong f at = Err (Limit f at)
 
+-- a decimal number
 unfoldable pub decimal : Form Scaled
 decimal f at d = do
-  text ← of_kind (as_str d) f at
-  of_decimal (decimal_of text) f at
+  text ← of_kind (decimal_text d) f at
+  limited text f at
 
 -- a decimal number above 0
 unfoldable pub above_zero : Form Scaled
@@ -59,25 +59,15 @@ above_zero f at d = do
   x ← decimal f at d
   if int_lt (pos 0) x.units then Ok x else Err (Bad f at)
 
--- the form of a decimal number is met, however long it is
-abbrev pub is_decimal : Result Scaled DecimalFault → Bool
-is_decimal (Ok x) = true
-is_decimal (Err Empty) = false
-is_decimal (Err (NotADigit place)) = false
-is_decimal (Err TooLong) = true
-
--- the form of both, then their limits
-unfoldable pub corner_of : Result Scaled DecimalFault → Result Scaled DecimalFault → Field → ℕ → Result Corner CatalogueFault
-corner_of left top f at =
-    if is_decimal left && is_decimal top then (of_decimal left f at >>= λ x. of_decimal top f at >>= λ y. Ok (record { x = x; y = y })) else Err (Bad f at)
-
--- two decimal numbers, x and y
+-- two decimal numbers, x and y: the form of both, then their limits
 unfoldable pub corner : Form Corner
 corner f at d = do
   pair ← two f at d
-  left ← of_kind (as_str pair.0) f at
-  top ← of_kind (as_str pair.1) f at
-  corner_of (decimal_of left) (decimal_of top) f at
+  left ← of_kind (decimal_text pair.0) f at
+  top ← of_kind (decimal_text pair.1) f at
+  x ← limited left f at
+  y ← limited top f at
+  Ok (record { x = x; y = y })
 
 -- digits, not all of them 0
 abbrev pub is_nonzero : List ℕ → Bool

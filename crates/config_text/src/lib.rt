@@ -2,7 +2,7 @@
 //!
 //! Promises: `read_catalogue` gives the catalogue of a text, with the SHA-256 of the text, or its first fault in the order
 //! of the catalogue's tables (`specs/`); a catalogue that was read is valid.
-//! Stands on catalog, matrix_geometry, exact_ratio, serde_json and sha2.
+//! Stands on json_forms, catalog, matrix_geometry, exact_ratio, serde_json and sha2.
 #![tactic(auto)]
 
 mod dimensions;

@@ -4,11 +4,13 @@ ghost use Rattle.serde_json.specs.View.{view};
 ghost use Rattle.serde_json.specs.Find.{get, as_str};
 ghost use Rattle.catalog.specs.Names.{within};
 ghost use Rattle.config_text.specs.Reading.{Gives};
-ghost use Rattle.config_text.specs.Member.{required, or, if_any, of_kind, number_of, whole, items, is_object, objects};
+ghost use Rattle.config_text.specs.Member.{required, or, if_any, of_kind, whole, items, is_object, objects};
+ghost use Rattle.json_forms.specs.Forms.{number_of};
 
 use catalog::fault::{CatalogueFault, Field};
 use catalog::first_fault::unless;
 use catalog::names::within;
+use json_forms::list::values_of;
 use serde_json::Value;
 
 /// A number without a sign, a fraction or an exponent.
@@ -98,13 +100,12 @@ pub(crate) fn text(value: &Value, field: Field, at: u32) -> Result<&[u8], Catalo
 }
 
 /// The values of a list.
-#[tactic(auto, using(crate::proofs::Lists::list_items))]
 pub(crate) fn items(value: &Value, field: Field, at: u32) -> Result<&[Value], CatalogueFault>
     ensures { Gives (λ vs. map view vs.now) result (items field at (view value.now)) }
 {
-    match value.as_array() {
+    match values_of(value) {
         None => Err(CatalogueFault::Bad(field, at)),
-        Some(list) => Ok(list.as_slice()),
+        Some(values) => Ok(values),
     }
 }
 

@@ -1,14 +1,15 @@
 ghost use Rattle.std.specs.Prelude.{◌≡◌, pos};
 ghost use Rattle.serde_json.specs.View.{view};
 ghost use Rattle.serde_json.specs.Find.{get};
-ghost use Rattle.exact_ratio.specs.Decimal.{decimal_of};
+ghost use Rattle.json_forms.specs.Decimals.{decimal_text};
 ghost use Rattle.config_text.specs.Reading.{Gives};
-ghost use Rattle.config_text.specs.Member.{required, or};
-ghost use Rattle.config_text.specs.Shape.{two, wide, size, of_decimal, decimal, above_zero, is_decimal, corner_of, corner};
+ghost use Rattle.config_text.specs.Member.{required, or, of_kind};
+ghost use Rattle.config_text.specs.Shape.{two, wide, size, limited, decimal, above_zero, corner};
 
-use crate::member::{items, number, text};
+use crate::member::{items, number};
 use catalog::fault::{CatalogueFault, Field};
-use exact_ratio::decimal::{Decimal, DecimalFault};
+use exact_ratio::decimal::Decimal;
+use json_forms::decimal::{DecimalText, decimal_text};
 use matrix_geometry::matrix::{Corner, Size};
 use serde_json::Value;
 
@@ -59,18 +60,23 @@ pub(crate) fn required_size(
     }
 }
 
-fn of_decimal(
-    reading: Result<Decimal, DecimalFault>,
-    field: Field,
-    at: u32,
-) -> Result<Decimal, CatalogueFault>
-    ensures { Gives (λ x. x) result (of_decimal reading field at) }
+/// The number of a decimal text that isn't too long.
+fn limited(text: DecimalText, field: Field, at: u32) -> Result<Decimal, CatalogueFault>
+    ensures { Gives (λ x. x) result (limited text field at) }
 {
-    match reading {
-        Ok(decimal) => Ok(decimal),
-        Err(DecimalFault::TooLong) => Err(CatalogueFault::Limit(field, at)),
-        Err(DecimalFault::Empty) => Err(CatalogueFault::Bad(field, at)),
-        Err(DecimalFault::NotADigit(_)) => Err(CatalogueFault::Bad(field, at)),
+    match text {
+        DecimalText::Number(decimal) => Ok(decimal),
+        DecimalText::TooLong => Err(CatalogueFault::Limit(field, at)),
+    }
+}
+
+/// A text that has the form of a decimal number.
+fn decimal_form(value: &Value, field: Field, at: u32) -> Result<DecimalText, CatalogueFault>
+    ensures { Gives (λ t. t) result (of_kind (decimal_text (view value.now)) field at) }
+{
+    match decimal_text(value) {
+        None => Err(CatalogueFault::Bad(field, at)),
+        Some(text) => Ok(text),
     }
 }
 
@@ -79,8 +85,8 @@ fn of_decimal(
 fn decimal(value: &Value, field: Field, at: u32) -> Result<Decimal, CatalogueFault>
     ensures { Gives (λ x. x) result (decimal field at (view value.now)) }
 {
-    let text = text(value, field, at)?;
-    of_decimal(Decimal::read(text), field, at)
+    let text = decimal_form(value, field, at)?;
+    limited(text, field, at)
 }
 
 /// A decimal number that has to be there.
@@ -127,43 +133,17 @@ pub(crate) fn above_zero_or(
     }
 }
 
-fn is_decimal(reading: &Result<Decimal, DecimalFault>) -> bool
-    ensures { result ≡ is_decimal reading.now }
-{
-    match reading {
-        Ok(_) => true,
-        Err(DecimalFault::TooLong) => true,
-        Err(DecimalFault::Empty) => false,
-        Err(DecimalFault::NotADigit(_)) => false,
-    }
-}
-
-#[tactic(auto, unfolding(crate::specs::Shape::corner_of))]
-fn corner_of(
-    left: Result<Decimal, DecimalFault>,
-    top: Result<Decimal, DecimalFault>,
-    field: Field,
-    at: u32,
-) -> Result<Corner, CatalogueFault>
-    ensures { Gives (λ c. c) result (corner_of left top field at) }
-{
-    if !is_decimal(&left) || !is_decimal(&top) {
-        return Err(CatalogueFault::Bad(field, at));
-    }
-    let x = of_decimal(left, field, at)?;
-    let y = of_decimal(top, field, at)?;
-    Ok(Corner { x, y })
-}
-
 /// Two decimal numbers, x and y.
 #[tactic(auto, unfolding(crate::specs::Shape::corner))]
 fn corner(value: &Value, field: Field, at: u32) -> Result<Corner, CatalogueFault>
     ensures { Gives (λ c. c) result (corner field at (view value.now)) }
 {
     let (left, top) = two(value, field, at)?;
-    let left = text(left, field, at)?;
-    let top = text(top, field, at)?;
-    corner_of(Decimal::read(left), Decimal::read(top), field, at)
+    let left = decimal_form(left, field, at)?;
+    let top = decimal_form(top, field, at)?;
+    let x = limited(left, field, at)?;
+    let y = limited(top, field, at)?;
+    Ok(Corner { x, y })
 }
 
 /// Two decimal numbers that have to be there.

@@ -2,7 +2,7 @@
 use Rattle.std.proofs.Common.{◌≡◌, List, [], ◌∷◌, refl, ap}
 use Rattle.serde_json.specs.Data.{Data}
 use Rattle.serde_json.specs.View.{items_of}
-use Rattle.config_text.specs.Member.{list_of}
+use Rattle.json_forms.specs.Forms.{list_of}
 
 pub list_items : (ds : List Data) → list_of (items_of ds) ≡ ds
 list_items [] = refl
