@@ -26,7 +26,8 @@ use Rattle.cabinet.specs.declared.replies.Finished.{Finished}
 use Rattle.cabinet.specs.declared.replies.Finished.TheVariants as finished
 use Rattle.cabinet.specs.declared.replies.CutReply.{CutReply}
 use Rattle.cabinet.specs.declared.replies.CutReply.TheVariants as reply
-use Rattle.cabinet.specs.Hits.{hits_of, IsCoverOf}
+use Rattle.cabinet.specs.Hits.{hits_of}
+use Rattle.served_covers.specs.OfCatalogue.{IsCoverOf}
 use Rattle.cabinet.specs.History.{History, Standing, nothing, standing, after, next, is_of, but, spared}
 use Rattle.cabinet.specs.Fresh.{May, Possible, IsFresh}
 use Rattle.cabinet.specs.State.{State, now, with_entry, IsKnown, IsKnownAs}

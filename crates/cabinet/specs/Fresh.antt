@@ -15,7 +15,8 @@ use Rattle.cabinet.specs.declared.entry.Entry.TheVariants as entry
 use Rattle.cabinet.specs.declared.kept.Kept.{Kept}
 use Rattle.cabinet.specs.Gaps.{gap_for}
 use Rattle.cabinet.specs.History.{History, Standing, after, kept_of}
-use Rattle.cabinet.specs.Hits.{hits_of, covers_in, IsCoverOf}
+use Rattle.cabinet.specs.Hits.{hits_of, covers_in}
+use Rattle.served_covers.specs.OfCatalogue.{IsCoverOf}
 
 -- WHICH HISTORIES ARE POSSIBLE
 

@@ -36,7 +36,7 @@ impl Model for Cabinet {
 
 impl Cabinet {
     ghost use Rattle.cabinet.specs.State.{fresh_state, with_entry, IsKnown, IsSound};
-    ghost use Rattle.cabinet.specs.Hits.{IsCoverOf};
+    ghost use Rattle.served_covers.specs.OfCatalogue.{IsCoverOf};
     ghost use Rattle.cabinet.specs.Commands.{Asks, Forces, Finishes, Abandons, Cuts, IsTrueHit, IsFreshReply};
 
     /// A cabinet in memory, in which nothing has happened. `AllocError` where memory runs out.

@@ -18,7 +18,7 @@ ghost use Rattle.cabinet.specs.declared.replies.Finished.{Finished};
 ghost use Rattle.cabinet.specs.declared.replies.Forced.{Forced};
 ghost use Rattle.cabinet.specs.Commands.{Abandons, Asks, Cuts, Finishes, Forces, IsFreshForced, IsFreshReply};
 ghost use Rattle.cabinet.specs.Fresh.{Differ, Holds, IsFresh, Possible, cuts_of};
-ghost use Rattle.cabinet.specs.Hits.{IsCoverOf};
+ghost use Rattle.served_covers.specs.OfCatalogue.{IsCoverOf};
 ghost use Rattle.cabinet.specs.History.{History, kept, kept_of, nothing, render, standing, ticket_render};
 ghost use Rattle.cabinet.specs.State.{IsKnown, IsKnownAs, State};
 

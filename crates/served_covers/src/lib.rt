@@ -1,0 +1,6 @@
+//! Which covers are of a catalogue: the definition alone (`specs/OfCatalogue.antt`), which the readers of covers promise
+//! and the cabinet asks for.
+//!
+//! It has no code and promises nothing.
+//! Stands on truncation_list, catalog, matrix_geometry and exact_ratio.
+#![tactic(auto)]
