@@ -1,0 +1,15 @@
+use Rattle.std.proofs.Common.{◌<◌, ℕ, subst}
+use Rattle.job_forms.proofs.Covers.{matrix_there}
+use Rattle.job_forms.proofs.cover.cover_in.Goals as goal
+
+pub returns-clause-of : goal.returns-clause-of
+returns-clause-of c =
+    let Below : ℕ → Type 0 = λ n. c.in_ok-z_stop.z_stop < n in
+    record {
+      grid = c.in_ok-grid.ensures.served;
+      zoom = c.in_ok-z_stop.ensures.first;
+      matrices = matrix_there c.args.catalogue.now c.in_ok-grid.grid c.in_ok-z_stop.z_stop (subst Below c.matrices_of-matrices.ensures c.in_ok-z_stop.ensures.there);
+      style = c.in_ok-style.ensures.there;
+      values = c.in_ok-dims.ensures.there;
+      reach = c.in_ok-bounds.ensures.reach;
+    }

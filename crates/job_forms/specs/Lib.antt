@@ -1,0 +1,6 @@
+pub mod Bounds
+pub mod Cover
+pub mod Members
+pub mod OfCatalogue
+pub mod Outcome
+pub mod Values
