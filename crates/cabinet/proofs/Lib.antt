@@ -6,3 +6,6 @@ pub mod Sentences
 pub mod Numbers
 pub mod Fresher
 pub mod Rows
+pub mod Regions
+pub mod Served
+pub mod Gives

@@ -8,6 +8,10 @@
 
 pub mod cabinet;
 pub mod entry;
+mod giving;
+mod hitting;
 pub mod kept;
 pub mod laws;
+
 pub mod replies;
+mod shelf;
