@@ -52,7 +52,7 @@ module _ (keep : Kept → Bool) (front : List Kept) (blobs : List KeptBlob) (i :
       let here : now.parts ≡ regions ((front ++ filter keep (map (λ b. b.kept) (take i blobs))) ++ (get_or blobs i d).kept ∷ map (λ b. b.kept) (drop (i + 1) blobs)) = g.parts ∙ ap regions (before_is keep front blobs i d l) in
       let left : filter keep ((get_or blobs i d).kept ∷ []) ≡ [] = rw off refl in
       let there : still keep front blobs (i + 1) ≡ front ++ filter keep (map (λ b. b.kept) (take i blobs)) ++ map (λ b. b.kept) (drop (i + 1) blobs) =
-          after_is keep front blobs i d l ∙ ap (λ (xs : List Kept). front ++ xs ++ map (λ b. b.kept) (drop (i + 1) blobs)) (ap (λ (xs : List Kept). filter keep (map (λ b. b.kept) (take i blobs)) ++ xs) left ∙ append-nil (filter keep (map (λ b. b.kept) (take i blobs)))) in
+      after_is keep front blobs i d l ∙ ap (λ (xs : List Kept). front ++ xs ++ map (λ b. b.kept) (drop (i + 1) blobs)) (ap (λ (xs : List Kept). filter keep (map (λ b. b.kept) (take i blobs)) ++ xs) left ∙ append-nil (filter keep (map (λ b. b.kept) (take i blobs)))) in
       here
       ∙ one_of 0 (front ++ filter keep (map (λ b. b.kept) (take i blobs))) (get_or blobs i d).kept (map (λ b. b.kept) (drop (i + 1) blobs)) now.size (subst (λ (ps : List Part). LieInOrder 0 ps now.size) here g.sound)
       ∙ ap (λ (ts : List Kept). inserted (region (get_or blobs i d).kept) (regions ts)) (sym there)
@@ -73,11 +73,11 @@ module _ (keep : Kept → Bool) (front : List Kept) (blobs : List KeptBlob) (i :
   kept_more on =
       let left : filter keep ((get_or blobs i d).kept ∷ []) ≡ (get_or blobs i d).kept ∷ [] = rw on refl in
       let same : still keep front blobs (i + 1) ≡ still keep front blobs i =
-          after_is keep front blobs i d l
-          ∙ ap (λ (xs : List Kept). front ++ (filter keep (map (λ b. b.kept) (take i blobs)) ++ xs) ++ map (λ b. b.kept) (drop (i + 1) blobs)) left
-          ∙ ap (λ (xs : List Kept). xs ++ map (λ b. b.kept) (drop (i + 1) blobs)) (sym (append_assoc front (filter keep (map (λ b. b.kept) (take i blobs))) ((get_or blobs i d).kept ∷ [])))
-          ∙ append_assoc (front ++ filter keep (map (λ b. b.kept) (take i blobs))) ((get_or blobs i d).kept ∷ []) (map (λ b. b.kept) (drop (i + 1) blobs))
-          ∙ sym (before_is keep front blobs i d l) in
+      after_is keep front blobs i d l
+      ∙ ap (λ (xs : List Kept). front ++ (filter keep (map (λ b. b.kept) (take i blobs)) ++ xs) ++ map (λ b. b.kept) (drop (i + 1) blobs)) left
+      ∙ ap (λ (xs : List Kept). xs ++ map (λ b. b.kept) (drop (i + 1) blobs)) (sym (append_assoc front (filter keep (map (λ b. b.kept) (take i blobs))) ((get_or blobs i d).kept ∷ [])))
+      ∙ append_assoc (front ++ filter keep (map (λ b. b.kept) (take i blobs))) ((get_or blobs i d).kept ∷ []) (map (λ b. b.kept) (drop (i + 1) blobs))
+      ∙ sym (before_is keep front blobs i d l) in
       record { parts = g.parts ∙ ap regions (sym same); size = g.size; spare = g.spare; sound = g.sound }
 
 -- the one at hand is seen to

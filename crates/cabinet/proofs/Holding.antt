@@ -151,7 +151,7 @@ out_marked_at c cuts front more floor floor' t cover le r false e h = record {
   newer = λ none. all_push (λ (k : Cut). IsTrue (hits_of c k.cover r.meta) → k.number < r.number) cuts (record { number = t; cover = cover }) (h.0.newer none) (λ hit. absurd (let f : true ≡ false = sym hit ∙ e in cc));
 }
 
-above_listed : (c : Catalogue) (cuts : List Cut) (s : Standing) (t : ℕ) → Holds c cuts s → s.front < t → IsAbove t s.book.cuts
+pub above_listed : (c : Catalogue) (cuts : List Cut) (s : Standing) (t : ℕ) → Holds c cuts s → s.front < t → IsAbove t s.book.cuts
 above_listed c cuts s t h l =
     All-from_recursion (λ (k : Cut). k.number < t) s.book.cuts
     (all_weaker (Contains cuts) (λ k. k.number < t) (λ k a. let g = all_contained (λ (j : Cut). j.number ≤ s.front) cuts k h.given a in omega arith) s.book.cuts h.listed)

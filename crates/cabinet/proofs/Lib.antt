@@ -9,3 +9,4 @@ pub mod Rows
 pub mod Regions
 pub mod Served
 pub mod Gives
+pub mod Consistent
