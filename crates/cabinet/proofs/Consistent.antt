@@ -1,11 +1,11 @@
 -- What each command leaves of the parts of a cabinet.
-use Rattle.std.proofs.Common.{ℕ, ◌≡◌, ◌+◌, ◌-◌, ◌*◌, ◌^◌, ◌<◌, ◌≤◌, max, Bool, true, false, not, List, [], ◌∷◌, ◌++◌, length, map, filter, find, fold, Option, Some, None, IsSome, refl, sym, ap, subst, ◌∙◌, arith, length-append}
+use Rattle.std.proofs.Common.{ℕ, ◌≡◌, ◌+◌, ◌-◌, ◌*◌, ◌^◌, ◌<◌, ◌≤◌, max, not, List, [], ◌∷◌, ◌++◌, length, map, filter, find, Option, Some, None, refl, sym, ap, subst, ◌∙◌, arith, length-append}
 use Rattle.std.specs.List.{AllByRecursion}
 use Rattle.std.specs.Option.{option_map}
 use Rattle.catalog.specs.declared.catalogue.Catalogue.{Catalogue}
 use Rattle.extent_map.specs.declared.part.Part.{Part}
 use Rattle.extent_map.specs.Parts.{part_at, LieInOrder}
-use Rattle.extent_map.specs.Spaces.{Space, IsFree, IsTaken, NoneFree, NoneFreeBelow}
+use Rattle.extent_map.specs.Spaces.{Space, IsTaken}
 use Rattle.metatile_plan.specs.declared.metatile.MetaKey.{MetaKey}
 use Rattle.raster_field.specs.Blocks.{IsMeta, blob_size}
 use Rattle.truncation_list.specs.declared.book.Book.{Book}
@@ -22,9 +22,9 @@ use Rattle.cabinet.specs.declared.kept.Kept.{Kept}
 use Rattle.cabinet.specs.declared.kept.KeptBlob.{KeptBlob}
 use Rattle.cabinet.specs.Gaps.{gap_for, regions}
 use Rattle.cabinet.specs.Hits.{hits_of, IsCoverOf}
-use Rattle.cabinet.specs.History.{History, Standing, after, but, is_of, least_of, nothing, numbers, spared, standing}
+use Rattle.cabinet.specs.History.{History, Standing, after, but, is_of, least_of, nothing, numbers, spared}
 use Rattle.cabinet.specs.Fresh.{Holds, HoldsOfRender, May, cuts_of}
-use Rattle.cabinet.specs.State.{IsConsistent, IsKnown, State, now}
+use Rattle.cabinet.specs.State.{IsConsistent, State, now}
 use Rattle.cabinet.proofs.Holding.{above_listed, holds_of}
 use Rattle.cabinet.proofs.Lists.{all_push, find_map}
 use Rattle.cabinet.proofs.Regions.{alone, last_of, region}
@@ -101,14 +101,15 @@ module _ (s : State) (last room : ℕ) (renders : List Render) (book : Book) (sp
       → length text ≡ t.length → t.length ≡ blob_size s.catalogue t.meta → gap_for s.catalogue (map (λ b. b.kept) s.blobs) t.length ≡ Some t.place
       → h ≡ s.history ++ entry.Stored t.number t.meta t.place t.length ∷ [] → blobs ≡ filter (λ b. not (is_of t.meta b.kept)) s.blobs ++ record { kept = t; text = text } ∷ [] → renders' ≡ without t.number renders
       → IsTaken space (part_at t.place t.length) taken → space'.parts ≡ regions (t ∷ but t.meta (map (λ b. b.kept) s.blobs)) → space'.size ≡ taken.size → taken.spare ≤ space'.spare → LieInOrder 0 space'.parts space'.size
-      → length blobs ≤ length s.blobs + 1 → room' ≡ room → IsConsistent (record { catalogue = s.catalogue; opening = s.opening; history = h; blobs = blobs }) last room' renders' book space'
-  after_stored t text h blobs room' renders' taken space' runs long size gap is e1 e2 took parts same spare sound more wide =
+      → room' ≡ room → IsConsistent (record { catalogue = s.catalogue; opening = s.opening; history = h; blobs = blobs }) last room' renders' book space'
+  after_stored t text h blobs room' renders' taken space' runs long size gap is e1 e2 took parts same spare sound wide =
       let ticket : Ticketed = record { number = t.number; meta = t.meta } in
       let kept = but t.meta (map (λ b. b.kept) s.blobs) in
       let shelf = filter (λ b. not (is_of t.meta b.kept)) s.blobs ++ record { kept = t; text = text } ∷ [] in
       let l = one_less (record { number = t.number; meta = t.meta }) (unmarked t.number t.meta) runs in
       let x = k.fits in let y = k.spare in let z = took.one_less in let w = took.same_size in let v = k.size in
-      let long_shelf : length (filter (λ b. not (is_of t.meta b.kept)) s.blobs ++ record { kept = t; text = text } ∷ []) ≤ length s.blobs + 1 = subst (λ (bs : List KeptBlob). length bs ≤ length s.blobs + 1) e1 more in
+      let long_shelf : length (filter (λ b. not (is_of t.meta b.kept)) s.blobs ++ record { kept = t; text = text } ∷ []) ≤ length s.blobs + 1 =
+      (let a = length-append (filter (λ b. not (is_of t.meta b.kept)) s.blobs) (record { kept = t; text = text } ∷ []) in let b = few (λ (b : KeptBlob). not (is_of t.meta b.kept)) s.blobs in omega arith) in
       let listed = map_stored t text s.blobs (map (λ b. b.kept) s.blobs) refl in
       let ordered : LieInOrder 0 (regions (t ∷ but t.meta (map (λ b. b.kept) s.blobs))) space'.size = subst (λ (ps : List Part). LieInOrder 0 ps space'.size) parts sound in
       let pushed = last_of t (but t.meta (map (λ b. b.kept) s.blobs)) (alone 0 (region t) (regions (but t.meta (map (λ b. b.kept) s.blobs))) space'.size ordered).places in

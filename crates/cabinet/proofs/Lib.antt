@@ -10,3 +10,4 @@ pub mod Regions
 pub mod Served
 pub mod Gives
 pub mod Consistent
+pub mod Answered

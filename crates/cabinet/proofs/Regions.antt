@@ -1,5 +1,5 @@
 -- The regions of what is kept, and where the next one goes.
-use Rattle.std.proofs.Common.{ℕ, ◌≡◌, ◌≢◌, ◌+◌, ◌<◌, ◌≤◌, Bool, true, false, cond, not, List, [], ◌∷◌, ◌++◌, zero, suc, length, get_or, map, filter, take, drop, Option, Some, None, refl, sym, ap, subst, ◌∙◌, inl, inr, append-nil, arith}
+use Rattle.std.proofs.Common.{ℕ, ◌≡◌, ◌≢◌, ◌+◌, ◌<◌, ◌≤◌, Bool, true, false, cond, List, [], ◌∷◌, ◌++◌, suc, Option, Some, None, refl, sym, ap, subst, ◌∙◌, inl, inr, arith}
 use Rattle.std.specs.Prelude.{nat_lt, nat_le}
 use Rattle.std.specs.List.{AllByRecursion, Contains}
 use Rattle.std.proofs.lemmas.Bool.{cases_lt}
@@ -11,7 +11,7 @@ use Rattle.extent_map.proofs.Order.{low_high, earlier}
 use Rattle.metatile_locks.proofs.Lists.{all_weaker}
 use Rattle.cabinet.specs.declared.kept.Kept.{Kept}
 use Rattle.cabinet.specs.Gaps.{regions, lowest_gap}
-use Rattle.cabinet.proofs.Lists.{all_left, all_right}
+use Rattle.cabinet.proofs.Lists.{all_right}
 
 below_is : (x y : ℕ) → nat_lt x y ≡ true → x < y
 below_is x y e = grind (arith, nat_tests)

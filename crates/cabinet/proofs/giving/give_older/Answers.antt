@@ -1,7 +1,6 @@
-use Rattle.std.proofs.Common.{not, [], ◌∷◌, sym, ap, ◌∙◌}
-use Rattle.cabinet.specs.Hits.{hits_of}
+use Rattle.std.proofs.Common.{not, [], ◌∷◌, sym, ap}
 use Rattle.cabinet.specs.History.{is_of}
-use Rattle.cabinet.proofs.Gives.{giving_end, giving_more, giving_start, may_give}
+use Rattle.cabinet.proofs.Gives.{giving_end, giving_more, may_give}
 use Rattle.cabinet.proofs.giving.give_older.Goals as goal
 
 pub give_if-requires : goal.give_if-requires

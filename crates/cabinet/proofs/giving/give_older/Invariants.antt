@@ -1,6 +1,4 @@
 use Rattle.std.proofs.Common.{not, [], ◌∷◌}
-use Rattle.metatile_plan.specs.Keys.{same_meta}
-use Rattle.cabinet.specs.Hits.{hits_of}
 use Rattle.cabinet.specs.History.{is_of}
 use Rattle.cabinet.proofs.Gives.{IsGiving}
 use Rattle.cabinet.proofs.giving.give_older.Given as goal
