@@ -21,7 +21,8 @@ use Rattle.cabinet.specs.declared.entry.Entry.TheVariants as entry
 use Rattle.cabinet.specs.declared.kept.Kept.{Kept}
 use Rattle.cabinet.specs.declared.kept.KeptBlob.{KeptBlob}
 use Rattle.cabinet.specs.Gaps.{gap_for, regions}
-use Rattle.cabinet.specs.Hits.{hits_of, IsCoverOf}
+use Rattle.cabinet.specs.Hits.{hits_of}
+use Rattle.served_covers.specs.OfCatalogue.{IsCoverOf}
 use Rattle.cabinet.specs.History.{History, Standing, after, but, is_of, least_of, nothing, numbers, spared}
 use Rattle.cabinet.specs.Fresh.{Holds, HoldsOfRender, May, cuts_of}
 use Rattle.cabinet.specs.State.{IsConsistent, State, now}

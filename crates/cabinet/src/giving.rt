@@ -4,7 +4,7 @@ ghost use Rattle.extent_map.specs.Parts.{part_at};
 ghost use Rattle.extent_map.specs.Spaces.{IsSound, IsTaken};
 ghost use Rattle.catalog.specs.Valid.{IsValid};
 ghost use Rattle.cabinet.specs.Gaps.{regions};
-ghost use Rattle.cabinet.specs.Hits.{IsCoverOf};
+ghost use Rattle.served_covers.specs.OfCatalogue.{IsCoverOf};
 ghost use Rattle.cabinet.specs.History.{but, spared};
 
 use crate::hitting::is_hit;

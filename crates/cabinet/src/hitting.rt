@@ -4,7 +4,8 @@ ghost use Rattle.catalog.specs.Valid.{IsGrid, IsValid};
 ghost use Rattle.metatile_plan.specs.declared.metatile.MetaKey.{MetaKey};
 ghost use Rattle.metatile_locks.specs.Running.{IsPlanOn, hits_in, overtaken};
 ghost use Rattle.raster_field.specs.Blocks.{factors_of};
-ghost use Rattle.cabinet.specs.Hits.{IsCoverOf, hits_of};
+ghost use Rattle.cabinet.specs.Hits.{hits_of};
+ghost use Rattle.served_covers.specs.OfCatalogue.{IsCoverOf};
 
 use catalog::catalogue::Catalogue;
 use catalog::grid::Grid;

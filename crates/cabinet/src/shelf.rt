@@ -1,7 +1,8 @@
 //! The work on the list of kept metatiles.
 ghost use Rattle.std.specs.Prelude.{[], fold, filter, find, length, map, not, option_copied, vec_capacity, vec_len, ◌+◌, ◌++◌, ◌<◌, ◌≡◌, ◌≤◌, ◌∷◌};
 ghost use Rattle.catalog.specs.Valid.{IsValid};
-ghost use Rattle.cabinet.specs.Hits.{IsCoverOf, hits_of};
+ghost use Rattle.cabinet.specs.Hits.{hits_of};
+ghost use Rattle.served_covers.specs.OfCatalogue.{IsCoverOf};
 ghost use Rattle.cabinet.specs.History.{is_of, lesser};
 
 use crate::hitting::is_hit;

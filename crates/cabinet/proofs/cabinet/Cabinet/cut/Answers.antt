@@ -6,7 +6,7 @@ use Rattle.cabinet.specs.Commands.{Cuts}
 use Rattle.cabinet.specs.declared.kept.KeptBlob.{KeptBlob}
 use Rattle.cabinet.specs.Gaps.{regions}
 use Rattle.cabinet.specs.History.{spared}
-use Rattle.cabinet.specs.Hits.{IsCoverOf}
+use Rattle.served_covers.specs.OfCatalogue.{IsCoverOf}
 use Rattle.cabinet.specs.State.{State}
 use Rattle.cabinet.proofs.Consistent.{above_cuts, after_cut}
 use Rattle.cabinet.proofs.Answered.{below_limit, cut_done_row, cut_full_row, least_is}
