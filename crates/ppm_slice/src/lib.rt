@@ -8,3 +8,5 @@
 pub mod of_catalogue;
 pub mod parts;
 pub mod slicing;
+#[cfg(test)]
+mod tests;
