@@ -14,3 +14,5 @@ mod painter;
 mod palette;
 pub mod scripted;
 pub mod source;
+#[cfg(test)]
+mod tests;
