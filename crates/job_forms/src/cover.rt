@@ -1,4 +1,4 @@
-ghost use Rattle.std.specs.Prelude.{◌≡◌, IfOk};
+ghost use Rattle.std.specs.Prelude.{◌≡◌, ◌≤◌, IfOk};
 ghost use Rattle.serde_json.specs.View.{view};
 ghost use Rattle.catalog.specs.Valid.{IsValid};
 ghost use Rattle.job_forms.specs.Cover.{cover_in, cover_of};
@@ -24,6 +24,7 @@ fn cover_in(catalogue: &Catalogue, object: &Value) -> Result<Cover, JobFault>
     requires { IsValid catalogue.now }
     ensures value { result ≡ cover_in catalogue.now (view object.now) }
     ensures of { IfOk result (IsCoverOf catalogue.now) }
+    ensures zoom { IfOk result (λ cover. cover.z_start ≤ cover.z_stop) }
 {
     let layer = required_layer(catalogue, object)?;
     let grid = required_grid(catalogue, layer, object)?;
@@ -53,6 +54,7 @@ pub fn read_cover(alloc: Global, catalogue: &Catalogue, text: &[u8]) -> Result<C
     requires { IsValid catalogue.now }
     ensures gives { Gives (λ cover. cover) result (cover_of catalogue.now text.now) }
     ensures of { IfOk result (IsCoverOf catalogue.now) }
+    ensures zoom { IfOk result (λ cover. cover.z_start ≤ cover.z_stop) }
 {
     match object_in(alloc, text) {
         Ok(Some(object)) => cover_in(catalogue, &object),
