@@ -16,3 +16,5 @@ pub mod laws;
 pub mod replies;
 mod room;
 mod shelf;
+#[cfg(test)]
+mod tests;
