@@ -90,18 +90,18 @@ started c cuts s k m h is =
 
 -- THE LEAST NUMBER
 
--- the least of numbers is one of them or the one before
-lesser_above : (floor n : ℕ) (o : Option ℕ) → floor < n → ((m : ℕ) → o ≡ Some m → floor < m) → (m : ℕ) → lesser o n ≡ Some m → floor < m
-lesser_above floor n None l f m e = let d : n ≡ m = cc in omega arith
-lesser_above floor n (Some x) l f m e = chosen (nat_lt n x) e
+-- the least of numbers has what each of them has
+lesser_has : (P : ℕ → Type 0) (n : ℕ) (o : Option ℕ) → P n → ((m : ℕ) → o ≡ Some m → P m) → (m : ℕ) → lesser o n ≡ Some m → P m
+lesser_has P n None h f m e = let d : n ≡ m = cc in subst P d h
+lesser_has P n (Some x) h f m e = chosen (nat_lt n x) e
   where
-    chosen : (b : Bool) → cond b (Some n) (Some x) ≡ Some m → floor < m
-    chosen true e = let d : n ≡ m = cc in omega arith
+    chosen : (b : Bool) → cond b (Some n) (Some x) ≡ Some m → P m
+    chosen true e = let d : n ≡ m = cc in subst P d h
     chosen false e = f m e
 
-least_above : (floor : ℕ) (ns : List ℕ) (o : Option ℕ) → AllByRecursion (λ n. floor < n) ns → ((m : ℕ) → o ≡ Some m → floor < m) → (m : ℕ) → fold lesser o ns ≡ Some m → floor < m
-least_above floor [] o a f m e = f m e
-least_above floor (n ∷ ns) o a f m e = least_above floor ns (lesser o n) a.1 (lesser_above floor n o a.0 f) m e
+pub least_has : (P : ℕ → Type 0) (ns : List ℕ) (o : Option ℕ) → AllByRecursion P ns → ((m : ℕ) → o ≡ Some m → P m) → (m : ℕ) → fold lesser o ns ≡ Some m → P m
+least_has P [] o a f m e = f m e
+least_has P (n ∷ ns) o a f m e = least_has P ns (lesser o n) a.1 (lesser_has P n o a.0 f) m e
 
 -- and no greater than any of them
 lesser_most : (n : ℕ) (o : Option ℕ) → (m : ℕ) × (lesser o n ≡ Some m) × (m ≤ n) × ((x : ℕ) → o ≡ Some x → m ≤ x)
@@ -112,7 +112,7 @@ lesser_most n (Some x) = chosen (nat_lt n x) refl
     chosen true is = (n, refl, omega arith, λ y e. let d : x ≡ y = cc in let l : n < x = grind (arith, nat_tests) in omega arith)
     chosen false is = (x, refl, (let l : x ≤ n = grind (arith, nat_tests) in l), λ y e. let d : x ≡ y = cc in omega arith)
 
-least_most : (ns : List ℕ) (o : Option ℕ) (was : ℕ) → o ≡ Some was → (m : ℕ) × (fold lesser o ns ≡ Some m) × (m ≤ was) × AllByRecursion (λ n. m ≤ n) ns
+pub least_most : (ns : List ℕ) (o : Option ℕ) (was : ℕ) → o ≡ Some was → (m : ℕ) × (fold lesser o ns ≡ Some m) × (m ≤ was) × AllByRecursion (λ n. m ≤ n) ns
 least_most [] o was e = (was, e, omega arith, tt)
 least_most (n ∷ ns) o was e =
     let one = lesser_most n o in
@@ -125,7 +125,7 @@ floor_below : (cover : Cover) (ns : List ℕ) (book : Book) → AllByRecursion (
 floor_below cover [] book a = tt
 floor_below cover (n ∷ ns) book a =
     let l = least_most ns (Some n) n refl in
-    let under : book.floor < l.0 = least_above book.floor ns (Some n) a.1 (λ x e. let d : n ≡ x = cc in let g = a.0 in omega arith) l.0 l.1 in
+    let under : book.floor < l.0 = least_has (λ x. book.floor < x) ns (Some n) a.1 (λ x e. let d : n ≡ x = cc in let g = a.0 in omega arith) l.0 l.1 in
     let low : fold (raised (Some l.0)) book.floor book.cuts < l.0 = floor_below_least l.0 book.cuts book.floor under in
     subst (λ (o : Option ℕ). AllByRecursion (λ x. fold (raised o) book.floor book.cuts < x) (n ∷ ns)) (sym l.1) (
       (let b = l.2 in omega arith),
@@ -151,7 +151,7 @@ out_marked_at c cuts front more floor floor' t cover le r false e h = record {
   newer = λ none. all_push (λ (k : Cut). IsTrue (hits_of c k.cover r.meta) → k.number < r.number) cuts (record { number = t; cover = cover }) (h.0.newer none) (λ hit. absurd (let f : true ≡ false = sym hit ∙ e in cc));
 }
 
-above_listed : (c : Catalogue) (cuts : List Cut) (s : Standing) (t : ℕ) → Holds c cuts s → s.front < t → IsAbove t s.book.cuts
+pub above_listed : (c : Catalogue) (cuts : List Cut) (s : Standing) (t : ℕ) → Holds c cuts s → s.front < t → IsAbove t s.book.cuts
 above_listed c cuts s t h l =
     All-from_recursion (λ (k : Cut). k.number < t) s.book.cuts
     (all_weaker (Contains cuts) (λ k. k.number < t) (λ k a. let g = all_contained (λ (j : Cut). j.number ≤ s.front) cuts k h.given a in omega arith) s.book.cuts h.listed)

@@ -6,3 +6,8 @@ pub mod Sentences
 pub mod Numbers
 pub mod Fresher
 pub mod Rows
+pub mod Regions
+pub mod Served
+pub mod Gives
+pub mod Consistent
+pub mod Answered

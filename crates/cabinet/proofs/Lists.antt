@@ -1,5 +1,6 @@
 -- What holds of each element of a list.
-use Rattle.std.proofs.Common.{ℕ, zero, suc, ◌≡◌, Bool, true, false, cond, List, [], ◌∷◌, ◌++◌, map, filter, take, length, Some, find, refl, ap}
+use Rattle.std.specs.Prelude.{slice_get}
+use Rattle.std.proofs.Common.{ℕ, zero, suc, ◌≡◌, Bool, true, false, cond, List, [], ◌∷◌, ◌++◌, map, filter, take, length, Some, find, refl, ap, subst}
 use Rattle.std.specs.List.{AllByRecursion, Contains}
 use Rattle.std.specs.Option.{option_map}
 use Rattle.std.proofs.lemmas.List.Elements.{All-from_recursion, All-contains, All-contains_itself, recursion_from_All}
@@ -66,3 +67,8 @@ find_map f q (x ∷ xs) = chosen (q (f x)) (find_map f q xs)
     chosen : (b : Bool) → find q (map f xs) ≡ option_map f (find (λ x. q (f x)) xs) → cond b (Some (f x)) (find q (map f xs)) ≡ option_map f (cond b (Some x) (find (λ x. q (f x)) xs))
     chosen true h = refl
     chosen false h = h
+
+pub all_got : {X : Type 0} (P : X → Type 0) (xs : List X) (i : ℕ) (x : X) → AllByRecursion P xs → slice_get xs i ≡ Some x → P x
+all_got P [] i x a e = absurd (cc)
+all_got P (y ∷ ys) zero x a e = let d : y ≡ x = cc in subst P d a.0
+all_got P (y ∷ ys) (suc i) x a e = all_got P ys i x a.1 e

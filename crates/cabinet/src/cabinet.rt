@@ -1,37 +1,56 @@
-ghost use Rattle.std.specs.Prelude.{◌≡◌, IfOk, OnErr, length};
+ghost use Rattle.std.specs.Prelude.{IfOk, OnErr, length, ◌≡◌};
 ghost use Rattle.catalog.specs.LookUp.{IsTile};
 ghost use Rattle.catalog.specs.Valid.{IsValid};
 ghost use Rattle.raster_field.specs.Blocks.{IsMeta, blob_size, block_text};
 
+use crate::blob::{blob_bytes, tile_in};
 use crate::entry::Entry;
+use crate::giving::{give_hit, give_older};
+use crate::hitting::overtake;
+use crate::kept::{Kept, KeptBlob};
 use crate::replies::{Asked, CutReply, Finished, Forced};
+use crate::room::make_room;
+use crate::shelf::{count_others, drop_hit, kept_of, least_with, shelve};
 use catalog::catalogue::Catalogue;
+use exact_ratio::words::Words;
+use extent_map::extents::Extents;
 use matrix_geometry::address::Address;
+use metatile_locks::locks::Locks;
+use metatile_locks::replies::{Begin, End};
 use metatile_locks::ticket::Ticket;
 use metatile_plan::metatile::MetaKey;
+use raster_field::layout::block_of;
 use std::alloc::{AllocError, Global};
 use std::marker::Model;
 use trace::Trace;
 use truncation_list::cover::Cover;
+use truncation_list::list::CutList;
+
+/// The last number of an opening.
+const LAST: u64 = (1 << 40) - 1;
 
 /// Keeps metatiles, gives the numbers of renders, and drops what truncations hit. Contracts see its catalogue, its opening
 /// number, its history and the blobs that it keeps.
 #[derive(Drop)]
 pub struct Cabinet {
     catalogue: Catalogue,
+    last: u64,
+    blobs: Vec<KeptBlob>,
+    locks: Locks,
+    cuts: CutList,
+    extents: Extents,
     past: Trace<Entry>,
 }
 
 impl Model for Cabinet {
-    ghost use Rattle.std.specs.Prelude.{[], ◌≡◌};
-    ghost use Rattle.catalog.specs.Valid.{IsValid};
-    ghost use Rattle.cabinet.specs.State.{State};
+    ghost use Rattle.std.specs.Prelude.{vec_capacity};
+    ghost use Rattle.cabinet.specs.State.{IsConsistent, State};
 
     ghost Value = { State };
 
-    ghost view = { λ a. record { catalogue = a.catalogue; opening = 0; history = a.past.entries; blobs = [] } };
+    ghost view = { λ a. record { catalogue = a.catalogue; opening = 0; history = a.past.entries; blobs = a.blobs.items } };
 
-    ghost invariant = { λ a. IsValid a.catalogue × (a.past.entries ≡ []) };
+    ghost invariant = { λ a. IsConsistent (record { catalogue = a.catalogue; opening = 0; history = a.past.entries; blobs = a.blobs.items }) a.last (vec_capacity a.blobs) a.locks.renders a.cuts.book a.extents };
 }
 
 impl Cabinet {
@@ -40,12 +59,20 @@ impl Cabinet {
     ghost use Rattle.cabinet.specs.Commands.{Asks, Forces, Finishes, Abandons, Cuts, IsTrueHit, IsFreshReply};
 
     /// A cabinet in memory, in which nothing has happened. `AllocError` where memory runs out.
-    pub fn memory(_alloc: Global, catalogue: Catalogue) -> Result<Cabinet, AllocError>
+    pub fn memory(alloc: Global, catalogue: Catalogue) -> Result<Cabinet, AllocError>
         requires { IsValid catalogue }
         ensures { IfOk result (λ c. c ≡ fresh_state catalogue) }
     {
+        let locks = Locks::new(alloc)?;
+        let cuts = CutList::new(alloc)?;
+        let extents = Extents::new(alloc, catalogue.blob_bytes)?;
         Ok(Cabinet {
             catalogue,
+            last: 0,
+            blobs: Vec::new(alloc),
+            locks,
+            cuts,
+            extents,
             past: Trace::new(),
         })
     }
@@ -66,24 +93,53 @@ impl Cabinet {
 
     /// Asks for a tile. A ticket is given with all the room that `finish` needs. `AllocError` where memory runs out; all is
     /// then as before.
-    pub fn ask(&mut self, _alloc: Global, _address: &Address) -> Result<Asked, AllocError>
-        requires { IsTile self.old.catalogue _address.now }
-        ensures asked { IfOk result (λ asked. Asks self.old _address.now asked self.new) }
-        ensures sound { IfOk result (λ asked. IsSound self.old → IsTrueHit self.old.catalogue _address.now asked) }
-        ensures fresh { IfOk result (λ asked. IsFreshReply self.old _address.now asked self.new) }
+    pub fn ask(&mut self, alloc: Global, address: &Address) -> Result<Asked, AllocError>
+        requires { IsTile self.old.catalogue address.now }
+        ensures asked { IfOk result (λ asked. Asks self.old address.now asked self.new) }
+        ensures sound { IfOk result (λ asked. IsSound self.old → IsTrueHit self.old.catalogue address.now asked) }
+        ensures fresh { IfOk result (λ asked. IsFreshReply self.old address.now asked self.new) }
         ensures err { OnErr result (self.new ≡ self.old) }
     {
-        Err(AllocError)
+        let meta = block_of(&self.catalogue, address);
+        match kept_of(self.blobs.as_slice(), &meta) {
+            Some(blob) => {
+                let number = blob.kept.number;
+                let text = tile_in(alloc, &self.catalogue, address, blob.text.bytes())?;
+                self.past = self.past.and(&Entry::Used(meta));
+                return Ok(Asked::Hit(number, text));
+            }
+            None => {}
+        }
+        match self.force(alloc, &meta)? {
+            Forced::Ticket(ticket) => Ok(Asked::Ticket(ticket)),
+            Forced::Busy(number) => Ok(Asked::Busy(number)),
+            Forced::Spent => Ok(Asked::Spent),
+        }
     }
 
     /// Asks for a render of a metatile, whether it is kept or not. What is kept stays until the render is kept.
     /// `AllocError` where memory runs out; all is then as before.
-    pub fn force(&mut self, _alloc: Global, _meta: &MetaKey) -> Result<Forced, AllocError>
-        requires { IsMeta self.old.catalogue _meta.now }
-        ensures forced { IfOk result (λ forced. Forces self.old _meta.now forced self.new) }
+    pub fn force(&mut self, alloc: Global, meta: &MetaKey) -> Result<Forced, AllocError>
+        requires { IsMeta self.old.catalogue meta.now }
+        ensures forced { IfOk result (λ forced. Forces self.old meta.now forced self.new) }
         ensures err { OnErr result (self.new ≡ self.old) }
     {
-        Err(AllocError)
+        match self.locks.running_for(meta) {
+            Some(number) => return Ok(Forced::Busy(number)),
+            None => {}
+        }
+        if self.last >= LAST {
+            return Ok(Forced::Spent);
+        }
+        make_room(alloc, &mut self.blobs, &mut self.locks, &mut self.extents)?;
+        let number = self.last + 1;
+        let ticket = match self.locks.begin(meta, number) {
+            Begin::Busy(busy) => return Ok(Forced::Busy(busy)),
+            Begin::Ticket(ticket) => ticket,
+        };
+        self.last = number;
+        self.past = self.past.and(&Entry::Started(number, *meta));
+        Ok(Forced::Ticket(ticket))
     }
 
     /// Ends a render, and keeps its blob unless a truncation overtook it, as many others are kept as may be, or no gap has
@@ -94,26 +150,81 @@ impl Cabinet {
         ensures finished { Finishes self.old ticket blob.items result self.new }
         ensures sound { IsSound self.old → blob.items ≡ block_text self.old.catalogue ticket.number ticket.meta → IsSound self.new }
     {
-        let _ = &self.past;
-        let _ = ticket.spend();
-        Finished::Stranger
+        let number = ticket.number();
+        let meta = ticket.meta();
+        match self.locks.end(ticket) {
+            End::Stranger => return Finished::Stranger,
+            End::Overtaken(cut) => {
+                self.past = self.past.and(&Entry::Ended(number));
+                return Finished::Overtaken(cut);
+            }
+            End::Whole => {}
+        }
+        if count_others(self.blobs.as_slice(), &meta) >= self.catalogue.kept_limit as usize {
+            self.past = self.past.and(&Entry::Ended(number));
+            return Finished::Full;
+        }
+        let length = blob_bytes(&self.catalogue, &meta);
+        let place = match self.extents.take(length) {
+            Some(place) => place,
+            None => {
+                self.past = self.past.and(&Entry::Ended(number));
+                return Finished::NoRoom;
+            }
+        };
+        let kept = Kept {
+            number,
+            meta,
+            place,
+            length,
+        };
+        give_older(&mut self.extents, self.blobs.as_slice(), &kept);
+        let text = Words::of(blob);
+        shelve(&mut self.blobs, KeptBlob { kept, text });
+        self.past = self.past.and(&Entry::Stored(number, meta, place, length));
+        Finished::Kept
     }
 
     /// Ends a render, and keeps nothing of it; a stranger's ticket changes nothing. It takes no memory.
     pub fn abandon(&mut self, ticket: Ticket)
         ensures { Abandons self.old ticket self.new }
     {
-        let _ = &self.past;
-        let _ = ticket.spend();
+        let number = ticket.number();
+        match self.locks.end(ticket) {
+            End::Stranger => return,
+            End::Overtaken(_) => {}
+            End::Whole => {}
+        }
+        self.past = self.past.and(&Entry::Ended(number));
     }
 
     /// Truncates: drops each kept metatile, and overtakes each running render, of which the cover is for a tile.
     /// `AllocError` where memory runs out; all is then as before.
-    pub fn cut(&mut self, _alloc: Global, _cover: &Cover) -> Result<CutReply, AllocError>
-        requires { IsCoverOf self.old.catalogue _cover.now }
-        ensures cuts { IfOk result (λ reply. Cuts self.old _cover.now reply self.new) }
+    pub fn cut(&mut self, alloc: Global, cover: &Cover) -> Result<CutReply, AllocError>
+        requires { IsCoverOf self.old.catalogue cover.now }
+        ensures cuts { IfOk result (λ reply. Cuts self.old cover.now reply self.new) }
         ensures err { OnErr result (self.new ≡ self.old) }
     {
-        Err(AllocError)
+        if self.last >= LAST {
+            return Ok(CutReply::Spent);
+        }
+        self.cuts.reserve(alloc, cover)?;
+        let least = least_with(self.locks.least(), self.blobs.as_slice());
+        if self.cuts.full(cover, least, self.catalogue.cut_limit) {
+            return Ok(CutReply::Full);
+        }
+        let number = self.last + 1;
+        give_hit(
+            &mut self.extents,
+            self.blobs.as_slice(),
+            &self.catalogue,
+            cover,
+        );
+        drop_hit(&mut self.blobs, &self.catalogue, cover);
+        overtake(&mut self.locks, &self.catalogue, cover, number);
+        self.cuts.add(number, cover, least);
+        self.last = number;
+        self.past = self.past.and(&Entry::Cut(number, *cover));
+        Ok(CutReply::Done(number))
     }
 }

@@ -6,8 +6,13 @@
 //! Stands on metatile_locks, truncation_list, extent_map, raster_field, metatile_plan, catalog, matrix_geometry and trace.
 #![tactic(auto)]
 
+mod blob;
 pub mod cabinet;
 pub mod entry;
+mod giving;
+mod hitting;
 pub mod kept;
 pub mod laws;
 pub mod replies;
+mod room;
+mod shelf;

@@ -9,3 +9,5 @@ pub mod actor;
 pub mod outcome;
 mod render;
 pub mod steps;
+#[cfg(test)]
+mod tests;

@@ -10,10 +10,8 @@ use catalog::catalogue::Catalogue;
 use exact_ratio::words::Words;
 use matrix_geometry::address::Address;
 use metatile_locks::ticket::Ticket;
-use metatile_plan::metatile::MetaKey;
-use ppm_slice::parts::tile_bytes;
-use ppm_slice::slicing::slice_blob;
-use raster_field::layout::{block_of, layout_of, window_at};
+use ppm_slice::of_catalogue;
+use raster_field::layout::window_at;
 use raster_field::raster::Raster;
 use source_render::source::Source;
 use std::alloc::{AllocError, Global};
@@ -61,24 +59,6 @@ fn picture_of<S: Source>(
     }
 }
 
-/// The blob of a metatile of the catalogue out of a raster of its window. `AllocError` where memory runs out.
-fn blob_in(
-    alloc: Global,
-    catalogue: &Catalogue,
-    meta: &MetaKey,
-    raster: &Raster,
-) -> Result<Words, AllocError>
-    requires valid { IsValid catalogue.now }
-    requires meta { IsMeta catalogue.now meta.now }
-    requires size { HasSize raster.now (window_in catalogue.now meta.now) }
-    ensures size { IfOk result (λ blob. length blob ≡ blob_size catalogue.now meta.now) }
-    ensures text { IfOk result (λ blob. (number : ℕ) → raster.now ≡ picture_on catalogue.now catalogue.now.source number (window_in catalogue.now meta.now) → blob ≡ block_text catalogue.now number meta.now) }
-{
-    let layout = layout_of(catalogue, meta);
-    let blob = slice_blob(alloc, meta, &layout.factors, &layout.matrix, raster)?;
-    Ok(Words::of(blob))
-}
-
 /// The blob of a ticket's metatile, in the picture of the ticket's number where the source tells.
 pub fn blob_of<S: Source>(
     alloc: Global,
@@ -95,8 +75,8 @@ pub fn blob_of<S: Source>(
     ensures told { S.told source.new ≡ S.told source.old }
 {
     let raster = picture_of(alloc, catalogue, source, ticket)?;
-    let blob = blob_in(alloc, catalogue, &ticket.meta(), &raster)?;
-    Ok(blob)
+    let blob = of_catalogue::blob_of(alloc, catalogue, &ticket.meta(), &raster)?;
+    Ok(Words::of(blob))
 }
 
 /// A copy of the text of a tile in a blob of its metatile. `AllocError` where memory runs out.
@@ -111,15 +91,8 @@ pub fn tile_in(
     requires size { length blob.now ≡ blob_size catalogue.now (block_of catalogue.now address.now) }
     ensures { IfOk result (λ text. text ≡ tile_part catalogue.now address.now blob.now) }
 {
-    let meta = block_of(catalogue, address);
-    let layout = layout_of(catalogue, &meta);
-    let text = tile_bytes(
-        blob.bytes(),
-        &meta,
-        &layout.factors,
-        &layout.matrix,
-        address.row,
-        address.col,
-    );
-    Words::new(alloc, text)
+    Words::new(
+        alloc,
+        of_catalogue::tile_of(catalogue, blob.bytes(), address),
+    )
 }

@@ -47,6 +47,10 @@ is_within_extent span tile size = is_extent span (size.w * tile.w) && is_extent 
 abbrev pub billionths_of : Scaled → ℤ
 billionths_of x = int_div (x.units *ℤ pos (10 ^ 9)) (pos (10 ^ x.places))
 
+-- none where it is too large or too fine
+abbrev pub coordinate_of : Scaled → Option ℤ
+coordinate_of x = if is_coordinate x then Some (billionths_of x) else None
+
 abbrev pub matrix_of_parts : Fraction → Corner → Size → Size → Matrix
 matrix_of_parts span corner tile size =
     record {

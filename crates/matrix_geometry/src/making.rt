@@ -1,9 +1,9 @@
-ghost use Rattle.std.specs.Prelude.{◌≡◌, ◌*◌, ◌^◌, ◌≤◌, ◌*ℤ◌, ◌<ℤ◌, ◌&&◌, pos, unsigned_abs, int_div, IfOk, IsTrue, if◌then◌else◌};
+ghost use Rattle.std.specs.Prelude.{◌≡◌, ◌*◌, ◌^◌, ◌≤◌, ◌*ℤ◌, ◌<ℤ◌, ◌&&◌, pos, unsigned_abs, int_div, IfOk, IfSome, IsTrue, if◌then◌else◌};
 ghost use Rattle.std.specs.Option.{ForSome};
 ghost use Rattle.std.specs.Int.{is_positive};
 ghost use Rattle.exact_ratio.specs.Lowest.{lowest};
 ghost use Rattle.matrix_geometry.specs.Limits.{IsWithinLimits};
-ghost use Rattle.matrix_geometry.specs.Making.{billionths_of, is_coordinate, is_corner, is_count, is_extent, is_fine_enough, is_matrix_size, is_side, is_tile_size, is_within_extent, made_of, made_of_scale, made_of_span, span_given, span_if_positive};
+ghost use Rattle.matrix_geometry.specs.Making.{billionths_of, coordinate_of, is_coordinate, is_corner, is_count, is_extent, is_fine_enough, is_matrix_size, is_side, is_tile_size, is_within_extent, made_of, made_of_scale, made_of_span, span_given, span_if_positive};
 
 use crate::matrix::{Corner, Matrix, Size};
 use exact_ratio::decimal::Decimal;
@@ -76,6 +76,19 @@ fn billionths(x: &Decimal) -> i64
     ensures small { unsigned_abs result ≤ 10 ^ 17 }
 {
     billionths_of_parts(x.units, power_of_ten(x.places))
+}
+
+/// A coordinate in billionths of a unit; `None` exactly where it is above 10^8 units in size, or no whole number of
+/// billionths.
+pub fn coordinate(x: &Decimal) -> Option<i64>
+    ensures value { result ≡ coordinate_of x.now }
+    ensures small { IfSome result (λ n. unsigned_abs n ≤ 10 ^ 17) }
+{
+    if is_coordinate(x) {
+        Some(billionths(x))
+    } else {
+        None
+    }
 }
 
 fn is_fine_enough(span: &Ratio) -> bool

@@ -1,5 +1,5 @@
 use crate::boxes::{Box9, Range};
-use crate::making::GridFault;
+use crate::making::{GridFault, coordinate};
 use crate::matrix::{Corner, Matrix, Size};
 use crate::theme::{Filter, Theme};
 use exact_ratio::decimal::{Decimal, DecimalFault};
@@ -15,6 +15,17 @@ fn corner(x: &[u8], y: &[u8]) -> Result<Corner, DecimalFault> {
 
 fn square(side: u32) -> Size {
     Size { w: side, h: side }
+}
+
+#[test]
+fn a_coordinate_is_a_number_of_billionths(rt: HostRuntime) -> Result<(), Fail> {
+    assert_eq!(rt;
+        coordinate(&Decimal::read(b"-4.000004")?),
+        Some(-4_000_004_000)
+    );
+    assert_eq!(rt; coordinate(&Decimal::read(b"100000000.1")?), None);
+    assert_eq!(rt; coordinate(&Decimal::read(b"0.0000000001")?), None);
+    Ok(())
 }
 
 #[test]

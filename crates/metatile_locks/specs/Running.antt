@@ -1,5 +1,5 @@
 -- The renders that run, and the marks of those that a truncation overtook.
-use Rattle.std.specs.Prelude.{ℕ, ◌≡◌, ◌<◌, ◌≤◌, Bool, true, false, ◌==◌, ◌&&◌, not, is_none, if◌then◌else◌, List, [], ◌∷◌, ◌++◌, map, filter, find, Option, Some, None, IsSome, IsSomeAnd, slice_get, ⊤}
+use Rattle.std.specs.Prelude.{ℕ, ◌≡◌, ◌<◌, ◌≤◌, Bool, true, false, ◌==◌, ◌&&◌, not, is_none, if◌then◌else◌, List, [], ◌∷◌, ◌++◌, map, filter, find, Option, Some, None, IsSome, slice_get, ⊤}
 use Rattle.std.specs.List.{AllByRecursion}
 use Rattle.std.specs.Option.{option_map, option_map_or}
 use Rattle.catalog.specs.declared.grid.Grid.{Grid}
@@ -7,7 +7,7 @@ use Rattle.matrix_geometry.specs.declared.matrix.Matrix.{Matrix}
 use Rattle.metatile_plan.specs.declared.metatile.Factors.{Factors}
 use Rattle.metatile_plan.specs.declared.metatile.MetaKey.{MetaKey}
 use Rattle.metatile_plan.specs.Keys.{same_meta}
-use Rattle.metatile_plan.specs.Plan.{tiles_of, IsPlan, IsMetaIn}
+use Rattle.metatile_plan.specs.Plan.{tiles_of, IsPlan}
 use Rattle.truncation_list.specs.declared.block.Block.{Block}
 use Rattle.truncation_list.specs.declared.cover.Cover.{Cover}
 use Rattle.truncation_list.specs.Covers.{hits}
@@ -61,10 +61,9 @@ block f x m = record { theme = m.theme; grid = m.grid; z = m.z; tiles = tiles_of
 abbrev pub hits_in : Factors → Grid → Cover → MetaKey → Bool
 hits_in f grid cover m = option_map_or (λ x. hits cover x (block f x m)) (slice_get grid.matrices m.z) false
 
--- where the metatile is of the cover's layer and grid, it lies in a matrix of the grid, for which the factors are a plan
-abbrev pub LiesIn : Factors → Grid → Cover → MetaKey → Type 0
-LiesIn f grid cover m =
-    m.theme.layer ≡ cover.layer → m.grid ≡ cover.grid → IsSomeAnd (slice_get grid.matrices m.z) (λ x. IsPlan f x × IsMetaIn f x m)
+-- the factors are within the limits on each matrix of the grid
+abbrev pub IsPlanOn : Factors → Grid → Type 0
+IsPlanOn f grid = AllByRecursion (IsPlan f) grid.matrices
 
 -- the render is marked where the cover hits it
 abbrev pub marked : (MetaKey → Bool) → ℕ → Render → Render

@@ -1,5 +1,4 @@
 ghost use Rattle.std.specs.Prelude.{[], ◌≡◌, ◌<◌, ◌≤◌, IfOk, OnErr, OnOk, length};
-ghost use Rattle.std.specs.List.{AllByRecursion};
 ghost use Rattle.catalog.specs.Valid.{IsGrid};
 ghost use Rattle.truncation_list.specs.Covers.{IsWithinReach};
 
@@ -32,7 +31,7 @@ impl Model for Locks {
 
 impl Locks {
     ghost use Rattle.metatile_locks.specs.Calls.{Begins, Ends, TakesRoom};
-    ghost use Rattle.metatile_locks.specs.Running.{IsAboveAll, IsLeast, LiesIn, NumbersRise, OneRuns, hits_in, overtaken, running_for};
+    ghost use Rattle.metatile_locks.specs.Running.{IsAboveAll, IsLeast, IsPlanOn, NumbersRise, OneRuns, hits_in, overtaken, running_for};
 
     /// A table in which no render runs. `AllocError` where memory runs out.
     pub fn new(alloc: Global) -> Result<Locks, AllocError>
@@ -76,8 +75,8 @@ impl Locks {
     /// are those of the cover's layer and grid.
     pub fn overtake(&mut self, f: &Factors, grid: &Grid, cover: &Cover, number: u64)
         requires grid { IsGrid grid.now }
+        requires plan { IsPlanOn f.now grid.now }
         requires reach { IsWithinReach cover.now }
-        requires lies { AllByRecursion (λ r. LiesIn f.now grid.now cover.now r.meta) self.old.renders }
         ensures renders { self.new.renders ≡ overtaken (hits_in f.now grid.now cover.now) number self.old.renders }
         ensures room { self.new.spare ≡ self.old.spare }
         ensures one_runs { OneRuns self.new.renders }

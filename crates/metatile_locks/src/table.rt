@@ -1,8 +1,7 @@
 //! The work on plain lists of renders.
 ghost use Rattle.std.specs.Prelude.{◌≡◌, ◌≤◌, find, option_copied, vec_capacity, vec_len};
-ghost use Rattle.std.specs.List.{AllByRecursion};
 ghost use Rattle.catalog.specs.Valid.{IsGrid};
-ghost use Rattle.metatile_locks.specs.Running.{IsLeast, LiesIn, NumbersRise, hits_in, marked, overtaken, render_of, running_for, runs_for, without};
+ghost use Rattle.metatile_locks.specs.Running.{IsLeast, IsPlanOn, NumbersRise, hits_in, marked, overtaken, render_of, running_for, runs_for, without};
 ghost use Rattle.truncation_list.specs.Covers.{IsWithinReach};
 
 use crate::hitting::hits_in;
@@ -38,8 +37,8 @@ pub fn render_of<'a>(renders: &'a [Render], number: u64, meta: &MetaKey) -> Opti
 /// The render, with this mark where the cover hits it.
 fn marked(f: &Factors, grid: &Grid, cover: &Cover, number: u64, render: Render) -> Render
     requires grid { IsGrid grid.now }
+    requires plan { IsPlanOn f.now grid.now }
     requires reach { IsWithinReach cover.now }
-    requires lies { LiesIn f.now grid.now cover.now render.meta }
     ensures { result ≡ marked (hits_in f.now grid.now cover.now) number render }
 {
     if hits_in(f, grid, cover, &render.meta) {
@@ -54,8 +53,8 @@ fn marked(f: &Factors, grid: &Grid, cover: &Cover, number: u64, render: Render) 
 /// Marks each render that the cover hits.
 fn mark_each(renders: &mut [Render], f: &Factors, grid: &Grid, cover: &Cover, number: u64)
     requires grid { IsGrid grid.now }
+    requires plan { IsPlanOn f.now grid.now }
     requires reach { IsWithinReach cover.now }
-    requires lies { AllByRecursion (λ r. LiesIn f.now grid.now cover.now r.meta) renders.old }
     ensures { renders.new ≡ overtaken (hits_in f.now grid.now cover.now) number renders.old }
 {
     'marking: for i in 0..renders.len() {
@@ -66,8 +65,8 @@ fn mark_each(renders: &mut [Render], f: &Factors, grid: &Grid, cover: &Cover, nu
 /// Marks each render that the cover hits, with no memory taken.
 pub fn overtake(renders: &mut Vec<Render>, f: &Factors, grid: &Grid, cover: &Cover, number: u64)
     requires grid { IsGrid grid.now }
+    requires plan { IsPlanOn f.now grid.now }
     requires reach { IsWithinReach cover.now }
-    requires lies { AllByRecursion (λ r. LiesIn f.now grid.now cover.now r.meta) renders.old.items }
     ensures items { renders.new.items ≡ overtaken (hits_in f.now grid.now cover.now) number renders.old.items }
     ensures len { vec_len renders.new ≡ vec_len renders.old }
     ensures capacity { vec_capacity renders.new ≡ vec_capacity renders.old }

@@ -20,6 +20,7 @@ impl Model for Ticket {
 impl Ticket {
     ghost use Rattle.metatile_locks.specs.Tickets.{Ticketed};
 
+    /// The ticket of a render that begins.
     pub(crate) fn new(number: u64, meta: &MetaKey) -> Ticket
         ensures { result ≡ record { number = number; meta = meta.now } }
     {
@@ -29,7 +30,8 @@ impl Ticket {
         }
     }
 
-    pub fn spend(self) -> (u64, MetaKey)
+    /// The number and the metatile, for the end of the render.
+    pub(crate) fn spend(self) -> (u64, MetaKey)
         ensures { self ≡ record { number = result.0; meta = result.1 } }
     {
         let Ticket { number, meta } = self;

@@ -5,5 +5,8 @@
 //! `tile_text`. Stands on raster_field, metatile_plan and matrix_geometry.
 #![tactic(auto)]
 
+pub mod of_catalogue;
 pub mod parts;
 pub mod slicing;
+#[cfg(test)]
+mod tests;

@@ -9,6 +9,7 @@
 
 pub mod colour;
 pub mod field;
+pub mod known;
 pub mod laws;
 pub mod layout;
 pub mod raster;

@@ -1,5 +1,5 @@
 -- Values and rows of a picture.
-use Rattle.std.proofs.Common.{◌≡◌, ℕ, ◌+◌, ◌*◌, ◌%◌, ◌∙◌, ap, arith}
+use Rattle.std.proofs.Common.{◌≡◌, ℕ, ◌+◌, ◌*◌, ◌%◌, ap, arith}
 use Rattle.std.proofs.Math.Nat.{add-mod-mod, mod-add-mod}
 
 -- a value out of what its row and what its column adds

@@ -5,9 +5,14 @@
 //! `Scripted` fails at its listed calls alone. Stands on raster_field, metatile_locks, catalog, metatile_plan and causes.
 #![tactic(auto)]
 
+pub mod any;
+mod cell_file;
+pub mod grid_file;
 mod lent;
 pub mod numbered;
 mod painter;
 mod palette;
 pub mod scripted;
 pub mod source;
+#[cfg(test)]
+mod tests;

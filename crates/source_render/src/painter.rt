@@ -24,7 +24,7 @@ use raster_field::raster::Raster;
 pub const MOST: usize = 4224;
 
 /// The bytes of so many pixels.
-const BYTES: usize = 12_672;
+pub const BYTES: usize = 12_672;
 
 /// What is painted: the render of a number, by a source, of a theme on a matrix.
 #[derive(Clone, Copy)]
@@ -69,7 +69,7 @@ fn sum_of(base: u8, share: u8) -> u8
 }
 
 /// Sets a row of a raster.
-fn put_row(into: &mut Raster, y: u32, row: &[u8])
+pub fn put_row(into: &mut Raster, y: u32, row: &[u8])
     requires y { y < into.old.height }
     requires row { length row.now ≡ into.old.width * 3 }
     requires whole { IsWhole into.old }

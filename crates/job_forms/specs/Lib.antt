@@ -1,0 +1,5 @@
+pub mod Bounds
+pub mod Cover
+pub mod Members
+pub mod Outcome
+pub mod Values

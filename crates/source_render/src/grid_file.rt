@@ -1,0 +1,152 @@
+ghost use Rattle.std.specs.Prelude.{IfSome, None, ℕ, ◌+◌, ◌*◌, ◌^◌, ◌<◌, ◌≡◌, ◌≤◌, get_or, length};
+ghost use Rattle.catalog.specs.Valid.{IsLayer, IsValid};
+ghost use Rattle.matrix_geometry.specs.Limits.{IsWithinLimits};
+ghost use Rattle.raster_field.specs.Blocks.{IsMeta};
+ghost use Rattle.raster_field.specs.Rasters.{HasSize, IsWhole, IsWindowOf};
+
+use crate::cell_file::{Grid, read_grid, read_row};
+use crate::painter::{BYTES, MOST, put_row};
+use crate::palette::{palette_of, put_pixel};
+use crate::source::{Failed, Source};
+use catalog::catalogue::Catalogue;
+use catalog::layer::Layer;
+use matrix_geometry::matrix::Matrix;
+use metatile_locks::ticket::Ticket;
+use metatile_plan::metatile::MetaKey;
+use metatile_plan::window::Window;
+use raster_field::colour::Colour;
+use raster_field::field::cell_at;
+use raster_field::layout::{layer_of, matrix_of, style_of};
+use raster_field::raster::Raster;
+use std::fs::File;
+
+/// A source whose pictures come from a file of cells, which is read at each render. It tells no number.
+#[derive(Drop)]
+pub struct GridFile {
+    file: File,
+    faults: u64,
+}
+
+impl GridFile {
+    /// The source of a file that is open for reading.
+    pub fn new(file: File) -> GridFile
+        ensures { result.faults ≡ 0 }
+    {
+        GridFile { file, faults: 0 }
+    }
+}
+
+/// The number of a ground cell within so many.
+fn cell_within(cell: u128, count: u32) -> u32
+    requires { 1 ≤ count }
+    ensures { result < count }
+{
+    (cell % u128::from(count)) as u32
+}
+
+/// The columns of cells for so many columns of pixels from `first` on.
+fn columns_of(matrix: &Matrix, layer: &Layer, first: u64, count: u32, width: u32) -> [u32; MOST]
+    requires matrix { IsWithinLimits matrix.now }
+    requires layer { IsLayer layer.now }
+    requires count { count ≤ 4224 }
+    requires first { first + count ≤ 2 ^ 41 }
+    requires width { 1 ≤ width }
+    ensures { (i : ℕ) → i < count → get_or result i 0 < width }
+{
+    let mut columns = [0; MOST];
+    for i in 0..count {
+        columns[i as usize] = cell_within(cell_at(matrix, layer, first + u64::from(i)), width);
+    }
+    columns
+}
+
+/// Puts the colours of some values into a row.
+fn put_values(palette: &[Colour; 256], values: &[u8; MOST], into: &mut [u8])
+    requires { length into.old ≤ 12672 }
+    ensures { length into.new ≡ length into.old }
+{
+    for i in 0..into.len() / 3 {
+        put_pixel(into, i * 3, palette[values[i] as usize]);
+    }
+}
+
+/// Paints the rows of a window; `None` where the file can't be read.
+fn paint_rows(
+    file: &File,
+    grid: Grid,
+    matrix: &Matrix,
+    layer: &Layer,
+    palette: &[Colour; 256],
+    window: &Window,
+    row: &mut [u8],
+    into: &mut Raster,
+) -> Option<()>
+    requires matrix { IsWithinLimits matrix.now }
+    requires layer { IsLayer layer.now }
+    requires grid { 16 + grid.width * grid.height < 2 ^ 64 }
+    requires grid_width { 1 ≤ grid.width }
+    requires grid_height { 1 ≤ grid.height }
+    requires width { window.now.width ≤ 4224 }
+    requires right { window.now.x + window.now.width ≤ 2 ^ 41 }
+    requires bottom { window.now.y + window.now.height ≤ 2 ^ 41 }
+    requires room { length row.old ≡ window.now.width * 3 }
+    requires size { HasSize into.old window.now }
+    requires whole { IsWhole into.old }
+    ensures size { HasSize into.new window.now }
+{
+    let columns = columns_of(matrix, layer, window.x, window.width, grid.width);
+    let mut values = [0; MOST];
+    for j in 0..window.height {
+        let down = cell_within(cell_at(matrix, layer, window.y + u64::from(j)), grid.height);
+        read_row(file, grid, down, &columns, window.width, &mut values)?;
+        put_values(palette, &values, row);
+        put_row(into, j, row);
+    }
+    Some(())
+}
+
+/// Paints a window; `None` where the file can't be read or is of another form.
+fn paint(
+    file: &File,
+    catalogue: &Catalogue,
+    meta: &MetaKey,
+    window: &Window,
+    into: &mut Raster,
+) -> Option<()>
+    requires valid { IsValid catalogue.now }
+    requires meta { IsMeta catalogue.now meta.now }
+    requires window { IsWindowOf catalogue.now meta.now window.now }
+    requires size { HasSize into.old window.now }
+    ensures size { HasSize into.new window.now }
+{
+    let grid = read_grid(file)?;
+    let width = into.width();
+    let palette = palette_of(style_of(catalogue, meta));
+    let matrix = matrix_of(catalogue, meta);
+    let layer = layer_of(catalogue, meta);
+    let mut row = [0; BYTES];
+    let row = &mut row[..width as usize * 3];
+    paint_rows(file, grid, matrix, layer, &palette, window, row, into)
+}
+
+impl Source for GridFile {
+    ghost told = { λ _. None };
+
+    ghost faults = { λ s. s.faults };
+
+    fn render(
+        &mut self,
+        catalogue: &Catalogue,
+        ticket: &Ticket,
+        window: &Window,
+        into: &mut Raster,
+    ) -> Result<(), Failed> {
+        match paint(&self.file, catalogue, &ticket.meta(), window, into) {
+            Some(()) => Ok(()),
+            None => {
+                self.faults = causes::one_more(self.faults);
+                Err(Failed)
+            }
+        }
+    }
+}
