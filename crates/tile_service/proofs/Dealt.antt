@@ -1,5 +1,5 @@
 -- What a line does, in the terms of worlds.
-use Rattle.std.proofs.Common.{◌≡◌, ℕ, ◌+◌, ◌<◌, Bool, true, false, List, [], ◌∷◌, length, map, slice_get, slice_set, Option, Some, None, refl, sym, ap, ◌∙◌, subst, arith, append-nil}
+use Rattle.std.proofs.Common.{◌≡◌, zero, suc, ℕ, ◌+◌, ◌<◌, Bool, true, false, List, [], ◌∷◌, length, map, slice_get, slice_set, Option, Some, None, refl, sym, ap, ◌∙◌, subst, arith, append-nil}
 use Rattle.std.specs.Option.{option_map, IfSome}
 use Rattle.std.proofs.lemmas.List.{map-set}
 use Rattle.std.proofs.lemmas.Option.{slice_get-map, slice_get_within}
@@ -289,3 +289,8 @@ desk_is_there (Some (seat.Busy d)) desk e = cc
 
 pub desk_within : (seats : List Seat) (i : ℕ) (desk : Desk) → desk_at (slice_get seats i) ≡ Some desk → i < length seats
 desk_within seats i desk e = slice_get_within seats i (seat.Busy desk) (desk_is_there (slice_get seats i) desk e)
+
+pub set_there : (seats : List Seat) (i : ℕ) (x : Seat) → i < length seats → slice_get (slice_set seats i x) i ≡ Some x
+set_there [] i x l = absurd (omega arith)
+set_there (y ∷ ys) zero x l = refl
+set_there (y ∷ ys) (suc i) x l = set_there ys i x (omega arith)

@@ -7,4 +7,5 @@ pub mod Seating
 pub mod Dealt
 pub mod Writing
 pub mod Far
+pub mod Leaving
 pub mod Closing

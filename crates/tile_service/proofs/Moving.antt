@@ -42,7 +42,7 @@ abbrev Plain : Stepped → Type 0
 Plain r = GoesOn r.actor r.outcome × (failing r.outcome + owed r.actor ≡ 0)
 
 plain_given : (s : State) (a : Address) (n : Option ℕ) → Plain (given s a n)
-plain_given s a None = (tt, refl)
+plain_given s a None = (refl, refl)
 plain_given s a (Some k) = (λ idle. idle, refl)
 
 plain_busy : (s : State) (a : Address) (force : Bool) (n : Option ℕ) → Plain (unless_busy s a force n)
@@ -50,11 +50,11 @@ plain_busy s a force (Some k) = (λ idle. idle, refl)
 plain_busy s a force None = plain_given s a (next s.opening (now s))
 
 plain_kept : (s : State) (a : Address) (t : Option Kept) → Plain (unless_kept s a t)
-plain_kept s a (Some t) = (tt, refl)
+plain_kept s a (Some t) = (refl, refl)
 plain_kept s a None = plain_busy s a false (running_for (block_of s.catalogue a) (now s).out)
 
 plain_began : (s : State) (a : Address) (force left : Bool) → Plain (began s a force left)
-plain_began s a force false = (tt, refl)
+plain_began s a force false = (refl, refl)
 plain_began s a true true = plain_busy s a true (running_for (block_of s.catalogue a) (now s).out)
 plain_began s a false true = plain_kept s a (kept_of (block_of s.catalogue a) (now s))
 
@@ -86,11 +86,18 @@ Further x r = GoesOn r.actor r.outcome × ((failing r.outcome + owed r.actor ≤
 further_after : (s : State) (x : Actor) (left : Bool) (blob : Option (List ℕ)) → (IsIdle x → ⊥) → Further x (advanced s x left blob)
 further_after s actor.Idle left blob busy = absurd (busy tt)
 further_after s (actor.Waiting a force) left blob busy = let p = plain_began s a force left in let none = p.1 in (p.0, inl (omega arith))
-further_after s (actor.Holding t a) false blob busy = (tt, inl (omega arith))
+further_after s (actor.Holding t a) false blob busy = (refl, inl (omega arith))
 further_after s (actor.Holding t a) true None busy = (λ idle. idle, inr (tt, omega arith))
 further_after s (actor.Holding t a) true (Some blob) busy = (λ idle. idle, inl (omega arith))
-further_after s (actor.Rendered t text tile) left blob busy = (tt, inl (omega arith))
-further_after s (actor.Failed t) left blob busy = (tt, inl (omega arith))
+further_after s (actor.Rendered t text tile) left blob busy = (refl, inl (omega arith))
+further_after s (actor.Failed t) left blob busy = (refl, inl (omega arith))
+
+-- a request goes on after an event, or has its outcome
+pub advance_goes : (told : Option ℕ) (before after : ℕ) (s : State) (x : Actor) (step : Step) (t : State) → (IsIdle x → ⊥) → Advances told before after s x step t → GoesOn step.actor step.outcome
+advance_goes told before after s x step t busy h =
+    let P : Stepped → Type 0 = Further x in
+    let after_it : Further x (shown step t) = subst P (sym h.advanced) (further_after s x h.left h.blob busy) in
+    after_it.0
 
 place_within : (x : Actor) (here p : ℕ) → p ≤ here → place_of x here p ≤ here
 place_within actor.Idle here p l = l

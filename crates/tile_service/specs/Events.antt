@@ -1,5 +1,5 @@
 -- What events of one request came to.
-use Rattle.std.specs.Prelude.{ℕ, ◌≡◌, ◌≤◌, ◌+◌, true, false, length, Option, Some, None, ⊤, ◌⊎◌}
+use Rattle.std.specs.Prelude.{ℕ, ◌≡◌, ◌≤◌, ◌+◌, true, false, length, Option, Some, None, ◌⊎◌}
 use Rattle.cabinet.specs.State.{State, IsSound}
 use Rattle.cache_core.specs.declared.actor.Actor.{Actor}
 use Rattle.cache_core.specs.declared.actor.Actor.TheVariants as actor
@@ -34,10 +34,10 @@ failing (Some outcome.SourceFailed) = 1
 failing (Some outcome.Spent) = 0
 failing (Some outcome.NoMemory) = 0
 
--- a request that has no outcome goes on
+-- a request goes on until it has an outcome
 abbrev pub GoesOn : Actor → Option Outcome → Type 0
 GoesOn a None = IsIdle a → ⊥
-GoesOn a (Some o) = ⊤
+GoesOn a (Some o) = a ≡ actor.Idle
 
 -- From s to t, while the source went from one count of faults to another, an actor that held what `first` holds came to this
 -- step of a request for the tile, whose last ask or force was made when the history had p entries.

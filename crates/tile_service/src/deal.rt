@@ -13,7 +13,7 @@ use crate::lines::{Act, act_of};
 use crate::outcome::Outcome;
 use crate::request::{Kind, Request};
 use crate::routes::{path_of, request_at, route_of};
-use crate::seats::{Seat, desk_at, is_free, settle};
+use crate::seats::{Desk, Seat, desk_at, is_free, settle};
 use cabinet::cabinet::Cabinet;
 use cache_core::steps::advance;
 use exact_ratio::words::Words;
@@ -63,7 +63,7 @@ fn asked<S: Source>(
     match request {
         Request::Tile(address) => {
             let step = events(alloc, &mut counter.cabinet, source, &address, kind);
-            settle(seats, actor, n, &address, step)
+            settle(&mut counter.cabinet, seats, actor, n, &address, step)
         }
         Request::Capabilities => answered(actor, n, document(alloc, counter.capabilities.bytes())),
         Request::Refused(code, locator) => answered(actor, n, Outcome::Refused(code, locator)),
@@ -117,13 +117,19 @@ fn stepped<S: Source>(
     ensures capabilities { counter.new.capabilities ≡ counter.old.capabilities }
     ensures told { S.told source.new ≡ S.told source.old }
 {
-    let Some(desk) = desk_at(seats, actor) else {
-        return Came::Refused;
-    };
-    let start = desk.start;
-    let address = desk.address;
-    let step = advance(alloc, &mut counter.cabinet, source, desk.actor());
-    settle(seats, actor, start, &address, step)
+    match desk_at(seats, actor) {
+        None => Came::Refused,
+        Some(
+            Desk {
+                start,
+                address,
+                actor: state,
+            },
+        ) => {
+            let step = advance(alloc, &mut counter.cabinet, source, state);
+            settle(&mut counter.cabinet, seats, actor, start, &address, step)
+        }
+    }
 }
 
 /// Does what line `n` says, and says what it answers.

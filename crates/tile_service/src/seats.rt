@@ -1,4 +1,6 @@
 ghost use Rattle.std.specs.Prelude.{◌≡◌, IfOk, IsSome, None, ◌<◌, is_some, length, replicate, slice_get, slice_set};
+ghost use Rattle.cache_core.specs.Steps.{given_up};
+ghost use Rattle.tile_service.specs.Events.{GoesOn};
 ghost use Rattle.tile_service.specs.Seats.{all_left, came_of, desk_at, is_free, next_seat};
 
 use crate::came::{Came, Reply};
@@ -22,57 +24,18 @@ pub struct Desk {
 }
 
 /// What an actor is busy with.
-#[derive(Drop)]
 pub enum Seat {
     Free,
     Busy(Desk),
-}
-
-/// Spends the ticket of an actor that has no further event.
-fn let_go(actor: Actor) {
-    match actor {
-        Actor::Idle | Actor::Waiting(_, _) => {}
-        Actor::Holding(ticket, _) | Actor::Failed(ticket) => {
-            let _ = ticket.spend();
-        }
-        Actor::Rendered(ticket, _, _) => {
-            let _ = ticket.spend();
-        }
-    }
-}
-
-// Only a desk that gave up is let go: the states of cabinets say so.
-impl Drop for Desk {
-    fn drop(self) {
-        let Desk {
-            start: _,
-            address: _,
-            actor,
-        } = self;
-        let_go(actor);
-    }
-}
-
-impl Desk {
-    pub fn actor(self) -> Actor
-        ensures { result ≡ self.actor }
-    {
-        let Desk {
-            start: _,
-            address: _,
-            actor,
-        } = self;
-        actor
-    }
 }
 
 /// Seats at which no actor is busy. `AllocError` where memory runs out.
 pub fn free_seats(alloc: Global) -> Result<Vec<Seat>, AllocError>
     ensures { IfOk result (λ v. v.items ≡ replicate ACTORS Seat.Free) }
 {
-    let mut seats = Vec::new(alloc);
+    let mut seats = Vec::with_capacity(alloc, ACTORS)?;
     for _ in 0..ACTORS {
-        seats.push(Seat::Free)?;
+        seats.push_reserved(Seat::Free);
     }
     Ok(seats)
 }
@@ -114,11 +77,32 @@ pub fn desk_at(seats: &mut [Seat], actor: u32) -> Option<Desk>
     }
 }
 
-/// Puts the seat of an actor behind events of a request that started in line `start`, and says what they answer.
-pub fn settle(seats: &mut [Seat], actor: u32, start: u64, address: &Address, step: Step) -> Came
-    requires { actor < length seats.old }
+/// Puts what an actor is busy with at its free seat.
+fn put(cabinet: &mut Cabinet, seats: &mut [Seat], actor: u32, seat: Seat)
+    requires { slice_get seats.old actor ≡ Some Seat.Free }
+    ensures seats { seats.new ≡ slice_set seats.old actor seat }
+    ensures cabinet { cabinet.new ≡ cabinet.old }
+{
+    match mem::replace(&mut seats[actor as usize], seat) {
+        Seat::Free => {}
+        Seat::Busy(desk) => leave(cabinet, desk),
+    }
+}
+
+/// Puts the free seat of an actor behind events of a request that started in line `start`, and says what they answer.
+pub fn settle(
+    cabinet: &mut Cabinet,
+    seats: &mut [Seat],
+    actor: u32,
+    start: u64,
+    address: &Address,
+    step: Step,
+) -> Came
+    requires free { slice_get seats.old actor ≡ Some Seat.Free }
+    requires goes_on { GoesOn step.actor step.outcome }
     ensures came { result ≡ came_of actor start step.outcome }
     ensures seats { seats.new ≡ slice_set seats.old actor (next_seat start address.now step.actor step.outcome) }
+    ensures cabinet { cabinet.new ≡ cabinet.old }
 {
     let Step {
         actor: state,
@@ -126,16 +110,17 @@ pub fn settle(seats: &mut [Seat], actor: u32, start: u64, address: &Address, ste
     } = step;
     match outcome {
         None => {
-            seats[actor as usize] = Seat::Busy(Desk {
+            let desk = Desk {
                 start,
                 address: *address,
                 actor: state,
-            });
+            };
+            put(cabinet, seats, actor, Seat::Busy(desk));
             Came::Silent
         }
         Some(outcome) => {
-            let_go(state);
-            seats[actor as usize] = Seat::Free;
+            give_up(cabinet, state);
+            put(cabinet, seats, actor, Seat::Free);
             Came::Answers(Reply {
                 actor,
                 start,
@@ -145,14 +130,28 @@ pub fn settle(seats: &mut [Seat], actor: u32, start: u64, address: &Address, ste
     }
 }
 
+/// The request of a desk ends without an outcome.
+fn leave(cabinet: &mut Cabinet, desk: Desk)
+    ensures { cabinet.new ≡ given_up cabinet.old desk.actor }
+{
+    let Desk {
+        start: _,
+        address: _,
+        actor,
+    } = desk;
+    give_up(cabinet, actor);
+}
+
 /// Gives up all requests that are under way, in the order of their actors.
-pub fn close(cabinet: &mut Cabinet, seats: Vec<Seat>)
+pub fn close(cabinet: &mut Cabinet, mut seats: Vec<Seat>)
     ensures { cabinet.new ≡ all_left cabinet.old seats.items }
 {
-    for seat in seats {
-        match seat {
+    seats.reverse();
+    while !seats.is_empty() {
+        match seats.take_last() {
             Seat::Free => {}
-            Seat::Busy(desk) => give_up(cabinet, desk.actor()),
+            Seat::Busy(desk) => leave(cabinet, desk),
         }
     }
+    seats.destroy_empty();
 }
