@@ -1,20 +1,18 @@
 -- What a command came to.
-use Rattle.std.specs.Prelude.{ℕ, ◌≡◌, ◌≤◌, ◌+◌, ◌⊎◌, ◌==◌, ◌&&◌, if◌then◌else◌, List, [], ◌∷◌, length, Bool, Option, Some, None, Result, Ok, Err, codes, ⊤}
+use Rattle.std.specs.Prelude.{ℕ, ◌≡◌, ◌≤◌, ◌+◌, ◌⊎◌, List, [], ◌∷◌, length, Result, Ok, Err, codes, ⊤}
 use Rattle.std.specs.Io.KnownBytes.{Consumes, IsAtEnd}
-use Rattle.cabinet.specs.Commands.{fresh_state}
+use Rattle.cabinet.specs.State.{fresh_state}
 use Rattle.catalog.specs.declared.catalogue.Catalogue.{Catalogue}
 use Rattle.catalog.specs.declared.fault.CatalogueFault.{CatalogueFault}
-use Rattle.catalog.specs.declared.fault.CatalogueFault.TheVariants.{Limit}
-use Rattle.catalog.specs.declared.fault.Field.TheVariants.{Meta}
-use Rattle.catalog.specs.declared.layer.Layer.{Layer}
 use Rattle.causes.specs.Causes.{Rose}
 use Rattle.config_text.specs.Text.{catalogue_of}
 use Rattle.http_wire.specs.declared.inputs.InputEnd.{InputEnd}
 use Rattle.http_wire.specs.declared.inputs.InputEnd.TheVariants as input_end
 use Rattle.tile_service.specs.declared.schedule.ScheduleEnd.{ScheduleEnd}
 use Rattle.tile_service.specs.declared.schedule.ScheduleEnd.TheVariants as end
-use Rattle.tile_service.specs.Run.{World}
-use Rattle.tile_service.specs.Schedules.{Input, Outside, IsTooLong, Schedules}
+use Rattle.tile_service.specs.Outside.{Input, Outside}
+use Rattle.tile_service.specs.Run.{World, free_seats}
+use Rattle.tile_service.specs.Schedules.{IsTooLong, Schedules}
 use Rattle.tile_server.specs.declared.command.Status.{Status}
 use Rattle.tile_server.specs.declared.command.Status.TheVariants as status
 use Rattle.tile_server.specs.declared.configured.Unconfigured.{Unconfigured}
@@ -32,26 +30,6 @@ HasRisen i = Rose i.reads.before i.reads.after
 
 -- THE CATALOGUE
 
-abbrev pub is_built : Layer → Bool
-is_built l = l.meta_x == 1 && l.meta_y == 1 && l.gutter == 0
-
--- metatiles of more than one tile, and gutters, aren't served yet: the first layer that has such, counted from n
-abbrev pub first_unbuilt : ℕ → List Layer → Option ℕ
-first_unbuilt n [] = None
-first_unbuilt n (l ∷ ls) = if is_built l then first_unbuilt (n + 1) ls else Some n
-
-abbrev pub unless_unbuilt : Catalogue → Option ℕ → Result Catalogue CatalogueFault
-unless_unbuilt c None = Ok c
-unless_unbuilt c (Some n) = Err (Limit Meta n)
-
-abbrev pub built : Result Catalogue CatalogueFault → Result Catalogue CatalogueFault
-built (Err fault) = Err fault
-built (Ok c) = unless_unbuilt c (first_unbuilt 0 c.layers)
-
--- the catalogue of a text that can be served, or its first fault
-unfoldable pub served_catalogue : List ℕ → Result Catalogue CatalogueFault
-served_catalogue text = built (catalogue_of text)
-
 -- what a call returned is what the text comes to, unless memory ran out
 abbrev pub Comes : Result Catalogue Unconfigured → Result Catalogue CatalogueFault → Type 0
 Comes (Ok c) r = r ≡ Ok c
@@ -66,7 +44,7 @@ pub record IsRead (i : Input) (r : Result Catalogue CatalogueFault) : Type 0 whe
   pub read : Consumes i.from i.to text
   pub at_end : IsAtEnd i.to
   pub short : length text ≤ CATALOGUE_LIMIT
-  pub comes : served_catalogue text ≡ r
+  pub comes : catalogue_of text ≡ r
 
 -- one byte more than a catalogue may have was taken
 abbrev pub IsTooLongText : Input → Type 0
@@ -99,9 +77,9 @@ Describes i (Err input_end.OutOfMemory) = ⊤
 
 -- THE COMMAND
 
--- a cabinet in memory of a catalogue, in which nothing has happened, beside the document of the capabilities
+-- a cabinet in memory of a catalogue, in which nothing has happened, beside the document of the capabilities; no actor is busy
 abbrev pub fresh_world : Catalogue → List ℕ → World
-fresh_world c text = record { cabinet = fresh_state c; capabilities = text }
+fresh_world c text = record { cabinet = fresh_state c; capabilities = text; seats = free_seats }
 
 -- the inputs of a command: the catalogue's, the capabilities' and the schedule's
 pub record Inputs : Type 0 where

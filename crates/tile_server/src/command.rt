@@ -1,6 +1,7 @@
 ghost use Rattle.std.specs.Prelude.{◌≡◌, ◌↔◌, IsTrue, IfOk};
-ghost use Rattle.cabinet.specs.Commands.{fresh_state};
-ghost use Rattle.tile_service.specs.Schedules.{Input, Outside};
+ghost use Rattle.cabinet.specs.State.{fresh_state};
+ghost use Rattle.catalog.specs.Valid.{IsValid};
+ghost use Rattle.tile_service.specs.Outside.{Input, Outside};
 ghost use Rattle.tile_server.specs.Command.{IsSchedule, HasServed};
 
 use crate::configured::{Unconfigured, configured};
@@ -53,6 +54,7 @@ fn counter_of(
     catalogue: Catalogue,
     capabilities: Words,
 ) -> Result<Counter, AllocError>
+    requires { IsValid catalogue }
     ensures { IfOk result (λ c. (c.cabinet ≡ fresh_state catalogue) × (c.capabilities ≡ capabilities)) }
 {
     Ok(Counter {

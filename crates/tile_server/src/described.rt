@@ -1,5 +1,5 @@
 ghost use Rattle.std.specs.Prelude.{◌≡◌};
-ghost use Rattle.tile_service.specs.Schedules.{Input};
+ghost use Rattle.tile_service.specs.Outside.{Input};
 ghost use Rattle.tile_server.specs.Command.{Describes};
 
 use exact_ratio::words::Words;

@@ -1,8 +1,11 @@
 pub mod Headers
-pub mod Gets
-pub mod Serving
 pub mod FirstLine
 pub mod Known
-pub mod Answering
-pub mod Fresh
+pub mod Moving
+pub mod Opening
+pub mod Seating
+pub mod Dealt
+pub mod Writing
 pub mod Far
+pub mod Leaving
+pub mod Closing

@@ -1,8 +1,13 @@
-pub mod Sent
-pub mod Response
+pub mod Lines
 pub mod Requests
 pub mod Routes
-pub mod Lines
+pub mod Response
+pub mod Events
 pub mod Run
+pub mod Seats
+pub mod Dealing
 pub mod OneLine
+pub mod Sent
+pub mod Outside
+pub mod Written
 pub mod Schedules

@@ -6,11 +6,12 @@ use Rattle.schedule_text.specs.declared.line.Line.{Line}
 use Rattle.schedule_text.specs.declared.line.LineFault.{LineFault}
 use Rattle.schedule_text.specs.declared.line.TheConstants.{LINE_LIMIT}
 use Rattle.schedule_text.specs.declared.verb.Verb.{Verb}
-use Rattle.schedule_text.specs.declared.verb.Verb.TheVariants.{Get, Ask, Force, Truncate, Expire}
-use Rattle.schedule_text.specs.declared.verb.Verb.TheVariants as verb
+use Rattle.schedule_text.specs.declared.verb.Verb.TheVariants.{Get, Ask, Force, Step, Truncate, Expire}
 use Rattle.schedule_text.specs.Line.{line_of}
-use Rattle.tile_service.specs.declared.lines.Step.{Step}
-use Rattle.tile_service.specs.declared.lines.Step.TheVariants as step
+use Rattle.tile_service.specs.declared.lines.Act.{Act}
+use Rattle.tile_service.specs.declared.lines.Act.TheVariants as act
+use Rattle.tile_service.specs.declared.request.Kind.{Kind}
+use Rattle.tile_service.specs.declared.request.Kind.TheVariants.{Gets, Asks, Forces}
 
 -- THE LINES OF A TEXT
 
@@ -31,26 +32,29 @@ line_length (b ∷ bs) = if b == 10 then 0 else line_length bs + 1
 
 -- WHAT A LINE DOES
 
--- nothing, or an actor sends a message
+-- nothing; or an actor sends a message, a GET of a target that is asked for in one of three ways; or an actor makes the next
+-- event of what it is busy with
 pub data Deed : Type 0 where
   Idle : Deed
-  Sends : ℕ → Message → Deed
+  Sends : Kind → ℕ → Message → Deed
+  Steps : ℕ → Deed
 
 -- the message of method GET for a target
 abbrev pub get : List ℕ → Message
 get target = record { method = method.Get; target = target; body = []; last = false }
 
--- a step of the code as a deed
-abbrev pub deed_of : Step → Deed
-deed_of step.Nothing = Idle
-deed_of (step.Gets actor target) = Sends actor (get target.now)
+-- an act of the code as a deed
+abbrev pub deed_of : Act → Deed
+deed_of act.Nothing = Idle
+deed_of (act.Sends kind actor target) = Sends kind actor (get target.now)
+deed_of (act.Steps actor) = Steps actor
 
--- only the verb GET is answered so far
+-- a truncation and an expiry aren't served yet
 abbrev pub deed_with : ℕ → Verb → List ℕ → Option Deed
-deed_with actor Get rest = Some (Sends actor (get rest))
-deed_with actor Ask rest = None
-deed_with actor Force rest = None
-deed_with actor verb.Step rest = None
+deed_with actor Get rest = Some (Sends Gets actor (get rest))
+deed_with actor Ask rest = Some (Sends Asks actor (get rest))
+deed_with actor Force rest = Some (Sends Forces actor (get rest))
+deed_with actor Step rest = Some (Steps actor)
 deed_with actor Truncate rest = None
 deed_with actor Expire rest = None
 

@@ -1,89 +1,77 @@
--- One request and its outcome, as a function of the cabinet. What happens by chance in it, that memory runs out or that
--- the rendering fails, and what a rendering gives, is taken as it happened; all else is fixed.
-use Rattle.std.specs.Prelude.{ℕ, ◌≡◌, ◌≤◌, true, false, List, Option, Some, None, IfSome}
-use Rattle.cabinet.specs.Commands.{State, now, with_entry, with_text, kept_text, IsSound}
-use Rattle.cabinet.specs.declared.entry.Entry.TheVariants.{Started, Ended, Used}
+-- A request and its events in a line, as a function of the cabinet. What happens by chance in a line, that memory runs out,
+-- and what a rendering gives or that it fails, is taken as it happened; all else is fixed.
+use Rattle.std.specs.Prelude.{ℕ, ◌≡◌, Bool, true, false, if◌then◌else◌, List, Option, Some, None, IfSome}
 use Rattle.cabinet.specs.Fresh.{IsFresh}
-use Rattle.cabinet.specs.History.{History, kept_as, next}
+use Rattle.cabinet.specs.History.{History}
+use Rattle.cabinet.specs.State.{State}
+use Rattle.cache_core.specs.declared.actor.Actor.{Actor}
+use Rattle.cache_core.specs.declared.actor.Actor.TheVariants.{Idle, Waiting, Holding, Rendered, Failed}
+use Rattle.cache_core.specs.declared.outcome.Outcome.TheVariants as core
+use Rattle.cache_core.specs.declared.outcome.Outcome as cached
+use Rattle.cache_core.specs.Steps.{Stepped, began, advanced}
 use Rattle.catalog.specs.declared.catalogue.Catalogue.{Catalogue}
 use Rattle.catalog.specs.LookUp.{IsTile}
-use Rattle.causes.specs.Causes.{Rose}
 use Rattle.matrix_geometry.specs.declared.address.Address.{Address}
 use Rattle.raster_field.specs.TileText.{tile_text}
 use Rattle.tile_service.specs.declared.outcome.Outcome.{Outcome}
 use Rattle.tile_service.specs.declared.outcome.Outcome.TheVariants as outcome
+use Rattle.tile_service.specs.declared.request.Kind.{Kind}
+use Rattle.tile_service.specs.declared.request.Kind.TheVariants.{Gets, Asks, Forces}
 use Rattle.tile_service.specs.declared.request.Request.{Request}
 use Rattle.tile_service.specs.declared.request.Request.TheVariants as request
 
 -- CHANCES
 
--- where in a request memory ran out
-pub data Want : Type 0 where
-  Enough : Want
-  AtAsk : Want
-  AtRender : Want
-
--- what happened by chance in a request: where memory ran out, and what the rendering gave, or nothing where it failed
+-- what happened by chance in a line: whether memory was left to read its request, for its first ask or force, for what
+-- follows, and for the answer, and what the rendering gave, or nothing where it failed
 pub record Chance : Type 0 where
-  pub want : Want
-  pub rendered : Option (List ℕ)
+  pub read : Bool
+  pub ask : Bool
+  pub work : Bool
+  pub blob : Option (List ℕ)
+  pub left : Bool
 
 -- nothing happened by chance
 abbrev pub calm : Chance
-calm = record { want = Enough; rendered = None }
+calm = record { read = true; ask = true; work = true; blob = None; left = true }
 
--- A TILE that is asked for: the cabinet after it, and its outcome
+-- THE EVENTS OF A LINE
 
--- it is kept under this number
-abbrev pub hit : State → Address → ℕ → Want → State × Outcome
-hit s a k AtAsk = (s, outcome.NoMemory)
-hit s a k Enough = (with_entry s (Used a), outcome.Tile true k (kept_text s a))
-hit s a k AtRender = (with_entry s (Used a), outcome.Tile true k (kept_text s a))
+-- the actor has work that waits for no other
+abbrev pub is_at_work : Actor → Bool
+is_at_work Idle = false
+is_at_work (Waiting a force) = false
+is_at_work (Holding t a) = true
+is_at_work (Rendered t blob tile) = true
+is_at_work (Failed t) = true
 
--- no number is left
-abbrev pub spent : State → Want → State × Outcome
-spent s AtAsk = (s, outcome.NoMemory)
-spent s Enough = (s, outcome.Spent)
-spent s AtRender = (s, outcome.Spent)
+abbrev pub further : Chance → Stepped → Stepped
+further c r = if is_at_work r.actor then advanced r.cabinet r.actor c.work c.blob else r
 
--- the render k is begun, and ends with nothing kept
-abbrev pub lost : State → Address → ℕ → State
-lost s a k = with_entry (with_entry s (Started k a)) (Ended k)
+-- the render and the finish follow in the same line
+abbrev pub at_once : Chance → Stepped → Stepped
+at_once c r = further c (further c r)
 
-abbrev pub rendered : State → Address → ℕ → Option (List ℕ) → State × Outcome
-rendered s a k None = (lost s a k, outcome.SourceFailed)
-rendered s a k (Some text) = (with_text (with_entry s (Started k a)) k a text, outcome.Tile false k text)
+-- the events of the line that asks for a tile: a GET goes on until it is answered or waits; an ask and a force stay the one
+-- event
+abbrev pub events : Kind → State → Address → Chance → Stepped
+events Gets s a c = at_once c (began s a false c.ask)
+events Asks s a c = began s a false c.ask
+events Forces s a c = began s a true c.ask
 
--- it is rendered under this number
-abbrev pub miss : State → Address → ℕ → Want → Option (List ℕ) → State × Outcome
-miss s a k AtAsk given = (s, outcome.NoMemory)
-miss s a k AtRender given = (lost s a k, outcome.NoMemory)
-miss s a k Enough given = rendered s a k given
+-- the outcome of a request for a tile as that of a request
+abbrev pub outcome_of : cached.Outcome → Outcome
+outcome_of (core.Tile tile) = outcome.Tile tile.hit tile.number tile.bytes
+outcome_of core.SourceFailed = outcome.SourceFailed
+outcome_of core.Spent = outcome.Spent
+outcome_of core.NoMemory = outcome.NoMemory
 
-abbrev pub got_at : State → Address → Chance → Option ℕ → Option ℕ → State × Outcome
-got_at s a c (Some k) n = hit s a k c.want
-got_at s a c None None = spent s c.want
-got_at s a c None (Some k) = miss s a k c.want c.rendered
+-- the document of the capabilities is copied, while memory is left
+abbrev pub copied : List ℕ → Bool → Outcome
+copied document true = outcome.Document document
+copied document false = outcome.NoMemory
 
-abbrev pub got : State → Address → Chance → State × Outcome
-got s a c = got_at s a c (kept_as a (now s)) (next s.opening (now s))
-
--- THE DOCUMENT of the capabilities that is asked for
-
-abbrev pub copied : State → List ℕ → Want → State × Outcome
-copied s document AtAsk = (s, outcome.NoMemory)
-copied s document Enough = (s, outcome.Document document)
-copied s document AtRender = (s, outcome.Document document)
-
--- REQUESTS
-
--- what a request comes to, where this is the document of the capabilities
-abbrev pub served : State → List ℕ → Chance → Request → State × Outcome
-served s document c (request.Tile a) = got s a c
-served s document c request.Capabilities = copied s document c.want
-served s document c (request.Refused code locator) = (s, outcome.Refused code locator)
-served s document c request.NotFound = (s, outcome.NotFound)
-served s document c request.WrongMethod = (s, outcome.WrongMethod)
+-- WHAT IS SAID OF REQUESTS
 
 -- the tile that a request asks for
 abbrev pub tile_of : Request → Option Address
@@ -116,20 +104,8 @@ abbrev pub IsTrueAnswer : Catalogue → Request → Outcome → Type 0
 IsTrueAnswer c r o = IfSome (tile_of r) (λ a. IsTrueTile c a o)
 
 -- a tile that is answered is fresh at an ask that was made when the history had p entries
-abbrev pub IsFreshTile : History → ℕ → Address → Outcome → Type 0
-IsFreshTile h p a o = IfSome (tile_in o) (λ t. IsFresh h p a t.0)
+abbrev pub IsFreshTile : Catalogue → History → ℕ → Address → Outcome → Type 0
+IsFreshTile c h p a o = IfSome (tile_in o) (λ t. IsFresh c h p a t.0)
 
-abbrev pub IsFreshAnswer : History → ℕ → Request → Outcome → Type 0
-IsFreshAnswer h p r o = IfSome (tile_of r) (λ a. IsFreshTile h p a o)
-
--- From s a request came to t with this outcome, while the source, which tells this number or none, went from one count
--- of faults to another: the outcome is that of the request under some chance; that the source failed is answered only
--- where its count rose; and where the source tells that it is the catalogue's, what is kept stays true and so is the tile.
-pub record Serves (source : Option ℕ) (before after : ℕ) (s : State) (document : List ℕ) (r : Request) (t : State) (o : Outcome) : Type 0 where
-  pub chance : Chance
-  pub made : (t, o) ≡ served s document chance r
-  pub later : before ≤ after
-  pub cause : o ≡ outcome.SourceFailed → Rose before after
-  pub sound : source ≡ Some s.catalogue.source → IsSound s → IsSound t
-  pub truth : source ≡ Some s.catalogue.source → IsSound s → IsTrueAnswer s.catalogue r o
-  pub catalogue : t.catalogue ≡ s.catalogue
+abbrev pub IsFreshAnswer : Catalogue → History → ℕ → Request → Outcome → Type 0
+IsFreshAnswer c h p r o = IfSome (tile_of r) (λ a. IsFreshTile c h p a o)

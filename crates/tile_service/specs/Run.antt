@@ -1,39 +1,64 @@
--- The run of a schedule: it goes through the lines with the cabinet, and each line has its answers. What happens by
--- chance in a line is taken as it happened; all else is fixed.
-use Rattle.std.specs.Prelude.{ℕ, ◌+◌, Bool, true, false, if◌then◌else◌, List, [], ◌∷◌, ◌++◌, length, Option, Some, None, IfSome, flat_map, count_by}
-use Rattle.cabinet.specs.Commands.{State}
+-- The run of a schedule: it goes through the lines with the cabinet and what its actors are busy with, and each line has its
+-- answers. What happens by chance in a line is taken as it happened; all else is fixed.
+use Rattle.std.specs.Prelude.{ℕ, ◌+◌, Bool, true, false, if◌then◌else◌, List, [], ◌∷◌, ◌++◌, length, replicate, fold, slice_get, slice_set, Option, Some, None, IfSome, flat_map, count_by, sum_by}
 use Rattle.cabinet.specs.History.{History}
+use Rattle.cabinet.specs.State.{State}
+use Rattle.cache_core.specs.declared.actor.Actor.{Actor}
+use Rattle.cache_core.specs.declared.actor.Actor.TheVariants as actor
+use Rattle.cache_core.specs.declared.outcome.Outcome as cached
+use Rattle.cache_core.specs.Fits.{place_of}
+use Rattle.cache_core.specs.Steps.{Stepped, advanced, given_up}
 use Rattle.catalog.specs.declared.catalogue.Catalogue.{Catalogue}
 use Rattle.http_wire.specs.declared.message.Message.{Message}
+use Rattle.matrix_geometry.specs.declared.address.Address.{Address}
 use Rattle.tile_service.specs.declared.outcome.Outcome.{Outcome}
 use Rattle.tile_service.specs.declared.outcome.Outcome.TheVariants.{Tile, Document, Refused, NotFound, WrongMethod, SourceFailed, Spent, NoMemory}
+use Rattle.tile_service.specs.declared.request.Kind.{Kind}
 use Rattle.tile_service.specs.declared.request.Request.{Request}
+use Rattle.tile_service.specs.declared.request.Request.TheVariants as request
 use Rattle.tile_service.specs.declared.routes.Route.{Route}
-use Rattle.tile_service.specs.Lines.{Deed, Idle, Sends, deed_in}
-use Rattle.tile_service.specs.Requests.{Chance, calm, served, IsTrueAnswer, IsFreshAnswer}
+use Rattle.tile_service.specs.declared.seats.TheConstants.{ACTORS}
+use Rattle.tile_service.specs.Events.{owed}
+use Rattle.tile_service.specs.Lines.{Deed, Idle, Sends, Steps, deed_in}
+use Rattle.tile_service.specs.Requests.{Chance, calm, events, outcome_of, copied, IsTrueAnswer, IsFreshAnswer}
 use Rattle.tile_service.specs.Response.{answered}
 use Rattle.tile_service.specs.Routes.{path_of, route_of, request_at}
 
--- what a run goes through: the cabinet, and the document of the capabilities, which stays as it is
+-- WORLDS
+
+-- what an actor is busy with: the line of its start and the message there, the tile, how many entries the history had at
+-- the last ask or force, and how far it has come
+pub record Busy : Type 0 where
+  pub start : ℕ
+  pub message : Message
+  pub address : Address
+  pub place : ℕ
+  pub actor : Actor
+
+-- what a run goes through: the cabinet, the document of the capabilities, which stays as it is, and what each actor is busy
+-- with
 pub record World : Type 0 where
   pub cabinet : State
   pub capabilities : List ℕ
+  pub seats : List (Option Busy)
 
--- what happened by chance in a line: whether memory was left to read its request, what happened in that, and whether
--- memory was left for the answer
-pub record LineChance : Type 0 where
-  pub read : Bool
-  pub serving : Chance
-  pub left : Bool
+-- no actor is busy
+abbrev pub free_seats : List (Option Busy)
+free_seats = replicate ACTORS None
 
--- nothing happened by chance
-abbrev pub calm_line : LineChance
-calm_line = record { read = true; serving = calm; left = true }
+-- an actor that is busy gives up
+abbrev pub left_by : State → Option Busy → State
+left_by s None = s
+left_by s (Some b) = given_up s b.actor
+
+-- at the end of a run the actors that are busy give up, in order
+abbrev pub closed : World → World
+closed w = record { cabinet = fold left_by w.cabinet w.seats; capabilities = w.capabilities; seats = free_seats }
 
 -- ANSWERS
 
 -- an answer: the answered line, its actor, the line of its start and the message there, what was asked for, where memory
--- was left to read it, how many entries the history had at its ask, and the outcome
+-- was left to read it, how many entries the history had at its last ask or force, and the outcome
 pub record Answer : Type 0 where
   pub line : ℕ
   pub actor : ℕ
@@ -47,29 +72,67 @@ pub record Answer : Type 0 where
 abbrev pub told_at : Bool → Outcome → Outcome
 told_at left o = if left then o else NoMemory
 
--- the answer to a request of line n, and the world after it
-abbrev pub answer_to : World → ℕ → LineChance → ℕ → Message → Request → World × List Answer
-answer_to w n c actor m r =
-    let done = served w.cabinet w.capabilities c.serving r in
-    let answer : Answer = record { line = n; actor = actor; start = n; message = m; request = Some r; place = length w.cabinet.history; outcome = told_at c.left done.1 } in
-    (record { cabinet = done.0; capabilities = w.capabilities }, answer ∷ [])
+-- an answer at once, that leaves the world as it was
+abbrev pub told_in : World → ℕ → Chance → ℕ → Message → Option Request → Outcome → World × List Answer
+told_in w n c i m r o = (w, record { line = n; actor = i; start = n; message = m; request = r; place = length w.cabinet.history; outcome = told_at c.left o } ∷ [])
 
--- memory ran out before the request was read
-abbrev pub unread : World → ℕ → ℕ → Message → World × List Answer
-unread w n actor m = (w, record { line = n; actor = actor; start = n; message = m; request = None; place = length w.cabinet.history; outcome = NoMemory } ∷ [])
+-- EVENTS
+
+-- the actor stays busy unless its request has an outcome
+abbrev pub seat_after : Busy → Actor → Option cached.Outcome → Option Busy
+seat_after b actor None = Some (record { start = b.start; message = b.message; address = b.address; place = b.place; actor = actor })
+seat_after b actor (Some o) = None
+
+-- the outcome is answered, by the actor i in line n
+abbrev pub answers_after : ℕ → ℕ → Bool → Busy → Option cached.Outcome → List Answer
+answers_after n i left b None = []
+answers_after n i left b (Some o) = record { line = n; actor = i; start = b.start; message = b.message; request = Some (request.Tile b.address); place = b.place; outcome = told_at left (outcome_of o) } ∷ []
+
+-- what events of what the actor i is busy with come to
+abbrev pub settled : World → ℕ → Chance → ℕ → Busy → Stepped → World × List Answer
+settled w n c i b r = (record { cabinet = r.cabinet; capabilities = w.capabilities; seats = slice_set w.seats i (seat_after b r.actor r.outcome) }, answers_after n i c.left b r.outcome)
+
+-- what an actor that starts in line n is busy with
+abbrev pub started : World → ℕ → Message → Address → Busy
+started w n m a = record { start = n; message = m; address = a; place = length w.cabinet.history; actor = actor.Idle }
+
+-- what it is busy with at its next event: an actor that waits asks or forces anew
+abbrev pub resumed : World → Busy → Busy
+resumed w b = record { start = b.start; message = b.message; address = b.address; place = place_of b.actor (length w.cabinet.history) b.place; actor = b.actor }
 
 -- LINES
 
--- a message is answered where it leads to what is served
-abbrev pub message_done : World → ℕ → LineChance → ℕ → Message → Option Route → Option (World × List Answer)
-message_done w n c actor m None = None
-message_done w n c actor m (Some route) = Some (if c.read then answer_to w n c actor m (request_at w.cabinet.catalogue m.target route) else unread w n actor m)
+-- a tile is asked for; anything else is answered at once
+abbrev pub asked : World → ℕ → Chance → Kind → ℕ → Message → Request → World × List Answer
+asked w n c kind i m (request.Tile a) = settled w n c i (started w n m a) (events kind w.cabinet a c)
+asked w n c kind i m request.Capabilities = told_in w n c i m (Some request.Capabilities) (copied w.capabilities c.work)
+asked w n c kind i m (request.Refused code locator) = told_in w n c i m (Some (request.Refused code locator)) (Refused code locator)
+asked w n c kind i m request.NotFound = told_in w n c i m (Some request.NotFound) NotFound
+asked w n c kind i m request.WrongMethod = told_in w n c i m (Some request.WrongMethod) WrongMethod
+
+-- a message is answered where it leads to what is served; memory may run out before it is read
+abbrev pub sent : World → ℕ → Chance → Kind → ℕ → Message → Option Route → Option (World × List Answer)
+sent w n c kind i m None = None
+sent w n c kind i m (Some route) = Some (if c.read then asked w n c kind i m (request_at w.cabinet.catalogue m.target route) else told_in w n c i m None NoMemory)
+
+-- there is the actor, and it is not busy
+abbrev pub if_free : Option (Option Busy) → Option (World × List Answer) → Option (World × List Answer)
+if_free None d = None
+if_free (Some None) d = d
+if_free (Some (Some b)) d = None
+
+-- there is the actor, and it is busy
+abbrev pub stepped : World → ℕ → Chance → ℕ → Option (Option Busy) → Option (World × List Answer)
+stepped w n c i None = None
+stepped w n c i (Some None) = None
+stepped w n c i (Some (Some b)) = Some (settled w n c i (resumed w b) (advanced w.cabinet b.actor c.work c.blob))
 
 -- what one line does: the world after it and its answers, unless it is refused
-abbrev pub line_done : World → ℕ → LineChance → Option Deed → Option (World × List Answer)
+abbrev pub line_done : World → ℕ → Chance → Option Deed → Option (World × List Answer)
 line_done w n c None = None
 line_done w n c (Some Idle) = Some (w, [])
-line_done w n c (Some (Sends actor m)) = message_done w n c actor m (route_of m.method (path_of m.target))
+line_done w n c (Some (Sends kind i m)) = if_free (slice_get w.seats i) (sent w n c kind i m (route_of m.method (path_of m.target)))
+line_done w n c (Some (Steps i)) = stepped w n c i (slice_get w.seats i)
 
 -- what a run has come to: its answers, the world, and the number of the line that was refused
 pub record Run : Type 0 where
@@ -84,16 +147,16 @@ abbrev pub goes_on : World → ℕ → Option (World × List Answer) → (World 
 goes_on w n None on = record { answers = []; world = w; refused = Some n }
 goes_on w n (Some done) on = behind done.1 (on done.0)
 
-abbrev pub first_of : List LineChance → LineChance
-first_of [] = calm_line
+abbrev pub first_of : List Chance → Chance
+first_of [] = calm
 first_of (c ∷ cs) = c
 
-abbrev pub rest_of : List LineChance → List LineChance
+abbrev pub rest_of : List Chance → List Chance
 rest_of [] = []
 rest_of (c ∷ cs) = cs
 
 -- the run of these lines, of which the first has the number n, with a chance for each
-abbrev pub run : World → ℕ → List (List ℕ) → List LineChance → Run
+abbrev pub run : World → ℕ → List (List ℕ) → List Chance → Run
 run w n [] cs = record { answers = []; world = w; refused = None }
 run w n (line ∷ lines) cs = goes_on w n (line_done w n (first_of cs) (deed_in line)) (λ t. run t (n + 1) lines (rest_of cs))
 
@@ -120,6 +183,14 @@ is_failed NoMemory = false
 abbrev pub failures : List Answer → ℕ
 failures answers = count_by (λ a. is_failed a.outcome) answers
 
+-- how many failures of the source are yet to be answered
+abbrev pub owed_at : Option Busy → ℕ
+owed_at None = 0
+owed_at (Some b) = owed b.actor
+
+abbrev pub unanswered : List (Option Busy) → ℕ
+unanswered seats = sum_by owed_at seats
+
 -- a tile that is answered is the picture of its number
 abbrev pub IsTrueFor : Catalogue → Option Request → Outcome → Type 0
 IsTrueFor c r o = IfSome r (λ asked. IsTrueAnswer c asked o)
@@ -128,8 +199,8 @@ abbrev pub IsTrue : Catalogue → Answer → Type 0
 IsTrue c a = IsTrueFor c a.request a.outcome
 
 -- a tile that is answered is fresh at its ask
-abbrev pub IsFreshFor : History → ℕ → Option Request → Outcome → Type 0
-IsFreshFor h p r o = IfSome r (λ asked. IsFreshAnswer h p asked o)
+abbrev pub IsFreshFor : Catalogue → History → ℕ → Option Request → Outcome → Type 0
+IsFreshFor c h p r o = IfSome r (λ asked. IsFreshAnswer c h p asked o)
 
-abbrev pub IsFresh : History → Answer → Type 0
-IsFresh h a = IsFreshFor h a.place a.request a.outcome
+abbrev pub IsFresh : Catalogue → History → Answer → Type 0
+IsFresh c h a = IsFreshFor c h a.place a.request a.outcome

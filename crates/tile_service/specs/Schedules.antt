@@ -1,8 +1,8 @@
 -- What the run of a schedule came to, and what it wrote.
-use Rattle.std.specs.Prelude.{ℕ, ◌≡◌, ◌≤◌, ◌+◌, List, ◌++◌, length, Option, Some, None}
+use Rattle.std.specs.Prelude.{ℕ, ◌≡◌, ◌≤◌, ◌+◌, List, ◌++◌, length, Some, None}
 use Rattle.std.specs.Io.KnownBytes.{Appends, Consumes, IsAtEnd}
 use Rattle.std.specs.List.{AllByRecursion}
-use Rattle.cabinet.specs.Commands.{IsSound}
+use Rattle.cabinet.specs.State.{IsSound}
 use Rattle.causes.specs.Causes.{Rose, RoseBy}
 use Rattle.tile_service.specs.declared.run_lines.RunEnd.{RunEnd}
 use Rattle.tile_service.specs.declared.run_lines.RunEnd.TheVariants as run_end
@@ -10,30 +10,10 @@ use Rattle.tile_service.specs.declared.schedule.ScheduleEnd.{ScheduleEnd}
 use Rattle.tile_service.specs.declared.schedule.ScheduleEnd.TheVariants.{Done, Line, ReadFault, WriteFault, TooLong, OutOfMemory}
 use Rattle.tile_service.specs.declared.schedule.TheConstants.{SCHEDULE_LIMIT}
 use Rattle.tile_service.specs.Lines.{lines_of}
-use Rattle.tile_service.specs.Run.{World, LineChance, Run, run, output_of, failures, IsTrue, IsFresh}
+use Rattle.tile_service.specs.Outside.{Outside, Input}
+use Rattle.tile_service.specs.Requests.{Chance}
+use Rattle.tile_service.specs.Run.{World, Run, run, output_of, failures, unanswered, closed, IsTrue, IsFresh}
 use Rattle.tile_service.specs.Sent.{AppendsFront}
-
--- THE OUTSIDE
-
--- a count of faults before a call and after it
-pub record Counts : Type 0 where
-  pub before : ℕ
-  pub after : ℕ
-
--- what a call saw of its source and its output: the number that the source tells, their faults, and what the output has
--- taken, where it tells
-pub record Outside : Type 0 where
-  pub told : Option ℕ
-  pub renders : Counts
-  pub writes : Counts
-  pub from : Option (List ℕ)
-  pub to : Option (List ℕ)
-
--- what a call saw of its input: its faults, and the bytes that are left, where it tells
-pub record Input : Type 0 where
-  pub reads : Counts
-  pub from : Option (List ℕ)
-  pub to : Option (List ℕ)
 
 -- THE LINES OF A TEXT WERE RUN
 
@@ -43,37 +23,45 @@ GoesThrough all run_end.Done lines = lines ≡ all
 GoesThrough all (run_end.Line n) lines = lines ≡ all
 GoesThrough all run_end.WriteFault lines = (rest : List (List ℕ)) × (all ≡ lines ++ rest)
 
--- how a run ends, and what went out of what it writes
+-- how the lines end, and what went out of what they write
 abbrev pub Ends : Outside → Run → World → RunEnd → Type 0
 Ends o r t run_end.Done = (r.refused ≡ None) × (t ≡ r.world) × Appends o.from o.to (output_of r)
 Ends o r t (run_end.Line n) = (r.refused ≡ Some n) × (t ≡ r.world) × Appends o.from o.to (output_of r)
-Ends o r t run_end.WriteFault = Rose o.writes.before o.writes.after × AppendsFront o.from o.to (output_of r)
+Ends o r t run_end.WriteFault = (t ≡ r.world) × Rose o.writes.before o.writes.after × AppendsFront o.from o.to (output_of r)
 
 -- From w the lines of a text came to t: this is the end of their run, under some chances. No more answers say that the
--- source failed than its count rose by. Where the source tells that it is the catalogue's, each tile is the picture of its
--- number; and each tile is fresh at its ask.
+-- source failed, and no more failures are yet to be answered, than its count rose by. Where the source tells that it is the
+-- catalogue's, each tile is the picture of its number; and each tile is fresh at its last ask or force.
 pub record HasRun (o : Outside) (w : World) (text : List ℕ) (t : World) (end : RunEnd) : Type 0 where
   pub lines : List (List ℕ)
-  pub chances : List LineChance
+  pub chances : List Chance
   pub through : GoesThrough (lines_of text) end lines
   pub ends : Ends o (run w 1 lines chances) t end
-  pub failed : RoseBy (failures (run w 1 lines chances).answers) o.renders.before o.renders.after
+  pub failed : RoseBy (failures (run w 1 lines chances).answers + unanswered (run w 1 lines chances).world.seats) o.renders.before o.renders.after
   pub truth : o.told ≡ Some w.cabinet.catalogue.source → IsSound w.cabinet → AllByRecursion (IsTrue w.cabinet.catalogue) (run w 1 lines chances).answers
-  pub fresh : AllByRecursion (IsFresh (run w 1 lines chances).world.cabinet.history) (run w 1 lines chances).answers
+  pub fresh : AllByRecursion (IsFresh w.cabinet.catalogue (run w 1 lines chances).world.cabinet.history) (run w 1 lines chances).answers
 
 -- A SCHEDULE WAS READ AND RUN
 
--- the input was read to its end, and the lines of its text were run
+-- the input was read to its end, the lines of its text were run, and then the actors that were busy gave up
 pub record HasRunAll (i : Input) (o : Outside) (w t : World) (end : RunEnd) : Type 0 where
   pub text : List ℕ
   pub read : Consumes i.from i.to text
   pub at_end : IsAtEnd i.to
   pub short : length text ≤ SCHEDULE_LIMIT
-  pub ran : HasRun o w text t end
+  pub last : World
+  pub ran : HasRun o w text last end
+  pub closes : t ≡ closed last
 
 -- one byte more than a schedule may have was taken
 abbrev pub IsTooLong : Input → Type 0
 IsTooLong i = (text : List ℕ) × Consumes i.from i.to text × (length text ≡ SCHEDULE_LIMIT + 1)
+
+-- the end of a schedule that was read, by that of its lines
+abbrev pub end_of : RunEnd → ScheduleEnd
+end_of run_end.Done = Done
+end_of (run_end.Line n) = Line n
+end_of run_end.WriteFault = WriteFault
 
 -- what each end says; before the lines are run, all but the input is as it was
 abbrev pub Schedules : Input → Outside → Type 0 → World → World → ScheduleEnd → Type 0

@@ -6,7 +6,7 @@ ghost use Rattle.tile_service.specs.OneLine.{MayTell};
 ghost use Rattle.tile_service.specs.Response.{answer_line, framed, response_with};
 ghost use Rattle.tile_service.specs.Sent.{AppendsFront};
 
-use crate::outcome::Outcome;
+use crate::came::Reply;
 use crate::response::{no_memory, response_with};
 use arrayvec::ArrayVec;
 use http_wire::sending::{Sent, send};
@@ -76,31 +76,30 @@ fn send_answer<O: ByteSink>(
     output: &mut O,
     line: u64,
     actor: u32,
+    start: u64,
     response: &[u8],
 ) -> Result<(), Sent>
-    ensures ok { OnOk result (Appends (O.taken output.old) (O.taken output.new) (framed line actor line response.now)) }
-    ensures err { OnErr result (AppendsFront (O.taken output.old) (O.taken output.new) (framed line actor line response.now)) }
+    ensures ok { OnOk result (Appends (O.taken output.old) (O.taken output.new) (framed line actor start response.now)) }
+    ensures err { OnErr result (AppendsFront (O.taken output.old) (O.taken output.new) (framed line actor start response.now)) }
     ensures cause { HasCause (O.faults output.old) (O.faults output.new) result }
 {
-    let head = answer_line(line, actor, line, response.len());
+    let head = answer_line(line, actor, start, response.len());
     send_both(output, head.as_slice(), response)
 }
 
-/// Writes the answer to line `line`, which began there too, and closes no connection. Where memory runs out, the answer
-/// says so.
+/// Writes a reply in line `line`, and closes no connection. Where memory runs out, the answer says so.
 pub fn answer<O: ByteSink>(
     alloc: Global,
     output: &mut O,
     line: u64,
-    actor: u32,
-    outcome: &Outcome,
+    reply: &Reply,
 ) -> Result<(), Sent>
-    ensures ok { OnOk result (MayTell outcome.now (λ o. Appends (O.taken output.old) (O.taken output.new) (framed line actor line (response_with false o)))) }
-    ensures err { OnErr result (MayTell outcome.now (λ o. AppendsFront (O.taken output.old) (O.taken output.new) (framed line actor line (response_with false o)))) }
+    ensures ok { OnOk result (MayTell reply.now.outcome (λ o. Appends (O.taken output.old) (O.taken output.new) (framed line reply.now.actor reply.now.start (response_with false o)))) }
+    ensures err { OnErr result (MayTell reply.now.outcome (λ o. AppendsFront (O.taken output.old) (O.taken output.new) (framed line reply.now.actor reply.now.start (response_with false o)))) }
     ensures cause { HasCause (O.faults output.old) (O.faults output.new) result }
 {
-    match response_with(alloc, false, outcome) {
-        Ok(response) => send_answer(output, line, actor, response.as_slice()),
-        Err(_) => send_answer(output, line, actor, no_memory(false)),
+    match response_with(alloc, false, &reply.outcome) {
+        Ok(response) => send_answer(output, line, reply.actor, reply.start, response.as_slice()),
+        Err(_) => send_answer(output, line, reply.actor, reply.start, no_memory(false)),
     }
 }

@@ -8,7 +8,10 @@
 #![tactic(auto)]
 
 mod answer;
+mod came;
 pub mod counter;
+mod deal;
+mod events;
 mod lines;
 pub mod outcome;
 pub mod request;
@@ -17,3 +20,4 @@ mod routes;
 mod run_line;
 mod run_lines;
 pub mod schedule;
+mod seats;

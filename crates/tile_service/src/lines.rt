@@ -2,15 +2,18 @@ ghost use Rattle.std.specs.Prelude.{◌≡◌, ◌<◌, ◌≤◌, ◌∷◌, le
 ghost use Rattle.std.specs.Option.{option_map};
 ghost use Rattle.tile_service.specs.Lines.{lines_of, line_length, deed_of, deed_with, is_idle, deed_in};
 
+use crate::request::Kind;
 use schedule_text::line::{LINE_LIMIT, read_line};
 use schedule_text::verb::Verb;
 
 /// What a line does.
 #[derive(Clone, Copy, Debug)]
-pub enum Step<'a> {
+pub enum Act<'a> {
     Nothing,
-    /// This actor gets this target.
-    Gets(u32, &'a [u8]),
+    /// This actor asks for this target.
+    Sends(Kind, u32, &'a [u8]),
+    /// This actor makes the next event of what it is busy with.
+    Steps(u32),
 }
 
 fn line_length(text: &[u8]) -> usize
@@ -51,29 +54,32 @@ fn is_idle(line: &[u8]) -> bool
     }
 }
 
-fn step_with(actor: u32, verb: Verb, rest: &[u8]) -> Option<Step<'_>>
+fn act_with(actor: u32, verb: Verb, rest: &[u8]) -> Option<Act<'_>>
     ensures { option_map deed_of result ≡ deed_with actor verb rest.now }
 {
     match verb {
-        Verb::Get => Some(Step::Gets(actor, rest)),
-        Verb::Ask | Verb::Force | Verb::Step | Verb::Truncate | Verb::Expire => None,
+        Verb::Get => Some(Act::Sends(Kind::Gets, actor, rest)),
+        Verb::Ask => Some(Act::Sends(Kind::Asks, actor, rest)),
+        Verb::Force => Some(Act::Sends(Kind::Forces, actor, rest)),
+        Verb::Step => Some(Act::Steps(actor)),
+        Verb::Truncate | Verb::Expire => None,
     }
 }
 
 /// What a line does; `None` where it is refused.
 #[tactic(auto, unfolding(crate::specs::Lines::deed_in))]
-pub fn step_of(line: &[u8]) -> Option<Step<'_>>
+pub fn act_of(line: &[u8]) -> Option<Act<'_>>
     ensures { option_map deed_of result ≡ deed_in line.now }
 {
     if line.len() > LINE_LIMIT {
         return None;
     }
     if is_idle(line) {
-        return Some(Step::Nothing);
+        return Some(Act::Nothing);
     }
     let Ok(read) = read_line(line) else {
         return None;
     };
     let (_, rest) = line.split_at(read.rest.start as usize);
-    step_with(read.actor, read.verb, rest)
+    act_with(read.actor, read.verb, rest)
 }

@@ -1,10 +1,13 @@
-ghost use Rattle.std.specs.Prelude.{◌≡◌, ◌<◌, ◌^◌, length};
+ghost use Rattle.std.specs.Prelude.{◌≡◌, ◌<◌, ◌^◌, List, Option, length, map, replicate};
 ghost use Rattle.catalog.specs.Valid.{IsValid};
-ghost use Rattle.tile_service.specs.Schedules.{HasRun, Outside};
+ghost use Rattle.tile_service.specs.OneLine.{seat_of, world_of};
+ghost use Rattle.tile_service.specs.Run.{Busy, free_seats};
+ghost use Rattle.tile_service.specs.Schedules.{HasRun};
 
 use crate::counter::Counter;
 use crate::lines::split_line;
 use crate::run_line::{LineEnd, run_line};
+use crate::seats::{ACTORS, Seat};
 use http_wire::streams::ByteSink;
 use source_render::source::Source;
 use std::alloc::Global;
@@ -18,24 +21,29 @@ pub enum RunEnd {
     WriteFault,
 }
 
-/// Runs the lines of a schedule, and writes the answers.
+/// Runs the lines of a schedule, in which no actor is busy yet, and writes the answers.
 pub fn run_lines<S: Source, O: ByteSink>(
     alloc: Global,
     counter: &mut Counter,
+    seats: &mut [Seat],
     source: &mut S,
     text: &[u8],
     output: &mut O,
 ) -> RunEnd
     requires valid { IsValid counter.old.cabinet.catalogue }
     requires short { length text.now < 2 ^ 32 }
-    ensures { HasRun (record { told = S.told source.old; renders = record { before = S.faults source.old; after = S.faults source.new }; writes = record { before = O.faults output.old; after = O.faults output.new }; from = O.taken output.old; to = O.taken output.new }) (record { cabinet = counter.old.cabinet; capabilities = counter.old.capabilities }) text.now (record { cabinet = counter.new.cabinet; capabilities = counter.new.capabilities }) result }
+    requires free { seats.old ≡ replicate ACTORS Seat.Free }
+    ensures run { (busy : List (Option Busy)) × (map seat_of busy ≡ seats.new) × HasRun
+        (record { told = S.told source.old; renders = record { before = S.faults source.old; after = S.faults source.new }; writes = record { before = O.faults output.old; after = O.faults output.new }; from = O.taken output.old; to = O.taken output.new })
+        (world_of counter.old.cabinet counter.old.capabilities free_seats) text.now (world_of counter.new.cabinet counter.new.capabilities busy) result }
+    ensures capabilities { counter.new.capabilities ≡ counter.old.capabilities }
 {
     let mut rest = text;
     let mut lines = 0;
     while !rest.is_empty() {
         let (line, next) = split_line(rest);
         lines += 1;
-        match run_line(alloc, counter, source, output, lines, line) {
+        match run_line(alloc, counter, seats, source, output, lines, line) {
             LineEnd::Done => {}
             LineEnd::Refused => return RunEnd::Line(lines),
             LineEnd::WriteFault => return RunEnd::WriteFault,

@@ -1,9 +1,12 @@
 ghost use Rattle.std.specs.Prelude.{◌≡◌};
 ghost use Rattle.catalog.specs.Valid.{IsValid};
-ghost use Rattle.tile_service.specs.Schedules.{Schedules, Outside, Input};
+ghost use Rattle.tile_service.specs.OneLine.{world_of};
+ghost use Rattle.tile_service.specs.Run.{free_seats};
+ghost use Rattle.tile_service.specs.Schedules.{Schedules, end_of};
 
 use crate::counter::Counter;
 use crate::run_lines::{RunEnd, run_lines};
+use crate::seats::{close, free_seats};
 use http_wire::inputs::{InputEnd, read_all};
 use http_wire::streams::{ByteSink, ByteSource};
 use source_render::source::Source;
@@ -29,7 +32,8 @@ pub enum ScheduleEnd {
     OutOfMemory,
 }
 
-/// Reads a schedule whole, runs its lines in order, and writes the answers.
+/// Reads a schedule whole, runs its lines in order, and writes the answers. At the end, whatever it is, the actors that are
+/// busy give up.
 pub fn run_schedule<S: Source, I: ByteSource, O: ByteSink>(
     alloc: Global,
     counter: &mut Counter,
@@ -42,7 +46,7 @@ pub fn run_schedule<S: Source, I: ByteSource, O: ByteSink>(
         (record { reads = record { before = I.faults input.old; after = I.faults input.new }; from = I.left input.old; to = I.left input.new })
         (record { told = S.told source.old; renders = record { before = S.faults source.old; after = S.faults source.new }; writes = record { before = O.faults output.old; after = O.faults output.new }; from = O.taken output.old; to = O.taken output.new })
         ((output.new ≡ output.old) × (source.new ≡ source.old) × (counter.new ≡ counter.old))
-        (record { cabinet = counter.old.cabinet; capabilities = counter.old.capabilities }) (record { cabinet = counter.new.cabinet; capabilities = counter.new.capabilities }) result }
+        (world_of counter.old.cabinet counter.old.capabilities free_seats) (world_of counter.new.cabinet counter.new.capabilities free_seats) result }
 {
     let text = match read_all(alloc, input, SCHEDULE_LIMIT) {
         Ok(text) => text,
@@ -50,7 +54,26 @@ pub fn run_schedule<S: Source, I: ByteSource, O: ByteSink>(
         Err(InputEnd::TooLong) => return ScheduleEnd::TooLong,
         Err(InputEnd::OutOfMemory) => return ScheduleEnd::OutOfMemory,
     };
-    match run_lines(alloc, counter, source, text.as_slice(), output) {
+    let Ok(mut seats) = free_seats(alloc) else {
+        return ScheduleEnd::OutOfMemory;
+    };
+    let end = run_lines(
+        alloc,
+        counter,
+        seats.as_mut_slice(),
+        source,
+        text.as_slice(),
+        output,
+    );
+    close(&mut counter.cabinet, seats);
+    end_of(end)
+}
+
+/// The end of a schedule of which each line could be run.
+fn end_of(end: RunEnd) -> ScheduleEnd
+    ensures { result ≡ end_of end }
+{
+    match end {
         RunEnd::Done => ScheduleEnd::Done,
         RunEnd::Line(n) => ScheduleEnd::Line(n),
         RunEnd::WriteFault => ScheduleEnd::WriteFault,

@@ -67,21 +67,3 @@ fn faults_of_the_catalogue_are_told(rt: HostRuntime) -> Result<(), Fail> {
     );
     Ok(())
 }
-
-#[test]
-fn metatiles_and_gutters_are_refused(rt: HostRuntime) -> Result<(), Fail> {
-    let alloc = rt.alloc();
-    let demo = layer(alloc, "demo", "[1,1]", 0)?;
-    for (meta, gutter) in [("[2,1]", 0), ("[1,2]", 0), ("[1,1]", 1)] {
-        let text = format!(in alloc;
-            "{SETTINGS}{demo},{}]}}",
-            layer(alloc, "sea", meta, gutter)?
-        )?;
-        let refused = CatalogueFault::Limit(Field::Meta, 1);
-        assert_eq!(rt;
-            status_with(alloc, text.as_bytes(), &[])?,
-            Status::Catalogue(refused)
-        );
-    }
-    Ok(())
-}

@@ -1,0 +1,31 @@
+-- The end of a run: the actors give up.
+use Rattle.std.proofs.Common.{◌≡◌, ℕ, List, [], ◌∷◌, ◌++◌, length, take, map, Option, Some, None, refl, sym, ap, ◌∙◌, fold}
+use Rattle.std.proofs.Math.Seq.{take-append_seam}
+use Rattle.cabinet.specs.State.{State}
+use Rattle.tile_service.specs.declared.run_lines.RunEnd.{RunEnd}
+use Rattle.tile_service.specs.declared.run_lines.RunEnd.TheVariants.{Done, Line, WriteFault}
+use Rattle.tile_service.specs.declared.seats.Seat.{Seat}
+use Rattle.tile_service.specs.OneLine.{seat_of, world_of}
+use Rattle.tile_service.specs.Outside.{Input, Outside}
+use Rattle.tile_service.specs.Run.{Busy, World, left_by, closed, free_seats}
+use Rattle.tile_service.specs.Schedules.{HasRunAll, Schedules, end_of}
+use Rattle.tile_service.specs.Seats.{left_at, all_left}
+
+left_same : (s : State) (b : Option Busy) → left_at s (seat_of b) ≡ left_by s b
+left_same s None = refl
+left_same s (Some b) = refl
+
+all_left_same : (s : State) (busy : List (Option Busy)) → all_left s (map seat_of busy) ≡ fold left_by s busy
+all_left_same s [] = refl
+all_left_same s (b ∷ busy) = all_left_same (left_at s (seat_of b)) busy ∙ ap (λ u. fold left_by u busy) (left_same s b)
+
+pub closes_at : (s t : State) (document : List ℕ) (busy : List (Option Busy)) (seats : List Seat) → map seat_of busy ≡ seats → t ≡ all_left s seats → world_of t document free_seats ≡ closed (world_of s document busy)
+closes_at s t document busy seats same e = ap (λ u. world_of u document free_seats) (e ∙ rw (sym same) (all_left_same s busy))
+
+pub schedules_to : (i : Input) (o : Outside) (Untouched : Type 0) (w t : World) (end : RunEnd) → HasRunAll i o w t end → Schedules i o Untouched w t (end_of end)
+schedules_to i o U w t Done h = h
+schedules_to i o U w t (Line n) h = h
+schedules_to i o U w t WriteFault h = h
+
+pub whole_front : (n : ℕ) (front rest : List Seat) → length front ≡ n → take n (front ++ rest) ≡ front
+whole_front n front rest e = rw (sym e) (take-append_seam front rest)

@@ -1,0 +1,296 @@
+-- What a line does, in the terms of worlds.
+use Rattle.std.proofs.Common.{◌≡◌, zero, suc, ℕ, ◌+◌, ◌<◌, Bool, true, false, List, [], ◌∷◌, length, map, slice_get, slice_set, Option, Some, None, refl, sym, ap, ◌∙◌, subst, arith, append-nil}
+use Rattle.std.specs.Option.{option_map, IfSome}
+use Rattle.std.proofs.lemmas.List.{map-set}
+use Rattle.std.proofs.lemmas.Option.{slice_get-map, slice_get_within}
+use Rattle.cabinet.specs.State.{State}
+use Rattle.cache_core.specs.declared.actor.Actor.{Actor}
+use Rattle.cache_core.specs.declared.actor.Actor.TheVariants as actor
+use Rattle.cache_core.specs.declared.actor.Step.{Step}
+use Rattle.cache_core.specs.declared.outcome.Outcome as cached
+use Rattle.cache_core.specs.Advanced.{Advances}
+use Rattle.cache_core.specs.Fits.{IsFit, IsTrueActor}
+use Rattle.cache_core.specs.Shown.{shown, IsIdle}
+use Rattle.http_wire.specs.declared.message.Message.{Message}
+use Rattle.matrix_geometry.specs.declared.address.Address.{Address}
+use Rattle.tile_service.specs.declared.came.Came.{Came}
+use Rattle.tile_service.specs.declared.came.Came.TheVariants.{Refused, Silent, Answers}
+use Rattle.tile_service.specs.declared.outcome.Outcome.{Outcome}
+use Rattle.tile_service.specs.declared.outcome.Outcome.TheVariants as outcome
+use Rattle.tile_service.specs.declared.request.Kind.{Kind}
+use Rattle.tile_service.specs.declared.request.Kind.TheVariants.{Gets, Asks, Forces}
+use Rattle.tile_service.specs.declared.request.Request.{Request}
+use Rattle.tile_service.specs.declared.request.Request.TheVariants as request
+use Rattle.tile_service.specs.declared.routes.Route.{Route}
+use Rattle.tile_service.specs.declared.seats.Desk.{Desk}
+use Rattle.tile_service.specs.declared.seats.Seat.{Seat}
+use Rattle.tile_service.specs.declared.seats.Seat.TheVariants as seat
+use Rattle.tile_service.specs.Dealing.{IsAsked}
+use Rattle.tile_service.specs.Events.{Moves, owed}
+use Rattle.tile_service.specs.Lines.{Deed, Idle, Sends, Steps}
+use Rattle.tile_service.specs.OneLine.{IsBusy, IsSeat, IsTrueSeat, IsSeated, Keeps, Comes, Deals, seat_of, world_of}
+use Rattle.tile_service.specs.Requests.{Chance, calm, events, tile_of, copied}
+use Rattle.tile_service.specs.Routes.{path_of, route_of, request_at}
+use Rattle.tile_service.specs.Run.{Busy, World, Answer, seat_after, answers_after, told_at, told_in, owed_at, settled, started, resumed, asked, sent, if_free, stepped, line_done, is_failed, failures, unanswered, IsTrue, IsFresh}
+use Rattle.tile_service.specs.Seats.{is_free, desk_at, next_seat, came_of}
+use Rattle.tile_service.proofs.Moving.{advance_moves, stay_covered}
+use Rattle.tile_service.proofs.Seating.{one_of_all, settled_keeps}
+
+-- SEATS
+
+seat_next : (b : Busy) (x : Actor) (o : Option cached.Outcome) → seat_of (seat_after b x o) ≡ next_seat b.start b.address x o
+seat_next b x None = refl
+seat_next b x (Some o) = refl
+
+set_seats : (busy : List (Option Busy)) (seats : List Seat) (i : ℕ) (b : Busy) (x : Actor) (o : Option cached.Outcome) → map seat_of busy ≡ seats → map seat_of (slice_set busy i (seat_after b x o)) ≡ slice_set seats i (next_seat b.start b.address x o)
+set_seats busy seats i b x o e = map-set seat_of busy i (seat_after b x o) ∙ rw (e, seat_next b x o) refl
+
+there : (busy : List (Option Busy)) (seats : List Seat) (i : ℕ) → map seat_of busy ≡ seats → slice_get seats i ≡ option_map seat_of (slice_get busy i)
+there busy seats i e = rw (sym e) (slice_get-map seat_of busy i)
+
+free_there : (o : Option (Option Busy)) → option_map seat_of o ≡ Some seat.Free → o ≡ Some None
+free_there None e = cc
+free_there (Some None) e = refl
+free_there (Some (Some b)) e = let f : seat_of (Some b) ≡ seat.Free = cc in cc
+
+is_taken : (o : Option (Option Busy)) (d : Option (World × List Answer)) → is_free (option_map seat_of o) ≡ false → if_free o d ≡ None
+is_taken None d e = refl
+is_taken (Some None) d e = let f : true ≡ false = e in cc
+is_taken (Some (Some b)) d e = refl
+
+desk_there : (o : Option (Option Busy)) (desk : Desk) → desk_at (option_map seat_of o) ≡ Some desk → (b : Busy) × (o ≡ Some (Some b)) × (desk ≡ record { start = b.start; address = b.address; actor = b.actor })
+desk_there None desk e = let f : None ≡ Some desk = e in cc
+desk_there (Some None) desk e = let f : None ≡ Some desk = e in cc
+desk_there (Some (Some b)) desk e = (b, refl, cc)
+
+no_desk : (w : World) (n : ℕ) (c : Chance) (i : ℕ) (o : Option (Option Busy)) → desk_at (option_map seat_of o) ≡ None → stepped w n c i o ≡ None
+no_desk w n c i None e = refl
+no_desk w n c i (Some None) e = refl
+no_desk w n c i (Some (Some b)) e = cc
+
+-- WHAT LINES COME TO
+
+pub refused_deals : (told : Option ℕ) (count : ℕ) (s : State) (document : List ℕ) (seats : List Seat) (n : ℕ) (deed : Option Deed)
+    → ((busy : List (Option Busy)) → map seat_of busy ≡ seats → line_done (world_of s document busy) n calm deed ≡ None) → Deals told count count s document seats n deed s seats Refused
+refused_deals told count s document seats n deed f busy h = (busy, h.same, (f busy h.same, refl, omega arith))
+
+pub taken_deals : (told : Option ℕ) (count : ℕ) (s : State) (document : List ℕ) (seats : List Seat) (n : ℕ) (kind : Kind) (i : ℕ) (m : Message) → is_free (slice_get seats i) ≡ false → Deals told count count s document seats n (Some (Sends kind i m)) s seats Refused
+taken_deals told count s document seats n kind i m e =
+    refused_deals told count s document seats n (Some (Sends kind i m)) (λ busy same. is_taken (slice_get busy i) (sent (world_of s document busy) n calm kind i m (route_of m.method (path_of m.target))) (rw (sym (there busy seats i same)) e))
+
+no_route : (o : Option (Option Busy)) → if_free o None ≡ None
+no_route None = refl
+no_route (Some None) = refl
+no_route (Some (Some b)) = refl
+
+pub astray_deals : (told : Option ℕ) (count : ℕ) (s : State) (document : List ℕ) (seats : List Seat) (n : ℕ) (kind : Kind) (i : ℕ) (m : Message) → route_of m.method (path_of m.target) ≡ None → Deals told count count s document seats n (Some (Sends kind i m)) s seats Refused
+astray_deals told count s document seats n kind i m e = refused_deals told count s document seats n (Some (Sends kind i m)) (λ busy same. rw e (no_route (slice_get busy i)))
+
+pub no_step_deals : (told : Option ℕ) (count : ℕ) (s : State) (document : List ℕ) (seats : List Seat) (n i : ℕ) → desk_at (slice_get seats i) ≡ None → Deals told count count s document seats n (Some (Steps i)) s seats Refused
+no_step_deals told count s document seats n i e =
+    refused_deals told count s document seats n (Some (Steps i)) (λ busy same. no_desk (world_of s document busy) n calm i (slice_get busy i) (rw (sym (there busy seats i same)) e))
+
+pub nothing_keeps : (told : Option ℕ) (count : ℕ) (w : World) → Keeps told count count w w []
+nothing_keeps told count w =
+    record {
+      later = omega arith;
+      failed = stay_covered count count (unanswered w.seats) (failures [] + unanswered w.seats) (omega arith) (omega arith);
+      world = λ is. is;
+      sound = λ e is sound. sound;
+      truth = λ e is sound. tt;
+      fresh = λ is. tt;
+      grows = ([], sym (append-nil w.cabinet.history));
+      catalogue = refl;
+    }
+
+pub idle_deals : (told : Option ℕ) (count : ℕ) (s : State) (document : List ℕ) (seats : List Seat) (n : ℕ) → Deals told count count s document seats n (Some Idle) s seats Silent
+idle_deals told count s document seats n busy h = (busy, h.same, (calm, refl, nothing_keeps told count (world_of s document busy)))
+
+-- AN ANSWER AT ONCE, to a request that asks for no tile, or that was not read
+
+-- the outcome tells of no failure, and the request asks for no tile
+abbrev IsPlain : Option Request → Outcome → Type 0
+IsPlain r o = (is_failed o ≡ false) × (IfSome r (λ x. tile_of x ≡ None))
+
+module _ (told : Option ℕ) (count : ℕ) (w : World) (n i : ℕ) (m : Message) where
+  abbrev the_answer : Option Request → Outcome → Answer
+  the_answer r o = record { line = n; actor = i; start = n; message = m; request = r; place = length w.cabinet.history; outcome = o }
+
+  none_failed : (r : Option Request) (o : Outcome) (left : Bool) → is_failed o ≡ false → failures (the_answer r (told_at left o) ∷ []) ≡ 0
+  none_failed r o true e = rw e refl
+  none_failed r o false e = refl
+
+  plain_true : (r : Option Request) (o : Outcome) → IfSome r (λ x. tile_of x ≡ None) → IsTrue w.cabinet.catalogue (the_answer r o)
+  plain_true None o e = tt
+  plain_true (Some r) o e = rw e tt
+
+  plain_fresh : (r : Option Request) (o : Outcome) → IfSome r (λ x. tile_of x ≡ None) → IsFresh w.cabinet.catalogue w.cabinet.history (the_answer r o)
+  plain_fresh None o e = tt
+  plain_fresh (Some r) o e = rw e tt
+
+  plain_keeps : (r : Option Request) (o : Outcome) (left : Bool) → IsPlain r o → Keeps told count count w w (the_answer r (told_at left o) ∷ [])
+  plain_keeps r o left p =
+      record {
+        later = omega arith;
+        failed = let e = none_failed r o left p.0 in stay_covered count count (unanswered w.seats) (failures (the_answer r (told_at left o) ∷ []) + unanswered w.seats) (omega arith) (omega arith);
+        world = λ is. is;
+        sound = λ e is sound. sound;
+        truth = λ e is sound. (plain_true r (told_at left o) p.1, tt);
+        fresh = λ is. ((omega arith, plain_fresh r (told_at left o) p.1), tt);
+        grows = ([], sym (append-nil w.cabinet.history));
+        catalogue = refl;
+      }
+
+-- EVENTS
+
+module _ (told : Option ℕ) (before after : ℕ) (s t : State) (first : Actor) (b : Busy) (step : Step) (m : Moves told before after s first b.address b.place step t) (document : List ℕ) (busy : List (Option Busy)) (i : ℕ) (old : Option Busy)
+    (at : slice_get busy i ≡ Some old) (same : owed_at old ≡ owed first) (was : IsTrueSeat s.catalogue old → IsTrueActor s.catalogue first) (n : ℕ) (deed : Option Deed) (open_after : b.message.last ≡ false) (c : Bool → Chance) (left : (l : Bool) → (c l).left ≡ l)
+    (made : (l : Bool) → line_done (world_of s document busy) n (c l) deed ≡ Some (settled (world_of s document busy) n (c l) i b (shown step t))) where
+  abbrev there_after : World
+  there_after = world_of t document (slice_set busy i (seat_after b step.actor step.outcome))
+
+  made_with : (l : Bool) (o : Option cached.Outcome) → step.outcome ≡ o → line_done (world_of s document busy) n (c l) deed ≡ Some (there_after, answers_after n i l b o)
+  made_with l o e =
+      let P : Bool → Option cached.Outcome → Type 0 = λ x y. line_done (world_of s document busy) n (c l) deed ≡ Some (there_after, answers_after n i x b y) in
+      subst (P l) e (subst (λ x. P x step.outcome) (left l) (made l))
+
+  kept_with : (l : Bool) (o : Option cached.Outcome) → step.outcome ≡ o → Keeps told before after (world_of s document busy) there_after (answers_after n i l b o)
+  kept_with l o e =
+      let P : Option cached.Outcome → Type 0 = λ y. Keeps told before after (world_of s document busy) there_after (answers_after n i l b y) in
+      subst P e (settled_keeps told before after s t first b step m open_after document busy i old at same was n l)
+
+  pub settled_comes : (o : Option cached.Outcome) → step.outcome ≡ o → Comes told before after (world_of s document busy) n deed there_after (came_of i b.start o)
+  settled_comes None e = (c true, made_with true None e, kept_with true None e)
+  settled_comes (Some o) e =
+      record {
+        message = b.message;
+        request = Some (request.Tile b.address);
+        place = b.place;
+        open_after = open_after;
+        chance = c;
+        made = λ l. made_with l (Some o) e;
+        keeps = λ l. kept_with l (Some o) e;
+      }
+
+-- A REQUEST OF A LINE
+
+-- a chance of which the reading and the answer are chosen
+abbrev with_ends : Chance → Bool → Bool → Chance
+with_ends c read left = record { read = read; ask = c.ask; work = c.work; blob = c.blob; left = left }
+
+same_events : (kind : Kind) (s : State) (a : Address) (c : Chance) (read left : Bool) → events kind s a c ≡ events kind s a (with_ends c read left)
+same_events Gets s a c read left = refl
+same_events Asks s a c read left = refl
+same_events Forces s a c read left = refl
+
+copied_plain : (document : List ℕ) (left : Bool) → is_failed (copied document left) ≡ false
+copied_plain document true = refl
+copied_plain document false = refl
+
+-- memory for the document of the capabilities, or none
+abbrev at_work : Bool → Chance
+at_work left = record { read = true; ask = true; work = left; blob = None; left = true }
+
+module _ (told : Option ℕ) (s : State) (document : List ℕ) (seats : List Seat) (n : ℕ) (kind : Kind) (i : ℕ) (m : Message) (open_after : m.last ≡ false) (route : Route) (free : slice_get seats i ≡ Some seat.Free) (leads : route_of m.method (path_of m.target) ≡ Some route) where
+  abbrev deed : Option Deed
+  deed = Some (Sends kind i m)
+
+  abbrev asks : Request
+  asks = request_at s.catalogue m.target route
+
+  module _ (busy : List (Option Busy)) (h : IsSeated s document seats busy) where
+    abbrev w : World
+    w = world_of s document busy
+
+    at_seat : slice_get busy i ≡ Some None
+    at_seat = free_there (slice_get busy i) (sym (there busy seats i h.same) ∙ free)
+
+    goes : (c : Chance) → line_done w n c deed ≡ sent w n c kind i m (Some route)
+    goes c = rw (at_seat, leads) refl
+
+    plain_comes : (count : ℕ) (r : Option Request) (o : Outcome) (c : Bool → Chance) → IsPlain r o → ((left : Bool) → sent w n (c left) kind i m (Some route) ≡ Some (w, the_answer told count w n i m r (told_at left o) ∷ []))
+        → Comes told count count w n deed w (Answers (record { actor = i; start = n; outcome = o }))
+    plain_comes count r o c p f =
+        record { message = m; request = r; place = length s.history; open_after = open_after; chance = c; made = λ left. goes (c left) ∙ f left; keeps = λ left. plain_keeps told count w n i m r o left p }
+
+  pub unread_deals : (count : ℕ) → Deals told count count s document seats n deed s seats (Answers (record { actor = i; start = n; outcome = outcome.NoMemory }))
+  unread_deals count busy h = (busy, h.same, plain_comes busy h count None outcome.NoMemory (λ left. with_ends calm false left) (refl, tt) (λ left. refl))
+
+  plain_deals : (count : ℕ) (r : Request) (o : Outcome) (c : Chance) → r ≡ asks → is_failed o ≡ false → tile_of r ≡ None
+      → ((w : World) (left : Bool) → w.capabilities ≡ document → asked w n (with_ends c true left) kind i m r ≡ told_in w n (with_ends c true left) i m (Some r) o)
+      → Deals told count count s document seats n deed s seats (Answers (record { actor = i; start = n; outcome = o }))
+  plain_deals count r o c e calmly other f busy h =
+      let v : World = world_of s document busy in
+      let Q : (left : Bool) → Request → Type 0 = λ left x. sent v n (with_ends c true left) kind i m (Some route) ≡ Some (asked v n (with_ends c true left) kind i m x) in
+      (busy, h.same, plain_comes busy h count (Some r) o (λ left. with_ends c true left) (calmly, other) (λ left. subst (Q left) (sym e) refl ∙ ap Some (f v left refl)))
+
+  pub asked_deals : (before after : ℕ) (t : State) (seats' : List Seat) (came : Came) (r : Request) → r ≡ asks → IsAsked told before after s document seats n kind i r t seats' came → Deals told before after s document seats n deed t seats' came
+  asked_deals before after t seats' came (request.Tile a) e k = λ busy h.
+      let step = k.0 in
+      let o = k.1 in
+      let v : World = world_of s document busy in
+      let b : Busy = started v n m a in
+      let made : (l : Bool) → line_done v n (with_ends o.chance true l) deed ≡ Some (settled v n (with_ends o.chance true l) i b (shown step t)) =
+      λ l.
+      let c = with_ends o.chance true l in
+      let Q : Request → Type 0 = λ x. sent v n c kind i m (Some route) ≡ Some (asked v n c kind i m x) in
+      goes busy h c ∙ subst Q (sym e) refl ∙ ap (λ r. Some (settled v n c i b r)) (sym (same_events kind s a o.chance true l) ∙ sym o.made) in (
+        slice_set busy i (seat_after b step.actor step.outcome),
+        set_seats busy seats i b step.actor step.outcome h.same ∙ sym k.3,
+        rw k.2 (settled_comes told before after s t actor.Idle b step o.moves document busy i None (at_seat busy h) refl (λ x. tt) n deed open_after (λ l. with_ends o.chance true l) (λ l. refl) made step.outcome refl),
+      )
+  asked_deals before after t seats' came request.Capabilities e k =
+      rw (k.1.0, k.1.1, k.1.2, k.1.3) (plain_deals before request.Capabilities (copied document k.0) (at_work k.0) e (copied_plain document k.0) refl (λ w left same. rw same refl))
+  asked_deals before after t seats' came (request.Refused code locator) e k =
+      rw (k.0, k.1, k.2, k.3) (plain_deals before (request.Refused code locator) (outcome.Refused code locator) calm e refl refl (λ w left same. refl))
+  asked_deals before after t seats' came request.NotFound e k = rw (k.0, k.1, k.2, k.3) (plain_deals before request.NotFound outcome.NotFound calm e refl refl (λ w left same. refl))
+  asked_deals before after t seats' came request.WrongMethod e k = rw (k.0, k.1, k.2, k.3) (plain_deals before request.WrongMethod outcome.WrongMethod calm e refl refl (λ w left same. refl))
+
+-- A STEP
+
+stepped_by : (told : Option ℕ) (before after : ℕ) (s t : State) (document : List ℕ) (seats : List Seat) (n i : ℕ) (b : Busy) (step : Step) (busy : List (Option Busy)) → IsSeated s document seats busy → slice_get busy i ≡ Some (Some b) → Advances told before after s b.actor step t
+    → (later : List (Option Busy)) × (map seat_of later ≡ slice_set seats i (next_seat b.start b.address step.actor step.outcome)) × Comes told before after (world_of s document busy) n (Some (Steps i)) (world_of t document later) (came_of i b.start step.outcome)
+stepped_by told before after s t document seats n i b step busy k at h =
+    let v : World = world_of s document busy in
+    let busily : IsBusy s.catalogue s.history b = one_of_all (IsSeat s.catalogue s.history) busy i (Some b) at k.world in
+    let r : Busy = resumed v b in
+    let moves : Moves told before after s b.actor r.address r.place step t = advance_moves told before after s b.actor b.address b.place step t busily.fits busily.busy busily.within busily.fresh h in
+    let c : Bool → Chance = λ l. record { read = true; ask = true; work = h.left; blob = h.blob; left = l } in
+    let made : (l : Bool) → line_done v n (c l) (Some (Steps i)) ≡ Some (settled v n (c l) i r (shown step t)) = λ l. rw at (ap (λ x. Some (settled v n (c l) i r x)) (sym h.advanced)) in (
+      slice_set busy i (seat_after r step.actor step.outcome),
+      set_seats busy seats i r step.actor step.outcome k.same,
+      settled_comes told before after s t b.actor r step moves document busy i (Some b) at refl (λ x. x) n (Some (Steps i)) busily.open_after c (λ l. refl) made step.outcome refl,
+    )
+
+pub stepped_deals : (told : Option ℕ) (before after : ℕ) (s t : State) (document : List ℕ) (seats : List Seat) (n i : ℕ) (desk : Desk) (step : Step) → desk_at (slice_get seats i) ≡ Some desk → Advances told before after s desk.actor step t
+    → Deals told before after s document seats n (Some (Steps i)) t (slice_set seats i (next_seat desk.start desk.address step.actor step.outcome)) (came_of i desk.start step.outcome)
+stepped_deals told before after s t document seats n i desk step is h busy k =
+    let found = desk_there (slice_get busy i) desk (rw (sym (there busy seats i k.same)) is) in
+    let P : Desk → Type 0 = λ d.
+    Advances told before after s d.actor step t
+    → (later : List (Option Busy)) × (map seat_of later ≡ slice_set seats i (next_seat d.start d.address step.actor step.outcome)) × Comes told before after (world_of s document busy) n (Some (Steps i)) (world_of t document later) (came_of i d.start step.outcome) in
+    subst P (sym found.2) (λ g. stepped_by told before after s t document seats n i found.0 step busy k found.1 g) h
+
+-- the desk of a busy actor has a next event
+pub desk_fits : (s : State) (document : List ℕ) (seats : List Seat) (i : ℕ) (desk : Desk) (x : Actor) (busy : List (Option Busy)) → IsSeated s document seats busy → desk_at (slice_get seats i) ≡ Some desk → x ≡ desk.actor
+    → (IsIdle x → ⊥) × ((a : Address) × IsFit s.catalogue a x)
+desk_fits s document seats i desk x busy k is e =
+    let found = desk_there (slice_get busy i) desk (rw (sym (there busy seats i k.same)) is) in
+    let b = found.0 in
+    let busily : IsBusy s.catalogue s.history b = one_of_all (IsSeat s.catalogue s.history) busy i (Some b) found.1 k.world in
+    let actor : x ≡ b.actor = e ∙ ap (λ d. d.actor) found.2 in
+    let Idle : Actor → Type 0 = IsIdle in
+    (λ idle. busily.busy (subst Idle actor idle), (b.address, rw actor busily.fits))
+
+desk_is_there : (o : Option Seat) (desk : Desk) → desk_at o ≡ Some desk → o ≡ Some (seat.Busy desk)
+desk_is_there None desk e = let f : None ≡ Some desk = e in cc
+desk_is_there (Some seat.Free) desk e = let f : None ≡ Some desk = e in cc
+desk_is_there (Some (seat.Busy d)) desk e = cc
+
+pub desk_within : (seats : List Seat) (i : ℕ) (desk : Desk) → desk_at (slice_get seats i) ≡ Some desk → i < length seats
+desk_within seats i desk e = slice_get_within seats i (seat.Busy desk) (desk_is_there (slice_get seats i) desk e)
+
+pub set_there : (seats : List Seat) (i : ℕ) (x : Seat) → i < length seats → slice_get (slice_set seats i x) i ≡ Some x
+set_there [] i x l = absurd (omega arith)
+set_there (y ∷ ys) zero x l = refl
+set_there (y ∷ ys) (suc i) x l = set_there ys i x (omega arith)

@@ -1,0 +1,22 @@
+-- What a call sees of its source, its output and its input.
+use Rattle.std.specs.Prelude.{ℕ, List, Option}
+
+-- a count of faults before a call and after it
+pub record Counts : Type 0 where
+  pub before : ℕ
+  pub after : ℕ
+
+-- what a call saw of its source and its output: the number that the source tells, their faults, and what the output has
+-- taken, where it tells
+pub record Outside : Type 0 where
+  pub told : Option ℕ
+  pub renders : Counts
+  pub writes : Counts
+  pub from : Option (List ℕ)
+  pub to : Option (List ℕ)
+
+-- what a call saw of its input: its faults, and the bytes that are left, where it tells
+pub record Input : Type 0 where
+  pub reads : Counts
+  pub from : Option (List ℕ)
+  pub to : Option (List ℕ)

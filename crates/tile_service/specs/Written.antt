@@ -1,0 +1,26 @@
+-- What one line of a schedule came to, with what it wrote.
+use Rattle.std.specs.Prelude.{ℕ, ◌≡◌, ◌≤◌, List, map, Option, None, flat_map}
+use Rattle.std.specs.Io.KnownBytes.{Appends}
+use Rattle.cabinet.specs.State.{State}
+use Rattle.causes.specs.Causes.{Rose}
+use Rattle.tile_service.specs.declared.run_line.LineEnd.{LineEnd}
+use Rattle.tile_service.specs.declared.run_line.LineEnd.TheVariants as line_end
+use Rattle.tile_service.specs.declared.seats.Seat.{Seat}
+use Rattle.tile_service.specs.Lines.{deed_in}
+use Rattle.tile_service.specs.OneLine.{IsLine, IsSeated, seat_of, world_of}
+use Rattle.tile_service.specs.Outside.{Outside}
+use Rattle.tile_service.specs.Requests.{calm}
+use Rattle.tile_service.specs.Run.{Busy, World, Answer, line_done, answer_text}
+use Rattle.tile_service.specs.Sent.{AppendsFront}
+
+-- how a line ends in a world, and what went out of its answers
+abbrev pub LineEnds : Outside → World → ℕ → List ℕ → World → LineEnd → Type 0
+LineEnds o w n line t line_end.Refused = (line_done w n calm (deed_in line) ≡ None) × (t ≡ w) × (o.renders.before ≤ o.renders.after) × (o.to ≡ o.from)
+LineEnds o w n line t line_end.Done = (answers : List Answer) × IsLine o.told o.renders.before o.renders.after w n line t answers × Appends o.from o.to (flat_map answer_text answers)
+LineEnds o w n line t line_end.WriteFault =
+    (answers : List Answer) × IsLine o.told o.renders.before o.renders.after w n line t answers × AppendsFront o.from o.to (flat_map answer_text answers) × Rose o.writes.before o.writes.after
+
+-- whatever the actors were busy with before, they are busy with these now, and the line ended so
+abbrev pub Writes : Outside → State → List ℕ → List Seat → ℕ → List ℕ → State → List Seat → LineEnd → Type 0
+Writes o s document seats n line t seats' end =
+    (busy : List (Option Busy)) → IsSeated s document seats busy → (later : List (Option Busy)) × (map seat_of later ≡ seats') × LineEnds o (world_of s document busy) n line (world_of t document later) end

@@ -1,0 +1,157 @@
+ghost use Rattle.std.specs.Prelude.{◌≡◌, IfOk, IsSome, None, ◌<◌, is_some, length, replicate, slice_get, slice_set};
+ghost use Rattle.cache_core.specs.Steps.{given_up};
+ghost use Rattle.tile_service.specs.Events.{GoesOn};
+ghost use Rattle.tile_service.specs.Seats.{all_left, came_of, desk_at, is_free, next_seat};
+
+use crate::came::{Came, Reply};
+use crate::request::outcome_of;
+use cabinet::cabinet::Cabinet;
+use cache_core::actor::{Actor, Step};
+use cache_core::steps::give_up;
+use matrix_geometry::address::Address;
+use std::alloc::{AllocError, Global};
+use std::mem;
+
+/// How many actors a schedule has.
+pub const ACTORS: usize = 64;
+
+/// A request for a tile that is under way.
+pub struct Desk {
+    /// The line in which it started, counted from 1.
+    pub start: u64,
+    pub address: Address,
+    pub actor: Actor,
+}
+
+/// What an actor is busy with.
+pub enum Seat {
+    Free,
+    Busy(Desk),
+}
+
+/// Seats at which no actor is busy. `AllocError` where memory runs out.
+pub fn free_seats(alloc: Global) -> Result<Vec<Seat>, AllocError>
+    ensures { IfOk result (λ v. v.items ≡ replicate ACTORS Seat.Free) }
+{
+    let mut seats = Vec::with_capacity(alloc, ACTORS)?;
+    for _ in 0..ACTORS {
+        seats.push_reserved(Seat::Free);
+    }
+    Ok(seats)
+}
+
+/// Whether there is the seat of this actor, and it is not busy.
+pub fn is_free(seats: &[Seat], actor: u32) -> bool
+    ensures { result ≡ is_free (slice_get seats.now actor) }
+{
+    match seats.get(actor as usize) {
+        None => false,
+        Some(Seat::Free) => true,
+        Some(Seat::Busy(_)) => false,
+    }
+}
+
+/// Whether this actor is busy.
+fn is_busy(seats: &[Seat], actor: u32) -> bool
+    ensures { result ≡ is_some (desk_at (slice_get seats.now actor)) }
+{
+    match seats.get(actor as usize) {
+        None => false,
+        Some(Seat::Free) => false,
+        Some(Seat::Busy(_)) => true,
+    }
+}
+
+/// Takes the desk of a seat, where an actor is busy.
+pub fn desk_at(seats: &mut [Seat], actor: u32) -> Option<Desk>
+    ensures desk { result ≡ desk_at (slice_get seats.old actor) }
+    ensures some { IsSome result → seats.new ≡ slice_set seats.old actor Seat.Free }
+    ensures none { result ≡ None → seats.new ≡ seats.old }
+{
+    if !is_busy(seats, actor) {
+        return None;
+    }
+    match mem::replace(&mut seats[actor as usize], Seat::Free) {
+        Seat::Free => unreachable!(),
+        Seat::Busy(desk) => Some(desk),
+    }
+}
+
+/// Puts what an actor is busy with at its free seat.
+fn put(cabinet: &mut Cabinet, seats: &mut [Seat], actor: u32, seat: Seat)
+    requires { slice_get seats.old actor ≡ Some Seat.Free }
+    ensures seats { seats.new ≡ slice_set seats.old actor seat }
+    ensures cabinet { cabinet.new ≡ cabinet.old }
+{
+    match mem::replace(&mut seats[actor as usize], seat) {
+        Seat::Free => {}
+        Seat::Busy(desk) => leave(cabinet, desk),
+    }
+}
+
+/// Puts the free seat of an actor behind events of a request that started in line `start`, and says what they answer.
+pub fn settle(
+    cabinet: &mut Cabinet,
+    seats: &mut [Seat],
+    actor: u32,
+    start: u64,
+    address: &Address,
+    step: Step,
+) -> Came
+    requires free { slice_get seats.old actor ≡ Some Seat.Free }
+    requires goes_on { GoesOn step.actor step.outcome }
+    ensures came { result ≡ came_of actor start step.outcome }
+    ensures seats { seats.new ≡ slice_set seats.old actor (next_seat start address.now step.actor step.outcome) }
+    ensures cabinet { cabinet.new ≡ cabinet.old }
+{
+    let Step {
+        actor: state,
+        outcome,
+    } = step;
+    match outcome {
+        None => {
+            let desk = Desk {
+                start,
+                address: *address,
+                actor: state,
+            };
+            put(cabinet, seats, actor, Seat::Busy(desk));
+            Came::Silent
+        }
+        Some(outcome) => {
+            give_up(cabinet, state);
+            put(cabinet, seats, actor, Seat::Free);
+            Came::Answers(Reply {
+                actor,
+                start,
+                outcome: outcome_of(outcome),
+            })
+        }
+    }
+}
+
+/// The request of a desk ends without an outcome.
+fn leave(cabinet: &mut Cabinet, desk: Desk)
+    ensures { cabinet.new ≡ given_up cabinet.old desk.actor }
+{
+    let Desk {
+        start: _,
+        address: _,
+        actor,
+    } = desk;
+    give_up(cabinet, actor);
+}
+
+/// Gives up all requests that are under way, in the order of their actors.
+pub fn close(cabinet: &mut Cabinet, mut seats: Vec<Seat>)
+    ensures { cabinet.new ≡ all_left cabinet.old seats.items }
+{
+    seats.reverse();
+    while !seats.is_empty() {
+        match seats.take_last() {
+            Seat::Free => {}
+            Seat::Busy(desk) => leave(cabinet, desk),
+        }
+    }
+    seats.destroy_empty();
+}
