@@ -1,5 +1,8 @@
+mod actors;
 mod capabilities;
 mod catalogues;
+mod expected;
+mod metatiles;
 mod paths;
 mod queries;
 

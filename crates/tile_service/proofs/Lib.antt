@@ -5,6 +5,7 @@ pub mod Moving
 pub mod Opening
 pub mod Seating
 pub mod Dealt
+pub mod Cutting
 pub mod Writing
 pub mod Far
 pub mod Leaving

@@ -1,5 +1,5 @@
 -- The lines of a schedule, and what each of them does.
-use Rattle.std.specs.Prelude.{ℕ, ◌+◌, ◌==◌, ◌||◌, nat_lt, if◌then◌else◌, List, [], ◌∷◌, length, drop, slice_index, Bool, false, Option, Some, None, Result, Ok, Err}
+use Rattle.std.specs.Prelude.{ℕ, ◌+◌, ◌==◌, ◌||◌, nat_lt, if◌then◌else◌, List, [], ◌∷◌, length, drop, slice_index, Bool, false, Option, Some, None, Result, Ok, Err, codes}
 use Rattle.http_wire.specs.declared.message.Message.{Message}
 use Rattle.http_wire.specs.declared.message.Method.TheVariants as method
 use Rattle.schedule_text.specs.declared.line.Line.{Line}
@@ -33,29 +33,35 @@ line_length (b ∷ bs) = if b == 10 then 0 else line_length bs + 1
 -- WHAT A LINE DOES
 
 -- nothing; or an actor sends a message, a GET of a target that is asked for in one of three ways; or an actor makes the next
--- event of what it is busy with
+-- event of what it is busy with; or an actor sends a truncation
 pub data Deed : Type 0 where
   Idle : Deed
   Sends : Kind → ℕ → Message → Deed
   Steps : ℕ → Deed
+  Truncates : ℕ → Message → Deed
 
 -- the message of method GET for a target
 abbrev pub get : List ℕ → Message
 get target = record { method = method.Get; target = target; body = []; last = false }
+
+-- the message of method POST that truncates by a cover
+abbrev pub truncation : List ℕ → Message
+truncation text = record { method = method.Post; target = codes "/truncate"; body = text; last = false }
 
 -- an act of the code as a deed
 abbrev pub deed_of : Act → Deed
 deed_of act.Nothing = Idle
 deed_of (act.Sends kind actor target) = Sends kind actor (get target.now)
 deed_of (act.Steps actor) = Steps actor
+deed_of (act.Truncates actor text) = Truncates actor (truncation text.now)
 
--- a truncation and an expiry aren't served yet
+-- an expiry isn't served yet
 abbrev pub deed_with : ℕ → Verb → List ℕ → Option Deed
 deed_with actor Get rest = Some (Sends Gets actor (get rest))
 deed_with actor Ask rest = Some (Sends Asks actor (get rest))
 deed_with actor Force rest = Some (Sends Forces actor (get rest))
 deed_with actor Step rest = Some (Steps actor)
-deed_with actor Truncate rest = None
+deed_with actor Truncate rest = Some (Truncates actor (truncation rest))
 deed_with actor Expire rest = None
 
 abbrev pub deed_for : List ℕ → Result Line LineFault → Option Deed

@@ -1,9 +1,10 @@
 -- A request and its events in a line, as a function of the cabinet. What happens by chance in a line, that memory runs out,
 -- and what a rendering gives or that it fails, is taken as it happened; all else is fixed.
-use Rattle.std.specs.Prelude.{ℕ, ◌≡◌, Bool, true, false, if◌then◌else◌, List, Option, Some, None, IfSome}
+use Rattle.std.specs.Prelude.{length, nat_lt, Result, Ok, Err, ℕ, ◌≡◌, Bool, true, false, if◌then◌else◌, List, Option, Some, None, IfSome}
 use Rattle.cabinet.specs.Fresh.{IsFresh}
-use Rattle.cabinet.specs.History.{History}
-use Rattle.cabinet.specs.State.{State}
+use Rattle.cabinet.specs.Commands.{book_before}
+use Rattle.cabinet.specs.History.{History, next}
+use Rattle.cabinet.specs.State.{State, now, with_cut}
 use Rattle.cache_core.specs.declared.actor.Actor.{Actor}
 use Rattle.cache_core.specs.declared.actor.Actor.TheVariants.{Idle, Waiting, Holding, Rendered, Failed}
 use Rattle.cache_core.specs.declared.outcome.Outcome.TheVariants as core
@@ -11,8 +12,11 @@ use Rattle.cache_core.specs.declared.outcome.Outcome as cached
 use Rattle.cache_core.specs.Steps.{Stepped, began, advanced}
 use Rattle.catalog.specs.declared.catalogue.Catalogue.{Catalogue}
 use Rattle.catalog.specs.LookUp.{IsTile}
+use Rattle.job_forms.specs.declared.fault.JobFault.{JobFault}
+use Rattle.job_forms.specs.Cover.{cover_of}
 use Rattle.matrix_geometry.specs.declared.address.Address.{Address}
 use Rattle.raster_field.specs.TileText.{tile_text}
+use Rattle.truncation_list.specs.declared.cover.Cover.{Cover}
 use Rattle.tile_service.specs.declared.outcome.Outcome.{Outcome}
 use Rattle.tile_service.specs.declared.outcome.Outcome.TheVariants as outcome
 use Rattle.tile_service.specs.declared.request.Kind.{Kind}
@@ -71,6 +75,21 @@ abbrev pub copied : List ℕ → Bool → Outcome
 copied document true = outcome.Document document
 copied document false = outcome.NoMemory
 
+-- TRUNCATIONS
+
+-- the cover is cut, unless as many cuts would stay in force as may be, or no number is left
+abbrev pub cut_by : State → Cover → Option ℕ → State × Outcome
+cut_by s cover None = (s, outcome.CutSpent)
+cut_by s cover (Some t) = if nat_lt (length (book_before s cover).cuts) s.catalogue.cut_limit then (with_cut s t cover, outcome.Cut t) else (s, outcome.CutsFull)
+
+abbrev pub cut : State → Bool → Result Cover JobFault → State × Outcome
+cut s ask (Err fault) = (s, outcome.Unformed fault)
+cut s ask (Ok cover) = if ask then cut_by s cover (next s.opening (now s)) else (s, outcome.NoMemory)
+
+-- the text of a cover is read, and its cover cut; memory may run out before either
+abbrev pub truncated : State → List ℕ → Bool → Bool → State × Outcome
+truncated s text read ask = if read then cut s ask (cover_of s.catalogue text) else (s, outcome.NoMemory)
+
 -- WHAT IS SAID OF REQUESTS
 
 -- the tile that a request asks for
@@ -90,6 +109,10 @@ tile_in outcome.NotFound = None
 tile_in outcome.WrongMethod = None
 tile_in outcome.SourceFailed = None
 tile_in outcome.Spent = None
+tile_in (outcome.Cut number) = None
+tile_in outcome.CutsFull = None
+tile_in outcome.CutSpent = None
+tile_in (outcome.Unformed fault) = None
 tile_in outcome.NoMemory = None
 
 -- a tile that is asked for is of the catalogue

@@ -5,8 +5,12 @@ use Rattle.exception_report.specs.declared.code.Locator.TheVariants.{Nowhere}
 use Rattle.exception_report.specs.Report.{report_of}
 use Rattle.exception_report.specs.Status.{status_of}
 use Rattle.http_wire.specs.declared.message.Message.{Message}
+use Rattle.job_forms.specs.declared.fault.JobFault.{JobFault}
+use Rattle.job_forms.specs.declared.fault.JobFault.TheVariants.{NotJson, Missing, Bad, Limit, OutOfMemory}
+use Rattle.job_forms.specs.declared.fault.JobField.{JobField}
+use Rattle.job_forms.specs.declared.fault.JobField.TheVariants as field
 use Rattle.tile_service.specs.declared.outcome.Outcome.{Outcome}
-use Rattle.tile_service.specs.declared.outcome.Outcome.TheVariants.{Tile, Document, Refused, NotFound, WrongMethod, SourceFailed, Spent, NoMemory}
+use Rattle.tile_service.specs.declared.outcome.Outcome.TheVariants.{Tile, Document, Refused, NotFound, WrongMethod, SourceFailed, Spent, Cut, CutsFull, CutSpent, Unformed, NoMemory}
 
 -- THE HEAD
 
@@ -51,6 +55,47 @@ response_text status kind more closes body =
 abbrev pub bare : Bool → ℕ → List ℕ
 bare closes status = response_text status [] [] closes []
 
+-- a JSON text (RFC 8259)
+abbrev pub json : Bool → ℕ → List ℕ → List ℕ
+json closes status body = response_text status (codes "application/json") [] closes body
+
+-- the number of a truncation
+abbrev pub cut_text : ℕ → List ℕ
+cut_text number = codes "{\"cut\":" ++ decimal number ++ codes "}\n"
+
+-- the kind of a fault of a cover's text; want of memory is never one, and is answered otherwise
+abbrev pub kind_of : JobFault → List ℕ
+kind_of NotJson = codes "not json"
+kind_of (Missing field) = codes "missing"
+kind_of (Bad field) = codes "bad"
+kind_of (Limit field) = codes "limit"
+kind_of OutOfMemory = codes "out of memory"
+
+-- how a member is spelt
+abbrev pub spelt : JobField → List ℕ
+spelt field.Layer = codes "Layer"
+spelt field.Grid = codes "Grid"
+spelt field.ZoomStart = codes "ZoomStart"
+spelt field.ZoomStop = codes "ZoomStop"
+spelt field.Bounds = codes "Bounds"
+spelt field.Format = codes "Format"
+spelt field.Style = codes "Style"
+spelt field.Dimensions = codes "Dimensions"
+spelt field.Kind = codes "Kind"
+spelt field.Threads = codes "Threads"
+
+-- the member of a fault, or nothing where it names none
+abbrev pub field_of : JobFault → List ℕ
+field_of NotJson = []
+field_of (Missing f) = spelt f
+field_of (Bad f) = spelt f
+field_of (Limit f) = spelt f
+field_of OutOfMemory = []
+
+-- what is wrong with the text of a cover
+abbrev pub fault_text : List ℕ → List ℕ → List ℕ
+fault_text kind field = codes "{\"fault\":\"" ++ kind ++ codes "\",\"field\":\"" ++ field ++ codes "\"}\n"
+
 -- a response to a request with this outcome, which closes its connection or does not
 abbrev pub response_with : Bool → Outcome → List ℕ
 response_with closes (Tile hit number text) = response_text 200 (codes "image/x-portable-pixmap") (tile_headers hit number) closes text
@@ -60,6 +105,10 @@ response_with closes NotFound = bare closes 404
 response_with closes WrongMethod = bare closes 405
 response_with closes SourceFailed = response_text 500 (codes "text/xml") [] closes (report_of NoApplicableCode Nowhere)
 response_with closes Spent = response_text 500 (codes "text/plain") [] closes (codes "numbers spent\n")
+response_with closes (Cut number) = json closes 200 (cut_text number)
+response_with closes CutsFull = json closes 409 (codes "{\"fault\":\"cuts full\"}\n")
+response_with closes CutSpent = json closes 500 (codes "{\"fault\":\"numbers spent\"}\n")
+response_with closes (Unformed fault) = json closes 400 (fault_text (kind_of fault) (field_of fault))
 response_with closes NoMemory = bare closes 503
 
 -- a response closes its connection where its message is the last of it or the 10,000th of its session, and where it

@@ -12,15 +12,15 @@ use Rattle.catalog.specs.declared.catalogue.Catalogue.{Catalogue}
 use Rattle.http_wire.specs.declared.message.Message.{Message}
 use Rattle.matrix_geometry.specs.declared.address.Address.{Address}
 use Rattle.tile_service.specs.declared.outcome.Outcome.{Outcome}
-use Rattle.tile_service.specs.declared.outcome.Outcome.TheVariants.{Tile, Document, Refused, NotFound, WrongMethod, SourceFailed, Spent, NoMemory}
+use Rattle.tile_service.specs.declared.outcome.Outcome.TheVariants.{Tile, Document, Refused, NotFound, WrongMethod, SourceFailed, Spent, Cut, CutsFull, CutSpent, Unformed, NoMemory}
 use Rattle.tile_service.specs.declared.request.Kind.{Kind}
 use Rattle.tile_service.specs.declared.request.Request.{Request}
 use Rattle.tile_service.specs.declared.request.Request.TheVariants as request
 use Rattle.tile_service.specs.declared.routes.Route.{Route}
 use Rattle.tile_service.specs.declared.seats.TheConstants.{ACTORS}
 use Rattle.tile_service.specs.Events.{owed}
-use Rattle.tile_service.specs.Lines.{Deed, Idle, Sends, Steps, deed_in}
-use Rattle.tile_service.specs.Requests.{Chance, calm, events, outcome_of, copied, IsTrueAnswer, IsFreshAnswer}
+use Rattle.tile_service.specs.Lines.{Deed, Idle, Sends, Steps, Truncates, deed_in}
+use Rattle.tile_service.specs.Requests.{Chance, calm, events, outcome_of, copied, truncated, IsTrueAnswer, IsFreshAnswer}
 use Rattle.tile_service.specs.Response.{answered}
 use Rattle.tile_service.specs.Routes.{path_of, route_of, request_at}
 
@@ -57,8 +57,8 @@ closed w = record { cabinet = fold left_by w.cabinet w.seats; capabilities = w.c
 
 -- ANSWERS
 
--- an answer: the answered line, its actor, the line of its start and the message there, what was asked for, where memory
--- was left to read it, how many entries the history had at its last ask or force, and the outcome
+-- an answer: the answered line, its actor, the line of its start and the message there, what was asked for, where it
+-- was read and is no truncation, how many entries the history had at its last ask or force, and the outcome
 pub record Answer : Type 0 where
   pub line : ℕ
   pub actor : ℕ
@@ -127,12 +127,20 @@ stepped w n c i None = None
 stepped w n c i (Some None) = None
 stepped w n c i (Some (Some b)) = Some (settled w n c i (resumed w b) (advanced w.cabinet b.actor c.work c.blob))
 
+-- a truncation is answered at once
+abbrev pub truncates : World → ℕ → Chance → ℕ → Message → World × List Answer
+truncates w n c i m =
+    let done = truncated w.cabinet m.body c.read c.ask in
+    let answer : Answer = record { line = n; actor = i; start = n; message = m; request = None; place = length w.cabinet.history; outcome = told_at c.left done.1 } in
+    (record { cabinet = done.0; capabilities = w.capabilities; seats = w.seats }, answer ∷ [])
+
 -- what one line does: the world after it and its answers, unless it is refused
 abbrev pub line_done : World → ℕ → Chance → Option Deed → Option (World × List Answer)
 line_done w n c None = None
 line_done w n c (Some Idle) = Some (w, [])
 line_done w n c (Some (Sends kind i m)) = if_free (slice_get w.seats i) (sent w n c kind i m (route_of m.method (path_of m.target)))
 line_done w n c (Some (Steps i)) = stepped w n c i (slice_get w.seats i)
+line_done w n c (Some (Truncates i m)) = if_free (slice_get w.seats i) (Some (truncates w n c i m))
 
 -- what a run has come to: its answers, the world, and the number of the line that was refused
 pub record Run : Type 0 where
@@ -177,6 +185,10 @@ is_failed NotFound = false
 is_failed WrongMethod = false
 is_failed SourceFailed = true
 is_failed Spent = false
+is_failed (Cut number) = false
+is_failed CutsFull = false
+is_failed CutSpent = false
+is_failed (Unformed fault) = false
 is_failed NoMemory = false
 
 -- how many answers say that the source failed

@@ -1,9 +1,9 @@
-ghost use Rattle.std.specs.Prelude.{◌≡◌, Bool, List, Option, Some, slice_get};
+ghost use Rattle.std.specs.Prelude.{ℕ, ◌≡◌, Bool, List, Option, Some, slice_get};
 ghost use Rattle.catalog.specs.Valid.{IsValid};
 ghost use Rattle.tile_service.specs.Dealing.{IsAsked};
-ghost use Rattle.tile_service.specs.Lines.{Sends, Steps, deed_in, get};
+ghost use Rattle.tile_service.specs.Lines.{Sends, Steps, Truncates, deed_in, get, truncation};
 ghost use Rattle.tile_service.specs.OneLine.{Deals, IsSeated};
-ghost use Rattle.tile_service.specs.Requests.{IsOf, copied};
+ghost use Rattle.tile_service.specs.Requests.{IsOf, copied, truncated};
 ghost use Rattle.tile_service.specs.Run.{Busy};
 
 use crate::came::{Came, Reply};
@@ -15,9 +15,12 @@ use crate::request::{Kind, Request};
 use crate::routes::{path_of, request_at, route_of};
 use crate::seats::{Desk, Seat, desk_at, is_free, settle};
 use cabinet::cabinet::Cabinet;
+use cabinet::replies::CutReply;
 use cache_core::steps::advance;
 use exact_ratio::words::Words;
 use http_wire::message::Method;
+use job_forms::fault::JobFault;
+use job_forms::read_cover;
 use source_render::source::Source;
 use std::alloc::Global;
 
@@ -132,6 +135,44 @@ fn stepped<S: Source>(
     }
 }
 
+/// Cuts by the cover of a text.
+fn truncated(alloc: Global, cabinet: &mut Cabinet, text: &[u8]) -> Outcome
+    requires { IsValid cabinet.old.catalogue }
+    ensures { (read : Bool) × ((ask : Bool) × ((cabinet.new, result) ≡ truncated cabinet.old text.now read ask)) }
+{
+    let cover = match read_cover(alloc, cabinet.catalogue(), text) {
+        Ok(cover) => cover,
+        Err(JobFault::OutOfMemory) => return Outcome::NoMemory,
+        Err(fault) => return Outcome::Unformed(fault),
+    };
+    match cabinet.cut(alloc, &cover) {
+        Ok(CutReply::Done(number)) => Outcome::Cut(number),
+        Ok(CutReply::Full) => Outcome::CutsFull,
+        Ok(CutReply::Spent) => Outcome::CutSpent,
+        Err(_) => Outcome::NoMemory,
+    }
+}
+
+/// An actor truncates in line `n`.
+fn cut(
+    alloc: Global,
+    counter: &mut Counter,
+    seats: &mut [Seat],
+    n: u64,
+    actor: u32,
+    text: &[u8],
+) -> Came
+    requires { IsValid counter.old.cabinet.catalogue }
+    ensures deals { (told : Option ℕ) (count : ℕ) → Deals told count count counter.old.cabinet counter.old.capabilities seats.old n (Some (Truncates actor (truncation text.now))) counter.new.cabinet seats.new result }
+    ensures catalogue { counter.new.cabinet.catalogue ≡ counter.old.cabinet.catalogue }
+    ensures capabilities { counter.new.capabilities ≡ counter.old.capabilities }
+{
+    if !is_free(seats, actor) {
+        return Came::Refused;
+    }
+    answered(actor, n, truncated(alloc, &mut counter.cabinet, text))
+}
+
 /// Does what line `n` says, and says what it answers.
 pub fn deal<S: Source>(
     alloc: Global,
@@ -154,6 +195,7 @@ pub fn deal<S: Source>(
         Some(Act::Sends(kind, actor, target)) => {
             sent(alloc, counter, seats, source, n, kind, actor, target)
         }
+        Some(Act::Truncates(actor, text)) => cut(alloc, counter, seats, n, actor, text),
         Some(Act::Steps(actor)) => stepped(alloc, counter, seats, source, n, actor),
     }
 }

@@ -14,6 +14,8 @@ pub enum Act<'a> {
     Sends(Kind, u32, &'a [u8]),
     /// This actor makes the next event of what it is busy with.
     Steps(u32),
+    /// This actor truncates by the cover of this text.
+    Truncates(u32, &'a [u8]),
 }
 
 fn line_length(text: &[u8]) -> usize
@@ -62,7 +64,8 @@ fn act_with(actor: u32, verb: Verb, rest: &[u8]) -> Option<Act<'_>>
         Verb::Ask => Some(Act::Sends(Kind::Asks, actor, rest)),
         Verb::Force => Some(Act::Sends(Kind::Forces, actor, rest)),
         Verb::Step => Some(Act::Steps(actor)),
-        Verb::Truncate | Verb::Expire => None,
+        Verb::Truncate => Some(Act::Truncates(actor, rest)),
+        Verb::Expire => None,
     }
 }
 

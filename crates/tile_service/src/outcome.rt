@@ -1,5 +1,6 @@
 use exact_ratio::words::Words;
 use exception_report::code::{Code, Locator};
+use job_forms::fault::JobFault;
 
 /// How a request ended.
 #[derive(Drop)]
@@ -18,6 +19,14 @@ pub enum Outcome {
     SourceFailed,
     /// No number of a render is left.
     Spent,
+    /// The truncation was done, and has this number.
+    Cut(u64),
+    /// As many truncations would stay in force as may be.
+    CutsFull,
+    /// No number is left for a truncation.
+    CutSpent,
+    /// The text of a truncation is no cover.
+    Unformed(JobFault),
     /// Memory ran out.
     NoMemory,
 }

@@ -1,12 +1,13 @@
 ghost use Rattle.std.specs.Prelude.{◌≡◌, ◌++◌, IfOk, OnOk, codes, []};
 ghost use Rattle.exception_report.specs.Report.{report_of};
 ghost use Rattle.exception_report.specs.Status.{status_of};
-ghost use Rattle.tile_service.specs.Response.{type_header, status_text, close_header, response_text, tile_headers, bare, response_with};
+ghost use Rattle.tile_service.specs.Response.{type_header, status_text, close_header, response_text, tile_headers, bare, json, cut_text, kind_of, spelt, field_of, fault_text, response_with};
 
 use crate::outcome::Outcome;
 use exception_report::code::{Code, Locator};
 use exception_report::report::{report, status_of};
 use itoa::Buffer;
+use job_forms::fault::{JobFault, JobField};
 use std::alloc::{AllocError, Global};
 
 /// Adds the header of a body's type, where there is a body.
@@ -139,6 +140,82 @@ fn reported(
     )
 }
 
+/// A JSON text.
+fn json(alloc: Global, closes: bool, status: u16, body: &[u8]) -> Result<Vec<u8>, AllocError>
+    ensures { IfOk result (λ v. v.items ≡ json closes status body.now) }
+{
+    response(alloc, status, b"application/json", b"", closes, body)
+}
+
+fn cut(alloc: Global, closes: bool, number: u64) -> Result<Vec<u8>, AllocError>
+    ensures { IfOk result (λ v. v.items ≡ json closes 200 (cut_text number)) }
+{
+    let mut buffer = Buffer::new();
+    let mut text = Vec::from_slice(alloc, b"{\"cut\":")?;
+    text.extend_from_slice(buffer.format(number).as_bytes())?;
+    text.extend_from_slice(b"}\n")?;
+    json(alloc, closes, 200, text.as_slice())
+}
+
+/// The kind of a fault of a cover's text.
+fn kind_of(fault: JobFault) -> &'static [u8]
+    ensures { result.now ≡ kind_of fault }
+{
+    match fault {
+        JobFault::NotJson => b"not json",
+        JobFault::Missing(_) => b"missing",
+        JobFault::Bad(_) => b"bad",
+        JobFault::Limit(_) => b"limit",
+        JobFault::OutOfMemory => b"out of memory",
+    }
+}
+
+/// How a member is spelt.
+fn spelt(field: JobField) -> &'static [u8]
+    ensures { result.now ≡ spelt field }
+{
+    match field {
+        JobField::Layer => b"Layer",
+        JobField::Grid => b"Grid",
+        JobField::ZoomStart => b"ZoomStart",
+        JobField::ZoomStop => b"ZoomStop",
+        JobField::Bounds => b"Bounds",
+        JobField::Format => b"Format",
+        JobField::Style => b"Style",
+        JobField::Dimensions => b"Dimensions",
+        JobField::Kind => b"Kind",
+        JobField::Threads => b"Threads",
+    }
+}
+
+/// The member of a fault; empty where it names none.
+fn field_of(fault: JobFault) -> &'static [u8]
+    ensures { result.now ≡ field_of fault }
+{
+    match fault {
+        JobFault::Missing(field) | JobFault::Bad(field) | JobFault::Limit(field) => spelt(field),
+        JobFault::NotJson | JobFault::OutOfMemory => b"",
+    }
+}
+
+fn fault_text(alloc: Global, kind: &[u8], field: &[u8]) -> Result<Vec<u8>, AllocError>
+    ensures { IfOk result (λ v. v.items ≡ fault_text kind.now field.now) }
+{
+    let mut text = Vec::from_slice(alloc, b"{\"fault\":\"")?;
+    text.extend_from_slice(kind)?;
+    text.extend_from_slice(b"\",\"field\":\"")?;
+    text.extend_from_slice(field)?;
+    text.extend_from_slice(b"\"}\n")?;
+    Ok(text)
+}
+
+fn unformed(alloc: Global, closes: bool, fault: JobFault) -> Result<Vec<u8>, AllocError>
+    ensures { IfOk result (λ v. v.items ≡ json closes 400 (fault_text (kind_of fault) (field_of fault))) }
+{
+    let text = fault_text(alloc, kind_of(fault), field_of(fault))?;
+    json(alloc, closes, 400, text.as_slice())
+}
+
 /// The response to a request with this outcome, in one buffer; `closes` says whether it closes its connection.
 /// `AllocError` where memory runs out.
 pub fn response_with(alloc: Global, closes: bool, outcome: &Outcome) -> Result<Vec<u8>, AllocError>
@@ -152,6 +229,10 @@ pub fn response_with(alloc: Global, closes: bool, outcome: &Outcome) -> Result<V
         Outcome::WrongMethod => bare(alloc, closes, 405),
         Outcome::SourceFailed => reported(alloc, closes, Code::NoApplicableCode, &Locator::Nowhere),
         Outcome::Spent => response(alloc, 500, b"text/plain", b"", closes, b"numbers spent\n"),
+        Outcome::Cut(number) => cut(alloc, closes, *number),
+        Outcome::CutsFull => json(alloc, closes, 409, b"{\"fault\":\"cuts full\"}\n"),
+        Outcome::CutSpent => json(alloc, closes, 500, b"{\"fault\":\"numbers spent\"}\n"),
+        Outcome::Unformed(fault) => unformed(alloc, closes, *fault),
         Outcome::NoMemory => bare(alloc, closes, 503),
     }
 }
