@@ -4,11 +4,11 @@ use Rattle.cabinet.specs.Commands.{IsGiven, IsHit, IsUnkept}
 use Rattle.cabinet.specs.declared.entry.Entry.{Entry}
 use Rattle.cabinet.specs.declared.entry.Entry.TheVariants as entry
 use Rattle.cabinet.specs.Fresh.{IsFresh}
-use Rattle.cabinet.specs.State.{State, with_entry, now, kept_text, IsSound}
+use Rattle.cabinet.specs.State.{State, with_entry, IsSound}
 use Rattle.catalog.specs.LookUp.{IsTile}
 use Rattle.matrix_geometry.specs.declared.address.Address.{Address}
 use Rattle.metatile_locks.specs.Tickets.{Ticketed}
-use Rattle.raster_field.specs.Blocks.{block_of, tile_part}
+use Rattle.raster_field.specs.Blocks.{block_of}
 use Rattle.raster_field.specs.TileText.{tile_text}
 use Rattle.cache_core.specs.declared.actor.Actor.{Actor}
 use Rattle.cache_core.specs.declared.actor.Actor.TheVariants.{Idle, Holding}
@@ -18,7 +18,7 @@ use Rattle.cache_core.specs.declared.outcome.Outcome.TheVariants as outcome
 use Rattle.cache_core.specs.Begun.{Begins}
 use Rattle.cache_core.specs.Fits.{IsFit, IsAtWork, IsTrueActor, IsTrueOutcome, IsFreshActor, IsFreshOutcome, Extends}
 use Rattle.cache_core.specs.Shown.{shown, IsFailed}
-use Rattle.cache_core.specs.Steps.{Stepped, began, asked, unless_kept, render_wanted, unless_busy, given, goes_on, ends, hit, ticket_for, tile_at}
+use Rattle.cache_core.specs.Steps.{began, unless_kept, render_wanted, unless_busy, given, goes_on, ends, hit, ticket_for, tile_at}
 
 shown_as : (step : Step) (t : State) (actor : Actor) (o : Option Outcome) → step.actor ≡ actor → step.outcome ≡ o → shown step t ≡ record { cabinet = t; actor = actor; outcome = o }
 shown_as step t actor o e f = rw e (rw f refl)

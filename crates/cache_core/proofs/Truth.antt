@@ -1,6 +1,5 @@
 -- What a true actor answers is the text of the tile, and a cabinet stays sound where no blob is kept.
-use Rattle.std.proofs.Common.{◌≡◌, ℕ, List, Option, Some, None, inl, inr, refl, sym, ◌∙◌, ap, subst}
-use Rattle.std.specs.Prelude.{◌⊎◌, IsSome}
+use Rattle.std.proofs.Common.{◌≡◌, ℕ, List, inl, inr, refl, sym, ◌∙◌, ap, subst}
 use Rattle.cabinet.specs.Commands.{Abandons}
 use Rattle.cabinet.specs.State.{State, IsSound}
 use Rattle.catalog.specs.declared.catalogue.Catalogue.{Catalogue}
@@ -8,7 +7,6 @@ use Rattle.catalog.specs.LookUp.{IsTile}
 use Rattle.catalog.specs.Valid.{IsValid}
 use Rattle.matrix_geometry.specs.declared.address.Address.{Address}
 use Rattle.metatile_locks.specs.Tickets.{Ticketed}
-use Rattle.metatile_plan.specs.declared.metatile.MetaKey.{MetaKey}
 use Rattle.raster_field.specs.Blocks.{block_of, block_text, tile_part}
 use Rattle.raster_field.specs.TileText.{tile_text}
 use Rattle.cache_core.specs.declared.outcome.Tile.{Tile}

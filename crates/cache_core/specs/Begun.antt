@@ -1,5 +1,5 @@
 -- What the first event of a request came to.
-use Rattle.std.specs.Prelude.{ℕ, ◌≡◌, Bool, length}
+use Rattle.std.specs.Prelude.{◌≡◌, Bool, length}
 use Rattle.cabinet.specs.State.{State, IsSound}
 use Rattle.matrix_geometry.specs.declared.address.Address.{Address}
 use Rattle.cache_core.specs.declared.actor.Step.{Step}

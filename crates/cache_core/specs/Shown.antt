@@ -1,5 +1,5 @@
 -- what a step and the cabinet after it are seen as
-use Rattle.std.specs.Prelude.{ℕ, ◌≡◌, ⊤}
+use Rattle.std.specs.Prelude.{⊤}
 use Rattle.cabinet.specs.State.{State}
 use Rattle.cache_core.specs.declared.actor.Actor.{Actor}
 use Rattle.cache_core.specs.declared.actor.Actor.TheVariants.{Idle, Waiting, Holding, Rendered, Failed}
