@@ -2,7 +2,7 @@ ghost use Rattle.std.specs.Prelude.{IfOk, length, unsigned_abs, ◌≡◌, ◌�
 ghost use Rattle.catalog.specs.Demo.{demo};
 ghost use Rattle.catalog.specs.LookUp.{IsTile};
 ghost use Rattle.raster_field.specs.Blocks.{IsMeta};
-ghost use Rattle.cabinet.specs.Hits.{IsCoverOf};
+ghost use Rattle.served_covers.specs.OfCatalogue.{IsCoverOf};
 
 use crate::cabinet::Cabinet;
 use crate::replies::{Asked, CutReply, Finished, Forced};

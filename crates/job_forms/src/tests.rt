@@ -1,3 +1,5 @@
+ghost use Rattle.catalog.specs.Valid.{IsValid};
+
 use crate::fault::{JobFault, JobField};
 use crate::read_cover;
 use catalog::catalogue::Catalogue;
@@ -49,7 +51,7 @@ const BOX: &str =
     "{\"layer\":\"demo\",\"grid\":\"tiny\",\"zoomStart\":0,\"zoomStop\":2,\"bounds\":";
 
 fn read(alloc: Global, catalogue: &Catalogue, text: &str) -> Result<Cover, JobFault>
-    requires { Rattle.catalog.specs.Valid.IsValid catalogue.now }
+    requires { IsValid catalogue.now }
 {
     read_cover(alloc, catalogue, text.as_bytes())
 }

@@ -105,3 +105,21 @@ pub fn add_json(
     )?;
     add(output, alloc, at, response.as_bytes())
 }
+
+/// Adds an answer of status 400 with the report of a code at a parameter.
+pub fn add_report(
+    output: &mut Vec<u8>,
+    alloc: Global,
+    at: (u32, u32, u32),
+    code: &str,
+    locator: &str,
+) -> Result<(), Fail> {
+    let report = format!(in alloc;
+        "<?xml version=\"1.0\" encoding=\"UTF-8\"?>\n<ExceptionReport xmlns=\"http://www.opengis.net/ows/1.1\" version=\"1.1.0\">\n<Exception exceptionCode=\"{code}\" locator=\"{locator}\"/>\n</ExceptionReport>\n"
+    )?;
+    let response = format!(in alloc;
+        "HTTP/1.1 400 Bad Request\r\nContent-Type: text/xml\r\nContent-Length: {}\r\n\r\n{report}",
+        report.len()
+    )?;
+    add(output, alloc, at, response.as_bytes())
+}

@@ -2,7 +2,7 @@
 //! 31 times the layer, 131 times the dimensions' part, 17 times the column and 13 times the row of its cell.
 use crate::command::Status;
 use crate::tests::catalogues::SETTINGS;
-use crate::tests::expected::{add, add_pixels, add_tile, q, ran_in};
+use crate::tests::expected::{add, add_pixels, add_report, add_tile, q, ran_in};
 use crate::tests::queries::SEA;
 use source_render::numbered::Numbered;
 use source_render::scripted::Scripted;
@@ -124,6 +124,38 @@ fn a_path_and_a_query_name_one_tile(rt: HostRuntime) -> Result<(), Fail> {
     )?;
     let nowhere = b"HTTP/1.1 404 Not Found\r\nContent-Length: 0\r\n\r\n";
     add(&mut expected, alloc, (3, 0, 3), nowhere)?;
+    assert_eq!(rt; status, Status::Done);
+    assert_eq!(rt; output, expected);
+    Ok(())
+}
+
+#[test]
+fn dimensions_are_refused_before_the_grid(rt: HostRuntime) -> Result<(), Fail> {
+    let alloc = rt.alloc();
+    let catalogue = format!(in alloc; "{SETTINGS}{SEA}")?;
+    let tile = q(alloc, "sea", 2, 0, 0)?;
+    let elsewhere = tile.replace(alloc, "TileMatrixSet=tiny", "TileMatrixSet=none")?;
+    let lines = format!(in alloc;
+        "0 GET {tile}&level=10\n0 GET {tile}\n0 GET {tile}&level=5\n0 GET {elsewhere}\n0 GET {elsewhere}&level=10\n0 GET /rest/wmts/none/grey/tiny/2/1/1.ppm\n"
+    )?;
+    let mut source = Numbered::new(0);
+    let (status, output) = ran_in(alloc, catalogue.as_bytes(), lines.as_str(), &mut source)?;
+    let mut expected = Vec::new(alloc);
+    let greys = [0x4a, 0x6c, 0x64, 0x86];
+    add_tile(
+        &mut expected,
+        alloc,
+        (1, 0, 1),
+        "MISS\r\ntile-render: 1",
+        greys,
+    )?;
+    let (missing, invalid) = ("MissingParameterValue", "InvalidParameterValue");
+    add_report(&mut expected, alloc, (2, 0, 2), missing, "level")?;
+    add_report(&mut expected, alloc, (3, 0, 3), invalid, "level")?;
+    add_report(&mut expected, alloc, (4, 0, 4), missing, "level")?;
+    add_report(&mut expected, alloc, (5, 0, 5), invalid, "TileMatrixSet")?;
+    add_report(&mut expected, alloc, (6, 0, 6), invalid, "layer")?;
+    assert_eq!(rt; expected.len(), 6 * 17 + 149 + 3 * 271 + 279 + 271);
     assert_eq!(rt; status, Status::Done);
     assert_eq!(rt; output, expected);
     Ok(())
