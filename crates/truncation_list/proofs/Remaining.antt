@@ -1,5 +1,5 @@
 -- what a purge leaves: the order of the cuts, the floor, and what the book answers for
-use Rattle.std.proofs.Common.{ℕ, ◌≡◌, ◌<◌, ◌≤◌, max, ◌||◌, ◌⊎◌, inl, inr, refl, subst, arith, zero, suc, Bool, true, false, cond, List, [], ◌∷◌, ◌++◌, fold, Option, Some, None, IsTrue, get_or}
+use Rattle.std.proofs.Common.{ℕ, ◌≡◌, ◌<◌, ◌≤◌, max, ◌||◌, ◌⊎◌, inl, inr, refl, subst, arith, zero, suc, Bool, true, false, cond, List, [], ◌∷◌, ◌++◌, fold, length, Option, Some, None, IsTrue, get_or}
 use Rattle.std.specs.List.{All, Contains, list_any}
 use Rattle.std.proofs.lemmas.Bool.Decides.{nat_tests}
 use Rattle.std.proofs.lemmas.List.Elements.{All-append, All-cons, All-contains, All-head, All-nil, All-tail, Contains-append_cases, Contains-append_left, Contains-append_right, Contains-get_or, Contains-push}
@@ -53,6 +53,14 @@ pub all_remaining : (P : Cut → Type 0) (cover : Option Cover) (least : Option 
 all_remaining P cover least [] h = h
 all_remaining P cover least (x ∷ xs) h =
     all_at P x (remaining cover least xs) (goes cover least xs x) (All-head P x xs h) (all_remaining P cover least xs (All-tail P x xs h))
+
+count_at : (x : Cut) (rest : List Cut) (n : ℕ) (v : Bool) → length rest ≤ n → length (cond v rest (x ∷ rest)) ≤ suc n
+count_at x rest n true h = omega arith
+count_at x rest n false h = omega arith
+
+pub no_more_remain : (cover : Option Cover) (least : Option ℕ) (cuts : List Cut) → length (remaining cover least cuts) ≤ length cuts
+no_more_remain cover least [] = omega arith
+no_more_remain cover least (x ∷ xs) = count_at x (remaining cover least xs) (length xs) (goes cover least xs x) (no_more_remain cover least xs)
 
 order_at : (x : Cut) (rest : List Cut) (v : Bool) → All (λ other. x.number < other.number) rest → IsByNumber rest → IsByNumber (cond v rest (x ∷ rest))
 order_at x rest true a h = h

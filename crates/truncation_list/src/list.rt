@@ -18,7 +18,8 @@ use std::marker::Model;
 /// most 2^32 - 1 of them.
 ///
 /// In the calls below `least` is the least number that is kept or running, `None` where there is none. Each call goes over
-/// the cuts once, but for the first purge after an `enter`, and `full` before it: they compare each cut with the later ones.
+/// the cuts at most once, but for the first purge after an `enter`, and `full` before it: they compare each cut with the later
+/// ones.
 #[derive(Drop)]
 pub struct CutList {
     cuts: Vec<Cut>,
@@ -64,9 +65,14 @@ impl CutList {
     }
 
     /// Whether `limit` or more cuts stay after the purge for this cover.
+    #[tactic(auto, using(crate::proofs::Remaining::no_more_remain))]
     pub fn full(&self, cover: &Cover, least: Option<u64>, limit: u32) -> bool
         ensures { IsTrue result ↔ (limit ≤ length (purged (Some cover.now) least self.now.book).cuts) }
     {
+        // A purge only takes away, so a list that is short of the limit needs no pass.
+        if self.cuts.len() < limit as usize {
+            return false;
+        }
         let count = count_remaining(&self.cuts, &Some(*cover), least, self.is_settled);
         limit as usize <= count
     }
