@@ -3,3 +3,4 @@ pub mod FirstFault
 pub mod LookUp
 pub mod Names
 pub mod Valid
+pub mod Scopes

@@ -1,0 +1,10 @@
+//! The bytes that each layer takes, and which quota is exceeded.
+//!
+//! Promises: what is told of a layer, and of all of them, is the sum from scratch of what was counted in and not out again,
+//! and no sum loses a bit; the scope exceeded is the first layer above its quota in catalogue order, else all of them, and
+//! none exactly where nothing is above its quota.
+//! Stands on catalog.
+#![tactic(auto)]
+
+pub mod account;
+pub mod ledger;
