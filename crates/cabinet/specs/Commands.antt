@@ -1,6 +1,7 @@
 -- The commands of a cabinet, a row for each reply: where it comes, and the cabinet after it.
 use Rattle.std.specs.Prelude.{ℕ, ◌≡◌, ◌≤◌, ◌<◌, ◌⊎◌, List, length, Option, Some, None, IsSome, ⊤}
 use Rattle.catalog.specs.declared.catalogue.Catalogue.{Catalogue}
+use Rattle.catalog.specs.declared.catalogue.Scope.{Scope}
 use Rattle.matrix_geometry.specs.declared.address.Address.{Address}
 use Rattle.metatile_locks.specs.Running.{running_for, render_of}
 use Rattle.metatile_locks.specs.Tickets.{Ticketed}
@@ -20,10 +21,13 @@ use Rattle.cabinet.specs.declared.replies.Finished.{Finished}
 use Rattle.cabinet.specs.declared.replies.Finished.TheVariants as finished
 use Rattle.cabinet.specs.declared.replies.CutReply.{CutReply}
 use Rattle.cabinet.specs.declared.replies.CutReply.TheVariants as cut
+use Rattle.cabinet.specs.declared.replies.Expired.{Expired}
+use Rattle.cabinet.specs.declared.replies.Expired.TheVariants as expired
+use Rattle.cabinet.specs.Counted.{scope_exceeded, victim_in}
 use Rattle.cabinet.specs.Fresh.{IsFresh}
 use Rattle.cabinet.specs.Gaps.{gap_for}
 use Rattle.cabinet.specs.History.{kept_of, but, next, numbers, least_of}
-use Rattle.cabinet.specs.State.{State, now, with_entry, with_blob, with_cut, kept_text}
+use Rattle.cabinet.specs.State.{State, now, with_entry, with_blob, with_cut, with_dropped, kept_text}
 
 -- ASK AND FORCE
 
@@ -106,6 +110,12 @@ Cuts s cover (cut.Done t) new =
     (next s.opening (now s) ≡ Some t) × (length (book_before s cover).cuts < s.catalogue.cut_limit) × (new ≡ with_cut s t cover)
 Cuts s cover cut.Full new = IsSome (next s.opening (now s)) × (s.catalogue.cut_limit ≤ length (book_before s cover).cuts) × (new ≡ s)
 Cuts s cover cut.Spent new = (next s.opening (now s) ≡ None) × (new ≡ s)
+
+-- EXPIRE
+
+abbrev pub Expires : State → Expired → State → Type 0
+Expires s (expired.Dropped m) new = (scope : Scope) × (scope_exceeded s ≡ Some scope) × (victim_in s scope ≡ Some m) × (new ≡ with_dropped s m)
+Expires s expired.Within new = (scope_exceeded s ≡ None) × (new ≡ s)
 
 -- WHAT REPLIES PROMISE
 

@@ -3,4 +3,5 @@ pub mod Gaps
 pub mod History
 pub mod Fresh
 pub mod State
+pub mod Counted
 pub mod Commands

@@ -48,6 +48,11 @@ abbrev pub with_cut : State → ℕ → Cover → State
 with_cut s t cover =
     record { catalogue = s.catalogue; opening = s.opening; history = s.history ++ entry.Cut t cover ∷ []; blobs = filter (λ b. not (hits_of s.catalogue cover b.kept.meta)) s.blobs }
 
+-- the cabinet after an expiry
+abbrev pub with_dropped : State → MetaKey → State
+with_dropped s m =
+    record { catalogue = s.catalogue; opening = s.opening; history = s.history ++ entry.Dropped m ∷ []; blobs = filter (λ b. not (is_of m b.kept)) s.blobs }
+
 -- the blob that is kept of a metatile
 abbrev pub kept_text : State → MetaKey → List ℕ
 kept_text s m = option_map_or (λ b. b.text) (find (λ b. is_of m b.kept) s.blobs) []

@@ -1,4 +1,5 @@
 use metatile_locks::ticket::Ticket;
+use metatile_plan::metatile::MetaKey;
 
 /// What an ask is answered.
 pub enum Asked {
@@ -46,4 +47,13 @@ pub enum CutReply {
     Full,
     /// No number is left; nothing changed.
     Spent,
+}
+
+/// What an expiry is answered.
+#[derive(Clone, Copy, Debug, PartialEq, Eq)]
+pub enum Expired {
+    /// This metatile was the first to go in the scope whose quota is exceeded, and is dropped.
+    Dropped(MetaKey),
+    /// No quota is exceeded; nothing changed.
+    Within,
 }
