@@ -116,7 +116,7 @@ fn a_box_covers_what_it_comes_within_a_millionth_of(rt: HostRuntime) -> Result<(
     let cut =
         "TRUNCATE {\"layer\":\"demo\",\"grid\":\"tiny\",\"zoomStart\":2,\"zoomStop\":2,\"bounds\":[\"0\",\"12\",";
     let lines = format!(in alloc;
-        "0 GET {left}\n0 GET {right}\n0 {cut}\"4\",\"16\"]}}\n0 GET {left}\n0 GET {right}\n0 {cut}\"4.000003999\",\"16\"]}}\n0 GET {right}\n0 {cut}\"4.000004\",\"16\"]}}\n0 GET {right}\n"
+        "0 GET {left}\n0 GET {right}\n0 {cut}\"4\",\"16\"]}}\n0 GET {left}\n0 GET {right}\n0 {cut}\"4.000004\",\"16\"]}}\n0 GET {right}\n0 GET {left}\n0 {cut}\"4.000003999\",\"16\"]}}\n0 GET {right}\n"
     )?;
     let (status, output) = ran_in(alloc, b"", lines.as_str(), &mut Numbered::new(0))?;
     let mut expected = Vec::new(alloc);
@@ -154,16 +154,23 @@ fn a_box_covers_what_it_comes_within_a_millionth_of(rt: HostRuntime) -> Result<(
         &mut expected,
         alloc,
         (7, 0, 7),
-        "HIT\r\ntile-render: 2",
-        [0x70, 0x92, 0x8a, 0xac],
+        "MISS\r\ntile-render: 6",
+        [0x8c, 0xae, 0xa6, 0xc8],
     )?;
-    add_json(&mut expected, alloc, (8, 0, 8), "200 OK", "{\"cut\":6}\n")?;
     add_tile(
         &mut expected,
         alloc,
-        (9, 0, 9),
+        (8, 0, 8),
         "MISS\r\ntile-render: 7",
-        [0x93, 0xb5, 0xad, 0xcf],
+        [0x4f, 0x71, 0x69, 0x8b],
+    )?;
+    add_json(&mut expected, alloc, (9, 0, 9), "200 OK", "{\"cut\":8}\n")?;
+    add_tile(
+        &mut expected,
+        alloc,
+        (10, 0, 10),
+        "HIT\r\ntile-render: 6",
+        [0x8c, 0xae, 0xa6, 0xc8],
     )?;
     assert_eq!(rt; status, Status::Done);
     assert_eq!(rt; output, expected);
