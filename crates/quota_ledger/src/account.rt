@@ -1,3 +1,6 @@
+ghost use Rattle.std.specs.Prelude.{◌≡◌};
+ghost use Rattle.quota_ledger.specs.Accounts.{is_above};
+
 /// What a layer, or all of them together, may take and takes.
 #[derive(Clone, Copy, Debug, PartialEq, Eq)]
 pub struct Account {
@@ -5,4 +8,16 @@ pub struct Account {
     pub quota: Option<u64>,
     /// The bytes that are taken.
     pub used: u64,
+}
+
+impl Account {
+    /// Whether more is taken than may be.
+    pub fn is_above(&self) -> bool
+        ensures { result ≡ is_above self.now }
+    {
+        match self.quota {
+            None => false,
+            Some(quota) => quota < self.used,
+        }
+    }
 }

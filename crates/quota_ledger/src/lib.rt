@@ -2,9 +2,12 @@
 //!
 //! Promises: what is told of a layer, and of all of them, is the sum from scratch of what was counted in and not out again,
 //! and no sum loses a bit; the scope exceeded is the first layer above its quota in catalogue order, else all of them, and
-//! none exactly where nothing is above its quota.
+//! none exactly where nothing is above its quota. `laws` has what holds of the accounts for all parts.
 //! Stands on catalog.
 #![tactic(auto)]
 
 pub mod account;
+pub mod laws;
 pub mod ledger;
+#[cfg(test)]
+mod tests;
