@@ -1,5 +1,6 @@
 mod Comparisons
 pub mod DemoValid
 mod Distinct
+pub mod Found
 pub mod Passing
 pub mod Validity

@@ -1,5 +1,6 @@
--- What a theme and an address name in a catalogue.
-use Rattle.std.specs.Prelude.{ℕ, ◌<◌, List, Option, option_and_then, slice_get, IsSomeAnd, Contains, IsSome}
+-- What a theme, an address or a number names in a catalogue.
+use Rattle.std.specs.Prelude.{ℕ, ◌<◌, ◌==◌, Bool, if◌then◌else◌, List, [], Option, Some, None, option_and_then, option_map, unwrap_or, slice_get, IsSomeAnd, Contains, IsSome}
+use Rattle.std.specs.List.{list_any}
 use Rattle.catalog.specs.declared.catalogue.Catalogue.{Catalogue}
 use Rattle.catalog.specs.declared.layer.Dimension.{Dimension}
 use Rattle.catalog.specs.declared.layer.Layer.{Layer}
@@ -16,6 +17,18 @@ layer_of c t = slice_get c.layers t.layer
 -- the style of a theme
 abbrev pub style_of : Catalogue → Theme → Option Style
 style_of c t = option_and_then (λ l. slice_get l.styles t.style) (layer_of c t)
+
+-- the dimensions of the layer of this number, none where no layer has it
+abbrev pub dimensions_of : Catalogue → ℕ → List Dimension
+dimensions_of c layer = unwrap_or (option_map (λ l. l.dims) (slice_get c.layers layer)) []
+
+-- a dimension of a layer, by their numbers
+abbrev pub dimension_at : Catalogue → ℕ → ℕ → Option Dimension
+dimension_at c layer dim = option_and_then (λ l. slice_get l.dims dim) (slice_get c.layers layer)
+
+-- the grid of this number is one of the layer's
+abbrev pub serves : Layer → ℕ → Bool
+serves l grid = list_any (λ n. n == grid) l.grids
 
 -- the matrix of this number in a grid
 abbrev pub matrix_in : Catalogue → ℕ → ℕ → Option Matrix
@@ -39,6 +52,11 @@ layer_named c name = place_named (λ l. l.id) c.layers name
 abbrev pub grid_named : Catalogue → List ℕ → Option ℕ
 grid_named c name = place_named (λ g. g.id) c.grids name
 
+-- the grid of this name, where the layer of this number serves it
+abbrev pub served_grid_named : Catalogue → ℕ → List ℕ → Option ℕ
+served_grid_named c layer name =
+    option_and_then (λ l. option_and_then (λ grid. if serves l grid then Some grid else None) (grid_named c name)) (slice_get c.layers layer)
+
 -- a matrix of the grid of this number
 abbrev pub matrix_named : Catalogue → ℕ → List ℕ → Option ℕ
 matrix_named c grid name = option_and_then (λ g. place_named (λ n. n) g.names name) (slice_get c.grids grid)
@@ -47,10 +65,6 @@ matrix_named c grid name = option_and_then (λ g. place_named (λ n. n) g.names 
 abbrev pub style_named : Catalogue → ℕ → List ℕ → Option ℕ
 style_named c layer name = option_and_then (λ l. place_named (λ s. s.id) l.styles name) (slice_get c.layers layer)
 
--- a dimension of a layer, by their numbers
-abbrev pub dimension_at : Catalogue → ℕ → ℕ → Option Dimension
-dimension_at c layer dim = option_and_then (λ l. slice_get l.dims dim) (slice_get c.layers layer)
-
--- a value of this dimension
+-- a value of this dimension of this layer
 abbrev pub value_named : Catalogue → ℕ → ℕ → List ℕ → Option ℕ
 value_named c layer dim name = option_and_then (λ d. place_named (λ v. v) d.values name) (dimension_at c layer dim)

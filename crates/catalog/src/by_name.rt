@@ -1,5 +1,5 @@
-ghost use Rattle.std.specs.Prelude.{◌≡◌, ◌<◌, IsSome, length};
-ghost use Rattle.catalog.specs.LookUp.{layer_named, grid_named, matrix_named, style_named, dimension_at, value_named};
+ghost use Rattle.std.specs.Prelude.{◌≡◌, ◌<◌, Contains, IfSome, IsSome, IsSomeAnd, length, slice_get};
+ghost use Rattle.catalog.specs.LookUp.{layer_named, grid_named, served_grid_named, matrix_named, style_named, dimension_at, value_named};
 ghost use Rattle.catalog.specs.Valid.{IsValid};
 
 use crate::catalogue::Catalogue;
@@ -20,6 +20,18 @@ impl Catalogue {
         ensures { result ≡ grid_named self.now name.now }
     {
         place_named(self.grids.as_slice(), name)
+    }
+
+    /// The number of the grid of this name that a layer serves; `None` exactly where the layer serves no grid of this name.
+    pub fn served_grid_named(&self, layer: u32, name: &[u8]) -> Option<u32>
+        requires { IsValid self.now }
+        ensures value { result ≡ served_grid_named self.now layer name.now }
+        ensures there { IfSome result (λ grid. grid < length self.now.grids) }
+        ensures served { IfSome result (λ grid. IsSomeAnd (slice_get self.now.layers layer) (λ l. Contains l.grids grid)) }
+    {
+        let layer = self.layers.get(layer as usize)?;
+        let grid = self.grid_named(name)?;
+        if layer.serves(grid) { Some(grid) } else { None }
     }
 
     /// The number of the matrix of this name in a grid; `None` exactly where no matrix of it has the name.
@@ -48,8 +60,7 @@ impl Catalogue {
         requires dim { IsSome (dimension_at self.now layer dim) }
         ensures { result ≡ value_named self.now layer dim name.now }
     {
-        let layer = self.layers.get(layer as usize)?;
-        let dimension = layer.dims.get(dim as usize)?;
+        let dimension = self.dimension_at(layer, dim)?;
         place_named(dimension.values.as_slice(), name)
     }
 }

@@ -31,6 +31,22 @@ fn names_of_the_demo(rt: HostRuntime) -> Result<(), Fail> {
 }
 
 #[test]
+fn what_a_layer_has(rt: HostRuntime) -> Result<(), Fail> {
+    let demo = Catalogue::demo(rt.alloc())?;
+    assert_eq!(rt; demo.served_grid_named(0, b"tiny"), Some(0));
+    assert_eq!(rt; demo.served_grid_named(1, b"tiny"), None);
+    assert_eq!(rt; demo.dimensions_of(0).len(), 0);
+    assert_eq!(rt; demo.dimensions_of(1).len(), 0);
+    assert!(rt; demo.dimension_at(0, 0).is_none());
+    assert!(rt; demo.matrix_in(0, 2).is_some());
+    assert!(rt; demo.matrix_in(0, 3).is_none());
+    let layer = demo.layers.get(0).ok_or("a layer")?;
+    assert!(rt; layer.serves(0));
+    assert!(rt; !layer.serves(1));
+    Ok(())
+}
+
+#[test]
 fn first_faults(rt: HostRuntime) -> Result<(), Fail> {
     let mut worse = Catalogue::demo(rt.alloc())?;
     worse.policy = Policy::Lfu;

@@ -6,7 +6,16 @@ ghost use Rattle.catalog.specs.FirstFault.{dimension_name_test, default_test, di
 use crate::fault::{CatalogueFault, Field};
 use crate::first_fault::{Entry, names_test, unless};
 use crate::layer::Dimension;
+use crate::named::Named;
 use crate::names::{are_distinct, is_name, is_parameter, is_same, is_short};
+
+impl Named for Dimension {
+    ghost name = { λ d. d.id };
+
+    fn name(&self) -> &[u8] {
+        self.id.bytes()
+    }
+}
 
 fn has_same(before: &[Dimension], name: &[u8]) -> bool
     ensures { result ≡ list_any (λ x. is_same x.id name.now) before.now }

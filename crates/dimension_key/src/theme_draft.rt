@@ -12,9 +12,7 @@ use matrix_geometry::theme::Theme;
 fn default_of(catalogue: &Catalogue, layer: u32, dim: u32) -> Option<u32>
     ensures { result ≡ default_of catalogue.now layer dim }
 {
-    let layer = catalogue.layers.get(layer as usize)?;
-    let dimension = layer.dims.get(dim as usize)?;
-    dimension.default
+    catalogue.dimension_at(layer, dim)?.default
 }
 
 impl ThemeDraft {
@@ -36,8 +34,7 @@ impl ThemeDraft {
     pub fn next_dimension<'a>(&self, catalogue: &'a Catalogue) -> Option<&'a Dimension>
         ensures { option_copied result ≡ dimension_at catalogue.now self.now.theme.layer self.now.count }
     {
-        let layer = catalogue.layers.get(self.theme.layer as usize)?;
-        layer.dims.get(self.count as usize)
+        catalogue.dimension_at(self.theme.layer, self.count)
     }
 
     /// Reads the value of the layer's next dimension, its default where there is none. `Missing` exactly where there is

@@ -1,11 +1,10 @@
 -- What a member of a cover may be.
-use Rattle.std.specs.Prelude.{ℕ, ◌==◌, ◌&&◌, nat_le, nat_lt, if◌then◌else◌, List, [], length, Option, Some, None, option_and_then, option_map, unwrap_or, ok_or, Ok, Err, codes, bytes_eq, slice_get}
-use Rattle.std.specs.List.{list_any}
+use Rattle.std.specs.Prelude.{ℕ, ◌&&◌, nat_le, nat_lt, if◌then◌else◌, List, length, Option, Some, None, option_and_then, option_map, unwrap_or, ok_or, Ok, Err, codes, bytes_eq, slice_get}
 use Rattle.serde_json.specs.Data.{Data}
 use Rattle.serde_json.specs.Find.{as_str}
 use Rattle.json_forms.specs.Forms.{number_of}
 use Rattle.catalog.specs.declared.catalogue.Catalogue.{Catalogue}
-use Rattle.catalog.specs.LookUp.{layer_named, grid_named, style_named}
+use Rattle.catalog.specs.LookUp.{layer_named, served_grid_named, style_named}
 use Rattle.job_forms.specs.declared.fault.JobField.{JobField}
 use Rattle.job_forms.specs.declared.fault.JobFault.TheVariants.{Missing, Bad}
 use Rattle.job_forms.specs.Outcome.{Outcome}
@@ -28,16 +27,9 @@ if_any form field (Some d) = ok_or (option_map (λ x. Some x) (form d)) (Bad fie
 abbrev pub layer : Catalogue → Form ℕ
 layer c d = option_and_then (layer_named c) (as_str d)
 
--- the grids of a layer, by their numbers
-abbrev pub grids_of : Catalogue → ℕ → List ℕ
-grids_of c layer = unwrap_or (option_map (λ l. l.grids) (slice_get c.layers layer)) []
-
-abbrev pub if_served : Catalogue → ℕ → ℕ → Option ℕ
-if_served c layer grid = if list_any (λ n. n == grid) (grids_of c layer) then Some grid else None
-
 -- the identifier of a grid, one of the layer's
 abbrev pub grid : Catalogue → ℕ → Form ℕ
-grid c layer d = option_and_then (if_served c layer) (option_and_then (grid_named c) (as_str d))
+grid c layer d = option_and_then (served_grid_named c layer) (as_str d)
 
 -- how many matrices a grid has
 abbrev pub matrices_of : Catalogue → ℕ → ℕ

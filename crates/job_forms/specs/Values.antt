@@ -1,12 +1,12 @@
 -- The values that a cover is for: an object from the identifiers of the layer's dimensions to their values.
-use Rattle.std.specs.Prelude.{ℕ, if◌then◌else◌, List, [], ◌∷◌, Bool, Option, Some, None, option_and_then, option_map, unwrap_or, ok_or, Ok, bytes_eq, slice_get}
-use Rattle.std.specs.List.{list_all, list_any}
+use Rattle.std.specs.Prelude.{ℕ, if◌then◌else◌, List, [], ◌∷◌, Bool, Option, Some, None, option_and_then, ok_or, Ok}
+use Rattle.std.specs.List.{list_all}
 use Rattle.serde_json.specs.Data.{Data, Members, no_members, member}
 use Rattle.serde_json.specs.Find.{get, as_str, as_object}
 use Rattle.catalog.specs.declared.catalogue.Catalogue.{Catalogue}
 use Rattle.catalog.specs.declared.layer.Dimension.{Dimension}
-use Rattle.catalog.specs.LookUp.{dimension_at}
-use Rattle.catalog.specs.Names.{place_named}
+use Rattle.catalog.specs.LookUp.{dimension_at, dimensions_of}
+use Rattle.catalog.specs.Names.{is_taken, place_named}
 use Rattle.job_forms.specs.declared.fault.JobField.TheVariants as field
 use Rattle.job_forms.specs.declared.fault.JobFault.TheVariants.{Bad}
 use Rattle.job_forms.specs.Outcome.{Outcome, ◌>>=◌}
@@ -17,17 +17,9 @@ abbrev pub names_in : Members → List (List ℕ)
 names_in no_members = []
 names_in (member name d ms) = name ∷ names_in ms
 
--- the dimensions of a layer
-abbrev pub dimensions_of : Catalogue → ℕ → List Dimension
-dimensions_of c layer = unwrap_or (option_map (λ l. l.dims) (slice_get c.layers layer)) []
-
--- the name is that of a dimension
-abbrev pub is_id : List Dimension → List ℕ → Bool
-is_id ds name = list_any (λ dimension. bytes_eq dimension.id name) ds
-
 -- each name is that of a dimension
 abbrev pub are_known : List Dimension → List (List ℕ) → Bool
-are_known ds names = list_all (is_id ds) names
+are_known ds names = list_all (is_taken (λ d. d.id) ds) names
 
 -- the members, where each name is that of a dimension
 abbrev pub known : List Dimension → Form Members

@@ -1,16 +1,12 @@
-ghost use Rattle.std.specs.Prelude.{◌≡◌, ◌==◌, ◌<◌, ◌≤◌, codes, option_and_then, Contains, IfOk, IfSome, IsSomeAnd, length, slice_get};
-ghost use Rattle.std.specs.Bool.{OnTrue};
-ghost use Rattle.std.specs.List.{list_any};
-ghost use Rattle.serde_json.specs.Find.{as_str, get};
+ghost use Rattle.std.specs.Prelude.{◌≡◌, ◌<◌, ◌≤◌, codes, Contains, IfOk, IfSome, IsSomeAnd, length, slice_get};
+ghost use Rattle.serde_json.specs.Find.{get};
 ghost use Rattle.serde_json.specs.View.{view};
-ghost use Rattle.catalog.specs.LookUp.{grid_named};
 ghost use Rattle.catalog.specs.Valid.{IsValid};
 ghost use Rattle.job_forms.specs.Members as forms;
-ghost use Rattle.job_forms.specs.Members.{required, if_any, grids_of, if_served, if_within, matrices_of};
+ghost use Rattle.job_forms.specs.Members.{required, if_any, matrices_of};
 
 use crate::fault::{JobFault, JobField};
 use catalog::catalogue::Catalogue;
-use catalog::layer::Layer;
 use serde_json::Value;
 
 fn layer(catalogue: &Catalogue, value: &Value) -> Option<u32>
@@ -36,50 +32,14 @@ pub fn required_layer(catalogue: &Catalogue, object: &Value) -> Result<u32, JobF
     }
 }
 
-fn any_grid(catalogue: &Catalogue, value: &Value) -> Option<u32>
-    requires { IsValid catalogue.now }
-    ensures value { result ≡ option_and_then (grid_named catalogue.now) (as_str (view value.now)) }
-    ensures there { IfSome result (λ grid. grid < length catalogue.now.grids) }
-{
-    match value.as_str() {
-        Some(name) => catalogue.grid_named(name.as_bytes()),
-        None => None,
-    }
-}
-
-#[tactic(auto, using(crate::proofs::Covers::contains_of))]
-fn is_served(layer: &Layer, grid: u32) -> bool
-    ensures value { result ≡ list_any (λ n. n == grid) layer.now.grids }
-    ensures there { OnTrue result (Contains layer.now.grids grid) }
-{
-    layer.grids.as_slice().contains(&grid)
-}
-
-fn if_served(catalogue: &Catalogue, layer: u32, grid: u32) -> Option<u32>
-    ensures value { result ≡ if_served catalogue.now layer grid }
-    ensures same { IfSome result (λ n. n ≡ grid) }
-    ensures served { IfSome result (λ n. IsSomeAnd (slice_get catalogue.now.layers layer) (λ l. Contains l.grids n)) }
-{
-    match catalogue.layers.get(layer as usize) {
-        Some(layer) => {
-            if is_served(layer, grid) {
-                Some(grid)
-            } else {
-                None
-            }
-        }
-        None => None,
-    }
-}
-
 fn grid(catalogue: &Catalogue, layer: u32, value: &Value) -> Option<u32>
     requires { IsValid catalogue.now }
     ensures value { result ≡ forms.grid catalogue.now layer (view value.now) }
     ensures there { IfSome result (λ grid. grid < length catalogue.now.grids) }
     ensures served { IfSome result (λ grid. IsSomeAnd (slice_get catalogue.now.layers layer) (λ l. Contains l.grids grid)) }
 {
-    match any_grid(catalogue, value) {
-        Some(grid) => if_served(catalogue, layer, grid),
+    match value.as_str() {
+        Some(name) => catalogue.served_grid_named(layer, name.as_bytes()),
         None => None,
     }
 }

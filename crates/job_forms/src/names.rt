@@ -1,29 +1,19 @@
 ghost use Rattle.std.specs.Prelude.{◌≡◌};
 ghost use Rattle.serde_json.specs.View.{members_view};
 ghost use Rattle.catalog.specs.Valid.{IsDimension};
-ghost use Rattle.job_forms.specs.Values.{are_known, is_id, names_in};
+ghost use Rattle.job_forms.specs.Values.{are_known, names_in};
 
 use catalog::layer::Dimension;
+use catalog::named::is_taken;
 use serde_json::{Map, Value};
 use std::str::from_utf8;
-
-fn is_id(dims: &[Dimension], name: &[u8]) -> bool
-    ensures { result ≡ is_id dims.now name.now }
-{
-    for dimension in dims {
-        if dimension.id.bytes() == name {
-            return true;
-        }
-    }
-    false
-}
 
 /// Whether each name of an object's members is that of a dimension.
 pub fn are_known(dims: &[Dimension], members: &Map<String, Value>) -> bool
     ensures { result ≡ are_known dims.now (names_in (members_view members.now.entries)) }
 {
     for (name, _) in members {
-        if !is_id(dims, name.as_bytes()) {
+        if !is_taken(dims, name.as_bytes()) {
             return false;
         }
     }

@@ -5,7 +5,7 @@ ghost use Rattle.catalog.specs.LookUp.{dimension_at};
 ghost use Rattle.catalog.specs.Names.{place_named};
 ghost use Rattle.catalog.specs.Valid.{IsDimension, IsValid};
 ghost use Rattle.job_forms.specs.Values as spec;
-ghost use Rattle.job_forms.specs.Values.{dimensions_of, known, wanted, values, values_or_any};
+ghost use Rattle.job_forms.specs.Values.{known, wanted, values, values_or_any};
 
 use crate::fault::{JobFault, JobField};
 use crate::names::{are_known, name_of};
@@ -13,15 +13,6 @@ use catalog::catalogue::Catalogue;
 use catalog::layer::Dimension;
 use catalog::named::place_named;
 use serde_json::{Map, Value};
-
-fn dimensions_of(catalogue: &Catalogue, layer: u32) -> &[Dimension]
-    ensures { result.now ≡ dimensions_of catalogue.now layer }
-{
-    match catalogue.layers.get(layer as usize) {
-        Some(layer) => layer.dims.as_slice(),
-        None => &[],
-    }
-}
 
 fn known<'v>(dims: &[Dimension], value: &'v Value) -> Option<&'v Map<String, Value>>
     ensures { option_map (λ m. members_view m.now.entries) result ≡ known dims.now (view value.now) }
@@ -53,15 +44,6 @@ fn value(dimension: &Dimension, value: &Value) -> Option<u32>
     }
 }
 
-fn dimension_at(catalogue: &Catalogue, layer: u32, dim: u32) -> Option<&Dimension>
-    requires { IsValid catalogue.now }
-    ensures value { option_copied result ≡ dimension_at catalogue.now layer dim }
-    ensures valid { IfSome result (λ dimension. IsDimension dimension.now) }
-{
-    let layer = catalogue.layers.get(layer as usize)?;
-    layer.dims.get(dim as usize)
-}
-
 fn wanted(dimension: Option<&Dimension>, object: &Value) -> Result<Option<u32>, JobFault>
     requires { IfSome dimension (λ d. IsDimension d.now) }
     ensures value { result ≡ wanted (option_copied dimension.entry) (view object.now) }
@@ -86,11 +68,11 @@ fn values(catalogue: &Catalogue, layer: u32, object: &Value) -> Result<[Option<u
     ensures value { result ≡ values catalogue.now layer (view object.now) }
     ensures there { IfOk result (λ dims. (dim number : ℕ) → slice_get dims dim ≡ Some (Some number) → IsSomeAnd (dimension_at catalogue.now layer dim) (λ d. number < length d.values)) }
 {
-    known(dimensions_of(catalogue, layer), object).ok_or(JobFault::Bad(JobField::Dimensions))?;
-    let first = wanted(dimension_at(catalogue, layer, 0), object)?;
-    let second = wanted(dimension_at(catalogue, layer, 1), object)?;
-    let third = wanted(dimension_at(catalogue, layer, 2), object)?;
-    let fourth = wanted(dimension_at(catalogue, layer, 3), object)?;
+    known(catalogue.dimensions_of(layer), object).ok_or(JobFault::Bad(JobField::Dimensions))?;
+    let first = wanted(catalogue.dimension_at(layer, 0), object)?;
+    let second = wanted(catalogue.dimension_at(layer, 1), object)?;
+    let third = wanted(catalogue.dimension_at(layer, 2), object)?;
+    let fourth = wanted(catalogue.dimension_at(layer, 3), object)?;
     Ok([first, second, third, fourth])
 }
 

@@ -2,14 +2,14 @@
 -- with its parameter, the code where it is missing and the code where it is invalid. The first row that fails is the refusal.
 use Rattle.std.specs.Prelude.{ℕ, List, Ok, Err, codes}
 use Rattle.catalog.specs.declared.catalogue.Catalogue.{Catalogue}
-use Rattle.catalog.specs.LookUp.{layer_named, matrix_named, IsTile}
+use Rattle.catalog.specs.LookUp.{layer_named, served_grid_named, matrix_named, dimensions_of, IsTile}
 use Rattle.dimension_key.specs.Draft.{draft_of}
 use Rattle.exception_report.specs.declared.code.Code.TheVariants.{MissingParameterValue, InvalidParameterValue, TileOutOfRange}
 use Rattle.matrix_geometry.specs.declared.address.Address.{Address}
 use Rattle.wmts_kvp.specs.declared.query.Query.{Query}
 use Rattle.wmts_kvp.specs.declared.query.Query.TheVariants.{Tile, Capabilities, Refused}
 use Rattle.wmts_kvp.specs.Pairs.{pairs_of}
-use Rattle.wmts_kvp.specs.Rows.{Row, ◌>>=◌, some_or, parameter, equal, requested, style_or_first, grid_of, number, dimensions_of, dimensions, rows_of, cols_of, below}
+use Rattle.wmts_kvp.specs.Rows.{Row, ◌>>=◌, some_or, parameter, equal, requested, style_or_first, number, dimensions, rows_of, cols_of, below}
 
 unfoldable pub address_of : Catalogue → List (List ℕ × List ℕ) → Row Address
 address_of c pairs = do
@@ -20,7 +20,7 @@ address_of c pairs = do
   style ← parameter pairs (codes "style") MissingParameterValue InvalidParameterValue (style_or_first c layer)
   format ← parameter pairs (codes "format") MissingParameterValue InvalidParameterValue (equal (codes "image/x-portable-pixmap"))
   draft ← dimensions c pairs (dimensions_of c layer) (draft_of layer style)
-  grid ← parameter pairs (codes "TileMatrixSet") MissingParameterValue InvalidParameterValue (grid_of c layer)
+  grid ← parameter pairs (codes "TileMatrixSet") MissingParameterValue InvalidParameterValue (served_grid_named c layer)
   z ← parameter pairs (codes "TileMatrix") MissingParameterValue InvalidParameterValue (matrix_named c grid)
   row_number ← parameter pairs (codes "TileRow") MissingParameterValue InvalidParameterValue number
   col_number ← parameter pairs (codes "TileCol") MissingParameterValue InvalidParameterValue number

@@ -1,12 +1,12 @@
 -- What a row of the table of parameters tests, and how it refuses.
-use Rattle.std.specs.Prelude.{ℕ, Bool, ◌&&◌, ◌==◌, nat_lt, if◌then◌else◌, List, [], ◌∷◌, length, Option, Some, None, option_and_then, unwrap_or, option_map, Result, Ok, Err, codes, slice_get}
-use Rattle.std.specs.List.{list_all, list_any}
+use Rattle.std.specs.Prelude.{ℕ, Bool, ◌&&◌, ◌==◌, nat_lt, if◌then◌else◌, List, [], ◌∷◌, length, Option, Some, None, unwrap_or, option_map, Result, Ok, Err, codes}
+use Rattle.std.specs.List.{list_all}
 use Rattle.std.specs.Char.{is_ascii_digit}
 use Rattle.std.specs.Str.{bytes_eq}
 use Rattle.std.specs.Str.Parse.{digits_value}
 use Rattle.catalog.specs.declared.catalogue.Catalogue.{Catalogue}
 use Rattle.catalog.specs.declared.layer.Dimension.{Dimension}
-use Rattle.catalog.specs.LookUp.{grid_named, style_named, matrix_in}
+use Rattle.catalog.specs.LookUp.{style_named, matrix_in}
 use Rattle.dimension_key.specs.declared.draft.DimFault.{DimFault}
 use Rattle.dimension_key.specs.declared.draft.DimFault.TheVariants.{Missing, Invalid}
 use Rattle.dimension_key.specs.declared.draft.ThemeDraft.{ThemeDraft}
@@ -54,15 +54,6 @@ requested pairs name missing = some_or missing name (value_of pairs name) >>= op
 abbrev pub style_or_first : Catalogue → ℕ → List ℕ → Option ℕ
 style_or_first c layer name = if length name == 0 then Some 0 else style_named c layer name
 
--- the grids of a layer
-abbrev pub grids_of : Catalogue → ℕ → List ℕ
-grids_of c layer = unwrap_or (option_map (λ l. l.grids) (slice_get c.layers layer)) []
-
--- the grid of this name, where it is one of the layer's
-abbrev pub grid_of : Catalogue → ℕ → List ℕ → Option ℕ
-grid_of c layer name =
-    option_and_then (λ grid. if list_any (λ n. n == grid) (grids_of c layer) then Some grid else None) (grid_named c name)
-
 -- one or more ASCII digits
 abbrev pub is_number : List ℕ → Bool
 is_number text = nat_lt 0 (length text) && list_all is_ascii_digit text
@@ -70,10 +61,6 @@ is_number text = nat_lt 0 (length text) && list_all is_ascii_digit text
 -- the number that they spell
 abbrev pub number : List ℕ → Option ℕ
 number text = if is_number text then Some (digits_value 10 text) else None
-
--- the dimensions of a layer
-abbrev pub dimensions_of : Catalogue → ℕ → List Dimension
-dimensions_of c layer = unwrap_or (option_map (λ l. l.dims) (slice_get c.layers layer)) []
 
 -- which refusal a fault of a dimension of this name is
 abbrev pub or_refusal : List ℕ → Result ThemeDraft DimFault → Row ThemeDraft

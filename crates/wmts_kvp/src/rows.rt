@@ -1,21 +1,18 @@
-ghost use Rattle.std.specs.Prelude.{◌≡◌, ◌<◌, ◌==◌, ℕ, true, IfOk, IfSome, IsSomeAnd, length, option_copied, slice_get};
-ghost use Rattle.std.specs.List.{list_any};
+ghost use Rattle.std.specs.Prelude.{◌≡◌, ◌<◌, ℕ, true, Contains, IfOk, IfSome, IsSomeAnd, length, slice_get};
 ghost use Rattle.std.specs.Str.Parse.{digits_value};
-ghost use Rattle.catalog.specs.LookUp.{layer_named, matrix_in, matrix_named};
+ghost use Rattle.catalog.specs.LookUp.{layer_named, matrix_named, served_grid_named};
 ghost use Rattle.catalog.specs.Valid.{IsValid};
 ghost use Rattle.exception_report.specs.declared.code.Code.TheVariants.{MissingParameterValue, InvalidParameterValue, TileOutOfRange};
 ghost use Rattle.wmts_kvp.specs.Ends.{row_of, text_row, number_row};
 ghost use Rattle.wmts_kvp.specs.Pairs.{value_of};
-ghost use Rattle.wmts_kvp.specs.Rows.{some_or, parameter, equal, requested, style_or_first, grids_of, grid_of, number, is_number, rows_of, cols_of, below};
+ghost use Rattle.wmts_kvp.specs.Rows.{some_or, parameter, equal, requested, style_or_first, number, is_number, rows_of, cols_of, below};
 
 use crate::end::End;
 use crate::number::{below, is_number};
 use crate::pairs::value_of;
 use catalog::catalogue::Catalogue;
-use catalog::layer::Layer;
 use exact_ratio::words::Words;
 use exception_report::code::Code;
-use matrix_geometry::matrix::Matrix;
 
 /// The value of a parameter that must be there.
 fn given<'a>(pairs: &'a [(Words, Words)], name: &'a [u8]) -> Result<&'a [u8], End<'a>>
@@ -108,27 +105,6 @@ pub fn style<'a>(
     named(name, style_or_first(catalogue, layer, value))
 }
 
-fn is_served(layer: &Layer, grid: u32) -> bool
-    ensures { result ≡ list_any (λ n. n == grid) layer.now.grids }
-{
-    layer.grids.as_slice().contains(&grid)
-}
-
-fn grid_of(catalogue: &Catalogue, layer: u32, name: &[u8]) -> Option<u32>
-    requires { IsValid catalogue.now }
-    ensures value { result ≡ grid_of catalogue.now layer name.now }
-    ensures there { IfSome result (λ grid. grid < length catalogue.now.grids) }
-    ensures served { IfSome result (λ grid. list_any (λ n. n == grid) (grids_of catalogue.now layer) ≡ true) }
-{
-    let grid = catalogue.grid_named(name)?;
-    let layer = catalogue.layers.get(layer as usize)?;
-    if is_served(layer, grid) {
-        Some(grid)
-    } else {
-        None
-    }
-}
-
 /// The number of the grid, one of the layer's.
 pub fn grid<'a>(
     catalogue: &Catalogue,
@@ -137,12 +113,12 @@ pub fn grid<'a>(
     name: &'a [u8],
 ) -> Result<u32, End<'a>>
     requires { IsValid catalogue.now }
-    ensures value { row_of result ≡ parameter pairs.now name.now MissingParameterValue InvalidParameterValue (grid_of catalogue.now layer) }
+    ensures value { row_of result ≡ parameter pairs.now name.now MissingParameterValue InvalidParameterValue (served_grid_named catalogue.now layer) }
     ensures there { IfOk result (λ grid. grid < length catalogue.now.grids) }
-    ensures served { IfOk result (λ grid. list_any (λ n. n == grid) (grids_of catalogue.now layer) ≡ true) }
+    ensures served { IfOk result (λ grid. IsSomeAnd (slice_get catalogue.now.layers layer) (λ l. Contains l.grids grid)) }
 {
     let value = given(pairs, name)?;
-    named(name, grid_of(catalogue, layer, value))
+    named(name, catalogue.served_grid_named(layer, value))
 }
 
 /// The number of the matrix in its grid.
@@ -173,18 +149,11 @@ pub fn digits<'a>(pairs: &'a [(Words, Words)], name: &'a [u8]) -> Result<&'a [u8
     }
 }
 
-fn matrix_in(catalogue: &Catalogue, grid: u32, z: u32) -> Option<&Matrix>
-    ensures { option_copied result ≡ matrix_in catalogue.now grid z }
-{
-    let grid = catalogue.grids.get(grid as usize)?;
-    grid.matrices.get(z as usize)
-}
-
 /// How many rows a matrix has.
 pub fn rows_of(catalogue: &Catalogue, grid: u32, z: u32) -> u32
     ensures { result ≡ rows_of catalogue.now grid z }
 {
-    match matrix_in(catalogue, grid, z) {
+    match catalogue.matrix_in(grid, z) {
         Some(matrix) => matrix.rows,
         None => 0,
     }
@@ -194,7 +163,7 @@ pub fn rows_of(catalogue: &Catalogue, grid: u32, z: u32) -> u32
 pub fn cols_of(catalogue: &Catalogue, grid: u32, z: u32) -> u32
     ensures { result ≡ cols_of catalogue.now grid z }
 {
-    match matrix_in(catalogue, grid, z) {
+    match catalogue.matrix_in(grid, z) {
         Some(matrix) => matrix.cols,
         None => 0,
     }

@@ -1,10 +1,10 @@
 ghost use Rattle.std.specs.Prelude.{◌≡◌, ◌<◌, IfOk, IsSome, length};
-ghost use Rattle.catalog.specs.LookUp.{dimension_at};
+ghost use Rattle.catalog.specs.LookUp.{dimension_at, dimensions_of};
 ghost use Rattle.catalog.specs.Valid.{IsValid};
 ghost use Rattle.dimension_key.specs.Draft.{draft_of, drafted};
 ghost use Rattle.wmts_kvp.specs.Ends.{row_of};
 ghost use Rattle.wmts_kvp.specs.Pairs.{value_of};
-ghost use Rattle.wmts_kvp.specs.Rows.{or_refusal, dimensions_of, dimensions};
+ghost use Rattle.wmts_kvp.specs.Rows.{or_refusal, dimensions};
 
 use crate::end::End;
 use crate::pairs::value_of;
@@ -45,10 +45,7 @@ pub fn theme<'a>(
     ensures style { IfOk result (λ draft. draft.theme.style ≡ style) }
 {
     let mut draft = ThemeDraft::new(layer, style);
-    let Some(entry) = catalogue.layers.get(layer as usize) else {
-        return Ok(draft);
-    };
-    for dimension in entry.dims.as_slice() {
+    for dimension in catalogue.dimensions_of(layer) {
         draft = with_value(draft, catalogue, pairs, dimension.id.bytes())?;
     }
     Ok(draft)

@@ -3,7 +3,7 @@ use Rattle.std.proofs.Common.{◌≡◌, ◌⊎◌, ℕ, zero, suc, ◌-◌, ◌
 use Rattle.std.specs.Prelude.{nat_lt, bytes_eq, option_map, option_and_then, codes}
 use Rattle.std.specs.List.{list_all}
 use Rattle.std.proofs.lemmas.Bool.Decides.{nat_tests, eqb_tells}
-use Rattle.std.proofs.lemmas.Bool.{ltb-true, lt-ltb}
+use Rattle.std.proofs.lemmas.Bool.{and_parts, ltb-true, lt-ltb}
 use Rattle.matchit.specs.Rows.{RowsOf, param_token, catch_all_token}
 use Rattle.matchit.specs.Router.{RouteOf}
 use Rattle.matchit.specs.Seek.{seek, step, own, or_else, param_step, has_slash, first}
@@ -35,11 +35,6 @@ one_byte {K} rs b path e = rw (e, no_param {K = K} (b ∷ path), nowhere {K = K}
 abbrev pub is_text : List ℕ → Bool
 is_text bytes = list_all (λ b. nat_lt b 256) bytes
 
-both : (a b : Bool) → (a && b) ≡ true → (a ≡ true) × (b ≡ true)
-both true true e = (refl, refl)
-both true false e = (refl, e)
-both false b e = absurd (cc)
-
 no_token : (x : ℕ) → nat_lt x 256 ≡ true → ((x == 256) ≡ false) × ((x == 257) ≡ false)
 no_token x e = (grind (arith, nat_tests), grind (arith, nat_tests))
 
@@ -60,7 +55,7 @@ literal [] r [] text = refl
 literal {K} [] r (b ∷ path) text = one_byte {K = K} (([], r) ∷ []) b path refl ∙ rw (nowhere {K = K} 0 path) refl
 literal (x ∷ lit) r [] text = refl
 literal {K} (x ∷ lit) r (b ∷ path) text =
-    let t = both (nat_lt x 256) (is_text lit) text in
+    let t = and_parts (nat_lt x 256) (is_text lit) text in
     let n = no_token x t.0 in
     one_byte {K = K} ((x ∷ lit, r) ∷ []) b path (rw n.0 refl)
     ∙ rw n.1 (by (alike x b) (literal {K = K} lit r path t.1))
@@ -79,12 +74,12 @@ literal_or_all : {K : Type 0} (lit : List ℕ) (r s : K) (path : List ℕ) → i
 unfolding seek
 literal_or_all [] r s [] lit_text text = refl
 literal_or_all {K} [] r s (b ∷ path) lit_text text =
-    let t = both (nat_lt b 256) (is_text path) text in
+    let t = and_parts (nat_lt b 256) (is_text path) text in
     one_byte {K = K} (([], r) ∷ (257 ∷ [], s) ∷ []) b path refl ∙ rw (no_catch_all b (ltb-true b 256 t.0), nowhere {K = K} 0 path) refl
 literal_or_all (x ∷ lit) r s [] lit_text text = refl
 literal_or_all {K} (x ∷ lit) r s (b ∷ path) lit_text text =
-    let t = both (nat_lt x 256) (is_text lit) lit_text in
-    let u = both (nat_lt b 256) (is_text path) text in
+    let t = and_parts (nat_lt x 256) (is_text lit) lit_text in
+    let u = and_parts (nat_lt b 256) (is_text path) text in
     let n = no_token x t.0 in
     one_byte {K = K} ((x ∷ lit, r) ∷ (257 ∷ [], s) ∷ []) b path (rw n.0 refl)
     ∙ rw (n.1, no_catch_all b (ltb-true b 256 u.0)) (by (alike x b) (literal {K = K} lit r path t.1))
@@ -106,8 +101,8 @@ unfolding seek
 behind [] lit r s path f_text lit_text text = literal_or_all lit r s path lit_text text
 behind (x ∷ f) lit r s [] f_text lit_text text = refl
 behind {K} (x ∷ f) lit r s (b ∷ path) f_text lit_text text =
-    let t = both (nat_lt x 256) (is_text f) f_text in
-    let u = both (nat_lt b 256) (is_text path) text in
+    let t = and_parts (nat_lt x 256) (is_text f) f_text in
+    let u = and_parts (nat_lt b 256) (is_text path) text in
     let n = no_token x t.0 in
     one_byte {K = K} ((x ∷ (f ++ lit), r) ∷ (x ∷ (f ++ 257 ∷ []), s) ∷ []) b path (rw n.0 refl)
     ∙ rw n.1 (by (alike x b) (behind {K = K} f lit r s path t.1 lit_text u.1))

@@ -6,12 +6,11 @@ use Rattle.std.specs.Str.{is_utf8}
 use Rattle.std.specs.Str.Lossy.{utf8_lossy}
 use Rattle.catalog.specs.declared.catalogue.Catalogue.{Catalogue}
 use Rattle.catalog.specs.declared.layer.Dimension.{Dimension}
-use Rattle.catalog.specs.LookUp.{layer_named}
+use Rattle.catalog.specs.LookUp.{dimensions_of, layer_named}
 use Rattle.percent_encoding.specs.Percent.{percent_decode}
 use Rattle.wmts_kvp.specs.declared.query.Query.{Query}
 use Rattle.wmts_kvp.specs.declared.query.Query.TheVariants.{Capabilities}
 use Rattle.wmts_kvp.specs.Reading.{reading}
-use Rattle.wmts_kvp.specs.Rows.{dimensions_of}
 
 abbrev pub capabilities_path : List ℕ
 capabilities_path = codes "/rest/wmts/WMTSCapabilities.xml"

@@ -1,7 +1,6 @@
 ghost use Rattle.std.specs.Prelude.{◌≡◌, ◌∷◌, ◌<◌, ◌≤◌, IfOk, IfSome, codes, length, map};
 ghost use Rattle.catalog.specs.Valid.{IsValid};
 ghost use Rattle.wmts_kvp.specs.Reading.{IsOfCatalogue};
-ghost use Rattle.wmts_kvp.specs.Rows.{dimensions_of};
 ghost use Rattle.wmts_rest.specs.Paths.{dimensions_at, is_complete, names_of, pairs_of, pairs_under, supplied, layer_reading, texts_reading};
 
 use catalog::catalogue::Catalogue;
@@ -10,20 +9,11 @@ use exact_ratio::words::Words;
 use std::alloc::{AllocError, Global};
 use wmts_kvp::query::{Query, read_pairs};
 
-fn dimensions_of(catalogue: &Catalogue, layer: u32) -> &[Dimension]
-    ensures { result.now ≡ dimensions_of catalogue.now layer }
-{
-    match catalogue.layers.get(layer as usize) {
-        Some(layer) => layer.dims.as_slice(),
-        None => &[],
-    }
-}
-
 fn dimensions_at(catalogue: &Catalogue, layer: Option<u32>) -> &[Dimension]
     ensures { result.now ≡ dimensions_at catalogue.now layer }
 {
     match layer {
-        Some(layer) => dimensions_of(catalogue, layer),
+        Some(layer) => catalogue.dimensions_of(layer),
         None => &[],
     }
 }
@@ -34,7 +24,7 @@ fn is_complete(catalogue: &Catalogue, layer: Option<u32>, count: usize) -> bool
     ensures { result ≡ is_complete catalogue.now layer count }
 {
     match layer {
-        Some(layer) => count - 6 == dimensions_of(catalogue, layer).len(),
+        Some(layer) => count - 6 == catalogue.dimensions_of(layer).len(),
         None => true,
     }
 }

@@ -1,6 +1,7 @@
 use Rattle.std.proofs.Common.{◌≡◌, drop}
+use Rattle.catalog.specs.LookUp.{dimensions_of}
 use Rattle.dimension_key.specs.Draft.{draft_of}
-use Rattle.wmts_kvp.specs.Rows.{dimensions, dimensions_of}
+use Rattle.wmts_kvp.specs.Rows.{dimensions}
 use Rattle.wmts_kvp.proofs.theme.theme.Given as goal
 
 -- the dimensions that are left give the same as all of them, and each so far has its value

@@ -1,7 +1,0 @@
-use Rattle.catalog.specs.LookUp.{grid_named}
-use Rattle.job_forms.proofs.Texts.{through}
-use Rattle.job_forms.proofs.member.any_grid.Goals as goal
-
-pub returns-in-Some-clause-value : goal.returns-in-Some-clause-value
-returns-in-Some-clause-value c =
-    through (grid_named c.args.catalogue.now) c.as_str.result _ c.in-Some.name c.as_bytes.result.now _ c.as_str.ensures c.in-Some.is c.as_bytes.ensures.value c.grid_named.ensures
