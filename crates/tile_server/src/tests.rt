@@ -2,6 +2,7 @@ mod actors;
 mod capabilities;
 mod catalogues;
 mod expected;
+mod expiry;
 mod metatiles;
 mod paths;
 mod queries;

@@ -1,6 +1,6 @@
 -- What a line does, in the terms of worlds.
 use Rattle.std.proofs.Common.{◌≡◌, zero, suc, ℕ, ◌+◌, ◌<◌, Bool, true, false, List, [], ◌∷◌, length, map, slice_get, slice_set, Option, Some, None, refl, sym, ap, ◌∙◌, subst, arith, append-nil}
-use Rattle.std.specs.Option.{option_map, IfSome}
+use Rattle.std.specs.Option.{option_map}
 use Rattle.std.proofs.lemmas.List.{map-set}
 use Rattle.std.proofs.lemmas.Option.{slice_get-map, slice_get_within}
 use Rattle.cabinet.specs.State.{State}
@@ -21,7 +21,6 @@ use Rattle.tile_service.specs.declared.request.Kind.{Kind}
 use Rattle.tile_service.specs.declared.request.Kind.TheVariants.{Gets, Asks, Forces}
 use Rattle.tile_service.specs.declared.request.Request.{Request}
 use Rattle.tile_service.specs.declared.request.Request.TheVariants as request
-use Rattle.tile_service.specs.declared.routes.Route.{Route}
 use Rattle.tile_service.specs.declared.seats.Desk.{Desk}
 use Rattle.tile_service.specs.declared.seats.Seat.{Seat}
 use Rattle.tile_service.specs.declared.seats.Seat.TheVariants as seat
@@ -29,12 +28,13 @@ use Rattle.tile_service.specs.Dealing.{IsAsked}
 use Rattle.tile_service.specs.Events.{Moves, owed}
 use Rattle.tile_service.specs.Lines.{Deed, Idle, Sends, Steps}
 use Rattle.tile_service.specs.OneLine.{IsBusy, IsSeat, IsTrueSeat, IsSeated, Keeps, Comes, Deals, seat_of, world_of}
-use Rattle.tile_service.specs.Requests.{Chance, calm, events, tile_of, copied}
+use Rattle.tile_service.specs.Requests.{Chance, calm, events, tile_of, copied, told_usage, cut, expired}
 use Rattle.tile_service.specs.Routes.{path_of, route_of, request_at}
-use Rattle.tile_service.specs.Run.{Busy, World, Answer, seat_after, answers_after, told_at, told_in, owed_at, settled, started, resumed, asked, sent, if_free, stepped, line_done, is_failed, failures, unanswered, IsTrue, IsFresh}
+use Rattle.tile_service.specs.Run.{Busy, World, Answer, seat_after, answers_after, owed_at, settled, started, resumed, asked, sent, if_free, stepped, line_done, failures, unanswered}
 use Rattle.tile_service.specs.Seats.{is_free, desk_at, next_seat, came_of}
 use Rattle.tile_service.proofs.Moving.{advance_moves, stay_covered}
 use Rattle.tile_service.proofs.Seating.{one_of_all, settled_keeps}
+use Rattle.tile_service.proofs.Telling.{Stays, same_stays, copied_stays, usage_stays, cut_stays, expired_stays, AsksNoTile, told_answer, told_keeps}
 
 -- SEATS
 
@@ -53,7 +53,7 @@ free_there None e = cc
 free_there (Some None) e = refl
 free_there (Some (Some b)) e = let f : seat_of (Some b) ≡ seat.Free = cc in cc
 
-is_taken : (o : Option (Option Busy)) (d : Option (World × List Answer)) → is_free (option_map seat_of o) ≡ false → if_free o d ≡ None
+is_taken : (o : Option (Option Busy)) (d : World × List Answer) → is_free (option_map seat_of o) ≡ false → if_free o d ≡ None
 is_taken None d e = refl
 is_taken (Some None) d e = let f : true ≡ false = e in cc
 is_taken (Some (Some b)) d e = refl
@@ -76,15 +76,7 @@ refused_deals told count s document seats n deed f busy h = (busy, h.same, (f bu
 
 pub taken_deals : (told : Option ℕ) (count : ℕ) (s : State) (document : List ℕ) (seats : List Seat) (n : ℕ) (kind : Kind) (i : ℕ) (m : Message) → is_free (slice_get seats i) ≡ false → Deals told count count s document seats n (Some (Sends kind i m)) s seats Refused
 taken_deals told count s document seats n kind i m e =
-    refused_deals told count s document seats n (Some (Sends kind i m)) (λ busy same. is_taken (slice_get busy i) (sent (world_of s document busy) n calm kind i m (route_of m.method (path_of m.target))) (rw (sym (there busy seats i same)) e))
-
-no_route : (o : Option (Option Busy)) → if_free o None ≡ None
-no_route None = refl
-no_route (Some None) = refl
-no_route (Some (Some b)) = refl
-
-pub astray_deals : (told : Option ℕ) (count : ℕ) (s : State) (document : List ℕ) (seats : List Seat) (n : ℕ) (kind : Kind) (i : ℕ) (m : Message) → route_of m.method (path_of m.target) ≡ None → Deals told count count s document seats n (Some (Sends kind i m)) s seats Refused
-astray_deals told count s document seats n kind i m e = refused_deals told count s document seats n (Some (Sends kind i m)) (λ busy same. rw e (no_route (slice_get busy i)))
+    refused_deals told count s document seats n (Some (Sends kind i m)) (λ busy same. is_taken (slice_get busy i) (sent (world_of s document busy) n calm kind i m) (rw (sym (there busy seats i same)) e))
 
 pub no_step_deals : (told : Option ℕ) (count : ℕ) (s : State) (document : List ℕ) (seats : List Seat) (n i : ℕ) → desk_at (slice_get seats i) ≡ None → Deals told count count s document seats n (Some (Steps i)) s seats Refused
 no_step_deals told count s document seats n i e =
@@ -105,41 +97,6 @@ nothing_keeps told count w =
 
 pub idle_deals : (told : Option ℕ) (count : ℕ) (s : State) (document : List ℕ) (seats : List Seat) (n : ℕ) → Deals told count count s document seats n (Some Idle) s seats Silent
 idle_deals told count s document seats n busy h = (busy, h.same, (calm, refl, nothing_keeps told count (world_of s document busy)))
-
--- AN ANSWER AT ONCE, to a request that asks for no tile, or that was not read
-
--- the outcome tells of no failure, and the request asks for no tile
-abbrev IsPlain : Option Request → Outcome → Type 0
-IsPlain r o = (is_failed o ≡ false) × (IfSome r (λ x. tile_of x ≡ None))
-
-module _ (told : Option ℕ) (count : ℕ) (w : World) (n i : ℕ) (m : Message) where
-  abbrev the_answer : Option Request → Outcome → Answer
-  the_answer r o = record { line = n; actor = i; start = n; message = m; request = r; place = length w.cabinet.history; outcome = o }
-
-  none_failed : (r : Option Request) (o : Outcome) (left : Bool) → is_failed o ≡ false → failures (the_answer r (told_at left o) ∷ []) ≡ 0
-  none_failed r o true e = rw e refl
-  none_failed r o false e = refl
-
-  plain_true : (r : Option Request) (o : Outcome) → IfSome r (λ x. tile_of x ≡ None) → IsTrue w.cabinet.catalogue (the_answer r o)
-  plain_true None o e = tt
-  plain_true (Some r) o e = rw e tt
-
-  plain_fresh : (r : Option Request) (o : Outcome) → IfSome r (λ x. tile_of x ≡ None) → IsFresh w.cabinet.catalogue w.cabinet.history (the_answer r o)
-  plain_fresh None o e = tt
-  plain_fresh (Some r) o e = rw e tt
-
-  plain_keeps : (r : Option Request) (o : Outcome) (left : Bool) → IsPlain r o → Keeps told count count w w (the_answer r (told_at left o) ∷ [])
-  plain_keeps r o left p =
-      record {
-        later = omega arith;
-        failed = let e = none_failed r o left p.0 in stay_covered count count (unanswered w.seats) (failures (the_answer r (told_at left o) ∷ []) + unanswered w.seats) (omega arith) (omega arith);
-        world = λ is. is;
-        sound = λ e is sound. sound;
-        truth = λ e is sound. (plain_true r (told_at left o) p.1, tt);
-        fresh = λ is. ((omega arith, plain_fresh r (told_at left o) p.1), tt);
-        grows = ([], sym (append-nil w.cabinet.history));
-        catalogue = refl;
-      }
 
 -- EVENTS
 
@@ -183,20 +140,16 @@ same_events Gets s a c read left = refl
 same_events Asks s a c read left = refl
 same_events Forces s a c read left = refl
 
-copied_plain : (document : List ℕ) (left : Bool) → is_failed (copied document left) ≡ false
-copied_plain document true = refl
-copied_plain document false = refl
+-- memory for what an answer at once needs, or none
+abbrev with_memory : Bool → Chance
+with_memory left = record { read = true; ask = left; work = left; blob = None; left = true }
 
--- memory for the document of the capabilities, or none
-abbrev at_work : Bool → Chance
-at_work left = record { read = true; ask = true; work = left; blob = None; left = true }
-
-module _ (told : Option ℕ) (s : State) (document : List ℕ) (seats : List Seat) (n : ℕ) (kind : Kind) (i : ℕ) (m : Message) (open_after : m.last ≡ false) (route : Route) (free : slice_get seats i ≡ Some seat.Free) (leads : route_of m.method (path_of m.target) ≡ Some route) where
+module _ (told : Option ℕ) (s : State) (document : List ℕ) (seats : List Seat) (n : ℕ) (kind : Kind) (i : ℕ) (m : Message) (open_after : m.last ≡ false) (free : slice_get seats i ≡ Some seat.Free) where
   abbrev deed : Option Deed
   deed = Some (Sends kind i m)
 
   abbrev asks : Request
-  asks = request_at s.catalogue m.target route
+  asks = request_at s.catalogue m (route_of m.method (path_of m.target))
 
   module _ (busy : List (Option Busy)) (h : IsSeated s document seats busy) where
     abbrev w : World
@@ -205,24 +158,38 @@ module _ (told : Option ℕ) (s : State) (document : List ℕ) (seats : List Sea
     at_seat : slice_get busy i ≡ Some None
     at_seat = free_there (slice_get busy i) (sym (there busy seats i h.same) ∙ free)
 
-    goes : (c : Chance) → line_done w n c deed ≡ sent w n c kind i m (Some route)
-    goes c = rw (at_seat, leads) refl
+    goes : (c : Chance) → line_done w n c deed ≡ Some (sent w n c kind i m)
+    goes c = rw at_seat refl
 
-    plain_comes : (count : ℕ) (r : Option Request) (o : Outcome) (c : Bool → Chance) → IsPlain r o → ((left : Bool) → sent w n (c left) kind i m (Some route) ≡ Some (w, the_answer told count w n i m r (told_at left o) ∷ []))
-        → Comes told count count w n deed w (Answers (record { actor = i; start = n; outcome = o }))
-    plain_comes count r o c p f =
-        record { message = m; request = r; place = length s.history; open_after = open_after; chance = c; made = λ left. goes (c left) ∙ f left; keeps = λ left. plain_keeps told count w n i m r o left p }
+    -- a message that was read asks for this
+    reads : (c : Chance) (r : Request) → r ≡ asks → line_done w n (with_ends c true c.left) deed ≡ Some (asked w n (with_ends c true c.left) kind i m r)
+    reads c r e = let Q : Request → Type 0 = λ x. Some (sent w n (with_ends c true c.left) kind i m) ≡ Some (asked w n (with_ends c true c.left) kind i m x) in goes (with_ends c true c.left) ∙ subst Q (sym e) refl
+
+  told_deals : (count : ℕ) (r : Option Request) (done : State × Outcome) (c : Bool → Chance) → Stays s done → AsksNoTile r
+      → ((busy : List (Option Busy)) (h : IsSeated s document seats busy) (left : Bool) → line_done (world_of s document busy) n (c left) deed ≡ Some (world_of done.0 document busy, told_answer s n i m r done.1 left ∷ []))
+      → Deals told count count s document seats n deed done.0 seats (Answers (record { actor = i; start = n; outcome = done.1 }))
+  told_deals count r done c stays other made busy h = (
+    busy,
+    h.same,
+    record {
+      message = m;
+      request = r;
+      place = length s.history;
+      open_after = open_after;
+      chance = c;
+      made = made busy h;
+      keeps = λ left. told_keeps told count s done.0 document busy n i m r done.1 left stays other;
+    },
+  )
 
   pub unread_deals : (count : ℕ) → Deals told count count s document seats n deed s seats (Answers (record { actor = i; start = n; outcome = outcome.NoMemory }))
-  unread_deals count busy h = (busy, h.same, plain_comes busy h count None outcome.NoMemory (λ left. with_ends calm false left) (refl, tt) (λ left. refl))
+  unread_deals count = told_deals count None (s, outcome.NoMemory) (λ left. with_ends calm false left) (same_stays s outcome.NoMemory refl) tt (λ busy h left. goes busy h (with_ends calm false left))
 
-  plain_deals : (count : ℕ) (r : Request) (o : Outcome) (c : Chance) → r ≡ asks → is_failed o ≡ false → tile_of r ≡ None
-      → ((w : World) (left : Bool) → w.capabilities ≡ document → asked w n (with_ends c true left) kind i m r ≡ told_in w n (with_ends c true left) i m (Some r) o)
-      → Deals told count count s document seats n deed s seats (Answers (record { actor = i; start = n; outcome = o }))
-  plain_deals count r o c e calmly other f busy h =
-      let v : World = world_of s document busy in
-      let Q : (left : Bool) → Request → Type 0 = λ left x. sent v n (with_ends c true left) kind i m (Some route) ≡ Some (asked v n (with_ends c true left) kind i m x) in
-      (busy, h.same, plain_comes busy h count (Some r) o (λ left. with_ends c true left) (calmly, other) (λ left. subst (Q left) (sym e) refl ∙ ap Some (f v left refl)))
+  at_once_deals : (count : ℕ) (r : Request) (done : State × Outcome) (c : Chance) → r ≡ asks → Stays s done → tile_of r ≡ None
+      → ((busy : List (Option Busy)) (left : Bool) → asked (world_of s document busy) n (with_ends c true left) kind i m r ≡ (world_of done.0 document busy, told_answer s n i m (Some r) done.1 left ∷ []))
+      → Deals told count count s document seats n deed done.0 seats (Answers (record { actor = i; start = n; outcome = done.1 }))
+  at_once_deals count r done c e stays other f =
+      told_deals count (Some r) done (λ left. with_ends c true left) stays other (λ busy h left. reads busy h (with_ends c true left) r e ∙ ap Some (f busy left))
 
   pub asked_deals : (before after : ℕ) (t : State) (seats' : List Seat) (came : Came) (r : Request) → r ≡ asks → IsAsked told before after s document seats n kind i r t seats' came → Deals told before after s document seats n deed t seats' came
   asked_deals before after t seats' came (request.Tile a) e k = λ busy h.
@@ -233,18 +200,26 @@ module _ (told : Option ℕ) (s : State) (document : List ℕ) (seats : List Sea
       let made : (l : Bool) → line_done v n (with_ends o.chance true l) deed ≡ Some (settled v n (with_ends o.chance true l) i b (shown step t)) =
       λ l.
       let c = with_ends o.chance true l in
-      let Q : Request → Type 0 = λ x. sent v n c kind i m (Some route) ≡ Some (asked v n c kind i m x) in
-      goes busy h c ∙ subst Q (sym e) refl ∙ ap (λ r. Some (settled v n c i b r)) (sym (same_events kind s a o.chance true l) ∙ sym o.made) in (
+      reads busy h c (request.Tile a) e ∙ ap (λ r. Some (settled v n c i b r)) (sym (same_events kind s a o.chance true l) ∙ sym o.made) in (
         slice_set busy i (seat_after b step.actor step.outcome),
         set_seats busy seats i b step.actor step.outcome h.same ∙ sym k.3,
         rw k.2 (settled_comes told before after s t actor.Idle b step o.moves document busy i None (at_seat busy h) refl (λ x. tt) n deed open_after (λ l. with_ends o.chance true l) (λ l. refl) made step.outcome refl),
       )
   asked_deals before after t seats' came request.Capabilities e k =
-      rw (k.1.0, k.1.1, k.1.2, k.1.3) (plain_deals before request.Capabilities (copied document k.0) (at_work k.0) e (copied_plain document k.0) refl (λ w left same. rw same refl))
+      rw (k.1.0, k.1.1, k.1.2, k.1.3) (at_once_deals before request.Capabilities (s, copied document k.0) (with_memory k.0) e (copied_stays s document k.0) refl (λ busy left. refl))
   asked_deals before after t seats' came (request.Refused code locator) e k =
-      rw (k.0, k.1, k.2, k.3) (plain_deals before (request.Refused code locator) (outcome.Refused code locator) calm e refl refl (λ w left same. refl))
-  asked_deals before after t seats' came request.NotFound e k = rw (k.0, k.1, k.2, k.3) (plain_deals before request.NotFound outcome.NotFound calm e refl refl (λ w left same. refl))
-  asked_deals before after t seats' came request.WrongMethod e k = rw (k.0, k.1, k.2, k.3) (plain_deals before request.WrongMethod outcome.WrongMethod calm e refl refl (λ w left same. refl))
+      rw (k.0, k.1, k.2, k.3) (at_once_deals before (request.Refused code locator) (s, outcome.Refused code locator) calm e (same_stays s (outcome.Refused code locator) refl) refl (λ busy left. refl))
+  asked_deals before after t seats' came request.NotFound e k = rw (k.0, k.1, k.2, k.3) (at_once_deals before request.NotFound (s, outcome.NotFound) calm e (same_stays s outcome.NotFound refl) refl (λ busy left. refl))
+  asked_deals before after t seats' came request.WrongMethod e k =
+      rw (k.0, k.1, k.2, k.3) (at_once_deals before request.WrongMethod (s, outcome.WrongMethod) calm e (same_stays s outcome.WrongMethod refl) refl (λ busy left. refl))
+  asked_deals before after t seats' came request.Usage e k =
+      rw (k.1.0, k.1.1, k.1.2, k.1.3) (at_once_deals before request.Usage (s, told_usage s k.0) (with_memory k.0) e (usage_stays s k.0) refl (λ busy left. refl))
+  asked_deals before after t seats' came (request.Truncation cover) e k =
+      rw (k.1.0, k.1.1, k.1.2, k.1.3) (at_once_deals before (request.Truncation cover) (cut s cover k.0) (with_memory k.0) e (cut_stays s cover k.0) refl (λ busy left. refl))
+  asked_deals before after t seats' came (request.Unformed fault) e k =
+      rw (k.0, k.1, k.2, k.3) (at_once_deals before (request.Unformed fault) (s, outcome.Unformed fault) calm e (same_stays s (outcome.Unformed fault) refl) refl (λ busy left. refl))
+  asked_deals before after t seats' came request.Expiry e k =
+      rw (k.1.0, k.1.1, k.1.2, k.1.3) (at_once_deals before request.Expiry (expired s k.0) (with_memory k.0) e (expired_stays s k.0) refl (λ busy left. refl))
 
 -- A STEP
 

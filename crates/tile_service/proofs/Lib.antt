@@ -4,8 +4,9 @@ pub mod Known
 pub mod Moving
 pub mod Opening
 pub mod Seating
+pub mod Joined
+pub mod Telling
 pub mod Dealt
-pub mod Cutting
 pub mod Writing
 pub mod Far
 pub mod Leaving

@@ -11,7 +11,8 @@ use Rattle.tile_service.specs.Lines.{deed_in}
 use Rattle.tile_service.specs.OneLine.{MayTell, IsLine, Replies, Deals, answer_with}
 use Rattle.tile_service.specs.Outside.{Outside}
 use Rattle.tile_service.specs.Response.{framed, response_with}
-use Rattle.tile_service.specs.Run.{World, Answer, answer_text, told_at}
+use Rattle.tile_service.specs.Requests.{told_at}
+use Rattle.tile_service.specs.Run.{World, Answer, answer_text}
 use Rattle.tile_service.specs.Sent.{AppendsFront}
 use Rattle.tile_service.specs.Written.{Writes}
 use Rattle.tile_service.proofs.Known.{appends_nothing}

@@ -1,4 +1,5 @@
 pub mod Lines
+pub mod Texts
 pub mod Requests
 pub mod Routes
 pub mod Response

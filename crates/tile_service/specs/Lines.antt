@@ -12,6 +12,7 @@ use Rattle.tile_service.specs.declared.lines.Act.{Act}
 use Rattle.tile_service.specs.declared.lines.Act.TheVariants as act
 use Rattle.tile_service.specs.declared.request.Kind.{Kind}
 use Rattle.tile_service.specs.declared.request.Kind.TheVariants.{Gets, Asks, Forces}
+use Rattle.tile_service.specs.Routes.{message_of}
 
 -- THE LINES OF A TEXT
 
@@ -32,46 +33,52 @@ line_length (b ∷ bs) = if b == 10 then 0 else line_length bs + 1
 
 -- WHAT A LINE DOES
 
--- nothing; or an actor sends a message, a GET of a target that is asked for in one of three ways; or an actor makes the next
--- event of what it is busy with; or an actor sends a truncation
+-- nothing; or an actor sends a message, by which a tile is asked for in one of three ways; or an actor makes the next event
+-- of what it is busy with
 pub data Deed : Type 0 where
   Idle : Deed
   Sends : Kind → ℕ → Message → Deed
   Steps : ℕ → Deed
-  Truncates : ℕ → Message → Deed
 
 -- the message of method GET for a target
 abbrev pub get : List ℕ → Message
 get target = record { method = method.Get; target = target; body = []; last = false }
 
--- the message of method POST that truncates by a cover
+-- that of method POST, with a body
+abbrev pub post : List ℕ → List ℕ → Message
+post target body = record { method = method.Post; target = target; body = body; last = false }
+
+-- the message that truncates by a cover
 abbrev pub truncation : List ℕ → Message
-truncation text = record { method = method.Post; target = codes "/truncate"; body = text; last = false }
+truncation cover = post (codes "/truncate") cover
+
+-- the message that expires
+abbrev pub expiry : Message
+expiry = post (codes "/expire") []
 
 -- an act of the code as a deed
 abbrev pub deed_of : Act → Deed
 deed_of act.Nothing = Idle
-deed_of (act.Sends kind actor target) = Sends kind actor (get target.now)
+deed_of (act.Sends kind actor call) = Sends kind actor (message_of call)
 deed_of (act.Steps actor) = Steps actor
-deed_of (act.Truncates actor text) = Truncates actor (truncation text.now)
 
--- an expiry isn't served yet
-abbrev pub deed_with : ℕ → Verb → List ℕ → Option Deed
-deed_with actor Get rest = Some (Sends Gets actor (get rest))
-deed_with actor Ask rest = Some (Sends Asks actor (get rest))
-deed_with actor Force rest = Some (Sends Forces actor (get rest))
-deed_with actor Step rest = Some (Steps actor)
-deed_with actor Truncate rest = Some (Truncates actor (truncation rest))
-deed_with actor Expire rest = None
+-- what an actor does by a verb, with the rest of its line
+abbrev pub deed_with : ℕ → Verb → List ℕ → Deed
+deed_with actor Get rest = Sends Gets actor (get rest)
+deed_with actor Ask rest = Sends Asks actor (get rest)
+deed_with actor Force rest = Sends Forces actor (get rest)
+deed_with actor Step rest = Steps actor
+deed_with actor Truncate rest = Sends Gets actor (truncation rest)
+deed_with actor Expire rest = Sends Gets actor expiry
 
 abbrev pub deed_for : List ℕ → Result Line LineFault → Option Deed
 deed_for line (Err fault) = None
-deed_for line (Ok l) = deed_with l.actor l.verb (drop l.rest.start line)
+deed_for line (Ok l) = Some (deed_with l.actor l.verb (drop l.rest.start line))
 
 -- empty, or a comment, which begins with # (35 in ASCII)
 abbrev pub is_idle : List ℕ → Bool
 is_idle line = length line == 0 || slice_index line 0 == 35
 
--- what a line does; none where it is no line of a schedule, or its verb isn't served yet
+-- what a line does; none where it is no line of a schedule
 unfoldable pub deed_in : List ℕ → Option Deed
 deed_in line = if nat_lt LINE_LIMIT (length line) then None else if is_idle line then Some Idle else deed_for line (line_of line)

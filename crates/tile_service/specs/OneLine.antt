@@ -17,8 +17,8 @@ use Rattle.tile_service.specs.declared.seats.Seat.{Seat}
 use Rattle.tile_service.specs.declared.seats.Seat.TheVariants as seat
 use Rattle.tile_service.specs.Events.{StayCovered}
 use Rattle.tile_service.specs.Lines.{Deed, deed_in}
-use Rattle.tile_service.specs.Requests.{Chance, calm}
-use Rattle.tile_service.specs.Run.{Busy, World, Answer, told_at, line_done, failures, unanswered, IsTrue, IsFresh}
+use Rattle.tile_service.specs.Requests.{Chance, calm, told_at}
+use Rattle.tile_service.specs.Run.{Busy, World, Answer, line_done, failures, unanswered, IsTrue, IsFresh}
 
 -- P holds of the outcome, or of that of want of memory
 abbrev pub MayTell : Outcome → (Outcome → Type 0) → Type 0

@@ -1,21 +1,23 @@
 -- A request and its events in a line, as a function of the cabinet. What happens by chance in a line, that memory runs out,
 -- and what a rendering gives or that it fails, is taken as it happened; all else is fixed.
-use Rattle.std.specs.Prelude.{length, nat_lt, Result, Ok, Err, ℕ, ◌≡◌, Bool, true, false, if◌then◌else◌, List, Option, Some, None, IfSome}
+use Rattle.std.specs.Prelude.{length, nat_lt, ℕ, ◌≡◌, Bool, true, false, if◌then◌else◌, List, Option, Some, None, IfSome, ⊤}
 use Rattle.cabinet.specs.Fresh.{IsFresh}
 use Rattle.cabinet.specs.Commands.{book_before}
+use Rattle.cabinet.specs.Counted.{scope_exceeded, victim_in}
 use Rattle.cabinet.specs.History.{History, next}
-use Rattle.cabinet.specs.State.{State, now, with_cut}
+use Rattle.cabinet.specs.State.{State, now, with_cut, with_dropped}
 use Rattle.cache_core.specs.declared.actor.Actor.{Actor}
 use Rattle.cache_core.specs.declared.actor.Actor.TheVariants.{Idle, Waiting, Holding, Rendered, Failed}
 use Rattle.cache_core.specs.declared.outcome.Outcome.TheVariants as core
 use Rattle.cache_core.specs.declared.outcome.Outcome as cached
 use Rattle.cache_core.specs.Steps.{Stepped, began, advanced}
 use Rattle.catalog.specs.declared.catalogue.Catalogue.{Catalogue}
+use Rattle.catalog.specs.declared.catalogue.Scope.{Scope}
 use Rattle.catalog.specs.LookUp.{IsTile}
-use Rattle.job_forms.specs.declared.fault.JobFault.{JobFault}
-use Rattle.job_forms.specs.Cover.{cover_of}
 use Rattle.matrix_geometry.specs.declared.address.Address.{Address}
+use Rattle.metatile_plan.specs.declared.metatile.MetaKey.{MetaKey}
 use Rattle.raster_field.specs.TileText.{tile_text}
+use Rattle.served_covers.specs.OfCatalogue.{IsCoverOf}
 use Rattle.truncation_list.specs.declared.cover.Cover.{Cover}
 use Rattle.tile_service.specs.declared.outcome.Outcome.{Outcome}
 use Rattle.tile_service.specs.declared.outcome.Outcome.TheVariants as outcome
@@ -23,11 +25,13 @@ use Rattle.tile_service.specs.declared.request.Kind.{Kind}
 use Rattle.tile_service.specs.declared.request.Kind.TheVariants.{Gets, Asks, Forces}
 use Rattle.tile_service.specs.declared.request.Request.{Request}
 use Rattle.tile_service.specs.declared.request.Request.TheVariants as request
+use Rattle.tile_service.specs.Texts.{usage_text, dropped_text}
 
 -- CHANCES
 
--- what happened by chance in a line: whether memory was left to read its request, for its first ask or force, for what
--- follows, and for the answer, and what the rendering gave, or nothing where it failed
+-- what happened by chance in a line: whether memory was left to read its request, for its first ask or force or its
+-- truncation, for what follows or the text that it tells, and for the answer, and what the rendering gave, or nothing where
+-- it failed
 pub record Chance : Type 0 where
   pub read : Bool
   pub ask : Bool
@@ -70,25 +74,42 @@ outcome_of core.SourceFailed = outcome.SourceFailed
 outcome_of core.Spent = outcome.Spent
 outcome_of core.NoMemory = outcome.NoMemory
 
--- the document of the capabilities is copied, while memory is left
-abbrev pub copied : List ℕ → Bool → Outcome
-copied document true = outcome.Document document
-copied document false = outcome.NoMemory
+-- where no memory is left, the outcome says so
+abbrev pub told_at : Bool → Outcome → Outcome
+told_at left o = if left then o else outcome.NoMemory
 
--- TRUNCATIONS
+-- the document of the capabilities is copied
+abbrev pub copied : List ℕ → Bool → Outcome
+copied document left = told_at left (outcome.Document document)
+
+-- COMMANDS
+
+-- the text of what is kept
+abbrev pub told_usage : State → Bool → Outcome
+told_usage s left = told_at left (outcome.Usage (usage_text s))
 
 -- the cover is cut, unless as many cuts would stay in force as may be, or no number is left
 abbrev pub cut_by : State → Cover → Option ℕ → State × Outcome
 cut_by s cover None = (s, outcome.CutSpent)
 cut_by s cover (Some t) = if nat_lt (length (book_before s cover).cuts) s.catalogue.cut_limit then (with_cut s t cover, outcome.Cut t) else (s, outcome.CutsFull)
 
-abbrev pub cut : State → Bool → Result Cover JobFault → State × Outcome
-cut s ask (Err fault) = (s, outcome.Unformed fault)
-cut s ask (Ok cover) = if ask then cut_by s cover (next s.opening (now s)) else (s, outcome.NoMemory)
+-- a truncation, while memory is left
+abbrev pub cut : State → Cover → Bool → State × Outcome
+cut s cover left = if left then cut_by s cover (next s.opening (now s)) else (s, outcome.NoMemory)
 
--- the text of a cover is read, and its cover cut; memory may run out before either
-abbrev pub truncated : State → List ℕ → Bool → Bool → State × Outcome
-truncated s text read ask = if read then cut s ask (cover_of s.catalogue text) else (s, outcome.NoMemory)
+-- a metatile is dropped, whether memory is left to tell it or not
+abbrev pub dropped : State → Bool → Option MetaKey → State × Outcome
+dropped s left None = (s, outcome.Within)
+dropped s left (Some m) = (with_dropped s m, told_at left (outcome.Dropped (dropped_text s.catalogue m)))
+
+-- that of the scope whose quota is exceeded
+abbrev pub expired_in : State → Bool → Option Scope → State × Outcome
+expired_in s left None = (s, outcome.Within)
+expired_in s left (Some scope) = dropped s left (victim_in s scope)
+
+-- an expiry
+abbrev pub expired : State → Bool → State × Outcome
+expired s left = expired_in s left (scope_exceeded s)
 
 -- WHAT IS SAID OF REQUESTS
 
@@ -99,6 +120,10 @@ tile_of request.Capabilities = None
 tile_of (request.Refused code locator) = None
 tile_of request.NotFound = None
 tile_of request.WrongMethod = None
+tile_of request.Usage = None
+tile_of (request.Truncation cover) = None
+tile_of (request.Unformed fault) = None
+tile_of request.Expiry = None
 
 -- the number and the text of a tile that is answered
 abbrev pub tile_in : Outcome → Option (ℕ × List ℕ)
@@ -109,15 +134,26 @@ tile_in outcome.NotFound = None
 tile_in outcome.WrongMethod = None
 tile_in outcome.SourceFailed = None
 tile_in outcome.Spent = None
+tile_in (outcome.Usage text) = None
 tile_in (outcome.Cut number) = None
 tile_in outcome.CutsFull = None
 tile_in outcome.CutSpent = None
 tile_in (outcome.Unformed fault) = None
+tile_in (outcome.Dropped text) = None
+tile_in outcome.Within = None
 tile_in outcome.NoMemory = None
 
--- a tile that is asked for is of the catalogue
+-- a tile that is asked for is of the catalogue, and the cover of a truncation
 abbrev pub IsOf : Catalogue → Request → Type 0
-IsOf c r = IfSome (tile_of r) (IsTile c)
+IsOf c (request.Tile a) = IsTile c a
+IsOf c request.Capabilities = ⊤
+IsOf c (request.Refused code locator) = ⊤
+IsOf c request.NotFound = ⊤
+IsOf c request.WrongMethod = ⊤
+IsOf c request.Usage = ⊤
+IsOf c (request.Truncation cover) = IsCoverOf c cover
+IsOf c (request.Unformed fault) = ⊤
+IsOf c request.Expiry = ⊤
 
 -- a tile that is answered has the text of its number
 abbrev pub IsTrueTile : Catalogue → Address → Outcome → Type 0

@@ -10,7 +10,8 @@ use Rattle.job_forms.specs.declared.fault.JobFault.TheVariants.{NotJson, Missing
 use Rattle.job_forms.specs.declared.fault.JobField.{JobField}
 use Rattle.job_forms.specs.declared.fault.JobField.TheVariants as field
 use Rattle.tile_service.specs.declared.outcome.Outcome.{Outcome}
-use Rattle.tile_service.specs.declared.outcome.Outcome.TheVariants.{Tile, Document, Refused, NotFound, WrongMethod, SourceFailed, Spent, Cut, CutsFull, CutSpent, Unformed, NoMemory}
+use Rattle.tile_service.specs.declared.outcome.Outcome.TheVariants.{Tile, Document, Refused, NotFound, WrongMethod, SourceFailed, Spent, Usage, Cut, CutsFull, CutSpent, Unformed, Dropped, Within, NoMemory}
+use Rattle.tile_service.specs.Texts.{within_text}
 
 -- THE HEAD
 
@@ -105,10 +106,13 @@ response_with closes NotFound = bare closes 404
 response_with closes WrongMethod = bare closes 405
 response_with closes SourceFailed = response_text 500 (codes "text/xml") [] closes (report_of NoApplicableCode Nowhere)
 response_with closes Spent = response_text 500 (codes "text/plain") [] closes (codes "numbers spent\n")
+response_with closes (Usage text) = response_text 200 (codes "text/plain") [] closes text
 response_with closes (Cut number) = json closes 200 (cut_text number)
 response_with closes CutsFull = json closes 409 (codes "{\"fault\":\"cuts full\"}\n")
 response_with closes CutSpent = json closes 500 (codes "{\"fault\":\"numbers spent\"}\n")
 response_with closes (Unformed fault) = json closes 400 (fault_text (kind_of fault) (field_of fault))
+response_with closes (Dropped text) = json closes 200 text
+response_with closes Within = json closes 200 within_text
 response_with closes NoMemory = bare closes 503
 
 -- a response closes its connection where its message is the last of it or the 10,000th of its session, and where it

@@ -1,14 +1,19 @@
--- The table of paths: what a message asks for, by its method and the path of its target.
-use Rattle.std.specs.Prelude.{ℕ, ◌+◌, ◌==◌, not, nat_eq, if◌then◌else◌, List, take, drop, Option, Some, None, codes}
+-- The table of paths: what a message asks for, by its method, its target and its body.
+use Rattle.std.specs.Prelude.{ℕ, ◌+◌, ◌==◌, not, nat_eq, if◌then◌else◌, false, List, take, drop, Option, Some, None, Result, Ok, Err, codes}
 use Rattle.std.specs.List.{prefix_len, starts_with}
 use Rattle.std.specs.Str.{bytes_eq}
 use Rattle.catalog.specs.declared.catalogue.Catalogue.{Catalogue}
+use Rattle.http_wire.specs.declared.message.Message.{Message}
 use Rattle.http_wire.specs.declared.message.Method.{Method}
 use Rattle.http_wire.specs.declared.message.Method.TheVariants.{Get, Post, Delete, Other}
+use Rattle.job_forms.specs.declared.fault.JobFault.{JobFault}
+use Rattle.job_forms.specs.Cover.{cover_of}
+use Rattle.tile_service.specs.declared.call.Call.{Call}
 use Rattle.tile_service.specs.declared.request.Request.{Request}
 use Rattle.tile_service.specs.declared.request.Request.TheVariants as request
 use Rattle.tile_service.specs.declared.routes.Route.{Route}
 use Rattle.tile_service.specs.declared.routes.Route.TheVariants as route
+use Rattle.truncation_list.specs.declared.cover.Cover.{Cover}
 use Rattle.wmts_kvp.specs.declared.query.Query.{Query}
 use Rattle.wmts_kvp.specs.declared.query.Query.TheVariants as query
 use Rattle.wmts_kvp.specs.Reading.{query_reading}
@@ -21,30 +26,34 @@ path_of target = take (prefix_len (λ b. not (b == 63)) target) target
 abbrev pub query_of : List ℕ → List ℕ
 query_of target = drop (prefix_len (λ b. not (b == 63)) target + 1) target
 
+-- a call of the code as a message, which is not the last of its connection
+abbrev pub message_of : Call → Message
+message_of call = record { method = call.method; target = call.target.now; body = call.body.now; last = false }
+
 -- THE TABLE
 
 -- a path of the table takes one method
-abbrev pub by_get : Method → Option Route → Option Route
+abbrev pub by_get : Method → Route → Route
 by_get Get found = found
-by_get Post found = Some route.WrongMethod
-by_get Delete found = Some route.WrongMethod
-by_get Other found = Some route.WrongMethod
+by_get Post found = route.WrongMethod
+by_get Delete found = route.WrongMethod
+by_get Other found = route.WrongMethod
 
-abbrev pub by_post : Method → Option Route → Option Route
-by_post Get found = Some route.WrongMethod
+abbrev pub by_post : Method → Route → Route
+by_post Get found = route.WrongMethod
 by_post Post found = found
-by_post Delete found = Some route.WrongMethod
-by_post Other found = Some route.WrongMethod
+by_post Delete found = route.WrongMethod
+by_post Other found = route.WrongMethod
 
--- where a path leads by a method; none where that isn't served yet
-unfoldable pub route_of : Method → List ℕ → Option Route
+-- where a path leads by a method
+unfoldable pub route_of : Method → List ℕ → Route
 route_of method path =
-    if bytes_eq path (codes "/wmts") then by_get method (Some route.Query) else
-    (if starts_with nat_eq path (codes "/rest/wmts/") then by_get method (Some route.Path) else
-    (if bytes_eq path (codes "/usage") then by_get method None else
-    (if bytes_eq path (codes "/truncate") then by_post method None else
-    (if bytes_eq path (codes "/expire") then by_post method None else
-    Some route.NotFound))))
+    if bytes_eq path (codes "/wmts") then by_get method route.Query else
+    (if starts_with nat_eq path (codes "/rest/wmts/") then by_get method route.Path else
+    (if bytes_eq path (codes "/usage") then by_get method route.Usage else
+    (if bytes_eq path (codes "/truncate") then by_post method route.Truncate else
+    (if bytes_eq path (codes "/expire") then by_post method route.Expire else
+    route.NotFound))))
 
 -- WHAT IS ASKED FOR
 
@@ -59,9 +68,17 @@ abbrev pub request_or_none : Option Query → Request
 request_or_none None = request.NotFound
 request_or_none (Some q) = request_of q
 
--- what a target asks for where it leads there
-abbrev pub request_at : Catalogue → List ℕ → Route → Request
-request_at c target route.Query = request_of (query_reading c (query_of target))
-request_at c target route.Path = request_or_none (path_reading c (path_of target))
-request_at c target route.NotFound = request.NotFound
-request_at c target route.WrongMethod = request.WrongMethod
+-- what the reading of a cover asks for
+abbrev pub truncation_of : Result Cover JobFault → Request
+truncation_of (Ok cover) = request.Truncation cover
+truncation_of (Err fault) = request.Unformed fault
+
+-- what a message asks for where its path leads there
+abbrev pub request_at : Catalogue → Message → Route → Request
+request_at c m route.Query = request_of (query_reading c (query_of m.target))
+request_at c m route.Path = request_or_none (path_reading c (path_of m.target))
+request_at c m route.Usage = request.Usage
+request_at c m route.Truncate = truncation_of (cover_of c m.body)
+request_at c m route.Expire = request.Expiry
+request_at c m route.NotFound = request.NotFound
+request_at c m route.WrongMethod = request.WrongMethod

@@ -12,15 +12,14 @@ use Rattle.catalog.specs.declared.catalogue.Catalogue.{Catalogue}
 use Rattle.http_wire.specs.declared.message.Message.{Message}
 use Rattle.matrix_geometry.specs.declared.address.Address.{Address}
 use Rattle.tile_service.specs.declared.outcome.Outcome.{Outcome}
-use Rattle.tile_service.specs.declared.outcome.Outcome.TheVariants.{Tile, Document, Refused, NotFound, WrongMethod, SourceFailed, Spent, Cut, CutsFull, CutSpent, Unformed, NoMemory}
+use Rattle.tile_service.specs.declared.outcome.Outcome.TheVariants.{Tile, Document, Refused, NotFound, WrongMethod, SourceFailed, Spent, Usage, Cut, CutsFull, CutSpent, Unformed, Dropped, Within, NoMemory}
 use Rattle.tile_service.specs.declared.request.Kind.{Kind}
 use Rattle.tile_service.specs.declared.request.Request.{Request}
 use Rattle.tile_service.specs.declared.request.Request.TheVariants as request
-use Rattle.tile_service.specs.declared.routes.Route.{Route}
 use Rattle.tile_service.specs.declared.seats.TheConstants.{ACTORS}
 use Rattle.tile_service.specs.Events.{owed}
-use Rattle.tile_service.specs.Lines.{Deed, Idle, Sends, Steps, Truncates, deed_in}
-use Rattle.tile_service.specs.Requests.{Chance, calm, events, outcome_of, copied, truncated, IsTrueAnswer, IsFreshAnswer}
+use Rattle.tile_service.specs.Lines.{Deed, Idle, Sends, Steps, deed_in}
+use Rattle.tile_service.specs.Requests.{Chance, calm, events, outcome_of, told_at, copied, told_usage, cut, expired, IsTrueAnswer, IsFreshAnswer}
 use Rattle.tile_service.specs.Response.{answered}
 use Rattle.tile_service.specs.Routes.{path_of, route_of, request_at}
 
@@ -57,8 +56,8 @@ closed w = record { cabinet = fold left_by w.cabinet w.seats; capabilities = w.c
 
 -- ANSWERS
 
--- an answer: the answered line, its actor, the line of its start and the message there, what was asked for, where it
--- was read and is no truncation, how many entries the history had at its last ask or force, and the outcome
+-- an answer: the answered line, its actor, the line of its start and the message there, what was asked for, where it was
+-- read, how many entries the history had at its last ask or force, or before an answer at once, and the outcome
 pub record Answer : Type 0 where
   pub line : ℕ
   pub actor : ℕ
@@ -68,13 +67,11 @@ pub record Answer : Type 0 where
   pub place : ℕ
   pub outcome : Outcome
 
--- where no memory is left for the answer, it says so
-abbrev pub told_at : Bool → Outcome → Outcome
-told_at left o = if left then o else NoMemory
-
--- an answer at once, that leaves the world as it was
-abbrev pub told_in : World → ℕ → Chance → ℕ → Message → Option Request → Outcome → World × List Answer
-told_in w n c i m r o = (w, record { line = n; actor = i; start = n; message = m; request = r; place = length w.cabinet.history; outcome = told_at c.left o } ∷ [])
+-- an answer at once, by the cabinet that it leaves and its outcome
+abbrev pub told_in : World → ℕ → Chance → ℕ → Message → Option Request → State × Outcome → World × List Answer
+told_in w n c i m r done =
+    let answer : Answer = record { line = n; actor = i; start = n; message = m; request = r; place = length w.cabinet.history; outcome = told_at c.left done.1 } in
+    (record { cabinet = done.0; capabilities = w.capabilities; seats = w.seats }, answer ∷ [])
 
 -- EVENTS
 
@@ -105,20 +102,27 @@ resumed w b = record { start = b.start; message = b.message; address = b.address
 -- a tile is asked for; anything else is answered at once
 abbrev pub asked : World → ℕ → Chance → Kind → ℕ → Message → Request → World × List Answer
 asked w n c kind i m (request.Tile a) = settled w n c i (started w n m a) (events kind w.cabinet a c)
-asked w n c kind i m request.Capabilities = told_in w n c i m (Some request.Capabilities) (copied w.capabilities c.work)
-asked w n c kind i m (request.Refused code locator) = told_in w n c i m (Some (request.Refused code locator)) (Refused code locator)
-asked w n c kind i m request.NotFound = told_in w n c i m (Some request.NotFound) NotFound
-asked w n c kind i m request.WrongMethod = told_in w n c i m (Some request.WrongMethod) WrongMethod
+asked w n c kind i m request.Capabilities = told_in w n c i m (Some request.Capabilities) (w.cabinet, copied w.capabilities c.work)
+asked w n c kind i m (request.Refused code locator) = told_in w n c i m (Some (request.Refused code locator)) (w.cabinet, Refused code locator)
+asked w n c kind i m request.NotFound = told_in w n c i m (Some request.NotFound) (w.cabinet, NotFound)
+asked w n c kind i m request.WrongMethod = told_in w n c i m (Some request.WrongMethod) (w.cabinet, WrongMethod)
+asked w n c kind i m request.Usage = told_in w n c i m (Some request.Usage) (w.cabinet, told_usage w.cabinet c.work)
+asked w n c kind i m (request.Truncation cover) = told_in w n c i m (Some (request.Truncation cover)) (cut w.cabinet cover c.ask)
+asked w n c kind i m (request.Unformed fault) = told_in w n c i m (Some (request.Unformed fault)) (w.cabinet, Unformed fault)
+asked w n c kind i m request.Expiry = told_in w n c i m (Some request.Expiry) (expired w.cabinet c.work)
 
--- a message is answered where it leads to what is served; memory may run out before it is read
-abbrev pub sent : World → ℕ → Chance → Kind → ℕ → Message → Option Route → Option (World × List Answer)
-sent w n c kind i m None = None
-sent w n c kind i m (Some route) = Some (if c.read then asked w n c kind i m (request_at w.cabinet.catalogue m.target route) else told_in w n c i m None NoMemory)
+-- what a message asks for, by the table of paths
+abbrev pub request_in : World → Message → Request
+request_in w m = request_at w.cabinet.catalogue m (route_of m.method (path_of m.target))
+
+-- a message is answered; memory may run out before it is read
+abbrev pub sent : World → ℕ → Chance → Kind → ℕ → Message → World × List Answer
+sent w n c kind i m = if c.read then asked w n c kind i m (request_in w m) else told_in w n c i m None (w.cabinet, NoMemory)
 
 -- there is the actor, and it is not busy
-abbrev pub if_free : Option (Option Busy) → Option (World × List Answer) → Option (World × List Answer)
+abbrev pub if_free : Option (Option Busy) → World × List Answer → Option (World × List Answer)
 if_free None d = None
-if_free (Some None) d = d
+if_free (Some None) d = Some d
 if_free (Some (Some b)) d = None
 
 -- there is the actor, and it is busy
@@ -127,20 +131,12 @@ stepped w n c i None = None
 stepped w n c i (Some None) = None
 stepped w n c i (Some (Some b)) = Some (settled w n c i (resumed w b) (advanced w.cabinet b.actor c.work c.blob))
 
--- a truncation is answered at once
-abbrev pub truncates : World → ℕ → Chance → ℕ → Message → World × List Answer
-truncates w n c i m =
-    let done = truncated w.cabinet m.body c.read c.ask in
-    let answer : Answer = record { line = n; actor = i; start = n; message = m; request = None; place = length w.cabinet.history; outcome = told_at c.left done.1 } in
-    (record { cabinet = done.0; capabilities = w.capabilities; seats = w.seats }, answer ∷ [])
-
 -- what one line does: the world after it and its answers, unless it is refused
 abbrev pub line_done : World → ℕ → Chance → Option Deed → Option (World × List Answer)
 line_done w n c None = None
 line_done w n c (Some Idle) = Some (w, [])
-line_done w n c (Some (Sends kind i m)) = if_free (slice_get w.seats i) (sent w n c kind i m (route_of m.method (path_of m.target)))
+line_done w n c (Some (Sends kind i m)) = if_free (slice_get w.seats i) (sent w n c kind i m)
 line_done w n c (Some (Steps i)) = stepped w n c i (slice_get w.seats i)
-line_done w n c (Some (Truncates i m)) = if_free (slice_get w.seats i) (Some (truncates w n c i m))
 
 -- what a run has come to: its answers, the world, and the number of the line that was refused
 pub record Run : Type 0 where
@@ -185,10 +181,13 @@ is_failed NotFound = false
 is_failed WrongMethod = false
 is_failed SourceFailed = true
 is_failed Spent = false
+is_failed (Usage text) = false
 is_failed (Cut number) = false
 is_failed CutsFull = false
 is_failed CutSpent = false
 is_failed (Unformed fault) = false
+is_failed (Dropped text) = false
+is_failed Within = false
 is_failed NoMemory = false
 
 -- how many answers say that the source failed

@@ -1,18 +1,25 @@
-//! The service of tiles: requests are answered, and a schedule is a list of requests.
+//! The service of tiles: messages are answered, and a schedule is a list of what actors do, line by line.
+//!
+//! An actor sends a message, or makes the next event of the tile that it is busy with. Messages ask for tiles, for the
+//! document of the capabilities or for what is kept, truncate, or expire.
 //!
 //! Promises: the answers of a schedule are those of its run (`specs/Run.antt`), in order, each message led by the table of
 //! paths (`specs/Routes.antt`) and answered by its response (`specs/Response.antt`); each tile is the picture of its number
-//! and fresh at its ask (`specs/Schedules.antt`); a request answers that the source failed only where the source's count
-//! of faults rose in it (`specs/Requests.antt`).
-//! Stands on cabinet, source_render, wmts_kvp, wmts_rest, schedule_text and http_wire.
+//! and fresh at its last ask or force (`specs/Schedules.antt`). No more answers of the run say that the source failed, and no
+//! more failures are yet to be answered, than the source's count of faults rose by (`failed` there).
+//! Stands on cabinet, cache_core, source_render, job_forms, wmts_kvp, wmts_rest, schedule_text and http_wire.
 #![tactic(auto)]
 
 mod answer;
+mod call;
 mod came;
+mod commands;
 pub mod counter;
 mod deal;
+mod dropped;
 mod events;
 mod lines;
+mod numbers;
 pub mod outcome;
 pub mod request;
 mod response;
@@ -21,3 +28,4 @@ mod run_line;
 mod run_lines;
 pub mod schedule;
 mod seats;
+mod usage;

@@ -1,8 +1,11 @@
 ghost use Rattle.std.specs.Prelude.{◌≡◌, ◌<◌, ◌≤◌, ◌∷◌, length};
 ghost use Rattle.std.specs.Option.{option_map};
-ghost use Rattle.tile_service.specs.Lines.{lines_of, line_length, deed_of, deed_with, is_idle, deed_in};
+ghost use Rattle.tile_service.specs.Lines.{lines_of, line_length, get, post, deed_of, deed_with, is_idle, deed_in};
+ghost use Rattle.tile_service.specs.Routes.{message_of};
 
+use crate::call::Call;
 use crate::request::Kind;
+use http_wire::message::Method;
 use schedule_text::line::{LINE_LIMIT, read_line};
 use schedule_text::verb::Verb;
 
@@ -10,12 +13,10 @@ use schedule_text::verb::Verb;
 #[derive(Clone, Copy, Debug)]
 pub enum Act<'a> {
     Nothing,
-    /// This actor asks for this target.
-    Sends(Kind, u32, &'a [u8]),
+    /// This actor sends this message.
+    Sends(Kind, u32, Call<'a>),
     /// This actor makes the next event of what it is busy with.
     Steps(u32),
-    /// This actor truncates by the cover of this text.
-    Truncates(u32, &'a [u8]),
 }
 
 fn line_length(text: &[u8]) -> usize
@@ -56,16 +57,39 @@ fn is_idle(line: &[u8]) -> bool
     }
 }
 
-fn act_with(actor: u32, verb: Verb, rest: &[u8]) -> Option<Act<'_>>
-    ensures { option_map deed_of result ≡ deed_with actor verb rest.now }
+/// The message of method GET for a target.
+fn get(target: &[u8]) -> Call<'_>
+    ensures { message_of result ≡ get target.now }
+{
+    Call {
+        method: Method::Get,
+        target,
+        body: b"",
+    }
+}
+
+/// The message of method POST for a target, with a body.
+fn post<'a>(target: &'a [u8], body: &'a [u8]) -> Call<'a>
+    ensures { message_of result ≡ post target.now body.now }
+{
+    Call {
+        method: Method::Post,
+        target,
+        body,
+    }
+}
+
+/// What an actor does by a verb, with the rest of its line.
+fn act_with(actor: u32, verb: Verb, rest: &[u8]) -> Act<'_>
+    ensures { deed_of result ≡ deed_with actor verb rest.now }
 {
     match verb {
-        Verb::Get => Some(Act::Sends(Kind::Gets, actor, rest)),
-        Verb::Ask => Some(Act::Sends(Kind::Asks, actor, rest)),
-        Verb::Force => Some(Act::Sends(Kind::Forces, actor, rest)),
-        Verb::Step => Some(Act::Steps(actor)),
-        Verb::Truncate => Some(Act::Truncates(actor, rest)),
-        Verb::Expire => None,
+        Verb::Get => Act::Sends(Kind::Gets, actor, get(rest)),
+        Verb::Ask => Act::Sends(Kind::Asks, actor, get(rest)),
+        Verb::Force => Act::Sends(Kind::Forces, actor, get(rest)),
+        Verb::Step => Act::Steps(actor),
+        Verb::Truncate => Act::Sends(Kind::Gets, actor, post(b"/truncate", rest)),
+        Verb::Expire => Act::Sends(Kind::Gets, actor, post(b"/expire", b"")),
     }
 }
 
@@ -84,5 +108,5 @@ pub fn act_of(line: &[u8]) -> Option<Act<'_>>
         return None;
     };
     let (_, rest) = line.split_at(read.rest.start as usize);
-    act_with(read.actor, read.verb, rest)
+    Some(act_with(read.actor, read.verb, rest))
 }

@@ -19,6 +19,8 @@ pub enum Outcome {
     SourceFailed,
     /// No number of a render is left.
     Spent,
+    /// What is kept, as text.
+    Usage(Words),
     /// The truncation was done, and has this number.
     Cut(u64),
     /// As many truncations would stay in force as may be.
@@ -27,6 +29,10 @@ pub enum Outcome {
     CutSpent,
     /// The text of a truncation is no cover.
     Unformed(JobFault),
+    /// The expiry dropped a metatile, which this JSON text names.
+    Dropped(Words),
+    /// No quota is exceeded; nothing was dropped.
+    Within,
     /// Memory ran out.
     NoMemory,
 }

@@ -4,7 +4,9 @@ ghost use Rattle.tile_service.specs.Requests.{outcome_of};
 use crate::outcome::Outcome;
 use cache_core::outcome::{Outcome as CoreOutcome, Tile};
 use exception_report::code::{Code, Locator};
+use job_forms::fault::JobFault;
 use matrix_geometry::address::Address;
+use truncation_list::cover::Cover;
 
 /// What is asked for.
 #[derive(Drop)]
@@ -19,6 +21,14 @@ pub enum Request {
     NotFound,
     /// Its path takes another method.
     WrongMethod,
+    /// What is kept, and how many truncations are in force.
+    Usage,
+    /// A truncation by a cover of the catalogue.
+    Truncation(Cover),
+    /// A truncation by a text that is no cover.
+    Unformed(JobFault),
+    /// An expiry.
+    Expiry,
 }
 
 /// How a tile is asked for.

@@ -3,10 +3,10 @@ ghost use Rattle.exception_report.specs.Report.{report_of};
 ghost use Rattle.exception_report.specs.Status.{status_of};
 ghost use Rattle.tile_service.specs.Response.{type_header, status_text, close_header, response_text, tile_headers, bare, json, cut_text, kind_of, spelt, field_of, fault_text, response_with};
 
+use crate::numbers::add_number;
 use crate::outcome::Outcome;
 use exception_report::code::{Code, Locator};
 use exception_report::report::{report, status_of};
-use itoa::Buffer;
 use job_forms::fault::{JobFault, JobField};
 use std::alloc::{AllocError, Global};
 
@@ -63,13 +63,12 @@ fn response(
 ) -> Result<Vec<u8>, AllocError>
     ensures { IfOk result (λ v. v.items ≡ response_text status kind.now more.now closes body.now) }
 {
-    let mut buffer = Buffer::new();
     let mut text = Vec::from_slice(alloc, b"HTTP/1.1 ")?;
     text.extend_from_slice(status_text(status))?;
     text.extend_from_slice(b"\r\n")?;
     add_type(&mut text, kind, body)?;
     text.extend_from_slice(b"Content-Length: ")?;
-    text.extend_from_slice(buffer.format(body.len()).as_bytes())?;
+    add_number(&mut text, body.len() as u64)?;
     text.extend_from_slice(b"\r\n")?;
     text.extend_from_slice(more)?;
     text.extend_from_slice(close_header(closes))?;
@@ -81,7 +80,6 @@ fn response(
 fn tile_headers(alloc: Global, hit: bool, number: u64) -> Result<Vec<u8>, AllocError>
     ensures { IfOk result (λ v. v.items ≡ tile_headers hit number) }
 {
-    let mut buffer = Buffer::new();
     let mut text = Vec::from_slice(alloc, b"geowebcache-cache-result: ")?;
     if hit {
         text.extend_from_slice(b"HIT")?;
@@ -89,7 +87,7 @@ fn tile_headers(alloc: Global, hit: bool, number: u64) -> Result<Vec<u8>, AllocE
         text.extend_from_slice(b"MISS")?;
     }
     text.extend_from_slice(b"\r\ntile-render: ")?;
-    text.extend_from_slice(buffer.format(number).as_bytes())?;
+    add_number(&mut text, number)?;
     text.extend_from_slice(b"\r\n")?;
     Ok(text)
 }
@@ -150,9 +148,8 @@ fn json(alloc: Global, closes: bool, status: u16, body: &[u8]) -> Result<Vec<u8>
 fn cut(alloc: Global, closes: bool, number: u64) -> Result<Vec<u8>, AllocError>
     ensures { IfOk result (λ v. v.items ≡ json closes 200 (cut_text number)) }
 {
-    let mut buffer = Buffer::new();
     let mut text = Vec::from_slice(alloc, b"{\"cut\":")?;
-    text.extend_from_slice(buffer.format(number).as_bytes())?;
+    add_number(&mut text, number)?;
     text.extend_from_slice(b"}\n")?;
     json(alloc, closes, 200, text.as_slice())
 }
@@ -229,10 +226,13 @@ pub fn response_with(alloc: Global, closes: bool, outcome: &Outcome) -> Result<V
         Outcome::WrongMethod => bare(alloc, closes, 405),
         Outcome::SourceFailed => reported(alloc, closes, Code::NoApplicableCode, &Locator::Nowhere),
         Outcome::Spent => response(alloc, 500, b"text/plain", b"", closes, b"numbers spent\n"),
+        Outcome::Usage(text) => response(alloc, 200, b"text/plain", b"", closes, text.bytes()),
         Outcome::Cut(number) => cut(alloc, closes, *number),
         Outcome::CutsFull => json(alloc, closes, 409, b"{\"fault\":\"cuts full\"}\n"),
         Outcome::CutSpent => json(alloc, closes, 500, b"{\"fault\":\"numbers spent\"}\n"),
         Outcome::Unformed(fault) => unformed(alloc, closes, *fault),
+        Outcome::Dropped(text) => json(alloc, closes, 200, text.bytes()),
+        Outcome::Within => json(alloc, closes, 200, b"{\"within\":true}\n"),
         Outcome::NoMemory => bare(alloc, closes, 503),
     }
 }

@@ -4,11 +4,15 @@ ghost use Rattle.catalog.specs.declared.catalogue.Catalogue.{Catalogue};
 ghost use Rattle.catalog.specs.Valid.{IsValid};
 ghost use Rattle.wmts_kvp.specs.Reading.{IsOfCatalogue};
 ghost use Rattle.tile_service.specs.Requests.{IsOf};
-ghost use Rattle.tile_service.specs.Routes.{path_of, query_of, by_get, by_post, route_of, request_of, request_or_none, request_at};
+ghost use Rattle.job_forms.specs.Cover.{cover_of};
+ghost use Rattle.tile_service.specs.Routes.{path_of, query_of, message_of, by_get, by_post, route_of, request_of, request_or_none, truncation_of, request_at};
 
+use crate::call::Call;
 use crate::request::Request;
 use catalog::catalogue::Catalogue;
 use http_wire::message::Method;
+use job_forms::fault::JobFault;
+use job_forms::read_cover;
 use std::alloc::{AllocError, Global};
 use wmts_kvp::query::{Query, read_query};
 use wmts_rest::table::RestTable;
@@ -20,6 +24,12 @@ pub enum Route {
     Query,
     /// To the reading of the path.
     Path,
+    /// To the text of what is kept.
+    Usage,
+    /// To the truncation by the cover of the body.
+    Truncate,
+    /// To an expiry.
+    Expire,
     /// Nowhere.
     NotFound,
     /// To what takes another method.
@@ -61,46 +71,46 @@ fn query_of(target: &[u8]) -> &[u8]
 }
 
 /// Where a path leads that takes GET.
-fn by_get(method: Method, found: Option<Route>) -> Option<Route>
+fn by_get(method: Method, found: Route) -> Route
     ensures { result ≡ by_get method found }
 {
     match method {
         Method::Get => found,
-        Method::Post | Method::Delete | Method::Other => Some(Route::WrongMethod),
+        Method::Post | Method::Delete | Method::Other => Route::WrongMethod,
     }
 }
 
 /// Where a path leads that takes POST.
-fn by_post(method: Method, found: Option<Route>) -> Option<Route>
+fn by_post(method: Method, found: Route) -> Route
     ensures { result ≡ by_post method found }
 {
     match method {
         Method::Post => found,
-        Method::Get | Method::Delete | Method::Other => Some(Route::WrongMethod),
+        Method::Get | Method::Delete | Method::Other => Route::WrongMethod,
     }
 }
 
-/// Where a path leads by a method; `None` where that isn't served yet.
+/// Where a path leads by a method.
 #[tactic(auto, unfolding(crate::specs::Routes::route_of))]
-pub fn route_of(method: Method, path: &[u8]) -> Option<Route>
+pub fn route_of(method: Method, path: &[u8]) -> Route
     ensures { result ≡ route_of method path.now }
 {
     if path == b"/wmts".as_slice() {
-        return by_get(method, Some(Route::Query));
+        return by_get(method, Route::Query);
     }
     if path.starts_with(b"/rest/wmts/") {
-        return by_get(method, Some(Route::Path));
+        return by_get(method, Route::Path);
     }
     if path == b"/usage".as_slice() {
-        return by_get(method, None);
+        return by_get(method, Route::Usage);
     }
     if path == b"/truncate".as_slice() {
-        return by_post(method, None);
+        return by_post(method, Route::Truncate);
     }
     if path == b"/expire".as_slice() {
-        return by_post(method, None);
+        return by_post(method, Route::Expire);
     }
-    Some(Route::NotFound)
+    Route::NotFound
 }
 
 /// What the reading of a query asks for.
@@ -126,27 +136,43 @@ fn request_or_none(reading: Option<Query>) -> Request
     }
 }
 
-/// What a target asks for where it leads there. `AllocError` where memory runs out.
+/// What the reading of a cover asks for. `AllocError` where memory runs out.
+fn truncation_of(alloc: Global, catalogue: &Catalogue, text: &[u8]) -> Result<Request, AllocError>
+    requires { IsValid catalogue.now }
+    ensures value { IfOk result (λ r. r ≡ truncation_of (cover_of catalogue.now text.now)) }
+    ensures cover { IfOk result (λ r. IsOf catalogue.now r) }
+{
+    match read_cover(alloc, catalogue, text) {
+        Ok(cover) => Ok(Request::Truncation(cover)),
+        Err(JobFault::OutOfMemory) => Err(AllocError),
+        Err(fault) => Ok(Request::Unformed(fault)),
+    }
+}
+
+/// What a message asks for where its path leads there. `AllocError` where memory runs out.
 pub fn request_at(
     alloc: Global,
     catalogue: &Catalogue,
     rest: &RestTable,
-    target: &[u8],
+    call: &Call<'_>,
     route: Route,
 ) -> Result<Request, AllocError>
     requires { IsValid catalogue.now }
-    ensures value { IfOk result (λ r. r ≡ request_at catalogue.now target.now route) }
-    ensures tile { IfOk result (λ r. IsOf catalogue.now r) }
+    ensures value { IfOk result (λ r. r ≡ request_at catalogue.now (message_of call.now) route) }
+    ensures of { IfOk result (λ r. IsOf catalogue.now r) }
 {
     match route {
         Route::Query => {
-            let query = read_query(alloc, catalogue, query_of(target))?;
+            let query = read_query(alloc, catalogue, query_of(call.target))?;
             Ok(request_of(query))
         }
         Route::Path => {
-            let reading = rest.read_path(alloc, catalogue, path_of(target))?;
+            let reading = rest.read_path(alloc, catalogue, path_of(call.target))?;
             Ok(request_or_none(reading))
         }
+        Route::Usage => Ok(Request::Usage),
+        Route::Truncate => truncation_of(alloc, catalogue, call.body),
+        Route::Expire => Ok(Request::Expiry),
         Route::NotFound => Ok(Request::NotFound),
         Route::WrongMethod => Ok(Request::WrongMethod),
     }

@@ -71,7 +71,7 @@ fn a_force_renders_over_a_kept_tile(rt: HostRuntime) -> Result<(), Fail> {
     let alloc = rt.alloc();
     let tile = q(alloc, "demo", 0, 0, 0)?;
     let lines = format!(in alloc;
-        "0 GET {tile}\n0 FORCE {tile}\n1 GET {tile}\n0 STEP\n0 STEP\n1 GET {tile}\n"
+        "0 GET {tile}\n0 FORCE {tile}\n1 GET {tile}\n0 STEP\n0 STEP\n1 GET {tile}\n0 GET /usage\n"
     )?;
     let (status, output) = ran_in(alloc, b"", lines.as_str(), &mut Numbered::new(0))?;
     let mut expected = Vec::new(alloc);
@@ -103,6 +103,9 @@ fn a_force_renders_over_a_kept_tile(rt: HostRuntime) -> Result<(), Fail> {
         "HIT\r\ntile-render: 2",
         [0x86, 0x0e, 0xee, 0x76],
     )?;
+    let usage =
+        b"HTTP/1.1 200 OK\r\nContent-Type: text/plain\r\nContent-Length: 38\r\n\r\nlayer demo 1 23 -\ntotal 1 23 -\ncuts 0\n";
+    add(&mut expected, alloc, (7, 0, 7), usage)?;
     assert_eq!(rt; status, Status::Done);
     assert_eq!(rt; output, expected);
     Ok(())

@@ -8,8 +8,3 @@ pub returns-in-Some-Nothing-clause-deals : goal.returns-in-Some-Nothing-clause-d
 returns-in-Some-Nothing-clause-deals g c =
     let e = sym c.act_of.ensures ∙ ap (option_map deed_of) (c.in-Some-Nothing.is ∙ ap Some c.in-Some-Nothing.field-0-is) in
     rw e (idle_deals _ _ c.args.counter.now.cabinet c.args.counter.now.capabilities c.args.seats.now c.args.n)
-
-pub returns-in-Some-Truncates-clause-deals : goal.returns-in-Some-Truncates-clause-deals
-returns-in-Some-Truncates-clause-deals g c =
-    let e = sym c.act_of.ensures ∙ ap (option_map deed_of) (c.in-Some-Truncates.is ∙ ap Some c.in-Some-Truncates.field-0-is) in
-    rw e (c.cut.ensures.deals _ _)

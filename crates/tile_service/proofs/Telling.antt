@@ -1,0 +1,112 @@
+-- An answer at once: what it leaves of the cabinet, and what holds of it.
+use Rattle.std.proofs.Common.{◌≡◌, ℕ, ◌+◌, Bool, true, false, List, [], ◌∷◌, length, filter, Option, Some, None, refl, sym, arith, append-nil, if◌then◌else◌}
+use Rattle.std.specs.Prelude.{nat_lt}
+use Rattle.std.specs.List.{AllByRecursion}
+use Rattle.std.specs.Option.{IfSome}
+use Rattle.cabinet.specs.Commands.{book_before}
+use Rattle.cabinet.specs.Counted.{scope_exceeded, victim_in}
+use Rattle.cabinet.specs.declared.entry.Entry.TheVariants as entry
+use Rattle.cabinet.specs.declared.kept.KeptBlob.{KeptBlob}
+use Rattle.cabinet.specs.History.{History, next}
+use Rattle.cabinet.specs.State.{State, IsSound, now, with_cut}
+use Rattle.cache_core.specs.Fits.{Extends}
+use Rattle.catalog.specs.declared.catalogue.Catalogue.{Catalogue}
+use Rattle.catalog.specs.declared.catalogue.Scope.{Scope}
+use Rattle.http_wire.specs.declared.message.Message.{Message}
+use Rattle.metatile_plan.specs.declared.metatile.MetaKey.{MetaKey}
+use Rattle.tile_service.specs.declared.outcome.Outcome.{Outcome}
+use Rattle.tile_service.specs.declared.outcome.Outcome.TheVariants as outcome
+use Rattle.tile_service.specs.declared.request.Request.{Request}
+use Rattle.tile_service.specs.OneLine.{Keeps, world_of}
+use Rattle.tile_service.specs.Requests.{told_at, copied, told_usage, cut_by, cut, dropped, expired_in, expired, tile_of}
+use Rattle.tile_service.specs.Run.{Busy, Answer, is_failed, failures, unanswered, IsTrueFor, IsFreshFor}
+use Rattle.tile_service.specs.Texts.{dropped_text, usage_text}
+use Rattle.tile_service.proofs.Moving.{stay_covered, within_longer}
+use Rattle.tile_service.proofs.Seating.{seats_later}
+use Rattle.truncation_list.specs.declared.cover.Cover.{Cover}
+
+-- WHAT STAYS
+
+all_filtered : (P : KeptBlob → Type 0) (f : KeptBlob → Bool) (xs : List KeptBlob) → AllByRecursion P xs → AllByRecursion P (filter f xs)
+all_filtered P f [] all = tt
+all_filtered P f (x ∷ xs) all = chosen (f x) (all_filtered P f xs all.1)
+  where
+    chosen : (b : Bool) → AllByRecursion P (filter f xs) → AllByRecursion P (if b then x ∷ filter f xs else filter f xs)
+    chosen true rest = (all.0, rest)
+    chosen false rest = rest
+
+-- the catalogue stays, the history goes on, what is kept stays true, and no failure is told
+abbrev pub Stays : State → State × Outcome → Type 0
+Stays s done = (done.0.catalogue ≡ s.catalogue) × Extends s.history done.0.history × (IsSound s → IsSound done.0) × (is_failed done.1 ≡ false)
+
+pub same_stays : (s : State) (o : Outcome) → is_failed o ≡ false → Stays s (s, o)
+same_stays s o e = (refl, ([], sym (append-nil s.history)), λ is. is, e)
+
+none_failed : (left : Bool) (o : Outcome) → is_failed o ≡ false → is_failed (told_at left o) ≡ false
+none_failed true o e = e
+none_failed false o e = refl
+
+pub copied_stays : (s : State) (document : List ℕ) (left : Bool) → Stays s (s, copied document left)
+copied_stays s document left = same_stays s (copied document left) (none_failed left (outcome.Document document) refl)
+
+pub usage_stays : (s : State) (left : Bool) → Stays s (s, told_usage s left)
+usage_stays s left = same_stays s (told_usage s left) (none_failed left (outcome.Usage (usage_text s)) refl)
+
+cover_stays : (s : State) (cover : Cover) (o : Option ℕ) → Stays s (cut_by s cover o)
+cover_stays s cover None = same_stays s outcome.CutSpent refl
+cover_stays s cover (Some t) = chosen (nat_lt (length (book_before s cover).cuts) s.catalogue.cut_limit)
+  where
+    chosen : (b : Bool) → Stays s (if b then (with_cut s t cover, outcome.Cut t) else (s, outcome.CutsFull))
+    chosen true = (refl, (entry.Cut t cover ∷ [], refl), λ is. all_filtered _ _ s.blobs is, refl)
+    chosen false = same_stays s outcome.CutsFull refl
+
+pub cut_stays : (s : State) (cover : Cover) (left : Bool) → Stays s (cut s cover left)
+cut_stays s cover true = cover_stays s cover (next s.opening (now s))
+cut_stays s cover false = same_stays s outcome.NoMemory refl
+
+dropped_stays : (s : State) (left : Bool) (o : Option MetaKey) → Stays s (dropped s left o)
+dropped_stays s left None = same_stays s outcome.Within refl
+dropped_stays s left (Some m) = (refl, (entry.Dropped m ∷ [], refl), λ is. all_filtered _ _ s.blobs is, none_failed left (outcome.Dropped (dropped_text s.catalogue m)) refl)
+
+scope_stays : (s : State) (left : Bool) (o : Option Scope) → Stays s (expired_in s left o)
+scope_stays s left None = same_stays s outcome.Within refl
+scope_stays s left (Some scope) = dropped_stays s left (victim_in s scope)
+
+pub expired_stays : (s : State) (left : Bool) → Stays s (expired s left)
+expired_stays s left = scope_stays s left (scope_exceeded s)
+
+-- WHAT HOLDS
+
+abbrev pub AsksNoTile : Option Request → Type 0
+AsksNoTile r = IfSome r (λ asked. tile_of asked ≡ None)
+
+told_true : (c : Catalogue) (r : Option Request) (o : Outcome) → AsksNoTile r → IsTrueFor c r o
+told_true c None o e = tt
+told_true c (Some r) o e = rw e tt
+
+told_fresh : (c : Catalogue) (h : History) (p : ℕ) (r : Option Request) (o : Outcome) → AsksNoTile r → IsFreshFor c h p r o
+told_fresh c h p None o e = tt
+told_fresh c h p (Some r) o e = rw e tt
+
+one_failed : (a : Answer) → is_failed a.outcome ≡ false → failures (a ∷ []) ≡ 0
+one_failed a e = rw e refl
+
+-- an answer at once in line n, by the actor i
+abbrev pub told_answer : State → ℕ → ℕ → Message → Option Request → Outcome → Bool → Answer
+told_answer s n i m r o left = record { line = n; actor = i; start = n; message = m; request = r; place = length s.history; outcome = told_at left o }
+
+pub told_keeps : (told : Option ℕ) (count : ℕ) (s t : State) (document : List ℕ) (busy : List (Option Busy)) (n i : ℕ) (m : Message) (r : Option Request) (o : Outcome) (left : Bool) → Stays s (t, o) → AsksNoTile r
+    → Keeps told count count (world_of s document busy) (world_of t document busy) (told_answer s n i m r o left ∷ [])
+told_keeps told count s t document busy n i m r o left k other =
+    let a = told_answer s n i m r o left in
+    let none : failures (a ∷ []) ≡ 0 = one_failed a (none_failed left o k.3) in
+    record {
+      later = omega arith;
+      failed = stay_covered count count (unanswered busy) (failures (a ∷ []) + unanswered busy) (omega arith) (omega arith);
+      world = λ all. rw k.0 (seats_later s.catalogue s.history t.history k.1 busy all);
+      sound = λ e all is. (k.2 is.0, rw k.0 is.1);
+      truth = λ e all is. (told_true s.catalogue r a.outcome other, tt);
+      fresh = λ all. ((within_longer s.history t.history (length s.history) k.1 (omega arith), told_fresh s.catalogue t.history (length s.history) r a.outcome other), tt);
+      grows = k.1;
+      catalogue = k.0;
+    }

@@ -1,0 +1,9 @@
+use http_wire::message::Method;
+
+/// A message that is not the last of its connection, where it stands: its target and its body are borrowed.
+#[derive(Clone, Copy, Debug)]
+pub struct Call<'a> {
+    pub method: Method,
+    pub target: &'a [u8],
+    pub body: &'a [u8],
+}
