@@ -5,4 +5,10 @@
 //! Stands on metatile_plan and catalog.
 #![tactic(auto)]
 
+mod choosing;
+pub mod laws;
+mod order;
+mod table;
+#[cfg(test)]
+mod tests;
 pub mod uses;

@@ -1,0 +1,5 @@
+pub mod Held
+pub mod Orders
+pub mod Finds
+pub mod First
+pub mod Choices
