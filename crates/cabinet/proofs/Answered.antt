@@ -7,12 +7,15 @@ use Rattle.std.proofs.lemmas.Bool.{cases_lt}
 use Rattle.std.proofs.lemmas.Bool.Decides.{nat_tests}
 use Rattle.std.proofs.lemmas.Grind.{fold-append}
 use Rattle.std.proofs.lemmas.List.{length-map}
+use Rattle.catalog.specs.declared.catalogue.Scope.{Scope}
+use Rattle.expiry_policy.specs.Victims.{Counts, victim}
 use Rattle.extent_map.specs.declared.part.Part.{Part}
 use Rattle.extent_map.specs.Parts.{part_at, LieInOrder}
 use Rattle.extent_map.specs.Spaces.{Space, IsFree, IsTaken, NoneFree, NoneFreeBelow}
 use Rattle.matrix_geometry.specs.declared.address.Address.{Address}
 use Rattle.metatile_plan.specs.declared.metatile.MetaKey.{MetaKey}
 use Rattle.metatile_plan.proofs.Same.{same_meta_is}
+use Rattle.quota_ledger.specs.Accounts.{Accounts, exceeded}
 use Rattle.raster_field.specs.Blocks.{blob_size, block_of, block_text, tile_part}
 use Rattle.truncation_list.specs.declared.book.Book.{Book}
 use Rattle.truncation_list.specs.declared.cover.Cover.{Cover}
@@ -26,11 +29,13 @@ use Rattle.cabinet.specs.declared.entry.Entry.TheVariants as entry
 use Rattle.cabinet.specs.declared.kept.Kept.{Kept}
 use Rattle.cabinet.specs.declared.kept.KeptBlob.{KeptBlob}
 use Rattle.cabinet.specs.declared.replies.CutReply.TheVariants as reply
+use Rattle.cabinet.specs.declared.replies.Expired.TheVariants as expired
 use Rattle.cabinet.specs.declared.replies.Finished.TheVariants as finished
-use Rattle.cabinet.specs.Commands.{Cuts, Finishes, IsHit, kept_at, others}
+use Rattle.cabinet.specs.Commands.{Cuts, Expires, Finishes, IsHit, kept_at, others}
+use Rattle.cabinet.specs.Counted.{IsCounted}
 use Rattle.cabinet.specs.Gaps.{gap_for, lowest_gap}
 use Rattle.cabinet.specs.History.{Standing, but, is_of, kept_of, least_of, lesser, next, numbers}
-use Rattle.cabinet.specs.State.{IsConsistent, IsSound, State, now, with_blob, with_cut, with_entry}
+use Rattle.cabinet.specs.State.{IsConsistent, IsSound, State, now, with_blob, with_cut, with_dropped, with_entry}
 use Rattle.cabinet.proofs.Consistent.{stood}
 use Rattle.cabinet.proofs.Holding.{least_has, least_most}
 use Rattle.cabinet.proofs.Lists.{all_of_map, all_push, find_map, map_filter}
@@ -106,7 +111,7 @@ module _ (s : State) (last room : ℕ) (renders : List Render) (book : Book) (sp
 
   -- FINISHES
 
-  others_are : (m : MetaKey) → length (filter (λ b. not (is_of m b.kept)) s.blobs) ≡ others s m
+  pub others_are : (m : MetaKey) → length (filter (λ b. not (is_of m b.kept)) s.blobs) ≡ others s m
   others_are m =
       sym (length-map (filter (λ b. not (is_of m b.kept)) s.blobs) (λ (b : KeptBlob). b.kept)) ∙ ap length (map_filter (λ (b : KeptBlob). b.kept) (λ t. not (is_of m t)) s.blobs ∙ ap (but m) kept_are)
 
@@ -159,6 +164,12 @@ module _ (s : State) (last room : ℕ) (renders : List Render) (book : Book) (sp
   cut_done_row cover least listed new zero left l b room_left is =
       (next_some zero left, subst (λ (x : Book). length x.cuts < s.catalogue.cut_limit) (before_is cover least listed l b) room_left, is)
 
+-- EXPIRES
+
+pub dropped_row : (s : State) (running : ℕ) (ledger : Accounts) (counts : Counts) → IsCounted s running ledger counts → (scope : Scope) (m : MetaKey) (new : State) → exceeded ledger ≡ Some scope → victim counts.policy scope counts.held ≡ Some m
+    → new ≡ with_dropped s m → Expires s (expired.Dropped m) new
+dropped_row s running ledger counts k scope m new above goes is = (scope, ap exceeded (sym k.bytes) ∙ above, (λ i. victim (sym k.policy i) scope (sym k.held i)) ∙ goes, is)
+
 -- a count that is not told to be at the limit is below it
 pub below_limit : (count limit : ℕ) (told : Bool) → told ≡ false → (limit ≤ count → told ≡ true) → count < limit
 below_limit count limit told off on = elim (cases_lt count limit) [
@@ -172,3 +183,6 @@ pub sound_stored : (s : State) (t : Kept) (blob : List ℕ) (new : State) → Is
 sound_stored s t blob new sound text is =
     rw is (all_push (λ (b : KeptBlob). b.text ≡ block_text s.catalogue b.kept.number b.kept.meta) (filter (λ b. not (is_of t.meta b.kept)) s.blobs) (record { kept = t; text = blob })
     (all_filter (λ (b : KeptBlob). b.text ≡ block_text s.catalogue b.kept.number b.kept.meta) (λ b. not (is_of t.meta b.kept)) s.blobs sound) text)
+
+pub sound_dropped : (s : State) (m : MetaKey) (new : State) → IsSound s → new ≡ with_dropped s m → IsSound new
+sound_dropped s m new sound is = rw is (all_filter (λ (b : KeptBlob). b.text ≡ block_text s.catalogue b.kept.number b.kept.meta) (λ b. not (is_of m b.kept)) s.blobs sound)

@@ -27,7 +27,7 @@ use Rattle.cabinet.specs.History.{History, Standing, after, but, is_of, least_of
 use Rattle.cabinet.specs.Fresh.{Holds, HoldsOfRender, May, cuts_of}
 use Rattle.cabinet.specs.State.{IsConsistent, State, now}
 use Rattle.cabinet.proofs.Holding.{above_listed, holds_of}
-use Rattle.cabinet.proofs.Lists.{all_push, find_map}
+use Rattle.cabinet.proofs.Lists.{all_push, find_map, map_filter}
 use Rattle.cabinet.proofs.Regions.{alone, last_of, region}
 use Rattle.cabinet.proofs.Rows.{map_spared, map_stored, one_more, stood_more}
 
@@ -95,7 +95,7 @@ module _ (s : State) (last room : ℕ) (renders : List Render) (book : Book) (sp
       rw (e, same) (one_entry (entry.Ended n) h s.blobs last room (without n renders) book space tt is refl k.known.lengths front_left k.parts k.size (omega arith) (omega arith))
 
   -- the render of a ticket is one less
-  one_less : (t : Ticketed) (r : Render) → render_of t renders ≡ Some r → length (without t.number renders) + 1 ≤ length renders
+  pub one_less : (t : Ticketed) (r : Render) → render_of t renders ≡ Some r → length (without t.number renders) + 1 ≤ length renders
   one_less t r e = fewer (is_render_of t) (λ x. not (has_number t.number x)) (λ x is. ap not (both (has_number t.number x) _ is).0) renders r e
 
   pub after_stored : (t : Kept) (text : List ℕ) (h : History) (blobs : List KeptBlob) (room' : ℕ) (renders' : List Render) (taken space' : Space) → render_of (record { number = t.number; meta = t.meta }) renders ≡ Some (unmarked t.number t.meta)
@@ -119,6 +119,16 @@ module _ (s : State) (last room : ℕ) (renders : List Render) (book : Book) (sp
       (all_push (λ (b : KeptBlob). (length b.text ≡ b.kept.length) × (b.kept.length ≡ blob_size s.catalogue b.kept.meta)) (filter (λ b. not (is_of t.meta b.kept)) s.blobs) (record { kept = t; text = text })
       (all_filter (λ (b : KeptBlob). (length b.text ≡ b.kept.length) × (b.kept.length ≡ blob_size s.catalogue b.kept.meta)) (λ b. not (is_of t.meta b.kept)) s.blobs k.known.lengths) (long, size))
       front_left (parts ∙ sym pushed ∙ ap regions (sym listed)) (omega arith) (omega arith) (omega arith))
+
+  pub after_dropped : (m : MetaKey) (t : Kept) (h : History) (blobs : List KeptBlob) (room' : ℕ) (space' : Space) → find (is_of m) (map (λ b. b.kept) s.blobs) ≡ Some t → h ≡ s.history ++ entry.Dropped m ∷ [] → blobs ≡ filter (λ b. not (is_of m b.kept)) s.blobs
+      → space'.parts ≡ regions (but m (map (λ b. b.kept) s.blobs)) → space'.size ≡ space.size → space.spare ≤ space'.spare → room' ≡ room → IsConsistent (record { catalogue = s.catalogue; opening = s.opening; history = h; blobs = blobs }) last room' renders book space'
+  after_dropped m t h blobs room' space' e is e1 parts size spare wide =
+      let x = k.fits in let y = k.spare in
+      let f = few (λ (b : KeptBlob). not (is_of m b.kept)) s.blobs in
+      let listed = map_filter (λ (b : KeptBlob). b.kept) (λ t. not (is_of m t)) s.blobs in
+      rw e1 (one_entry (entry.Dropped m) h (filter (λ b. not (is_of m b.kept)) s.blobs) last room' renders book space' (rw e refl) is (λ i. record { front = last; kept = sym listed i; out = renders; book = book })
+      (all_filter (λ (b : KeptBlob). (length b.text ≡ b.kept.length) × (b.kept.length ≡ blob_size s.catalogue b.kept.meta)) (λ b. not (is_of m b.kept)) s.blobs k.known.lengths) front_left (parts ∙ ap regions (sym listed)) (size ∙ k.size)
+      (omega arith) (omega arith))
 
   pub after_cut : (cover : Cover) (least : Option ℕ) (h : History) (blobs : List KeptBlob) (room' : ℕ) (renders' : List Render) (book' : Book) (space' : Space) → IsCoverOf s.catalogue cover → last < 2 ^ 40 - 1
       → least ≡ least_of (numbers renders (map (λ b. b.kept) s.blobs)) → h ≡ s.history ++ entry.Cut (last + 1) cover ∷ [] → blobs ≡ filter (λ b. not (hits_of s.catalogue cover b.kept.meta)) s.blobs

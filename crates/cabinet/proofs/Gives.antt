@@ -32,30 +32,39 @@ pub giving_start : (keep : Kept → Bool) (front : List Kept) (blobs : List Kept
 giving_start keep front blobs e is sound = record { parts = rw (append-nil front) is; size = refl; spare = omega arith; sound = sound }
 
 -- the next one, and those before and behind it
-before_is : (keep : Kept → Bool) (front : List Kept) (blobs : List KeptBlob) (i : ℕ) (d : KeptBlob) → i < length blobs → still keep front blobs i ≡ (front ++ filter keep (map (λ b. b.kept) (take i blobs))) ++ (get_or blobs i d).kept ∷ map (λ b. b.kept) (drop (i + 1) blobs)
-before_is keep front blobs i d l = ap (λ (xs : List KeptBlob). front ++ filter keep (map (λ b. b.kept) (take i blobs)) ++ map (λ b. b.kept) xs) (drop_more blobs i d l)
+module _ (keep : Kept → Bool) (front : List Kept) (blobs : List KeptBlob) (i : ℕ) (d : KeptBlob) (l : i < length blobs) where
+  pub before_is : still keep front blobs i ≡ (front ++ filter keep (map (λ b. b.kept) (take i blobs))) ++ (get_or blobs i d).kept ∷ map (λ b. b.kept) (drop (i + 1) blobs)
+  before_is = ap (λ (xs : List KeptBlob). front ++ filter keep (map (λ b. b.kept) (take i blobs)) ++ map (λ b. b.kept) xs) (drop_more blobs i d l)
 
-after_is : (keep : Kept → Bool) (front : List Kept) (blobs : List KeptBlob) (i : ℕ) (d : KeptBlob) → i < length blobs
-    → still keep front blobs (i + 1) ≡ front ++ (filter keep (map (λ b. b.kept) (take i blobs)) ++ filter keep ((get_or blobs i d).kept ∷ [])) ++ map (λ b. b.kept) (drop (i + 1) blobs)
-after_is keep front blobs i d l =
-    let t = (get_or blobs i d).kept in
-    let e = ap (map (λ (b : KeptBlob). b.kept)) (take_more blobs i d l) ∙ map-append (λ (b : KeptBlob). b.kept) (take i blobs) (get_or blobs i d ∷ []) in
-    ap (λ (xs : List Kept). front ++ xs ++ map (λ b. b.kept) (drop (i + 1) blobs)) (ap (filter keep) e ∙ filter-append keep (map (λ b. b.kept) (take i blobs)) ((get_or blobs i d).kept ∷ []))
+  after_is : still keep front blobs (i + 1) ≡ front ++ (filter keep (map (λ b. b.kept) (take i blobs)) ++ filter keep ((get_or blobs i d).kept ∷ [])) ++ map (λ b. b.kept) (drop (i + 1) blobs)
+  after_is =
+      let e = ap (map (λ (b : KeptBlob). b.kept)) (take_more blobs i d l) ∙ map-append (λ (b : KeptBlob). b.kept) (take i blobs) (get_or blobs i d ∷ []) in
+      ap (λ (xs : List Kept). front ++ xs ++ map (λ b. b.kept) (drop (i + 1) blobs)) (ap (filter keep) e ∙ filter-append keep (map (λ b. b.kept) (take i blobs)) ((get_or blobs i d).kept ∷ []))
+
+  -- where it is given, it is left out
+  pub still_off : keep (get_or blobs i d).kept ≡ false → still keep front blobs (i + 1) ≡ front ++ filter keep (map (λ b. b.kept) (take i blobs)) ++ map (λ b. b.kept) (drop (i + 1) blobs)
+  still_off off =
+      let left : filter keep ((get_or blobs i d).kept ∷ []) ≡ [] = rw off refl in
+      after_is ∙ ap (λ (xs : List Kept). front ++ xs ++ map (λ b. b.kept) (drop (i + 1) blobs)) (ap (λ (xs : List Kept). filter keep (map (λ b. b.kept) (take i blobs)) ++ xs) left ∙ append-nil (filter keep (map (λ b. b.kept) (take i blobs))))
+
+  -- where it is not, all is as before
+  pub still_on : keep (get_or blobs i d).kept ≡ true → still keep front blobs (i + 1) ≡ still keep front blobs i
+  still_on on =
+      let left : filter keep ((get_or blobs i d).kept ∷ []) ≡ (get_or blobs i d).kept ∷ [] = rw on refl in
+      after_is
+      ∙ ap (λ (xs : List Kept). front ++ (filter keep (map (λ b. b.kept) (take i blobs)) ++ xs) ++ map (λ b. b.kept) (drop (i + 1) blobs)) left
+      ∙ ap (λ (xs : List Kept). xs ++ map (λ b. b.kept) (drop (i + 1) blobs)) (sym (append_assoc front (filter keep (map (λ b. b.kept) (take i blobs))) ((get_or blobs i d).kept ∷ [])))
+      ∙ append_assoc (front ++ filter keep (map (λ b. b.kept) (take i blobs))) ((get_or blobs i d).kept ∷ []) (map (λ b. b.kept) (drop (i + 1) blobs))
+      ∙ sym before_is
 
 module _ (keep : Kept → Bool) (front : List Kept) (blobs : List KeptBlob) (i : ℕ) (d : KeptBlob) (old now : Space) (l : i < length blobs) (g : IsGiving keep front blobs i old now) where
   -- the region is one of those that are taken
   out_of : keep (get_or blobs i d).kept ≡ false → now.parts ≡ inserted (region (get_or blobs i d).kept) (regions (still keep front blobs (i + 1)))
   out_of off =
-      let t = (get_or blobs i d).kept in
-      let done = filter keep (map (λ b. b.kept) (take i blobs)) in
-      let rest = map (λ b. b.kept) (drop (i + 1) blobs) in
       let here : now.parts ≡ regions ((front ++ filter keep (map (λ b. b.kept) (take i blobs))) ++ (get_or blobs i d).kept ∷ map (λ b. b.kept) (drop (i + 1) blobs)) = g.parts ∙ ap regions (before_is keep front blobs i d l) in
-      let left : filter keep ((get_or blobs i d).kept ∷ []) ≡ [] = rw off refl in
-      let there : still keep front blobs (i + 1) ≡ front ++ filter keep (map (λ b. b.kept) (take i blobs)) ++ map (λ b. b.kept) (drop (i + 1) blobs) =
-      after_is keep front blobs i d l ∙ ap (λ (xs : List Kept). front ++ xs ++ map (λ b. b.kept) (drop (i + 1) blobs)) (ap (λ (xs : List Kept). filter keep (map (λ b. b.kept) (take i blobs)) ++ xs) left ∙ append-nil (filter keep (map (λ b. b.kept) (take i blobs)))) in
       here
       ∙ one_of 0 (front ++ filter keep (map (λ b. b.kept) (take i blobs))) (get_or blobs i d).kept (map (λ b. b.kept) (drop (i + 1) blobs)) now.size (subst (λ (ps : List Part). LieInOrder 0 ps now.size) here g.sound)
-      ∙ ap (λ (ts : List Kept). inserted (region (get_or blobs i d).kept) (regions ts)) (sym there)
+      ∙ ap (λ (ts : List Kept). inserted (region (get_or blobs i d).kept) (regions ts)) (sym (still_off keep front blobs i d l off))
 
   is_taken : keep (get_or blobs i d).kept ≡ false → Contains now.parts (region (get_or blobs i d).kept)
   is_taken off = subst (λ (ps : List Part). Contains ps (region (get_or blobs i d).kept)) (sym (out_of off)) (has_inserted (region (get_or blobs i d).kept) (regions (still keep front blobs (i + 1))))
@@ -70,15 +79,7 @@ module _ (keep : Kept → Bool) (front : List Kept) (blobs : List KeptBlob) (i :
       }
 
   kept_more : keep (get_or blobs i d).kept ≡ true → IsGiving keep front blobs (i + 1) old now
-  kept_more on =
-      let left : filter keep ((get_or blobs i d).kept ∷ []) ≡ (get_or blobs i d).kept ∷ [] = rw on refl in
-      let same : still keep front blobs (i + 1) ≡ still keep front blobs i =
-      after_is keep front blobs i d l
-      ∙ ap (λ (xs : List Kept). front ++ (filter keep (map (λ b. b.kept) (take i blobs)) ++ xs) ++ map (λ b. b.kept) (drop (i + 1) blobs)) left
-      ∙ ap (λ (xs : List Kept). xs ++ map (λ b. b.kept) (drop (i + 1) blobs)) (sym (append_assoc front (filter keep (map (λ b. b.kept) (take i blobs))) ((get_or blobs i d).kept ∷ [])))
-      ∙ append_assoc (front ++ filter keep (map (λ b. b.kept) (take i blobs))) ((get_or blobs i d).kept ∷ []) (map (λ b. b.kept) (drop (i + 1) blobs))
-      ∙ sym (before_is keep front blobs i d l) in
-      record { parts = g.parts ∙ ap regions (sym same); size = g.size; spare = g.spare; sound = g.sound }
+  kept_more on = record { parts = g.parts ∙ ap regions (sym (still_on keep front blobs i d l on)); size = g.size; spare = g.spare; sound = g.sound }
 
 -- the one at hand is seen to
 pub may_give : (keep : Kept → Bool) (front : List Kept) (blobs : List KeptBlob) (i : ℕ) (x : KeptBlob) (old now : Space) (is_given : Bool) → i < length blobs → x ≡ get_or blobs i x → IsGiving keep front blobs i old now → keep x.kept ≡ not is_given
@@ -93,9 +94,12 @@ giving_more keep front blobs i x old now new true l at g is taken same sound =
 giving_more keep front blobs i x old now new false l at g is taken same sound =
     subst (IsGiving keep front blobs (i + 1) old) (sym (same refl)) (kept_more keep front blobs i x old now l g (subst (λ (y : KeptBlob). keep y.kept ≡ true) at is))
 
+-- and at the end
+pub still_end : (keep : Kept → Bool) (front : List Kept) (blobs : List KeptBlob) (i : ℕ) → length blobs ≤ i → still keep front blobs i ≡ front ++ filter keep (map (λ b. b.kept) blobs)
+still_end keep front blobs i l =
+    ap (λ (xs : List KeptBlob). front ++ filter keep (map (λ b. b.kept) (take i blobs)) ++ map (λ b. b.kept) xs) (drop_all i blobs l)
+    ∙ append-nil (front ++ filter keep (map (λ b. b.kept) (take i blobs)))
+    ∙ ap (λ (xs : List KeptBlob). front ++ filter keep (map (λ b. b.kept) xs)) (take_all i blobs l)
+
 pub giving_end : (keep : Kept → Bool) (front : List Kept) (blobs : List KeptBlob) (i : ℕ) (old now : Space) → length blobs ≤ i → IsGiving keep front blobs i old now → now.parts ≡ regions (front ++ filter keep (map (λ b. b.kept) blobs))
-giving_end keep front blobs i old now l g =
-    g.parts
-    ∙ ap (λ (xs : List KeptBlob). regions (front ++ filter keep (map (λ b. b.kept) (take i blobs)) ++ map (λ b. b.kept) xs)) (drop_all i blobs l)
-    ∙ ap regions (append-nil (front ++ filter keep (map (λ b. b.kept) (take i blobs))))
-    ∙ ap (λ (xs : List KeptBlob). regions (front ++ filter keep (map (λ b. b.kept) xs))) (take_all i blobs l)
+giving_end keep front blobs i old now l g = g.parts ∙ ap regions (still_end keep front blobs i l)

@@ -11,3 +11,9 @@ pub mod Served
 pub mod Gives
 pub mod Consistent
 pub mod Answered
+pub mod UsesAfter
+pub mod Counting
+pub mod Once
+pub mod Bytes
+pub mod Tallied
+pub mod Forgets

@@ -25,7 +25,7 @@ use Rattle.cabinet.proofs.Lists.{all_push, all_found, all_both}
 
 -- NUMBERS THAT DIFFER
 
-apart_filter : {X : Type 0} (f : X → ℕ) (p : X → Bool) (xs : List X) → ApartBy f xs → ApartBy f (filter p xs)
+pub apart_filter : {X Y : Type 0} (f : X → Y) (p : X → Bool) (xs : List X) → ApartBy f xs → ApartBy f (filter p xs)
 apart_filter f p [] a = tt
 apart_filter f p (x ∷ xs) a = chosen (p x) (apart_filter f p xs a.1)
   where
@@ -33,7 +33,7 @@ apart_filter f p (x ∷ xs) a = chosen (p x) (apart_filter f p xs a.1)
     chosen true rest = (all_filter (λ y. f x ≢ f y) p xs a.0, rest)
     chosen false rest = rest
 
-apart_push : {X : Type 0} (f : X → ℕ) (xs : List X) (y : X) → ApartBy f xs → AllByRecursion (λ x. f x ≢ f y) xs → ApartBy f (xs ++ y ∷ [])
+pub apart_push : {X Y : Type 0} (f : X → Y) (xs : List X) (y : X) → ApartBy f xs → AllByRecursion (λ x. f x ≢ f y) xs → ApartBy f (xs ++ y ∷ [])
 apart_push f [] y a b = (tt, tt)
 apart_push f (x ∷ xs) y a b = (all_push (λ z. f x ≢ f z) xs y a.0 b.0, apart_push f xs y a.1 b.1)
 

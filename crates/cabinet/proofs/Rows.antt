@@ -1,12 +1,17 @@
 -- Each row of a command leaves a cabinet of which all that is said of cabinets holds, and what it hands out is fresh.
-use Rattle.std.proofs.Common.{ℕ, ◌≡◌, ◌+◌, ◌-◌, ◌*◌, ◌^◌, ◌<◌, ◌≤◌, Bool, true, false, cond, not, List, [], ◌∷◌, ◌++◌, length, map, filter, Some, None, refl, sym, ap, subst, ◌∙◌, inl, inr, arith}
-use Rattle.std.specs.Prelude.{nat_lt}
+use Rattle.std.proofs.Common.{ℕ, ◌≡◌, ◌+◌, ◌-◌, ◌*◌, ◌^◌, ◌<◌, ◌≤◌, Bool, true, false, cond, not, List, [], ◌∷◌, ◌++◌, length, map, filter, Option, Some, None, refl, sym, ap, subst, ◌∙◌, inl, inr, arith}
+use Rattle.std.specs.Prelude.{IsSome, nat_lt}
 use Rattle.std.specs.List.{AllByRecursion}
+use Rattle.std.specs.Option.{option_map}
 use Rattle.std.proofs.lemmas.Bool.Decides.{nat_tests}
 use Rattle.std.proofs.lemmas.Grind.{fold-append}
 use Rattle.std.proofs.lemmas.List.{map-append}
 use Rattle.catalog.specs.declared.catalogue.Catalogue.{Catalogue}
+use Rattle.catalog.specs.declared.catalogue.Scope.{Scope}
 use Rattle.catalog.specs.LookUp.{IsTile}
+use Rattle.expiry_policy.specs.declared.uses.Use.{Use}
+use Rattle.expiry_policy.specs.Victims as victims
+use Rattle.expiry_policy.proofs.Choices.{victim_held}
 use Rattle.matrix_geometry.specs.declared.address.Address.{Address}
 use Rattle.metatile_plan.specs.declared.metatile.MetaKey.{MetaKey}
 use Rattle.raster_field.specs.Blocks.{IsMeta, block_of, blob_size}
@@ -18,6 +23,8 @@ use Rattle.cabinet.specs.declared.entry.Entry.{Entry}
 use Rattle.cabinet.specs.declared.entry.Entry.TheVariants as entry
 use Rattle.cabinet.specs.declared.kept.Kept.{Kept}
 use Rattle.cabinet.specs.declared.kept.KeptBlob.{KeptBlob}
+use Rattle.cabinet.specs.declared.replies.Expired.{Expired}
+use Rattle.cabinet.specs.declared.replies.Expired.TheVariants as expired
 use Rattle.cabinet.specs.declared.replies.Asked.{Asked}
 use Rattle.cabinet.specs.declared.replies.Asked.TheVariants as asked
 use Rattle.cabinet.specs.declared.replies.Forced.{Forced}
@@ -28,12 +35,13 @@ use Rattle.cabinet.specs.declared.replies.CutReply.{CutReply}
 use Rattle.cabinet.specs.declared.replies.CutReply.TheVariants as reply
 use Rattle.cabinet.specs.Hits.{hits_of}
 use Rattle.served_covers.specs.OfCatalogue.{IsCoverOf}
-use Rattle.cabinet.specs.History.{History, Standing, nothing, standing, after, next, is_of, but, spared}
+use Rattle.cabinet.specs.History.{History, Standing, nothing, standing, after, kept_of, next, is_of, but, spared}
 use Rattle.cabinet.specs.Fresh.{May, Possible, IsFresh}
 use Rattle.cabinet.specs.State.{State, now, with_entry, IsKnown, IsKnownAs}
-use Rattle.cabinet.specs.Commands.{Asks, Forces, Finishes, Abandons, Cuts, IsGiven, IsFreshReply, IsFreshForced, kept_at}
+use Rattle.cabinet.specs.Commands.{Asks, Forces, Finishes, Abandons, Cuts, Expires, IsGiven, IsFreshReply, IsFreshForced, kept_at}
 use Rattle.cabinet.proofs.Fresher.{begun_fresh, kept_fresh, still_fresh}
-use Rattle.cabinet.proofs.Lists.{all_push, map_filter}
+use Rattle.cabinet.specs.Counted.{use_of, uses_of, victim_in}
+use Rattle.cabinet.proofs.Lists.{all_push, find_map, map_filter}
 
 pub possible_more : (c : Catalogue) (s : Standing) (h : History) (e : Entry) → Possible c s h → May c (standing c s h) e → Possible c s (h ++ e ∷ [])
 possible_more c s [] e a b = (b, tt)
@@ -146,6 +154,33 @@ pub cuts_known : (s t : State) (cover : Cover) (r : CutReply) → IsKnown s → 
 cuts_known s t cover reply.Spent k of r = the_same s t k r.1
 cuts_known s t cover reply.Full k of r = the_same s t k r.2
 cuts_known s t cover (reply.Done n) k of r = done s t cover n k of r
+
+-- what is kept but of a metatile
+map_others : (m : MetaKey) (blobs : List KeptBlob) (kept : List Kept) → map (λ b. b.kept) blobs ≡ kept → map (λ b. b.kept) (filter (λ b. not (is_of m b.kept)) blobs) ≡ but m kept
+map_others m blobs kept e = map_filter (λ (b : KeptBlob). b.kept) (λ t. not (is_of m t)) blobs ∙ ap (but m) e
+
+-- a victim is kept
+goes_kept : (s : State) (scope : Scope) (m : MetaKey) → victim_in s scope ≡ Some m → IsSome (kept_of m (now s))
+goes_kept s scope m goes =
+    let held = victim_held s.catalogue.policy scope (uses_of s) m goes in
+    some_before (λ (t : Kept). use_of s.history t.meta) (kept_of m (now s)) (subst IsSome (find_map (λ (t : Kept). use_of s.history t.meta) (victims.is_of m) (now s).kept) held)
+  where
+    some_before : (f : Kept → Use) (o : Option Kept) → IsSome (option_map f o) → IsSome o
+    some_before f (Some t) h = refl
+    some_before f None h = absurd (cc)
+
+gone : (s t : State) (m : MetaKey) → IsKnown s → Expires s (expired.Dropped m) t → IsKnownAs s t
+gone s t m k r =
+    rw r.3 (record {
+      known = one_more s (entry.Dropped m) (filter (λ b. not (is_of m b.kept)) s.blobs) k (goes_kept s r.0 m r.2) (map_others m s.blobs (now s).kept k.blobs)
+          (all_filter (λ (b : KeptBlob). (length b.text ≡ b.kept.length) × (b.kept.length ≡ blob_size s.catalogue b.kept.meta)) (λ b. not (is_of m b.kept)) s.blobs k.lengths) k.left;
+      same_catalogue = refl;
+      same_opening = refl;
+    })
+
+pub expires_known : (s t : State) (r : Expired) → IsKnown s → Expires s r t → IsKnownAs s t
+expires_known s t expired.Within k r = the_same s t k r.1
+expires_known s t (expired.Dropped m) k r = gone s t m k r
 
 -- FRESH
 

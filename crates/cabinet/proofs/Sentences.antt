@@ -19,7 +19,7 @@ truths false true f g = absurd (let e = g refl in cc)
 truths false false f g = refl
 
 -- what is of m is of n exactly where n is m
-at_both : (u m n : MetaKey) → same_meta u m ≡ true → same_meta u n ≡ same_meta n m
+pub at_both : (u m n : MetaKey) → same_meta u m ≡ true → same_meta u n ≡ same_meta n m
 at_both u m n is =
     truths (same_meta u n) (same_meta n m) (λ h. subst (λ (x : MetaKey). same_meta x m ≡ true) (same_meta_is u n h) is) (λ h. subst (λ (x : MetaKey). same_meta u x ≡ true) (sym (same_meta_is n m h)) is)
 

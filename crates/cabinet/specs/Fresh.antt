@@ -77,7 +77,7 @@ pub record Holds (c : Catalogue) (cuts : List Cut) (s : Standing) : Type 0 where
   pub out : AllByRecursion (HoldsOfRender c cuts s.front s.book.floor) s.out
 
 -- any two of the list differ in what f says of them
-abbrev pub ApartBy : {X : Type 0} → (X → ℕ) → List X → Type 0
+abbrev pub ApartBy : {X Y : Type 0} → (X → Y) → List X → Type 0
 ApartBy f [] = ⊤
 ApartBy f (x ∷ xs) = AllByRecursion (λ y. f x ≢ f y) xs × ApartBy f xs
 

@@ -1,16 +1,18 @@
-ghost use Rattle.std.specs.Prelude.{IfOk, OnErr, length, ◌≡◌};
+ghost use Rattle.std.specs.Prelude.{IfOk, OnErr, length, ◌<◌, ◌≡◌};
 ghost use Rattle.catalog.specs.LookUp.{IsTile};
 ghost use Rattle.catalog.specs.Valid.{IsValid};
 ghost use Rattle.raster_field.specs.Blocks.{IsMeta, blob_size, block_text};
 
 use crate::blob::{blob_bytes, tile_in};
 use crate::entry::Entry;
-use crate::giving::{give_hit, give_older};
+use crate::forgetting::forget_hit;
+use crate::giving::{give_hit, give_older, give_one};
 use crate::hitting::overtake;
 use crate::kept::{Kept, KeptBlob};
-use crate::replies::{Asked, CutReply, Finished, Forced};
+use crate::replies::{Asked, CutReply, Expired, Finished, Forced};
 use crate::room::make_room;
-use crate::shelf::{count_others, drop_hit, kept_of, least_with, shelve};
+use crate::shelf::{count_in, count_others, drop_hit, drop_of, kept_of, least_with, older_of, shelve};
+use crate::tally::Tally;
 use catalog::catalogue::Catalogue;
 use exact_ratio::words::Words;
 use extent_map::extents::Extents;
@@ -39,24 +41,27 @@ pub struct Cabinet {
     locks: Locks,
     cuts: CutList,
     extents: Extents,
+    tally: Tally,
     past: Trace<Entry>,
 }
 
 impl Model for Cabinet {
-    ghost use Rattle.std.specs.Prelude.{vec_capacity};
+    ghost use Rattle.std.specs.Prelude.{length, vec_capacity};
+    ghost use Rattle.cabinet.specs.Counted.{IsCounted};
     ghost use Rattle.cabinet.specs.State.{IsConsistent, State};
 
     ghost Value = { State };
 
     ghost view = { λ a. record { catalogue = a.catalogue; opening = 0; history = a.past.entries; blobs = a.blobs.items } };
 
-    ghost invariant = { λ a. IsConsistent (record { catalogue = a.catalogue; opening = 0; history = a.past.entries; blobs = a.blobs.items }) a.last (vec_capacity a.blobs) a.locks.renders a.cuts.book a.extents };
+    ghost invariant = { λ a. IsConsistent (record { catalogue = a.catalogue; opening = 0; history = a.past.entries; blobs = a.blobs.items }) a.last (vec_capacity a.blobs) a.locks.renders a.cuts.book a.extents × IsCounted (record { catalogue = a.catalogue; opening = 0; history = a.past.entries; blobs = a.blobs.items }) (length a.locks.renders) a.tally.ledger a.tally.uses };
 }
 
 impl Cabinet {
-    ghost use Rattle.cabinet.specs.State.{fresh_state, with_entry, IsKnown, IsSound};
+    ghost use Rattle.cabinet.specs.State.{fresh_state, now, with_entry, IsKnown, IsSound};
     ghost use Rattle.served_covers.specs.OfCatalogue.{IsCoverOf};
-    ghost use Rattle.cabinet.specs.Commands.{Asks, Forces, Finishes, Abandons, Cuts, IsTrueHit, IsFreshReply};
+    ghost use Rattle.cabinet.specs.Commands.{Asks, Forces, Finishes, Abandons, Cuts, Expires, IsTrueHit, IsFreshReply};
+    ghost use Rattle.cabinet.specs.Counted.{kept_in, used, used_all};
 
     /// A cabinet in memory, in which nothing has happened. `AllocError` where memory runs out.
     pub fn memory(alloc: Global, catalogue: Catalogue) -> Result<Cabinet, AllocError>
@@ -66,6 +71,7 @@ impl Cabinet {
         let locks = Locks::new(alloc)?;
         let cuts = CutList::new(alloc)?;
         let extents = Extents::new(alloc, catalogue.blob_bytes)?;
+        let tally = Tally::new(alloc, &catalogue)?;
         Ok(Cabinet {
             catalogue,
             last: 0,
@@ -73,6 +79,7 @@ impl Cabinet {
             locks,
             cuts,
             extents,
+            tally,
             past: Trace::new(),
         })
     }
@@ -105,6 +112,7 @@ impl Cabinet {
             Some(blob) => {
                 let number = blob.kept.number;
                 let text = tile_in(alloc, &self.catalogue, address, blob.text.bytes())?;
+                self.tally.uses.touch(&meta);
                 self.past = self.past.and(&Entry::Used(meta));
                 return Ok(Asked::Hit(number, text));
             }
@@ -131,7 +139,7 @@ impl Cabinet {
         if self.last >= LAST {
             return Ok(Forced::Spent);
         }
-        make_room(alloc, &mut self.blobs, &mut self.locks, &mut self.extents)?;
+        make_room(alloc, &mut self.blobs, &mut self.locks, &mut self.extents, &mut self.tally.uses)?;
         let number = self.last + 1;
         let ticket = match self.locks.begin(meta, number) {
             Begin::Busy(busy) => return Ok(Forced::Busy(busy)),
@@ -179,6 +187,7 @@ impl Cabinet {
             length,
         };
         give_older(&mut self.extents, self.blobs.as_slice(), &kept);
+        self.tally.keep(older_of(self.blobs.as_slice(), &meta), kept);
         let text = Words::of(blob);
         shelve(&mut self.blobs, KeptBlob { kept, text });
         self.past = self.past.and(&Entry::Stored(number, meta, place, length));
@@ -214,17 +223,72 @@ impl Cabinet {
             return Ok(CutReply::Full);
         }
         let number = self.last + 1;
-        give_hit(
-            &mut self.extents,
-            self.blobs.as_slice(),
-            &self.catalogue,
-            cover,
-        );
+        let blobs = self.blobs.as_slice();
+        forget_hit(&mut self.tally, blobs, &self.catalogue, cover);
+        give_hit(&mut self.extents, blobs, &self.catalogue, cover);
         drop_hit(&mut self.blobs, &self.catalogue, cover);
         overtake(&mut self.locks, &self.catalogue, cover, number);
         self.cuts.add(number, cover, least);
         self.last = number;
         self.past = self.past.and(&Entry::Cut(number, *cover));
         Ok(CutReply::Done(number))
+    }
+
+    /// Drops the first metatile to go of the scope whose quota is exceeded, if one is. It takes no memory.
+    pub fn expire(&mut self) -> Expired
+        ensures expires { Expires self.old result self.new }
+        ensures sound { IsSound self.old → IsSound self.new }
+    {
+        let scope = match self.tally.ledger.exceeded() {
+            None => return Expired::Within,
+            Some(scope) => scope,
+        };
+        let Some(meta) = self.tally.uses.victim(scope) else {
+            unreachable!()
+        };
+        let Some(kept) = older_of(self.blobs.as_slice(), &meta) else {
+            unreachable!()
+        };
+        give_one(&mut self.extents, kept);
+        self.tally.forget(kept);
+        drop_of(&mut self.blobs, &meta);
+        self.past = self.past.and(&Entry::Dropped(meta));
+        Expired::Dropped(meta)
+    }
+
+    /// The bytes that the kept metatiles of a layer take.
+    pub fn used(&self, layer: u32) -> u64
+        requires { layer < length self.now.catalogue.layers }
+        ensures { result ≡ used self.now layer }
+    {
+        self.tally.ledger.used(layer)
+    }
+
+    /// The bytes that all kept metatiles take.
+    pub fn used_all(&self) -> u64
+        ensures { result ≡ used_all self.now }
+    {
+        self.tally.ledger.used_all()
+    }
+
+    /// How many metatiles of a layer are kept.
+    pub fn kept_in(&self, layer: u32) -> u32
+        ensures { result ≡ kept_in self.now layer }
+    {
+        count_in(self.blobs.as_slice(), layer) as u32
+    }
+
+    /// How many metatiles are kept.
+    pub fn kept(&self) -> u32
+        ensures { result ≡ length (now self.now).kept }
+    {
+        self.blobs.len() as u32
+    }
+
+    /// How many cuts are in force.
+    pub fn cuts(&self) -> u32
+        ensures { result ≡ length (now self.now).book.cuts }
+    {
+        self.cuts.count()
     }
 }

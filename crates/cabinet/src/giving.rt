@@ -57,3 +57,13 @@ pub fn give_older(extents: &mut Extents, blobs: &[KeptBlob], new: &Kept)
         give_if(extents, blob.kept, is_given);
     }
 }
+
+/// Gives back the region of one kept metatile.
+pub fn give_one(extents: &mut Extents, kept: Kept)
+    requires { IsSound extents.old → Contains extents.old.parts (part_at kept.place kept.length) }
+    ensures given { IsTaken extents.new (part_at kept.place kept.length) extents.old }
+    ensures sound { IsSound extents.old }
+{
+    let _ = extents.spare();
+    extents.give(kept.place, kept.length);
+}

@@ -14,9 +14,10 @@ ghost use Rattle.truncation_list.specs.Books.{AnswersFor};
 ghost use Rattle.cabinet.specs.declared.kept.Kept.{Kept};
 ghost use Rattle.cabinet.specs.declared.replies.Asked.{Asked};
 ghost use Rattle.cabinet.specs.declared.replies.CutReply.{CutReply};
+ghost use Rattle.cabinet.specs.declared.replies.Expired.{Expired};
 ghost use Rattle.cabinet.specs.declared.replies.Finished.{Finished};
 ghost use Rattle.cabinet.specs.declared.replies.Forced.{Forced};
-ghost use Rattle.cabinet.specs.Commands.{Abandons, Asks, Cuts, Finishes, Forces, IsFreshForced, IsFreshReply};
+ghost use Rattle.cabinet.specs.Commands.{Abandons, Asks, Cuts, Expires, Finishes, Forces, IsFreshForced, IsFreshReply};
 ghost use Rattle.cabinet.specs.Fresh.{Differ, Holds, IsFresh, Possible, cuts_of};
 ghost use Rattle.served_covers.specs.OfCatalogue.{IsCoverOf};
 ghost use Rattle.cabinet.specs.History.{History, kept, kept_of, nothing, render, standing, ticket_render};
@@ -45,6 +46,7 @@ pub fn laws_of_rows()
     ensures finishes { (s : State) (new : State) (t : Ticketed) (blob : List ℕ) (r : Finished) → IsKnown s → length blob ≡ blob_size s.catalogue t.meta → Finishes s t blob r new → IsKnownAs s new }
     ensures abandons { (s : State) (new : State) (t : Ticketed) → IsKnown s → Abandons s t new → IsKnownAs s new }
     ensures cuts { (s : State) (new : State) (cover : Cover) (r : CutReply) → IsKnown s → IsCoverOf s.catalogue cover → Cuts s cover r new → IsKnownAs s new }
+    ensures expires { (s : State) (new : State) (r : Expired) → IsKnown s → Expires s r new → IsKnownAs s new }
     ensures asks_fresh { (s : State) (new : State) (a : Address) (r : Asked) → IsKnown s → IsTile s.catalogue a → Asks s a r new → IsFreshReply s a r new }
     ensures forces_fresh { (s : State) (new : State) (a : Address) (r : Forced) → IsKnown s → IsTile s.catalogue a → Forces s (block_of s.catalogue a) r new → IsFreshForced s a r new }
 {}

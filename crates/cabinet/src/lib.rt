@@ -9,6 +9,7 @@
 mod blob;
 pub mod cabinet;
 pub mod entry;
+mod forgetting;
 mod giving;
 mod hitting;
 pub mod kept;
@@ -16,5 +17,6 @@ pub mod laws;
 pub mod replies;
 mod room;
 mod shelf;
+mod tally;
 #[cfg(test)]
 mod tests;

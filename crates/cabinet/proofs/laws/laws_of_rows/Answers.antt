@@ -1,4 +1,4 @@
-use Rattle.cabinet.proofs.Rows.{abandons_known, asks_fresh, asks_known, cuts_known, finishes_known, forces_fresh, forces_known}
+use Rattle.cabinet.proofs.Rows.{abandons_known, asks_fresh, asks_known, cuts_known, expires_known, finishes_known, forces_fresh, forces_known}
 use Rattle.cabinet.proofs.laws.laws_of_rows.Goals as goal
 
 pub returns : goal.returns
@@ -8,6 +8,7 @@ returns c = record {
   finishes = finishes_known;
   abandons = abandons_known;
   cuts = cuts_known;
+  expires = expires_known;
   asks_fresh = asks_fresh;
   forces_fresh = forces_fresh;
 }
