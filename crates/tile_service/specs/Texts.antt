@@ -3,7 +3,7 @@
 use Rattle.std.specs.Prelude.{ℕ, ◌+◌, ◌==◌, if◌then◌else◌, List, [], ◌∷◌, ◌++◌, length, Option, Some, None, slice_get, codes, decimal}
 use Rattle.std.specs.List.{join_with_byte}
 use Rattle.std.specs.Option.{option_map_or}
-use Rattle.cabinet.specs.Counted.{kept_in, kept_count, used, used_all}
+use Rattle.cabinet.specs.Counted.{kept_in, used, used_all}
 use Rattle.cabinet.specs.State.{State, now}
 use Rattle.catalog.specs.declared.catalogue.Catalogue.{Catalogue}
 use Rattle.catalog.specs.declared.layer.Dimension.{Dimension}
@@ -33,7 +33,7 @@ layer_lines s n (l ∷ ls) = layer_line s n l ++ layer_lines s (n + 1) ls
 
 -- the line of all layers
 abbrev pub total_line : State → List ℕ
-total_line s = codes "total" ++ counts_text (kept_count s) (used_all s) s.catalogue.quota
+total_line s = codes "total" ++ counts_text (length (now s).kept) (used_all s) s.catalogue.quota
 
 -- how many truncations are in force
 abbrev pub cuts_line : State → List ℕ
