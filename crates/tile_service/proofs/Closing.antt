@@ -19,13 +19,15 @@ all_left_same : (s : State) (busy : List (Option Busy)) → all_left s (map seat
 all_left_same s [] = refl
 all_left_same s (b ∷ busy) = all_left_same (left_at s (seat_of b)) busy ∙ ap (λ u. fold left_by u busy) (left_same s b)
 
-pub closes_at : (s t : State) (document : List ℕ) (busy : List (Option Busy)) (seats : List Seat) → map seat_of busy ≡ seats → t ≡ all_left s seats → world_of t document free_seats ≡ closed (world_of s document busy)
-closes_at s t document busy seats same e = ap (λ u. world_of u document free_seats) (e ∙ rw (sym same) (all_left_same s busy))
+whole_front : (n : ℕ) (front rest : List Seat) → length front ≡ n → take n (front ++ rest) ≡ front
+whole_front n front rest e = rw (sym e) (take-append_seam front rest)
+
+-- the actors of a vector's front give up, which is all of it
+pub closes_at : (s t : State) (document : List ℕ) (busy : List (Option Busy)) (seats : List Seat) → map seat_of busy ≡ seats → (n : ℕ) (rest : List Seat) → length seats ≡ n → t ≡ all_left s (take n (seats ++ rest))
+    → world_of t document free_seats ≡ closed (world_of s document busy)
+closes_at s t document busy seats same n rest all e = ap (λ u. world_of u document free_seats) (e ∙ rw (whole_front n seats rest all, sym same) (all_left_same s busy))
 
 pub schedules_to : (i : Input) (o : Outside) (Untouched : Type 0) (w t : World) (end : RunEnd) → HasRunAll i o w t end → Schedules i o Untouched w t (end_of end)
 schedules_to i o U w t Done h = h
 schedules_to i o U w t (Line n) h = h
 schedules_to i o U w t WriteFault h = h
-
-pub whole_front : (n : ℕ) (front rest : List Seat) → length front ≡ n → take n (front ++ rest) ≡ front
-whole_front n front rest e = rw (sym e) (take-append_seam front rest)

@@ -9,5 +9,9 @@ pub mod Telling
 pub mod Dealt
 pub mod Writing
 pub mod Far
+pub mod Scheduling
+pub mod Making
+pub mod Summing
+pub mod Gluing
 pub mod Leaving
 pub mod Closing

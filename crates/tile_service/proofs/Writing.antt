@@ -1,12 +1,15 @@
 -- The answer of a line is written, all of it or a front.
-use Rattle.std.proofs.Common.{◌≡◌, ℕ, Bool, true, false, List, [], ◌∷◌, Option, inl, inr, sym, subst, flat_map, append-nil}
+use Rattle.std.proofs.Common.{◌≡◌, ℕ, Bool, true, false, List, [], ◌∷◌, Option, None, Some, refl, inl, inr, sym, subst, flat_map, append-nil}
 use Rattle.std.specs.Io.KnownBytes.{Appends}
 use Rattle.causes.specs.Causes.{Rose}
 use Rattle.cabinet.specs.State.{State}
 use Rattle.tile_service.specs.declared.came.Came.TheVariants.{Refused, Silent, Answers}
 use Rattle.tile_service.specs.declared.came.Reply.{Reply}
+use Rattle.tile_service.specs.declared.outcome.Outcome.{Outcome}
 use Rattle.tile_service.specs.declared.run_line.LineEnd.TheVariants as line_end
 use Rattle.tile_service.specs.declared.seats.Seat.{Seat}
+use Rattle.tile_service.specs.declared.tally.CacheResult.{CacheResult}
+use Rattle.tile_service.specs.declared.tally.CacheResult.TheVariants.{Hit, Miss, Other}
 use Rattle.tile_service.specs.Lines.{deed_in}
 use Rattle.tile_service.specs.OneLine.{MayTell, IsLine, Replies, Deals, answer_with}
 use Rattle.tile_service.specs.Outside.{Outside}
@@ -14,8 +17,14 @@ use Rattle.tile_service.specs.Response.{framed, response_with}
 use Rattle.tile_service.specs.Requests.{told_at}
 use Rattle.tile_service.specs.Run.{World, Answer, answer_text}
 use Rattle.tile_service.specs.Sent.{AppendsFront}
+use Rattle.tile_service.specs.Tally.{one_of, result_of, tally_of}
 use Rattle.tile_service.specs.Written.{Writes}
 use Rattle.tile_service.proofs.Known.{appends_nothing}
+
+counted_one : (a : Answer) (k : CacheResult) → k ≡ result_of a.outcome → tally_of (a ∷ []) ≡ one_of (Some k)
+counted_one a Hit e = rw (sym e) refl
+counted_one a Miss e = rw (sym e) refl
+counted_one a Other e = rw (sym e) refl
 
 module _ (told : Option ℕ) (before after : ℕ) (w : World) (n : ℕ) (line : List ℕ) (t : World) (r : Reply) (h : Replies told before after w n (deed_in line) t r) where
   abbrev the_answer : Bool → Answer
@@ -27,9 +36,19 @@ module _ (told : Option ℕ) (before after : ℕ) (w : World) (n : ℕ) (line : 
   its_line : (left : Bool) → IsLine told before after w n line t (the_answer left ∷ [])
   its_line left = record { chance = h.chance left; made = h.made left; keeps = h.keeps left }
 
+  -- what is told is told of the answer's outcome
+  which_told : (P : Outcome → Type 0) → MayTell r.outcome P → (left : Bool) × P (told_at left r.outcome)
+  which_told P (inl k) = (true, k)
+  which_told P (inr k) = (false, k)
+
   line_told : (P : List ℕ → Type 0) → MayTell r.outcome (λ o. P (framed n r.actor r.start (response_with false o))) → (answers : List Answer) × IsLine told before after w n line t answers × P (flat_map answer_text answers)
-  line_told P (inl k) = (the_answer true ∷ [], its_line true, subst P (its_text true) k)
-  line_told P (inr k) = (the_answer false ∷ [], its_line false, subst P (its_text false) k)
+  line_told P k = let m = which_told (λ o. P (framed n r.actor r.start (response_with false o))) k in (the_answer m.0 ∷ [], its_line m.0, subst P (its_text m.0) m.1)
+
+  line_counted : (P : List ℕ → Type 0) (k : CacheResult) → MayTell r.outcome (λ o. (k ≡ result_of o) × P (framed n r.actor r.start (response_with false o)))
+      → (answers : List Answer) × IsLine told before after w n line t answers × P (flat_map answer_text answers) × (tally_of answers ≡ one_of (Some k))
+  line_counted P k h =
+      let m = which_told (λ o. (k ≡ result_of o) × P (framed n r.actor r.start (response_with false o))) h in
+      (the_answer m.0 ∷ [], its_line m.0, subst P (its_text m.0) m.1.1, counted_one (the_answer m.0) k m.1.0)
 
 abbrev outside : Option ℕ → ℕ → ℕ → ℕ → ℕ → Option (List ℕ) → Option (List ℕ) → Outside
 outside told before after sb sa from to = record { told = told; renders = record { before = before; after = after }; writes = record { before = sb; after = sa }; from = from; to = to }
@@ -38,15 +57,15 @@ module _ (told : Option ℕ) (before after sb sa : ℕ) (from to : Option (List 
   pub writes_refused : to ≡ from → Deals told before after s document seats n (deed_in line) t seats' Refused → Writes (outside told before after sb sa from to) s document seats n line t seats' line_end.Refused
   writes_refused same f busy h = let d = f busy h in (d.0, d.1, (d.2.0, d.2.1, d.2.2, same))
 
-  pub writes_nothing : to ≡ from → Deals told before after s document seats n (deed_in line) t seats' Silent → Writes (outside told before after sb sa from to) s document seats n line t seats' line_end.Done
+  pub writes_nothing : to ≡ from → Deals told before after s document seats n (deed_in line) t seats' Silent → Writes (outside told before after sb sa from to) s document seats n line t seats' (line_end.Done None)
   writes_nothing same f busy h =
       let d = f busy h in
       let P : Option (List ℕ) → Type 0 = λ x. Appends from x [] in
-      (d.0, d.1, ([], record { chance = d.2.0; made = d.2.1; keeps = d.2.2 }, subst P (sym same) (appends_nothing from)))
+      (d.0, d.1, ([], record { chance = d.2.0; made = d.2.1; keeps = d.2.2 }, subst P (sym same) (appends_nothing from), refl))
 
-  pub writes_answer : (r : Reply) → MayTell r.outcome (λ o. Appends from to (framed n r.actor r.start (response_with false o))) → Deals told before after s document seats n (deed_in line) t seats' (Answers r)
-      → Writes (outside told before after sb sa from to) s document seats n line t seats' line_end.Done
-  writes_answer r k f busy h = let d = f busy h in (d.0, d.1, line_told told before after _ n line _ r d.2 (Appends from to) k)
+  pub writes_answer : (r : Reply) (k : CacheResult) → MayTell r.outcome (λ o. (k ≡ result_of o) × Appends from to (framed n r.actor r.start (response_with false o))) → Deals told before after s document seats n (deed_in line) t seats' (Answers r)
+      → Writes (outside told before after sb sa from to) s document seats n line t seats' (line_end.Done (Some k))
+  writes_answer r k h f busy is = let d = f busy is in (d.0, d.1, line_counted told before after _ n line _ r d.2 (Appends from to) k h)
 
   pub writes_front : (r : Reply) → MayTell r.outcome (λ o. AppendsFront from to (framed n r.actor r.start (response_with false o))) → Rose sb sa → Deals told before after s document seats n (deed_in line) t seats' (Answers r)
       → Writes (outside told before after sb sa from to) s document seats n line t seats' line_end.WriteFault

@@ -12,3 +12,7 @@ pub mod Sent
 pub mod Outside
 pub mod Written
 pub mod Schedules
+pub mod Tally
+pub mod Made
+pub mod Drill
+pub mod Drilling

@@ -1,5 +1,5 @@
 -- What the run of a schedule came to, and what it wrote.
-use Rattle.std.specs.Prelude.{ℕ, ◌≡◌, ◌≤◌, ◌+◌, List, ◌++◌, length, Some, None}
+use Rattle.std.specs.Prelude.{ℕ, ◌≡◌, ◌≤◌, ◌+◌, List, ◌++◌, length, Option, Some, None}
 use Rattle.std.specs.Io.KnownBytes.{Appends, Consumes, IsAtEnd}
 use Rattle.std.specs.List.{AllByRecursion}
 use Rattle.cabinet.specs.State.{IsSound}
@@ -10,7 +10,7 @@ use Rattle.tile_service.specs.declared.schedule.ScheduleEnd.{ScheduleEnd}
 use Rattle.tile_service.specs.declared.schedule.ScheduleEnd.TheVariants.{Done, Line, ReadFault, WriteFault, TooLong, OutOfMemory}
 use Rattle.tile_service.specs.declared.schedule.TheConstants.{SCHEDULE_LIMIT}
 use Rattle.tile_service.specs.Lines.{lines_of}
-use Rattle.tile_service.specs.Outside.{Outside, Input}
+use Rattle.tile_service.specs.Outside.{Counts, Outside, Input}
 use Rattle.tile_service.specs.Requests.{Chance}
 use Rattle.tile_service.specs.Run.{World, Run, run, output_of, failures, unanswered, closed, IsTrue, IsFresh}
 use Rattle.tile_service.specs.Sent.{AppendsFront}
@@ -29,17 +29,21 @@ Ends o r t run_end.Done = (r.refused ≡ None) × (t ≡ r.world) × Appends o.f
 Ends o r t (run_end.Line n) = (r.refused ≡ Some n) × (t ≡ r.world) × Appends o.from o.to (output_of r)
 Ends o r t run_end.WriteFault = (t ≡ r.world) × Rose o.writes.before o.writes.after × AppendsFront o.from o.to (output_of r)
 
--- From w the lines of a text came to t: this is the end of their run, under some chances. No more answers say that the
--- source failed, and no more failures are yet to be answered, than its count rose by. Where the source tells that it is the
--- catalogue's, each tile is the picture of its number; and each tile is fresh at its last ask or force.
+-- What is promised of the answers of a run from w. No more of them say that the source failed, and no more failures are yet
+-- to be answered, than its count rose by. Where the source tells that it is the catalogue's, each tile is the picture of its
+-- number; and each tile is fresh at its last ask or force.
+pub record IsUpheld (told : Option ℕ) (renders : Counts) (w : World) (r : Run) : Type 0 where
+  pub failed : RoseBy (failures r.answers + unanswered r.world.seats) renders.before renders.after
+  pub truth : told ≡ Some w.cabinet.catalogue.source → IsSound w.cabinet → AllByRecursion (IsTrue w.cabinet.catalogue) r.answers
+  pub fresh : AllByRecursion (IsFresh w.cabinet.catalogue r.world.cabinet.history) r.answers
+
+-- From w the lines of a text came to t: this is the end of their run, under some chances.
 pub record HasRun (o : Outside) (w : World) (text : List ℕ) (t : World) (end : RunEnd) : Type 0 where
   pub lines : List (List ℕ)
   pub chances : List Chance
   pub through : GoesThrough (lines_of text) end lines
   pub ends : Ends o (run w 1 lines chances) t end
-  pub failed : RoseBy (failures (run w 1 lines chances).answers + unanswered (run w 1 lines chances).world.seats) o.renders.before o.renders.after
-  pub truth : o.told ≡ Some w.cabinet.catalogue.source → IsSound w.cabinet → AllByRecursion (IsTrue w.cabinet.catalogue) (run w 1 lines chances).answers
-  pub fresh : AllByRecursion (IsFresh w.cabinet.catalogue (run w 1 lines chances).world.cabinet.history) (run w 1 lines chances).answers
+  pub upheld : IsUpheld o.told o.renders w (run w 1 lines chances)
 
 -- A SCHEDULE WAS READ AND RUN
 

@@ -12,11 +12,13 @@ use Rattle.tile_service.specs.Outside.{Outside}
 use Rattle.tile_service.specs.Requests.{calm}
 use Rattle.tile_service.specs.Run.{Busy, World, Answer, line_done, answer_text}
 use Rattle.tile_service.specs.Sent.{AppendsFront}
+use Rattle.tile_service.specs.Tally.{one_of, tally_of}
 
--- how a line ends in a world, and what went out of its answers
+-- how a line ends in a world, what went out of its answers, and what they tell of the cache
 abbrev pub LineEnds : Outside → World → ℕ → List ℕ → World → LineEnd → Type 0
 LineEnds o w n line t line_end.Refused = (line_done w n calm (deed_in line) ≡ None) × (t ≡ w) × (o.renders.before ≤ o.renders.after) × (o.to ≡ o.from)
-LineEnds o w n line t line_end.Done = (answers : List Answer) × IsLine o.told o.renders.before o.renders.after w n line t answers × Appends o.from o.to (flat_map answer_text answers)
+LineEnds o w n line t (line_end.Done told) =
+    (answers : List Answer) × IsLine o.told o.renders.before o.renders.after w n line t answers × Appends o.from o.to (flat_map answer_text answers) × (tally_of answers ≡ one_of told)
 LineEnds o w n line t line_end.WriteFault =
     (answers : List Answer) × IsLine o.told o.renders.before o.renders.after w n line t answers × AppendsFront o.from o.to (flat_map answer_text answers) × Rose o.writes.before o.writes.after
 

@@ -1,21 +1,24 @@
-ghost use Rattle.std.specs.Prelude.{◌≡◌, ◌+◌, ◌≤◌, ◌++◌, false, length, OnOk, OnErr, decimal};
+ghost use Rattle.std.specs.Prelude.{◌≡◌, ◌+◌, ◌≤◌, ◌++◌, false, length, IfOk, OnOk, OnErr, decimal};
 ghost use Rattle.std.specs.Io.KnownBytes.{Appends};
 ghost use Rattle.arrayvec.specs.ArrayVec.{array_vec_len};
 ghost use Rattle.causes.specs.Causes.{HasCause};
 ghost use Rattle.tile_service.specs.OneLine.{MayTell};
 ghost use Rattle.tile_service.specs.Response.{answer_line, framed, response_with};
 ghost use Rattle.tile_service.specs.Sent.{AppendsFront};
+ghost use Rattle.tile_service.specs.Tally.{result_of};
 
 use crate::came::Reply;
 use crate::response::{no_memory, response_with};
+use crate::tally::{CacheResult, result_of};
 use arrayvec::ArrayVec;
 use http_wire::sending::{Sent, send};
 use http_wire::streams::ByteSink;
 use itoa::Buffer;
 use std::alloc::Global;
 
-fn add(text: &mut ArrayVec<u8, 128>, bytes: &[u8])
-    requires { array_vec_len text.old + length bytes.now ≤ 128 }
+/// Adds bytes for which there is room.
+pub fn add(text: &mut ArrayVec<u8, 256>, bytes: &[u8])
+    requires { array_vec_len text.old + length bytes.now ≤ 256 }
     ensures items { text.new.items ≡ text.old.items ++ bytes.now }
     ensures len { array_vec_len text.new ≡ array_vec_len text.old + length bytes.now }
 {
@@ -24,8 +27,9 @@ fn add(text: &mut ArrayVec<u8, 128>, bytes: &[u8])
     }
 }
 
-fn add_number(text: &mut ArrayVec<u8, 128>, number: u64)
-    requires { array_vec_len text.old + 20 ≤ 128 }
+/// Adds a number in decimal digits.
+pub fn add_number(text: &mut ArrayVec<u8, 256>, number: u64)
+    requires { array_vec_len text.old + 20 ≤ 256 }
     ensures items { text.new.items ≡ text.old.items ++ decimal number }
     ensures len { array_vec_len text.new ≤ array_vec_len text.old + 20 }
 {
@@ -34,7 +38,7 @@ fn add_number(text: &mut ArrayVec<u8, 128>, number: u64)
 }
 
 /// The line that stands before a response. It takes no memory.
-fn answer_line(line: u64, actor: u32, start: u64, bytes: usize) -> ArrayVec<u8, 128>
+fn answer_line(line: u64, actor: u32, start: u64, bytes: usize) -> ArrayVec<u8, 256>
     ensures { result.items ≡ answer_line line actor start bytes }
 {
     let mut text = ArrayVec::new();
@@ -63,7 +67,7 @@ fn send_part<O: ByteSink>(sink: &mut O, bytes: &[u8]) -> Result<(), Sent>
 }
 
 /// Sends two parts, or a front of them.
-fn send_both<O: ByteSink>(sink: &mut O, first: &[u8], second: &[u8]) -> Result<(), Sent>
+pub fn send_both<O: ByteSink>(sink: &mut O, first: &[u8], second: &[u8]) -> Result<(), Sent>
     ensures ok { OnOk result (Appends (O.taken sink.old) (O.taken sink.new) (first.now ++ second.now)) }
     ensures err { OnErr result (AppendsFront (O.taken sink.old) (O.taken sink.new) (first.now ++ second.now)) }
     ensures cause { HasCause (O.faults sink.old) (O.faults sink.new) result }
@@ -87,19 +91,28 @@ fn send_answer<O: ByteSink>(
     send_both(output, head.as_slice(), response)
 }
 
-/// Writes a reply in line `line`, and closes no connection. Where memory runs out, the answer says so.
+/// Writes a reply in line `line`, and closes no connection. Where memory runs out, the answer says so. Gives what the
+/// answer tells of the cache.
 pub fn answer<O: ByteSink>(
     alloc: Global,
     output: &mut O,
     line: u64,
     reply: &Reply,
-) -> Result<(), Sent>
-    ensures ok { OnOk result (MayTell reply.now.outcome (λ o. Appends (O.taken output.old) (O.taken output.new) (framed line reply.now.actor reply.now.start (response_with false o)))) }
+) -> Result<CacheResult, Sent>
+    ensures ok { IfOk result (λ told. MayTell reply.now.outcome (λ o. (told ≡ result_of o) × Appends (O.taken output.old) (O.taken output.new) (framed line reply.now.actor reply.now.start (response_with false o)))) }
     ensures err { OnErr result (MayTell reply.now.outcome (λ o. AppendsFront (O.taken output.old) (O.taken output.new) (framed line reply.now.actor reply.now.start (response_with false o)))) }
     ensures cause { HasCause (O.faults output.old) (O.faults output.new) result }
 {
     match response_with(alloc, false, &reply.outcome) {
-        Ok(response) => send_answer(output, line, reply.actor, reply.start, response.as_slice()),
-        Err(_) => send_answer(output, line, reply.actor, reply.start, no_memory(false)),
+        Ok(response) => {
+            match send_answer(output, line, reply.actor, reply.start, response.as_slice()) {
+                Ok(()) => Ok(result_of(&reply.outcome)),
+                Err(sent) => Err(sent),
+            }
+        }
+        Err(_) => match send_answer(output, line, reply.actor, reply.start, no_memory(false)) {
+            Ok(()) => Ok(CacheResult::Other),
+            Err(sent) => Err(sent),
+        },
     }
 }

@@ -1,4 +1,5 @@
-//! The service of tiles: messages are answered, and a schedule is a list of what actors do, line by line.
+//! The service of tiles: messages are answered, a schedule is a list of what actors do, line by line, and a drill makes itself
+//! one by draws.
 //!
 //! An actor sends a message, or makes the next event of the tile that it is busy with. Messages ask for tiles, for the
 //! document of the capabilities or for what is kept, truncate, or expire.
@@ -6,8 +7,10 @@
 //! Promises: the answers of a schedule are those of its run (`specs/Run.antt`), in order, each message led by the table of
 //! paths (`specs/Routes.antt`) and answered by its response (`specs/Response.antt`); each tile is the picture of its number
 //! and fresh at its last ask or force (`specs/Schedules.antt`). No more answers of the run say that the source failed, and no
-//! more failures are yet to be answered, than the source's count of faults rose by (`failed` there).
-//! Stands on cabinet, cache_core, source_render, job_forms, wmts_kvp, wmts_rest, schedule_text and http_wire.
+//! more failures are yet to be answered, than the source's count of faults rose by (`failed` there). The summary of a drill
+//! counts the answers of the run over the lines that its number makes, and has the SHA-256 of what that run writes
+//! (`specs/Made.antt`, `specs/Drill.antt`).
+//! Stands on cabinet, cache_core, source_render, job_forms, wmts_kvp, wmts_rest, schedule_text, http_wire, sha2 and hex.
 #![tactic(auto)]
 
 mod answer;
@@ -16,6 +19,11 @@ mod came;
 mod commands;
 pub mod counter;
 mod deal;
+mod digest_sink;
+mod draws;
+pub mod drill;
+mod drill_lines;
+mod drill_run;
 mod dropped;
 mod events;
 mod lines;
@@ -28,4 +36,8 @@ mod run_line;
 mod run_lines;
 pub mod schedule;
 mod seats;
+mod summary;
+mod tally;
+#[cfg(test)]
+mod tests;
 mod usage;

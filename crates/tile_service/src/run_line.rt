@@ -10,6 +10,7 @@ use crate::came::Came;
 use crate::counter::Counter;
 use crate::deal::deal;
 use crate::seats::Seat;
+use crate::tally::CacheResult;
 use http_wire::streams::ByteSink;
 use source_render::source::Source;
 use std::alloc::Global;
@@ -17,7 +18,8 @@ use std::alloc::Global;
 /// How a line ended.
 #[derive(Clone, Copy, Debug, PartialEq, Eq)]
 pub enum LineEnd {
-    Done,
+    /// What its answer tells of the cache, where it has one.
+    Done(Option<CacheResult>),
     /// It was refused, and nothing happened.
     Refused,
     /// A write failed.
@@ -46,9 +48,9 @@ pub fn run_line<S: Source, O: ByteSink>(
 {
     match deal(alloc, counter, seats, source, n, line) {
         Came::Refused => LineEnd::Refused,
-        Came::Silent => LineEnd::Done,
+        Came::Silent => LineEnd::Done(None),
         Came::Answers(reply) => match answer(alloc, output, n, &reply) {
-            Ok(()) => LineEnd::Done,
+            Ok(told) => LineEnd::Done(Some(told)),
             Err(_) => LineEnd::WriteFault,
         },
     }

@@ -44,7 +44,7 @@ pub fn run_lines<S: Source, O: ByteSink>(
         let (line, next) = split_line(rest);
         lines += 1;
         match run_line(alloc, counter, seats, source, output, lines, line) {
-            LineEnd::Done => {}
+            LineEnd::Done(_) => {}
             LineEnd::Refused => return RunEnd::Line(lines),
             LineEnd::WriteFault => return RunEnd::WriteFault,
         }

@@ -52,7 +52,7 @@ pub fn is_free(seats: &[Seat], actor: u32) -> bool
 }
 
 /// Whether this actor is busy.
-fn is_busy(seats: &[Seat], actor: u32) -> bool
+pub fn is_busy(seats: &[Seat], actor: u32) -> bool
     ensures { result ≡ is_some (desk_at (slice_get seats.now actor)) }
 {
     match seats.get(actor as usize) {

@@ -1,9 +1,8 @@
-use Rattle.std.proofs.Common.{inr}
-use Rattle.std.proofs.lemmas.Result.{on_ok_weaker, on_err_weaker}
+use Rattle.std.proofs.Common.{inr, refl}
 use Rattle.tile_service.proofs.answer.answer.Goals as goal
 
-pub returns-in-Err-clause-ok : goal.returns-in-Err-clause-ok
-returns-in-Err-clause-ok g c = on_ok_weaker c.send_answer-in-Err.result (λ h. inr (rw c.no_memory.ensures at h)) c.send_answer-in-Err.ensures.ok
+pub returns-in-Ok-send_answer-2-clause-ok : goal.returns-in-Ok-send_answer-2-clause-ok
+returns-in-Ok-send_answer-2-clause-ok g c = inr (refl, rw c.no_memory.ensures at c.in-Ok-send_answer-2.ensures.ok)
 
-pub returns-in-Err-clause-err : goal.returns-in-Err-clause-err
-returns-in-Err-clause-err g c = on_err_weaker c.send_answer-in-Err.result (λ h. inr (rw c.no_memory.ensures at h)) c.send_answer-in-Err.ensures.err
+pub returns-clause-err : goal.returns-clause-err
+returns-clause-err g c = inr (rw c.no_memory.ensures at c.in-Err-send_answer-2.ensures.err)

@@ -1,7 +1,7 @@
 use Rattle.std.proofs.Common.{rules, arith, refl, ◌∙◌}
 use Rattle.tile_service.specs.OneLine.{world_of}
 use Rattle.tile_service.specs.Run.{free_seats}
-use Rattle.tile_service.proofs.Far.{seated_start, seated_next, seated_cut, seated_refused, seated_done}
+use Rattle.tile_service.proofs.Scheduling.{seated_start, seated_next, seated_cut, seated_refused, seated_done}
 use Rattle.tile_service.proofs.run_lines.run_lines.Goals as goal
 
 pub loop-rest-init : goal.loop-rest-init
@@ -36,7 +36,7 @@ loop-rest-preserved g c =
       so_far =
           rw c.run_line.ensures.capabilities
           (seated_next _ _ _ _ _ 0 (g.O.ByteSink.faults c.loop-rest.output) (g.O.ByteSink.faults c.run_line.new.output) _ _ _ (world_of c.args.counter.now.cabinet c.args.counter.now.capabilities free_seats) c.args.text.now c.loop-rest.lines c.loop-rest.rest.now c.split_line.result.0.now
-          c.split_line.result.1.now c.loop-rest.counter.cabinet c.run_line.new.counter.cabinet c.loop-rest.counter.capabilities c.loop-rest.seats c.run_line.new.seats i.so_far i.told c.split_line.ensures.lines c.in-Done.ensures.writes);
+          c.split_line.result.1.now c.loop-rest.counter.cabinet c.run_line.new.counter.cabinet c.loop-rest.counter.capabilities c.loop-rest.seats c.run_line.new.seats i.so_far i.told c.split_line.ensures.lines _ c.in-Done.ensures.writes);
       valid = c.run_line.ensures.catalogue ∙ i.valid;
       capabilities = c.run_line.ensures.capabilities ∙ i.capabilities;
       told = c.run_line.ensures.told ∙ i.told;

@@ -1,13 +1,11 @@
-use Rattle.std.proofs.Common.{refl, ◌≡◌, length, drop, ◌∙◌}
+use Rattle.std.proofs.Common.{◌∙◌}
 use Rattle.tile_service.specs.OneLine.{world_of}
-use Rattle.tile_service.proofs.Closing.{closes_at, schedules_to, whole_front}
+use Rattle.tile_service.proofs.Closing.{closes_at, schedules_to}
 use Rattle.tile_service.proofs.schedule.run_schedule.Goals as goal
 
 pub returns : goal.returns
 returns g c =
     let r = c.run_lines-end.ensures.run in
-    let count : length c.run_lines-end.new.seats ≡ c.in-Ok-free_seats.seats.len = c.run_lines-end.auto.seats ∙ c.as_mut_slice.ensures.len in
-    let seats = c.close.ensures ∙ rw (whole_front c.in-Ok-free_seats.seats.len c.run_lines-end.new.seats (drop (length c.run_lines-end.new.seats) c.in-Ok-free_seats.seats.items) count) refl in
     rw c.end_of.ensures (schedules_to _ _ _ _ _ c.run_lines-end.result (record {
       text = c.in-Ok.text.items;
       read = c.in-Ok.ensures.whole.0;
@@ -15,5 +13,5 @@ returns g c =
       short = c.in-Ok.ensures.whole.2;
       last = world_of c.run_lines-end.new.counter.cabinet c.args.counter.now.capabilities r.0;
       ran = rw (c.run_lines-end.ensures.capabilities, c.as_slice.ensures.value) at r.2;
-      closes = rw c.run_lines-end.ensures.capabilities (closes_at c.run_lines-end.new.counter.cabinet c.close.new.cabinet c.args.counter.now.capabilities r.0 c.run_lines-end.new.seats r.1 seats);
+      closes = rw c.run_lines-end.ensures.capabilities (closes_at c.run_lines-end.new.counter.cabinet c.close.new.cabinet c.args.counter.now.capabilities r.0 c.run_lines-end.new.seats r.1 c.in-Ok-free_seats.seats.len _ (c.run_lines-end.auto.seats ∙ c.as_mut_slice.ensures.len) c.close.ensures);
     }))

@@ -1,0 +1,53 @@
+use Rattle.std.proofs.Common.{◌≡◌, ◌∙◌, refl, arith}
+use Rattle.tile_service.specs.Drill.{line_count}
+use Rattle.tile_service.specs.OneLine.{world_of}
+use Rattle.tile_service.specs.Run.{free_seats}
+use Rattle.tile_service.proofs.Making.{seated_start, seated_next, seated_refused, seated_short, seated_done}
+use Rattle.tile_service.proofs.drill_run.run_made_lines.Goals as goal
+
+pub making-init : goal.making-init
+making-init g c =
+    record {
+      so_far = rw (c.from.ensures, c.new-output.ensures) (seated_start _ _ c.args.counter.now.cabinet c.args.counter.now.capabilities c.args.seats.now c.args.number c.requires.free);
+      valid = refl;
+      capabilities = refl;
+      told = refl;
+      few = omega arith;
+    }
+
+pub making-preserved : goal.making-preserved
+making-preserved g c =
+    let i = c.making.invariant in
+    let line = c.run_made_line in
+    record {
+      so_far =
+          rw (line.ensures.capabilities, c.count.ensures)
+          (seated_next (g.S.Source.told c.args.source.now) (g.S.Source.told c.making.source) (g.S.Source.faults c.args.source.now) (g.S.Source.faults c.making.source) (g.S.Source.faults line.new.source) (world_of c.args.counter.now.cabinet c.args.counter.now.capabilities free_seats) c.args.number c.making.lines c.making.draws.x line.new.draws.x c.making.tally c.making.output line.new.output
+          c.making.counter.cabinet line.new.counter.cabinet c.making.counter.capabilities c.making.seats line.new.seats i.so_far i.told c.in-Ok-Done.told c.in-Ok-Done.field-0 c.in-Ok-Done.field-0-is c.in-Ok-Done.ensures.makes);
+      valid = line.ensures.catalogue ∙ i.valid;
+      capabilities = line.ensures.capabilities ∙ i.capabilities;
+      told = line.ensures.told ∙ i.told;
+      few = omega (arith, c.making-test.true);
+    }
+
+pub returns-in-Ok-Refused-clause-made : goal.returns-in-Ok-Refused-clause-made
+returns-in-Ok-Refused-clause-made g c =
+    let i = c.making.invariant in
+    let line = c.run_made_line in
+    rw line.ensures.capabilities
+    (seated_refused (g.S.Source.told c.args.source.now) (g.S.Source.told c.making.source) (g.S.Source.faults c.args.source.now) (g.S.Source.faults c.making.source) (g.S.Source.faults line.new.source) (world_of c.args.counter.now.cabinet c.args.counter.now.capabilities free_seats) c.args.number c.making.lines c.making.draws.x line.new.draws.x c.making.tally c.making.output line.new.output
+    c.making.counter.cabinet line.new.counter.cabinet c.making.counter.capabilities c.making.seats line.new.seats i.so_far i.told c.making-test.true c.in-Ok-Refused.field-0 c.in-Ok-Refused.field-0-is c.in-Ok-Refused.ensures.makes)
+
+pub returns-in-Err-clause-made : goal.returns-in-Err-clause-made
+returns-in-Err-clause-made g c =
+    let i = c.making.invariant in
+    let same = c.in-Err.ensures.err in
+    rw (same.0, same.1, same.2)
+    (seated_short _ _ _ (world_of c.args.counter.now.cabinet c.args.counter.now.capabilities free_seats) c.args.number c.making.lines c.making.draws.x c.making.tally c.making.output c.making.counter.cabinet c.making.counter.capabilities c.making.seats i.so_far i.few)
+
+pub returns-clause-made : goal.returns-clause-made
+returns-clause-made g c =
+    let i = c.making.invariant in
+    let whole : c.making.lines ≡ line_count = omega (arith, i.few, c.making-test.false) in
+    rw c.digest.ensures
+    (seated_done _ _ _ (world_of c.args.counter.now.cabinet c.args.counter.now.capabilities free_seats) c.args.number c.making.lines c.making.draws.x c.making.tally c.making.output c.making.counter.cabinet c.making.counter.capabilities c.making.seats i.so_far whole)
