@@ -5,11 +5,11 @@ ghost use Rattle.tile_service.specs.Made.{aimed_at, cols_at, cover_text, dimensi
 ghost use Rattle.tile_service.specs.Seats.{desk_at};
 
 use crate::draws::Draws;
+use crate::numbers::add_number;
 use crate::seats::{Seat, is_busy};
 use catalog::catalogue::Catalogue;
 use catalog::grid::Grid;
 use catalog::layer::{Dimension, Layer, Style};
-use itoa::Buffer;
 use std::alloc::{AllocError, Global};
 
 /// What a drill asks for: the first layer, its first style, and the first of its grids.
@@ -67,13 +67,6 @@ fn cols_at(grid: &Grid, z: u32) -> u32
     }
 }
 
-fn add_number(text: &mut Vec<u8>, number: u32) -> Result<(), AllocError>
-    ensures { OnOk result (text.new.items ≡ text.old.items ++ decimal number) }
-{
-    let mut buffer = Buffer::new();
-    text.extend_from_slice(buffer.format(number).as_bytes())
-}
-
 /// Adds a label and the text behind it.
 fn add_pair(text: &mut Vec<u8>, label: &[u8], value: &[u8]) -> Result<(), AllocError>
     ensures { OnOk result (text.new.items ≡ text.old.items ++ label.now ++ value.now) }
@@ -87,7 +80,7 @@ fn add_count(text: &mut Vec<u8>, label: &[u8], number: u32) -> Result<(), AllocE
     ensures { OnOk result (text.new.items ≡ text.old.items ++ label.now ++ decimal number) }
 {
     text.extend_from_slice(label)?;
-    add_number(text, number)
+    add_number(text, u64::from(number))
 }
 
 /// The default of a dimension, or else its first value.
@@ -211,7 +204,7 @@ fn front_of(alloc: Global, actor: u32) -> Result<Vec<u8>, AllocError>
     ensures { IfOk result (λ v. v.items ≡ decimal actor ++ codes " ") }
 {
     let mut text = Vec::new(alloc);
-    add_number(&mut text, actor)?;
+    add_number(&mut text, u64::from(actor))?;
     text.extend_from_slice(b" ")?;
     Ok(text)
 }
