@@ -8,7 +8,7 @@ use Rattle.cabinet.specs.State.{State, now}
 use Rattle.catalog.specs.declared.catalogue.Catalogue.{Catalogue}
 use Rattle.catalog.specs.declared.layer.Dimension.{Dimension}
 use Rattle.catalog.specs.declared.layer.Layer.{Layer}
-use Rattle.catalog.specs.LookUp.{layer_of, style_of}
+use Rattle.catalog.specs.LookUp.{dimensions_of, layer_of, style_of}
 use Rattle.metatile_plan.specs.declared.metatile.MetaKey.{MetaKey}
 
 -- WHAT IS KEPT
@@ -69,12 +69,9 @@ style_id c m = option_map_or (λ s. s.id) (style_of c m.theme) []
 abbrev pub grid_id : Catalogue → MetaKey → List ℕ
 grid_id c m = option_map_or (λ g. g.id) (slice_get c.grids m.grid) []
 
-abbrev pub dims_of : Catalogue → MetaKey → List Dimension
-dims_of c m = option_map_or (λ l. l.dims) (layer_of c m.theme) []
-
 -- its values in the order of its layer's dimensions, with a comma (44 in ASCII) between each two
 abbrev pub values_text : Catalogue → MetaKey → List ℕ
-values_text c m = join_with_byte 44 (value_texts (dims_of c m) m.theme.dims)
+values_text c m = join_with_byte 44 (value_texts (dimensions_of c m.theme.layer) m.theme.dims)
 
 -- where it lies in its grid, up to the end of the text
 abbrev pub place_text : MetaKey → List ℕ

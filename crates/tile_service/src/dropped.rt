@@ -1,7 +1,7 @@
 //! The text that tells which metatile an expiry dropped.
 ghost use Rattle.std.specs.Prelude.{◌≡◌, ◌++◌, IfOk, OnOk};
 ghost use Rattle.std.specs.List.{join_with_byte};
-ghost use Rattle.tile_service.specs.Texts.{comma_before, dims_of, dropped_text, grid_id, layer_id, place_text, style_id, value_text, value_texts};
+ghost use Rattle.tile_service.specs.Texts.{comma_before, dropped_text, grid_id, layer_id, place_text, style_id, value_text, value_texts};
 
 use crate::numbers::add_number;
 use catalog::catalogue::Catalogue;
@@ -40,16 +40,6 @@ fn grid_id<'a>(catalogue: &'a Catalogue, meta: &MetaKey) -> &'a [u8]
     match catalogue.grids.get(meta.grid as usize) {
         Some(grid) => grid.id.bytes(),
         None => b"",
-    }
-}
-
-/// The dimensions of its layer.
-fn dims_of<'a>(catalogue: &'a Catalogue, meta: &MetaKey) -> &'a [Dimension]
-    ensures { result.now ≡ dims_of catalogue.now meta.now }
-{
-    match catalogue.layers.get(meta.theme.layer as usize) {
-        Some(layer) => layer.dims.as_slice(),
-        None => &[],
     }
 }
 
@@ -124,7 +114,11 @@ pub fn dropped_text(
     text.extend_from_slice(b"\",\"style\":\"")?;
     text.extend_from_slice(style_id(catalogue, meta))?;
     text.extend_from_slice(b"\",\"dimensions\":[")?;
-    add_values(&mut text, dims_of(catalogue, meta), &meta.theme.dims)?;
+    add_values(
+        &mut text,
+        catalogue.dimensions_of(meta.theme.layer),
+        &meta.theme.dims,
+    )?;
     text.extend_from_slice(b"],\"grid\":\"")?;
     text.extend_from_slice(grid_id(catalogue, meta))?;
     add_place(&mut text, meta)?;
