@@ -134,7 +134,7 @@ fn a_refused_line_ends_the_schedule(rt: HostRuntime) -> Result<(), Fail> {
     let (status, _) = ran(alloc, "64 GET /wmts\n", &mut Numbered::new(0), &[], &[])?;
     assert_eq!(rt; status, Status::Line(1));
     let lines = format!(in alloc;
-        "0 GET {TARGET}0&TileRow=0&TileCol=0\n\n0 GET /usage\n0 GET {TARGET}0&TileRow=0&TileCol=0\n"
+        "0 GET {TARGET}0&TileRow=0&TileCol=0\n\n0 STEP\n0 GET {TARGET}0&TileRow=0&TileCol=0\n"
     )?;
     let (status, output) = ran(alloc, lines.as_str(), &mut Numbered::new(0), &[], &[])?;
     assert_eq!(rt; status, Status::Line(3));

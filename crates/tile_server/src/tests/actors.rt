@@ -190,8 +190,27 @@ fn lines_that_an_actor_cannot_do_end_the_schedule(rt: HostRuntime) -> Result<(),
     let busy = format!(in alloc; "0 ASK {tile}\n0 GET {tile}\n")?;
     let (status, output) = ran_in(alloc, b"", busy.as_str(), &mut source)?;
     assert_eq!(rt; (status, output.len()), (Status::Line(2), 0));
-    let (status, _) = ran_in(alloc, b"", "0 EXPIRE\n", &mut source)?;
-    assert_eq!(rt; status, Status::Line(1));
+    let expiring = format!(in alloc; "0 ASK {tile}\n0 EXPIRE\n")?;
+    let (status, output) = ran_in(alloc, b"", expiring.as_str(), &mut source)?;
+    assert_eq!(rt; (status, output.len()), (Status::Line(2), 0));
+    Ok(())
+}
+
+#[test]
+fn an_empty_cabinet_is_told_and_within_its_quotas(rt: HostRuntime) -> Result<(), Fail> {
+    let alloc = rt.alloc();
+    let lines = "0 GET /usage\n0 EXPIRE\n0 ASK /expire\n";
+    let (status, output) = ran_in(alloc, b"", lines, &mut Numbered::new(0))?;
+    let mut expected = Vec::new(alloc);
+    let usage =
+        b"HTTP/1.1 200 OK\r\nContent-Type: text/plain\r\nContent-Length: 36\r\n\r\nlayer demo 0 0 -\ntotal 0 0 -\ncuts 0\n";
+    add(&mut expected, alloc, (1, 0, 1), usage)?;
+    let within = "{\"within\":true}\n";
+    add_json(&mut expected, alloc, (2, 0, 2), "200 OK", within)?;
+    let wrong = b"HTTP/1.1 405 Method Not Allowed\r\nContent-Length: 0\r\n\r\n";
+    add(&mut expected, alloc, (3, 0, 3), wrong)?;
+    assert_eq!(rt; status, Status::Done);
+    assert_eq!(rt; output, expected);
     Ok(())
 }
 
