@@ -6,7 +6,7 @@
 #![tactic(auto)]
 
 mod end;
-mod number;
+pub mod number;
 mod pairs;
 pub mod query;
 mod rows;
