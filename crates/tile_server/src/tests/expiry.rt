@@ -44,7 +44,12 @@ fn the_longest_unused_goes_first(rt: HostRuntime) -> Result<(), Fail> {
     let alloc = rt.alloc();
     let text = catalogue(alloc, "\"lru\"")?;
     let lines = lines(alloc)?;
-    let (status, output) = ran_in(alloc, text.as_bytes(), lines.as_str(), &mut Numbered::new(0))?;
+    let (status, output) = ran_in(
+        alloc,
+        text.as_bytes(),
+        lines.as_str(),
+        &mut Numbered::new(0),
+    )?;
     assert_eq!(rt; status, Status::Done);
     let expected = expected(alloc, 0)?;
     let heads = "answer 6 0 6 167\nanswer 7 0 7 87\n".len();
@@ -58,7 +63,12 @@ fn the_least_often_used_goes_first(rt: HostRuntime) -> Result<(), Fail> {
     let alloc = rt.alloc();
     let text = catalogue(alloc, "\"lfu\"")?;
     let lines = lines(alloc)?;
-    let (status, output) = ran_in(alloc, text.as_bytes(), lines.as_str(), &mut Numbered::new(0))?;
+    let (status, output) = ran_in(
+        alloc,
+        text.as_bytes(),
+        lines.as_str(),
+        &mut Numbered::new(0),
+    )?;
     assert_eq!(rt; status, Status::Done);
     let expected = expected(alloc, 1)?;
     assert!(rt; output.as_slice().ends_with(expected.as_slice()));
