@@ -91,6 +91,7 @@ one_kept m t (x ∷ xs) a e = chosen (same_meta x.meta m) refl e (one_kept m t x
         let none : but m xs ≡ xs = but_none m xs (all_weaker (λ (z : Kept). m ≢ z.meta) (λ z. is_of m z ≡ false) (λ z apart. off_of m z.meta apart) xs (subst (λ (n : MetaKey). AllByRecursion (λ z. n ≢ z.meta) xs) is a.0)) in
         let of : same_meta x.meta m ≡ true = subst (λ (n : MetaKey). same_meta x.meta n ≡ true) is (same_meta_self x.meta) in
         record { before = []; behind = xs; there = ap (λ z. z ∷ xs) same; others = ap (λ (v : Bool). cond (not v) (x ∷ but m xs) (but m xs)) of ∙ none }
+
     chosen : (v : Bool) → same_meta x.meta m ≡ v → cond v (Some x) (find (is_of m) xs) ≡ Some t → (find (is_of m) xs ≡ Some t → IsOneOf m t xs) → IsOneOf m t (x ∷ xs)
     chosen true of e ih = let same : x ≡ t = cc in found t same (same_meta_is x.meta m of)
     chosen false of e ih =

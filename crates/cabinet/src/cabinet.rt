@@ -11,7 +11,9 @@ use crate::hitting::overtake;
 use crate::kept::{Kept, KeptBlob};
 use crate::replies::{Asked, CutReply, Expired, Finished, Forced};
 use crate::room::make_room;
-use crate::shelf::{count_in, count_others, drop_hit, drop_of, kept_of, least_with, older_of, shelve};
+use crate::shelf::{
+    count_in, count_others, drop_hit, drop_of, kept_of, least_with, older_of, shelve,
+};
 use crate::tally::Tally;
 use catalog::catalogue::Catalogue;
 use exact_ratio::words::Words;
@@ -139,7 +141,13 @@ impl Cabinet {
         if self.last >= LAST {
             return Ok(Forced::Spent);
         }
-        make_room(alloc, &mut self.blobs, &mut self.locks, &mut self.extents, &mut self.tally.uses)?;
+        make_room(
+            alloc,
+            &mut self.blobs,
+            &mut self.locks,
+            &mut self.extents,
+            &mut self.tally.uses,
+        )?;
         let number = self.last + 1;
         let ticket = match self.locks.begin(meta, number) {
             Begin::Busy(busy) => return Ok(Forced::Busy(busy)),
@@ -173,12 +181,9 @@ impl Cabinet {
             return Finished::Full;
         }
         let length = blob_bytes(&self.catalogue, &meta);
-        let place = match self.extents.take(length) {
-            Some(place) => place,
-            None => {
-                self.past = self.past.and(&Entry::Ended(number));
-                return Finished::NoRoom;
-            }
+        let Some(place) = self.extents.take(length) else {
+            self.past = self.past.and(&Entry::Ended(number));
+            return Finished::NoRoom;
         };
         let kept = Kept {
             number,
@@ -187,7 +192,8 @@ impl Cabinet {
             length,
         };
         give_older(&mut self.extents, self.blobs.as_slice(), &kept);
-        self.tally.keep(older_of(self.blobs.as_slice(), &meta), kept);
+        self.tally
+            .keep(older_of(self.blobs.as_slice(), &meta), kept);
         let text = Words::of(blob);
         shelve(&mut self.blobs, KeptBlob { kept, text });
         self.past = self.past.and(&Entry::Stored(number, meta, place, length));

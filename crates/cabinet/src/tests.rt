@@ -5,7 +5,7 @@ ghost use Rattle.raster_field.specs.Blocks.{IsMeta};
 ghost use Rattle.served_covers.specs.OfCatalogue.{IsCoverOf};
 
 use crate::cabinet::Cabinet;
-use crate::replies::{Asked, CutReply, Finished, Forced};
+use crate::replies::{Asked, CutReply, Expired, Finished, Forced};
 use catalog::catalogue::Catalogue;
 use matrix_geometry::address::Address;
 use matrix_geometry::boxes::Box9;
@@ -212,5 +212,94 @@ fn a_full_list_takes_a_cut_of_the_whole_layer(rt: HostRuntime) -> Result<(), Fai
     assert_eq!(rt; cut(alloc, &mut cabinet, &WHOLE)?, CutReply::Done(18));
     assert_eq!(rt; kept(alloc, &mut cabinet)?, Finished::Kept);
     assert!(rt; cut_strips(alloc, &mut cabinet, 20, 35)?);
+    Ok(())
+}
+
+/// A cabinet of the demo catalogue whose metatiles may take 40 bytes together.
+fn limited(alloc: Global) -> Result<Cabinet, AllocError>
+    ensures layers { IfOk result (λ c. c.catalogue.layers ≡ demo.layers) }
+    ensures grids { IfOk result (λ c. c.catalogue.grids ≡ demo.grids) }
+{
+    let mut catalogue = Catalogue::demo(alloc)?;
+    catalogue.quota = Some(40);
+    match catalogue.validate() {
+        Ok(()) => Cabinet::memory(alloc, catalogue),
+        Err(_) => Err(AllocError),
+    }
+}
+
+/// The metatile of a tile of a limited cabinet, which is rendered and kept.
+fn kept_at(alloc: Global, cabinet: &mut Cabinet, address: &Address) -> Result<MetaKey, AllocError>
+    requires { IsTile cabinet.old.catalogue address.now }
+    ensures { cabinet.new.catalogue ≡ cabinet.old.catalogue }
+{
+    cabinet.known();
+    laws_of_metatiles();
+    let meta = block_of(cabinet.catalogue(), address);
+    let size = blob_size(cabinet.catalogue(), &meta);
+    let blob = vec![in alloc; 7; size as usize]?;
+    match cabinet.force(alloc, &meta)? {
+        Forced::Ticket(ticket) => {
+            let _ = cabinet.finish(ticket, blob);
+        }
+        Forced::Busy(_) => {}
+        Forced::Spent => {}
+    }
+    Ok(meta)
+}
+
+/// Whether a tile is kept, which is then a use of its metatile.
+fn used(alloc: Global, cabinet: &mut Cabinet, address: &Address) -> Result<bool, AllocError>
+    requires { IsTile cabinet.old.catalogue address.now }
+    ensures { cabinet.new.catalogue ≡ cabinet.old.catalogue }
+{
+    match cabinet.ask(alloc, address)? {
+        Asked::Hit(_, _) => Ok(true),
+        Asked::Ticket(ticket) => {
+            cabinet.abandon(ticket);
+            Ok(false)
+        }
+        Asked::Busy(_) => Ok(false),
+        Asked::Spent => Ok(false),
+    }
+}
+
+/// Expires once.
+fn expired(cabinet: &mut Cabinet) -> Expired
+    ensures { cabinet.new.catalogue ≡ cabinet.old.catalogue }
+{
+    cabinet.expire()
+}
+
+/// Keeps the metatiles of two tiles, uses the first one, and tells whether the second one is what then expires.
+fn second_expires(
+    alloc: Global,
+    cabinet: &mut Cabinet,
+    first: &Address,
+    second: &Address,
+) -> Result<bool, AllocError>
+    requires first { IsTile cabinet.old.catalogue first.now }
+    requires second { IsTile cabinet.old.catalogue second.now }
+    ensures { cabinet.new.catalogue ≡ cabinet.old.catalogue }
+{
+    kept_at(alloc, cabinet, first)?;
+    let early = expired(cabinet);
+    let meta = kept_at(alloc, cabinet, second)?;
+    let is_used = used(alloc, cabinet, first)?;
+    let late = expired(cabinet);
+    Ok(is_used && early == Expired::Within && late == Expired::Dropped(meta))
+}
+
+#[test]
+fn what_was_used_last_the_longest_ago_expires(rt: HostRuntime) -> Result<(), Fail> {
+    let alloc = rt.alloc();
+    let mut cabinet = limited(alloc)?;
+    let beside = Address { col: 1, ..CORNER };
+    assert!(rt; second_expires(alloc, &mut cabinet, &CORNER, &beside)?);
+    assert_eq!(rt; cabinet.used(0), 23);
+    assert_eq!(rt; cabinet.used_all(), 23);
+    assert_eq!(rt; cabinet.kept_in(0), 1);
+    assert_eq!(rt; cabinet.kept(), 1);
+    assert_eq!(rt; cabinet.cuts(), 0);
     Ok(())
 }

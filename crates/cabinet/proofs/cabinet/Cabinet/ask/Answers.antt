@@ -38,8 +38,7 @@ pub invariant_of-self : goal.invariant_of-self
 invariant_of-self c =
     let i = c.self.inside in
     let s : State = record { catalogue = i.catalogue; opening = 0; history = i.past.entries; blobs = i.blobs.items } in
-    let e : find (λ (x : KeptBlob). is_of c.block_of-meta.result x.kept) i.blobs.items ≡ Some c.in-Some.blob.now = search rules in
-    (
+    let e : find (λ (x : KeptBlob). is_of c.block_of-meta.result x.kept) i.blobs.items ≡ Some c.in-Some.blob.now = search rules in (
       after_used s i.last _ i.locks.renders i.cuts.book i.extents c.self.invariant.0 c.block_of-meta.result c.in-Some.blob.now c.and-self-inside.result.entries e c.and-self-inside.ensures,
       counted_used s (length i.locks.renders) i.tally.ledger i.tally.uses c.self.invariant.1 c.and-self-inside.result.entries i.blobs.items c.block_of-meta.result c.touch.new.self c.and-self-inside.ensures c.touch.ensures.policy c.touch.ensures.layers
           c.touch.ensures.now c.touch.ensures.held c.touch.ensures.spare,

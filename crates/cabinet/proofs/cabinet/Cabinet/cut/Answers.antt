@@ -62,11 +62,10 @@ invariant_of-self-2 c =
     let s : State = record { catalogue = i.catalogue; opening = 0; history = i.past.entries; blobs = i.blobs.items } in
     let of = subst (λ (v : State). IsCoverOf v.catalogue c.args.cover.now) (sym c.self.view_is) c.requires in
     let least = least_is c.least_with-least.result c.least.result i.locks.renders i.blobs.items c.as_slice.result.now c.least.ensures c.least_with-least.ensures c.as_slice.ensures.value in
-    let bytes = c.forget_hit.ensures.bytes ∙ (λ j. accounts i.catalogue (map part_of (spared i.catalogue c.args.cover.now ((ap (map (λ (b : KeptBlob). b.kept)) c.as_slice-blobs.ensures.value ∙ c.self.invariant.0.known.blobs) j)))) in
-    (
+    let bytes = c.forget_hit.ensures.bytes ∙ (λ j. accounts i.catalogue (map part_of (spared i.catalogue c.args.cover.now ((ap (map (λ (b : KeptBlob). b.kept)) c.as_slice-blobs.ensures.value ∙ c.self.invariant.0.known.blobs) j)))) in (
       after_cut s i.last _ i.locks.renders i.cuts.book i.extents c.self.invariant.0 c.args.cover.now c.least_with-least.result c.and-self-inside.result.entries c.drop_hit.new.blobs.items _ c.overtake.new.locks.renders c.add.new.self.book c.give_hit.new.extents
-    of (omega arith) least c.and-self-inside.ensures c.drop_hit.ensures.items c.overtake.ensures (c.add.ensures.book ∙ ap (added (i.last + 1) c.args.cover.now c.least_with-least.result) c.reserve.ensures.book)
-    (c.give_hit.ensures.parts ∙ ap (λ (bs : List KeptBlob). regions (spared i.catalogue c.args.cover.now (map (λ b. b.kept) bs))) c.as_slice-blobs.ensures.value) c.give_hit.ensures.size c.give_hit.ensures.spare c.drop_hit.ensures.capacity,
+          of (omega arith) least c.and-self-inside.ensures c.drop_hit.ensures.items c.overtake.ensures (c.add.ensures.book ∙ ap (added (i.last + 1) c.args.cover.now c.least_with-least.result) c.reserve.ensures.book)
+          (c.give_hit.ensures.parts ∙ ap (λ (bs : List KeptBlob). regions (spared i.catalogue c.args.cover.now (map (λ b. b.kept) bs))) c.as_slice-blobs.ensures.value) c.give_hit.ensures.size c.give_hit.ensures.spare c.drop_hit.ensures.capacity,
       counted_cut s (length i.locks.renders) i.tally.ledger i.tally.uses c.self.invariant.1 c.and-self-inside.result.entries c.drop_hit.new.blobs.items (i.last + 1) c.args.cover.now (length c.overtake.new.locks.renders)
           c.forget_hit.new.tally.ledger c.forget_hit.new.tally.uses c.and-self-inside.ensures bytes c.forget_hit.ensures.uses c.forget_hit.ensures.spare
           (as_many_run (hits_of i.catalogue c.args.cover.now) (i.last + 1) i.locks.renders c.overtake.new.locks.renders c.overtake.ensures),

@@ -55,8 +55,7 @@ invariant_of-self c =
     let m = c.in-Some-victim.meta in
     let key = its_key s i.last _ i.locks.renders i.cuts.book i.extents c.self.invariant.0 (length i.locks.renders) i.tally.ledger i.tally.uses c.self.invariant.1 c.in-Some-victim.meta c.in-Some-older_of.kept e in
     let parts = region_given s i.last _ i.locks.renders i.cuts.book i.extents c.self.invariant.0 (length i.locks.renders) i.tally.ledger i.tally.uses c.self.invariant.1 c.in-Some-victim.meta c.in-Some-older_of.kept c.give_one.new.extents e c.give_one.ensures.sound c.give_one.ensures.given in
-    let gone = older_gone s i.last _ i.locks.renders i.cuts.book i.extents c.self.invariant.0 (length i.locks.renders) i.tally.ledger i.tally.uses c.self.invariant.1 c.in-Some-victim.meta (Some c.in-Some-older_of.kept) (sym e) in
-    (
+    let gone = older_gone s i.last _ i.locks.renders i.cuts.book i.extents c.self.invariant.0 (length i.locks.renders) i.tally.ledger i.tally.uses c.self.invariant.1 c.in-Some-victim.meta (Some c.in-Some-older_of.kept) (sym e) in (
       after_dropped s i.last _ i.locks.renders i.cuts.book i.extents c.self.invariant.0 c.in-Some-victim.meta c.in-Some-older_of.kept c.and-self-inside.result.entries c.drop_of.new.blobs.items _ c.give_one.new.extents e c.and-self-inside.ensures
           c.drop_of.ensures.items parts (sym c.give_one.ensures.given.same_size) (omega (arith, c.give_one.ensures.given.one_less)) c.drop_of.ensures.capacity,
       counted_dropped s (length i.locks.renders) i.tally.ledger i.tally.uses c.self.invariant.1 c.and-self-inside.result.entries c.drop_of.new.blobs.items c.in-Some-victim.meta c.forget.new.self.ledger c.forget.new.self.uses c.and-self-inside.ensures

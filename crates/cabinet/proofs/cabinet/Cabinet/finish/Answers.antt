@@ -22,8 +22,7 @@ pub invariant_of-self-in-Overtaken : goal.invariant_of-self-in-Overtaken
 invariant_of-self-in-Overtaken c =
     let i = c.self.inside in
     let s : State = record { catalogue = i.catalogue; opening = 0; history = i.past.entries; blobs = i.blobs.items } in
-    let told = c.and-self-inside.ensures ∙ ap (λ (n : ℕ). i.past.entries ++ entry.Ended n ∷ []) c.number-number.ensures in
-    (
+    let told = c.and-self-inside.ensures ∙ ap (λ (n : ℕ). i.past.entries ++ entry.Ended n ∷ []) c.number-number.ensures in (
       after_ended s i.last _ i.locks.renders i.cuts.book i.extents c.self.invariant.0 c.args.ticket.number c.and-self-inside.result.entries c.end.new.self.renders i.extents told c.in-Overtaken.ensures.ends.1 refl,
       counted_ended s (length i.locks.renders) i.tally.ledger i.tally.uses c.self.invariant.1 c.and-self-inside.result.entries i.blobs.items c.args.ticket.number (length c.end.new.self.renders) told (fewer_run c.args.ticket.number i.locks.renders c.end.new.self.renders c.in-Overtaken.ensures.ends.1),
     )
@@ -35,8 +34,7 @@ pub invariant_of-self-then-count_others-self : goal.invariant_of-self-then-count
 invariant_of-self-then-count_others-self c =
     let i = c.self.inside in
     let s : State = record { catalogue = i.catalogue; opening = 0; history = i.past.entries; blobs = i.blobs.items } in
-    let told = c.and-self-inside-then-count_others-self.ensures ∙ ap (λ (n : ℕ). i.past.entries ++ entry.Ended n ∷ []) c.number-number.ensures in
-    (
+    let told = c.and-self-inside-then-count_others-self.ensures ∙ ap (λ (n : ℕ). i.past.entries ++ entry.Ended n ∷ []) c.number-number.ensures in (
       after_ended s i.last _ i.locks.renders i.cuts.book i.extents c.self.invariant.0 c.args.ticket.number c.and-self-inside-then-count_others-self.result.entries c.end.new.self.renders i.extents told c.in-Whole.ensures.ends.1 refl,
       counted_ended s (length i.locks.renders) i.tally.ledger i.tally.uses c.self.invariant.1 c.and-self-inside-then-count_others-self.result.entries i.blobs.items c.args.ticket.number (length c.end.new.self.renders) told (fewer_run c.args.ticket.number i.locks.renders c.end.new.self.renders c.in-Whole.ensures.ends.1),
     )
@@ -55,31 +53,30 @@ returns-then-count_others-self-clause-finished c =
 pub returns-then-count_others-self-clause-sound : goal.returns-then-count_others-self-clause-sound
 returns-then-count_others-self-clause-sound c = λ sound text. subst (λ (v : State). IsSound v) (sym c.self.view_is) sound
 
-pub invariant_of-self-in-None : goal.invariant_of-self-in-None
-invariant_of-self-in-None c =
+pub invariant_of-self-in_default : goal.invariant_of-self-in_default
+invariant_of-self-in_default c =
     let i = c.self.inside in
     let s : State = record { catalogue = i.catalogue; opening = 0; history = i.past.entries; blobs = i.blobs.items } in
-    let told = c.and-self-inside-in-None.ensures ∙ ap (λ (n : ℕ). i.past.entries ++ entry.Ended n ∷ []) c.number-number.ensures in
-    (
-      after_ended s i.last _ i.locks.renders i.cuts.book i.extents c.self.invariant.0 c.args.ticket.number c.and-self-inside-in-None.result.entries c.end.new.self.renders c.take.new.self told c.in-Whole.ensures.ends.1 c.in-None.ensures.unchanged,
-      counted_ended s (length i.locks.renders) i.tally.ledger i.tally.uses c.self.invariant.1 c.and-self-inside-in-None.result.entries i.blobs.items c.args.ticket.number (length c.end.new.self.renders) told (fewer_run c.args.ticket.number i.locks.renders c.end.new.self.renders c.in-Whole.ensures.ends.1),
+    let told = c.and-self-inside-in_default.ensures ∙ ap (λ (n : ℕ). i.past.entries ++ entry.Ended n ∷ []) c.number-number.ensures in (
+      after_ended s i.last _ i.locks.renders i.cuts.book i.extents c.self.invariant.0 c.args.ticket.number c.and-self-inside-in_default.result.entries c.end.new.self.renders c.take.new.self told c.in-Whole.ensures.ends.1 c.in_default.ensures.unchanged,
+      counted_ended s (length i.locks.renders) i.tally.ledger i.tally.uses c.self.invariant.1 c.and-self-inside-in_default.result.entries i.blobs.items c.args.ticket.number (length c.end.new.self.renders) told (fewer_run c.args.ticket.number i.locks.renders c.end.new.self.renders c.in-Whole.ensures.ends.1),
     )
 
-pub returns-in-None-clause-finished : goal.returns-in-None-clause-finished
-returns-in-None-clause-finished c =
+pub returns-in_default-clause-finished : goal.returns-in_default-clause-finished
+returns-in_default-clause-finished c =
     let i = c.self.inside in
     let s : State = record { catalogue = i.catalogue; opening = 0; history = i.past.entries; blobs = i.blobs.items } in
-    let new : State = record { catalogue = i.catalogue; opening = 0; history = c.and-self-inside-in-None.result.entries; blobs = i.blobs.items } in
-    let told = c.and-self-inside-in-None.ensures ∙ ap (λ (n : ℕ). i.past.entries ++ entry.Ended n ∷ []) c.number-number.ensures in
+    let new : State = record { catalogue = i.catalogue; opening = 0; history = c.and-self-inside-in_default.result.entries; blobs = i.blobs.items } in
+    let told = c.and-self-inside-in_default.ensures ∙ ap (λ (n : ℕ). i.past.entries ++ entry.Ended n ∷ []) c.number-number.ensures in
     let counted = c.count_others.ensures ∙ (λ j. length (filter (λ b. not (is_of (c.meta-meta.ensures j) b.kept)) (c.as_slice.ensures.value j))) in
     let long : c.blob_bytes-length.result ≡ length c.args.blob.items = c.blob_bytes-length.ensures.size ∙ (λ j. blob_size (c.self.view_is j).catalogue (c.meta-meta.ensures j)) ∙ sym c.requires.blob in
-    let gap = gap_none s i.last _ i.locks.renders i.cuts.book i.extents c.self.invariant.0 c.blob_bytes-length.result c.take.new.self c.in-None.ensures.none c.in-None.ensures.unchanged c.take.ensures.sound in
+    let gap = gap_none s i.last _ i.locks.renders i.cuts.book i.extents c.self.invariant.0 c.blob_bytes-length.result c.take.new.self c.in_default.ensures.none c.in_default.ensures.unchanged c.take.ensures.sound in
     subst (λ (v : State). Finishes v c.args.ticket c.args.blob.items finished.NoRoom new) c.self.view_is
     (no_room_row s i.last _ i.locks.renders i.cuts.book i.extents c.self.invariant.0 c.args.ticket c.args.blob.items c.count_others.result new c.in-Whole.ensures.ends.0 counted c.if-count_others-self.false
     (subst (λ (n : ℕ). gap_for i.catalogue (map (λ b. b.kept) i.blobs.items) n ≡ None) long gap) (λ j. record { catalogue = i.catalogue; opening = 0; history = told j; blobs = i.blobs.items }))
 
-pub returns-in-None-clause-sound : goal.returns-in-None-clause-sound
-returns-in-None-clause-sound c = λ sound text. subst (λ (v : State). IsSound v) (sym c.self.view_is) sound
+pub returns-in_default-clause-sound : goal.returns-in_default-clause-sound
+returns-in_default-clause-sound c = λ sound text. subst (λ (v : State). IsSound v) (sym c.self.view_is) sound
 
 pub keep-requires-clause-layer : goal.keep-requires-clause-layer
 keep-requires-clause-layer c =
@@ -127,11 +124,10 @@ invariant_of-self-2 c =
     let older = c.older_of.ensures ∙ ap (λ (bs : List KeptBlob). find (is_of c.meta-meta.result) (map (λ b. b.kept) bs)) c.as_slice-3.ensures.value in
     let gone = older_gone s i.last _ i.locks.renders i.cuts.book i.extents c.self.invariant.0 (length i.locks.renders) i.tally.ledger i.tally.uses c.self.invariant.1 c.meta-meta.result c.older_of.result older in
     let less = one_less s i.last _ i.locks.renders i.cuts.book i.extents c.self.invariant.0 (record { number = t.number; meta = t.meta }) (unmarked t.number t.meta) runs in
-    let others = c.count_others.ensures ∙ ap (λ (bs : List KeptBlob). length (filter (λ b. not (is_of t.meta b.kept)) bs)) c.as_slice.ensures.value ∙ others_are s i.last _ i.locks.renders i.cuts.book i.extents c.self.invariant.0 t.meta in
-    (
+    let others = c.count_others.ensures ∙ ap (λ (bs : List KeptBlob). length (filter (λ b. not (is_of t.meta b.kept)) bs)) c.as_slice.ensures.value ∙ others_are s i.last _ i.locks.renders i.cuts.book i.extents c.self.invariant.0 t.meta in (
       after_stored s i.last _ i.locks.renders i.cuts.book i.extents c.self.invariant.0 t c.of-text.result c.and-self-inside-2.result.entries c.shelve.new.blobs.items _ c.end.new.self.renders c.take.new.self c.give_older.new.extents runs
-    (ap length c.of-text.ensures ∙ sym long) c.blob_bytes-length.ensures.size gap c.and-self-inside-2.ensures c.shelve.ensures.items off c.in-Some.ensures.taken parts c.give_older.ensures.size c.give_older.ensures.spare c.give_older.ensures.sound
-    c.shelve.ensures.capacity,
+          (ap length c.of-text.ensures ∙ sym long) c.blob_bytes-length.ensures.size gap c.and-self-inside-2.ensures c.shelve.ensures.items off c.in-Some.ensures.taken parts c.give_older.ensures.size c.give_older.ensures.spare c.give_older.ensures.sound
+          c.shelve.ensures.capacity,
       counted_stored s (length i.locks.renders) i.tally.ledger i.tally.uses c.self.invariant.1 c.and-self-inside-2.result.entries c.shelve.new.blobs.items t (length c.end.new.self.renders) c.keep.new.self.ledger c.keep.new.self.uses
           c.and-self-inside-2.ensures (layer_within i.catalogue t.meta meta) (c.keep.ensures.bytes ∙ ap (added t.meta.theme.layer t.length) gone) c.keep.ensures.uses c.keep.ensures.spare
           (omega (arith, less, ap length off)) (omega (arith, others, c.if-count_others-self.false)),

@@ -17,8 +17,7 @@ invariant_of-self-2 c =
     let s : State = record { catalogue = i.catalogue; opening = 0; history = i.past.entries; blobs = i.blobs.items } in
     let meta = subst (λ (v : State). IsMeta v.catalogue c.args.meta.now) (sym c.self.view_is) c.requires in
     let none : running_for c.args.meta.now i.locks.renders ≡ None = search rules in
-    let begins : c.begin.new.self.renders ≡ begun (i.last + 1) c.args.meta.now i.locks.renders = search rules in
-    (
+    let begins : c.begin.new.self.renders ≡ begun (i.last + 1) c.args.meta.now i.locks.renders = search rules in (
       after_started s i.last _ i.locks.renders i.cuts.book i.extents c.self.invariant.0 c.args.meta.now c.and-self-inside.result.entries c.make_room.new.blobs.items _ c.begin.new.self.renders c.make_room.new.extents meta none (omega arith)
           c.and-self-inside.ensures c.make_room.ensures.items begins c.make_room.ensures.parts c.make_room.ensures.size c.in_ok-make_room.ensures.list c.in_ok-make_room.ensures.regions,
       counted_started s (length i.locks.renders) i.tally.ledger i.tally.uses c.self.invariant.1 c.and-self-inside.result.entries c.make_room.new.blobs.items (i.last + 1) c.args.meta.now (length c.begin.new.self.renders) c.make_room.new.uses
