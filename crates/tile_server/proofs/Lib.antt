@@ -1,2 +1,3 @@
-pub mod OneWord
+pub mod Numbers
 pub mod Reading
+pub mod Serving

@@ -1,5 +1,5 @@
 -- What a command came to.
-use Rattle.std.specs.Prelude.{ℕ, ◌≡◌, ◌≤◌, ◌+◌, ◌⊎◌, List, [], ◌∷◌, length, Result, Ok, Err, codes, ⊤}
+use Rattle.std.specs.Prelude.{ℕ, ◌≡◌, ◌≤◌, ◌+◌, ◌⊎◌, List, length, Option, Some, None, Result, Ok, Err, ⊤}
 use Rattle.std.specs.Io.KnownBytes.{Consumes, IsAtEnd}
 use Rattle.cabinet.specs.State.{fresh_state}
 use Rattle.catalog.specs.declared.catalogue.Catalogue.{Catalogue}
@@ -10,6 +10,9 @@ use Rattle.http_wire.specs.declared.inputs.InputEnd.{InputEnd}
 use Rattle.http_wire.specs.declared.inputs.InputEnd.TheVariants as input_end
 use Rattle.tile_service.specs.declared.schedule.ScheduleEnd.{ScheduleEnd}
 use Rattle.tile_service.specs.declared.schedule.ScheduleEnd.TheVariants as end
+use Rattle.tile_service.specs.declared.drill.DrillEnd.{DrillEnd}
+use Rattle.tile_service.specs.declared.drill.DrillEnd.TheVariants as drill_end
+use Rattle.tile_service.specs.Drill.{Drills}
 use Rattle.tile_service.specs.Outside.{Input, Outside}
 use Rattle.tile_service.specs.Run.{World, free_seats}
 use Rattle.tile_service.specs.Schedules.{IsTooLong, Schedules}
@@ -18,11 +21,9 @@ use Rattle.tile_server.specs.declared.command.Status.TheVariants as status
 use Rattle.tile_server.specs.declared.configured.Unconfigured.{Unconfigured}
 use Rattle.tile_server.specs.declared.configured.Unconfigured.TheVariants as unconfigured
 use Rattle.tile_server.specs.declared.configured.TheConstants.{CATALOGUE_LIMIT}
+use Rattle.tile_server.specs.declared.words.Word.{Word}
+use Rattle.tile_server.specs.declared.words.Word.TheVariants as word
 use Rattle.tile_server.specs.declared.described.TheConstants.{CAPABILITIES_LIMIT}
-
--- the words are the one word `schedule`
-abbrev pub IsSchedule : List (List ℕ) → Type 0
-IsSchedule words = words ≡ codes "schedule" ∷ []
 
 -- a read of an input failed
 abbrev pub HasRisen : Input → Type 0
@@ -87,26 +88,73 @@ pub record Inputs : Type 0 where
   pub capabilities : Input
   pub lines : Input
 
--- That an input stays as it was, or output and source do, is a fact of its own for each of them.
-module _ (i : Inputs) (o : Outside) (CapabilitiesStay LinesStay OthersStay : Type 0) where
-  -- both files were read, and the schedule was run with them and ended so
+-- the status of a schedule's end, and of a drill's
+abbrev pub status_of_schedule : ScheduleEnd → Status
+status_of_schedule end.Done = status.Done
+status_of_schedule (end.Line n) = status.Line n
+status_of_schedule end.ReadFault = status.ReadFault
+status_of_schedule end.WriteFault = status.WriteFault
+status_of_schedule end.TooLong = status.TooLong
+status_of_schedule end.OutOfMemory = status.OutOfMemory
+
+abbrev pub status_of_drill : DrillEnd → Status
+status_of_drill drill_end.Done = status.Done
+status_of_drill drill_end.WriteFault = status.WriteFault
+status_of_drill drill_end.OutOfMemory = status.OutOfMemory
+
+-- That an input, the output or the source stays as it was is a fact of its own for each of them.
+module _ (i : Inputs) (o : Outside) (CapabilitiesStay LinesStay OutputStays SourceStays : Type 0) where
+  -- both files were read, and this holds of the catalogue and of the document of the capabilities
+  abbrev pub BothRead : (Catalogue → List ℕ → Type 0) → Type 0
+  BothRead P = (c : Catalogue) × IsRead i.catalogue (Ok c) × (text : List ℕ) × IsDocument i.capabilities text × P c text
+
+  -- the schedule was run with them, and ended so
   abbrev pub HasEnded : ScheduleEnd → Type 0
-  HasEnded e = (c : Catalogue) × IsRead i.catalogue (Ok c) × (text : List ℕ) × IsDocument i.capabilities text × (t : World) × Schedules i.lines o OthersStay (fresh_world c text) t e
+  HasEnded e = BothRead (λ c text. (t : World) × Schedules i.lines o (OutputStays × SourceStays) (fresh_world c text) t e)
+
+  -- the drill was run with them, and ended so
+  abbrev pub HasDrilled : ℕ → DrillEnd → Type 0
+  HasDrilled number e = LinesStay × BothRead (λ c text. (t : World) × Drills o OutputStays number (fresh_world c text) t e)
 
   -- one input is the first of which its fact holds: those before it were read, and those behind it stay as they were
   abbrev pub AtFirst : Type 0 → Type 0 → Type 0 → Type 0
   AtFirst OfCatalogue OfCapabilities OfLines =
       (OfCatalogue × CapabilitiesStay × LinesStay)
       ⊎ ((c : Catalogue) × IsRead i.catalogue (Ok c) × OfCapabilities × LinesStay)
-      ⊎ ((c : Catalogue) × IsRead i.catalogue (Ok c) × (text : List ℕ) × IsDocument i.capabilities text × OfLines)
+      ⊎ BothRead (λ c text. OfLines)
 
-  -- what each status says; where no line was run, output and source stay as they were
-  abbrev pub HasServed : Type 0 → Status → Type 0
-  HasServed CatalogueStays status.Usage = CatalogueStays × CapabilitiesStay × LinesStay × OthersStay
-  HasServed CatalogueStays (status.Catalogue fault) = IsRead i.catalogue (Err fault) × CapabilitiesStay × LinesStay × OthersStay
-  HasServed CatalogueStays status.ReadFault = AtFirst (HasRisen i.catalogue) (HasRisen i.capabilities) (HasRisen i.lines) × OthersStay
-  HasServed CatalogueStays status.TooLong = AtFirst (IsTooLongText i.catalogue) (IsTooLongDocument i.capabilities) (IsTooLong i.lines) × OthersStay
-  HasServed CatalogueStays status.OutOfMemory = AtFirst ⊤ ⊤ ⊤ × OthersStay
-  HasServed CatalogueStays status.Done = HasEnded end.Done
-  HasServed CatalogueStays (status.Line n) = HasEnded (end.Line n)
-  HasServed CatalogueStays status.WriteFault = HasEnded end.WriteFault
+  -- no word was read, and nothing was done
+  abbrev pub NothingDone : Type 0 → Type 0
+  NothingDone CatalogueStays = CatalogueStays × CapabilitiesStay × LinesStay × OutputStays × SourceStays
+
+  -- no line was run
+  abbrev pub NoneRun : Type 0 → Type 0 → Type 0 → Type 0
+  NoneRun OfCatalogue OfCapabilities OfLines = AtFirst OfCatalogue OfCapabilities OfLines × OutputStays × SourceStays
+
+  -- what each status says of a schedule
+  abbrev pub HasScheduled : Status → Type 0
+  HasScheduled status.Usage = ⊥
+  HasScheduled (status.Catalogue fault) = IsRead i.catalogue (Err fault) × CapabilitiesStay × LinesStay × OutputStays × SourceStays
+  HasScheduled status.ReadFault = NoneRun (HasRisen i.catalogue) (HasRisen i.capabilities) (HasRisen i.lines)
+  HasScheduled status.TooLong = NoneRun (IsTooLongText i.catalogue) (IsTooLongDocument i.capabilities) (IsTooLong i.lines)
+  HasScheduled status.OutOfMemory = NoneRun ⊤ ⊤ ⊤
+  HasScheduled status.Done = HasEnded end.Done
+  HasScheduled (status.Line n) = HasEnded (end.Line n)
+  HasScheduled status.WriteFault = HasEnded end.WriteFault
+
+  -- what each status says of the drill of a number, which reads no lines
+  abbrev pub HasServedDrill : ℕ → Status → Type 0
+  HasServedDrill number status.Usage = ⊥
+  HasServedDrill number (status.Catalogue fault) = IsRead i.catalogue (Err fault) × CapabilitiesStay × LinesStay × OutputStays × SourceStays
+  HasServedDrill number status.ReadFault = NoneRun (HasRisen i.catalogue) (HasRisen i.capabilities) ⊥
+  HasServedDrill number status.TooLong = NoneRun (IsTooLongText i.catalogue) (IsTooLongDocument i.capabilities) ⊥
+  HasServedDrill number status.OutOfMemory = NoneRun ⊤ ⊤ LinesStay ⊎ HasDrilled number drill_end.OutOfMemory
+  HasServedDrill number status.Done = HasDrilled number drill_end.Done
+  HasServedDrill number (status.Line n) = ⊥
+  HasServedDrill number status.WriteFault = HasDrilled number drill_end.WriteFault
+
+  -- what each status says, by what the words ask for
+  abbrev pub HasServed : Type 0 → Option Word → Status → Type 0
+  HasServed CatalogueStays None s = NothingDone CatalogueStays
+  HasServed CatalogueStays (Some word.Schedule) s = HasScheduled s
+  HasServed CatalogueStays (Some (word.Drill number)) s = HasServedDrill number s

@@ -1,11 +1,13 @@
-ghost use Rattle.std.specs.Prelude.{◌≡◌, ◌↔◌, IsTrue, IfOk};
+ghost use Rattle.std.specs.Prelude.{◌≡◌, ◌↔◌, IfOk};
 ghost use Rattle.cabinet.specs.State.{fresh_state};
 ghost use Rattle.catalog.specs.Valid.{IsValid};
 ghost use Rattle.tile_service.specs.Outside.{Input, Outside};
-ghost use Rattle.tile_server.specs.Command.{IsSchedule, HasServed};
+ghost use Rattle.tile_server.specs.Command.{HasServed, status_of_drill, status_of_schedule};
+ghost use Rattle.tile_server.specs.Words.{word_of};
 
 use crate::configured::{Unconfigured, configured};
 use crate::described::described;
+use crate::words::{Word, word_of};
 use cabinet::cabinet::Cabinet;
 use catalog::catalogue::Catalogue;
 use catalog::fault::CatalogueFault;
@@ -15,13 +17,14 @@ use http_wire::streams::{ByteSink, ByteSource};
 use source_render::source::Source;
 use std::alloc::{AllocError, Global};
 use tile_service::counter::Counter;
+use tile_service::drill::{DrillEnd, run_drill};
 use tile_service::schedule::{ScheduleEnd, run_schedule};
 use wmts_rest::table::RestTable;
 
 /// How a command ended.
 #[derive(Clone, Copy, Debug, PartialEq, Eq)]
 pub enum Status {
-    /// The input was read to its end, and all was written.
+    /// The input was read to its end, where the words take one, and all was written.
     Done,
     /// The words are no command.
     Usage,
@@ -33,18 +36,34 @@ pub enum Status {
     WriteFault,
     /// This line of the schedule was refused, counted from 1; the lines before it were run and answered.
     Line(u64),
-    /// Memory ran out before the first line.
+    /// Memory ran out: before the first line of a schedule, before or between the lines of a drill.
     OutOfMemory,
     /// The catalogue, the document of the capabilities or the schedule has more bytes than it may have.
     TooLong,
 }
 
-fn is_schedule(words: &[Words]) -> bool
-    ensures { IsTrue result ↔ IsSchedule words.now }
+/// The status of a schedule's end.
+fn status_of_schedule(end: ScheduleEnd) -> Status
+    ensures { result ≡ status_of_schedule end }
 {
-    match words {
-        [word] => word.bytes() == b"schedule".as_slice(),
-        _ => false,
+    match end {
+        ScheduleEnd::Done => Status::Done,
+        ScheduleEnd::Line(n) => Status::Line(n),
+        ScheduleEnd::ReadFault => Status::ReadFault,
+        ScheduleEnd::WriteFault => Status::WriteFault,
+        ScheduleEnd::TooLong => Status::TooLong,
+        ScheduleEnd::OutOfMemory => Status::OutOfMemory,
+    }
+}
+
+/// The status of a drill's end.
+fn status_of_drill(end: DrillEnd) -> Status
+    ensures { result ≡ status_of_drill end }
+{
+    match end {
+        DrillEnd::Done => Status::Done,
+        DrillEnd::WriteFault => Status::WriteFault,
+        DrillEnd::OutOfMemory => Status::OutOfMemory,
     }
 }
 
@@ -64,9 +83,10 @@ fn counter_of(
     })
 }
 
-/// Does what the words say. The one command so far is `schedule`: it reads the catalogue and the document of the
-/// capabilities, runs the lines of the input on a cabinet in memory of that catalogue, and writes the answers. A catalogue
-/// of no bytes is the built-in one. `Usage` exactly where the words are not that; each other status comes as `Status` says.
+/// Does what the words say, on a cabinet in memory of the catalogue that it reads, with the document of the capabilities. A
+/// catalogue of no bytes is the built-in one. `schedule` runs the lines of the input and writes the answers; `drill` and a
+/// number runs the lines that the number makes, and writes a summary. `Usage` exactly where the words are neither; each
+/// other status comes as `Status` says.
 pub fn run_command<S: Source, I: ByteSource, O: ByteSink>(
     alloc: Global,
     words: &[Words],
@@ -76,7 +96,7 @@ pub fn run_command<S: Source, I: ByteSource, O: ByteSink>(
     output: &mut O,
     source: &mut S,
 ) -> Status
-    ensures usage { (result ≡ Status.Usage) ↔ (IsSchedule words.now → ⊥) }
+    ensures usage { (result ≡ Status.Usage) ↔ (word_of words.now ≡ None) }
     ensures served { HasServed
         (record {
           catalogue = record { reads = record { before = I.faults catalogue.old; after = I.faults catalogue.new }; from = I.left catalogue.old; to = I.left catalogue.new };
@@ -84,11 +104,11 @@ pub fn run_command<S: Source, I: ByteSource, O: ByteSink>(
           lines = record { reads = record { before = I.faults input.old; after = I.faults input.new }; from = I.left input.old; to = I.left input.new };
         })
         (record { told = S.told source.old; renders = record { before = S.faults source.old; after = S.faults source.new }; writes = record { before = O.faults output.old; after = O.faults output.new }; from = O.taken output.old; to = O.taken output.new })
-        (capabilities.new ≡ capabilities.old) (input.new ≡ input.old) ((output.new ≡ output.old) × (source.new ≡ source.old)) (catalogue.new ≡ catalogue.old) result }
+        (capabilities.new ≡ capabilities.old) (input.new ≡ input.old) (output.new ≡ output.old) (source.new ≡ source.old) (catalogue.new ≡ catalogue.old) (word_of words.now) result }
 {
-    if !is_schedule(words) {
+    let Some(word) = word_of(words) else {
         return Status::Usage;
-    }
+    };
     let catalogue = match configured(alloc, catalogue) {
         Ok(catalogue) => catalogue,
         Err(Unconfigured::ReadFault) => return Status::ReadFault,
@@ -105,12 +125,12 @@ pub fn run_command<S: Source, I: ByteSource, O: ByteSink>(
     let Ok(mut counter) = counter_of(alloc, catalogue, capabilities) else {
         return Status::OutOfMemory;
     };
-    match run_schedule(alloc, &mut counter, source, input, output) {
-        ScheduleEnd::Done => Status::Done,
-        ScheduleEnd::Line(n) => Status::Line(n),
-        ScheduleEnd::ReadFault => Status::ReadFault,
-        ScheduleEnd::WriteFault => Status::WriteFault,
-        ScheduleEnd::TooLong => Status::TooLong,
-        ScheduleEnd::OutOfMemory => Status::OutOfMemory,
+    match word {
+        Word::Schedule => {
+            status_of_schedule(run_schedule(alloc, &mut counter, source, input, output))
+        }
+        Word::Drill(number) => {
+            status_of_drill(run_drill(alloc, &mut counter, source, number, output))
+        }
     }
 }

@@ -12,6 +12,7 @@ mod fault_text;
 mod input;
 #[cfg(test)]
 mod tests;
+mod words;
 
 use command::{Status, run_command};
 use config_text::read_catalogue;
@@ -30,7 +31,9 @@ use std::rt::{Env, Files};
 use std::{env, io};
 
 const HELP: &str =
-    "tile_server schedule < LINES    runs the lines of a schedule on a cabinet in memory of the catalogue in catalogue.json\n";
+    "tile_server schedule < LINES    runs the lines of a schedule on a cabinet in memory of the catalogue in catalogue.json
+tile_server drill NUMBER        runs 4096 lines that the number makes on such a cabinet, and writes a summary
+";
 
 const VERSION: &str = "tile_server 0.1.0\n";
 

@@ -10,6 +10,8 @@ pub mod Dealt
 pub mod Writing
 pub mod Far
 pub mod Scheduling
+pub mod Plain
+pub mod Speaking
 pub mod Making
 pub mod Summing
 pub mod Gluing

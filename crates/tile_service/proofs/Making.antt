@@ -1,9 +1,11 @@
 -- How far the run of a drill has come, one more line, and its ends.
-use Rattle.std.proofs.Common.{◌≡◌, ℕ, zero, suc, map, replicate, ◌+◌, ◌-◌, ◌<◌, ◌≤◌, Bool, List, [], ◌∷◌, ◌++◌, Option, Some, None, length, flat_map, slice_get, is_some, refl, sym, ap, subst, ◌∙◌, arith, append_assoc, append-nil, length-append}
+use Rattle.std.proofs.Common.{◌≡◌, ℕ, zero, suc, map, replicate, ◌+◌, ◌≤◌, Bool, List, [], ◌∷◌, ◌++◌, Option, Some, None, length, flat_map, slice_get, is_some, refl, sym, ap, subst, ◌∙◌, arith, append_assoc, append-nil, length-append}
 use Rattle.std.specs.List.{count_by}
 use Rattle.std.proofs.lemmas.Grind.{flat_map-append}
+use Rattle.std.proofs.lemmas.List.{length-map}
 use Rattle.std.proofs.lemmas.List.Sums.{sum_by-append}
 use Rattle.cabinet.specs.State.{State}
+use Rattle.catalog.specs.Valid.{IsValid}
 use Rattle.tile_service.specs.declared.run_line.LineEnd.{LineEnd}
 use Rattle.tile_service.specs.declared.run_line.LineEnd.TheVariants as line_end
 use Rattle.tile_service.specs.declared.drill_run.MadeEnd.{MadeEnd}
@@ -26,7 +28,8 @@ use Rattle.tile_service.specs.Run.{Answer, Busy, World, answer_text, free_seats,
 use Rattle.tile_service.specs.Seats.{desk_at}
 use Rattle.tile_service.specs.Tally.{both, is_hit, is_miss, is_other, one_of, result_of, tally_of, total}
 use Rattle.tile_service.specs.Written.{LineEnds, Writes}
-use Rattle.tile_service.proofs.Far.{Far, ends_done, ends_refused, ends_upheld, far_next, far_start_free, far_waits, free_same}
+use Rattle.tile_service.proofs.Far.{Far, ends_done, ends_upheld, far_next, far_start_free, free_same}
+use Rattle.tile_service.proofs.Speaking.{never_refused}
 
 -- THE SEATS OF THE CODE
 
@@ -78,11 +81,6 @@ one_made : (t u : World) (n x : ℕ) (c : Chance) (news : List Answer) → line_
 unfolding made_lines
 one_made t u n x c news e count more = rw e refl
 
--- a refused line is the last
-last_made : (t : World) (n x : ℕ) → line_done t n calm (deed_in (made t x).line) ≡ None → (count : ℕ) → made_lines (suc count) t n x [] ≡ (made t x).line ∷ []
-unfolding made_lines
-last_made t n x e count = rw e refl
-
 none_made : (t : World) (n x : ℕ) (more : List Chance) → made_lines 0 t n x more ≡ []
 unfolding made_lines
 none_made t n x more = refl
@@ -126,20 +124,8 @@ module _ (told : Option ℕ) (before after : ℕ) (w : World) (number n x : ℕ)
   all_run : drill_run n w number f.chances ≡ record { answers = f.answers; world = t; refused = None }
   all_run = ap (λ ls. run w 1 ls f.chances) all_lines ∙ ends_done told before after w f.done f.chances f.answers n t f.far
 
-  pub all_drilled : IsDrilled told (record { before = before; after = after }) w number n f.chances None t
+  pub all_drilled : IsDrilled told (record { before = before; after = after }) w number n f.chances t
   all_drilled = record { ends = ap (λ r. r.refused) all_run; world = sym (ap (λ r. r.world) all_run); upheld = ends_upheld told before after w f.done f.chances f.answers n t f.far _ None all_run }
-
-  -- the next line is refused
-  module _ (count : ℕ) (none : line_done t (n + 1) calm (deed_in (made t x).line) ≡ None) where
-    refused_lines : drill_lines (n + suc count) w number f.chances ≡ f.done ++ (made t x).line ∷ []
-    refused_lines = rw (append-nil f.chances, last_made t (n + 1) x none count) at (f.lines (suc count) [])
-
-    refused_run : drill_run (n + suc count) w number f.chances ≡ record { answers = f.answers; world = t; refused = Some (n + 1) }
-    refused_run = ap (λ ls. run w 1 ls f.chances) refused_lines ∙ ends_refused told before after w f.done f.chances f.answers n t f.far (made t x).line [] none
-
-    refused_drilled : IsDrilled told (record { before = before; after = after }) w number (n + suc count) f.chances (Some (n + 1)) t
-    refused_drilled =
-        record { ends = ap (λ r. r.refused) refused_run; world = sym (ap (λ r. r.world) refused_run); upheld = ends_upheld told before after w f.done f.chances f.answers n t f.far _ (Some (n + 1)) refused_run }
 
   done_made : HasMadeAll n told (record { before = before; after = after }) w number t tally (sha256 text)
   done_made = (
@@ -150,20 +136,6 @@ module _ (told : Option ℕ) (before after : ℕ) (w : World) (number n x : ℕ)
     ap sha256 (f.written ∙ sym (ap output_of all_run)),
     f.few,
   )
-
-abbrev made_waits : (told : Option ℕ) (before mid after : ℕ) (w : World) (number n x : ℕ) (tally : Tally) (text : List ℕ) (t : World) → Made told before mid w number n x tally text t → mid ≤ after → Made told before after w number n x tally text t
-made_waits told before mid after w number n x tally text t f later =
-    record {
-      done = f.done;
-      chances = f.chances;
-      answers = f.answers;
-      lines = f.lines;
-      long = f.long;
-      counted = f.counted;
-      few = f.few;
-      written = f.written;
-      far = far_waits told before mid after w f.done f.chances f.answers n t f.far later;
-    }
 
 -- THE SEATS OF THE CODE
 
@@ -218,12 +190,9 @@ module _ (told via : Option ℕ) (before mid after : ℕ) (w : World) (number n 
       let next = made_next told via before mid after w number n x tally text (world_of s document f.0) (world_of t document d.0) line.0 answered f.2 same line.1 line.3 text' line.2 in
       (d.0, d.1, rw d.3 next)
 
-  pub seated_refused : n < line_count → (end : LineEnd) → end ≡ line_end.Refused → Makes one s document seats (n + 1) x t later x' end → Ends told before after w number t document later (made_end.Line (n + 1))
-  seated_refused l end ends k =
+  -- the line is not refused
+  pub seated_accepted : IsValid s.catalogue → length seats ≡ ACTORS → (end : LineEnd) → end ≡ line_end.Refused → Makes one s document seats (n + 1) x t later x' end → ⊥
+  seated_accepted v long end ends k =
       let d = subst (λ v. Makes one s document seats (n + 1) x t later x' v) ends k f.0 is_seated in
-      let line = d.2 in
-      let rest = line_count - suc n in
-      let e : n + suc rest ≡ line_count = omega arith in
-      let g = made_waits told before mid after w number n x tally text (world_of s document f.0) f.2 line.2 in
-      let h = refused_drilled told before after w number n x tally text (world_of s document f.0) g rest line.0 in
-      (d.0, d.1, rw line.1 (f.2.chances, subst (λ k. IsDrilled told (record { before = before; after = after }) w number k f.2.chances (Some (n + 1)) (world_of s document f.0)) e h))
+      let few : 4 ≤ length f.0 = let e = ap length f.1 in let m = length-map f.0 seat_of in omega arith in
+      never_refused (world_of s document f.0) (n + 1) calm x v few d.2.0

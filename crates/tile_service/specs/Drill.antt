@@ -5,7 +5,7 @@ use Rattle.causes.specs.Causes.{Rose}
 use Rattle.hex.specs.Hex.{encode_lower}
 use Rattle.sha2.specs.Sha256.{sha256}
 use Rattle.tile_service.specs.declared.drill.DrillEnd.{DrillEnd}
-use Rattle.tile_service.specs.declared.drill.DrillEnd.TheVariants.{Done, Line, WriteFault, OutOfMemory}
+use Rattle.tile_service.specs.declared.drill.DrillEnd.TheVariants.{Done, WriteFault, OutOfMemory}
 use Rattle.tile_service.specs.declared.tally.Tally.{Tally}
 use Rattle.tile_service.specs.Lines.{deed_in}
 use Rattle.tile_service.specs.Made.{Made, drawn, made_line}
@@ -51,10 +51,9 @@ drill_lines count w number chances = made_lines count w 1 number chances
 abbrev pub drill_run : ℕ → World → ℕ → List Chance → Run
 drill_run count w number chances = run w 1 (drill_lines count w number chances) chances
 
--- From w so many lines of the drill were run under these chances, up to one that is refused, if any, and what is promised of
--- the answers holds.
-pub record IsDrilled (told : Option ℕ) (renders : Counts) (w : World) (number count : ℕ) (chances : List Chance) (refused : Option ℕ) (t : World) : Type 0 where
-  pub ends : (drill_run count w number chances).refused ≡ refused
+-- From w so many lines of the drill were run under these chances; none was refused, and what is promised of the answers holds.
+pub record IsDrilled (told : Option ℕ) (renders : Counts) (w : World) (number count : ℕ) (chances : List Chance) (t : World) : Type 0 where
+  pub ends : (drill_run count w number chances).refused ≡ None
   pub world : t ≡ (drill_run count w number chances).world
   pub upheld : IsUpheld told renders w (drill_run count w number chances)
 
@@ -77,12 +76,10 @@ summary number r = counts_text number (length r.answers) (tally_of r.answers) ++
 -- what each end says; `Stays` is that the output stays as it is
 abbrev pub Drills : Outside → Type 0 → ℕ → World → World → DrillEnd → Type 0
 Drills o Stays number w t Done =
-    (chances : List Chance) × (last : World) × IsDrilled o.told o.renders w number line_count chances None last × (t ≡ closed last)
+    (chances : List Chance) × (last : World) × IsDrilled o.told o.renders w number line_count chances last × (t ≡ closed last)
     × (length (drill_lines line_count w number chances) ≡ line_count) × Appends o.from o.to (summary number (drill_run line_count w number chances))
 Drills o Stays number w t WriteFault =
-    (chances : List Chance) × (last : World) × IsDrilled o.told o.renders w number line_count chances None last × (t ≡ closed last)
+    (chances : List Chance) × (last : World) × IsDrilled o.told o.renders w number line_count chances last × (t ≡ closed last)
     × AppendsFront o.from o.to (summary number (drill_run line_count w number chances)) × Rose o.writes.before o.writes.after
-Drills o Stays number w t (Line n) =
-    (chances : List Chance) × (last : World) × IsDrilled o.told o.renders w number line_count chances (Some n) last × (t ≡ closed last) × Stays
 Drills o Stays number w t OutOfMemory =
-    (count : ℕ) × (count ≤ line_count) × (chances : List Chance) × (last : World) × IsDrilled o.told o.renders w number count chances None last × (t ≡ closed last) × Stays
+    (count : ℕ) × (count ≤ line_count) × (chances : List Chance) × (last : World) × IsDrilled o.told o.renders w number count chances last × (t ≡ closed last) × Stays

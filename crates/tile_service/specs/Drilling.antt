@@ -1,10 +1,10 @@
 -- What one line of a drill came to, and all of them.
-use Rattle.std.specs.Prelude.{ℕ, ◌≡◌, ◌≤◌, List, length, map, Option, Some, None}
+use Rattle.std.specs.Prelude.{ℕ, ◌≡◌, ◌≤◌, List, length, map, Option}
 use Rattle.cabinet.specs.State.{State}
 use Rattle.sha2.specs.Sha256.{sha256}
 use Rattle.tile_service.specs.declared.drill_lines.Aim.{Aim}
 use Rattle.tile_service.specs.declared.drill_run.MadeEnd.{MadeEnd}
-use Rattle.tile_service.specs.declared.drill_run.MadeEnd.TheVariants.{Done, Line, OutOfMemory}
+use Rattle.tile_service.specs.declared.drill_run.MadeEnd.TheVariants.{Done, OutOfMemory}
 use Rattle.tile_service.specs.declared.run_line.LineEnd.{LineEnd}
 use Rattle.tile_service.specs.declared.seats.Seat.{Seat}
 use Rattle.tile_service.specs.declared.tally.Tally.{Tally}
@@ -31,11 +31,10 @@ Makes o s document seats n x t seats' x' end =
 -- so many lines were run, and this is what the code keeps of the answers
 abbrev pub HasMadeAll : ℕ → Option ℕ → Counts → World → ℕ → World → Tally → List ℕ → Type 0
 HasMadeAll count told renders w number t tally digest =
-    (chances : List Chance) × IsDrilled told renders w number count chances None t × (length (drill_lines count w number chances) ≡ count)
+    (chances : List Chance) × IsDrilled told renders w number count chances t × (length (drill_lines count w number chances) ≡ count)
     × (tally ≡ tally_of (drill_run count w number chances).answers) × (digest ≡ sha256 (output_of (drill_run count w number chances))) × (total tally ≤ count)
 
 -- how the lines end
 abbrev pub HasMade : Option ℕ → Counts → World → ℕ → World → MadeEnd → Type 0
 HasMade told renders w number t (Done tally digest) = HasMadeAll line_count told renders w number t tally digest
-HasMade told renders w number t (Line n) = (chances : List Chance) × IsDrilled told renders w number line_count chances (Some n) t
-HasMade told renders w number t OutOfMemory = (count : ℕ) × (count ≤ line_count) × (chances : List Chance) × IsDrilled told renders w number count chances None t
+HasMade told renders w number t OutOfMemory = (count : ℕ) × (count ≤ line_count) × (chances : List Chance) × IsDrilled told renders w number count chances t

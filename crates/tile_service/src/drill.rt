@@ -21,8 +21,6 @@ pub enum DrillEnd {
     WriteFault,
     /// Memory ran out for the seats, or for a line.
     OutOfMemory,
-    /// This made line was refused, counted from 1.
-    Line(u64),
 }
 
 /// Makes the lines of the drill of a number, runs them as those of a schedule, and writes a summary: how many answers there
@@ -51,7 +49,6 @@ pub fn run_drill<S: Source, O: ByteSink>(
             Ok(()) => DrillEnd::Done,
             Err(_) => DrillEnd::WriteFault,
         },
-        MadeEnd::Line(n) => DrillEnd::Line(n),
         MadeEnd::OutOfMemory => DrillEnd::OutOfMemory,
     }
 }

@@ -22,8 +22,6 @@ pub const DRILL_LINES: u64 = 4096;
 pub enum MadeEnd {
     /// All were run: what their answers tell of the cache, and the SHA-256 of what they write.
     Done(Tally, [u8; 32]),
-    /// This line was refused, counted from 1.
-    Line(u64),
     /// Memory ran out for a line.
     OutOfMemory,
 }
@@ -84,7 +82,9 @@ pub fn run_made_lines<S: Source>(
             lines,
         ) {
             Ok(LineEnd::Done(told)) => tally.count(told),
-            Ok(LineEnd::Refused) => return MadeEnd::Line(lines),
+            // A made line says what its actor may do.
+            Ok(LineEnd::Refused) => unreachable!(),
+            // A digest takes every byte.
             Ok(LineEnd::WriteFault) => unreachable!(),
             Err(_) => return MadeEnd::OutOfMemory,
         }

@@ -8,8 +8,8 @@
 //! paths (`specs/Routes.antt`) and answered by its response (`specs/Response.antt`); each tile is the picture of its number
 //! and fresh at its last ask or force (`specs/Schedules.antt`). No more answers of the run say that the source failed, and no
 //! more failures are yet to be answered, than the source's count of faults rose by (`failed` there). The summary of a drill
-//! counts the answers of the run over the lines that its number makes, and has the SHA-256 of what that run writes
-//! (`specs/Made.antt`, `specs/Drill.antt`).
+//! counts the answers of the run over the lines that its number makes, of which none is refused, and has the SHA-256 of what
+//! that run writes (`specs/Made.antt`, `specs/Drill.antt`).
 //! Stands on cabinet, cache_core, source_render, job_forms, wmts_kvp, wmts_rest, schedule_text, http_wire, sha2 and hex.
 #![tactic(auto)]
 

@@ -1,8 +1,12 @@
-use Rattle.std.proofs.Common.{◌≡◌, ◌∙◌, refl, arith}
+use Rattle.std.proofs.Common.{◌≡◌, ◌∙◌, length, ap, subst, sym, refl, arith}
+use Rattle.std.proofs.lemmas.List.{length-replicate}
+use Rattle.catalog.specs.Valid.{IsValid}
+use Rattle.tile_service.specs.declared.seats.Seat.TheVariants as seat
+use Rattle.tile_service.specs.declared.seats.TheConstants.{ACTORS}
 use Rattle.tile_service.specs.Drill.{line_count}
 use Rattle.tile_service.specs.OneLine.{world_of}
 use Rattle.tile_service.specs.Run.{free_seats}
-use Rattle.tile_service.proofs.Making.{seated_start, seated_next, seated_refused, seated_short, seated_done}
+use Rattle.tile_service.proofs.Making.{seated_start, seated_next, seated_accepted, seated_short, seated_done}
 use Rattle.tile_service.proofs.drill_run.run_made_lines.Goals as goal
 
 pub making-init : goal.making-init
@@ -13,6 +17,7 @@ making-init g c =
       capabilities = refl;
       told = refl;
       few = omega arith;
+      long = ap length c.requires.free ∙ length-replicate ACTORS seat.Free;
     }
 
 pub making-preserved : goal.making-preserved
@@ -28,15 +33,15 @@ making-preserved g c =
       capabilities = line.ensures.capabilities ∙ i.capabilities;
       told = line.ensures.told ∙ i.told;
       few = omega (arith, c.making-test.true);
+      long = line.auto.seats ∙ i.long;
     }
 
-pub returns-in-Ok-Refused-clause-made : goal.returns-in-Ok-Refused-clause-made
-returns-in-Ok-Refused-clause-made g c =
+pub unreachable-requires : goal.unreachable-requires
+unreachable-requires g c =
     let i = c.making.invariant in
     let line = c.run_made_line in
-    rw line.ensures.capabilities
-    (seated_refused (g.S.Source.told c.args.source.now) (g.S.Source.told c.making.source) (g.S.Source.faults c.args.source.now) (g.S.Source.faults c.making.source) (g.S.Source.faults line.new.source) (world_of c.args.counter.now.cabinet c.args.counter.now.capabilities free_seats) c.args.number c.making.lines c.making.draws.x line.new.draws.x c.making.tally c.making.output line.new.output
-    c.making.counter.cabinet line.new.counter.cabinet c.making.counter.capabilities c.making.seats line.new.seats i.so_far i.told c.making-test.true c.in-Ok-Refused.field-0 c.in-Ok-Refused.field-0-is c.in-Ok-Refused.ensures.makes)
+    seated_accepted (g.S.Source.told c.args.source.now) (g.S.Source.told c.making.source) (g.S.Source.faults c.args.source.now) (g.S.Source.faults c.making.source) (g.S.Source.faults line.new.source) (world_of c.args.counter.now.cabinet c.args.counter.now.capabilities free_seats) c.args.number c.making.lines c.making.draws.x line.new.draws.x c.making.tally c.making.output line.new.output
+    c.making.counter.cabinet line.new.counter.cabinet c.making.counter.capabilities c.making.seats line.new.seats i.so_far i.told (subst IsValid (sym i.valid) c.requires.valid) i.long c.in-Ok-Refused.field-0 c.in-Ok-Refused.field-0-is c.in-Ok-Refused.ensures.makes
 
 pub returns-in-Err-clause-made : goal.returns-in-Err-clause-made
 returns-in-Err-clause-made g c =

@@ -1,4 +1,5 @@
-use Rattle.std.proofs.Common.{◌≡◌, ◌-◌, ◌≤◌}
+use Rattle.std.proofs.Common.{◌≡◌, ◌-◌, ◌≤◌, length}
+use Rattle.tile_service.specs.declared.seats.TheConstants.{ACTORS}
 use Rattle.tile_service.specs.Drill.{line_count}
 use Rattle.tile_service.specs.OneLine.{world_of}
 use Rattle.tile_service.specs.Run.{free_seats}
@@ -13,6 +14,7 @@ invariant-making g l = record {
   capabilities : l.counter.capabilities ≡ l.initial.counter.capabilities;
   told : g.S.Source.told l.source ≡ g.S.Source.told l.initial.source;
   few : l.lines ≤ line_count;
+  long : length l.seats ≡ ACTORS;
 }
 
 abbrev pub decreases-making : goal.decreases-making
