@@ -1,6 +1,7 @@
 mod actors;
 mod capabilities;
 mod catalogues;
+mod drills;
 mod expected;
 mod expiry;
 mod metatiles;
