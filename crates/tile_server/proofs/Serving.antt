@@ -1,5 +1,5 @@
 -- What the end of a schedule or of a drill says of a command.
-use Rattle.std.proofs.Common.{ℕ, List, Ok, inl, inr}
+use Rattle.std.proofs.Common.{ℕ, List, Ok, inr}
 use Rattle.catalog.specs.declared.catalogue.Catalogue.{Catalogue}
 use Rattle.tile_service.specs.declared.drill.DrillEnd.{DrillEnd}
 use Rattle.tile_service.specs.declared.drill.DrillEnd.TheVariants as drill_end
