@@ -1,4 +1,4 @@
-ghost use Rattle.std.specs.Prelude.{IfOk, length, unsigned_abs, ◌≡◌, ◌≤◌, ◌^◌};
+ghost use Rattle.std.specs.Prelude.{IfOk, length, unsigned_abs, ◌<◌, ◌≡◌, ◌≤◌, ◌^◌};
 ghost use Rattle.catalog.specs.Demo.{demo};
 ghost use Rattle.catalog.specs.LookUp.{IsTile};
 ghost use Rattle.raster_field.specs.Blocks.{IsMeta};
@@ -84,6 +84,13 @@ fn cut(alloc: Global, cabinet: &mut Cabinet, cover: &Cover) -> Result<CutReply, 
     ensures { cabinet.new.catalogue ≡ demo }
 {
     cabinet.cut(alloc, cover)
+}
+
+/// All tiles.
+fn whole() -> Cover
+    ensures { IsCoverOf demo result }
+{
+    WHOLE
 }
 
 /// A box of its own at zoom 0 for each number.
@@ -202,16 +209,39 @@ fn cut_strips(
     Ok(true)
 }
 
+/// Whether the corner is kept, sixteen strips are cut, and a seventeenth finds the list full.
+fn is_filled(alloc: Global, cabinet: &mut Cabinet) -> Result<bool, AllocError>
+    requires { cabinet.old.catalogue ≡ demo }
+    ensures { cabinet.new.catalogue ≡ demo }
+{
+    if kept(alloc, cabinet)? != Finished::Kept {
+        return Ok(false);
+    }
+    if !cut_strips(alloc, cabinet, 2, 18)? {
+        return Ok(false);
+    }
+    let reply = cut(alloc, cabinet, &strip(18))?;
+    Ok(reply == CutReply::Full)
+}
+
+/// Whether the corner is kept again, and fifteen strips more have room.
+fn has_room(alloc: Global, cabinet: &mut Cabinet) -> Result<bool, AllocError>
+    requires { cabinet.old.catalogue ≡ demo }
+    ensures { cabinet.new.catalogue ≡ demo }
+{
+    if kept(alloc, cabinet)? != Finished::Kept {
+        return Ok(false);
+    }
+    cut_strips(alloc, cabinet, 20, 35)
+}
+
 #[test]
 fn a_full_list_takes_a_cut_of_the_whole_layer(rt: HostRuntime) -> Result<(), Fail> {
     let alloc = rt.alloc();
     let mut cabinet = cabinet(alloc)?;
-    assert_eq!(rt; kept(alloc, &mut cabinet)?, Finished::Kept);
-    assert!(rt; cut_strips(alloc, &mut cabinet, 2, 18)?);
-    assert_eq!(rt; cut(alloc, &mut cabinet, &strip(18))?, CutReply::Full);
-    assert_eq!(rt; cut(alloc, &mut cabinet, &WHOLE)?, CutReply::Done(18));
-    assert_eq!(rt; kept(alloc, &mut cabinet)?, Finished::Kept);
-    assert!(rt; cut_strips(alloc, &mut cabinet, 20, 35)?);
+    assert!(rt; is_filled(alloc, &mut cabinet)?);
+    assert_eq!(rt; cut(alloc, &mut cabinet, &whole())?, CutReply::Done(18));
+    assert!(rt; has_room(alloc, &mut cabinet)?);
     Ok(())
 }
 
@@ -228,7 +258,18 @@ fn limited(alloc: Global) -> Result<Cabinet, AllocError>
     }
 }
 
-/// The metatile of a tile of a limited cabinet, which is rendered and kept.
+/// A tile of the first row of a limited cabinet.
+fn tile(cabinet: &Cabinet, col: u32) -> Address
+    requires layers { cabinet.now.catalogue.layers ≡ demo.layers }
+    requires grids { cabinet.now.catalogue.grids ≡ demo.grids }
+    requires within { col < 4 }
+    ensures { IsTile cabinet.now.catalogue result }
+{
+    let _ = cabinet.catalogue();
+    Address { col, ..CORNER }
+}
+
+/// The metatile of a tile, which is rendered and kept.
 fn kept_at(alloc: Global, cabinet: &mut Cabinet, address: &Address) -> Result<MetaKey, AllocError>
     requires { IsTile cabinet.old.catalogue address.now }
     ensures { cabinet.new.catalogue ≡ cabinet.old.catalogue }
@@ -294,8 +335,9 @@ fn second_expires(
 fn what_was_used_last_the_longest_ago_expires(rt: HostRuntime) -> Result<(), Fail> {
     let alloc = rt.alloc();
     let mut cabinet = limited(alloc)?;
-    let beside = Address { col: 1, ..CORNER };
-    assert!(rt; second_expires(alloc, &mut cabinet, &CORNER, &beside)?);
+    let first = tile(&cabinet, 0);
+    let second = tile(&cabinet, 1);
+    assert!(rt; second_expires(alloc, &mut cabinet, &first, &second)?);
     assert_eq!(rt; cabinet.used(0), 23);
     assert_eq!(rt; cabinet.used_all(), 23);
     assert_eq!(rt; cabinet.kept_in(0), 1);
