@@ -19,7 +19,7 @@ use Rattle.cabinet.specs.Counted.{IsCountedIn, part_of, without}
 use Rattle.cabinet.specs.Fresh.{Possible}
 use Rattle.cabinet.specs.Gaps.{regions}
 use Rattle.cabinet.specs.History.{History, but, is_of, nothing, standing}
-use Rattle.cabinet.proofs.Once.{AreOnce, IsOneOf, but_none, one_kept}
+use Rattle.cabinet.proofs.Once.{AreOnce, but_none, one_kept}
 use Rattle.cabinet.proofs.Regions.{region}
 use Rattle.cabinet.proofs.Rooted.{metas_of}
 

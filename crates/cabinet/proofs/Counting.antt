@@ -2,12 +2,11 @@
 use Rattle.std.proofs.Common.{ℕ, ◌≡◌, ◌+◌, ◌<◌, ◌≤◌, Bool, true, false, cond, not, ◌||◌, Some, find, List, [], ◌∷◌, ◌++◌, length, map, filter, refl, sym, ap, subst, ◌∙◌, arith, length-append}
 use Rattle.std.specs.List.{list_any}
 use Rattle.std.proofs.lemmas.List.{length-map, map-append}
-use Rattle.catalog.specs.declared.catalogue.Catalogue.{Catalogue}
 use Rattle.expiry_policy.specs.declared.uses.Use.{Use}
 use Rattle.expiry_policy.specs.Victims.{Counts, entered, is_held, one_more, touched}
 use Rattle.expiry_policy.specs.Victims as victims
 use Rattle.metatile_plan.specs.declared.metatile.MetaKey.{MetaKey}
-use Rattle.quota_ledger.specs.Accounts.{Accounts, Part, accounts, added}
+use Rattle.quota_ledger.specs.Accounts.{Accounts, accounts, added}
 use Rattle.quota_ledger.proofs.Counting.{added_part}
 use Rattle.truncation_list.specs.declared.cover.Cover.{Cover}
 use Rattle.metatile_locks.specs.declared.render.Render.{Render}
@@ -17,7 +16,7 @@ use Rattle.cabinet.specs.declared.entry.Entry.{Entry}
 use Rattle.cabinet.specs.declared.entry.Entry.TheVariants as entry
 use Rattle.cabinet.specs.declared.kept.Kept.{Kept}
 use Rattle.cabinet.specs.declared.kept.KeptBlob.{KeptBlob}
-use Rattle.cabinet.specs.Counted.{IsCounted, clock, clock_after, entering, holding, part_of, use_of, uses_of}
+use Rattle.cabinet.specs.Counted.{IsCounted, clock_after, entering, holding, part_of, use_of, uses_of}
 use Rattle.cabinet.specs.Hits.{hits_of}
 use Rattle.cabinet.specs.History.{History, after, but, is_of, kept_of, nothing, spared}
 use Rattle.cabinet.specs.State.{State, now}

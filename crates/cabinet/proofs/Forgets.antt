@@ -1,5 +1,5 @@
 -- What is counted while some kept metatiles are counted out and forgotten, one after the other.
-use Rattle.std.proofs.Common.{ℕ, ◌≡◌, ◌≢◌, ◌+◌, ◌<◌, ◌≤◌, Bool, true, false, cond, not, ◌||◌, List, [], ◌∷◌, ◌++◌, length, get_or, map, filter, take, drop, IsTrue, IsFalse, refl, sym, ap, subst, ◌∙◌, append_assoc, append-nil, arith}
+use Rattle.std.proofs.Common.{ℕ, ◌≡◌, ◌≢◌, ◌+◌, ◌<◌, ◌≤◌, Bool, true, false, cond, not, ◌||◌, List, [], ◌∷◌, ◌++◌, length, get_or, map, filter, take, drop, refl, sym, ap, subst, ◌∙◌, append_assoc, append-nil, arith}
 use Rattle.std.specs.List.{AllByRecursion, list_any}
 use Rattle.std.proofs.Math.Bool.{or-true}
 use Rattle.std.proofs.lemmas.List.{drop_all, drop_more, get_or-map, length-map, take-append-drop, take_all}
@@ -9,7 +9,6 @@ use Rattle.catalog.specs.declared.catalogue.Catalogue.{Catalogue}
 use Rattle.expiry_policy.specs.declared.uses.Use.{Use}
 use Rattle.expiry_policy.specs.Victims.{Counts, but, is_held, is_of}
 use Rattle.metatile_plan.specs.declared.metatile.MetaKey.{MetaKey}
-use Rattle.metatile_plan.specs.Keys.{same_meta}
 use Rattle.metatile_plan.proofs.Same.{same_meta_self}
 use Rattle.quota_ledger.specs.Accounts.{Accounts, accounts, removed}
 use Rattle.metatile_locks.proofs.Lists.{all_at, all_filter}

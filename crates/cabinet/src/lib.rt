@@ -1,9 +1,12 @@
-//! The cabinet: which metatiles are kept, which renders run, and which truncations are in force.
+//! The cabinet: which metatiles are kept, which renders run, which truncations are in force, and what is used and by whom.
 //!
 //! What a cabinet answers is a function of its history, the list of what happened in it (`specs/History.antt`).
 //! Promises: each command is its row of `specs/Commands.antt`; what is kept stays the picture of its number; a tile that
-//! is answered is fresh, that is, newer than each truncation before its ask that covers it (`specs/Fresh.antt`).
-//! Stands on metatile_locks, truncation_list, extent_map, raster_field, metatile_plan, catalog, matrix_geometry and trace.
+//! is answered is fresh, that is, newer than each truncation before its ask that covers it (`specs/Fresh.antt`). What is
+//! used counts the metatiles that are kept, and an expiry drops the victim by the layer's policy, exactly where a quota is
+//! exceeded (`specs/Counted.antt`).
+//! Stands on metatile_locks, quota_ledger, expiry_policy, served_covers, truncation_list, extent_map, raster_field,
+//! metatile_plan, catalog, matrix_geometry and trace.
 #![tactic(auto)]
 
 mod blob;

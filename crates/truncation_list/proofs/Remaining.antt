@@ -1,7 +1,8 @@
 -- what a purge leaves: the order of the cuts, the floor, and what the book answers for
-use Rattle.std.proofs.Common.{ℕ, ◌≡◌, ◌<◌, ◌≤◌, max, ◌||◌, ◌⊎◌, inl, inr, refl, subst, arith, zero, suc, Bool, true, false, cond, List, [], ◌∷◌, ◌++◌, fold, length, Option, Some, None, IsTrue, get_or}
+use Rattle.std.proofs.Common.{ℕ, ◌≡◌, ◌<◌, ◌≤◌, max, ◌||◌, ◌⊎◌, inl, inr, refl, subst, arith, zero, suc, Bool, true, false, cond, List, ◌∷◌, ◌++◌, fold, length, Option, Some, None, IsTrue, get_or, drop, ap, ◌+◌, ◌-◌, []}
 use Rattle.std.specs.List.{All, Contains, list_any}
 use Rattle.std.proofs.lemmas.Bool.Decides.{nat_tests}
+use Rattle.std.proofs.lemmas.List.{drop_more, length-drop}
 use Rattle.std.proofs.lemmas.List.Elements.{All-append, All-cons, All-contains, All-head, All-nil, All-tail, Contains-append_cases, Contains-append_left, Contains-append_right, Contains-get_or, Contains-push}
 use Rattle.truncation_list.specs.declared.book.Book.{Book}
 use Rattle.truncation_list.specs.declared.book.Cut.{Cut}
@@ -61,6 +62,17 @@ count_at x rest n false h = omega arith
 pub no_more_remain : (cover : Option Cover) (least : Option ℕ) (cuts : List Cut) → length (remaining cover least cuts) ≤ length cuts
 no_more_remain cover least [] = omega arith
 no_more_remain cover least (x ∷ xs) = count_at x (remaining cover least xs) (length xs) (goes cover least xs x) (no_more_remain cover least xs)
+
+gone_first : (cover : Option Cover) (least : Option ℕ) (x : Cut) (xs : List Cut) → IsTrue (goes cover least xs x) → length (remaining cover least (x ∷ xs)) ≤ length xs
+gone_first cover least x xs g = rw g (no_more_remain cover least xs)
+
+-- where this cut goes, fewer stay than stand from its place on
+pub fewer_remain : (cover : Option Cover) (least : Option ℕ) (cuts : List Cut) (i : ℕ) (d : Cut) → i < length cuts → IsTrue (goes cover least (drop (i + 1) cuts) (get_or cuts i d)) → length (remaining cover least (drop i cuts)) + i < length cuts
+fewer_remain cover least cuts i d l g =
+    let h = gone_first cover least (get_or cuts i d) (drop (i + 1) cuts) g in
+    let n : length (drop (i + 1) cuts) ≡ length cuts - (i + 1) = length-drop (i + 1) cuts in
+    let e = ap (λ (rest : List Cut). length (remaining cover least rest)) (drop_more cuts i d l) in
+    omega (arith, h, n, e)
 
 order_at : (x : Cut) (rest : List Cut) (v : Bool) → All (λ other. x.number < other.number) rest → IsByNumber rest → IsByNumber (cond v rest (x ∷ rest))
 order_at x rest true a h = h

@@ -8,7 +8,7 @@ ghost use Rattle.truncation_list.specs.Purge.{IsAbove, IsInOrder, added, empty_b
 
 use crate::book::Cut;
 use crate::cover::Cover;
-use crate::purge::{count_remaining, last_covering, purge};
+use crate::purge::{last_covering, purge, stay_at_least};
 use matrix_geometry::address::Address;
 use matrix_geometry::matrix::Matrix;
 use std::alloc::{AllocError, Global};
@@ -65,16 +65,16 @@ impl CutList {
     }
 
     /// Whether `limit` or more cuts stay after the purge for this cover.
-    #[tactic(auto, using(crate::proofs::Remaining::no_more_remain))]
     pub fn full(&self, cover: &Cover, least: Option<u64>, limit: u32) -> bool
         ensures { IsTrue result ↔ (limit ≤ length (purged (Some cover.now) least self.now.book).cuts) }
     {
-        // A purge only takes away, so a list that is short of the limit needs no pass.
-        if self.cuts.len() < limit as usize {
-            return false;
-        }
-        let count = count_remaining(&self.cuts, &Some(*cover), least, self.is_settled);
-        limit as usize <= count
+        stay_at_least(
+            &self.cuts,
+            &Some(*cover),
+            least,
+            self.is_settled,
+            limit as usize,
+        )
     }
 
     /// Purges for this cover, and adds its cut.

@@ -1,5 +1,5 @@
 //! The work on a plain list of cuts: its purge, and a look for the last one that covers a tile.
-ghost use Rattle.std.specs.Prelude.{IsTrue, false, fold, length, vec_capacity, vec_len, ◌+◌, ◌≡◌, ◌≤◌};
+ghost use Rattle.std.specs.Prelude.{IsTrue, false, fold, length, vec_capacity, vec_len, ◌+◌, ◌≡◌, ◌≤◌, ◌↔◌};
 ghost use Rattle.matrix_geometry.specs.Limits.{IsWithinLimits};
 ghost use Rattle.truncation_list.specs.Listed.{IsLastCovering, IsSettled};
 ghost use Rattle.truncation_list.specs.Purge.{IsInOrder, goes, is_old, is_outdone, is_within, raised, remaining};
@@ -59,23 +59,31 @@ fn goes(
     is_within(cover, cut) || is_old(least, cut) || (!is_settled && is_outdone(later, cut))
 }
 
-/// How many cuts stay.
-pub fn count_remaining(
+/// Whether `limit` or more cuts stay. It looks no further than where that is decided.
+#[tactic(auto, using(crate::proofs::Remaining::no_more_remain))]
+pub fn stay_at_least(
     cuts: &[Cut],
     cover: &Option<Cover>,
     least: Option<u64>,
     is_settled: bool,
-) -> usize
+    limit: usize,
+) -> bool
     requires { IsTrue is_settled → IsSettled cuts.now }
-    ensures { result ≡ length (remaining cover.now least cuts.now) }
+    ensures { IsTrue result ↔ (limit ≤ length (remaining cover.now least cuts.now)) }
 {
-    let mut count = 0;
+    let mut left = cuts.len();
+    if left < limit {
+        return false;
+    }
     'counting: for i in 0..cuts.len() {
-        if !goes(cover, least, &cuts[i + 1..], &cuts[i], is_settled) {
-            count += 1;
+        if goes(cover, least, &cuts[i + 1..], &cuts[i], is_settled) {
+            left -= 1;
+            if left < limit {
+                return false;
+            }
         }
     }
-    count
+    true
 }
 
 /// Takes out the cuts that go, and gives the floor after that.
@@ -95,10 +103,12 @@ pub fn purge(
     let mut kept = 0;
     let mut top = floor;
     'purging: for i in 0..cuts.len() {
-        let cut = cuts[i];
-        top = raised(least, top, &cut);
-        if !goes(cover, least, &cuts[i + 1..], &cut, is_settled) {
-            cuts[kept] = cut;
+        top = raised(least, top, &cuts[i]);
+        if !goes(cover, least, &cuts[i + 1..], &cuts[i], is_settled) {
+            // A cut that stays in its place isn't written again.
+            if kept < i {
+                cuts[kept] = cuts[i];
+            }
             kept += 1;
         }
     }

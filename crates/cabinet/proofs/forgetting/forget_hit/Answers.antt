@@ -1,6 +1,6 @@
 use Rattle.std.proofs.Common.{not, sym, ap}
 use Rattle.cabinet.specs.Hits.{hits_of}
-use Rattle.cabinet.proofs.Forgets.{forgetting_end, forgetting_more, may_count, may_forget}
+use Rattle.cabinet.proofs.Forgets.{forgetting_more, may_count, may_forget}
 use Rattle.cabinet.proofs.forgetting.forget_hit.Goals as goal
 
 pub forget_if-requires-clause-counted : goal.forget_if-requires-clause-counted

@@ -1,4 +1,4 @@
-use Rattle.std.proofs.Common.{arith, ◌≡◌, List, find, map, length, Some, None, sym, ap, subst, ◌∙◌}
+use Rattle.std.proofs.Common.{arith, ◌≡◌, List, find, map, length, Some, sym, ap, subst, ◌∙◌}
 use Rattle.expiry_policy.specs.Victims.{but}
 use Rattle.metatile_plan.specs.declared.metatile.MetaKey.{MetaKey}
 use Rattle.cabinet.specs.declared.kept.KeptBlob.{KeptBlob}

@@ -1,4 +1,4 @@
-use Rattle.std.proofs.Common.{arith, ◌≡◌, ◌==◌, List, filter, length, ap, ◌∙◌}
+use Rattle.std.proofs.Common.{arith, ◌==◌, List, filter, length, ap, ◌∙◌}
 use Rattle.cabinet.specs.declared.kept.KeptBlob.{KeptBlob}
 use Rattle.cabinet.specs.Counted.{kept_in}
 use Rattle.cabinet.specs.State.{State}

@@ -1,4 +1,4 @@
-use Rattle.std.proofs.Common.{◌≡◌, ◌<◌, length, sym, subst, ◌∙◌, ap}
+use Rattle.std.proofs.Common.{◌<◌, length, sym, subst, ◌∙◌, ap}
 use Rattle.cabinet.specs.Counted.{used}
 use Rattle.cabinet.specs.State.{State}
 use Rattle.cabinet.proofs.Tallied.{its_account, layer_used}
