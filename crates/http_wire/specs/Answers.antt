@@ -1,5 +1,6 @@
 -- What a reader of messages answers.
 use Rattle.std.specs.Prelude.{ℕ, List, Option, Some, None, IfSome, Result, Ok, Err, ⊤}
+use Rattle.std.specs.Io.KnownBytes.{Keeps, prepend_known}
 use Rattle.http_wire.specs.Messages.{IsNext, StopsAs}
 use Rattle.http_wire.specs.declared.message.Message.{Message}
 use Rattle.http_wire.specs.declared.message.Next.{Next}
@@ -48,3 +49,25 @@ AnswersNext before after (nexts.Bad status) = IfSome before (λ bytes. StopsAs b
 abbrev pub Answers : Option (List ℕ) → Option (List ℕ) → Result Next WireFault → Type 0
 Answers before after (Ok next) = AnswersNext before after next
 Answers before after (Err fault) = ⊤
+
+-- WHAT STANDS BEHIND AN ANSWER
+
+-- at a stop the bytes stay, and stop so
+abbrev pub StaysAt : Option (List ℕ) → Option (List ℕ) → Stop → Type 0
+StaysAt before after stop = Keeps before after × IfSome after (λ bytes. StopsAs bytes stop)
+
+-- behind a message stands what TakesMessage says
+abbrev pub LeavesNext : Option (List ℕ) → Option (List ℕ) → Next → Type 0
+LeavesNext before after (nexts.Message message) = ⊤
+LeavesNext before after nexts.End = StaysAt before after End
+LeavesNext before after nexts.Truncated = StaysAt before after Truncated
+LeavesNext before after (nexts.Bad status) = StaysAt before after (Bad status)
+
+-- the bytes before are some that were taken, and those that are left
+abbrev pub Remain : Option (List ℕ) → Option (List ℕ) → Type 0
+Remain before left = (taken : List ℕ) × Keeps before (prepend_known taken left)
+
+-- An answer that is no message takes no byte out of the stream.
+abbrev pub Leaves : Option (List ℕ) → List ℕ → Option (List ℕ) → Result Next WireFault → Type 0
+Leaves before held left (Ok next) = LeavesNext before (prepend_known held left) next
+Leaves before held left (Err fault) = Remain before left

@@ -2,6 +2,7 @@ ghost use Rattle.std.specs.Prelude.{◌≡◌, ◌≤◌, ◌<◌, true, false, 
 ghost use Rattle.std.specs.Io.KnownBytes.{prepend_known, Keeps, IsAtEnd};
 ghost use Rattle.http_wire.specs.ReadCause.{HasReadCause};
 ghost use Rattle.httparse.specs.Grammar.{HasNoRequest};
+ghost use Rattle.http_wire.specs.Answers.{Remain};
 ghost use Rattle.http_wire.specs.Lines.{is_line_byte, IsBlankUpTo, HasNoLineEnd, Extends};
 ghost use Rattle.http_wire.specs.Looks.{HoldsHead, MayHaveHead, SettlesStream};
 
@@ -13,6 +14,7 @@ use httparse::spans::HeaderSpan;
 /// Takes more bytes behind those that are held; false at the end of the source.
 fn take_more<S: ByteSource>(held: &mut Vec<u8>, source: &mut S) -> Result<bool, WireFault>
     ensures stream { OnOk result (Keeps (prepend_known held.old.items (S.left source.old)) (prepend_known held.new.items (S.left source.new))) }
+    ensures remain { OnErr result (Remain (prepend_known held.old.items (S.left source.old)) (S.left source.new)) }
     ensures grows { IfOk result (λ more. more ≡ true → length held.old.items < length held.new.items) }
     ensures ends { IfOk result (λ more. more ≡ false → IsAtEnd (S.left source.new) × (held.new.items ≡ held.old.items)) }
     ensures extends { OnOk result (Extends held.old.items held.new.items) }
@@ -76,6 +78,7 @@ fn may_end_head(held: &[u8], from: usize, blank: usize) -> bool
 /// read in a time that grows with their number alone.
 fn take_line<S: ByteSource>(held: &mut Vec<u8>, source: &mut S) -> Result<bool, WireFault>
     ensures stream { OnOk result (Keeps (prepend_known held.old.items (S.left source.old)) (prepend_known held.new.items (S.left source.new))) }
+    ensures remain { OnErr result (Remain (prepend_known held.old.items (S.left source.old)) (S.left source.new)) }
     ensures grows { IfOk result (λ more. more ≡ true → length held.old.items < length held.new.items) }
     ensures ends { IfOk result (λ more. more ≡ false → IsAtEnd (S.left source.new) × (held.new.items ≡ held.old.items)) }
     ensures waits { OnErr result (HasNoRequest held.old.items → HasNoRequest held.new.items) }
@@ -107,6 +110,7 @@ fn read_on<S: ByteSource>(
     requires room { length headers.old ≡ 64 }
     requires unsettled { MayHaveHead held.old.items }
     ensures stream { OnOk result (Keeps (prepend_known held.old.items (S.left source.old)) (prepend_known held.new.items (S.left source.new))) }
+    ensures remain { OnErr result (Remain (prepend_known held.old.items (S.left source.old)) (S.left source.new)) }
     ensures found { IfOk result (λ found. SettlesStream held.new.items headers.new (prepend_known held.new.items (S.left source.new)) found) }
     ensures waits { OnErr result (HasNoRequest held.new.items) }
     ensures cause { HasReadCause (S.faults source.old) (S.faults source.new) result }
@@ -130,6 +134,7 @@ pub fn read_head<S: ByteSource>(
 ) -> Result<Found, WireFault>
     requires { length headers.old ≡ 64 }
     ensures stream { OnOk result (Keeps (prepend_known held.old.items (S.left source.old)) (prepend_known held.new.items (S.left source.new))) }
+    ensures remain { OnErr result (Remain (prepend_known held.old.items (S.left source.old)) (S.left source.new)) }
     ensures found { IfOk result (λ found. SettlesStream held.new.items headers.new (prepend_known held.new.items (S.left source.new)) found) }
     ensures untouched { HoldsHead held.old.items → (source.new ≡ source.old) × (held.new ≡ held.old) }
     ensures waits { OnErr result (HasNoRequest held.new.items) }
@@ -149,10 +154,12 @@ pub fn read_up_to<S: ByteSource>(
     need: usize,
 ) -> Result<bool, WireFault>
     ensures stream { OnOk result (Keeps (prepend_known held.old.items (S.left source.old)) (prepend_known held.new.items (S.left source.new))) }
+    ensures remain { OnErr result (Remain (prepend_known held.old.items (S.left source.old)) (S.left source.new)) }
     ensures whole { IfOk result (λ whole. whole ≡ true → need ≤ length held.new.items) }
     ensures short { IfOk result (λ whole. whole ≡ false → IsAtEnd (S.left source.new) × (length held.new.items < need)) }
     ensures untouched { need ≤ length held.old.items → source.new ≡ source.old }
-    ensures waits { OnErr result ((length held.new.items < need) × Extends held.old.items held.new.items) }
+    ensures extends { Extends held.old.items held.new.items }
+    ensures waits { OnErr result (length held.new.items < need) }
     ensures cause { HasReadCause (S.faults source.old) (S.faults source.new) result }
     ensures apart { S.apart source.new ≡ S.apart source.old }
 {

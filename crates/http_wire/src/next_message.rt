@@ -1,6 +1,6 @@
-ghost use Rattle.std.specs.Prelude.{◌≡◌, ◌≤◌, ◌+◌, length, take, drop, IfOk};
+ghost use Rattle.std.specs.Prelude.{◌≡◌, ◌≤◌, ◌+◌, length, take, drop, IfOk, OnErr};
 ghost use Rattle.std.specs.Io.KnownBytes.{prepend_known};
-ghost use Rattle.http_wire.specs.Answers.{Answers, next_at, again_of, ended_of};
+ghost use Rattle.http_wire.specs.Answers.{Answers, Leaves, next_at, again_of, ended_of};
 ghost use Rattle.http_wire.specs.ReadCause.{HasReadCause};
 ghost use Rattle.http_wire.specs.Messages.{HoldsMessage};
 
@@ -52,6 +52,7 @@ fn cut(alloc: Global, held: &mut Vec<u8>, start: usize, size: usize) -> Result<W
     requires { start + size ≤ length held.old.items }
     ensures body { IfOk result (λ body. body ≡ take size (drop start held.old.items)) }
     ensures rest { IfOk result (λ body. held.new.items ≡ drop size (drop start held.old.items)) }
+    ensures kept { OnErr result (held.new.items ≡ held.old.items) }
 {
     let (_, after) = held.as_slice().split_at(start);
     let (body, rest) = after.split_at(size);
@@ -68,6 +69,7 @@ pub fn next_of<S: ByteSource>(
     source: &mut S,
 ) -> Result<Next, WireFault>
     ensures answers { Answers (prepend_known held.old.items (S.left source.old)) (prepend_known held.new.items (S.left source.new)) result }
+    ensures leaves { Leaves (prepend_known held.old.items (S.left source.old)) held.new.items (S.left source.new) result }
     ensures untouched { HoldsMessage held.old.items → source.new ≡ source.old }
     ensures waits { result ≡ Err WireFault.ReadFault → ¬ (HoldsMessage held.new.items) }
     ensures cause { HasReadCause (S.faults source.old) (S.faults source.new) result }

@@ -1,5 +1,5 @@
 ghost use Rattle.std.specs.Prelude.{◌≡◌, [], None, IfOk, IfSome};
-ghost use Rattle.http_wire.specs.Answers.{Answers, again_of, ended_of};
+ghost use Rattle.http_wire.specs.Answers.{Answers, Leaves, again_of, ended_of};
 ghost use Rattle.http_wire.specs.ReadCause.{HasReadCause};
 ghost use Rattle.http_wire.specs.Messages.{HoldsMessage};
 ghost use Rattle.http_wire.specs.Reader.{stream};
@@ -43,6 +43,8 @@ impl MessageReader {
     pub fn next<L: Link>(&mut self, alloc: Global, link: &mut L) -> Result<Next, WireFault>
         // The answer is what stands next in the bytes that are held and those that are left.
         ensures answers { self.old.ended ≡ None → Answers (stream self.old (L.left link.old)) (stream self.new (L.left link.new)) result }
+        // An answer that is no message takes no byte out of the stream, which at a stop stops so.
+        ensures leaves { self.old.ended ≡ None → Leaves (stream self.old (L.left link.old)) self.new.held (L.left link.new) result }
         // How it has ended is kept, and answered again.
         ensures ends { self.old.ended ≡ None → self.new.ended ≡ ended_of result }
         ensures again { IfSome self.old.ended (λ ended. (result ≡ again_of ended) × (self.new ≡ self.old) × (link.new ≡ link.old)) }

@@ -1,5 +1,7 @@
 use Rattle.std.proofs.Common.{refl, ap, ◌∙◌, ◌++◌}
+use Rattle.std.proofs.lemmas.Result.{err_from_is_err_and}
 use Rattle.http_wire.proofs.AnswersFound.{stop_answers, refused_answers, good_outline, truncated_answers, message_answers}
+use Rattle.http_wire.proofs.LeftBehind.{remain_more, stop_leaves, refused_leaves, truncated_leaves}
 use Rattle.http_wire.proofs.HeadAtFront.{whole_message, no_message_none, no_message_short}
 use Rattle.http_wire.proofs.next_message.next_of.Goals as goal
 
@@ -50,4 +52,20 @@ returns-in_err-spans-clause-waits g c = λ _ holds. no_message_none _ c.in_err-s
 
 pub returns-in_err-read_up_to-clause-waits : goal.returns-in_err-read_up_to-clause-waits
 returns-in_err-read_up_to-clause-waits g c =
-    λ _ holds. no_message_short _ _ _ _ c.as_slice.ensures.value (good_outline _ _ _ _ c.in-Ok-Good.ensures refl c.in-Ok-Good.field-0-is) c.in_err-read_up_to.ensures.waits.1 c.in_err-read_up_to.ensures.waits.0 holds
+    λ _ holds. no_message_short _ _ _ _ c.as_slice.ensures.value (good_outline _ _ _ _ c.in-Ok-Good.ensures refl c.in-Ok-Good.field-0-is) c.read_up_to.ensures.extends c.in_err-read_up_to.ensures.waits holds
+
+pub returns-in_err-spans-clause-leaves : goal.returns-in_err-spans-clause-leaves
+returns-in_err-spans-clause-leaves g c = let p = err_from_is_err_and c.from_residual.result c.from_residual.ensures.1 in rw p.1 c.in_err-spans.ensures.remain
+
+pub returns-in-Stopped-clause-leaves : goal.returns-in-Stopped-clause-leaves
+returns-in-Stopped-clause-leaves g c = stop_leaves _ _ _ _ _ _ _ c.in_ok-spans.ensures.stream c.in_ok-spans.ensures.found c.in-Stopped.is c.answer_at.ensures
+
+pub returns-in-Ok-Refused-clause-leaves : goal.returns-in-Ok-Refused-clause-leaves
+returns-in-Ok-Refused-clause-leaves g c = refused_leaves _ _ _ _ _ _ c.in_ok-spans.ensures.stream c.in-Ok-Refused.ensures c.as_slice.ensures.value c.in-Ok-Refused.field-0-is
+
+pub returns-in_err-read_up_to-clause-leaves : goal.returns-in_err-read_up_to-clause-leaves
+returns-in_err-read_up_to-clause-leaves g c = let p = err_from_is_err_and c.from_residual-in_err-read_up_to.result c.from_residual-in_err-read_up_to.ensures.1 in rw p.1 (remain_more _ _ _ c.in_ok-spans.ensures.stream c.in_err-read_up_to.ensures.remain)
+
+pub returns-then-not-branch-clause-leaves : goal.returns-then-not-branch-clause-leaves
+returns-then-not-branch-clause-leaves g c =
+    truncated_leaves _ _ _ _ _ _ c.in_ok-spans.ensures.stream (good_outline _ _ _ _ c.in-Ok-Good.ensures c.as_slice.ensures.value c.in-Ok-Good.field-0-is) c.in_ok-read_up_to.ensures.stream c.read_up_to.ensures.extends (c.in_ok-read_up_to.ensures.short c.if-not-branch.true)
