@@ -1,5 +1,5 @@
 -- What a line does, in the terms of worlds.
-use Rattle.std.proofs.Common.{◌≡◌, zero, suc, ℕ, ◌+◌, ◌<◌, Bool, true, false, List, [], ◌∷◌, length, map, slice_get, slice_set, Option, Some, None, refl, sym, ap, ◌∙◌, subst, arith, append-nil}
+use Rattle.std.proofs.Common.{◌≡◌, zero, suc, ℕ, ◌+◌, ◌<◌, Bool, true, false, List, [], ◌∷◌, length, map, slice_get, slice_set, Option, Some, None, inl, inr, refl, sym, ap, ◌∙◌, subst, arith, append-nil}
 use Rattle.std.specs.Option.{option_map}
 use Rattle.std.proofs.lemmas.List.{map-set}
 use Rattle.std.proofs.lemmas.Option.{slice_get-map, slice_get_within}
@@ -18,23 +18,23 @@ use Rattle.tile_service.specs.declared.came.Came.TheVariants.{Refused, Silent, A
 use Rattle.tile_service.specs.declared.outcome.Outcome.{Outcome}
 use Rattle.tile_service.specs.declared.outcome.Outcome.TheVariants as outcome
 use Rattle.tile_service.specs.declared.request.Kind.{Kind}
-use Rattle.tile_service.specs.declared.request.Kind.TheVariants.{Gets, Asks, Forces}
 use Rattle.tile_service.specs.declared.request.Request.{Request}
 use Rattle.tile_service.specs.declared.request.Request.TheVariants as request
 use Rattle.tile_service.specs.declared.seats.Desk.{Desk}
 use Rattle.tile_service.specs.declared.seats.Seat.{Seat}
 use Rattle.tile_service.specs.declared.seats.Seat.TheVariants as seat
-use Rattle.tile_service.specs.Dealing.{IsAsked}
-use Rattle.tile_service.specs.Events.{Moves, owed}
+use Rattle.tile_service.specs.Dealing.{IsAsked, IsAtOnce}
+use Rattle.tile_service.specs.Events.{Moves, Opens, owed}
 use Rattle.tile_service.specs.Lines.{Deed, Idle, Sends, Steps}
 use Rattle.tile_service.specs.OneLine.{IsBusy, IsSeat, IsTrueSeat, IsSeated, Keeps, Comes, Deals, seat_of, world_of}
-use Rattle.tile_service.specs.Requests.{Chance, calm, events, tile_of, copied, told_usage, cut, expired}
+use Rattle.tile_service.specs.Requests.{Chance, calm}
 use Rattle.tile_service.specs.Routes.{path_of, route_of, request_at}
 use Rattle.tile_service.specs.Run.{Busy, World, Answer, seat_after, answers_after, owed_at, settled, started, resumed, asked, sent, if_free, stepped, line_done, failures, unanswered}
 use Rattle.tile_service.specs.Seats.{is_free, desk_at, next_seat, came_of}
+use Rattle.tile_service.proofs.AtOnce.{at_once_told, read_asks, same_events, with_ends}
 use Rattle.tile_service.proofs.Moving.{advance_moves, stay_covered}
 use Rattle.tile_service.proofs.Seating.{one_of_all, settled_keeps}
-use Rattle.tile_service.proofs.Telling.{Stays, same_stays, copied_stays, usage_stays, cut_stays, expired_stays, AsksNoTile, told_answer, told_keeps}
+use Rattle.tile_service.proofs.Telling.{Stays, same_stays, AsksNoTile, told_answer, told_keeps}
 
 -- SEATS
 
@@ -114,7 +114,7 @@ module _ (told : Option ℕ) (before after : ℕ) (s t : State) (first : Actor) 
   kept_with : (l : Bool) (o : Option cached.Outcome) → step.outcome ≡ o → Keeps told before after (world_of s document busy) there_after (answers_after n i l b o)
   kept_with l o e =
       let P : Option cached.Outcome → Type 0 = λ y. Keeps told before after (world_of s document busy) there_after (answers_after n i l b y) in
-      subst P e (settled_keeps told before after s t first b step m open_after document busy i old at same was n l)
+      subst P e (settled_keeps told before after s t first b step m (λ none. open_after) document busy i old at same was n l)
 
   pub settled_comes : (o : Option cached.Outcome) → step.outcome ≡ o → Comes told before after (world_of s document busy) n deed there_after (came_of i b.start o)
   settled_comes None e = (c true, made_with true None e, kept_with true None e)
@@ -130,19 +130,6 @@ module _ (told : Option ℕ) (before after : ℕ) (s t : State) (first : Actor) 
       }
 
 -- A REQUEST OF A LINE
-
--- a chance of which the reading and the answer are chosen
-abbrev with_ends : Chance → Bool → Bool → Chance
-with_ends c read left = record { read = read; ask = c.ask; work = c.work; blob = c.blob; left = left }
-
-same_events : (kind : Kind) (s : State) (a : Address) (c : Chance) (read left : Bool) → events kind s a c ≡ events kind s a (with_ends c read left)
-same_events Gets s a c read left = refl
-same_events Asks s a c read left = refl
-same_events Forces s a c read left = refl
-
--- memory for what an answer at once needs, or none
-abbrev with_memory : Bool → Chance
-with_memory left = record { read = true; ask = left; work = left; blob = None; left = true }
 
 module _ (told : Option ℕ) (s : State) (document : List ℕ) (seats : List Seat) (n : ℕ) (kind : Kind) (i : ℕ) (m : Message) (open_after : m.last ≡ false) (free : slice_get seats i ≡ Some seat.Free) where
   abbrev deed : Option Deed
@@ -162,8 +149,8 @@ module _ (told : Option ℕ) (s : State) (document : List ℕ) (seats : List Sea
     goes c = rw at_seat refl
 
     -- a message that was read asks for this
-    reads : (c : Chance) (r : Request) → r ≡ asks → line_done w n (with_ends c true c.left) deed ≡ Some (asked w n (with_ends c true c.left) kind i m r)
-    reads c r e = let Q : Request → Type 0 = λ x. Some (sent w n (with_ends c true c.left) kind i m) ≡ Some (asked w n (with_ends c true c.left) kind i m x) in goes (with_ends c true c.left) ∙ subst Q (sym e) refl
+    reads : (c : Chance) (r : Request) (left : Bool) → r ≡ asks → line_done w n (with_ends c true left) deed ≡ Some (asked w n (with_ends c true left) kind i m r)
+    reads c r left e = goes (with_ends c true left) ∙ ap Some (read_asks w n c kind i m r left e)
 
   told_deals : (count : ℕ) (r : Option Request) (done : State × Outcome) (c : Bool → Chance) → Stays s done → AsksNoTile r
       → ((busy : List (Option Busy)) (h : IsSeated s document seats busy) (left : Bool) → line_done (world_of s document busy) n (c left) deed ≡ Some (world_of done.0 document busy, told_answer s n i m r done.1 left ∷ []))
@@ -185,41 +172,28 @@ module _ (told : Option ℕ) (s : State) (document : List ℕ) (seats : List Sea
   pub unread_deals : (count : ℕ) → Deals told count count s document seats n deed s seats (Answers (record { actor = i; start = n; outcome = outcome.NoMemory }))
   unread_deals count = told_deals count None (s, outcome.NoMemory) (λ left. with_ends calm false left) (same_stays s outcome.NoMemory refl) tt (λ busy h left. goes busy h (with_ends calm false left))
 
-  at_once_deals : (count : ℕ) (r : Request) (done : State × Outcome) (c : Chance) → r ≡ asks → Stays s done → tile_of r ≡ None
-      → ((busy : List (Option Busy)) (left : Bool) → asked (world_of s document busy) n (with_ends c true left) kind i m r ≡ (world_of done.0 document busy, told_answer s n i m (Some r) done.1 left ∷ []))
-      → Deals told count count s document seats n deed done.0 seats (Answers (record { actor = i; start = n; outcome = done.1 }))
-  at_once_deals count r done c e stays other f =
-      told_deals count (Some r) done (λ left. with_ends c true left) stays other (λ busy h left. reads busy h (with_ends c true left) r e ∙ ap Some (f busy left))
+  at_once_deals : (count : ℕ) (r : Request) (o : Outcome) (t : State) → r ≡ asks → IsAtOnce s document r o t → Deals told count count s document seats n deed t seats (Answers (record { actor = i; start = n; outcome = o }))
+  at_once_deals count r o t e k =
+      let d = at_once_told s document r o t k in
+      told_deals count (Some r) (t, o) (λ left. with_ends d.chance true left) d.stays d.other (λ busy h left. reads busy h d.chance r left e ∙ ap Some (d.made busy n kind i m left))
 
-  pub asked_deals : (before after : ℕ) (t : State) (seats' : List Seat) (came : Came) (r : Request) → r ≡ asks → IsAsked told before after s document seats n kind i r t seats' came → Deals told before after s document seats n deed t seats' came
-  asked_deals before after t seats' came (request.Tile a) e k = λ busy h.
-      let step = k.0 in
-      let o = k.1 in
+  tile_deals : (before after : ℕ) (a : Address) (step : Step) (t : State) → request.Tile a ≡ asks → Opens told before after s a kind step t
+      → Deals told before after s document seats n deed t (slice_set seats i (next_seat n a step.actor step.outcome)) (came_of i n step.outcome)
+  tile_deals before after a step t e o busy h =
       let v : World = world_of s document busy in
       let b : Busy = started v n m a in
       let made : (l : Bool) → line_done v n (with_ends o.chance true l) deed ≡ Some (settled v n (with_ends o.chance true l) i b (shown step t)) =
       λ l.
       let c = with_ends o.chance true l in
-      reads busy h c (request.Tile a) e ∙ ap (λ r. Some (settled v n c i b r)) (sym (same_events kind s a o.chance true l) ∙ sym o.made) in (
+      reads busy h o.chance (request.Tile a) l e ∙ ap (λ r. Some (settled v n c i b r)) (sym (same_events kind s a o.chance true l) ∙ sym o.made) in (
         slice_set busy i (seat_after b step.actor step.outcome),
-        set_seats busy seats i b step.actor step.outcome h.same ∙ sym k.3,
-        rw k.2 (settled_comes told before after s t actor.Idle b step o.moves document busy i None (at_seat busy h) refl (λ x. tt) n deed open_after (λ l. with_ends o.chance true l) (λ l. refl) made step.outcome refl),
+        set_seats busy seats i b step.actor step.outcome h.same,
+        settled_comes told before after s t actor.Idle b step o.moves document busy i None (at_seat busy h) refl (λ x. tt) n deed open_after (λ l. with_ends o.chance true l) (λ l. refl) made step.outcome refl,
       )
-  asked_deals before after t seats' came request.Capabilities e k =
-      rw (k.1.0, k.1.1, k.1.2, k.1.3) (at_once_deals before request.Capabilities (s, copied document k.0) (with_memory k.0) e (copied_stays s document k.0) refl (λ busy left. refl))
-  asked_deals before after t seats' came (request.Refused code locator) e k =
-      rw (k.0, k.1, k.2, k.3) (at_once_deals before (request.Refused code locator) (s, outcome.Refused code locator) calm e (same_stays s (outcome.Refused code locator) refl) refl (λ busy left. refl))
-  asked_deals before after t seats' came request.NotFound e k = rw (k.0, k.1, k.2, k.3) (at_once_deals before request.NotFound (s, outcome.NotFound) calm e (same_stays s outcome.NotFound refl) refl (λ busy left. refl))
-  asked_deals before after t seats' came request.WrongMethod e k =
-      rw (k.0, k.1, k.2, k.3) (at_once_deals before request.WrongMethod (s, outcome.WrongMethod) calm e (same_stays s outcome.WrongMethod refl) refl (λ busy left. refl))
-  asked_deals before after t seats' came request.Usage e k =
-      rw (k.1.0, k.1.1, k.1.2, k.1.3) (at_once_deals before request.Usage (s, told_usage s k.0) (with_memory k.0) e (usage_stays s k.0) refl (λ busy left. refl))
-  asked_deals before after t seats' came (request.Truncation cover) e k =
-      rw (k.1.0, k.1.1, k.1.2, k.1.3) (at_once_deals before (request.Truncation cover) (cut s cover k.0) (with_memory k.0) e (cut_stays s cover k.0) refl (λ busy left. refl))
-  asked_deals before after t seats' came (request.Unformed fault) e k =
-      rw (k.0, k.1, k.2, k.3) (at_once_deals before (request.Unformed fault) (s, outcome.Unformed fault) calm e (same_stays s (outcome.Unformed fault) refl) refl (λ busy left. refl))
-  asked_deals before after t seats' came request.Expiry e k =
-      rw (k.1.0, k.1.1, k.1.2, k.1.3) (at_once_deals before request.Expiry (expired s k.0) (with_memory k.0) e (expired_stays s k.0) refl (λ busy left. refl))
+
+  pub asked_deals : (before after : ℕ) (t : State) (seats' : List Seat) (came : Came) (r : Request) → r ≡ asks → IsAsked told before after s document seats n kind i r t seats' came → Deals told before after s document seats n deed t seats' came
+  asked_deals before after t seats' came r e (inl k) = rw (k.4, k.5) (tile_deals before after k.0 k.1 t (sym k.2 ∙ e) k.3)
+  asked_deals before after t seats' came r e (inr k) = rw (k.2, k.3, k.4) (at_once_deals before r k.0 t e k.1)
 
 -- A STEP
 

@@ -41,11 +41,11 @@ for_later c h g p (Some r) o more l f = answer_later c h g p (tile_of r) o more 
 abbrev pub IsPlaced : Catalogue → History → Answer → Type 0
 IsPlaced c h a = (a.place ≤ length h) × IsFresh c h a
 
-answers_later : (c : Catalogue) (h g : History) → Extends h g → (answers : List Answer) → AllByRecursion (IsPlaced c h) answers → AllByRecursion (IsPlaced c g) answers
+pub answers_later : (c : Catalogue) (h g : History) → Extends h g → (answers : List Answer) → AllByRecursion (IsPlaced c h) answers → AllByRecursion (IsPlaced c g) answers
 answers_later c h g more [] all = tt
 answers_later c h g more (a ∷ answers) all = ((within_longer h g a.place more all.0.0, for_later c h g a.place a.request a.outcome more all.0.0 all.0.1), answers_later c h g more answers all.1)
 
-all_fresh : (c : Catalogue) (h : History) (answers : List Answer) → AllByRecursion (IsPlaced c h) answers → AllByRecursion (IsFresh c h) answers
+pub all_fresh : (c : Catalogue) (h : History) (answers : List Answer) → AllByRecursion (IsPlaced c h) answers → AllByRecursion (IsFresh c h) answers
 all_fresh c h [] all = tt
 all_fresh c h (a ∷ answers) all = (all.0.1, all_fresh c h answers all.1)
 
@@ -80,7 +80,7 @@ far_start told n w world none free =
 behind_behind : (news bs : List Answer) (r : Run) → behind news (behind bs r) ≡ behind (news ++ bs) r
 behind_behind news bs r = ap (λ (xs : List Answer). let q : Run = record { answers = xs; world = r.world; refused = r.refused } in q) (sym (append_assoc news bs r.answers))
 
-all_append : (P : Answer → Type 0) (news bs : List Answer) → AllByRecursion P news → AllByRecursion P bs → AllByRecursion P (news ++ bs)
+pub all_append : (P : Answer → Type 0) (news bs : List Answer) → AllByRecursion P news → AllByRecursion P bs → AllByRecursion P (news ++ bs)
 all_append P [] bs h k = k
 all_append P (a ∷ news) bs h k = (h.0, all_append P news bs h.1 k)
 

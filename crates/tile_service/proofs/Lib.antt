@@ -6,7 +6,10 @@ pub mod Opening
 pub mod Seating
 pub mod Joined
 pub mod Telling
+pub mod AtRest
+pub mod AtOnce
 pub mod Dealt
+pub mod Served
 pub mod Writing
 pub mod Far
 pub mod Scheduling
@@ -17,3 +20,7 @@ pub mod Summing
 pub mod Gluing
 pub mod Leaving
 pub mod Closing
+pub mod BadText
+pub mod SoFar
+pub mod Replaying
+pub mod Ending

@@ -74,10 +74,10 @@ seats_later c h g more seats all = all_mapped (IsSeat c h) (IsSeat c g) (seat_la
 
 -- AFTER EVENTS OF ONE ACTOR
 
-module _ (told : Option ℕ) (before after : ℕ) (s t : State) (first : Actor) (b : Busy) (step : Step) (m : Moves told before after s first b.address b.place step t) (open_after : b.message.last ≡ false) where
+module _ (told : Option ℕ) (before after : ℕ) (s t : State) (first : Actor) (b : Busy) (step : Step) (m : Moves told before after s first b.address b.place step t) (open_after : step.outcome ≡ None → b.message.last ≡ false) where
   seat_kept : (o : Option cached.Outcome) → step.outcome ≡ o → IsSeat s.catalogue t.history (seat_after b step.actor o)
   seat_kept (Some o) e = tt
-  seat_kept None e = let P : Option cached.Outcome → Type 0 = GoesOn step.actor in record { fits = m.fits; busy = subst P e m.goes_on; open_after = open_after; within = m.within; fresh = m.held_fresh }
+  seat_kept None e = let P : Option cached.Outcome → Type 0 = GoesOn step.actor in record { fits = m.fits; busy = subst P e m.goes_on; open_after = open_after e; within = m.within; fresh = m.held_fresh }
 
   seat_true : (o : Option cached.Outcome) → IsTrueActor s.catalogue step.actor → IsTrueSeat s.catalogue (seat_after b step.actor o)
   seat_true (Some o) held = tt

@@ -1,31 +1,49 @@
--- What a request that an actor starts comes to, in the terms of the code's seats.
-use Rattle.std.specs.Prelude.{ℕ, ◌≡◌, Bool, List, slice_set, Option}
+-- What a request comes to in the code: a tile goes through events, and all else has its outcome at once.
+use Rattle.std.specs.Prelude.{ℕ, ◌≡◌, ◌⊎◌, Bool, List, slice_set, Option, Some}
 use Rattle.cabinet.specs.State.{State}
 use Rattle.cache_core.specs.declared.actor.Step.{Step}
+use Rattle.cache_core.specs.declared.outcome.Outcome as cached
+use Rattle.matrix_geometry.specs.declared.address.Address.{Address}
 use Rattle.tile_service.specs.declared.came.Came.{Came}
 use Rattle.tile_service.specs.declared.came.Came.TheVariants.{Answers}
 use Rattle.tile_service.specs.declared.outcome.Outcome.{Outcome}
 use Rattle.tile_service.specs.declared.outcome.Outcome.TheVariants as outcome
 use Rattle.tile_service.specs.declared.request.Kind.{Kind}
+use Rattle.tile_service.specs.declared.request.Kind.TheVariants.{Gets}
 use Rattle.tile_service.specs.declared.request.Request.{Request}
 use Rattle.tile_service.specs.declared.request.Request.TheVariants as request
 use Rattle.tile_service.specs.declared.seats.Seat.{Seat}
 use Rattle.tile_service.specs.Events.{Opens}
-use Rattle.tile_service.specs.Requests.{copied, told_usage, cut, expired}
+use Rattle.tile_service.specs.Requests.{outcome_of, copied, told_usage, cut, expired}
 use Rattle.tile_service.specs.Seats.{came_of, next_seat}
 
--- this is what the cabinet came to, its outcome is answered at once, and nothing else happened
-abbrev pub IsToldAtOnce : ℕ → ℕ → List Seat → ℕ → ℕ → State × Outcome → State → List Seat → Came → Type 0
-IsToldAtOnce before after seats n i done t seats' came = (came ≡ Answers (record { actor = i; start = n; outcome = done.1 })) × (t ≡ done.0) × (seats' ≡ seats) × (after ≡ before)
+-- WHERE ONE MESSAGE IS SERVED AT A TIME
 
+-- the tile was asked for, rendered and finished at once, and this is its outcome
+abbrev pub IsGot : Option ℕ → ℕ → ℕ → State → Address → Outcome → State → Type 0
+IsGot told before after s a o t = (step : Step) × (ended : cached.Outcome) × Opens told before after s a Gets step t × (step.outcome ≡ Some ended) × (o ≡ outcome_of ended)
+
+-- this is what the cabinet came to, and the outcome
+abbrev pub IsBoth : State × Outcome → Outcome → State → Type 0
+IsBoth done o t = (t ≡ done.0) × (o ≡ done.1)
+
+-- what is no request for a tile has this outcome at once
+abbrev pub IsAtOnce : State → List ℕ → Request → Outcome → State → Type 0
+IsAtOnce s document (request.Tile a) o t = ⊥
+IsAtOnce s document request.Capabilities o t = (left : Bool) × IsBoth (s, copied document left) o t
+IsAtOnce s document (request.Refused code locator) o t = IsBoth (s, outcome.Refused code locator) o t
+IsAtOnce s document request.NotFound o t = IsBoth (s, outcome.NotFound) o t
+IsAtOnce s document request.WrongMethod o t = IsBoth (s, outcome.WrongMethod) o t
+IsAtOnce s document request.Usage o t = (left : Bool) × IsBoth (s, told_usage s left) o t
+IsAtOnce s document (request.Truncation cover) o t = (left : Bool) × IsBoth (cut s cover left) o t
+IsAtOnce s document (request.Unformed fault) o t = IsBoth (s, outcome.Unformed fault) o t
+IsAtOnce s document request.Expiry o t = (left : Bool) × IsBoth (expired s left) o t
+
+-- WHERE THE CODE'S SEATS ARE
+
+-- a request that an actor starts: a tile comes to its events and the seat behind them, all else to its outcome, and nothing
+-- else happens
 abbrev pub IsAsked : Option ℕ → ℕ → ℕ → State → List ℕ → List Seat → ℕ → Kind → ℕ → Request → State → List Seat → Came → Type 0
-IsAsked told before after s document seats n kind i (request.Tile a) t seats' came =
-    (step : Step) × Opens told before after s a kind step t × (came ≡ came_of i n step.outcome) × (seats' ≡ slice_set seats i (next_seat n a step.actor step.outcome))
-IsAsked told before after s document seats n kind i request.Capabilities t seats' came = (left : Bool) × IsToldAtOnce before after seats n i (s, copied document left) t seats' came
-IsAsked told before after s document seats n kind i (request.Refused code locator) t seats' came = IsToldAtOnce before after seats n i (s, outcome.Refused code locator) t seats' came
-IsAsked told before after s document seats n kind i request.NotFound t seats' came = IsToldAtOnce before after seats n i (s, outcome.NotFound) t seats' came
-IsAsked told before after s document seats n kind i request.WrongMethod t seats' came = IsToldAtOnce before after seats n i (s, outcome.WrongMethod) t seats' came
-IsAsked told before after s document seats n kind i request.Usage t seats' came = (left : Bool) × IsToldAtOnce before after seats n i (s, told_usage s left) t seats' came
-IsAsked told before after s document seats n kind i (request.Truncation cover) t seats' came = (left : Bool) × IsToldAtOnce before after seats n i (cut s cover left) t seats' came
-IsAsked told before after s document seats n kind i (request.Unformed fault) t seats' came = IsToldAtOnce before after seats n i (s, outcome.Unformed fault) t seats' came
-IsAsked told before after s document seats n kind i request.Expiry t seats' came = (left : Bool) × IsToldAtOnce before after seats n i (expired s left) t seats' came
+IsAsked told before after s document seats n kind i r t seats' came =
+    ((a : Address) × (step : Step) × (r ≡ request.Tile a) × Opens told before after s a kind step t × (came ≡ came_of i n step.outcome) × (seats' ≡ slice_set seats i (next_seat n a step.actor step.outcome)))
+    ⊎ ((o : Outcome) × IsAtOnce s document r o t × (came ≡ Answers (record { actor = i; start = n; outcome = o })) × (seats' ≡ seats) × (after ≡ before))

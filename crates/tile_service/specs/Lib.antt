@@ -16,3 +16,5 @@ pub mod Tally
 pub mod Made
 pub mod Drill
 pub mod Drilling
+pub mod Session
+pub mod SessionEnds

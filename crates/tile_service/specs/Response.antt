@@ -1,5 +1,5 @@
 -- The bytes of answers: responses after HTTP/1.1 (RFC 9112), and the exception report of OWS Common 1.1 (OGC 06-121r3).
-use Rattle.std.specs.Prelude.{ℕ, Bool, true, if◌then◌else◌, ◌==◌, ◌||◌, List, [], ◌∷◌, ◌++◌, length, Option, Some, None, codes, decimal}
+use Rattle.std.specs.Prelude.{ℕ, Bool, if◌then◌else◌, ◌==◌, ◌||◌, List, [], ◌∷◌, ◌++◌, length, codes, decimal}
 use Rattle.exception_report.specs.declared.code.Code.TheVariants.{NoApplicableCode}
 use Rattle.exception_report.specs.declared.code.Locator.TheVariants.{Nowhere}
 use Rattle.exception_report.specs.Report.{report_of}
@@ -115,14 +115,12 @@ response_with closes (Dropped text) = json closes 200 text
 response_with closes Within = json closes 200 within_text
 response_with closes NoMemory = bare closes 503
 
--- a response closes its connection where its message is the last of it or the 10,000th of its session, and where it
--- answers bytes that are no message
-abbrev pub closes : Option Message → ℕ → Bool
-closes None i = true
-closes (Some message) i = message.last || i == 10000
+-- a response closes its connection where its message is the last of it or the 10,000th of its session
+abbrev pub closes : Message → ℕ → Bool
+closes message i = message.last || i == 10000
 
--- the response to the i-th message of a session, counted from 1, or to bytes that are no message, by the outcome
-abbrev pub response : Option Message → ℕ → Outcome → List ℕ
+-- the response to the i-th message of a session, counted from 1, by the outcome
+abbrev pub response : Message → ℕ → Outcome → List ℕ
 response message i o = response_with (closes message i) o
 
 -- ANSWERS OF A SCHEDULE
@@ -137,4 +135,4 @@ framed line actor start text = answer_line line actor start (length text) ++ tex
 
 -- an answer of a schedule: each message counts as the first of its session
 abbrev pub answered : ℕ → ℕ → ℕ → Message → Outcome → List ℕ
-answered line actor start message o = framed line actor start (response (Some message) 1 o)
+answered line actor start message o = framed line actor start (response message 1 o)

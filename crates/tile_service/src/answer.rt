@@ -55,10 +55,11 @@ fn answer_line(line: u64, actor: u32, start: u64, bytes: usize) -> ArrayVec<u8, 
 }
 
 /// Sends all of the bytes, or a front of them.
-fn send_part<O: ByteSink>(sink: &mut O, bytes: &[u8]) -> Result<(), Sent>
+pub fn send_part<O: ByteSink>(sink: &mut O, bytes: &[u8]) -> Result<(), Sent>
     ensures ok { OnOk result (Appends (O.taken sink.old) (O.taken sink.new) bytes.now) }
     ensures err { OnErr result (AppendsFront (O.taken sink.old) (O.taken sink.new) bytes.now) }
     ensures cause { HasCause (O.faults sink.old) (O.faults sink.new) result }
+    ensures apart { O.apart sink.new ≡ O.apart sink.old }
 {
     match send(sink, bytes) {
         Ok(()) => Ok(()),

@@ -7,9 +7,9 @@ ghost use Rattle.tile_service.specs.Requests.{IsOf};
 ghost use Rattle.tile_service.specs.Routes.{message_of};
 ghost use Rattle.tile_service.specs.Run.{Busy};
 
+use crate::at_once::at_once;
 use crate::call::Call;
 use crate::came::{Came, Reply};
-use crate::commands::{cut, document, expire, usage};
 use crate::counter::Counter;
 use crate::events::events;
 use crate::lines::{Act, act_of};
@@ -56,14 +56,10 @@ fn asked<S: Source>(
             let step = events(alloc, &mut counter.cabinet, source, &address, kind);
             settle(&mut counter.cabinet, seats, actor, n, &address, step)
         }
-        Request::Capabilities => answered(actor, n, document(alloc, counter.capabilities.bytes())),
-        Request::Refused(code, locator) => answered(actor, n, Outcome::Refused(code, locator)),
-        Request::NotFound => answered(actor, n, Outcome::NotFound),
-        Request::WrongMethod => answered(actor, n, Outcome::WrongMethod),
-        Request::Usage => answered(actor, n, usage(alloc, &counter.cabinet)),
-        Request::Truncation(cover) => answered(actor, n, cut(alloc, &mut counter.cabinet, &cover)),
-        Request::Unformed(fault) => answered(actor, n, Outcome::Unformed(fault)),
-        Request::Expiry => answered(actor, n, expire(alloc, &mut counter.cabinet)),
+        other => {
+            let outcome = at_once(alloc, counter, other);
+            answered(actor, n, outcome)
+        }
     }
 }
 

@@ -9,11 +9,14 @@
 //! and fresh at its last ask or force (`specs/Schedules.antt`). No more answers of the run say that the source failed, and no
 //! more failures are yet to be answered, than the source's count of faults rose by (`failed` there). The summary of a drill
 //! counts the answers of the run over the lines that its number makes, of which none is refused, and has the SHA-256 of what
-//! that run writes (`specs/Made.antt`, `specs/Drill.antt`).
+//! that run writes (`specs/Made.antt`, `specs/Drill.antt`). A session over a link answers its messages in order, each before
+//! the next is looked for (`specs/Session.antt`), and ends as its stream does, behind its last message or at a fault
+//! (`specs/SessionEnds.antt`).
 //! Stands on cabinet, cache_core, source_render, job_forms, wmts_kvp, wmts_rest, schedule_text, http_wire, sha2 and hex.
 #![tactic(auto)]
 
 mod answer;
+mod at_once;
 mod call;
 mod came;
 mod commands;
@@ -29,6 +32,7 @@ mod events;
 mod lines;
 mod numbers;
 pub mod outcome;
+mod replying;
 pub mod request;
 mod response;
 mod routes;
@@ -36,6 +40,8 @@ mod run_line;
 mod run_lines;
 pub mod schedule;
 mod seats;
+mod serving;
+pub mod session;
 mod summary;
 mod tally;
 #[cfg(test)]

@@ -1,4 +1,4 @@
-ghost use Rattle.std.specs.Prelude.{◌≡◌, ◌++◌, IfOk, OnOk, codes, []};
+ghost use Rattle.std.specs.Prelude.{◌≡◌, ◌≤◌, ◌++◌, length, IfOk, OnOk, codes, []};
 ghost use Rattle.exception_report.specs.Report.{report_of};
 ghost use Rattle.exception_report.specs.Status.{status_of};
 ghost use Rattle.tile_service.specs.Response.{type_header, status_text, close_header, response_text, tile_headers, bare, json, cut_text, kind_of, spelt, field_of, fault_text, response_with};
@@ -24,8 +24,9 @@ fn add_type(text: &mut Vec<u8>, kind: &[u8], body: &[u8]) -> Result<(), AllocErr
 }
 
 /// A status and its phrase.
-fn status_text(status: u16) -> &'static [u8]
-    ensures { result.now ≡ status_text status }
+pub fn status_text(status: u16) -> &'static [u8]
+    ensures text { result.now ≡ status_text status }
+    ensures short { length result.now ≤ 40 }
 {
     match status {
         200 => b"200 OK",

@@ -1,0 +1,144 @@
+-- A cabinet in which no render runs: a GET of a tile has its outcome there at once, and no command of it leaves a render running.
+use Rattle.std.proofs.Common.{◌≡◌, ℕ, Bool, true, false, List, [], ◌∷◌, ◌++◌, length, Option, Some, None, refl, sym, ap, ◌∙◌, subst, if◌then◌else◌}
+use Rattle.std.specs.Prelude.{nat_le, nat_lt}
+use Rattle.std.proofs.lemmas.Bool.{eq-eqb}
+use Rattle.cabinet.specs.Commands.{book_before, others, place_for}
+use Rattle.cabinet.specs.Counted.{scope_exceeded, victim_in}
+use Rattle.cabinet.specs.declared.entry.Entry.{Entry}
+use Rattle.cabinet.specs.declared.entry.Entry.TheVariants as entry
+use Rattle.cabinet.specs.declared.kept.Kept.{Kept}
+use Rattle.cabinet.specs.Hits.{hits_of}
+use Rattle.cabinet.specs.History.{after, kept_of, next, nothing, standing}
+use Rattle.cabinet.specs.State.{State, now, with_entry, with_cut}
+use Rattle.cabinet.proofs.Rows.{stood_more}
+use Rattle.cache_core.specs.declared.actor.Actor.TheVariants.{Idle}
+use Rattle.cache_core.specs.declared.outcome.Outcome as cached
+use Rattle.cache_core.specs.declared.outcome.Outcome.TheVariants as core
+use Rattle.cache_core.specs.Steps.{Stepped, ends, given, ticket_for, unless_busy, render_wanted, unless_kept, began, off, abandoned, stored, with_room, ended, finished, rendered}
+use Rattle.catalog.specs.declared.catalogue.Scope.{Scope}
+use Rattle.matrix_geometry.specs.declared.address.Address.{Address}
+use Rattle.metatile_locks.specs.Running.{overtaken, render_of, running_for, unmarked, without}
+use Rattle.metatile_locks.specs.Tickets.{Ticketed}
+use Rattle.metatile_plan.specs.declared.metatile.MetaKey.{MetaKey}
+use Rattle.metatile_plan.proofs.Same.{same_meta_self}
+use Rattle.raster_field.specs.Blocks.{block_of}
+use Rattle.tile_service.specs.declared.outcome.Outcome.{Outcome}
+use Rattle.tile_service.specs.declared.outcome.Outcome.TheVariants as outcome
+use Rattle.tile_service.specs.declared.request.Kind.TheVariants.{Gets}
+use Rattle.tile_service.specs.Requests.{Chance, further, at_once, events, cut_by, cut, dropped, expired_in, expired}
+use Rattle.tile_service.specs.Session.{IsAtRest}
+use Rattle.truncation_list.specs.declared.cover.Cover.{Cover}
+
+-- ENTRIES
+
+-- the renders that run after one entry more
+runs_after : (s : State) (e : Entry) → (standing s.catalogue (nothing s.opening) (s.history ++ e ∷ [])).out ≡ (after s.catalogue (now s) e).out
+runs_after s e = ap (λ x. x.out) (stood_more s.catalogue (nothing s.opening) s.history e)
+
+pub used_rests : (s : State) (m : MetaKey) → IsAtRest s → IsAtRest (with_entry s (entry.Used m))
+used_rests s m rest = runs_after s (entry.Used m) ∙ rest
+
+started_runs : (s : State) (k : ℕ) (m : MetaKey) → IsAtRest s → (now (with_entry s (entry.Started k m))).out ≡ unmarked k m ∷ []
+started_runs s k m rest = runs_after s (entry.Started k m) ∙ ap (λ rs. rs ++ unmarked k m ∷ []) rest
+
+-- THE END OF THE ONE RENDER
+
+taken_off : (k : ℕ) (m : MetaKey) → without k (unmarked k m ∷ []) ≡ []
+taken_off k m = rw (eq-eqb k k refl) refl
+
+found : (k : ℕ) (m : MetaKey) → render_of (record { number = k; meta = m }) (unmarked k m ∷ []) ≡ Some (unmarked k m)
+found k m = rw (eq-eqb k k refl, same_meta_self m) refl
+
+module _ (s : State) (k : ℕ) (m : MetaKey) (one : (now s).out ≡ unmarked k m ∷ []) where
+  abbrev ticket : Ticketed
+  ticket = record { number = k; meta = m }
+
+  none_left : without k (now s).out ≡ []
+  none_left = ap (without k) one ∙ taken_off k m
+
+  it_runs : render_of ticket (now s).out ≡ Some (unmarked k m)
+  it_runs = ap (render_of ticket) one ∙ found k m
+
+  ended_rests : IsAtRest (with_entry s (entry.Ended k))
+  ended_rests = runs_after s (entry.Ended k) ∙ none_left
+
+  stored_rests : (text : List ℕ) (place : Option ℕ) → IsAtRest (stored s ticket text place)
+  stored_rests text None = ended_rests
+  stored_rests text (Some place) = runs_after s (entry.Stored k m place (length text)) ∙ none_left
+
+  with_room_rests : (text : List ℕ) (full : Bool) → IsAtRest (with_room s ticket text full)
+  with_room_rests text true = ended_rests
+  with_room_rests text false = stored_rests text (place_for s (length text))
+
+  pub abandoned_rests : IsAtRest (abandoned s ticket)
+  abandoned_rests = subst (λ r. IsAtRest (off s ticket r)) (sym it_runs) ended_rests
+
+  pub finished_rests : (text : List ℕ) → IsAtRest (finished s ticket text)
+  finished_rests text = subst (λ r. IsAtRest (ended s ticket text r)) (sym it_runs) (with_room_rests text (nat_le s.catalogue.kept_limit (others s m)))
+
+-- A GET
+
+-- the request has an outcome, its actor holds nothing more, and no render runs
+pub record IsDone (r : Stepped) : Type 0 where
+  pub told : cached.Outcome
+  pub is : r.outcome ≡ Some told
+  pub idle : r.actor ≡ Idle
+  pub rests : IsAtRest r.cabinet
+
+abbrev done_at : (s : State) (o : cached.Outcome) → IsAtRest s → IsDone (ends s o)
+done_at s o rest = record { told = o; is = refl; idle = refl; rests = rest }
+
+module _ (a : Address) (c : Chance) where
+  -- the render of a number that was given, and its end
+  rendered_done : (s : State) (k : ℕ) → (now s).out ≡ unmarked k (block_of s.catalogue a) ∷ [] → (left : Bool) (blob : Option (List ℕ)) → IsDone (further c (rendered s (ticket_for s a k) a left blob))
+  rendered_done s k one false blob = done_at _ core.NoMemory (abandoned_rests s k (block_of s.catalogue a) one)
+  rendered_done s k one true None = done_at _ core.SourceFailed (abandoned_rests s k (block_of s.catalogue a) one)
+  rendered_done s k one true (Some text) = done_at _ _ (finished_rests s k (block_of s.catalogue a) one text)
+
+  given_done : (s : State) (n : Option ℕ) → IsAtRest s → IsDone (at_once c (given s a n))
+  given_done s None rest = done_at s core.Spent rest
+  given_done s (Some k) rest = rendered_done (with_entry s (entry.Started k (block_of s.catalogue a))) k (started_runs s k (block_of s.catalogue a) rest) c.work c.blob
+
+  wanted_done : (s : State) → IsAtRest s → IsDone (at_once c (render_wanted s a false))
+  wanted_done s rest = subst (λ n. IsDone (at_once c (unless_busy s a false n))) (sym (ap (running_for (block_of s.catalogue a)) rest)) (given_done s (next s.opening (now s)) rest)
+
+  kept_done : (s : State) (t : Option Kept) → IsAtRest s → IsDone (at_once c (unless_kept s a t))
+  kept_done s (Some t) rest = done_at _ _ (used_rests s (block_of s.catalogue a) rest)
+  kept_done s None rest = wanted_done s rest
+
+  began_done : (s : State) (left : Bool) → IsAtRest s → IsDone (at_once c (began s a false left))
+  began_done s false rest = done_at s core.NoMemory rest
+  began_done s true rest = kept_done s (kept_of (block_of s.catalogue a) (now s)) rest
+
+  -- where no render runs, a GET has its outcome at once
+  pub get_done : (s : State) → IsAtRest s → IsDone (events Gets s a c)
+  get_done s rest = began_done s c.ask rest
+
+-- COMMANDS
+
+-- no render runs after it
+abbrev pub RestsAfter : State × Outcome → Type 0
+RestsAfter done = IsAtRest done.0
+
+cover_rests : (s : State) (cover : Cover) (n : Option ℕ) → IsAtRest s → RestsAfter (cut_by s cover n)
+cover_rests s cover None rest = rest
+cover_rests s cover (Some t) rest = chosen (nat_lt (length (book_before s cover).cuts) s.catalogue.cut_limit)
+  where
+    chosen : (b : Bool) → RestsAfter (if b then (with_cut s t cover, outcome.Cut t) else (s, outcome.CutsFull))
+    chosen true = runs_after s (entry.Cut t cover) ∙ ap (overtaken (hits_of s.catalogue cover) t) rest
+    chosen false = rest
+
+pub cut_rests : (s : State) (cover : Cover) (left : Bool) → IsAtRest s → RestsAfter (cut s cover left)
+cut_rests s cover true rest = cover_rests s cover (next s.opening (now s)) rest
+cut_rests s cover false rest = rest
+
+dropped_rests : (s : State) (left : Bool) (m : Option MetaKey) → IsAtRest s → RestsAfter (dropped s left m)
+dropped_rests s left None rest = rest
+dropped_rests s left (Some m) rest = runs_after s (entry.Dropped m) ∙ rest
+
+scope_rests : (s : State) (left : Bool) (o : Option Scope) → IsAtRest s → RestsAfter (expired_in s left o)
+scope_rests s left None rest = rest
+scope_rests s left (Some scope) rest = dropped_rests s left (victim_in s scope) rest
+
+pub expired_rests : (s : State) (left : Bool) → IsAtRest s → RestsAfter (expired s left)
+expired_rests s left rest = scope_rests s left (scope_exceeded s) rest

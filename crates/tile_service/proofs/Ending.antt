@@ -1,0 +1,155 @@
+-- The ends of a session that is under way.
+use Rattle.std.proofs.Common.{◌≡◌, ℕ, ◌+◌, ◌<◌, true, false, List, [], ◌∷◌, ◌++◌, length, Option, Some, None, inl, inr, refl, sym, ap, subst, ◌∙◌, arith}
+use Rattle.std.specs.Io.KnownBytes.{Appends, Keeps, prepend_known}
+use Rattle.std.proofs.lemmas.List.{length-append}
+use Rattle.cabinet.specs.State.{State}
+use Rattle.causes.specs.Causes.{Rose}
+use Rattle.http_wire.specs.Answers.{Remain, StaysAt, LeavesNext}
+use Rattle.http_wire.specs.Streams.{Stand, StandIn}
+use Rattle.http_wire.specs.declared.message.Message.{Message}
+use Rattle.http_wire.specs.declared.message.Next.{Next}
+use Rattle.http_wire.specs.declared.message.Next.TheVariants as nexts
+use Rattle.http_wire.specs.declared.message.Stop.TheVariants as stop
+use Rattle.tile_service.specs.declared.session.SessionEnd.{SessionEnd}
+use Rattle.tile_service.specs.declared.session.SessionEnd.TheVariants.{Closed, Truncated, Bad, ReadFault, WriteFault, TooMany, OutOfMemory}
+use Rattle.tile_service.specs.Outside.{Input, Outside}
+use Rattle.tile_service.specs.Sent.{AppendsFront}
+use Rattle.tile_service.specs.Session.{replies, bad_text}
+use Rattle.tile_service.specs.SessionEnds.{AreOpen, GoOn, GoBefore, Ends, HasSession}
+use Rattle.tile_service.proofs.Known.{appends_more, appends_nothing, front_second}
+use Rattle.tile_service.proofs.Replaying.{IsUnderWay, IsAnswered, stand_none}
+use Rattle.tile_service.proofs.SoFar.{is_served, served_start}
+
+abbrev pub input : ℕ → ℕ → Option (List ℕ) → Option (List ℕ) → Input
+input before after from to = record { reads = record { before = before; after = after }; from = from; to = to }
+
+abbrev pub outside : Option ℕ → ℕ → ℕ → ℕ → ℕ → Option (List ℕ) → Option (List ℕ) → Outside
+outside told before now wb wa empty out = record { told = told; renders = record { before = before; after = now }; writes = record { before = wb; after = wa }; from = empty; to = out }
+
+-- the messages stand before bytes that stay
+stand_kept : (a b c : Option (List ℕ)) (ms : List Message) → StandIn a ms b → Keeps b c → StandIn a ms c
+stand_kept None b c ms s k = tt
+stand_kept (Some x) None c ms s k = absurd s
+stand_kept (Some x) (Some y) None ms s k = absurd k
+stand_kept (Some x) (Some y) (Some z) ms s k = subst (Stand x ms) (sym k) s
+
+-- no memory was there to read at all
+pub unbegun : (told : Option ℕ) (count rb wb : ℕ) (document : List ℕ) (s : State) (from empty : Option (List ℕ)) → HasSession (input rb rb from from) (outside told count count wb wb empty empty) document s s OutOfMemory
+unbegun told count rb wb document s from empty =
+    record {
+      messages = [];
+      answers = [];
+      held = [];
+      stand = stand_none from;
+      served = is_served told (record { before = count; after = count }) document s s [] [] 0 (served_start told count document s);
+      ends = (record { all_open = tt; few = omega arith }, appends_nothing empty);
+    }
+
+-- WHERE NO FURTHER MESSAGE CAME
+
+module _ (told : Option ℕ) (before now rb ra wb wa : ℕ) (document : List ℕ) (s t : State) (from to here empty out written : Option (List ℕ)) (n : ℕ) (f : IsUnderWay told before now document s t from here empty written n) (few : n < 10000) where
+  abbrev HasEnded : SessionEnd → Type 0
+  HasEnded end = HasSession (input rb ra from to) (outside told before now wb wa empty out) document s t end
+
+  go_on : GoOn f.messages
+  go_on = record { all_open = f.all_open; few = let e = f.served.many in omega arith }
+
+  -- the session has ended so
+  ended : (end : SessionEnd) (held : List ℕ) → Keeps here (prepend_known held to) → Ends (input rb ra from to) (outside told before now wb wa empty out) f.messages (prepend_known held to) (replies f.answers) end → HasEnded end
+  ended end held k ends =
+      record {
+        messages = f.messages;
+        answers = f.answers;
+        held = held;
+        stand = stand_kept from here (prepend_known held to) f.messages f.stand k;
+        served = is_served told (record { before = before; after = now }) document s t f.messages f.answers n f.served;
+        ends = ends;
+      }
+
+  same_text : out ≡ written → Appends empty out (replies f.answers)
+  same_text e = rw e f.text
+
+  -- the bytes that are left stop so
+  module _ (held : List ℕ) (next : Next) (leaves : LeavesNext here (prepend_known held to) next) where
+    abbrev stays : Next → Type 0
+    stays x = LeavesNext here (prepend_known held to) x
+
+    pub closed_there : next ≡ nexts.End → out ≡ written → HasEnded Closed
+    closed_there is e = let k : StaysAt here (prepend_known held to) stop.End = subst stays is leaves in ended Closed held k.0 (inr (go_on, k.1), same_text e)
+
+    pub truncated_there : next ≡ nexts.Truncated → out ≡ written → HasEnded Truncated
+    truncated_there is e = let k : StaysAt here (prepend_known held to) stop.Truncated = subst stays is leaves in ended Truncated held k.0 (go_on, k.1, same_text e)
+
+    pub bad_there : (status : ℕ) → next ≡ nexts.Bad status → Appends written out (bad_text status) → HasEnded (Bad status)
+    bad_there status is wrote =
+        let k : StaysAt here (prepend_known held to) (stop.Bad status) = subst stays is leaves in
+        ended (Bad status) held k.0 (go_on, k.1, appends_more empty written out (replies f.answers) (bad_text status) f.text wrote)
+
+    pub bad_cut_off : (status : ℕ) → next ≡ nexts.Bad status → AppendsFront written out (bad_text status) → Rose wb wa → HasEnded WriteFault
+    bad_cut_off status is wrote rose =
+        let k : StaysAt here (prepend_known held to) (stop.Bad status) = subst stays is leaves in
+        ended WriteFault held k.0 (replies f.answers ++ bad_text status, inr (status, go_on, k.1, refl), rose, front_second empty written out (replies f.answers) (bad_text status) f.text wrote)
+
+  -- nothing could be read
+  pub unread_there : Remain here to → Rose rb ra → out ≡ written → HasEnded ReadFault
+  unread_there remain rose e = ended ReadFault remain.0 remain.1 (go_on, rose, same_text e)
+
+  pub short_there : Remain here to → out ≡ written → HasEnded OutOfMemory
+  short_there remain e = ended OutOfMemory remain.0 remain.1 (go_on, same_text e)
+
+-- BEHIND A MESSAGE
+
+module _ (told : Option ℕ) (before now rb ra wb wa : ℕ) (document : List ℕ) (s t : State) (from to empty out : Option (List ℕ)) (held : List ℕ) (n : ℕ) (m : Message) (few : n < 10000) where
+  abbrev HasEndedBehind : SessionEnd → Type 0
+  HasEndedBehind end = HasSession (input rb ra from to) (outside told before now wb wa empty out) document s t end
+
+  abbrev IsAnsweredHere : Type 0
+  IsAnsweredHere = IsAnswered told before now document s t from (prepend_known held to) n m
+
+  go_before : (a : IsAnsweredHere) → GoBefore (a.earlier ++ m ∷ []) m
+  go_before a = record { before = a.earlier; whole = refl; go_on = record { all_open = a.all_open; few = let e = a.many in omega arith } }
+
+  ended_behind : (a : IsAnsweredHere) (end : SessionEnd) → Ends (input rb ra from to) (outside told before now wb wa empty out) (a.earlier ++ m ∷ []) (prepend_known held to) (replies a.answers) end → HasEndedBehind end
+  ended_behind a end ends =
+      record {
+        messages = a.earlier ++ m ∷ [];
+        answers = a.answers;
+        held = held;
+        stand = a.stand;
+        served = is_served told (record { before = before; after = now }) document s t (a.earlier ++ m ∷ []) a.answers (n + 1) a.served;
+        ends = ends;
+      }
+
+  pub closed_behind : m.last ≡ true → (a : IsAnsweredHere) × Appends empty out (replies a.answers) → HasEndedBehind Closed
+  closed_behind e a = ended_behind a.0 Closed (inl (m, go_before a.0, e), a.1)
+
+  pub cut_off_behind : Rose wb wa → (a : IsAnsweredHere) × AppendsFront empty out (replies a.answers) → HasEndedBehind WriteFault
+  cut_off_behind rose a = ended_behind a.0 WriteFault (replies a.0.answers, inl (m, go_before a.0, refl), rose, a.1)
+
+-- BEHIND THE 10,000TH
+
+-- messages of which none is the last of its connection, with one of them behind the others
+abbrev OneBehind : List Message → Type 0
+OneBehind messages = (earlier : List Message) × (m : Message) × (messages ≡ earlier ++ m ∷ []) × AreOpen earlier × (m.last ≡ false)
+
+one_behind : (messages : List Message) → 0 < length messages → AreOpen messages → OneBehind messages
+one_behind [] some all = absurd (omega arith)
+one_behind (m ∷ []) some all = ([], m, refl, tt, all.0)
+one_behind (x ∷ y ∷ messages) some all =
+    let later = one_behind (y ∷ messages) (omega arith) all.1 in
+    (x ∷ later.0, later.1, rw later.2 refl, (all.0, later.3), later.4)
+
+pub too_many : (told : Option ℕ) (before now rb ra wb wa : ℕ) (document : List ℕ) (s t : State) (from to empty out : Option (List ℕ)) (held : List ℕ) (n : ℕ) → n ≡ 10000 → IsUnderWay told before now document s t from (prepend_known held to) empty out n
+    → HasSession (input rb ra from to) (outside told before now wb wa empty out) document s t TooMany
+too_many told before now rb ra wb wa document s t from to empty out held n all f =
+    let many = f.served.many in
+    let last = one_behind f.messages (omega arith) f.all_open in
+    let count : length f.messages ≡ length last.0 + 1 = ap (λ (xs : List Message). length xs) last.2 ∙ length-append last.0 (last.1 ∷ []) in
+    record {
+      messages = f.messages;
+      answers = f.answers;
+      held = held;
+      stand = f.stand;
+      served = is_served told (record { before = before; after = now }) document s t f.messages f.answers n f.served;
+      ends = (last.1, record { before = last.0; whole = last.2; go_on = record { all_open = last.3; few = omega arith } }, last.4, omega arith, f.text);
+    }

@@ -1,0 +1,110 @@
+-- One message of a session, served to its end.
+use Rattle.std.proofs.Common.{◌≡◌, ℕ, Bool, true, false, List, [], ◌∷◌, slice_set, Option, Some, None, refl, sym, ap, ◌∙◌, subst}
+use Rattle.cabinet.specs.State.{State}
+use Rattle.cache_core.specs.declared.actor.Actor.TheVariants as actor
+use Rattle.cache_core.specs.declared.actor.Step.{Step}
+use Rattle.cache_core.specs.declared.outcome.Outcome as cached
+use Rattle.cache_core.specs.Shown.{shown}
+use Rattle.cache_core.specs.Steps.{Stepped}
+use Rattle.catalog.specs.declared.catalogue.Catalogue.{Catalogue}
+use Rattle.http_wire.specs.declared.message.Message.{Message}
+use Rattle.matrix_geometry.specs.declared.address.Address.{Address}
+use Rattle.tile_service.specs.declared.outcome.Outcome.{Outcome}
+use Rattle.tile_service.specs.declared.outcome.Outcome.TheVariants as outcome
+use Rattle.tile_service.specs.declared.request.Kind.TheVariants.{Gets}
+use Rattle.tile_service.specs.declared.request.Request.{Request}
+use Rattle.tile_service.specs.declared.request.Request.TheVariants as request
+use Rattle.tile_service.specs.declared.routes.Route.{Route}
+use Rattle.tile_service.specs.declared.routes.Route.TheVariants as route
+use Rattle.tile_service.specs.Dealing.{IsAtOnce, IsGot}
+use Rattle.tile_service.specs.Events.{Opens}
+use Rattle.tile_service.specs.OneLine.{Keeps, world_of}
+use Rattle.tile_service.specs.Requests.{calm, events, outcome_of}
+use Rattle.tile_service.specs.Routes.{path_of, route_of, request_at}
+use Rattle.tile_service.specs.Run.{Busy, World, seat_after, answers_after, settled, started, sent, request_in}
+use Rattle.tile_service.specs.Session.{IsAtRest, Serves, lone}
+use Rattle.tile_service.proofs.AtOnce.{at_once_told, read_asks, same_events, with_ends}
+use Rattle.tile_service.proofs.AtRest.{IsDone, get_done}
+use Rattle.tile_service.proofs.Seating.{settled_keeps}
+use Rattle.tile_service.proofs.Telling.{same_stays, told_keeps}
+
+-- WHAT IS ASKED FOR
+
+same_request : (c : Catalogue) (m n : Message) (r : Route) → n.target ≡ m.target → n.body ≡ m.body → request_at c n r ≡ request_at c m r
+same_request c m n route.Query target body = rw target refl
+same_request c m n route.Path target body = rw target refl
+same_request c m n route.Usage target body = refl
+same_request c m n route.Truncate target body = rw body refl
+same_request c m n route.Expire target body = refl
+same_request c m n route.NotFound target body = refl
+same_request c m n route.WrongMethod target body = refl
+
+-- whether it is the last of its connection or not, a message asks for the same
+pub asks_the_same : (s : State) (document : List ℕ) (c : Catalogue) (m n : Message) (path : List ℕ) (way : Route) (r : Request) → c ≡ s.catalogue → n.method ≡ m.method → n.target ≡ m.target → n.body ≡ m.body
+    → path ≡ path_of n.target → way ≡ route_of n.method path → r ≡ request_at c n way → r ≡ request_in (lone s document) m
+asks_the_same s document c m n path way r catalogue method target body leads goes asks =
+    let there : way ≡ route_of m.method (path_of m.target) = goes ∙ rw (leads, method, target) refl in
+    asks ∙ rw (catalogue, there) (same_request s.catalogue m n (route_of m.method (path_of m.target)) target body)
+
+-- A MESSAGE IS SERVED
+
+-- what the events of a GET came to, where no render ran
+pub got_done : (told : Option ℕ) (before after : ℕ) (s : State) (a : Address) (step : Step) (t : State) → IsAtRest s → Opens told before after s a Gets step t → IsDone (shown step t)
+got_done told before after s a step t rest h = let P : Stepped → Type 0 = IsDone in subst P (sym h.made) (get_done a h.chance s rest)
+
+module _ (told : Option ℕ) (document : List ℕ) (s : State) (m : Message) (rest : IsAtRest s) where
+  abbrev asks : Request
+  asks = request_in (lone s document) m
+
+  pub unread_serves : (count : ℕ) → Serves told count count document s m outcome.NoMemory s
+  unread_serves count =
+      record {
+        request = None;
+        chance = λ left. with_ends calm false left;
+        made = λ i left. refl;
+        keeps = λ i left. told_keeps told count s s document (None ∷ []) i 0 m None outcome.NoMemory left (same_stays s outcome.NoMemory refl) tt;
+        rests = rest;
+      }
+
+  pub at_once_serves : (count : ℕ) (r : Request) (o : Outcome) (t : State) → r ≡ asks → IsAtOnce s document r o t → Serves told count count document s m o t
+  at_once_serves count r o t e k =
+      let d = at_once_told s document r o t k in
+      record {
+        request = Some r;
+        chance = λ left. with_ends d.chance true left;
+        made = λ i left. read_asks (lone s document) i d.chance Gets 0 m r left e ∙ d.made (None ∷ []) i Gets 0 m left;
+        keeps = λ i left. told_keeps told count s t document (None ∷ []) i 0 m (Some r) o left d.stays d.other;
+        rests = d.rests rest;
+      }
+
+  module _ (before after : ℕ) (a : Address) (e : request.Tile a ≡ asks) (step : Step) (t : State) (h : Opens told before after s a Gets step t) where
+    abbrev busy : ℕ → Busy
+    busy i = started (lone s document) i m a
+
+    abbrev there_after : Busy → Option cached.Outcome → World
+    there_after b x = world_of t document (slice_set (None ∷ []) 0 (seat_after b step.actor x))
+
+    made_with : (i : ℕ) (left : Bool) (x : Option cached.Outcome) → step.outcome ≡ x → sent (lone s document) i (with_ends h.chance true left) Gets 0 m ≡ (there_after (busy i) x, answers_after i 0 left (busy i) x)
+    made_with i left x is =
+        let c = with_ends h.chance true left in
+        let P : Option cached.Outcome → Type 0 = λ y. sent (lone s document) i c Gets 0 m ≡ (there_after (busy i) y, answers_after i 0 left (busy i) y) in
+        let same : events Gets s a c ≡ shown step t = sym (same_events Gets s a h.chance true left) ∙ sym h.made in
+        subst P is (read_asks (lone s document) i h.chance Gets 0 m (request.Tile a) left e ∙ ap (settled (lone s document) i c 0 (busy i)) same)
+
+    kept_with : (i : ℕ) (left : Bool) (x : Option cached.Outcome) → (x ≡ None → ⊥) → step.outcome ≡ x → Keeps told before after (lone s document) (there_after (busy i) x) (answers_after i 0 left (busy i) x)
+    kept_with i left x ends is =
+        let P : Option cached.Outcome → Type 0 = λ y. Keeps told before after (lone s document) (there_after (busy i) y) (answers_after i 0 left (busy i) y) in
+        subst P is (settled_keeps told before after s t actor.Idle (busy i) step h.moves (λ none. absurd (ends (sym is ∙ none))) document (None ∷ []) 0 None refl refl (λ x. tt) i left)
+
+    pub tile_serves : (x : cached.Outcome) → step.outcome ≡ Some x → Serves told before after document s m (outcome_of x) t
+    tile_serves x is =
+        record {
+          request = Some (request.Tile a);
+          chance = λ left. with_ends h.chance true left;
+          made = λ i left. made_with i left (Some x) is;
+          keeps = λ i left. kept_with i left (Some x) (λ none. cc) is;
+          rests = (got_done told before after s a step t rest h).rests;
+        }
+
+  pub got_serves : (before after : ℕ) (a : Address) (o : Outcome) (t : State) → request.Tile a ≡ asks → IsGot told before after s a o t → Serves told before after document s m o t
+  got_serves before after a o t e k = rw k.4 (tile_serves before after a e k.0 t k.2 k.1 k.3)

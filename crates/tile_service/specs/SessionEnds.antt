@@ -1,0 +1,70 @@
+-- How a session over a link ends, and what it has sent by then.
+use Rattle.std.specs.Prelude.{ℕ, ◌≡◌, ◌<◌, ◌⊎◌, true, false, List, [], ◌∷◌, ◌++◌, length, Option, IfSome}
+use Rattle.std.specs.Io.KnownBytes.{Appends, prepend_known}
+use Rattle.std.specs.List.{AllByRecursion}
+use Rattle.cabinet.specs.State.{State}
+use Rattle.causes.specs.Causes.{Rose}
+use Rattle.http_wire.specs.declared.message.Message.{Message}
+use Rattle.http_wire.specs.declared.message.Stop.{Stop}
+use Rattle.http_wire.specs.declared.message.Stop.TheVariants as stop
+use Rattle.http_wire.specs.Messages.{StopsAs}
+use Rattle.http_wire.specs.Streams.{StandIn}
+use Rattle.tile_service.specs.declared.session.SessionEnd.{SessionEnd}
+use Rattle.tile_service.specs.declared.session.SessionEnd.TheVariants.{Closed, Truncated, Bad, ReadFault, WriteFault, TooMany, OutOfMemory}
+use Rattle.tile_service.specs.Outside.{Input, Outside}
+use Rattle.tile_service.specs.Run.{Answer}
+use Rattle.tile_service.specs.Sent.{AppendsFront}
+use Rattle.tile_service.specs.Session.{IsServed, replies, bad_text}
+
+-- THE MESSAGES OF A SESSION
+
+-- none of these messages is the last of its connection
+abbrev pub AreOpen : List Message → Type 0
+AreOpen messages = AllByRecursion (λ m. m.last ≡ false) messages
+
+-- behind these messages the session looks for a further one: none is the last, and they are fewer than 10,000
+pub record GoOn (messages : List Message) : Type 0 where
+  pub all_open : AreOpen messages
+  pub few : length messages < 10000
+
+-- behind these messages the session ends: the last of them is the last of its connection, or the 10,000th
+pub record GoBefore (messages : List Message) (last : Message) : Type 0 where
+  pub before : List Message
+  pub whole : messages ≡ before ++ last ∷ []
+  pub go_on : GoOn before
+
+-- where these bytes are told, a stream of them stops so
+abbrev pub StopsThere : Option (List ℕ) → Stop → Type 0
+StopsThere bytes s = IfSome bytes (λ known. StopsAs known s)
+
+-- THE ENDS
+
+-- the last message was answered, and the connection was to be closed, or the stream ended behind the messages
+abbrev pub IsClosed : List Message → Option (List ℕ) → Type 0
+IsClosed messages rest = ((m : Message) × GoBefore messages m × (m.last ≡ true)) ⊎ (GoOn messages × StopsThere rest stop.End)
+
+-- a text of which not all went out: the replies up to that to the last message, or these and the answer to bytes that are no
+-- message
+abbrev pub IsCutOff : List Message → Option (List ℕ) → List ℕ → List ℕ → Type 0
+IsCutOff messages rest text whole =
+    ((m : Message) × GoBefore messages m × (whole ≡ text)) ⊎ ((status : ℕ) × GoOn messages × StopsThere rest (stop.Bad status) × (whole ≡ text ++ bad_text status))
+
+-- how a session ended behind these messages, to which this is the text of the replies, and before this rest of the stream
+abbrev pub Ends : Input → Outside → List Message → Option (List ℕ) → List ℕ → SessionEnd → Type 0
+Ends i o messages rest text Closed = IsClosed messages rest × Appends o.from o.to text
+Ends i o messages rest text Truncated = GoOn messages × StopsThere rest stop.Truncated × Appends o.from o.to text
+Ends i o messages rest text (Bad status) = GoOn messages × StopsThere rest (stop.Bad status) × Appends o.from o.to (text ++ bad_text status)
+Ends i o messages rest text TooMany = (m : Message) × GoBefore messages m × (m.last ≡ false) × (length messages ≡ 10000) × Appends o.from o.to text
+Ends i o messages rest text ReadFault = GoOn messages × Rose i.reads.before i.reads.after × Appends o.from o.to text
+Ends i o messages rest text OutOfMemory = GoOn messages × Appends o.from o.to text
+Ends i o messages rest text WriteFault = (whole : List ℕ) × IsCutOff messages rest text whole × Rose o.writes.before o.writes.after × AppendsFront o.from o.to whole
+
+-- A session was held over a link, by a cabinet that came from s to t. Its messages stand at the front of the bytes that were
+-- left, where those are told; behind them stand bytes that were taken from the link too early, and those that are left now.
+pub record HasSession (i : Input) (o : Outside) (document : List ℕ) (s t : State) (end : SessionEnd) : Type 0 where
+  pub messages : List Message
+  pub answers : List Answer
+  pub held : List ℕ
+  pub stand : StandIn i.from messages (prepend_known held i.to)
+  pub served : IsServed o.told o.renders document s t messages answers
+  pub ends : Ends i o messages (prepend_known held i.to) (replies answers) end

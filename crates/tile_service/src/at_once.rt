@@ -1,0 +1,32 @@
+ghost use Rattle.std.specs.Prelude.{◌≡◌, None};
+ghost use Rattle.catalog.specs.Valid.{IsValid};
+ghost use Rattle.tile_service.specs.Dealing.{IsAtOnce};
+ghost use Rattle.tile_service.specs.Requests.{IsOf, tile_of};
+
+use crate::commands::{cut, document, expire, usage};
+use crate::counter::Counter;
+use crate::outcome::Outcome;
+use crate::request::Request;
+use std::alloc::Global;
+
+/// Answers a request that isn't for a tile. Where memory runs out, its outcome says so.
+pub fn at_once(alloc: Global, counter: &mut Counter, request: Request) -> Outcome
+    requires valid { IsValid counter.old.cabinet.catalogue }
+    requires of { IsOf counter.old.cabinet.catalogue request }
+    requires other { tile_of request ≡ None }
+    ensures at_once { IsAtOnce counter.old.cabinet counter.old.capabilities request result counter.new.cabinet }
+    ensures catalogue { counter.new.cabinet.catalogue ≡ counter.old.cabinet.catalogue }
+    ensures capabilities { counter.new.capabilities ≡ counter.old.capabilities }
+{
+    match request {
+        Request::Tile(_) => unreachable!(),
+        Request::Capabilities => document(alloc, counter.capabilities.bytes()),
+        Request::Refused(code, locator) => Outcome::Refused(code, locator),
+        Request::NotFound => Outcome::NotFound,
+        Request::WrongMethod => Outcome::WrongMethod,
+        Request::Usage => usage(alloc, &counter.cabinet),
+        Request::Truncation(cover) => cut(alloc, &mut counter.cabinet, &cover),
+        Request::Unformed(fault) => Outcome::Unformed(fault),
+        Request::Expiry => expire(alloc, &mut counter.cabinet),
+    }
+}

@@ -1,0 +1,73 @@
+ghost use Rattle.std.specs.Prelude.{◌≡◌};
+ghost use Rattle.catalog.specs.LookUp.{IsTile};
+ghost use Rattle.catalog.specs.Valid.{IsValid};
+ghost use Rattle.tile_service.specs.Dealing.{IsGot};
+ghost use Rattle.tile_service.specs.Session.{IsAtRest, Serves};
+
+use crate::at_once::at_once;
+use crate::call::Call;
+use crate::counter::Counter;
+use crate::events::events;
+use crate::outcome::Outcome;
+use crate::request::{Kind, Request, outcome_of};
+use crate::routes::{path_of, request_at, route_of};
+use cabinet::cabinet::Cabinet;
+use cache_core::actor::Step;
+use cache_core::steps::give_up;
+use http_wire::message::Message;
+use matrix_geometry::address::Address;
+use source_render::source::Source;
+use std::alloc::Global;
+
+/// Serves a request for a tile, in a cabinet in which no render runs: it is asked for, rendered and finished at once.
+fn serve_tile<S: Source>(
+    alloc: Global,
+    cabinet: &mut Cabinet,
+    source: &mut S,
+    address: &Address,
+) -> Outcome
+    requires tile { IsTile cabinet.old.catalogue address.now }
+    requires rest { IsAtRest cabinet.old }
+    ensures got { IsGot (S.told source.old) (S.faults source.old) (S.faults source.new) cabinet.old address.now result cabinet.new }
+    ensures told { S.told source.new ≡ S.told source.old }
+{
+    let Step { actor, outcome } = events(alloc, cabinet, source, address, Kind::Gets);
+    match outcome {
+        None => unreachable!(),
+        Some(ended) => {
+            give_up(cabinet, actor);
+            outcome_of(ended)
+        }
+    }
+}
+
+/// Serves a message of a session: a tile is asked for, rendered and finished at once. Where memory runs out, its outcome says
+/// so.
+pub fn serve<S: Source>(
+    alloc: Global,
+    counter: &mut Counter,
+    source: &mut S,
+    message: &Message,
+) -> Outcome
+    requires valid { IsValid counter.old.cabinet.catalogue }
+    requires rest { IsAtRest counter.old.cabinet }
+    ensures serves { Serves (S.told source.old) (S.faults source.old) (S.faults source.new) counter.old.capabilities counter.old.cabinet message.now result counter.new.cabinet }
+    ensures catalogue { counter.new.cabinet.catalogue ≡ counter.old.cabinet.catalogue }
+    ensures capabilities { counter.new.capabilities ≡ counter.old.capabilities }
+    ensures told { S.told source.new ≡ S.told source.old }
+{
+    let call = Call {
+        method: message.method,
+        target: message.target.bytes(),
+        body: message.body.bytes(),
+    };
+    let route = route_of(call.method, path_of(call.target));
+    let catalogue = counter.cabinet.catalogue();
+    let Ok(request) = request_at(alloc, catalogue, &counter.rest, &call, route) else {
+        return Outcome::NoMemory;
+    };
+    match request {
+        Request::Tile(address) => serve_tile(alloc, &mut counter.cabinet, source, &address),
+        other => at_once(alloc, counter, other),
+    }
+}

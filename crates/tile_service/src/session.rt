@@ -1,0 +1,120 @@
+ghost use Rattle.std.specs.Prelude.{◌≡◌, OnOk, OnErr};
+ghost use Rattle.std.specs.Io.KnownBytes.{Appends};
+ghost use Rattle.catalog.specs.Valid.{IsValid};
+ghost use Rattle.causes.specs.Causes.{HasCause};
+ghost use Rattle.tile_service.specs.OneLine.{MayTell};
+ghost use Rattle.tile_service.specs.Outside.{Input, Outside};
+ghost use Rattle.tile_service.specs.Response.{closes, response};
+ghost use Rattle.tile_service.specs.Sent.{AppendsFront};
+ghost use Rattle.tile_service.specs.Session.{IsAtRest, Serves};
+ghost use Rattle.tile_service.specs.SessionEnds.{HasSession};
+
+use crate::counter::Counter;
+use crate::outcome::Outcome;
+use crate::replying::{refuse, reply};
+use crate::serving::serve;
+use http_wire::links::Link;
+use http_wire::message::{Message, Next, WireFault};
+use http_wire::reader::MessageReader;
+use http_wire::sending::Sent;
+use source_render::source::Source;
+use std::alloc::Global;
+
+/// How many messages a session answers at most.
+const SESSION_LIMIT: u64 = 10_000;
+
+/// How a session ended.
+#[derive(Clone, Copy, Debug, PartialEq, Eq)]
+pub enum SessionEnd {
+    /// The stream ended behind a message, or its last message was answered.
+    Closed,
+    /// The stream ended within a message.
+    Truncated,
+    /// Bytes came that are no message; they were answered with this status.
+    Bad(u16),
+    /// A read of the link failed.
+    ReadFault,
+    /// A write of the link failed; no later message was looked for.
+    WriteFault,
+    /// The 10,000th message was answered, and it was not the last of its connection.
+    TooMany,
+    /// Memory ran out at the reading of a message. Want of memory for a request is answered, and ends no session.
+    OutOfMemory,
+}
+
+/// Whether the response to a message closes its connection, by the message's place in its session, counted from 1.
+fn closes(message: &Message, place: u64) -> bool
+    ensures { result ≡ closes message.now place }
+{
+    message.last || place == SESSION_LIMIT
+}
+
+/// Serves the message at a place of its session, counted from 1, and writes its response. `Sent` where a write failed.
+fn respond<S: Source, L: Link>(
+    alloc: Global,
+    counter: &mut Counter,
+    source: &mut S,
+    link: &mut L,
+    message: &Message,
+    place: u64,
+) -> Result<(), Sent>
+    requires valid { IsValid counter.old.cabinet.catalogue }
+    requires rest { IsAtRest counter.old.cabinet }
+    ensures responds { (o : Outcome) × Serves (S.told source.old) (S.faults source.old) (S.faults source.new) counter.old.capabilities counter.old.cabinet message.now o counter.new.cabinet
+        × OnOk result (MayTell o (λ x. Appends (L.taken link.old) (L.taken link.new) (response message.now place x)))
+        × OnErr result (MayTell o (λ x. AppendsFront (L.taken link.old) (L.taken link.new) (response message.now place x))) }
+    ensures cause { HasCause (L.ByteSink.faults link.old) (L.ByteSink.faults link.new) result }
+    ensures left { L.left link.new ≡ L.left link.old }
+    ensures read_faults { L.ByteSource.faults link.new ≡ L.ByteSource.faults link.old }
+    ensures rests { IsAtRest counter.new.cabinet }
+    ensures catalogue { counter.new.cabinet.catalogue ≡ counter.old.cabinet.catalogue }
+    ensures capabilities { counter.new.capabilities ≡ counter.old.capabilities }
+    ensures told { S.told source.new ≡ S.told source.old }
+{
+    let outcome = serve(alloc, counter, source, message);
+    reply(alloc, link, closes(message, place), &outcome)
+}
+
+/// Serves the messages of one connection (RFC 9112), in order, each before the next is looked for, at most 10,000 of them. No
+/// render may run in the cabinet, and none runs afterwards. Each end comes as `SessionEnd` says.
+pub fn replay_session<S: Source, L: Link>(
+    alloc: Global,
+    counter: &mut Counter,
+    source: &mut S,
+    link: &mut L,
+) -> SessionEnd
+    requires valid { IsValid counter.old.cabinet.catalogue }
+    requires rest { IsAtRest counter.old.cabinet }
+    ensures session { HasSession
+        (record { reads = record { before = L.ByteSource.faults link.old; after = L.ByteSource.faults link.new }; from = L.left link.old; to = L.left link.new })
+        (record { told = S.told source.old; renders = record { before = S.faults source.old; after = S.faults source.new }; writes = record { before = L.ByteSink.faults link.old; after = L.ByteSink.faults link.new }; from = L.taken link.old; to = L.taken link.new })
+        counter.old.capabilities counter.old.cabinet counter.new.cabinet result }
+    ensures rests { IsAtRest counter.new.cabinet }
+    ensures catalogue { counter.new.cabinet.catalogue ≡ counter.old.cabinet.catalogue }
+    ensures capabilities { counter.new.capabilities ≡ counter.old.capabilities }
+{
+    let Ok(mut reader) = MessageReader::new(alloc) else {
+        return SessionEnd::OutOfMemory;
+    };
+    'serving: for answered in 0..SESSION_LIMIT {
+        let message = match reader.next(alloc, link) {
+            Ok(Next::Message(message)) => message,
+            Ok(Next::End) => return SessionEnd::Closed,
+            Ok(Next::Truncated) => return SessionEnd::Truncated,
+            Ok(Next::Bad(status)) => match refuse(link, status) {
+                Ok(()) => return SessionEnd::Bad(status),
+                Err(_) => return SessionEnd::WriteFault,
+            },
+            Err(WireFault::ReadFault) => return SessionEnd::ReadFault,
+            Err(WireFault::OutOfMemory) => return SessionEnd::OutOfMemory,
+        };
+        match respond(alloc, counter, source, link, &message, answered + 1) {
+            Ok(()) => {}
+            Err(_) => return SessionEnd::WriteFault,
+        }
+        if message.last {
+            return SessionEnd::Closed;
+        }
+    }
+    SessionEnd::TooMany
+}
