@@ -1,3 +1,8 @@
 pub mod Numbers
 pub mod Reading
 pub mod Serving
+mod PlainNumbers
+mod PlainReads
+mod PlainWords
+mod ServeReads
+mod ServeWalk

@@ -10,6 +10,7 @@ mod configured;
 mod described;
 mod fault_text;
 mod input;
+mod serve_words;
 #[cfg(test)]
 mod tests;
 mod words;

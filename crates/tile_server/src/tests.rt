@@ -7,6 +7,7 @@ mod expiry;
 mod metatiles;
 mod paths;
 mod queries;
+mod serving;
 
 use crate::command::{Status, run_command};
 use exact_ratio::words::Words;

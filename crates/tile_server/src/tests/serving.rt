@@ -1,0 +1,82 @@
+//! The words after `serve`: a port, and how many connections.
+use crate::serve_words::{ServeFault, ServeWords, serve_words};
+use exact_ratio::words::Words;
+use std::alloc::Global;
+use std::test::Fail;
+
+/// What these words ask for.
+fn read(alloc: Global, words: &[&str]) -> Result<Result<ServeWords, ServeFault>, Fail> {
+    let mut copies = Vec::new(alloc);
+    for word in words {
+        copies.push(Words::new(alloc, word.as_bytes())?)?;
+    }
+    Ok(serve_words(alloc, copies.as_slice()))
+}
+
+#[test]
+fn the_two_numbers_are_read_in_either_order(rt: HostRuntime) -> Result<(), Fail> {
+    let alloc = rt.alloc();
+    let expected = Ok(ServeWords {
+        port: 8080,
+        connections: 5,
+    });
+    let words = ["--port", "8080", "--connections", "5"];
+    assert_eq!(rt; read(alloc, words.as_slice())?, expected);
+    let turned = ["--connections", "5", "--port", "8080"];
+    assert_eq!(rt; read(alloc, turned.as_slice())?, expected);
+    Ok(())
+}
+
+#[test]
+fn the_ends_of_the_ranges_are_taken(rt: HostRuntime) -> Result<(), Fail> {
+    let alloc = rt.alloc();
+    let least = ["--port", "1", "--connections", "1"];
+    assert_eq!(rt;
+        read(alloc, least.as_slice())?,
+        Ok(ServeWords {
+            port: 1,
+            connections: 1
+        })
+    );
+    let most = ["--port", "65535", "--connections", "1000000"];
+    assert_eq!(rt;
+        read(alloc, most.as_slice())?,
+        Ok(ServeWords {
+            port: 65_535,
+            connections: 1_000_000
+        })
+    );
+    Ok(())
+}
+
+#[test]
+fn other_words_are_refused(rt: HostRuntime) -> Result<(), Fail> {
+    let alloc = rt.alloc();
+    for words in [
+        [].as_slice(),
+        ["--port", "8080"].as_slice(),
+        ["--port", "0", "--connections", "5"].as_slice(),
+        ["--port", "65536", "--connections", "5"].as_slice(),
+        ["--port", "8080", "--connections", "0"].as_slice(),
+        ["--port", "8080", "--connections", "1000001"].as_slice(),
+        ["--port", "8080", "--connections"].as_slice(),
+        ["--port", "8080", "--connections", "five"].as_slice(),
+        ["--port", "1", "--port", "2", "--connections", "5"].as_slice(),
+        ["--port", "8080", "--connections", "5", "more"].as_slice(),
+        ["--help"].as_slice(),
+    ] {
+        assert_eq!(rt; read(alloc, words)?, Err(ServeFault::Usage));
+    }
+    Ok(())
+}
+
+#[test]
+fn a_word_that_is_no_text_is_refused(rt: HostRuntime) -> Result<(), Fail> {
+    let alloc = rt.alloc();
+    let words = vec![in alloc; Words::new(alloc, b"--port")?, Words::new(alloc, &[0xff])?]?;
+    assert_eq!(rt;
+        serve_words(alloc, words.as_slice()),
+        Err(ServeFault::Usage)
+    );
+    Ok(())
+}
