@@ -1,7 +1,7 @@
 -- What a command came to.
 use Rattle.std.specs.Prelude.{ℕ, ◌≡◌, ◌≤◌, ◌+◌, ◌⊎◌, List, length, Option, Some, None, Result, Ok, Err, ⊤}
 use Rattle.std.specs.Io.KnownBytes.{Consumes, IsAtEnd}
-use Rattle.cabinet.specs.State.{fresh_state}
+use Rattle.cabinet.specs.State.{State, fresh_state}
 use Rattle.catalog.specs.declared.catalogue.Catalogue.{Catalogue}
 use Rattle.catalog.specs.declared.fault.CatalogueFault.{CatalogueFault}
 use Rattle.causes.specs.Causes.{Rose}
@@ -12,10 +12,13 @@ use Rattle.tile_service.specs.declared.schedule.ScheduleEnd.{ScheduleEnd}
 use Rattle.tile_service.specs.declared.schedule.ScheduleEnd.TheVariants as end
 use Rattle.tile_service.specs.declared.drill.DrillEnd.{DrillEnd}
 use Rattle.tile_service.specs.declared.drill.DrillEnd.TheVariants as drill_end
+use Rattle.tile_service.specs.declared.session.SessionEnd.{SessionEnd}
+use Rattle.tile_service.specs.declared.session.SessionEnd.TheVariants as session_end
 use Rattle.tile_service.specs.Drill.{Drills}
 use Rattle.tile_service.specs.Outside.{Input, Outside}
 use Rattle.tile_service.specs.Run.{World, free_seats}
 use Rattle.tile_service.specs.Schedules.{IsTooLong, Schedules}
+use Rattle.tile_service.specs.SessionEnds.{HasSession}
 use Rattle.tile_server.specs.declared.command.Status.{Status}
 use Rattle.tile_server.specs.declared.command.Status.TheVariants as status
 use Rattle.tile_server.specs.declared.configured.Unconfigured.{Unconfigured}
@@ -82,13 +85,14 @@ Describes i (Err input_end.OutOfMemory) = ⊤
 abbrev pub fresh_world : Catalogue → List ℕ → World
 fresh_world c text = record { cabinet = fresh_state c; capabilities = text; seats = free_seats }
 
--- the inputs of a command: the catalogue's, the capabilities' and the schedule's
+-- the inputs of a command: the catalogue's, the capabilities', and the one that the words speak of, which has the lines of a
+-- schedule or the bytes of a connection
 pub record Inputs : Type 0 where
   pub catalogue : Input
   pub capabilities : Input
   pub lines : Input
 
--- the status of a schedule's end, and of a drill's
+-- the status of a schedule's end, of a drill's and of a session's
 abbrev pub status_of_schedule : ScheduleEnd → Status
 status_of_schedule end.Done = status.Done
 status_of_schedule (end.Line n) = status.Line n
@@ -101,6 +105,15 @@ abbrev pub status_of_drill : DrillEnd → Status
 status_of_drill drill_end.Done = status.Done
 status_of_drill drill_end.WriteFault = status.WriteFault
 status_of_drill drill_end.OutOfMemory = status.OutOfMemory
+
+abbrev pub status_of_session : SessionEnd → Status
+status_of_session session_end.Closed = status.Done
+status_of_session session_end.Truncated = status.Stream session_end.Truncated
+status_of_session (session_end.Bad code) = status.Stream (session_end.Bad code)
+status_of_session session_end.TooMany = status.Stream session_end.TooMany
+status_of_session session_end.ReadFault = status.ReadFault
+status_of_session session_end.WriteFault = status.WriteFault
+status_of_session session_end.OutOfMemory = status.OutOfMemory
 
 -- That an input, the output or the source stays as it was is a fact of its own for each of them.
 module _ (i : Inputs) (o : Outside) (CapabilitiesStay LinesStay OutputStays SourceStays : Type 0) where
@@ -116,6 +129,17 @@ module _ (i : Inputs) (o : Outside) (CapabilitiesStay LinesStay OutputStays Sour
   abbrev pub HasDrilled : ℕ → DrillEnd → Type 0
   HasDrilled number e = LinesStay × BothRead (λ c text. (t : World) × Drills o OutputStays number (fresh_world c text) t e)
 
+  -- the bytes of a connection were served with them, and the session ended so
+  abbrev pub HasReplayed : SessionEnd → Type 0
+  HasReplayed e = BothRead (λ c text. (t : State) × HasSession i.lines o text (fresh_state c) t e)
+
+  -- the session ended within the stream: in a message, at bytes that are no message, or behind as many as it answers
+  abbrev pub HasBrokenOff : SessionEnd → Type 0
+  HasBrokenOff session_end.Truncated = HasReplayed session_end.Truncated
+  HasBrokenOff (session_end.Bad code) = HasReplayed (session_end.Bad code)
+  HasBrokenOff session_end.TooMany = HasReplayed session_end.TooMany
+  HasBrokenOff e = ⊥
+
   -- one input is the first of which its fact holds: those before it were read, and those behind it stay as they were
   abbrev pub AtFirst : Type 0 → Type 0 → Type 0 → Type 0
   AtFirst OfCatalogue OfCapabilities OfLines =
@@ -127,7 +151,7 @@ module _ (i : Inputs) (o : Outside) (CapabilitiesStay LinesStay OutputStays Sour
   abbrev pub NothingDone : Type 0 → Type 0
   NothingDone CatalogueStays = CatalogueStays × CapabilitiesStay × LinesStay × OutputStays × SourceStays
 
-  -- no line was run
+  -- no line was run, and no message was answered
   abbrev pub NoneRun : Type 0 → Type 0 → Type 0 → Type 0
   NoneRun OfCatalogue OfCapabilities OfLines = AtFirst OfCatalogue OfCapabilities OfLines × OutputStays × SourceStays
 
@@ -141,6 +165,7 @@ module _ (i : Inputs) (o : Outside) (CapabilitiesStay LinesStay OutputStays Sour
   HasScheduled status.Done = HasEnded end.Done
   HasScheduled (status.Line n) = HasEnded (end.Line n)
   HasScheduled status.WriteFault = HasEnded end.WriteFault
+  HasScheduled (status.Stream e) = ⊥
 
   -- what each status says of the drill of a number, which reads no lines
   abbrev pub HasServedDrill : ℕ → Status → Type 0
@@ -152,9 +177,23 @@ module _ (i : Inputs) (o : Outside) (CapabilitiesStay LinesStay OutputStays Sour
   HasServedDrill number status.Done = HasDrilled number drill_end.Done
   HasServedDrill number (status.Line n) = ⊥
   HasServedDrill number status.WriteFault = HasDrilled number drill_end.WriteFault
+  HasServedDrill number (status.Stream e) = ⊥
+
+  -- what each status says of the bytes of a connection, of which there may be any number
+  abbrev pub HasServedReplay : Status → Type 0
+  HasServedReplay status.Usage = ⊥
+  HasServedReplay (status.Catalogue fault) = IsRead i.catalogue (Err fault) × CapabilitiesStay × LinesStay × OutputStays × SourceStays
+  HasServedReplay status.ReadFault = NoneRun (HasRisen i.catalogue) (HasRisen i.capabilities) ⊥ ⊎ HasReplayed session_end.ReadFault
+  HasServedReplay status.TooLong = NoneRun (IsTooLongText i.catalogue) (IsTooLongDocument i.capabilities) ⊥
+  HasServedReplay status.OutOfMemory = NoneRun ⊤ ⊤ LinesStay ⊎ HasReplayed session_end.OutOfMemory
+  HasServedReplay status.Done = HasReplayed session_end.Closed
+  HasServedReplay (status.Line n) = ⊥
+  HasServedReplay status.WriteFault = HasReplayed session_end.WriteFault
+  HasServedReplay (status.Stream e) = HasBrokenOff e
 
   -- what each status says, by what the words ask for
   abbrev pub HasServed : Type 0 → Option Word → Status → Type 0
   HasServed CatalogueStays None s = NothingDone CatalogueStays
   HasServed CatalogueStays (Some word.Schedule) s = HasScheduled s
+  HasServed CatalogueStays (Some word.Replay) s = HasServedReplay s
   HasServed CatalogueStays (Some (word.Drill number)) s = HasServedDrill number s

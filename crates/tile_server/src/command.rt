@@ -2,11 +2,12 @@ ghost use Rattle.std.specs.Prelude.{◌≡◌, ◌↔◌, IfOk};
 ghost use Rattle.cabinet.specs.State.{fresh_state};
 ghost use Rattle.catalog.specs.Valid.{IsValid};
 ghost use Rattle.tile_service.specs.Outside.{Input, Outside};
-ghost use Rattle.tile_server.specs.Command.{HasServed, status_of_drill, status_of_schedule};
+ghost use Rattle.tile_server.specs.Command.{HasServed, status_of_drill, status_of_schedule, status_of_session};
 ghost use Rattle.tile_server.specs.Words.{word_of};
 
 use crate::configured::{Unconfigured, configured};
 use crate::described::described;
+use crate::replay::replay;
 use crate::words::{Word, word_of};
 use cabinet::cabinet::Cabinet;
 use catalog::catalogue::Catalogue;
@@ -19,12 +20,14 @@ use std::alloc::{AllocError, Global};
 use tile_service::counter::Counter;
 use tile_service::drill::{DrillEnd, run_drill};
 use tile_service::schedule::{ScheduleEnd, run_schedule};
+use tile_service::session::SessionEnd;
 use wmts_rest::table::RestTable;
 
 /// How a command ended.
 #[derive(Clone, Copy, Debug, PartialEq, Eq)]
 pub enum Status {
-    /// The input was read to its end, where the words take one, and all was written.
+    /// The input, where the words take one, was read to its end, or to the last message of its connection, and all was
+    /// written.
     Done,
     /// The words are no command.
     Usage,
@@ -36,8 +39,12 @@ pub enum Status {
     WriteFault,
     /// This line of the schedule was refused, counted from 1; the lines before it were run and answered.
     Line(u64),
-    /// Memory ran out: before the first line of a schedule, before or between the lines of a drill.
+    /// Memory ran out: before the first line of a schedule, before or between the lines of a drill, before or at the reading
+    /// of a message of a connection.
     OutOfMemory,
+    /// The bytes of a connection ended within a message, held bytes that are no message, or went on behind as many messages
+    /// as a session answers. The messages before that were answered.
+    Stream(SessionEnd),
     /// The catalogue, the document of the capabilities or the schedule has more bytes than it may have.
     TooLong,
 }
@@ -67,6 +74,21 @@ fn status_of_drill(end: DrillEnd) -> Status
     }
 }
 
+/// The status of a session's end.
+fn status_of_session(end: SessionEnd) -> Status
+    ensures { result ≡ status_of_session end }
+{
+    match end {
+        SessionEnd::Closed => Status::Done,
+        SessionEnd::Truncated => Status::Stream(SessionEnd::Truncated),
+        SessionEnd::Bad(code) => Status::Stream(SessionEnd::Bad(code)),
+        SessionEnd::TooMany => Status::Stream(SessionEnd::TooMany),
+        SessionEnd::ReadFault => Status::ReadFault,
+        SessionEnd::WriteFault => Status::WriteFault,
+        SessionEnd::OutOfMemory => Status::OutOfMemory,
+    }
+}
+
 /// A cabinet in memory of a catalogue, beside the document of the capabilities.
 fn counter_of(
     alloc: Global,
@@ -84,9 +106,9 @@ fn counter_of(
 }
 
 /// Does what the words say, on a cabinet in memory of the catalogue that it reads, with the document of the capabilities. A
-/// catalogue of no bytes is the built-in one. `schedule` runs the lines of the input and writes the answers; `drill` and a
-/// number runs the lines that the number makes, and writes a summary. `Usage` exactly where the words are neither; each
-/// other status comes as `Status` says.
+/// catalogue of no bytes is the built-in one. `schedule` runs the lines of the input and writes the answers; `replay` serves
+/// the input as the bytes of one connection and writes the responses; `drill` and a number runs the lines that the number
+/// makes, and writes a summary. `Usage` exactly where the words are none of these; each other status comes as `Status` says.
 pub fn run_command<S: Source, I: ByteSource, O: ByteSink>(
     alloc: Global,
     words: &[Words],
@@ -129,6 +151,7 @@ pub fn run_command<S: Source, I: ByteSource, O: ByteSink>(
         Word::Schedule => {
             status_of_schedule(run_schedule(alloc, &mut counter, source, input, output))
         }
+        Word::Replay => { status_of_session(replay(alloc, &mut counter, source, input, output)) }
         Word::Drill(number) => {
             status_of_drill(run_drill(alloc, &mut counter, source, number, output))
         }

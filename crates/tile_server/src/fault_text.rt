@@ -3,6 +3,7 @@ use crate::command::Status;
 use catalog::fault::CatalogueFault;
 use std::io;
 use std::io::Eprint;
+use tile_service::session::SessionEnd;
 
 /// The code of a status.
 pub fn code_of(status: Status) -> u8 {
@@ -14,6 +15,7 @@ pub fn code_of(status: Status) -> u8 {
         Status::WriteFault => 5,
         Status::Line(_) => 7,
         Status::OutOfMemory => 10,
+        Status::Stream(_) => 11,
         Status::TooLong => 12,
     }
 }
@@ -28,6 +30,7 @@ pub fn tell(rt: &impl Eprint, status: Status) {
         Status::WriteFault => eprintln!(rt; "write fault"),
         Status::Line(line) => eprintln!(rt; "line {line}"),
         Status::OutOfMemory => eprintln!(rt; "out of memory"),
+        Status::Stream(end) => tell_end(rt, end),
         Status::TooLong => eprintln!(rt; "too long"),
     };
 }
@@ -41,5 +44,18 @@ fn tell_fault(rt: &impl Eprint, fault: CatalogueFault) -> io::Result<()> {
         CatalogueFault::Duplicate(field, at) => eprintln!(rt; "catalogue duplicate {field:?} {at}"),
         CatalogueFault::Limit(field, at) => eprintln!(rt; "catalogue limit {field:?} {at}"),
         CatalogueFault::OutOfMemory => eprintln!(rt; "out of memory"),
+    }
+}
+
+/// Prints the line of a session that ended within its stream. The other ends have statuses of their own, and no line here.
+fn tell_end(rt: &impl Eprint, end: SessionEnd) -> io::Result<()> {
+    match end {
+        SessionEnd::Truncated => eprintln!(rt; "stream truncated"),
+        SessionEnd::Bad(status) => eprintln!(rt; "stream bad {status}"),
+        SessionEnd::TooMany => eprintln!(rt; "stream too many"),
+        SessionEnd::Closed
+        | SessionEnd::ReadFault
+        | SessionEnd::WriteFault
+        | SessionEnd::OutOfMemory => Ok(()),
     }
 }

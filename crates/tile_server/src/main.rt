@@ -1,4 +1,5 @@
-//! The program `tile_server`, a cache of map tiles.
+//! The program `tile_server`, a cache of map tiles. It runs the lines of a schedule, serves the bytes of a connection, or
+//! makes a schedule of its own, the drill.
 //!
 //! Promises: `run_command` does what its words say, and each of its statuses has its cause (`specs/Command.antt`). `main`
 //! is the trusted edge: it hands the process's words and streams to `run_command`, and tells its status.
@@ -8,8 +9,10 @@
 mod command;
 mod configured;
 mod described;
+mod duplex;
 mod fault_text;
 mod input;
+mod replay;
 mod serve_words;
 #[cfg(test)]
 mod tests;
@@ -33,6 +36,7 @@ use std::{env, io};
 
 const HELP: &str =
     "tile_server schedule < LINES    runs the lines of a schedule on a cabinet in memory of the catalogue in catalogue.json
+tile_server replay < BYTES      serves the bytes as those of one connection on such a cabinet, and writes the responses
 tile_server drill NUMBER        runs 4096 lines that the number makes on such a cabinet, and writes a summary
 ";
 

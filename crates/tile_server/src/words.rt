@@ -9,6 +9,8 @@ use wmts_kvp::number::{below, is_number};
 pub enum Word {
     /// The lines of the input are run.
     Schedule,
+    /// The input is served as the bytes of one connection.
+    Replay,
     /// The drill of this number is made and run.
     Drill(u32),
 }
@@ -36,6 +38,7 @@ pub fn word_of(words: &[Words]) -> Option<Word>
 {
     match words {
         [word] if word.bytes() == b"schedule".as_slice() => Some(Word::Schedule),
+        [word] if word.bytes() == b"replay".as_slice() => Some(Word::Replay),
         [word, digits] if word.bytes() == b"drill".as_slice() => {
             number_of(digits.bytes()).map(Word::Drill)
         }
