@@ -7,7 +7,7 @@ use http_wire::links::Link;
 use http_wire::streams::{ByteSink, ByteSource, Failed};
 use std::marker::{Brand, PhantomData};
 
-/// An input and an output that are lent and know nothing of each other.
+/// An input and an output, both lent, that know nothing of each other.
 #[derive(Drop)]
 pub struct Ends<'a, 'b, I, O> {
     pub input: &'a mut I,
@@ -15,7 +15,7 @@ pub struct Ends<'a, 'b, I, O> {
 }
 
 impl<I: ByteSource, O: ByteSink> Ends<'_, '_, I, O> {
-    /// Takes the next bytes of the input. The output stays, and both are lent by whom they were.
+    /// Takes the next bytes of the input, as `ByteSource::take` says. The output stays.
     fn take(&mut self, into: &mut [u8]) -> Result<usize, Failed>
         requires { 0 < length into.old }
         ensures bound { IfOk result (λ n. n ≤ length into.new) }
@@ -27,7 +27,7 @@ impl<I: ByteSource, O: ByteSink> Ends<'_, '_, I, O> {
         self.input.take(into)
     }
 
-    /// Puts bytes to the output. The input stays, and both are lent by whom they were.
+    /// Puts bytes to the output, as `ByteSink::put` says. The input stays.
     fn put(&mut self, bytes: &[u8]) -> Result<usize, Failed>
         requires { 0 < length bytes.now }
         ensures bound { IfOk result (λ n. (1 ≤ n) × (n ≤ length bytes.now)) }
@@ -40,7 +40,7 @@ impl<I: ByteSource, O: ByteSink> Ends<'_, '_, I, O> {
     }
 }
 
-/// Which input and which output a link has: the loans by name. Each call picks them.
+/// The loans of one input and of one output, by name. A call that is generic over them picks them in its proof.
 pub trait Loans {
     ghost use Rattle.std.specs.Borrow.{GName};
 
@@ -57,8 +57,8 @@ impl Loans for Brand {
     ghost output = { 0 };
 }
 
-/// A link of an input and an output. It has the two of `L` and never others, so that who lent them knows what became of
-/// them, whatever was done with the link.
+/// A link: what is taken comes from the input, what is put goes to the output. It has the two of `L` and never others, so that
+/// who lent them and hands on the link knows afterwards that it was they who were read and written.
 #[derive(Drop)]
 pub struct Duplex<'a, 'b, I, O, L: Loans> {
     ends: Ends<'a, 'b, I, O>,

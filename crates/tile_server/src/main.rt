@@ -3,7 +3,7 @@
 //!
 //! Promises: `run_command` does what its words say, and each of its statuses has its cause (`specs/Command.antt`). `main`
 //! is the trusted edge: it hands the process's words and streams to `run_command`, and tells its status.
-//! Stands on tile_service and the crates whose types its call names.
+//! Stands on tile_service, on `clap` for the words of the server, and on the crates whose types its call names.
 #![tactic(auto)]
 
 mod command;

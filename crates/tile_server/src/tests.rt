@@ -8,6 +8,7 @@ mod metatiles;
 mod paths;
 mod queries;
 mod serving;
+mod streams;
 
 use crate::command::{Status, run_command};
 use exact_ratio::words::Words;
