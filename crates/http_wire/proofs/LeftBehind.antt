@@ -1,5 +1,5 @@
 -- What an answer that is no message leaves: all the bytes, which stop as it says.
-use Rattle.std.proofs.Common.{◌≡◌, ℕ, ◌+◌, ◌<◌, List, [], ◌++◌, length, Option, Some, None, IfSome, sym, ap, subst, ◌∙◌, append_assoc, append-nil}
+use Rattle.std.proofs.Common.{◌≡◌, ℕ, ◌+◌, ◌<◌, List, [], ◌++◌, length, Option, Some, None, Result, Err, IfSome, sym, ap, subst, ◌∙◌, append_assoc, append-nil}
 use Rattle.std.specs.Io.KnownBytes.{Keeps, Consumes, IsAtEnd, prepend_known}
 use Rattle.std.proofs.KnownBytes.{Keeps-trans}
 use Rattle.httparse.specs.declared.spans.HeaderSpan.{HeaderSpan}
@@ -7,10 +7,12 @@ use Rattle.http_wire.specs.Messages.{IsBad, IsTruncated}
 use Rattle.http_wire.specs.Lines.{Extends}
 use Rattle.http_wire.specs.Looks.{SettlesStream}
 use Rattle.http_wire.specs.Outlines.{Outlines, IsOutline}
-use Rattle.http_wire.specs.Answers.{next_at, StaysAt, LeavesNext, Remain}
+use Rattle.http_wire.specs.Answers.{next_at, StaysAt, LeavesNext, LeavesFault, Leaves, Remain}
 use Rattle.http_wire.specs.declared.message.Stop.{Stop}
 use Rattle.http_wire.specs.declared.message.Stop.TheVariants.{End, Truncated, Bad}
 use Rattle.http_wire.specs.declared.message.Next.{Next}
+use Rattle.http_wire.specs.declared.message.WireFault.{WireFault}
+use Rattle.http_wire.specs.declared.message.WireFault.TheVariants.{ReadFault, OutOfMemory}
 use Rattle.http_wire.specs.declared.look.Found.{Found}
 use Rattle.http_wire.specs.declared.look.Found.TheVariants.{Stopped}
 use Rattle.http_wire.specs.declared.outline.Outline.{Outline}
@@ -26,8 +28,14 @@ taken_remain None after held bytes taken = ([], tt)
 taken_remain (Some x) None held bytes taken = absurd taken
 taken_remain (Some x) (Some y) held bytes taken = (held ++ bytes, append_assoc held bytes y ∙ ap (λ (l : List ℕ). held ++ l) (sym taken))
 
-pub remain_more : (before now left : Option (List ℕ)) → Keeps before now → Remain now left → Remain before left
-remain_more before now left k r = (r.0, Keeps-trans before now (prepend_known r.0 left) k r.1)
+-- the bytes had stayed up to there
+pub fault_before : (before now left : Option (List ℕ)) (held : List ℕ) (fault : WireFault) → Keeps before now → LeavesFault now held left fault → LeavesFault before held left fault
+fault_before before now left held ReadFault k stays = Keeps-trans before now (prepend_known held left) k stays
+fault_before before now left held OutOfMemory k r = (r.0, Keeps-trans before now (prepend_known r.0 left) k r.1)
+
+-- a fault that is handed on
+pub fault_leaves : (before left : Option (List ℕ)) (held : List ℕ) (fault told : WireFault) (answer : Result Next WireFault) → answer ≡ Err told → told ≡ fault → LeavesFault before held left fault → Leaves before held left answer
+fault_leaves before left held fault told answer is same leaves = rw is (rw same leaves)
 
 -- STOPS
 

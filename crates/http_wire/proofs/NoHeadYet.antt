@@ -55,7 +55,7 @@ head_has_token h rest bytes n reads long blank =
 -- ---- more bytes, and still no head
 
 -- a head within the old bytes stands there already
-head_within : (old more : List ℕ) (h : RequestHead) (rest : List ℕ) → ReadsRequest (old ++ more) h rest → length (print_request h) ≤ length old → (r : List ℕ) × ReadsRequest old h r
+pub head_within : (old more : List ℕ) (h : RequestHead) (rest : List ℕ) → ReadsRequest (old ++ more) h rest → length (print_request h) ≤ length old → (r : List ℕ) × ReadsRequest old h r
 head_within old more h rest reads short =
     let n = length (print_request h) in
     let same : take n old ≡ print_request h = sym (take-append-le n old more short) ∙ ap (take n) reads.1 ∙ take_at (print_request h) rest n refl in

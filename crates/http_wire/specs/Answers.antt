@@ -1,11 +1,12 @@
 -- What a reader of messages answers.
-use Rattle.std.specs.Prelude.{ℕ, List, Option, Some, None, IfSome, Result, Ok, Err, ⊤}
+use Rattle.std.specs.Prelude.{◌≡◌, ℕ, ◌<◌, List, length, Option, Some, None, IfSome, Result, Ok, Err, ⊤}
 use Rattle.std.specs.Io.KnownBytes.{Keeps, prepend_known}
 use Rattle.http_wire.specs.Messages.{IsNext, StopsAs}
 use Rattle.http_wire.specs.declared.message.Message.{Message}
 use Rattle.http_wire.specs.declared.message.Next.{Next}
 use Rattle.http_wire.specs.declared.message.Next.TheVariants as nexts
 use Rattle.http_wire.specs.declared.message.WireFault.{WireFault}
+use Rattle.http_wire.specs.declared.message.WireFault.TheVariants.{ReadFault, OutOfMemory}
 use Rattle.http_wire.specs.declared.message.Stop.{Stop}
 use Rattle.http_wire.specs.declared.message.Stop.TheVariants.{End, Truncated, Bad}
 use Rattle.http_wire.specs.declared.message.Ended.{Ended}
@@ -67,7 +68,22 @@ LeavesNext before after (nexts.Bad status) = StaysAt before after (Bad status)
 abbrev pub Remain : Option (List ℕ) → Option (List ℕ) → Type 0
 Remain before left = (taken : List ℕ) × Keeps before (prepend_known taken left)
 
+-- at a failed read the bytes stay; where memory ran out, those that were taken may be lost
+abbrev pub LeavesFault : Option (List ℕ) → List ℕ → Option (List ℕ) → WireFault → Type 0
+LeavesFault before held left ReadFault = Keeps before (prepend_known held left)
+LeavesFault before held left OutOfMemory = Remain before left
+
 -- An answer that is no message takes no byte out of the stream.
 abbrev pub Leaves : Option (List ℕ) → List ℕ → Option (List ℕ) → Result Next WireFault → Type 0
 Leaves before held left (Ok next) = LeavesNext before (prepend_known held left) next
-Leaves before held left (Err fault) = Remain before left
+Leaves before held left (Err fault) = LeavesFault before held left fault
+
+-- WHAT IS TAKEN TOO EARLY
+
+-- the bytes are fewer than one take may bring
+abbrev pub IsPartOfTake : List ℕ → Type 0
+IsPartOfTake held = length held < 4096
+
+-- the answer is a message
+abbrev pub IsMessage : Result Next WireFault → Type 0
+IsMessage answer = (message : Message) × (answer ≡ Ok (nexts.Message message))

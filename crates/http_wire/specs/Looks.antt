@@ -1,5 +1,5 @@
 -- What a look at the bytes so far says of the stream.
-use Rattle.std.specs.Prelude.{ℕ, ◌<◌, List, ◌++◌, length, Option, Some, None, IfSome}
+use Rattle.std.specs.Prelude.{ℕ, ◌+◌, ◌<◌, ◌≤◌, List, ◌++◌, length, take, Option, Some, None, IfSome}
 use Rattle.httparse.specs.Grammar.{RequestHead, HasNoRequest, NeverHasRequest, MayBecomeRequest}
 use Rattle.httparse.specs.Spans.{IsRequestOf, IsRequestWithin, RequestExceeds}
 use Rattle.httparse.specs.declared.spans.HeaderSpan.{HeaderSpan}
@@ -19,6 +19,12 @@ LooksAs bytes room headers TooMany = RequestExceeds room bytes
 -- a whole head stands at the front
 abbrev pub HoldsHead : List ℕ → Type 0
 HoldsHead held = (head : RequestHead) × (rest : List ℕ) × BeginsWith held head rest
+
+-- no whole head stood in the bytes before the last of them were taken, 4,096 at most
+pub record HadNoHead (held : List ℕ) : Type 0 where
+  pub seen : ℕ
+  pub last : length held ≤ seen + 4096
+  pub none : HasNoRequest (take seen held)
 
 -- a head may still come, and has room
 pub record MayHaveHead (held : List ℕ) : Type 0 where

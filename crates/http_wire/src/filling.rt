@@ -1,28 +1,32 @@
-ghost use Rattle.std.specs.Prelude.{◌≡◌, ◌≤◌, ◌<◌, true, false, max, IfOk, OnOk, OnErr, length};
+ghost use Rattle.std.specs.Prelude.{◌≡◌, ◌≤◌, ◌<◌, ◌+◌, ◌⊎◌, true, false, max, IfOk, IfErr, OnOk, OnErr, length};
 ghost use Rattle.std.specs.Io.KnownBytes.{prepend_known, Keeps, IsAtEnd};
 ghost use Rattle.http_wire.specs.ReadCause.{HasReadCause};
 ghost use Rattle.httparse.specs.Grammar.{HasNoRequest};
-ghost use Rattle.http_wire.specs.Answers.{Remain};
+ghost use Rattle.http_wire.specs.Answers.{LeavesFault};
 ghost use Rattle.http_wire.specs.Lines.{is_line_byte, IsBlankUpTo, HasNoLineEnd, Extends};
-ghost use Rattle.http_wire.specs.Looks.{HoldsHead, MayHaveHead, SettlesStream};
+ghost use Rattle.http_wire.specs.Looks.{HadNoHead, HoldsHead, MayHaveHead, SettlesStream};
 
 use crate::look::{Found, HEAD_LIMIT, at_end, step};
 use crate::message::WireFault;
 use crate::streams::ByteSource;
 use httparse::spans::HeaderSpan;
 
+/// How many bytes are taken at a time, at most.
+pub const TAKE_SIZE: usize = 4096;
+
 /// Takes more bytes behind those that are held; false at the end of the source.
 fn take_more<S: ByteSource>(held: &mut Vec<u8>, source: &mut S) -> Result<bool, WireFault>
     ensures stream { OnOk result (Keeps (prepend_known held.old.items (S.left source.old)) (prepend_known held.new.items (S.left source.new))) }
-    ensures remain { OnErr result (Remain (prepend_known held.old.items (S.left source.old)) (S.left source.new)) }
+    ensures leaves { IfErr result (LeavesFault (prepend_known held.old.items (S.left source.old)) held.new.items (S.left source.new)) }
     ensures grows { IfOk result (λ more. more ≡ true → length held.old.items < length held.new.items) }
     ensures ends { IfOk result (λ more. more ≡ false → IsAtEnd (S.left source.new) × (held.new.items ≡ held.old.items)) }
     ensures extends { OnOk result (Extends held.old.items held.new.items) }
+    ensures few { length held.new.items ≤ length held.old.items + 4096 }
     ensures kept { OnErr result (held.new.items ≡ held.old.items) }
     ensures cause { HasReadCause (S.faults source.old) (S.faults source.new) result }
     ensures apart { S.apart source.new ≡ S.apart source.old }
 {
-    let mut chunk = [0; 4096];
+    let mut chunk = [0; TAKE_SIZE];
     let Ok(count) = source.take(&mut chunk) else {
         return Err(WireFault::ReadFault);
     };
@@ -78,9 +82,10 @@ fn may_end_head(held: &[u8], from: usize, blank: usize) -> bool
 /// read in a time that grows with their number alone.
 fn take_line<S: ByteSource>(held: &mut Vec<u8>, source: &mut S) -> Result<bool, WireFault>
     ensures stream { OnOk result (Keeps (prepend_known held.old.items (S.left source.old)) (prepend_known held.new.items (S.left source.new))) }
-    ensures remain { OnErr result (Remain (prepend_known held.old.items (S.left source.old)) (S.left source.new)) }
+    ensures leaves { IfErr result (LeavesFault (prepend_known held.old.items (S.left source.old)) held.new.items (S.left source.new)) }
     ensures grows { IfOk result (λ more. more ≡ true → length held.old.items < length held.new.items) }
     ensures ends { IfOk result (λ more. more ≡ false → IsAtEnd (S.left source.new) × (held.new.items ≡ held.old.items)) }
+    ensures late { IfOk result (λ more. more ≡ true → HasNoRequest held.old.items → HadNoHead held.new.items) }
     ensures waits { OnErr result (HasNoRequest held.old.items → HasNoRequest held.new.items) }
     ensures cause { HasReadCause (S.faults source.old) (S.faults source.new) result }
     ensures apart { S.apart source.new ≡ S.apart source.old }
@@ -110,8 +115,9 @@ fn read_on<S: ByteSource>(
     requires room { length headers.old ≡ 64 }
     requires unsettled { MayHaveHead held.old.items }
     ensures stream { OnOk result (Keeps (prepend_known held.old.items (S.left source.old)) (prepend_known held.new.items (S.left source.new))) }
-    ensures remain { OnErr result (Remain (prepend_known held.old.items (S.left source.old)) (S.left source.new)) }
+    ensures leaves { IfErr result (LeavesFault (prepend_known held.old.items (S.left source.old)) held.new.items (S.left source.new)) }
     ensures found { IfOk result (λ found. SettlesStream held.new.items headers.new (prepend_known held.new.items (S.left source.new)) found) }
+    ensures late { OnOk result (HadNoHead held.new.items) }
     ensures waits { OnErr result (HasNoRequest held.new.items) }
     ensures cause { HasReadCause (S.faults source.old) (S.faults source.new) result }
     ensures apart { S.apart source.new ≡ S.apart source.old }
@@ -134,9 +140,10 @@ pub fn read_head<S: ByteSource>(
 ) -> Result<Found, WireFault>
     requires { length headers.old ≡ 64 }
     ensures stream { OnOk result (Keeps (prepend_known held.old.items (S.left source.old)) (prepend_known held.new.items (S.left source.new))) }
-    ensures remain { OnErr result (Remain (prepend_known held.old.items (S.left source.old)) (S.left source.new)) }
+    ensures leaves { IfErr result (LeavesFault (prepend_known held.old.items (S.left source.old)) held.new.items (S.left source.new)) }
     ensures found { IfOk result (λ found. SettlesStream held.new.items headers.new (prepend_known held.new.items (S.left source.new)) found) }
     ensures untouched { HoldsHead held.old.items → (source.new ≡ source.old) × (held.new ≡ held.old) }
+    ensures late { OnOk result ((held.new.items ≡ held.old.items) ⊎ HadNoHead held.new.items) }
     ensures waits { OnErr result (HasNoRequest held.new.items) }
     ensures cause { HasReadCause (S.faults source.old) (S.faults source.new) result }
     ensures apart { S.apart source.new ≡ S.apart source.old }
@@ -154,11 +161,12 @@ pub fn read_up_to<S: ByteSource>(
     need: usize,
 ) -> Result<bool, WireFault>
     ensures stream { OnOk result (Keeps (prepend_known held.old.items (S.left source.old)) (prepend_known held.new.items (S.left source.new))) }
-    ensures remain { OnErr result (Remain (prepend_known held.old.items (S.left source.old)) (S.left source.new)) }
+    ensures leaves { IfErr result (LeavesFault (prepend_known held.old.items (S.left source.old)) held.new.items (S.left source.new)) }
     ensures whole { IfOk result (λ whole. whole ≡ true → need ≤ length held.new.items) }
     ensures short { IfOk result (λ whole. whole ≡ false → IsAtEnd (S.left source.new) × (length held.new.items < need)) }
     ensures untouched { need ≤ length held.old.items → source.new ≡ source.old }
     ensures extends { Extends held.old.items held.new.items }
+    ensures few { length held.new.items ≤ max (length held.old.items) (need + 4095) }
     ensures waits { OnErr result (length held.new.items < need) }
     ensures cause { HasReadCause (S.faults source.old) (S.faults source.new) result }
     ensures apart { S.apart source.new ≡ S.apart source.old }

@@ -1,6 +1,6 @@
 ghost use Rattle.std.specs.Prelude.{◌≡◌, ◌≤◌, ◌+◌, length, take, drop, IfOk, OnErr};
 ghost use Rattle.std.specs.Io.KnownBytes.{prepend_known};
-ghost use Rattle.http_wire.specs.Answers.{Answers, Leaves, next_at, again_of, ended_of};
+ghost use Rattle.http_wire.specs.Answers.{Answers, IsMessage, IsPartOfTake, Leaves, next_at, again_of, ended_of};
 ghost use Rattle.http_wire.specs.ReadCause.{HasReadCause};
 ghost use Rattle.http_wire.specs.Messages.{HoldsMessage};
 
@@ -70,6 +70,7 @@ pub fn next_of<S: ByteSource>(
 ) -> Result<Next, WireFault>
     ensures answers { Answers (prepend_known held.old.items (S.left source.old)) (prepend_known held.new.items (S.left source.new)) result }
     ensures leaves { Leaves (prepend_known held.old.items (S.left source.old)) held.new.items (S.left source.new) result }
+    ensures surplus { IsMessage result → IsPartOfTake held.old.items → IsPartOfTake held.new.items }
     ensures untouched { HoldsMessage held.old.items → source.new ≡ source.old }
     ensures waits { result ≡ Err WireFault.ReadFault → ¬ (HoldsMessage held.new.items) }
     ensures cause { HasReadCause (S.faults source.old) (S.faults source.new) result }

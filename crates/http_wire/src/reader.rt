@@ -1,9 +1,10 @@
 ghost use Rattle.std.specs.Prelude.{◌≡◌, [], None, IfOk, IfSome};
-ghost use Rattle.http_wire.specs.Answers.{Answers, Leaves, again_of, ended_of};
+ghost use Rattle.http_wire.specs.Answers.{Answers, IsMessage, IsPartOfTake, Leaves, again_of, ended_of};
 ghost use Rattle.http_wire.specs.ReadCause.{HasReadCause};
 ghost use Rattle.http_wire.specs.Messages.{HoldsMessage};
 ghost use Rattle.http_wire.specs.Reader.{stream};
 
+use crate::filling::TAKE_SIZE;
 use crate::links::Link;
 use crate::message::{Ended, Next, WireFault};
 use crate::next_message::{again, ended_by, next_of};
@@ -32,7 +33,7 @@ impl MessageReader {
         ensures { IfOk result (λ reader. reader ≡ record { held = []; ended = None }) }
     {
         Ok(MessageReader {
-            held: Vec::with_capacity(alloc, 4096)?,
+            held: Vec::with_capacity(alloc, TAKE_SIZE)?,
             ended: None,
         })
     }
@@ -43,11 +44,13 @@ impl MessageReader {
     pub fn next<L: Link>(&mut self, alloc: Global, link: &mut L) -> Result<Next, WireFault>
         // The answer is what stands next in the bytes that are held and those that are left.
         ensures answers { self.old.ended ≡ None → Answers (stream self.old (L.left link.old)) (stream self.new (L.left link.new)) result }
-        // An answer that is no message takes no byte out of the stream, which at a stop stops so.
+        // An answer that is no message takes no byte out of the stream, which at a stop stops so. Want of memory alone may lose some.
         ensures leaves { self.old.ended ≡ None → Leaves (stream self.old (L.left link.old)) self.new.held (L.left link.new) result }
         // How it has ended is kept, and answered again.
         ensures ends { self.old.ended ≡ None → self.new.ended ≡ ended_of result }
         ensures again { IfSome self.old.ended (λ ended. (result ≡ again_of ended) × (self.new ≡ self.old) × (link.new ≡ link.old)) }
+        // Of the bytes behind a message it holds fewer than one take may bring: once the message is whole it takes none.
+        ensures surplus { self.old.ended ≡ None → IsMessage result → IsPartOfTake self.old.held → IsPartOfTake self.new.held }
         // A whole message waits for no further byte: held before, it leaves the link untouched, and no fault comes before it.
         ensures untouched { self.old.ended ≡ None → HoldsMessage self.old.held → link.new ≡ link.old }
         ensures waits { self.old.ended ≡ None → result ≡ Err WireFault.ReadFault → ¬ (HoldsMessage self.new.held) }

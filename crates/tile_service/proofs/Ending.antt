@@ -4,12 +4,15 @@ use Rattle.std.specs.Io.KnownBytes.{Appends, Keeps, prepend_known}
 use Rattle.std.proofs.lemmas.List.{length-append}
 use Rattle.cabinet.specs.State.{State}
 use Rattle.causes.specs.Causes.{Rose}
-use Rattle.http_wire.specs.Answers.{Remain, StaysAt, LeavesNext}
+use Rattle.http_wire.specs.Answers.{IsPartOfTake, Remain, StaysAt, LeavesNext, LeavesFault}
+use Rattle.http_wire.specs.Messages.{HoldsMessage}
 use Rattle.http_wire.specs.Streams.{Stand, StandIn}
 use Rattle.http_wire.specs.declared.message.Message.{Message}
 use Rattle.http_wire.specs.declared.message.Next.{Next}
 use Rattle.http_wire.specs.declared.message.Next.TheVariants as nexts
 use Rattle.http_wire.specs.declared.message.Stop.TheVariants as stop
+use Rattle.http_wire.specs.declared.message.WireFault.{WireFault}
+use Rattle.http_wire.specs.declared.message.WireFault.TheVariants as faults
 use Rattle.tile_service.specs.declared.session.SessionEnd.{SessionEnd}
 use Rattle.tile_service.specs.declared.session.SessionEnd.TheVariants.{Closed, Truncated, Bad, ReadFault, WriteFault, TooMany, OutOfMemory}
 use Rattle.tile_service.specs.Outside.{Input, Outside}
@@ -33,6 +36,13 @@ stand_kept (Some x) None c ms s k = absurd s
 stand_kept (Some x) (Some y) None ms s k = absurd k
 stand_kept (Some x) (Some y) (Some z) ms s k = subst (Stand x ms) (sym k) s
 
+-- what a fault of the reader left
+pub stays_there : (here left : Option (List ℕ)) (held : List ℕ) (fault : WireFault) → fault ≡ faults.ReadFault → LeavesFault here held left fault → Keeps here (prepend_known held left)
+stays_there here left held fault is leaves = subst (LeavesFault here held left) is leaves
+
+pub remain_there : (here left : Option (List ℕ)) (held : List ℕ) (fault : WireFault) → fault ≡ faults.OutOfMemory → LeavesFault here held left fault → Remain here left
+remain_there here left held fault is leaves = subst (LeavesFault here held left) is leaves
+
 -- no memory was there to read at all
 pub unbegun : (told : Option ℕ) (count rb wb : ℕ) (document : List ℕ) (s : State) (from empty : Option (List ℕ)) → HasSession (input rb rb from from) (outside told count count wb wb empty empty) document s s OutOfMemory
 unbegun told count rb wb document s from empty =
@@ -55,7 +65,7 @@ module _ (told : Option ℕ) (before now rb ra wb wa : ℕ) (document : List ℕ
   go_on = record { all_open = f.all_open; few = let e = f.served.many in omega arith }
 
   -- the session has ended so
-  ended : (end : SessionEnd) (held : List ℕ) → Keeps here (prepend_known held to) → Ends (input rb ra from to) (outside told before now wb wa empty out) f.messages (prepend_known held to) (replies f.answers) end → HasEnded end
+  ended : (end : SessionEnd) (held : List ℕ) → Keeps here (prepend_known held to) → Ends (input rb ra from to) (outside told before now wb wa empty out) f.messages held (prepend_known held to) (replies f.answers) end → HasEnded end
   ended end held k ends =
       record {
         messages = f.messages;
@@ -90,26 +100,26 @@ module _ (told : Option ℕ) (before now rb ra wb wa : ℕ) (document : List ℕ
         let k : StaysAt here (prepend_known held to) (stop.Bad status) = subst stays is leaves in
         ended WriteFault held k.0 (replies f.answers ++ bad_text status, inr (status, go_on, k.1, refl), rose, front_second empty written out (replies f.answers) (bad_text status) f.text wrote)
 
-  -- nothing could be read
-  pub unread_there : Remain here to → Rose rb ra → out ≡ written → HasEnded ReadFault
-  unread_there remain rose e = ended ReadFault remain.0 remain.1 (go_on, rose, same_text e)
+  -- a read failed, before a message had come whole
+  pub unread_there : (held : List ℕ) → Keeps here (prepend_known held to) → ¬ (HoldsMessage held) → Rose rb ra → out ≡ written → HasEnded ReadFault
+  unread_there held k none rose e = ended ReadFault held k (go_on, none, rose, same_text e)
 
   pub short_there : Remain here to → out ≡ written → HasEnded OutOfMemory
   short_there remain e = ended OutOfMemory remain.0 remain.1 (go_on, same_text e)
 
 -- BEHIND A MESSAGE
 
-module _ (told : Option ℕ) (before now rb ra wb wa : ℕ) (document : List ℕ) (s t : State) (from to empty out : Option (List ℕ)) (held : List ℕ) (n : ℕ) (m : Message) (few : n < 10000) where
+module _ (told : Option ℕ) (before now rb ra wb wa : ℕ) (document : List ℕ) (s t : State) (from to empty out : Option (List ℕ)) (held : List ℕ) (n : ℕ) (m : Message) (few : n < 10000) (part : IsPartOfTake held) where
   abbrev HasEndedBehind : SessionEnd → Type 0
   HasEndedBehind end = HasSession (input rb ra from to) (outside told before now wb wa empty out) document s t end
 
   abbrev IsAnsweredHere : Type 0
   IsAnsweredHere = IsAnswered told before now document s t from (prepend_known held to) n m
 
-  go_before : (a : IsAnsweredHere) → GoBefore (a.earlier ++ m ∷ []) m
-  go_before a = record { before = a.earlier; whole = refl; go_on = record { all_open = a.all_open; few = let e = a.many in omega arith } }
+  go_before : (a : IsAnsweredHere) → GoBefore (a.earlier ++ m ∷ []) held m
+  go_before a = record { before = a.earlier; whole = refl; go_on = record { all_open = a.all_open; few = let e = a.many in omega arith }; looks_no_further = part }
 
-  ended_behind : (a : IsAnsweredHere) (end : SessionEnd) → Ends (input rb ra from to) (outside told before now wb wa empty out) (a.earlier ++ m ∷ []) (prepend_known held to) (replies a.answers) end → HasEndedBehind end
+  ended_behind : (a : IsAnsweredHere) (end : SessionEnd) → Ends (input rb ra from to) (outside told before now wb wa empty out) (a.earlier ++ m ∷ []) held (prepend_known held to) (replies a.answers) end → HasEndedBehind end
   ended_behind a end ends =
       record {
         messages = a.earlier ++ m ∷ [];
@@ -139,9 +149,9 @@ one_behind (x ∷ y ∷ messages) some all =
     let later = one_behind (y ∷ messages) (omega arith) all.1 in
     (x ∷ later.0, later.1, rw later.2 refl, (all.0, later.3), later.4)
 
-pub too_many : (told : Option ℕ) (before now rb ra wb wa : ℕ) (document : List ℕ) (s t : State) (from to empty out : Option (List ℕ)) (held : List ℕ) (n : ℕ) → n ≡ 10000 → IsUnderWay told before now document s t from (prepend_known held to) empty out n
+pub too_many : (told : Option ℕ) (before now rb ra wb wa : ℕ) (document : List ℕ) (s t : State) (from to empty out : Option (List ℕ)) (held : List ℕ) (n : ℕ) → n ≡ 10000 → IsPartOfTake held → IsUnderWay told before now document s t from (prepend_known held to) empty out n
     → HasSession (input rb ra from to) (outside told before now wb wa empty out) document s t TooMany
-too_many told before now rb ra wb wa document s t from to empty out held n all f =
+too_many told before now rb ra wb wa document s t from to empty out held n all part f =
     let many = f.served.many in
     let last = one_behind f.messages (omega arith) f.all_open in
     let count : length f.messages ≡ length last.0 + 1 = ap (λ (xs : List Message). length xs) last.2 ∙ length-append last.0 (last.1 ∷ []) in
@@ -151,5 +161,5 @@ too_many told before now rb ra wb wa document s t from to empty out held n all f
       held = held;
       stand = f.stand;
       served = is_served told (record { before = before; after = now }) document s t f.messages f.answers n f.served;
-      ends = (last.1, record { before = last.0; whole = last.2; go_on = record { all_open = last.3; few = omega arith } }, last.4, omega arith, f.text);
+      ends = (last.1, record { before = last.0; whole = last.2; go_on = record { all_open = last.3; few = omega arith }; looks_no_further = part }, last.4, omega arith, f.text);
     }

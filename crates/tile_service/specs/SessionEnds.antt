@@ -7,7 +7,8 @@ use Rattle.causes.specs.Causes.{Rose}
 use Rattle.http_wire.specs.declared.message.Message.{Message}
 use Rattle.http_wire.specs.declared.message.Stop.{Stop}
 use Rattle.http_wire.specs.declared.message.Stop.TheVariants as stop
-use Rattle.http_wire.specs.Messages.{StopsAs}
+use Rattle.http_wire.specs.Answers.{IsPartOfTake}
+use Rattle.http_wire.specs.Messages.{HoldsMessage, StopsAs}
 use Rattle.http_wire.specs.Streams.{StandIn}
 use Rattle.tile_service.specs.declared.session.SessionEnd.{SessionEnd}
 use Rattle.tile_service.specs.declared.session.SessionEnd.TheVariants.{Closed, Truncated, Bad, ReadFault, WriteFault, TooMany, OutOfMemory}
@@ -27,11 +28,13 @@ pub record GoOn (messages : List Message) : Type 0 where
   pub all_open : AreOpen messages
   pub few : length messages < 10000
 
--- behind these messages the session ends: the last of them is the last of its connection, or the 10,000th
-pub record GoBefore (messages : List Message) (last : Message) : Type 0 where
+-- Behind these messages the session ends: the last of them is the last of its connection, or the 10,000th. No further one is
+-- looked for: the bytes that were taken behind the last came with it, as a part of one take.
+pub record GoBefore (messages : List Message) (held : List ℕ) (last : Message) : Type 0 where
   pub before : List Message
   pub whole : messages ≡ before ++ last ∷ []
   pub go_on : GoOn before
+  pub looks_no_further : IsPartOfTake held
 
 -- where these bytes are told, a stream of them stops so
 abbrev pub StopsThere : Option (List ℕ) → Stop → Type 0
@@ -40,24 +43,25 @@ StopsThere bytes s = IfSome bytes (λ known. StopsAs known s)
 -- THE ENDS
 
 -- the last message was answered, and the connection was to be closed, or the stream ended behind the messages
-abbrev pub IsClosed : List Message → Option (List ℕ) → Type 0
-IsClosed messages rest = ((m : Message) × GoBefore messages m × (m.last ≡ true)) ⊎ (GoOn messages × StopsThere rest stop.End)
+abbrev pub IsClosed : List Message → List ℕ → Option (List ℕ) → Type 0
+IsClosed messages held rest = ((m : Message) × GoBefore messages held m × (m.last ≡ true)) ⊎ (GoOn messages × StopsThere rest stop.End)
 
 -- a text of which not all went out: the replies up to that to the last message, or these and the answer to bytes that are no
 -- message
-abbrev pub IsCutOff : List Message → Option (List ℕ) → List ℕ → List ℕ → Type 0
-IsCutOff messages rest text whole =
-    ((m : Message) × GoBefore messages m × (whole ≡ text)) ⊎ ((status : ℕ) × GoOn messages × StopsThere rest (stop.Bad status) × (whole ≡ text ++ bad_text status))
+abbrev pub IsCutOff : List Message → List ℕ → Option (List ℕ) → List ℕ → List ℕ → Type 0
+IsCutOff messages held rest text whole =
+    ((m : Message) × GoBefore messages held m × (whole ≡ text)) ⊎ ((status : ℕ) × GoOn messages × StopsThere rest (stop.Bad status) × (whole ≡ text ++ bad_text status))
 
--- how a session ended behind these messages, to which this is the text of the replies, and before this rest of the stream
-abbrev pub Ends : Input → Outside → List Message → Option (List ℕ) → List ℕ → SessionEnd → Type 0
-Ends i o messages rest text Closed = IsClosed messages rest × Appends o.from o.to text
-Ends i o messages rest text Truncated = GoOn messages × StopsThere rest stop.Truncated × Appends o.from o.to text
-Ends i o messages rest text (Bad status) = GoOn messages × StopsThere rest (stop.Bad status) × Appends o.from o.to (text ++ bad_text status)
-Ends i o messages rest text TooMany = (m : Message) × GoBefore messages m × (m.last ≡ false) × (length messages ≡ 10000) × Appends o.from o.to text
-Ends i o messages rest text ReadFault = GoOn messages × Rose i.reads.before i.reads.after × Appends o.from o.to text
-Ends i o messages rest text OutOfMemory = GoOn messages × Appends o.from o.to text
-Ends i o messages rest text WriteFault = (whole : List ℕ) × IsCutOff messages rest text whole × Rose o.writes.before o.writes.after × AppendsFront o.from o.to whole
+-- How a session ended behind these messages, to which this is the text of the replies. Behind them stand the bytes that are
+-- held, then those that are left: this rest of the stream. A read that failed kept no message waiting that had come whole.
+abbrev pub Ends : Input → Outside → List Message → List ℕ → Option (List ℕ) → List ℕ → SessionEnd → Type 0
+Ends i o messages held rest text Closed = IsClosed messages held rest × Appends o.from o.to text
+Ends i o messages held rest text Truncated = GoOn messages × StopsThere rest stop.Truncated × Appends o.from o.to text
+Ends i o messages held rest text (Bad status) = GoOn messages × StopsThere rest (stop.Bad status) × Appends o.from o.to (text ++ bad_text status)
+Ends i o messages held rest text TooMany = (m : Message) × GoBefore messages held m × (m.last ≡ false) × (length messages ≡ 10000) × Appends o.from o.to text
+Ends i o messages held rest text ReadFault = GoOn messages × ¬ (HoldsMessage held) × Rose i.reads.before i.reads.after × Appends o.from o.to text
+Ends i o messages held rest text OutOfMemory = GoOn messages × Appends o.from o.to text
+Ends i o messages held rest text WriteFault = (whole : List ℕ) × IsCutOff messages held rest text whole × Rose o.writes.before o.writes.after × AppendsFront o.from o.to whole
 
 -- A session was held over a link, by a cabinet that came from s to t. Its messages stand at the front of the bytes that were
 -- left, where those are told; behind them stand bytes that were taken from the link too early, and those that are left now.
@@ -67,4 +71,4 @@ pub record HasSession (i : Input) (o : Outside) (document : List ℕ) (s t : Sta
   pub held : List ℕ
   pub stand : StandIn i.from messages (prepend_known held i.to)
   pub served : IsServed o.told o.renders document s t messages answers
-  pub ends : Ends i o messages (prepend_known held i.to) (replies answers) end
+  pub ends : Ends i o messages held (prepend_known held i.to) (replies answers) end

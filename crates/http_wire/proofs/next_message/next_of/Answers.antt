@@ -1,8 +1,10 @@
 use Rattle.std.proofs.Common.{refl, ap, ◌∙◌, ◌++◌}
 use Rattle.std.proofs.lemmas.Result.{err_from_is_err_and}
+use Rattle.std.proofs.KnownBytes.{Keeps-trans}
 use Rattle.http_wire.proofs.AnswersFound.{stop_answers, refused_answers, good_outline, truncated_answers, message_answers}
-use Rattle.http_wire.proofs.LeftBehind.{remain_more, stop_leaves, refused_leaves, truncated_leaves}
+use Rattle.http_wire.proofs.LeftBehind.{fault_before, fault_leaves, stop_leaves, refused_leaves, truncated_leaves}
 use Rattle.http_wire.proofs.HeadAtFront.{whole_message, no_message_none, no_message_short}
+use Rattle.http_wire.proofs.Surplus.{part_of_take}
 use Rattle.http_wire.proofs.next_message.next_of.Goals as goal
 
 pub returns-in-Stopped-clause-answers : goal.returns-in-Stopped-clause-answers
@@ -55,7 +57,7 @@ returns-in_err-read_up_to-clause-waits g c =
     λ _ holds. no_message_short _ _ _ _ c.as_slice.ensures.value (good_outline _ _ _ _ c.in-Ok-Good.ensures refl c.in-Ok-Good.field-0-is) c.read_up_to.ensures.extends c.in_err-read_up_to.ensures.waits holds
 
 pub returns-in_err-spans-clause-leaves : goal.returns-in_err-spans-clause-leaves
-returns-in_err-spans-clause-leaves g c = let p = err_from_is_err_and c.from_residual.result c.from_residual.ensures.1 in rw p.1 c.in_err-spans.ensures.remain
+returns-in_err-spans-clause-leaves g c = let p = err_from_is_err_and c.from_residual.result c.from_residual.ensures.1 in fault_leaves _ _ _ _ _ _ p.1 p.2 c.in_err-spans.ensures.leaves
 
 pub returns-in-Stopped-clause-leaves : goal.returns-in-Stopped-clause-leaves
 returns-in-Stopped-clause-leaves g c = stop_leaves _ _ _ _ _ _ _ c.in_ok-spans.ensures.stream c.in_ok-spans.ensures.found c.in-Stopped.is c.answer_at.ensures
@@ -64,8 +66,17 @@ pub returns-in-Ok-Refused-clause-leaves : goal.returns-in-Ok-Refused-clause-leav
 returns-in-Ok-Refused-clause-leaves g c = refused_leaves _ _ _ _ _ _ c.in_ok-spans.ensures.stream c.in-Ok-Refused.ensures c.as_slice.ensures.value c.in-Ok-Refused.field-0-is
 
 pub returns-in_err-read_up_to-clause-leaves : goal.returns-in_err-read_up_to-clause-leaves
-returns-in_err-read_up_to-clause-leaves g c = let p = err_from_is_err_and c.from_residual-in_err-read_up_to.result c.from_residual-in_err-read_up_to.ensures.1 in rw p.1 (remain_more _ _ _ c.in_ok-spans.ensures.stream c.in_err-read_up_to.ensures.remain)
+returns-in_err-read_up_to-clause-leaves g c = let p = err_from_is_err_and c.from_residual-in_err-read_up_to.result c.from_residual-in_err-read_up_to.ensures.1 in fault_leaves _ _ _ _ _ _ p.1 p.2 (fault_before _ _ _ _ _ c.in_ok-spans.ensures.stream c.in_err-read_up_to.ensures.leaves)
+
+-- the bytes that were taken, and found no room as a body
+pub returns-in_default-clause-leaves : goal.returns-in_default-clause-leaves
+returns-in_default-clause-leaves g c = (c.read_up_to.new.held.items, Keeps-trans _ _ _ c.in_ok-spans.ensures.stream c.in_ok-read_up_to.ensures.stream)
 
 pub returns-then-not-branch-clause-leaves : goal.returns-then-not-branch-clause-leaves
 returns-then-not-branch-clause-leaves g c =
     truncated_leaves _ _ _ _ _ _ c.in_ok-spans.ensures.stream (good_outline _ _ _ _ c.in-Ok-Good.ensures c.as_slice.ensures.value c.in-Ok-Good.field-0-is) c.in_ok-read_up_to.ensures.stream c.read_up_to.ensures.extends (c.in_ok-read_up_to.ensures.short c.if-not-branch.true)
+
+pub returns-clause-surplus : goal.returns-clause-surplus
+returns-clause-surplus g c =
+    λ _ part.
+    part_of_take _ _ _ _ c.in-Ok-Good.outline (good_outline _ _ _ _ c.in-Ok-Good.ensures c.as_slice.ensures.value c.in-Ok-Good.field-0-is) c.in_ok-spans.ensures.late c.read_up_to.ensures.few c.in-Ok.ensures.rest part
