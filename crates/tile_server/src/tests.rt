@@ -4,14 +4,15 @@ mod catalogues;
 mod drills;
 mod expected;
 mod expiry;
+mod given;
 mod metatiles;
 mod paths;
 mod queries;
 mod serving;
 mod streams;
 
-use crate::command::{Status, run_command};
-use exact_ratio::words::Words;
+use crate::command::Status;
+use crate::tests::given::{Given, supply};
 use http_wire::memory_sink::MemorySink;
 use http_wire::memory_source::MemorySource;
 use source_render::numbered::Numbered;
@@ -47,22 +48,10 @@ fn ran<S: Source>(
     reads: &[u64],
     writes: &[u64],
 ) -> Result<(Status, Vec<u8>), Fail> {
-    let words = vec![in alloc; Words::new(alloc, b"schedule")?]?;
-    let mut catalogue = MemorySource::new(Vec::new(alloc), 7, Vec::new(alloc));
-    let mut capabilities = MemorySource::new(Vec::new(alloc), 7, Vec::new(alloc));
-    let text = Vec::from_slice(alloc, lines.as_bytes())?;
-    let mut input = MemorySource::new(text, 7, Vec::from_slice(alloc, reads)?);
-    let mut output = MemorySink::new(alloc, Vec::from_slice(alloc, writes)?);
-    let status = run_command(
-        alloc,
-        words.as_slice(),
-        &mut catalogue,
-        &mut capabilities,
-        &mut input,
-        &mut output,
-        source,
-    );
-    Ok((status, Vec::from_slice(alloc, output.taken())?))
+    let mut given = Given::of(alloc, &["schedule"])?;
+    given.input = supply(alloc, lines.as_bytes(), 7, reads)?;
+    given.output = MemorySink::new(alloc, Vec::from_slice(alloc, writes)?);
+    given.run(alloc, source)
 }
 
 #[test]
@@ -160,33 +149,13 @@ fn faults_of_the_streams_are_told(rt: HostRuntime) -> Result<(), Fail> {
 #[test]
 fn other_words_and_a_long_schedule_are_refused(rt: HostRuntime) -> Result<(), Fail> {
     let alloc = rt.alloc();
-    let mut output = MemorySink::new(alloc, Vec::new(alloc));
-    let mut source = Numbered::new(0);
-    let mut catalogue = MemorySource::new(Vec::new(alloc), 7, Vec::new(alloc));
-    let mut capabilities = MemorySource::new(Vec::new(alloc), 7, Vec::new(alloc));
-    let mut input = MemorySource::new(vec![in alloc; b'#'; 16_777_217]?, 65_536, Vec::new(alloc));
-    let words = vec![in alloc; Words::new(alloc, b"make")?, Words::new(alloc, b"now")?]?;
-    let status = run_command(
-        alloc,
-        words.as_slice(),
-        &mut catalogue,
-        &mut capabilities,
-        &mut input,
-        &mut output,
-        &mut source,
-    );
-    assert_eq!(rt; status, Status::Usage);
-    let words = vec![in alloc; Words::new(alloc, b"schedule")?]?;
-    let status = run_command(
-        alloc,
-        words.as_slice(),
-        &mut catalogue,
-        &mut capabilities,
-        &mut input,
-        &mut output,
-        &mut source,
-    );
-    assert_eq!(rt; status, Status::TooLong);
-    assert!(rt; output.taken().is_empty());
+    let mut given = Given::of(alloc, &["make", "now"])?;
+    let (status, output) = given.run(alloc, &mut Numbered::new(0))?;
+    assert_eq!(rt; (status, output.len()), (Status::Usage, 0));
+    let mut given = Given::of(alloc, &["schedule"])?;
+    let long = vec![in alloc; b'#'; 16_777_217]?;
+    given.input = MemorySource::new(long, 65_536, Vec::new(alloc));
+    let (status, output) = given.run(alloc, &mut Numbered::new(0))?;
+    assert_eq!(rt; (status, output.len()), (Status::TooLong, 0));
     Ok(())
 }

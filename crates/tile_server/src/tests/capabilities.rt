@@ -1,7 +1,6 @@
-use crate::command::{Status, run_command};
+use crate::command::Status;
+use crate::tests::given::{Given, supply};
 use crate::tests::queries::answer;
-use exact_ratio::words::Words;
-use http_wire::memory_sink::MemorySink;
 use http_wire::memory_source::MemorySource;
 use source_render::numbered::Numbered;
 use std::alloc::Global;
@@ -11,23 +10,10 @@ const ASKED: &str = "0 GET /wmts?service=WMTS&request=GetCapabilities\n";
 
 /// What a query for the capabilities comes to with this document, of which the reads of these numbers fail.
 fn asked_of(alloc: Global, document: Vec<u8>, reads: &[u64]) -> Result<(Status, Vec<u8>), Fail> {
-    let words = vec![in alloc; Words::new(alloc, b"schedule")?]?;
-    let mut catalogue = MemorySource::new(Vec::new(alloc), 7, Vec::new(alloc));
-    let mut capabilities = MemorySource::new(document, 65_536, Vec::from_slice(alloc, reads)?);
-    let text = Vec::from_slice(alloc, ASKED.as_bytes())?;
-    let mut input = MemorySource::new(text, 7, Vec::new(alloc));
-    let mut output = MemorySink::new(alloc, Vec::new(alloc));
-    let mut source = Numbered::new(0);
-    let status = run_command(
-        alloc,
-        words.as_slice(),
-        &mut catalogue,
-        &mut capabilities,
-        &mut input,
-        &mut output,
-        &mut source,
-    );
-    Ok((status, Vec::from_slice(alloc, output.taken())?))
+    let mut given = Given::of(alloc, &["schedule"])?;
+    given.capabilities = MemorySource::new(document, 65_536, Vec::from_slice(alloc, reads)?);
+    given.input = supply(alloc, ASKED.as_bytes(), 7, &[])?;
+    given.run(alloc, &mut Numbered::new(0))
 }
 
 #[test]

@@ -1,8 +1,6 @@
-use crate::command::{Status, run_command};
+use crate::command::Status;
+use crate::tests::given::{Given, supply};
 use catalog::fault::{CatalogueFault, Field};
-use exact_ratio::words::Words;
-use http_wire::memory_sink::MemorySink;
-use http_wire::memory_source::MemorySource;
 use source_render::numbered::Numbered;
 use std::alloc::Global;
 use std::test::Fail;
@@ -20,22 +18,9 @@ fn layer(alloc: Global, id: &str, meta: &str, gutter: u32) -> Result<String, Fai
 
 /// What an empty schedule comes to with a catalogue of this text, of which the reads of these numbers fail.
 fn status_with(alloc: Global, text: &[u8], reads: &[u64]) -> Result<Status, Fail> {
-    let words = vec![in alloc; Words::new(alloc, b"schedule")?]?;
-    let text = Vec::from_slice(alloc, text)?;
-    let mut catalogue = MemorySource::new(text, 65_536, Vec::from_slice(alloc, reads)?);
-    let mut capabilities = MemorySource::new(Vec::new(alloc), 7, Vec::new(alloc));
-    let mut input = MemorySource::new(Vec::new(alloc), 7, Vec::new(alloc));
-    let mut output = MemorySink::new(alloc, Vec::new(alloc));
-    let mut source = Numbered::new(0);
-    let status = run_command(
-        alloc,
-        words.as_slice(),
-        &mut catalogue,
-        &mut capabilities,
-        &mut input,
-        &mut output,
-        &mut source,
-    );
+    let mut given = Given::of(alloc, &["schedule"])?;
+    given.catalogue = supply(alloc, text, 65_536, reads)?;
+    let (status, _) = given.run(alloc, &mut Numbered::new(0))?;
     Ok(status)
 }
 

@@ -1,8 +1,6 @@
 //! The drill of a number: the words that ask for it, and its text.
-use crate::command::{Status, run_command};
-use exact_ratio::words::Words;
-use http_wire::memory_sink::MemorySink;
-use http_wire::memory_source::MemorySource;
+use crate::command::Status;
+use crate::tests::given::Given;
 use source_render::numbered::Numbered;
 use std::alloc::Global;
 use std::test::Fail;
@@ -13,24 +11,7 @@ const FIRST: &str =
 
 /// What these words come to on a fresh cabinet of the built-in catalogue, with an input of no bytes.
 fn served(alloc: Global, words: &[&str]) -> Result<(Status, Vec<u8>), Fail> {
-    let mut copies = Vec::new(alloc);
-    for word in words {
-        copies.push(Words::new(alloc, word.as_bytes())?)?;
-    }
-    let mut catalogue = MemorySource::new(Vec::new(alloc), 7, Vec::new(alloc));
-    let mut capabilities = MemorySource::new(Vec::new(alloc), 7, Vec::new(alloc));
-    let mut input = MemorySource::new(Vec::new(alloc), 7, Vec::new(alloc));
-    let mut output = MemorySink::new(alloc, Vec::new(alloc));
-    let status = run_command(
-        alloc,
-        copies.as_slice(),
-        &mut catalogue,
-        &mut capabilities,
-        &mut input,
-        &mut output,
-        &mut Numbered::new(0),
-    );
-    Ok((status, Vec::from_slice(alloc, output.taken())?))
+    Given::of(alloc, words)?.run(alloc, &mut Numbered::new(0))
 }
 
 #[test]

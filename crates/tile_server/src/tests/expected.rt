@@ -1,8 +1,6 @@
 //! Targets of tiles, and the answers that are expected.
-use crate::command::{Status, run_command};
-use exact_ratio::words::Words;
-use http_wire::memory_sink::MemorySink;
-use http_wire::memory_source::MemorySource;
+use crate::command::Status;
+use crate::tests::given::{Given, supply};
 use source_render::source::Source;
 use std::alloc::Global;
 use std::test::Fail;
@@ -21,26 +19,10 @@ pub fn ran_in<S: Source>(
     lines: &str,
     source: &mut S,
 ) -> Result<(Status, Vec<u8>), Fail> {
-    let words = vec![in alloc; Words::new(alloc, b"schedule")?]?;
-    let mut catalogue = MemorySource::new(
-        Vec::from_slice(alloc, catalogue)?,
-        4_096,
-        Vec::new(alloc),
-    );
-    let mut capabilities = MemorySource::new(Vec::new(alloc), 7, Vec::new(alloc));
-    let text = Vec::from_slice(alloc, lines.as_bytes())?;
-    let mut input = MemorySource::new(text, 4_096, Vec::new(alloc));
-    let mut output = MemorySink::new(alloc, Vec::new(alloc));
-    let status = run_command(
-        alloc,
-        words.as_slice(),
-        &mut catalogue,
-        &mut capabilities,
-        &mut input,
-        &mut output,
-        source,
-    );
-    Ok((status, Vec::from_slice(alloc, output.taken())?))
+    let mut given = Given::of(alloc, &["schedule"])?;
+    given.catalogue = supply(alloc, catalogue, 4_096, &[])?;
+    given.input = supply(alloc, lines.as_bytes(), 4_096, &[])?;
+    given.run(alloc, source)
 }
 
 /// Adds an answer: its line, its actor and the line of its start, and then the response.

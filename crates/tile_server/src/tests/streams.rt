@@ -1,8 +1,8 @@
 //! Streams of messages, as the bytes of one connection.
-use crate::command::{Status, run_command};
-use exact_ratio::words::Words;
+use crate::command::Status;
+use crate::tests::given::{Given, supply};
 use http_wire::memory_sink::MemorySink;
-use http_wire::memory_source::MemorySource;
+use http_wire::streams::{ByteSource, Failed};
 use source_render::numbered::Numbered;
 use std::alloc::Global;
 use std::test::Fail;
@@ -27,22 +27,10 @@ fn replayed(
     reads: &[u64],
     writes: &[u64],
 ) -> Result<(Status, Vec<u8>), Fail> {
-    let words = vec![in alloc; Words::new(alloc, b"replay")?]?;
-    let mut catalogue = MemorySource::new(Vec::new(alloc), 7, Vec::new(alloc));
-    let mut capabilities = MemorySource::new(Vec::new(alloc), 7, Vec::new(alloc));
-    let text = Vec::from_slice(alloc, bytes)?;
-    let mut input = MemorySource::new(text, piece, Vec::from_slice(alloc, reads)?);
-    let mut output = MemorySink::new(alloc, Vec::from_slice(alloc, writes)?);
-    let status = run_command(
-        alloc,
-        words.as_slice(),
-        &mut catalogue,
-        &mut capabilities,
-        &mut input,
-        &mut output,
-        &mut Numbered::new(0),
-    );
-    Ok((status, Vec::from_slice(alloc, output.taken())?))
+    let mut given = Given::of(alloc, &["replay"])?;
+    given.input = supply(alloc, bytes, piece, reads)?;
+    given.output = MemorySink::new(alloc, Vec::from_slice(alloc, writes)?);
+    given.run(alloc, &mut Numbered::new(0))
 }
 
 /// Whether these bytes come to this status and this output.
@@ -139,17 +127,48 @@ fn faults_of_a_stream_are_told(rt: HostRuntime) -> Result<(), Fail> {
 }
 
 #[test]
+fn nothing_is_taken_behind_the_last_message(rt: HostRuntime) -> Result<(), Fail> {
+    let alloc = rt.alloc();
+    let stream = format!(in alloc; "{CLOSING}{USAGE}")?;
+    let mut given = Given::of(alloc, &["replay"])?;
+    // The take that fails is the first one behind the last message.
+    given.input = supply(alloc, stream.as_bytes(), 1, &[CLOSING.len() as u64 + 1])?;
+    let (status, output) = given.run(alloc, &mut Numbered::new(0))?;
+    assert_eq!(rt; status, Status::Done);
+    assert_eq!(rt; output.as_slice(), CLOSED.as_bytes());
+    assert_eq!(rt; given.input.take(&mut [0]), Err(Failed));
+    Ok(())
+}
+
+#[test]
+fn nothing_is_taken_behind_a_failed_write(rt: HostRuntime) -> Result<(), Fail> {
+    let alloc = rt.alloc();
+    let stream = format!(in alloc; "{USAGE}{USAGE}")?;
+    let mut given = Given::of(alloc, &["replay"])?;
+    given.input = supply(alloc, stream.as_bytes(), USAGE.len(), &[2])?;
+    given.output = MemorySink::new(alloc, vec![in alloc; 1]?);
+    let (status, output) = given.run(alloc, &mut Numbered::new(0))?;
+    assert_eq!(rt; (status, output.len()), (Status::WriteFault, 0));
+    assert_eq!(rt; given.input.take(&mut [0]), Err(Failed));
+    Ok(())
+}
+
+#[test]
 fn no_message_is_looked_for_behind_the_ten_thousandth(rt: HostRuntime) -> Result<(), Fail> {
     let alloc = rt.alloc();
+    let message = b"GET / HTTP/1.1\r\n\r\n";
     let mut stream = Vec::new(alloc);
     for _ in 0..10_001 {
-        stream.extend_from_slice(b"GET / HTTP/1.1\r\n\r\n")?;
+        stream.extend_from_slice(message)?;
     }
-    let (status, output) = replayed(alloc, stream.as_slice(), 4_096, &[], &[])?;
+    let mut given = Given::of(alloc, &["replay"])?;
+    given.input = supply(alloc, stream.as_slice(), message.len(), &[10_001])?;
+    let (status, output) = given.run(alloc, &mut Numbered::new(0))?;
     let open = "HTTP/1.1 404 Not Found\r\nContent-Length: 0\r\n\r\n";
     let closed = "HTTP/1.1 404 Not Found\r\nContent-Length: 0\r\nConnection: close\r\n\r\n";
     assert_eq!(rt; status, Status::Stream(SessionEnd::TooMany));
     assert_eq!(rt; output.len(), 9_999 * open.len() + closed.len());
     assert!(rt; output.as_slice().ends_with(closed.as_bytes()));
+    assert_eq!(rt; given.input.take(&mut [0]), Err(Failed));
     Ok(())
 }
