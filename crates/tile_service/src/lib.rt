@@ -11,7 +11,7 @@
 //! counts the answers of the run over the lines that its number makes, of which none is refused, and has the SHA-256 of what
 //! that run writes (`specs/Made.antt`, `specs/Drill.antt`). A session over a link answers its messages in order, each before
 //! the next is looked for (`specs/Session.antt`), and ends as its stream does, behind its last message or at a fault
-//! (`specs/SessionEnds.antt`).
+//! (`specs/SessionEnds.antt`). Behind the last message it looks for no further one.
 //! Stands on cabinet, cache_core, source_render, job_forms, wmts_kvp, wmts_rest, schedule_text, http_wire, sha2 and hex.
 #![tactic(auto)]
 
