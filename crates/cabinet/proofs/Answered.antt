@@ -31,7 +31,8 @@ use Rattle.cabinet.specs.declared.kept.KeptBlob.{KeptBlob}
 use Rattle.cabinet.specs.declared.replies.CutReply.TheVariants as reply
 use Rattle.cabinet.specs.declared.replies.Expired.TheVariants as expired
 use Rattle.cabinet.specs.declared.replies.Finished.TheVariants as finished
-use Rattle.cabinet.specs.Commands.{Cuts, Expires, Finishes, IsHit, kept_at, others}
+use Rattle.cabinet.specs.declared.replies.Forced.{Forced}
+use Rattle.cabinet.specs.Commands.{Cuts, Expires, Finishes, Forces, IsHit, kept_at, others}
 use Rattle.cabinet.specs.Counted.{IsCounted}
 use Rattle.cabinet.specs.Gaps.{gap_for, lowest_gap}
 use Rattle.cabinet.specs.History.{Standing, but, is_of, kept_of, least_of, lesser, next, numbers}
@@ -97,6 +98,16 @@ module _ (s : State) (last room : ℕ) (renders : List Render) (book : Book) (sp
     part = part ∙ ap (λ (o : Option KeptBlob). tile_part s.catalogue a (option_map_or (λ x. x.text) o [])) (sym e);
     state = is;
   }
+
+  -- MISSES
+
+  -- nothing is kept of the tile's metatile, and what its force came to is what the ask comes to
+  pub miss_row : (v : State) (a : Address) (m : MetaKey) (came told : Forced) (t : State) → s ≡ v → m ≡ block_of s.catalogue a → find (λ x. is_of m x.kept) s.blobs ≡ None → came ≡ told → Forces v m came t
+      → (kept_of (block_of v.catalogue a) (now v) ≡ None) × Forces v (block_of v.catalogue a) told t
+  miss_row v a m came told t e is none same forces =
+      let unkept : kept_of (block_of s.catalogue a) (now s) ≡ None = subst (λ (x : MetaKey). kept_of x (now s) ≡ None) is (kept_of_none m none) in
+      let block : m ≡ block_of v.catalogue a = is ∙ ap (λ (x : State). block_of x.catalogue a) e in
+      (subst (λ (x : State). kept_of (block_of x.catalogue a) (now x) ≡ None) e unkept, subst (λ (x : MetaKey). Forces v x told t) block (subst (λ (x : Forced). Forces v m x t) same forces))
 
   -- what is found has its length, and in a sound cabinet is the metatile's text
   pub found_long : (m : MetaKey) (b : KeptBlob) → find (λ x. is_of m x.kept) s.blobs ≡ Some b → (length b.text ≡ blob_size s.catalogue m)

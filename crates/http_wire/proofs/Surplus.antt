@@ -1,5 +1,5 @@
 -- How few bytes are held behind a message: no head had stood in them before the last were taken.
-use Rattle.std.proofs.Common.{◌≡◌, ℕ, ◌+◌, ◌-◌, ◌<◌, ◌≤◌, ◌⊎◌, true, max, min, List, ◌++◌, length, length-append, length-take, length-drop, take, drop, get_or, refl, sym, ap, ◌∙◌, subst, arith, inl, inr, get_or-take, take-append-drop}
+use Rattle.std.proofs.Common.{◌≡◌, ℕ, ◌+◌, ◌-◌, ◌<◌, ◌≤◌, ◌⊎◌, true, max, min, List, ◌++◌, length, length-append, length-take, length-drop, take, drop, sym, ap, ◌∙◌, subst, arith, inl, inr, get_or-take, take-append-drop}
 use Rattle.std.proofs.Math.Seq.{take-append-add, take_all}
 use Rattle.httparse.specs.Grammar.{print_request, ReadsRequest, HasNoRequest}
 use Rattle.http_wire.specs.Answers.{IsPartOfTake}

@@ -6,13 +6,12 @@ use Rattle.raster_field.specs.TileText.{tile_text}
 use Rattle.cabinet.specs.declared.entry.Entry.TheVariants as entry
 use Rattle.cabinet.specs.declared.kept.KeptBlob.{KeptBlob}
 use Rattle.cabinet.specs.declared.replies.Asked.TheVariants as asked
-use Rattle.cabinet.specs.declared.replies.Forced.{Forced}
 use Rattle.cabinet.specs.declared.replies.Forced.TheVariants as forced
-use Rattle.cabinet.specs.Commands.{Forces, IsHit}
+use Rattle.cabinet.specs.Commands.{IsHit}
 use Rattle.cabinet.specs.Fresh.{IsFresh}
-use Rattle.cabinet.specs.History.{is_of, kept_of}
+use Rattle.cabinet.specs.History.{is_of}
 use Rattle.cabinet.specs.State.{IsKnown, IsSound, State, now}
-use Rattle.cabinet.proofs.Answered.{found_long, found_text, hit_row, kept_of_none, kept_of_some}
+use Rattle.cabinet.proofs.Answered.{found_long, found_text, hit_row, kept_of_some, miss_row}
 use Rattle.cabinet.proofs.Counting.{counted_used, held_kept}
 use Rattle.cabinet.proofs.Consistent.{after_used}
 use Rattle.cabinet.proofs.Rows.{asks_fresh}
@@ -83,42 +82,27 @@ pub returns-in-Ticket-clause-asked : goal.returns-in-Ticket-clause-asked
 returns-in-Ticket-clause-asked c =
     let i = c.self.inside in
     let s : State = record { catalogue = i.catalogue; opening = 0; history = i.past.entries; blobs = i.blobs.items } in
-    let e : find (λ (x : KeptBlob). is_of c.block_of-meta.result x.kept) i.blobs.items ≡ None = search rules in
-    let is : c.block_of-meta.result ≡ block_of c.args.self.now.catalogue c.args.address.now = c.block_of-meta.ensures.meta ∙ ap (λ (v : State). block_of v.catalogue c.args.address.now) c.self.view_is in
-    let unkept = subst (λ (m : MetaKey). kept_of m (now c.args.self.now) ≡ None) is
-    (subst (λ (v : State). kept_of c.block_of-meta.result (now v) ≡ None) c.self.view_is (kept_of_none s i.last _ i.locks.renders i.cuts.book i.extents c.self.invariant.0 c.block_of-meta.result e)) in
-    let row = subst (λ (m : MetaKey). Forces c.args.self.now m (forced.Ticket c.in-Ticket.ticket) c.force.new.self) is (subst (λ (r : Forced). Forces c.args.self.now c.block_of-meta.result r c.force.new.self) c.in-Ticket.is c.in_ok-ticket.ensures.forced) in
-    (unkept, row)
+    let none : find (λ (x : KeptBlob). is_of c.block_of-meta.result x.kept) i.blobs.items ≡ None = search rules in
+    miss_row s i.last _ i.locks.renders i.cuts.book i.extents c.self.invariant.0 c.args.self.now c.args.address.now c.block_of-meta.result _ (forced.Ticket c.in-Ticket.ticket) c.force.new.self c.self.view_is c.block_of-meta.ensures.meta none c.in-Ticket.is c.in_ok-ticket.ensures.forced
 
 pub returns-in-Ticket-clause-fresh : goal.returns-in-Ticket-clause-fresh
 returns-in-Ticket-clause-fresh c =
     let i = c.self.inside in
     let s : State = record { catalogue = i.catalogue; opening = 0; history = i.past.entries; blobs = i.blobs.items } in
-    let e : find (λ (x : KeptBlob). is_of c.block_of-meta.result x.kept) i.blobs.items ≡ None = search rules in
-    let is : c.block_of-meta.result ≡ block_of c.args.self.now.catalogue c.args.address.now = c.block_of-meta.ensures.meta ∙ ap (λ (v : State). block_of v.catalogue c.args.address.now) c.self.view_is in
-    let unkept = subst (λ (m : MetaKey). kept_of m (now c.args.self.now) ≡ None) is
-    (subst (λ (v : State). kept_of c.block_of-meta.result (now v) ≡ None) c.self.view_is (kept_of_none s i.last _ i.locks.renders i.cuts.book i.extents c.self.invariant.0 c.block_of-meta.result e)) in
-    let row = subst (λ (m : MetaKey). Forces c.args.self.now m (forced.Ticket c.in-Ticket.ticket) c.force.new.self) is (subst (λ (r : Forced). Forces c.args.self.now c.block_of-meta.result r c.force.new.self) c.in-Ticket.is c.in_ok-ticket.ensures.forced) in
-    asks_fresh c.args.self.now c.force.new.self c.args.address.now (asked.Ticket c.in-Ticket.ticket) (subst IsKnown c.self.view_is c.self.invariant.0.known) c.requires (unkept, row)
+    let none : find (λ (x : KeptBlob). is_of c.block_of-meta.result x.kept) i.blobs.items ≡ None = search rules in
+    let row = miss_row s i.last _ i.locks.renders i.cuts.book i.extents c.self.invariant.0 c.args.self.now c.args.address.now c.block_of-meta.result _ (forced.Ticket c.in-Ticket.ticket) c.force.new.self c.self.view_is c.block_of-meta.ensures.meta none c.in-Ticket.is c.in_ok-ticket.ensures.forced in
+    asks_fresh c.args.self.now c.force.new.self c.args.address.now (asked.Ticket c.in-Ticket.ticket) (subst IsKnown c.self.view_is c.self.invariant.0.known) c.requires row
 
 pub returns-in-Busy-clause-asked : goal.returns-in-Busy-clause-asked
 returns-in-Busy-clause-asked c =
     let i = c.self.inside in
     let s : State = record { catalogue = i.catalogue; opening = 0; history = i.past.entries; blobs = i.blobs.items } in
-    let e : find (λ (x : KeptBlob). is_of c.block_of-meta.result x.kept) i.blobs.items ≡ None = search rules in
-    let is : c.block_of-meta.result ≡ block_of c.args.self.now.catalogue c.args.address.now = c.block_of-meta.ensures.meta ∙ ap (λ (v : State). block_of v.catalogue c.args.address.now) c.self.view_is in
-    let unkept = subst (λ (m : MetaKey). kept_of m (now c.args.self.now) ≡ None) is
-    (subst (λ (v : State). kept_of c.block_of-meta.result (now v) ≡ None) c.self.view_is (kept_of_none s i.last _ i.locks.renders i.cuts.book i.extents c.self.invariant.0 c.block_of-meta.result e)) in
-    let row = subst (λ (m : MetaKey). Forces c.args.self.now m (forced.Busy c.in-Busy.number) c.force.new.self) is (subst (λ (r : Forced). Forces c.args.self.now c.block_of-meta.result r c.force.new.self) c.in-Busy.is c.in_ok-ticket.ensures.forced) in
-    (unkept, row)
+    let none : find (λ (x : KeptBlob). is_of c.block_of-meta.result x.kept) i.blobs.items ≡ None = search rules in
+    miss_row s i.last _ i.locks.renders i.cuts.book i.extents c.self.invariant.0 c.args.self.now c.args.address.now c.block_of-meta.result _ (forced.Busy c.in-Busy.number) c.force.new.self c.self.view_is c.block_of-meta.ensures.meta none c.in-Busy.is c.in_ok-ticket.ensures.forced
 
 pub returns-in-Spent-clause-asked : goal.returns-in-Spent-clause-asked
 returns-in-Spent-clause-asked c =
     let i = c.self.inside in
     let s : State = record { catalogue = i.catalogue; opening = 0; history = i.past.entries; blobs = i.blobs.items } in
-    let e : find (λ (x : KeptBlob). is_of c.block_of-meta.result x.kept) i.blobs.items ≡ None = search rules in
-    let is : c.block_of-meta.result ≡ block_of c.args.self.now.catalogue c.args.address.now = c.block_of-meta.ensures.meta ∙ ap (λ (v : State). block_of v.catalogue c.args.address.now) c.self.view_is in
-    let unkept = subst (λ (m : MetaKey). kept_of m (now c.args.self.now) ≡ None) is
-    (subst (λ (v : State). kept_of c.block_of-meta.result (now v) ≡ None) c.self.view_is (kept_of_none s i.last _ i.locks.renders i.cuts.book i.extents c.self.invariant.0 c.block_of-meta.result e)) in
-    let row = subst (λ (m : MetaKey). Forces c.args.self.now m forced.Spent c.force.new.self) is (subst (λ (r : Forced). Forces c.args.self.now c.block_of-meta.result r c.force.new.self) c.in-Spent.is c.in_ok-ticket.ensures.forced) in
-    (unkept, row)
+    let none : find (λ (x : KeptBlob). is_of c.block_of-meta.result x.kept) i.blobs.items ≡ None = search rules in
+    miss_row s i.last _ i.locks.renders i.cuts.book i.extents c.self.invariant.0 c.args.self.now c.args.address.now c.block_of-meta.result _ forced.Spent c.force.new.self c.self.view_is c.block_of-meta.ensures.meta none c.in-Spent.is c.in_ok-ticket.ensures.forced
