@@ -1,5 +1,6 @@
 mod Breaks
 mod Digits
+mod EmptyText
 mod Loop
 mod NamedMatrices
 mod Valid

@@ -30,6 +30,7 @@ fn catalogue_in(
     object: &Value,
 ) -> Result<Catalogue, CatalogueFault>
     ensures gives { Gives (λ c. c) result (catalogue_in digest (view object.now)) }
+    ensures digest { IfOk result (λ c. c.digest ≡ digest) }
     ensures met { IfOk result (λ c. first_fault c ≡ Ok tt) }
 {
     let settings = settings_of(object)?;
@@ -51,6 +52,7 @@ fn catalogue_in(
 #[tactic(auto, unfolding(crate::specs::Text::catalogue_of))]
 fn catalogue_of(alloc: Global, text: &[u8]) -> Result<Catalogue, CatalogueFault>
     ensures gives { Gives (λ c. c) result (catalogue_of text.now) }
+    ensures digest { IfOk result (λ c. c.digest ≡ digest_of text.now) }
     ensures met { IfOk result (λ c. first_fault c ≡ Ok tt) }
 {
     if text.is_empty() {
@@ -64,6 +66,7 @@ fn catalogue_of(alloc: Global, text: &[u8]) -> Result<Catalogue, CatalogueFault>
 /// built-in catalogue. The digest is the SHA-256 of the text (FIPS 180-4). `OutOfMemory` where memory runs out.
 pub fn read_catalogue(alloc: Global, text: &[u8]) -> Result<Catalogue, CatalogueFault>
     ensures gives { Gives (λ c. c) result (catalogue_of text.now) }
+    ensures digest { IfOk result (λ c. c.digest ≡ digest_of text.now) }
     ensures met { IfOk result (λ c. first_fault c ≡ Ok tt) }
     ensures valid { IfOk result (λ c. IsValid c) }
 {
