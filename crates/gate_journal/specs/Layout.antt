@@ -1,6 +1,6 @@
 -- Where the parts of a journal stand on its disk. A slot has 63 bytes of body and a gate byte; the gate is open where the
 -- byte is 1. Two slots are the headers of the two halves, which follow them.
-use Rattle.std.specs.Prelude.{ℕ, ◌+◌, ◌*◌, List}
+use Rattle.std.specs.Prelude.{ℕ, ◌+◌, ◌*◌, ◌%◌, ◌^◌, List}
 use Rattle.gate_journal.specs.declared.half.Half.{Half}
 use Rattle.gate_journal.specs.declared.half.Half.TheVariants.{First, Second}
 
@@ -41,3 +41,11 @@ pub record Layout : Type 0 where
   pub count : ℕ
   pub generation : ℕ
   pub digest : List ℕ
+
+-- a new journal: the first half is in force under generation 1, and has no records
+abbrev pub new_layout : List ℕ → ℕ → Layout
+new_layout digest slots = record { slots = slots; half = First; count = 0; generation = 1; digest = digest }
+
+-- the generation after this one; the last is followed by 0
+abbrev pub next_generation : ℕ → ℕ
+next_generation generation = (generation + 1) % 2 ^ 64

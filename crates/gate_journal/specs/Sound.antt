@@ -98,6 +98,10 @@ pub record IsAlike (old new : Journal) : Type 0 where
   pub same_slots : new.slots ≡ old.slots
   pub same_digest : new.digest ≡ old.digest
 
+-- the generation in its header
+abbrev pub generation_of : Journal → ℕ
+generation_of j = j.generation
+
 -- how many slots a half has
 abbrev pub slots_of : Journal → ℕ
 slots_of j = j.slots

@@ -3,7 +3,7 @@ ghost use Rattle.causes.specs.Causes.{HasCause};
 ghost use Rattle.gate_journal.specs.Calls.{Moves};
 ghost use Rattle.gate_journal.specs.Layout.{slot_at};
 ghost use Rattle.gate_journal.specs.Opened.{records};
-ghost use Rattle.gate_journal.specs.Sound.{IsAlike, IsSettled, IsSound, kept, room_of};
+ghost use Rattle.gate_journal.specs.Sound.{IsAlike, IsSettled, IsSound, generation_of, kept, room_of};
 
 use crate::journal::Journal;
 use crate::standing::Standing;
@@ -27,6 +27,7 @@ impl Journal {
         requires sound { IsTrue (D.told disk.old) → IsSound self.old (D.state disk.old) }
         ensures told { D.told disk.new ≡ D.told disk.old }
         ensures alike { IsAlike self.old self.new }
+        ensures generation { generation_of self.new ≡ generation_of self.old }
         ensures ok { OnOk result (IsSettled self.new × (room_of self.new + 1 ≡ room_of self.old)) }
         ensures err { OnErr result (¬ IsSettled self.new × (room_of self.new ≡ room_of self.old)) }
         ensures moves { IsTrue (D.told disk.old)

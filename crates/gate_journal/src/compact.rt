@@ -3,9 +3,9 @@ ghost use Rattle.causes.specs.Causes.{HasCause};
 ghost use Rattle.disk_model.specs.Content.{byte_at, bytes_at, TornWrite};
 ghost use Rattle.disk_model.specs.Images.{Every, Only, ChangesBy};
 ghost use Rattle.gate_journal.specs.Calls.{Moves, KeepsRecords, IsFilled};
-ghost use Rattle.gate_journal.specs.Layout.{half_at, header_gate, other_half};
+ghost use Rattle.gate_journal.specs.Layout.{half_at, header_gate, next_generation, other_half};
 ghost use Rattle.gate_journal.specs.Opened.{records};
-ghost use Rattle.gate_journal.specs.Sound.{IsAlike, IsSettled, IsSound, IsSoundAs, kept, layout_of, room_of, slot_of};
+ghost use Rattle.gate_journal.specs.Sound.{IsAlike, IsSettled, IsSound, IsSoundAs, generation_of, kept, layout_of, room_of, slot_of};
 ghost use Rattle.gate_journal.specs.declared.standing.Standing.TheVariants.{Settled, Pending};
 
 use crate::header::header_body;
@@ -70,6 +70,8 @@ impl Journal {
         requires filled { IsTrue (D.told disk.old) → IsFilled (layout_of self.old) bodies.now (D.state disk.old) }
         ensures told { D.told disk.new ≡ D.told disk.old }
         ensures alike { IsAlike self.old self.new }
+        ensures next { OnOk result (generation_of self.new ≡ next_generation (generation_of self.old)) }
+        ensures same { OnErr result (generation_of self.new ≡ generation_of self.old) }
         ensures ok { OnOk result (IsSettled self.new × (room_of self.new ≡ self.old.slots - length bodies.now)) }
         ensures err { OnErr result ((IsSettled self.new → ⊥) × (room_of self.new ≡ room_of self.old)) }
         ensures moves { IsTrue (D.told disk.old)
@@ -91,15 +93,17 @@ impl Journal {
         Ok(())
     }
 
-    /// Writes these records to the other half and puts it in force. After `Ok` they are the records; at each moment an
-    /// image has the records from before, or these. `Failed` only where the disk's count of faults rose; the records are
-    /// then as before, and the journal is unsettled.
+    /// Writes these records to the other half and puts it in force under the next generation. After `Ok` they are the
+    /// records; at each moment an image has the records from before, or these. `Failed` only where the disk's count of
+    /// faults rose; the records are then as before, and the journal is unsettled.
     pub fn compact<D: Disk>(&mut self, disk: &mut D, bodies: &[[u8; 63]]) -> Result<(), Failed>
         requires settled { IsSettled self.old }
         requires fits { length bodies.now ≤ self.old.slots }
         requires sound { IsTrue (D.told disk.old) → IsSound self.old (D.state disk.old) }
         ensures told { D.told disk.new ≡ D.told disk.old }
         ensures alike { IsAlike self.old self.new }
+        ensures next { OnOk result (generation_of self.new ≡ next_generation (generation_of self.old)) }
+        ensures same { OnErr result (generation_of self.new ≡ generation_of self.old) }
         ensures ok { OnOk result (IsSettled self.new × (room_of self.new ≡ self.old.slots - length bodies.now)) }
         ensures err { OnErr result ((IsSettled self.new → ⊥) × (room_of self.new ≡ room_of self.old)) }
         ensures moves { IsTrue (D.told disk.old)
