@@ -20,12 +20,8 @@ pub struct Given {
 impl Given {
     /// These words, with inputs of no bytes.
     pub fn of(alloc: Global, words: &[&str]) -> Result<Given, Fail> {
-        let mut copies = Vec::new(alloc);
-        for word in words {
-            copies.push(Words::new(alloc, word.as_bytes())?)?;
-        }
         Ok(Given {
-            words: copies,
+            words: words_of(alloc, words)?,
             catalogue: supply(alloc, b"", 7, &[])?,
             capabilities: supply(alloc, b"", 7, &[])?,
             input: supply(alloc, b"", 7, &[])?,
@@ -50,6 +46,15 @@ impl Given {
         );
         Ok((status, Vec::from_slice(alloc, self.output.taken())?))
     }
+}
+
+/// Copies of these words.
+pub fn words_of(alloc: Global, words: &[&str]) -> Result<Vec<Words>, Fail> {
+    let mut copies = Vec::new(alloc);
+    for word in words {
+        copies.push(Words::new(alloc, word.as_bytes())?)?;
+    }
+    Ok(copies)
 }
 
 /// A source of these bytes, so many at a time; its takes of these numbers fail.

@@ -1,16 +1,13 @@
 //! The words after `serve`: a port, and how many connections.
 use crate::serve_words::{ServeFault, ServeWords, serve_words};
+use crate::tests::given::words_of;
 use exact_ratio::words::Words;
 use std::alloc::Global;
 use std::test::Fail;
 
 /// What these words ask for.
 fn read(alloc: Global, words: &[&str]) -> Result<Result<ServeWords, ServeFault>, Fail> {
-    let mut copies = Vec::new(alloc);
-    for word in words {
-        copies.push(Words::new(alloc, word.as_bytes())?)?;
-    }
-    Ok(serve_words(alloc, copies.as_slice()))
+    Ok(serve_words(alloc, words_of(alloc, words)?.as_slice()))
 }
 
 #[test]
