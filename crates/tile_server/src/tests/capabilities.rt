@@ -1,6 +1,7 @@
 use crate::command::Status;
+use crate::tests::expected::{EMPTY, Expected};
 use crate::tests::given::{Given, supply};
-use crate::tests::queries::answer;
+use crate::tests::queries::one_answer;
 use http_wire::memory_source::MemorySource;
 use source_render::numbered::Numbered;
 use std::alloc::Global;
@@ -22,21 +23,20 @@ fn the_document_is_served_as_it_is(rt: HostRuntime) -> Result<(), Fail> {
     let document = Vec::from_slice(alloc, b"<a/>")?;
     let (status, output) = asked_of(alloc, document, &[])?;
     assert_eq!(rt; status, Status::Done);
-    assert_eq!(rt;
-        output.as_slice(),
-        b"answer 1 0 1 66\nHTTP/1.1 200 OK\r\nContent-Type: text/xml\r\nContent-Length: 4\r\n\r\n<a/>".as_slice()
-    );
+    let mut expected = Expected::new(alloc);
+    expected.document((1, 0, 1), "<a/>")?;
+    assert_eq!(rt; expected.output.len(), 16 + 66);
+    assert_eq!(rt; output, expected.output);
     Ok(())
 }
 
 #[test]
 fn an_empty_document_has_no_type(rt: HostRuntime) -> Result<(), Fail> {
     let alloc = rt.alloc();
-    let response = b"HTTP/1.1 200 OK\r\nContent-Length: 0\r\n\r\n";
     let (status, output) = asked_of(alloc, Vec::new(alloc), &[])?;
     assert_eq!(rt; status, Status::Done);
-    assert_eq!(rt; response.len(), 38);
-    assert_eq!(rt; output, answer(alloc, response)?);
+    assert_eq!(rt; EMPTY.len(), 38);
+    assert_eq!(rt; output, one_answer(alloc, EMPTY)?.output);
     Ok(())
 }
 

@@ -65,9 +65,27 @@ pub fn supply(
     fail: &[u64],
 ) -> Result<MemorySource, Fail> {
     let bytes = Vec::from_slice(alloc, bytes)?;
-    Ok(MemorySource::new(
-        bytes,
-        piece,
-        Vec::from_slice(alloc, fail)?,
-    ))
+    Ok(MemorySource::new(bytes, piece, Vec::from_slice(alloc, fail)?))
+}
+
+/// What the lines of a schedule come to on the built-in catalogue, over this source.
+pub fn ran<S: Source>(
+    alloc: Global,
+    lines: &str,
+    source: &mut S,
+) -> Result<(Status, Vec<u8>), Fail> {
+    ran_in(alloc, "", lines, source)
+}
+
+/// What the lines of a schedule come to in this catalogue, over this source.
+pub fn ran_in<S: Source>(
+    alloc: Global,
+    catalogue: &str,
+    lines: &str,
+    source: &mut S,
+) -> Result<(Status, Vec<u8>), Fail> {
+    let mut given = Given::of(alloc, &["schedule"])?;
+    given.catalogue = supply(alloc, catalogue.as_bytes(), 4_096, &[])?;
+    given.input = supply(alloc, lines.as_bytes(), 7, &[])?;
+    given.run(alloc, source)
 }

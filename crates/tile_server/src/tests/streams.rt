@@ -1,5 +1,6 @@
 //! Streams of messages, as the bytes of one connection.
 use crate::command::Status;
+use crate::tests::expected::NOT_FOUND;
 use crate::tests::given::{Given, supply};
 use http_wire::memory_sink::MemorySink;
 use http_wire::streams::{ByteSource, Failed};
@@ -164,10 +165,9 @@ fn no_message_is_looked_for_behind_the_ten_thousandth(rt: HostRuntime) -> Result
     let mut given = Given::of(alloc, &["replay"])?;
     given.input = supply(alloc, stream.as_slice(), message.len(), &[10_001])?;
     let (status, output) = given.run(alloc, &mut Numbered::new(0))?;
-    let open = "HTTP/1.1 404 Not Found\r\nContent-Length: 0\r\n\r\n";
     let closed = "HTTP/1.1 404 Not Found\r\nContent-Length: 0\r\nConnection: close\r\n\r\n";
     assert_eq!(rt; status, Status::Stream(SessionEnd::TooMany));
-    assert_eq!(rt; output.len(), 9_999 * open.len() + closed.len());
+    assert_eq!(rt; output.len(), 9_999 * NOT_FOUND.len() + closed.len());
     assert!(rt; output.as_slice().ends_with(closed.as_bytes()));
     assert_eq!(rt; given.input.take(&mut [0]), Err(Failed));
     Ok(())
