@@ -28,8 +28,8 @@ pub record GoOn (messages : List Message) : Type 0 where
   pub all_open : AreOpen messages
   pub few : length messages < 10000
 
--- Behind these messages the session ends: the last of them is the last of its connection, or the 10,000th. No further one is
--- looked for: the bytes that were taken behind the last came with it, as a part of one take.
+-- Behind these messages, of which this is the last, the session ends: it went on behind each before it. No further one is looked
+-- for: the bytes that were taken behind the last came with it, as a part of one take.
 pub record GoBefore (messages : List Message) (held : List ℕ) (last : Message) : Type 0 where
   pub before : List Message
   pub whole : messages ≡ before ++ last ∷ []
