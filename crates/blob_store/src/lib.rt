@@ -10,6 +10,3 @@ mod reading;
 
 pub use putting::put;
 pub use reading::read_tile;
-
-#[cfg(test)]
-mod tests;

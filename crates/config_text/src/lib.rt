@@ -23,6 +23,3 @@ mod span;
 mod styles;
 
 pub use read::read_catalogue;
-
-#[cfg(test)]
-mod tests;

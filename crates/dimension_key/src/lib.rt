@@ -2,10 +2,8 @@
 //!
 //! Promises: `ThemeDraft::add` takes the number of the next dimension's value, its default where none is given, and
 //! refuses exactly a value that is missing or isn't listed; a refused draft stays as it was (`specs/Draft.antt`).
-//! Stands on catalog, matrix_geometry and exact_ratio.
+//! Stands on catalog and matrix_geometry.
 #![tactic(auto)]
 
 pub mod draft;
-#[cfg(test)]
-mod tests;
 pub mod theme_draft;

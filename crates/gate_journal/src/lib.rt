@@ -25,6 +25,3 @@ pub use fault::OpenFault;
 pub use journal::Journal;
 pub use making::make;
 pub use opened::Opened;
-
-#[cfg(test)]
-mod tests;

@@ -2,7 +2,7 @@
 //!
 //! Promises: `read_cover` gives the cover of a text or its first fault in the order of its members (`specs/Cover.antt`), and
 //! a cover that was read is of the catalogue (`specs/OfCatalogue.antt` of served_covers).
-//! Stands on json_forms, truncation_list, catalog, matrix_geometry, exact_ratio and serde_json.
+//! Stands on json_forms, truncation_list, catalog, matrix_geometry and serde_json.
 #![tactic(auto)]
 
 mod bounds;
@@ -13,6 +13,3 @@ mod names;
 mod values;
 
 pub use cover::read_cover;
-
-#[cfg(test)]
-mod tests;

@@ -14,5 +14,3 @@ mod painter;
 mod palette;
 pub mod scripted;
 pub mod source;
-#[cfg(test)]
-mod tests;

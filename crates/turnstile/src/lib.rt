@@ -24,6 +24,3 @@ pub use entry::Entry;
 pub use pass::Pass;
 pub use turnstile::Turnstile;
 pub use view::{Known, Made};
-
-#[cfg(test)]
-mod tests;
