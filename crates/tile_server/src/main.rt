@@ -1,28 +1,13 @@
-//! The program `tile_server`, a cache of map tiles. It runs the lines of a schedule, serves the bytes of a connection, or
-//! makes a schedule of its own, the drill.
+//! The program `tile_server`, a cache of map tiles: it hands the words, files and streams of the process to `run_command`
+//! of tile_command, and tells how that ended.
 //!
-//! Promises: `run_command` does what its words say, and each of its statuses has its cause (`specs/Command.antt`). `main`
-//! is the trusted edge: it hands the process's words and streams to `run_command`, and tells its status.
-//! Stands on tile_service, on `clap` for the words of the server, and on the crates whose types its call names.
+//! Promises: none that a clause says; this is the trusted edge. What the command does is promised there.
+//! Stands on tile_command, and on the crates whose files and streams it opens.
 #![tactic(auto)]
 
-mod command;
-mod configured;
-mod described;
-mod duplex;
-mod fault_text;
 mod input;
-mod replay;
-mod serve_words;
-#[cfg(test)]
-mod tests;
-mod words;
 
-use command::{Status, run_command};
-use config_text::read_catalogue;
-use configured::CATALOGUE_LIMIT;
 use exact_ratio::words::Words;
-use fault_text::{code_of, tell};
 use http_wire::file_source::FileSource;
 use http_wire::inputs::read_all;
 use http_wire::std_streams::{StdinSource, StdoutSink};
@@ -33,11 +18,30 @@ use std::io::{Eprint, Print};
 use std::process::ExitCode;
 use std::rt::{Env, Files};
 use std::{env, io};
+use tile_command::command::run_command;
+use tile_command::configured::{CATALOGUE_LIMIT, source_number};
+use tile_command::status::Status;
 
-const HELP: &str =
-    "tile_server schedule < LINES    runs the lines of a schedule on a cabinet in memory of the catalogue in catalogue.json
+const HELP: &str = "tile_server: a cache of map tiles (the tile part of OGC WMTS 1.0.0)
+
+tile_server schedule < LINES    runs the lines of a schedule on a cabinet in memory, and writes the answers
 tile_server replay < BYTES      serves the bytes as those of one connection on such a cabinet, and writes the responses
 tile_server drill NUMBER        runs 4096 lines that the number makes on such a cabinet, and writes a summary
+tile_server --help              writes this text
+tile_server --version           writes the version
+
+It reads two files of the folder in which it is run:
+  catalogue.json     layers, grids, styles, limits; where it is absent, the built-in catalogue of one layer, demo
+  capabilities.xml   the capabilities document that GetCapabilities answers; where it is absent, one of no bytes
+
+It ends with a code, and all but the first are told by a line on standard error:
+   0  done                                    7  line N: this line of the schedule was refused
+   2  usage: the words are no command        10  out of memory
+   3  catalogue KIND FIELD INDEX: its fault  11  stream ..: the connection's bytes broke off
+   4  read fault                             12  too long: a file or the input is above its limit
+   5  write fault
+
+docs/OPERATING.md of its repository has the files, the lines and what to do at each fault; docs/PROMISES.md what is proved.
 ";
 
 const VERSION: &str = "tile_server 0.1.0\n";
@@ -45,7 +49,7 @@ const VERSION: &str = "tile_server 0.1.0\n";
 /// The catalogue, a file of the folder that the program is run in.
 const CATALOGUE: &str = "catalogue.json";
 
-/// The document of the capabilities, a file of that folder.
+/// The capabilities document, a file of that folder.
 const CAPABILITIES: &str = "capabilities.xml";
 
 /// The number of the source in the catalogue; 0 where that is refused.
@@ -54,7 +58,7 @@ fn source_of(rt: &(impl Files<File = File> + AllocGlobal)) -> u32 {
     let Ok(text) = read_all(rt.alloc(), &mut file, CATALOGUE_LIMIT) else {
         return 0;
     };
-    read_catalogue(rt.alloc(), text.as_slice()).map_or(0, |catalogue| catalogue.source)
+    source_number(rt.alloc(), text.as_slice())
 }
 
 /// The words behind the program's name.
@@ -99,16 +103,18 @@ fn main(rt: HostRuntime) -> ExitCode {
     ended(&rt, status)
 }
 
-/// Tells a status on standard error, and gives its code.
+/// Tells a status on standard error, `Done` apart, and gives its code. A standard error that takes nothing changes nothing.
 fn ended(rt: &impl Eprint, status: Status) -> ExitCode {
-    tell(rt, status);
-    ExitCode::from(code_of(status))
+    if status != Status::Done {
+        let _ = eprintln!(rt; "{status}");
+    }
+    ExitCode::from(status.code())
 }
 
 /// Prints a text on standard output.
 fn printed(rt: &(impl Print + Eprint), text: &str) -> ExitCode {
     match rt.print(text) {
-        Ok(()) => ExitCode::from(code_of(Status::Done)),
+        Ok(()) => ExitCode::from(Status::Done.code()),
         Err(_) => ended(rt, Status::WriteFault),
     }
 }
