@@ -9,10 +9,12 @@ mod input;
 
 use exact_ratio::words::Words;
 use http_wire::file_source::FileSource;
-use http_wire::inputs::read_all;
+use http_wire::inputs::{InputEnd, read_all};
+use http_wire::memory_source::MemorySource;
 use http_wire::std_streams::{StdinSource, StdoutSink};
 use input::Input;
-use source_render::numbered::Numbered;
+use source_render::any::AnySource;
+use std::alloc::AllocError;
 use std::fs::File;
 use std::io::{Eprint, Print};
 use std::process::ExitCode;
@@ -30,9 +32,10 @@ tile_server drill NUMBER        runs 4096 lines that the number makes on such a 
 tile_server --help              writes this text
 tile_server --version           writes the version
 
-It reads two files of the folder in which it is run:
+It reads three files of the folder in which it is run:
   catalogue.json     layers, grids, styles, limits; where it is absent, the built-in catalogue of one layer, demo
   capabilities.xml   the capabilities document that GetCapabilities answers; where it is absent, one of no bytes
+  source.grid        the cells of which pictures are made; where it is absent, the pictures of a formula
 
 It ends with a code, and all but the first are told by a line on standard error:
    0  done                                    7  line N: this line of the schedule was refused
@@ -52,13 +55,34 @@ const CATALOGUE: &str = "catalogue.json";
 /// The capabilities document, a file of that folder.
 const CAPABILITIES: &str = "capabilities.xml";
 
-/// The number of the source in the catalogue; 0 where that is refused.
-fn source_of(rt: &(impl Files<File = File> + AllocGlobal)) -> u32 {
+/// The file of cells of that folder, which makes the pictures where it is there.
+const CELLS: &str = "source.grid";
+
+/// The most bytes of the catalogue that the command takes at a time.
+const PIECE: usize = 4_096;
+
+/// The catalogue's bytes, read from its file to be handed on; the words are needed by the source before the command reads it.
+struct Catalogue {
+    input: Input,
+    /// The number of the source that it names; 0 where it is refused.
+    source: u32,
+}
+
+/// Reads the catalogue's file. What can't be read is handed on so that the command ends by the same cause.
+fn catalogue_of(rt: &(impl Files<File = File> + AllocGlobal)) -> Result<Catalogue, AllocError> {
+    let alloc = rt.alloc();
     let mut file = FileSource::open(rt, CATALOGUE);
-    let Ok(text) = read_all(rt.alloc(), &mut file, CATALOGUE_LIMIT) else {
-        return 0;
+    let (text, fails) = match read_all(alloc, &mut file, CATALOGUE_LIMIT) {
+        Ok(text) => (text, Vec::new(alloc)),
+        Err(InputEnd::ReadFault) => (Vec::new(alloc), vec![in alloc; 1]?),
+        Err(InputEnd::TooLong) => (vec![in alloc; b' '; CATALOGUE_LIMIT + 1]?, Vec::new(alloc)),
+        Err(InputEnd::OutOfMemory) => return Err(AllocError),
     };
-    source_number(rt.alloc(), text.as_slice())
+    let source = source_number(alloc, text.as_slice());
+    Ok(Catalogue {
+        input: Input::Read(MemorySource::new(text, PIECE, fails)),
+        source,
+    })
 }
 
 /// The words behind the program's name.
@@ -86,11 +110,19 @@ fn main(rt: HostRuntime) -> ExitCode {
             return printed(&rt, VERSION);
         }
     }
-    let mut catalogue = Input::File(FileSource::open(&rt, CATALOGUE));
+    let Ok(
+        Catalogue {
+            input: mut catalogue,
+            source,
+        },
+    ) = catalogue_of(&rt)
+    else {
+        return ended(&rt, Status::OutOfMemory);
+    };
     let mut capabilities = Input::File(FileSource::open(&rt, CAPABILITIES));
     let mut input = Input::Stdin(StdinSource::new(rt.stdin()));
     let mut output = StdoutSink::new(rt.stdout());
-    let mut source = Numbered::new(source_of(&rt));
+    let mut source = AnySource::open(&rt, CELLS, source);
     let status = run_command(
         rt.alloc(),
         words.as_slice(),
