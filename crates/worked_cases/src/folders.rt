@@ -42,11 +42,23 @@ pub fn bytes_or_none<R: Files<File = File> + AllocGlobal>(
     Ok(bytes.unwrap_or(Vec::new(rt.alloc())))
 }
 
-/// These bytes, so many times one after the other.
-pub fn repeated(alloc: Global, bytes: &[u8], times: u64) -> io::Result<Vec<u8>> {
-    let mut all = Vec::new(alloc);
+/// How many copies are gathered before they are appended together.
+const COPIES: u64 = 4_096;
+
+/// Appends these bytes so many times.
+fn append(all: &mut Vec<u8>, bytes: &[u8], times: u64) -> io::Result<()> {
     for _ in 0..times {
         all.extend_from_slice(bytes)?;
     }
+    Ok(())
+}
+
+/// These bytes, so many times one after the other.
+pub fn repeated(alloc: Global, bytes: &[u8], times: u64) -> io::Result<Vec<u8>> {
+    let mut copies = Vec::new(alloc);
+    append(&mut copies, bytes, times.min(COPIES))?;
+    let mut all = Vec::new(alloc);
+    append(&mut all, copies.as_slice(), times / COPIES)?;
+    append(&mut all, bytes, times % COPIES)?;
     Ok(all)
 }
