@@ -13,6 +13,7 @@ pub mod numbered;
 mod painter;
 mod palette;
 pub mod scripted;
+pub mod shut;
 pub mod source;
 #[cfg(test)]
 mod tests;
