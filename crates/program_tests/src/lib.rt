@@ -4,6 +4,8 @@
 #![tactic(auto)]
 
 #[cfg(test)]
+mod order;
+#[cfg(test)]
 mod serve_words;
 #[cfg(test)]
 mod streams;
