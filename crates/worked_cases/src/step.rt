@@ -32,7 +32,7 @@ fn own<R: Files<File = File> + AllocGlobal>(
     bytes_or_none(rt, path.as_str())
 }
 
-/// Reads a file of a step as a text without its last line end; an empty one where it has none.
+/// Reads a file of a step as a text; an empty one where it has none.
 fn text<R: Files<File = File> + AllocGlobal>(
     rt: &R,
     case: &str,
@@ -40,10 +40,7 @@ fn text<R: Files<File = File> + AllocGlobal>(
     name: &str,
 ) -> io::Result<String> {
     let bytes = own(rt, case, step, name)?;
-    match String::from_utf8(bytes) {
-        Ok(text) => Ok(String::from_str(rt.alloc(), text.as_str().trim_end())?),
-        Err(_) => Err(io::Error::from(io::ErrorKind::InvalidData)),
-    }
+    String::from_utf8(bytes).map_err(|_| io::Error::from(io::ErrorKind::InvalidData))
 }
 
 /// What a command is given by the files of a step.
@@ -94,10 +91,9 @@ pub fn difference_of<R: Files<File = File> + AllocGlobal>(
     let given = given_by(rt, case, step, fakes)?;
     let status = text(rt, case, step, "status")?;
     let output = expected_of(rt, case, step, times)?;
-    let status = if status.is_empty() {
-        "0"
-    } else {
-        status.as_str()
+    let status = match status.as_str().trim_end() {
+        "" => "0",
+        told => told,
     };
     came_to(rt.alloc(), given)?.differs_from(rt.alloc(), status, output.as_slice())
 }
