@@ -1,0 +1,19 @@
+//! quota_ledger
+use catalog::catalogue::{Catalogue, Scope};
+use quota_ledger::ledger::Ledger;
+use std::test::Fail;
+
+#[test]
+fn a_quota_is_exceeded_past_it(rt: HostRuntime) -> Result<(), Fail> {
+    let mut catalogue = Catalogue::demo(rt.alloc())?;
+    catalogue.quota = Some(9);
+    let mut ledger = Ledger::new(rt.alloc(), &catalogue)?;
+    ledger.add(0, 7);
+    ledger.add(0, 3);
+    assert_eq!(rt; ledger.exceeded(), Some(Scope::All));
+    ledger.remove(0, 7);
+    assert_eq!(rt; ledger.exceeded(), None);
+    assert_eq!(rt; ledger.used(0), 3);
+    assert_eq!(rt; ledger.used_all(), 3);
+    Ok(())
+}

@@ -1,0 +1,110 @@
+//! cabinet
+ghost use Rattle.std.specs.Prelude.{IfOk, ◌≡◌};
+ghost use Rattle.catalog.specs.Demo.{demo};
+ghost use Rattle.raster_field.specs.Blocks.{IsMeta};
+
+use crate::fixtures::CORNER;
+use cabinet::cabinet::Cabinet;
+use cabinet::replies::{Asked, Finished, Forced};
+use catalog::catalogue::Catalogue;
+use metatile_plan::metatile::MetaKey;
+use raster_field::laws::laws_of_metatiles;
+use raster_field::layout::{blob_size, block_of};
+use std::alloc::{AllocError, Global};
+use std::marker::Send;
+use std::test::Fail;
+
+/// A cabinet of the demo catalogue.
+fn new(alloc: Global) -> Result<Cabinet, AllocError>
+    ensures { IfOk result (λ c. c.catalogue ≡ demo) }
+{
+    Cabinet::memory(alloc, Catalogue::demo(alloc)?)
+}
+
+/// The metatile of the corner.
+fn corner(cabinet: &Cabinet) -> MetaKey
+    requires { cabinet.now.catalogue ≡ demo }
+    ensures { IsMeta cabinet.now.catalogue result }
+{
+    cabinet.known();
+    laws_of_metatiles();
+    block_of(cabinet.catalogue(), &CORNER)
+}
+
+/// Begins a render of the corner in one cabinet, and hands a blob of its length to another.
+fn handed(alloc: Global, from: &mut Cabinet, to: &mut Cabinet) -> Result<Finished, AllocError>
+    requires from { from.old.catalogue ≡ demo }
+    requires to { to.old.catalogue ≡ demo }
+    ensures { to.new.catalogue ≡ demo }
+{
+    to.known();
+    let meta = corner(to);
+    let size = blob_size(to.catalogue(), &meta);
+    let blob = vec![in alloc; 7; size as usize]?;
+    match from.force(alloc, &meta)? {
+        Forced::Ticket(ticket) => Ok(to.finish(ticket, blob)),
+        Forced::Busy(_) => Ok(Finished::Kept),
+        Forced::Spent => Ok(Finished::Kept),
+    }
+}
+
+/// Begins a render of the corner, and hands in a blob of its length.
+fn kept(alloc: Global, cabinet: &mut Cabinet) -> Result<Finished, AllocError>
+    requires { cabinet.old.catalogue ≡ demo }
+    ensures { cabinet.new.catalogue ≡ demo }
+{
+    cabinet.known();
+    let meta = corner(cabinet);
+    let size = blob_size(cabinet.catalogue(), &meta);
+    let blob = vec![in alloc; 7; size as usize]?;
+    match cabinet.force(alloc, &meta)? {
+        Forced::Ticket(ticket) => Ok(cabinet.finish(ticket, blob)),
+        Forced::Busy(_) => Ok(Finished::Stranger),
+        Forced::Spent => Ok(Finished::Stranger),
+    }
+}
+
+/// Asks for the corner: whether it is a hit with the text that was handed in, and the number of its render, which is given
+/// up where it is none.
+fn asked(alloc: Global, cabinet: &mut Cabinet) -> Result<(bool, u64), AllocError>
+    requires { cabinet.old.catalogue ≡ demo }
+    ensures { cabinet.new.catalogue ≡ demo }
+{
+    match cabinet.ask(alloc, &CORNER)? {
+        Asked::Hit(number, text) => Ok((text.as_slice() == [7; 23].as_slice(), number)),
+        Asked::Ticket(ticket) => {
+            let number = ticket.number();
+            cabinet.abandon(ticket);
+            Ok((false, number))
+        }
+        Asked::Busy(_) => Ok((false, 0)),
+        Asked::Spent => Ok((false, 0)),
+    }
+}
+
+fn sent<T: Send>(value: T) -> T
+    ensures { result ≡ value }
+{
+    value
+}
+
+#[test]
+fn a_render_is_given_up_and_the_next_one_kept(rt: HostRuntime) -> Result<(), Fail> {
+    let alloc = rt.alloc();
+    let mut cabinet = sent(new(alloc)?);
+    assert_eq!(rt; asked(alloc, &mut cabinet)?, (false, 1));
+    assert_eq!(rt; kept(alloc, &mut cabinet)?, Finished::Kept);
+    assert_eq!(rt; asked(alloc, &mut cabinet)?, (true, 2));
+    Ok(())
+}
+
+#[test]
+fn the_ticket_of_another_cabinet_is_strange(rt: HostRuntime) -> Result<(), Fail> {
+    let alloc = rt.alloc();
+    let mut one = new(alloc)?;
+    let mut other = new(alloc)?;
+    assert_eq!(rt; handed(alloc, &mut other, &mut one)?, Finished::Stranger);
+    assert_eq!(rt; one.kept(), 0);
+    assert_eq!(rt; kept(alloc, &mut one)?, Finished::Kept);
+    Ok(())
+}

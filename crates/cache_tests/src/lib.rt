@@ -1,0 +1,27 @@
+//! Tests of the crates of truncations, of the cache and of threads: their calls one after the other, and two threads at one
+//! turnstile.
+//!
+//! It has no code of its own and promises nothing: what the crates promise is proved in each of them. What a whole run of the
+//! program shows, as an expiry or a full list of cuts, is tested there.
+//! Stands on truncation_list, metatile_locks, quota_ledger, expiry_policy, cabinet, cache_core and turnstile, and on
+//! source_render, raster_field, metatile_plan, catalog, matrix_geometry and exact_ratio for what they are called with.
+#![tactic(auto)]
+
+#[cfg(test)]
+mod accounts;
+#[cfg(test)]
+mod cabinets;
+#[cfg(test)]
+mod counter;
+#[cfg(test)]
+mod expiries;
+#[cfg(test)]
+mod fixtures;
+#[cfg(test)]
+mod renders;
+#[cfg(test)]
+mod requests;
+#[cfg(test)]
+mod truncations;
+#[cfg(test)]
+mod turnstiles;

@@ -1,0 +1,38 @@
+//! raster_field
+use crate::fixtures::FIRST;
+use catalog::catalogue::Catalogue;
+use raster_field::colour::{Colour, colour_of};
+use raster_field::field::field_value;
+use raster_field::layout::{style_of, window_at};
+use raster_field::raster::Raster;
+use std::test::Fail;
+
+// The first value under number 1 is 7 + 17 * 4 + 13 * 4.
+#[test]
+fn the_first_value_is_told(rt: HostRuntime) -> Result<(), Fail> {
+    let catalogue = Catalogue::demo(rt.alloc())?;
+    let value = field_value(&catalogue, 0, 1, &FIRST, 0, 0);
+    assert_eq!(rt; value, 0x7f);
+    let grey = Colour {
+        r: 0x7f,
+        g: 0x7f,
+        b: 0x7f,
+    };
+    assert_eq!(rt; colour_of(style_of(&catalogue, &FIRST), value), grey);
+    Ok(())
+}
+
+#[test]
+fn a_raster_is_what_was_set(rt: HostRuntime) -> Result<(), Fail> {
+    let catalogue = Catalogue::demo(rt.alloc())?;
+    let mut raster = Raster::new(rt.alloc(), &window_at(&catalogue, &FIRST))?;
+    if raster.width() != 2 || raster.height() != 2 {
+        panic!(rt; "another size");
+    }
+    let red = Colour { r: 255, g: 0, b: 0 };
+    raster.set(1, 1, red);
+    assert_eq!(rt; raster.get(1, 1), red);
+    raster.set_row(0, &[1, 2, 3, 4, 5, 6]);
+    assert_eq!(rt; raster.part(1, 0, 1), [4u8, 5, 6].as_slice());
+    Ok(())
+}

@@ -1,0 +1,39 @@
+//! job_forms
+use crate::fixtures::sea;
+use job_forms::fault::{JobFault, JobField};
+use job_forms::read_cover;
+use matrix_geometry::boxes::Box9;
+use matrix_geometry::theme::Filter;
+use std::test::Fail;
+use truncation_list::cover::Cover;
+
+const TEXT: &[u8] =
+    br#"{"layer":"sea","grid":"tiny","zoomStart":0,"zoomStop":2,"bounds":["0","12","4.000004","16"],"format":"image/x-portable-pixmap","style":"grey","dimensions":{"level":"10"},"type":7}"#;
+
+const COVER: Cover = Cover {
+    layer: 0,
+    grid: 0,
+    z_start: 0,
+    z_stop: 2,
+    bounds: Some(Box9 {
+        min_x: 0,
+        min_y: 12_000_000_000,
+        max_x: 4_000_004_000,
+        max_y: 16_000_000_000,
+    }),
+    filter: Filter {
+        style: Some(0),
+        dims: [None, Some(1), None, None],
+    },
+};
+
+#[test]
+fn a_cover_is_read_or_has_its_first_fault(rt: HostRuntime) -> Result<(), Fail> {
+    let alloc = rt.alloc();
+    let catalogue = sea(alloc)?;
+    catalogue.validate()?;
+    assert_eq!(rt; read_cover(alloc, &catalogue, TEXT), Ok(COVER));
+    let missing = read_cover(alloc, &catalogue, b"{\"grid\":\"none\"}");
+    assert_eq!(rt; missing, Err(JobFault::Missing(JobField::Layer)));
+    Ok(())
+}

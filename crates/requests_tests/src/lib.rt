@@ -1,0 +1,22 @@
+//! Tests of the crates of requests: streams in all their pieces, faults of links and files, and one call of each reader.
+//!
+//! It has no code of its own and promises nothing: what the crates promise is proved in each of them. What a whole run of the
+//! program shows, as most refusals, is tested there.
+//! Stands on wmts_kvp, wmts_rest, http_wire, schedule_text and job_forms, and on exception_report, truncation_list, catalog,
+//! matrix_geometry and exact_ratio for what they give and take.
+#![tactic(auto)]
+
+#[cfg(test)]
+mod covers;
+#[cfg(test)]
+mod fixtures;
+#[cfg(test)]
+mod lines;
+#[cfg(test)]
+mod messages;
+#[cfg(test)]
+mod paths;
+#[cfg(test)]
+mod queries;
+#[cfg(test)]
+mod streams;

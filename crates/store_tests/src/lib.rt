@@ -1,0 +1,17 @@
+//! Tests of the crates of the store: layouts to the byte, each moment at which a disk stops, and one real file.
+//!
+//! It has no code of its own and promises nothing: what the crates promise is proved in each of them.
+//! Stands on disk_model, gate_journal, record_text, extent_map and blob_store, and on metatile_plan, truncation_list and
+//! matrix_geometry for the fields of records.
+#![tactic(auto)]
+
+#[cfg(test)]
+mod blobs;
+#[cfg(test)]
+mod disks;
+#[cfg(test)]
+mod extents;
+#[cfg(test)]
+mod journals;
+#[cfg(test)]
+mod records;

@@ -1,0 +1,132 @@
+//! record_text
+use matrix_geometry::boxes::Box9;
+use matrix_geometry::theme::{Filter, Theme};
+use metatile_plan::metatile::MetaKey;
+use record_text::entries::Record;
+use record_text::reading::decode;
+use record_text::writing::encode;
+use truncation_list::cover::Cover;
+
+const KEY: MetaKey = MetaKey {
+    theme: Theme {
+        layer: 258,
+        style: 3,
+        dims: [4, 5, 6, 7],
+    },
+    grid: 8,
+    z: 9,
+    row: 10,
+    col: 11,
+};
+
+const ANY: Cover = Cover {
+    layer: 1,
+    grid: 2,
+    z_start: 3,
+    z_stop: 4,
+    bounds: None,
+    filter: Filter {
+        style: None,
+        dims: [None, Some(0), None, Some(258)],
+    },
+};
+
+const BOXED: Cover = Cover {
+    layer: 1,
+    grid: 2,
+    z_start: 3,
+    z_stop: 4,
+    bounds: Some(Box9 {
+        min_x: -2,
+        min_y: -1,
+        max_x: 0,
+        max_y: 1,
+    }),
+    filter: Filter {
+        style: Some(0),
+        dims: [None; 4],
+    },
+};
+
+const NO_FILTER: [u8; 9] = [0; 9];
+
+/// A body that begins with these bytes, has these as a cut's style and values, and is else 0.
+fn body_of(front: &[u8], filter: [u8; 9]) -> [u8; 63] {
+    let mut body = [0; 63];
+    body[47..56].copy_from_slice(&filter);
+    for (place, byte) in body.iter_mut().zip(front) {
+        *place = *byte;
+    }
+    body
+}
+
+#[test]
+fn a_record_has_its_bytes(rt: HostRuntime) {
+    let cases: [(&[u8], [u8; 9], Record); 5] = [
+        (
+            &[1, 0, 0, 0, 1, 0, 0, 0, 0, 0, 0, 1, 2],
+            NO_FILTER,
+            Record::Opened(1, 258),
+        ),
+        (
+            &[
+                2, 0, 0, 0, 0, 0, 0, 2, 1, 1, 2, 3, 0, 4, 0, 5, 0, 6, 0, 7, 8, 9, 0, 0, 0, 10, 0,
+                0, 0, 11, 0, 0, 0, 0, 0, 0, 0, 0, 0, 0, 12, 0, 0, 0, 13,
+            ],
+            NO_FILTER,
+            Record::Stored(513, KEY, 12, 13),
+        ),
+        (
+            &[
+                3, 0, 0, 0, 0, 0, 0, 2, 1, 1, 2, 3, 0, 4, 0, 5, 0, 6, 0, 7, 8, 9, 0, 0, 0, 10, 0,
+                0, 0, 11,
+            ],
+            NO_FILTER,
+            Record::Dropped(513, KEY),
+        ),
+        (
+            &[4, 0, 0, 0, 0, 0, 0, 2, 1, 0, 1, 2, 3, 4],
+            [0, 0, 0, 0, 1, 0, 0, 1, 3],
+            Record::Cut(513, ANY),
+        ),
+        (
+            &[
+                4, 0, 0, 0, 0, 0, 0, 2, 1, 0, 1, 2, 3, 4, 1, 255, 255, 255, 255, 255, 255, 255,
+                254, 255, 255, 255, 255, 255, 255, 255, 255, 0, 0, 0, 0, 0, 0, 0, 0, 0, 0, 0, 0, 0,
+                0, 0, 1,
+            ],
+            [1, 0, 0, 0, 0, 0, 0, 0, 0],
+            Record::Cut(513, BOXED),
+        ),
+    ];
+    for (front, filter, entry) in cases {
+        assert_eq!(rt; decode(&body_of(front, filter)), Some(entry));
+    }
+    let dropped = body_of(
+        &[
+            3, 0, 0, 0, 0, 0, 0, 2, 1, 1, 2, 3, 0, 4, 0, 5, 0, 6, 0, 7, 8, 9, 0, 0, 0, 10, 0, 0, 0,
+            11,
+        ],
+        NO_FILTER,
+    );
+    assert!(rt; encode(&Record::Dropped(513, KEY)) == dropped);
+}
+
+// An unknown kind, a byte after the fields, and a cut whose byte for the box is 2, or whose coordinate stands without a box.
+#[test]
+fn a_body_that_is_no_spelling_has_no_record(rt: HostRuntime) {
+    let cases: [(&[u8], usize, u8); 5] = [
+        (&[], 0, 0),
+        (&[5], 0, 5),
+        (&[1, 0, 0, 0, 1, 0, 0, 0, 0, 0, 0, 1, 2], 62, 1),
+        (&[4, 0, 0, 0, 0, 0, 0, 0, 1], 14, 2),
+        (&[4, 0, 0, 0, 0, 0, 0, 0, 1], 46, 1),
+    ];
+    for (front, place, byte) in cases {
+        let mut body = body_of(front, NO_FILTER);
+        if place < 63 {
+            body[place] = byte;
+        }
+        assert_eq!(rt; decode(&body), None);
+    }
+}

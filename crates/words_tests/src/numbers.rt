@@ -1,0 +1,58 @@
+//! exact_ratio
+use exact_ratio::decimal::{Decimal, DecimalFault};
+use exact_ratio::floor::floor_div;
+use exact_ratio::items::Items;
+use exact_ratio::ratio::Ratio;
+use exact_ratio::words::Words;
+use std::test::Fail;
+
+const LONG: Decimal = Decimal {
+    units: 2_132_729_583_849_784,
+    places: 12,
+};
+
+const NEGATIVE: Decimal = Decimal {
+    units: -5,
+    places: 1,
+};
+
+#[test]
+fn a_text_is_a_decimal_or_has_its_first_fault(rt: HostRuntime) {
+    let cases: [(&[u8], Result<Decimal, DecimalFault>); 9] = [
+        (b"2132.729583849784", Ok(LONG)),
+        (b"-0.5", Ok(NEGATIVE)),
+        (b"", Err(DecimalFault::Empty)),
+        (b"-", Err(DecimalFault::Empty)),
+        (b"1.", Err(DecimalFault::NotADigit(2))),
+        (b"1.5x", Err(DecimalFault::NotADigit(3))),
+        (b".5", Err(DecimalFault::NotADigit(0))),
+        (b"1234567890123456789", Err(DecimalFault::TooLong)),
+        (b"1234567890123456789x", Err(DecimalFault::NotADigit(19))),
+    ];
+    for (text, expected) in cases {
+        assert_eq!(rt; Decimal::read(text), expected);
+    }
+}
+
+#[test]
+fn a_fraction_comes_to_lowest_terms(rt: HostRuntime) {
+    for (n, d, expected) in [
+        (-6, 4, Some(Ratio::lowest(-3, 2))),
+        (0, 7, Some(Ratio::whole(0))),
+        (1, 0, None),
+        (i128::MIN, 1, None),
+    ] {
+        assert_eq!(rt; Ratio::new(n, d), expected);
+    }
+    assert_eq!(rt; floor_div(-7, 2), -4);
+}
+
+#[test]
+fn containers_give_back_what_they_took(rt: HostRuntime) -> Result<(), Fail> {
+    let words = Words::new(rt.alloc(), b"demo")?;
+    assert_eq!(rt; words.bytes(), b"demo".as_slice());
+    let items = Items::of(vec![in rt.alloc(); 3, 5]?);
+    assert_eq!(rt; items.get(1), Some(&5));
+    assert_eq!(rt; Items::of(items.into_vec()).len(), 2);
+    Ok(())
+}
