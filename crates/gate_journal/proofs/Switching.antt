@@ -211,7 +211,7 @@ kept_then result l l' standing last after old mid new keeps moves = record {
 -- The other half is filled, and its header is written and opened.
 module _ (l : Layout) (fits : l.count ≤ l.slots) (small : l.generation < 2 ^ 64) (digest_size : length l.digest ≡ 32) (bodies : List (List ℕ)) (few : length bodies ≤ l.slots)
     (long : (i : ℕ) → i < length bodies → length (get_or bodies i []) ≡ 63) (old mid : DiskState) (lawful : IsLawful old) (filled : IsFilled l bodies old) (own_gate : ℕ)
-    (title : List ℕ) (title_size : length title ≡ 63) (first : ChangesBy (TornWrite (header_at (other_half l.half)) 63) old mid) where
+    (title : List ℕ) (first : ChangesBy (TornWrite (header_at (other_half l.half)) 63) old mid) where
   abbrev number : ℕ
   number = (l.generation + 1) % 2 ^ 64
 
@@ -255,7 +255,7 @@ module _ (l : Layout) (fits : l.count ≤ l.slots) (small : l.generation < 2 ^ 6
   title_failed result fault is = kept_failed l own_gate bodies old mid result fault is titling
 
   -- the header's body is on the disk, and its gate is written
-  module _ (is_title : title ≡ magic ++ to_be_bytes w64 number ++ l.digest ++ replicate 15 0) (put : mid.seen ≡ written (header_at (other_half l.half)) title old.seen) (only_mid : Only mid.seen mid.may_leave)
+  module _ (is_title : title ≡ magic ++ to_be_bytes w64 number ++ l.digest ++ replicate 15 0) (put : bytes_at mid.seen (header_at (other_half l.half)) 63 ≡ title) (only_mid : Only mid.seen mid.may_leave)
       (lawful_mid : IsLawful mid) (new : DiskState) (second : ChangesBy (TornWrite (header_at (other_half l.half) + 63) 1) mid new) where
     abbrev mark : ℕ
     mark = header_at (other_half l.half) + 63
@@ -263,7 +263,7 @@ module _ (l : Layout) (fits : l.count ≤ l.slots) (small : l.generation < 2 ^ 6
     says : (c : Content) → SameOutside mark 1 mid.seen c → IsHeader (header_at (other_half l.half)) number l.digest c
     says c same = is_header (header_at (other_half l.half)) number l.digest c digest_size
         (same_bytes mid.seen c (header_at (other_half l.half)) 63 (λ i lo hi. same.others i (inl hi))
-        ∙ subst (λ (n : ℕ). bytes_at mid.seen (header_at (other_half l.half)) n ≡ title) title_size (written_bytes (header_at (other_half l.half)) title old.seen mid.seen put) ∙ is_title)
+        ∙ put ∙ is_title)
 
     near_kept : (c : Content) → SameOutside mark 1 mid.seen c → kept_by l c ≡ kept_by l old.seen
     near_kept c same = closing_kept l fits mid.seen c same ∙ mid_stands.same_records
