@@ -29,5 +29,3 @@ pub use laws::laws_of_journals;
 pub use making::make;
 pub use opened::Opened;
 
-#[cfg(test)]
-mod tests;
