@@ -132,3 +132,7 @@ holds_head holds = (holds.2.head, holds.0.body ++ holds.1, holds.2.begins)
 
 pub holds_whole : (held new first : List ℕ) (outlined : Outlined) (outline : Outline) → new ≡ held → Outlines first outlined → first ≡ new → outlined ≡ Good outline → HoldsMessage held → outline.start + outline.size ≤ length new
 holds_whole held new first outlined outline e says same is holds = whole_message held new outline holds.0 holds.1 e (good_outline new first outlined outline says same is) holds.2
+
+-- the same of bytes that are held under another name
+pub fetched_of : {inside held new : List ℕ} {left after : Option (List ℕ)} {faults now : ℕ} {beside still : Side} {result : Result Next WireFault} → inside ≡ held → Fetches inside new left after faults now beside still result → Fetches held new left after faults now beside still result
+fetched_of {new = new} {left} {after} {faults} {now} {beside} {still} {result} same fetches = subst (λ (l : List ℕ). Fetches l new left after faults now beside still result) same fetches
