@@ -1,7 +1,7 @@
 ghost use Rattle.std.specs.Prelude.{◌≡◌, ◌≤◌, ◌+◌, false, max, length};
 ghost use Rattle.http_wire.specs.Lines.{is_line_byte, IsBlankUpTo, HasNoLineEnd, Extends};
 ghost use Rattle.http_wire.specs.Looks.{HoldsHead, MayHaveHead};
-ghost use Rattle.http_wire.specs.Takes.{Takes, BringsPiece, BringsLine, BringsUpTo, Finds, FindsHead};
+ghost use Rattle.http_wire.specs.Takes.{Takes, BringsPiece, BringsLine, BringsUpTo, Gains, Finds, FindsHead};
 
 use crate::look::{Found, HEAD_LIMIT, at_end, step};
 use crate::message::WireFault;
@@ -137,8 +137,7 @@ pub fn read_up_to<S: ByteSource>(
     ensures takes { Takes held.old.items held.new.items (S.left source.old) (S.left source.new) (S.faults source.old) (S.faults source.new) (S.apart source.old) (S.apart source.new) result }
     ensures brings { BringsUpTo need held.new.items (S.left source.new) result }
     ensures untouched { need ≤ length held.old.items → source.new ≡ source.old }
-    ensures extends { Extends held.old.items held.new.items }
-    ensures few { length held.new.items ≤ max (length held.old.items) (need + 4095) }
+    ensures gains { Gains need held.old.items held.new.items }
 {
     'reading: while held.len() < need {
         if !take_more(held, source)? {

@@ -26,11 +26,11 @@ returns-in-Err-clause-fetches g c = no_memory c.in_ok-spans.ensures.takes
 pub returns-in_err-read_up_to-clause-fetches : goal.returns-in_err-read_up_to-clause-fetches
 returns-in_err-read_up_to-clause-fetches g c =
     let p = err_from_is_err_and c.from_residual-in_err-read_up_to.result c.from_residual-in_err-read_up_to.ensures.1 in
-    handed_fault p.1 p.2 (takes_more _ c.in_ok-spans.ensures.takes c.in_err-read_up_to.ensures.takes) (none_within _ _ _ _ _ c.as_slice.ensures.value c.in-Ok-Good.ensures c.in-Ok-Good.field-0-is c.read_up_to.ensures.extends c.in_err-read_up_to.ensures.brings)
+    handed_fault p.1 p.2 (takes_more _ c.in_ok-spans.ensures.takes c.in_err-read_up_to.ensures.takes) (none_within _ _ _ _ _ c.as_slice.ensures.value c.in-Ok-Good.ensures c.in-Ok-Good.field-0-is c.read_up_to.ensures.gains.extends c.in_err-read_up_to.ensures.brings)
 
 pub returns-then-not-branch-clause-fetches : goal.returns-then-not-branch-clause-fetches
 returns-then-not-branch-clause-fetches g c =
-    truncated c.in-Ok-Good.outline c.in_ok-spans.ensures.takes c.in_ok-read_up_to.ensures.takes (good_outline _ _ _ _ c.in-Ok-Good.ensures c.as_slice.ensures.value c.in-Ok-Good.field-0-is) c.read_up_to.ensures.extends c.if-not-branch.true c.in_ok-read_up_to.ensures.brings
+    truncated c.in-Ok-Good.outline c.in_ok-spans.ensures.takes c.in_ok-read_up_to.ensures.takes (good_outline _ _ _ _ c.in-Ok-Good.ensures c.as_slice.ensures.value c.in-Ok-Good.field-0-is) c.read_up_to.ensures.gains.extends c.if-not-branch.true c.in_ok-read_up_to.ensures.brings
 
 -- the bytes that were taken, and found no room as a body
 pub returns-in_default-clause-fetches : goal.returns-in_default-clause-fetches
@@ -38,7 +38,7 @@ returns-in_default-clause-fetches g c = no_memory (takes_more _ c.in_ok-spans.en
 
 pub returns-clause-fetches : goal.returns-clause-fetches
 returns-clause-fetches g c =
-    message_fetched c.in-Ok-Good.outline _ c.in_ok-spans.ensures.takes c.in_ok-spans.ensures.finds.1 (good_outline _ _ _ _ c.in-Ok-Good.ensures c.as_slice.ensures.value c.in-Ok-Good.field-0-is) c.in_ok-read_up_to.ensures.takes c.if-not-branch.false c.in_ok-read_up_to.ensures.brings c.read_up_to.ensures.few c.in-Ok.ensures.body c.in-Ok.ensures.rest refl refl refl
+    message_fetched c.in-Ok-Good.outline _ c.in_ok-spans.ensures.takes c.in_ok-spans.ensures.finds.1 (good_outline _ _ _ _ c.in-Ok-Good.ensures c.as_slice.ensures.value c.in-Ok-Good.field-0-is) c.in_ok-read_up_to.ensures.takes c.if-not-branch.false c.in_ok-read_up_to.ensures.brings c.read_up_to.ensures.gains.few c.in-Ok.ensures.body c.in-Ok.ensures.rest refl refl refl
 
 -- A WHOLE MESSAGE IS HELD ALREADY
 
