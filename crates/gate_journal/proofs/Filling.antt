@@ -55,6 +55,10 @@ torn_more at n start m old mid new low high before one =
     changes_then (TornWrite start m) (TornWrite at n) (TornWrite start m) old mid new (λ c d torn. torn)
     (λ c d e first next. torn_then start m c d e first (torn_within at n start m d e low high next)) before (changes_at (TornWrite at n) mid new one)
 
+-- one slot more of a half
+pub torn_slot : (start here n k slots : ℕ) (old mid new : DiskState) → k < slots → here ≡ start + 64 * k → n ≡ 64 → ChangesBy (TornWrite start (64 * slots)) old mid → Steps (TornWrite here n) mid new → ChangesBy (TornWrite start (64 * slots)) old new
+torn_slot start here n k slots old mid new lt is size before one = torn_more here n start (64 * slots) old mid new (omega arith) (omega arith) before one
+
 -- the bodies of a half that is filled
 all_bodies : (c : Content) (at : ℕ) (bodies : List (List ℕ)) → ((i : ℕ) → i < length bodies → bytes_at c (at + 64 * i) 63 ≡ get_or bodies i []) → bodies_at c at (length bodies) ≡ bodies
 all_bodies c at [] each = refl
