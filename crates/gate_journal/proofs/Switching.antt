@@ -20,6 +20,13 @@ use Rattle.gate_journal.proofs.Places.{Agree, half_low, half_high, header_low, h
 use Rattle.gate_journal.proofs.Same.{same_bytes, same_counts, same_generation, same_digest, same_bodies, same_laid_out}
 use Rattle.gate_journal.proofs.Steps.{err_only, on_err, from_only, past_write, past_same, past_then}
 
+-- a gate that was closed, and is on the disk
+pub shut_by_write : (gate : ℕ) (mid new : DiskState) → new.seen ≡ written gate (0 ∷ []) mid.seen → Only new.seen new.may_leave → Every new.may_leave (λ c. byte_at c gate ≢ 1)
+shut_by_write gate mid new put only c now is =
+    let zero_there : byte_at new.seen gate ≡ 0 = ap (λ (bytes : List ℕ). get_or bytes 0 0) (written_bytes gate (0 ∷ []) mid.seen new.seen put) in
+    let one_there : byte_at new.seen gate ≡ 1 = ap (λ (e : Content). byte_at e gate) (sym (only c now)) ∙ is in
+    absurd (omega arith)
+
 module _ (l : Layout) (fits : l.count ≤ l.slots) where
   abbrev end : ℕ
   end = journal_length l.slots
@@ -124,12 +131,6 @@ module _ (l : Layout) (fits : l.count ≤ l.slots) where
             let stood = closed_stands c after in laid_out_opens l c fits stood.laid_out ∙ ap records stood.same_records));
         past = past_then end old mid new read_past (past_write gate 1 end mid new low lawful_mid.reads_as (λ d was. (read_stands d was).0.whole) change);
       }
-
-      pub closed_in_each : new.seen ≡ written gate (0 ∷ []) mid.seen → Only new.seen new.may_leave → Every new.may_leave (λ c. byte_at c gate ≢ 1)
-      closed_in_each put only c now is =
-          let zero_there : byte_at new.seen gate ≡ 0 = ap (λ (bytes : List ℕ). get_or bytes 0 0) (written_bytes gate (0 ∷ []) mid.seen new.seen put) in
-          let one_there : byte_at new.seen gate ≡ 1 = ap (λ (e : Content). byte_at e gate) (sym (only c now)) ∙ is in
-          absurd (omega arith)
 
   -- filling the other half
   filled_header : (c d : Content) → SameOutside start (64 * l.slots) c d → Agree 0 128 c d
