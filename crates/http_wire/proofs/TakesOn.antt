@@ -13,7 +13,7 @@ use Rattle.http_wire.proofs.LeftBehind.{fault_before, taken_remain}
 
 -- CAUSES
 
-rose_before : (bound before middle now : ℕ) → before ≤ middle → min (middle + 1) bound ≤ now → min (before + 1) bound ≤ now
+pub rose_before : (bound before middle now : ℕ) → before ≤ middle → min (middle + 1) bound ≤ now → min (before + 1) bound ≤ now
 rose_before bound before middle now first then = omega arith
 
 no_fault : {T : Type 0} (value : T) (before now : ℕ) → before ≤ now → HasReadCause {T = T} before now (Ok value)
