@@ -10,3 +10,4 @@ mod reading;
 
 pub use putting::put;
 pub use reading::read_tile;
+

@@ -1,5 +1,5 @@
 -- What a theme, an address or a number names in a catalogue.
-use Rattle.std.specs.Prelude.{ℕ, ◌<◌, ◌==◌, Bool, if◌then◌else◌, List, [], Option, Some, None, option_and_then, option_map, unwrap_or, slice_get, IsSomeAnd, Contains, IsSome}
+use Rattle.std.specs.Prelude.{ℕ, ◌≡◌, ◌<◌, ◌==◌, Bool, if◌then◌else◌, List, [], length, Option, Some, None, option_and_then, option_map, unwrap_or, slice_get, IsSomeAnd, Contains, IsSome}
 use Rattle.std.specs.List.{list_any}
 use Rattle.catalog.specs.declared.catalogue.Catalogue.{Catalogue}
 use Rattle.catalog.specs.declared.layer.Dimension.{Dimension}
@@ -26,6 +26,15 @@ dimensions_of c layer = unwrap_or (option_map (λ l. l.dims) (slice_get c.layers
 abbrev pub dimension_at : Catalogue → ℕ → ℕ → Option Dimension
 dimension_at c layer dim = option_and_then (λ l. slice_get l.dims dim) (slice_get c.layers layer)
 
+-- how many values a theme may have at this place of its numbers: those of the layer's dimension there, and 0 alone where the
+-- layer has no dimension there
+abbrev pub values_at : Catalogue → ℕ → ℕ → ℕ
+values_at c layer place = unwrap_or (option_map (λ d. length d.values) (dimension_at c layer place)) 1
+
+-- the theme has one of the values of each of its layer's dimensions, and 0 at the places after them
+pub record HasValues (c : Catalogue) (t : Theme) : Type 0 where
+  pub each : (place number : ℕ) → slice_get t.dims place ≡ Some number → number < values_at c t.layer place
+
 -- the grid of this number is one of the layer's
 abbrev pub serves : Layer → ℕ → Bool
 serves l grid = list_any (λ n. n == grid) l.grids
@@ -38,10 +47,11 @@ matrix_in c grid z = option_and_then (λ g. slice_get g.matrices z) (slice_get c
 abbrev pub matrix_of : Catalogue → Address → Option Matrix
 matrix_of c a = matrix_in c a.grid a.z
 
--- the tile lies in a matrix of one of its layer's grids
+-- the tile lies in a matrix of one of its layer's grids, and its style and its values are the layer's
 pub record IsTile (c : Catalogue) (a : Address) : Type 0 where
   pub layer : IsSomeAnd (layer_of c a.theme) (λ l. Contains l.grids a.grid)
   pub style : IsSome (style_of c a.theme)
+  pub values : HasValues c a.theme
   pub place : IsSomeAnd (matrix_of c a) (λ m. (a.row < m.rows) × (a.col < m.cols))
 
 -- Names to numbers: the first place whose entry has the name, and none exactly where no entry has it. In a valid catalogue

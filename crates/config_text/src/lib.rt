@@ -23,3 +23,4 @@ mod span;
 mod styles;
 
 pub use read::read_catalogue;
+

@@ -1,5 +1,6 @@
 ghost use Rattle.std.specs.Prelude.{◌≡◌, OnErr, IsSome, MatchResult, Ok, Err, option_copied};
-ghost use Rattle.catalog.specs.LookUp.{dimension_at};
+ghost use Rattle.catalog.specs.declared.catalogue.Catalogue.{Catalogue};
+ghost use Rattle.catalog.specs.LookUp.{HasValues, dimension_at};
 ghost use Rattle.catalog.specs.Valid.{IsValid};
 ghost use Rattle.dimension_key.specs.Draft.{draft_of, default_of, drafted};
 
@@ -16,9 +17,11 @@ fn default_of(catalogue: &Catalogue, layer: u32, dim: u32) -> Option<u32>
 }
 
 impl ThemeDraft {
-    /// A draft with no value yet, of a theme of this layer and style.
+    /// A draft with no value yet, of a theme of this layer and style. In each valid catalogue 0 is the number of a value.
+    #[tactic(auto, using(crate::proofs::Values::first_values))]
     pub fn new(layer: u32, style: u32) -> ThemeDraft
-        ensures { result ≡ draft_of layer style }
+        ensures draft { result ≡ draft_of layer style }
+        ensures values { (c : Catalogue) → IsValid c → HasValues c result.theme }
     {
         ThemeDraft {
             theme: Theme {
@@ -38,7 +41,8 @@ impl ThemeDraft {
     }
 
     /// Reads the value of the layer's next dimension, its default where there is none. `Missing` exactly where there is
-    /// neither, `Invalid` exactly where the value isn't listed; the draft then stays as it was.
+    /// neither, `Invalid` exactly where the value isn't listed; the draft then stays as it was. Its values stay values of the
+    /// layer's dimensions.
     pub fn add(&mut self, catalogue: &Catalogue, value: Option<&[u8]>) -> Result<(), DimFault>
         requires valid { IsValid catalogue.now }
         requires more { IsSome (dimension_at catalogue.now self.old.theme.layer self.old.count) }
@@ -46,6 +50,7 @@ impl ThemeDraft {
             (λ _. drafted catalogue.now (option_copied value.entry) self.old ≡ Ok self.new)
             (λ fault. drafted catalogue.now (option_copied value.entry) self.old ≡ Err fault) }
         ensures refused { OnErr result (self.new ≡ self.old) }
+        ensures values { HasValues catalogue.now self.old.theme → HasValues catalogue.now self.new.theme }
     {
         let layer = self.theme.layer;
         let number = match value {

@@ -25,3 +25,4 @@ pub use file::FileDisk;
 pub use memory::MemoryDisk;
 pub use pick::Pick;
 pub use through::write_through;
+

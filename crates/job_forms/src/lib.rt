@@ -13,3 +13,4 @@ mod names;
 mod values;
 
 pub use cover::read_cover;
+

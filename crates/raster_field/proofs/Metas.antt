@@ -170,7 +170,7 @@ tile_place (Some m) f a h =
     record { row = omega (arith, row, h.0); col = omega (arith, col, h.1) }
 
 pub tile_meta : (c : Catalogue) (a : Address) → IsTile c a → IsMeta c (block_of c a)
-tile_meta c a is = record { layer = is.layer; style = is.style; place = tile_place (matrix_in c a.grid a.z) (factors_at c a.theme) a is.place }
+tile_meta c a is = record { layer = is.layer; style = is.style; values = is.values; place = tile_place (matrix_in c a.grid a.z) (factors_at c a.theme) a is.place }
 
 -- what holds of the matrix of a metatile holds of each that is it
 pub same_matrix : (c : Catalogue) (k : MetaKey) (p : Parts c k) (m : Matrix) → matrix_in c k.grid k.z ≡ Some m → p.its_matrix ≡ m

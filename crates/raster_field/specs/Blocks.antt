@@ -4,7 +4,7 @@ use Rattle.std.specs.List.{flat_map, range_with_len}
 use Rattle.std.specs.Option.{option_map_or}
 use Rattle.catalog.specs.declared.catalogue.Catalogue.{Catalogue}
 use Rattle.catalog.specs.declared.layer.Layer.{Layer}
-use Rattle.catalog.specs.LookUp.{layer_of, style_of, matrix_in}
+use Rattle.catalog.specs.LookUp.{HasValues, layer_of, style_of, matrix_in}
 use Rattle.matrix_geometry.specs.declared.address.Address.{Address}
 use Rattle.matrix_geometry.specs.declared.matrix.Matrix.{Matrix}
 use Rattle.matrix_geometry.specs.declared.theme.Theme.{Theme}
@@ -33,6 +33,7 @@ block_of c a = meta_of (factors_at c a.theme) a
 pub record IsMeta (c : Catalogue) (m : MetaKey) : Type 0 where
   pub layer : IsSomeAnd (layer_of c m.theme) (λ l. Contains l.grids m.grid)
   pub style : IsSome (style_of c m.theme)
+  pub values : HasValues c m.theme
   pub place : IsSomeAnd (matrix_in c m.grid m.z) (λ x. IsMetaIn (factors_at c m.theme) x m)
 
 -- ITS BLOB

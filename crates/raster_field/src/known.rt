@@ -1,5 +1,6 @@
 //! Whether a metatile is one of the catalogue.
 ghost use Rattle.std.specs.Prelude.{IsTrue, ◌*◌, ◌<◌, ◌↔◌, ◌≡◌, true};
+ghost use Rattle.catalog.specs.LookUp.{HasValues, values_at};
 ghost use Rattle.catalog.specs.Valid.{IsLayer, IsValid};
 ghost use Rattle.matrix_geometry.specs.Limits.{IsWithinLimits};
 ghost use Rattle.raster_field.specs.Blocks.{IsMeta};
@@ -7,6 +8,7 @@ ghost use Rattle.raster_field.specs.Blocks.{IsMeta};
 use catalog::catalogue::Catalogue;
 use catalog::layer::Layer;
 use matrix_geometry::matrix::Matrix;
+use matrix_geometry::theme::Theme;
 use metatile_plan::metatile::MetaKey;
 
 /// Whether the matrix has some tile of the metatile.
@@ -28,7 +30,31 @@ fn serves(layer: &Layer, grid: u32) -> bool
     layer.grids.as_slice().contains(&grid)
 }
 
-/// Whether a metatile is one of the catalogue: its layer is served on its grid, and the matrix has some tile of it.
+/// How many values a theme may have at a place: those of the layer's dimension there, and 0 alone where it has none there.
+fn values_at(catalogue: &Catalogue, layer: u32, place: u32) -> usize
+    ensures { result ≡ values_at catalogue.now layer place }
+{
+    match catalogue.dimension_at(layer, place) {
+        Some(dimension) => dimension.values.len(),
+        None => 1,
+    }
+}
+
+/// Whether the number at each place of a theme is that of a value.
+fn has_values(catalogue: &Catalogue, theme: &Theme) -> bool
+    ensures { (result ≡ true) ↔ HasValues catalogue.now theme.now }
+{
+    let layer = theme.layer;
+    for (place, number) in theme.dims.iter().enumerate() {
+        if *number as usize >= values_at(catalogue, layer, place as u32) {
+            return false;
+        }
+    }
+    true
+}
+
+/// Whether a metatile is one of the catalogue: its layer is served on its grid, its style and its values are the layer's, and
+/// the matrix has some tile of it.
 pub fn is_meta(catalogue: &Catalogue, meta: &MetaKey) -> bool
     requires { IsValid catalogue.now }
     ensures { (result ≡ true) ↔ IsMeta catalogue.now meta.now }
@@ -42,6 +68,9 @@ pub fn is_meta(catalogue: &Catalogue, meta: &MetaKey) -> bool
     let Some(_) = layer.styles.get(meta.theme.style as usize) else {
         return false;
     };
+    if !has_values(catalogue, &meta.theme) {
+        return false;
+    }
     let Some(grid) = catalogue.grids.get(meta.grid as usize) else {
         return false;
     };

@@ -13,4 +13,5 @@ pub mod numbered;
 mod painter;
 mod palette;
 pub mod scripted;
+pub mod shut;
 pub mod source;

@@ -1,5 +1,1 @@
-pub mod Words
-pub mod Command
 pub mod Faults
-pub mod ServeOptions
-pub mod ServeWords

@@ -1,14 +1,17 @@
+//! What the program reads from.
 ghost use Rattle.std.specs.Prelude.{None};
 ghost use Rattle.tile_server.specs.Faults.{faults_of};
 
 use http_wire::file_source::FileSource;
+use http_wire::memory_source::MemorySource;
 use http_wire::std_streams::StdinSource;
 use http_wire::streams::{ByteSource, Failed};
 
-/// Where the program reads from: a file, or standard input. It tells no content.
+/// Where the program reads from: a file, bytes that were read from a file before, or standard input. It tells no content.
 #[derive(Drop)]
 pub enum Input {
     File(FileSource),
+    Read(MemorySource),
     Stdin(StdinSource),
 }
 
@@ -20,6 +23,7 @@ impl ByteSource for Input {
     fn take(&mut self, into: &mut [u8]) -> Result<usize, Failed> {
         match self {
             Input::File(file) => file.take(into),
+            Input::Read(bytes) => bytes.take(into),
             Input::Stdin(stdin) => stdin.take(into),
         }
     }

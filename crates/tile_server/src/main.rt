@@ -1,43 +1,50 @@
-//! The program `tile_server`, a cache of map tiles. It runs the lines of a schedule, serves the bytes of a connection, or
-//! makes a schedule of its own, the drill.
+//! The program `tile_server`, a cache of map tiles: it hands the words, files and streams of the process to `run_command`
+//! of tile_command, and tells how that ended.
 //!
-//! Promises: `run_command` does what its words say, and each of its statuses has its cause (`specs/Command.antt`). `main`
-//! is the trusted edge: it hands the process's words and streams to `run_command`, and tells its status.
-//! Stands on tile_service, on `clap` for the words of the server, and on the crates whose types its call names.
+//! Promises: none that a clause says; this is the trusted edge. What the command does is promised there.
+//! Stands on tile_command, and on the crates whose files and streams it opens.
 #![tactic(auto)]
 
-mod command;
-mod configured;
-mod described;
-mod duplex;
-mod fault_text;
 mod input;
-mod replay;
-mod serve_words;
-#[cfg(test)]
-mod tests;
-mod words;
 
-use command::{Status, run_command};
-use config_text::read_catalogue;
-use configured::CATALOGUE_LIMIT;
 use exact_ratio::words::Words;
-use fault_text::{code_of, tell};
 use http_wire::file_source::FileSource;
-use http_wire::inputs::read_all;
+use http_wire::inputs::{InputEnd, read_all};
+use http_wire::memory_source::MemorySource;
 use http_wire::std_streams::{StdinSource, StdoutSink};
 use input::Input;
-use source_render::numbered::Numbered;
+use source_render::any::AnySource;
+use std::alloc::AllocError;
 use std::fs::File;
 use std::io::{Eprint, Print};
 use std::process::ExitCode;
 use std::rt::{Env, Files};
 use std::{env, io};
+use tile_command::command::run_command;
+use tile_command::configured::{CATALOGUE_LIMIT, source_number};
+use tile_command::status::Status;
 
-const HELP: &str =
-    "tile_server schedule < LINES    runs the lines of a schedule on a cabinet in memory of the catalogue in catalogue.json
+const HELP: &str = "tile_server: a cache of map tiles (the tile part of OGC WMTS 1.0.0)
+
+tile_server schedule < LINES    runs the lines of a schedule on a cabinet in memory, and writes the answers
 tile_server replay < BYTES      serves the bytes as those of one connection on such a cabinet, and writes the responses
 tile_server drill NUMBER        runs 4096 lines that the number makes on such a cabinet, and writes a summary
+tile_server --help              writes this text
+tile_server --version           writes the version
+
+It reads three files of the folder in which it is run:
+  catalogue.json     layers, grids, styles, limits; where it is absent, the built-in catalogue of one layer, demo
+  capabilities.xml   the capabilities document that GetCapabilities answers; where it is absent, one of no bytes
+  source.grid        the cells of which pictures are made; where it is absent, the pictures of a formula
+
+It ends with a code, and all but the first are told by a line on standard error:
+   0  done                                    7  line N: this line of the schedule was refused
+   2  usage: the words are no command        10  out of memory
+   3  catalogue KIND FIELD INDEX: its fault  11  stream ..: the connection's bytes broke off
+   4  read fault                             12  too long: a file or the input is above its limit
+   5  write fault
+
+docs/OPERATING.md of its repository has the files, the lines and what to do at each fault; docs/PROMISES.md what is proved.
 ";
 
 const VERSION: &str = "tile_server 0.1.0\n";
@@ -45,16 +52,37 @@ const VERSION: &str = "tile_server 0.1.0\n";
 /// The catalogue, a file of the folder that the program is run in.
 const CATALOGUE: &str = "catalogue.json";
 
-/// The document of the capabilities, a file of that folder.
+/// The capabilities document, a file of that folder.
 const CAPABILITIES: &str = "capabilities.xml";
 
-/// The number of the source in the catalogue; 0 where that is refused.
-fn source_of(rt: &(impl Files<File = File> + AllocGlobal)) -> u32 {
+/// The file of cells of that folder, which makes the pictures where it is there.
+const CELLS: &str = "source.grid";
+
+/// The most bytes of the catalogue that the command takes at a time.
+const PIECE: usize = 4_096;
+
+/// The catalogue's bytes, read from its file to be handed on; the words are needed by the source before the command reads it.
+struct Catalogue {
+    input: Input,
+    /// The number of the source that it names; 0 where it is refused.
+    source: u32,
+}
+
+/// Reads the catalogue's file. What can't be read is handed on so that the command ends by the same cause.
+fn catalogue_of(rt: &(impl Files<File = File> + AllocGlobal)) -> Result<Catalogue, AllocError> {
+    let alloc = rt.alloc();
     let mut file = FileSource::open(rt, CATALOGUE);
-    let Ok(text) = read_all(rt.alloc(), &mut file, CATALOGUE_LIMIT) else {
-        return 0;
+    let (text, fails) = match read_all(alloc, &mut file, CATALOGUE_LIMIT) {
+        Ok(text) => (text, Vec::new(alloc)),
+        Err(InputEnd::ReadFault) => (Vec::new(alloc), vec![in alloc; 1]?),
+        Err(InputEnd::TooLong) => (vec![in alloc; b' '; CATALOGUE_LIMIT + 1]?, Vec::new(alloc)),
+        Err(InputEnd::OutOfMemory) => return Err(AllocError),
     };
-    read_catalogue(rt.alloc(), text.as_slice()).map_or(0, |catalogue| catalogue.source)
+    let source = source_number(alloc, text.as_slice());
+    Ok(Catalogue {
+        input: Input::Read(MemorySource::new(text, PIECE, fails)),
+        source,
+    })
 }
 
 /// The words behind the program's name.
@@ -82,11 +110,19 @@ fn main(rt: HostRuntime) -> ExitCode {
             return printed(&rt, VERSION);
         }
     }
-    let mut catalogue = Input::File(FileSource::open(&rt, CATALOGUE));
+    let Ok(
+        Catalogue {
+            input: mut catalogue,
+            source,
+        },
+    ) = catalogue_of(&rt)
+    else {
+        return ended(&rt, Status::OutOfMemory);
+    };
     let mut capabilities = Input::File(FileSource::open(&rt, CAPABILITIES));
     let mut input = Input::Stdin(StdinSource::new(rt.stdin()));
     let mut output = StdoutSink::new(rt.stdout());
-    let mut source = Numbered::new(source_of(&rt));
+    let mut source = AnySource::open(&rt, CELLS, source);
     let status = run_command(
         rt.alloc(),
         words.as_slice(),
@@ -99,16 +135,18 @@ fn main(rt: HostRuntime) -> ExitCode {
     ended(&rt, status)
 }
 
-/// Tells a status on standard error, and gives its code.
+/// Tells a status on standard error, `Done` apart, and gives its code. A standard error that takes nothing changes nothing.
 fn ended(rt: &impl Eprint, status: Status) -> ExitCode {
-    tell(rt, status);
-    ExitCode::from(code_of(status))
+    if status != Status::Done {
+        let _ = eprintln!(rt; "{status}");
+    }
+    ExitCode::from(status.code())
 }
 
 /// Prints a text on standard output.
 fn printed(rt: &(impl Print + Eprint), text: &str) -> ExitCode {
     match rt.print(text) {
-        Ok(()) => ExitCode::from(code_of(Status::Done)),
+        Ok(()) => ExitCode::from(Status::Done.code()),
         Err(_) => ended(rt, Status::WriteFault),
     }
 }

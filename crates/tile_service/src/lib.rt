@@ -9,9 +9,9 @@
 //! and fresh at its last ask or force (`specs/Schedules.antt`). No more answers of the run say that the source failed, and no
 //! more failures are yet to be answered, than the source's count of faults rose by (`failed` there). The summary of a drill
 //! counts the answers of the run over the lines that its number makes, of which none is refused, and has the SHA-256 of what
-//! that run writes (`specs/Made.antt`, `specs/Drill.antt`). A session over a link answers its messages in order, each before
-//! the next is looked for (`specs/Session.antt`), and ends as its stream does, behind its last message or at a fault
-//! (`specs/SessionEnds.antt`). Behind the last message it looks for no further one.
+//! that run writes (`specs/Made.antt`, `specs/Drill.antt`). A session over a link answers its messages in order
+//! (`specs/Session.antt`), and ends as its stream does, after its last message or at a fault (`specs/SessionEnds.antt`); of
+//! the bytes after the last message it takes less than one take may bring.
 //! Stands on cabinet, cache_core, source_render, job_forms, wmts_kvp, wmts_rest, schedule_text, http_wire, sha2 and hex.
 #![tactic(auto)]
 

@@ -24,3 +24,4 @@ pub use entry::Entry;
 pub use pass::Pass;
 pub use turnstile::Turnstile;
 pub use view::{Known, Made};
+

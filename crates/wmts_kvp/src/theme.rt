@@ -1,5 +1,5 @@
 ghost use Rattle.std.specs.Prelude.{◌≡◌, ◌<◌, IfOk, IsSome, length};
-ghost use Rattle.catalog.specs.LookUp.{dimension_at, dimensions_of};
+ghost use Rattle.catalog.specs.LookUp.{HasValues, dimension_at, dimensions_of};
 ghost use Rattle.catalog.specs.Valid.{IsValid};
 ghost use Rattle.dimension_key.specs.Draft.{draft_of, drafted};
 ghost use Rattle.wmts_kvp.specs.Ends.{row_of};
@@ -22,7 +22,8 @@ fn with_value<'a>(
 ) -> Result<ThemeDraft, End<'a>>
     requires valid { IsValid catalogue.now }
     requires more { IsSome (dimension_at catalogue.now draft.theme.layer draft.count) }
-    ensures { row_of result ≡ or_refusal name.now (drafted catalogue.now (value_of pairs.now name.now) draft) }
+    ensures value { row_of result ≡ or_refusal name.now (drafted catalogue.now (value_of pairs.now name.now) draft) }
+    ensures values { IfOk result (λ next. HasValues catalogue.now draft.theme → HasValues catalogue.now next.theme) }
 {
     match draft.add(catalogue, value_of(pairs, name)) {
         Ok(()) => Ok(draft),
@@ -43,6 +44,7 @@ pub fn theme<'a>(
     ensures value { row_of result ≡ dimensions catalogue.now pairs.now (dimensions_of catalogue.now layer) (draft_of layer style) }
     ensures layer { IfOk result (λ draft. draft.theme.layer ≡ layer) }
     ensures style { IfOk result (λ draft. draft.theme.style ≡ style) }
+    ensures values { IfOk result (λ draft. HasValues catalogue.now draft.theme) }
 {
     let mut draft = ThemeDraft::new(layer, style);
     for dimension in catalogue.dimensions_of(layer) {

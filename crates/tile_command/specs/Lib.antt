@@ -1,0 +1,4 @@
+pub mod Words
+pub mod Command
+pub mod ServeOptions
+pub mod ServeWords

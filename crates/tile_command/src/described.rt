@@ -1,0 +1,21 @@
+ghost use Rattle.std.specs.Prelude.{◌≡◌};
+ghost use Rattle.tile_service.specs.Outside.{Input};
+ghost use Rattle.tile_command.specs.Command.{Describes};
+
+use exact_ratio::words::Words;
+use http_wire::inputs::{InputEnd, read_all};
+use http_wire::streams::ByteSource;
+use std::alloc::Global;
+
+/// The most bytes of the document of the capabilities.
+const CAPABILITIES_LIMIT: usize = 4_194_304;
+
+/// Reads the document of the capabilities, as it is.
+pub fn described<I: ByteSource>(alloc: Global, input: &mut I) -> Result<Words, InputEnd>
+    ensures { Describes (record { reads = record { before = I.faults input.old; after = I.faults input.new }; from = I.left input.old; to = I.left input.new }) result }
+{
+    match read_all(alloc, input, CAPABILITIES_LIMIT) {
+        Ok(text) => Ok(Words::of(text)),
+        Err(end) => Err(end),
+    }
+}

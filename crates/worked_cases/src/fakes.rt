@@ -1,0 +1,105 @@
+//! How the objects that a command is handed behave, as the lines of a step's file `fakes` say.
+use std::alloc::{AllocError, Global};
+
+/// The most bytes of a take, where a step doesn't say it.
+const USUAL_PIECE: u64 = 4_096;
+
+/// How a stream of bytes behaves.
+#[derive(Debug, Drop)]
+pub struct Fake {
+    /// The most bytes of a take.
+    pub piece: u64,
+    /// How often the bytes of its file stand, one after the other.
+    pub times: u64,
+    /// The calls that fail, counted from 1.
+    pub fails: Vec<u64>,
+    /// Whether the next call after the run has to be a failing one.
+    pub fails_next: bool,
+}
+
+impl Fake {
+    /// A stream of its file's bytes that never fails.
+    fn new(alloc: Global) -> Fake {
+        Fake {
+            piece: USUAL_PIECE,
+            times: 1,
+            fails: Vec::new(alloc),
+            fails_next: false,
+        }
+    }
+
+    /// Takes in what a line says of the stream, and tells whether it is one that is known.
+    fn take_in(&mut self, verb: &str, number: u64) -> Result<bool, AllocError> {
+        match verb {
+            "pieces" => self.piece = number,
+            "times" => self.times = number,
+            "fails" => self.fails.push(number)?,
+            "next" => {
+                self.fails.push(number)?;
+                self.fails_next = true;
+            }
+            _ => return Ok(false),
+        }
+        Ok(true)
+    }
+}
+
+/// How the objects of a step behave.
+#[derive(Debug, Drop)]
+pub struct Fakes {
+    pub catalogue: Fake,
+    pub capabilities: Fake,
+    pub input: Fake,
+    pub output: Fake,
+    pub source: Fake,
+    pub expected: Fake,
+}
+
+impl Fakes {
+    /// Objects of which none fails.
+    fn new(alloc: Global) -> Fakes {
+        Fakes {
+            catalogue: Fake::new(alloc),
+            capabilities: Fake::new(alloc),
+            input: Fake::new(alloc),
+            output: Fake::new(alloc),
+            source: Fake::new(alloc),
+            expected: Fake::new(alloc),
+        }
+    }
+
+    /// What these lines say, each an object, a verb and a number; `None` where one of them isn't of that form.
+    pub fn read(alloc: Global, text: &str) -> Result<Option<Fakes>, AllocError> {
+        let mut fakes = Fakes::new(alloc);
+        for line in text.lines() {
+            let mut words = line.split(' ');
+            let (Some(object), Some(verb), Some(number)) = (
+                words.next(),
+                words.next(),
+                words.next(),
+            ) else {
+                return Ok(None);
+            };
+            if !fakes.take_in(object, verb, number)? {
+                return Ok(None);
+            }
+        }
+        Ok(Some(fakes))
+    }
+
+    /// Takes in one line, and tells whether it is of the form.
+    fn take_in(&mut self, object: &str, verb: &str, number: &str) -> Result<bool, AllocError> {
+        let Ok(number) = number.parse::<u64>() else {
+            return Ok(false);
+        };
+        match object {
+            "catalogue" => self.catalogue.take_in(verb, number),
+            "capabilities" => self.capabilities.take_in(verb, number),
+            "input" => self.input.take_in(verb, number),
+            "output" => self.output.take_in(verb, number),
+            "source" => self.source.take_in(verb, number),
+            "expected" => self.expected.take_in(verb, number),
+            _ => Ok(false),
+        }
+    }
+}

@@ -1,0 +1,73 @@
+//! The worked cases: runs each step of each case of a folder through `run_command`, the top call of the program, and prints
+//! what differs from what the step's files expect. The folder is the one that its first word names, or else the current one.
+//!
+//! A case is a folder, and a step of it is a folder with the words of a command, its input and its expected output and
+//! status, as files that `step.rt` names. Promises: none that a clause says; it is a test whose cases are data.
+//! Stands on tile_command, and on the memory forms of its streams and its source.
+#![tactic(auto)]
+
+mod fakes;
+mod folders;
+mod run;
+mod step;
+mod tally;
+
+use std::fs::File;
+use std::io::Print;
+use std::process::ExitCode;
+use std::rt::{Env, Files};
+use std::{env, io};
+use tally::Tally;
+
+/// Runs the steps of a case in the order of their names, prints the line of each that differs, and counts them.
+fn run_case<R: Files<File = File> + Print + AllocGlobal + Clone + Drop>(
+    rt: &R,
+    folder: &str,
+    case: &str,
+) -> io::Result<Tally> {
+    let mut tally = Tally::new();
+    let inside = format!(in rt.alloc(); "{folder}/{case}")?;
+    for step in folders::names_in(rt, inside.as_str())? {
+        let differs = step::difference_of(rt, inside.as_str(), step.as_str())?;
+        tally.count(differs.is_none());
+        if let Some(difference) = differs {
+            println!(rt; "{case}/{step}: {difference}")?;
+        }
+    }
+    println!(rt; "{case}: {tally}")?;
+    Ok(tally)
+}
+
+/// Runs all cases of a folder in the order of their names.
+fn run_all<R: Files<File = File> + Print + AllocGlobal + Clone + Drop>(
+    rt: &R,
+    folder: &str,
+) -> io::Result<Tally> {
+    let mut all = Tally::new();
+    for case in folders::names_in(rt, folder)? {
+        all.add(run_case(rt, folder, case.as_str())?);
+    }
+    println!(rt; "all: {all}")?;
+    Ok(all)
+}
+
+/// Runs the cases of the folder that the first word names, or of the current one.
+fn run_asked<R: Files<File = File> + Env + Print + AllocGlobal + Clone + Drop>(
+    rt: &R,
+) -> io::Result<Tally> {
+    match env::args(rt)?.nth(1) {
+        Some(folder) => run_all(rt, folder.as_str()),
+        None => run_all(rt, "."),
+    }
+}
+
+fn main(rt: HostRuntime) -> ExitCode {
+    match run_asked(&rt) {
+        Ok(all) if all.is_whole() => ExitCode::from(0),
+        Ok(_) => ExitCode::from(1),
+        Err(error) => {
+            let _ = eprintln!(&rt; "the cases can't be read: {error}");
+            ExitCode::from(2)
+        }
+    }
+}
