@@ -10,4 +10,3 @@ mod reading;
 
 pub use putting::put;
 pub use reading::read_tile;
-

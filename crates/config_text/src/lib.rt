@@ -23,4 +23,3 @@ mod span;
 mod styles;
 
 pub use read::read_catalogue;
-

@@ -25,4 +25,3 @@ pub use file::FileDisk;
 pub use memory::MemoryDisk;
 pub use pick::Pick;
 pub use through::write_through;
-

@@ -28,4 +28,3 @@ pub use journal::Journal;
 pub use laws::laws_of_journals;
 pub use making::make;
 pub use opened::Opened;
-

@@ -13,4 +13,3 @@ mod names;
 mod values;
 
 pub use cover::read_cover;
-

@@ -1,7 +1,7 @@
 //! ppm_slice
 use crate::fixtures::rendered;
 use catalog::catalogue::Catalogue;
-use catalog::layer::{Layer, Style};
+use catalog::layer::{Dimension, Layer, Style};
 use exact_ratio::items::Items;
 use exact_ratio::words::Words;
 use matrix_geometry::address::Address;
@@ -39,30 +39,39 @@ fn a_tile_is_its_part_of_the_blob(rt: HostRuntime) -> Result<(), Fail> {
     Ok(())
 }
 
-fn layer(alloc: Global, id: &[u8], side: u32, gutter: u32) -> Result<Layer, AllocError> {
+/// A dimension with the values 0 and 10.
+fn dimension(alloc: Global, id: &[u8]) -> Result<Dimension, AllocError> {
+    let values = vec![in alloc; Words::new(alloc, b"0")?, Words::new(alloc, b"10")?]?;
+    Ok(Dimension {
+        id: Words::new(alloc, id)?,
+        values: Items::of(values),
+        default: None,
+    })
+}
+
+/// The demo catalogue with a layer 1 of two dimensions, that has metatiles of 2 by 2 tiles and a gutter of one pixel.
+fn with_gutter(alloc: Global) -> Result<Catalogue, AllocError> {
+    let time = dimension(alloc, b"time")?;
+    let level = dimension(alloc, b"level")?;
     let grey = Style {
         id: Words::new(alloc, b"grey")?,
         breaks: Items::of(Vec::new(alloc)),
     };
-    Ok(Layer {
-        id: Words::new(alloc, id)?,
+    let sea = Layer {
+        id: Words::new(alloc, b"sea")?,
         grids: Items::of(vec![in alloc; 0]?),
         styles: Items::of(vec![in alloc; grey]?),
-        dims: Items::of(Vec::new(alloc)),
-        meta_x: side,
-        meta_y: side,
-        gutter,
+        dims: Items::of(vec![in alloc; time, level]?),
+        meta_x: 2,
+        meta_y: 2,
+        gutter: 1,
         cell: 1,
         quota: None,
-    })
-}
-
-/// A catalogue whose layer 1 has metatiles of 2 by 2 tiles and a gutter of one pixel.
-fn with_gutter(alloc: Global) -> Result<Catalogue, AllocError> {
-    let plain = layer(alloc, b"demo", 1, 0)?;
-    let sea = layer(alloc, b"sea", 2, 1)?;
+    };
     let mut catalogue = Catalogue::demo(alloc)?;
-    catalogue.layers = Items::of(vec![in alloc; plain, sea]?);
+    let mut layers = catalogue.layers.into_vec();
+    layers.push(sea)?;
+    catalogue.layers = Items::of(layers);
     Ok(catalogue)
 }
 

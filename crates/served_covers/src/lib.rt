@@ -2,5 +2,5 @@
 //! and the cabinet asks for.
 //!
 //! It has no code and promises nothing.
-//! Stands on truncation_list, catalog, matrix_geometry and exact_ratio.
+//! Stands on truncation_list and catalog.
 #![tactic(auto)]

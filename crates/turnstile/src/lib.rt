@@ -24,4 +24,3 @@ pub use entry::Entry;
 pub use pass::Pass;
 pub use turnstile::Turnstile;
 pub use view::{Known, Made};
-

@@ -2,7 +2,7 @@
 //!
 //! Promises: `RestTable::read_path` is the reading of the pairs that a path's segments spell (`specs/Paths.antt`), the
 //! capabilities for their one path, and nothing for any path that is neither.
-//! Stands on wmts_kvp, catalog, matrix_geometry, exact_ratio, matchit and percent_encoding.
+//! Stands on wmts_kvp, catalog, exact_ratio, matchit and percent_encoding.
 #![tactic(auto)]
 
 mod route;
