@@ -11,5 +11,3 @@ mod reading;
 pub use putting::put;
 pub use reading::read_tile;
 
-#[cfg(test)]
-mod tests;

@@ -21,5 +21,3 @@ pub mod replies;
 mod room;
 mod shelf;
 mod tally;
-#[cfg(test)]
-mod tests;

@@ -1,5 +1,7 @@
 -- The last event of a request: its ticket is handed in or given back.
-use Rattle.std.proofs.Common.{◌≡◌, ◌≤◌, ℕ, Bool, true, false, List, [], ◌∷◌, length, Option, Some, None, inl, inr, refl, sym, ◌∙◌, ap, subst, append-nil}
+use Rattle.std.proofs.Common.{◌≡◌, ◌≤◌, ℕ, Bool, true, false, List, [], ◌∷◌, length, get_or, Option, Some, None, inl, inr, refl, sym, ◌∙◌, ap, subst, append-nil, arith}
+use Rattle.std.proofs.lemmas.List.{ext_get_or}
+use Rattle.std.proofs.lemmas.List.FromFn.{get_or-map-range_with_len, length-map-range_with_len}
 use Rattle.cabinet.specs.Commands.{Abandons, Finishes, kept_at}
 use Rattle.cabinet.specs.declared.entry.Entry.TheVariants as entry
 use Rattle.cabinet.specs.declared.replies.Finished.{Finished}
@@ -11,6 +13,7 @@ use Rattle.cabinet.proofs.Fresher.{still_fresh}
 use Rattle.catalog.specs.declared.catalogue.Catalogue.{Catalogue}
 use Rattle.matrix_geometry.specs.declared.address.Address.{Address}
 use Rattle.metatile_locks.specs.Tickets.{Ticketed}
+use Rattle.metatile_plan.specs.declared.metatile.MetaKey.{MetaKey}
 use Rattle.raster_field.specs.Blocks.{blob_size, block_text, tile_part}
 use Rattle.cache_core.specs.declared.actor.Actor.{Actor}
 use Rattle.cache_core.specs.declared.actor.Actor.TheVariants.{Idle, Holding, Rendered}
@@ -19,7 +22,7 @@ use Rattle.cache_core.specs.declared.outcome.Outcome.{Outcome}
 use Rattle.cache_core.specs.Advanced.{Advances}
 use Rattle.cache_core.specs.Fits.{IsFit, IsAtWork, IsTrueActor, IsTrueOutcome, IsFreshActor, IsFreshOutcome, Extends, place_of}
 use Rattle.cache_core.specs.Shown.{IsFailed}
-use Rattle.cache_core.specs.Steps.{advanced, ends, tile_at}
+use Rattle.cache_core.specs.Steps.{advanced, blob_of, ends, holds, tile_at}
 
 -- HISTORIES GO ON
 
@@ -56,13 +59,13 @@ finishes_catalogue s t k blob finished.Kept h = ap (λ u. u.catalogue) h.2.2
 
 -- THE LAST EVENT
 
-pub ending : (told : Option ℕ) (before after : ℕ) → before ≤ after → (s t : State) (actor : Actor) (step : Step) (o : Outcome) (left : Bool) (blob : Option (List ℕ))
-    → step.actor ≡ Idle → step.outcome ≡ Some o → ends t o ≡ advanced s actor left blob → Extends s.history t.history → t.catalogue ≡ s.catalogue
+pub ending : (told : Option ℕ) (before after : ℕ) → before ≤ after → (s t : State) (actor : Actor) (step : Step) (o : Outcome) (left : Bool) (bytes : Option (ℕ → ℕ))
+    → step.actor ≡ Idle → step.outcome ≡ Some o → ends t o ≡ advanced s actor left bytes → Extends s.history t.history → t.catalogue ≡ s.catalogue
     → (told ≡ Some s.catalogue.source → IsSound s → IsTrueActor s.catalogue actor → IsSound t)
     → ((a : Address) → IsFit s.catalogue a actor → IsTrueActor s.catalogue actor → IsTrueOutcome s.catalogue a (Some o))
     → ((a : Address) (p : ℕ) → IsFit s.catalogue a actor → p ≤ length s.history → IsFreshActor s.catalogue s.history p a actor → IsFreshOutcome s.catalogue t.history (place_of actor (length s.history) p) a (Some o))
     → Advances told before after s actor step t
-ending told before after later s t actor step o left blob idle ended is_step grows catalogue sound truth fresh =
+ending told before after later s t actor step o left bytes idle ended is_step grows catalogue sound truth fresh =
     let c = s.catalogue in
     let Truly : Option Outcome → Address → Type 0 = λ x a. IsTrueOutcome c a x in
     let Fresh : Option Outcome → ℕ → Address → Type 0 = λ x p a. IsFreshOutcome c t.history p a x in
@@ -72,7 +75,7 @@ ending told before after later s t actor step o left blob idle ended is_step gro
     let Failing : Actor → Type 0 = IsFailed in
     record {
       left = left;
-      blob = blob;
+      bytes = bytes;
       advanced = rw idle (rw ended is_step);
       fits = λ a fit. record { tile = fit.tile; work = subst (λ x. Works x a) (sym idle) tt };
       later = later;
@@ -87,6 +90,16 @@ ending told before after later s t actor step o left blob idle ended is_step gro
     }
 
 -- THE RENDER
+
+-- the byte at a place
+abbrev byte_of : List ℕ → ℕ → ℕ
+byte_of blob i = get_or blob i 0
+
+-- a blob of the metatile's length is that of its bytes
+bytes_of_blob : (c : Catalogue) (m : MetaKey) (blob : List ℕ) → length blob ≡ blob_size c m → blob_of c m (byte_of blob) ≡ blob
+bytes_of_blob c m blob size =
+    let many : length (blob_of c m (byte_of blob)) ≡ blob_size c m = length-map-range_with_len (byte_of blob) 0 (blob_size c m) in
+    ext_get_or 0 (blob_of c m (byte_of blob)) blob (many ∙ sym size) (λ i l. get_or-map-range_with_len (byte_of blob) 0 (blob_size c m) i i 0 (omega arith) (omega arith))
 
 -- a blob was rendered, and its tile copied
 pub painted_on : (told : Option ℕ) (before after : ℕ) → before ≤ after → (s : State) (k : Ticketed) (a : Address) (blob bytes : List ℕ) (step : Step)
@@ -105,8 +118,8 @@ painted_on told before after later s k a blob bytes step fit size part text acto
     let Failing : Actor → Type 0 = IsFailed in
     record {
       left = true;
-      blob = Some blob;
-      advanced = rw actor (rw going (rw part refl));
+      bytes = Some (byte_of blob);
+      advanced = rw actor (rw going (rw part (ap (holds s k a) (sym (bytes_of_blob c k.meta blob size)))));
       fits = λ b fit_b. record { tile = fit_b.tile; work = subst (λ x. Works x b) (sym actor) (record { ticket = fit_b.work.1; size = size; miss = refl; number = refl; part = part ∙ ap (λ x. tile_part c x blob) fit_b.work.0 }) };
       later = later;
       cause = λ f. absurd (subst Failing actor f);

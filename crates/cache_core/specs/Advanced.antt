@@ -1,5 +1,5 @@
 -- What a further event of a request came to.
-use Rattle.std.specs.Prelude.{ℕ, ◌≡◌, ◌≤◌, Bool, List, length, Option, Some}
+use Rattle.std.specs.Prelude.{ℕ, ◌≡◌, ◌≤◌, Bool, length, Option, Some}
 use Rattle.cabinet.specs.State.{State, IsSound}
 use Rattle.causes.specs.Causes.{Rose}
 use Rattle.matrix_geometry.specs.declared.address.Address.{Address}
@@ -10,14 +10,14 @@ use Rattle.cache_core.specs.Shown.{shown, IsFailed}
 use Rattle.cache_core.specs.Steps.{advanced}
 
 -- From s an actor came to t by its next event, while the source, which tells this number or none, went from one count of
--- faults to another: memory was left for it or not, a rendering gave a blob or failed, and all else is fixed. An actor that
+-- faults to another: memory was left for it or not, a rendering gave some bytes or failed, and all else is fixed. An actor that
 -- fits a request fits it afterwards. The source has failed at a render only where its count rose. Where the source tells that
 -- it is the catalogue's, what is kept, held and answered stays true. What is held and answered
 -- is fresh at the request's place.
 pub record Advances (told : Option ℕ) (before after : ℕ) (s : State) (actor : Actor) (step : Step) (t : State) : Type 0 where
   pub left : Bool
-  pub blob : Option (List ℕ)
-  pub advanced : shown step t ≡ advanced s actor left blob
+  pub bytes : Option (ℕ → ℕ)
+  pub advanced : shown step t ≡ advanced s actor left bytes
   pub fits : (a : Address) → IsFit s.catalogue a actor → IsFit s.catalogue a step.actor
   pub later : before ≤ after
   pub cause : IsFailed step.actor → Rose before after

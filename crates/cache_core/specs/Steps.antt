@@ -1,16 +1,20 @@
 -- A request for a tile as single events: an ask or a force, the render, and the finish. What happens by chance in an
--- event, that memory runs out, and what a rendering gives or that it fails, is taken as it happened; all else is fixed.
-use Rattle.std.specs.Prelude.{ℕ, Bool, true, false, nat_le, List, length, Option, Some, None}
+-- event, that memory runs out, and which bytes a rendering gives or that it fails, is taken as it happened; all else is
+-- fixed, and so is how many bytes the blob has.
+use Rattle.std.specs.Prelude.{ℕ, Bool, true, false, nat_le, List, length, map, Option, Some, None}
+use Rattle.std.specs.List.{range_with_len}
 use Rattle.cabinet.specs.declared.entry.Entry.TheVariants as entry
 use Rattle.cabinet.specs.declared.kept.Kept.{Kept}
 use Rattle.cabinet.specs.Commands.{others, place_for, kept_at}
 use Rattle.cabinet.specs.History.{kept_of, next}
 use Rattle.cabinet.specs.State.{State, now, with_entry, with_blob, kept_text}
+use Rattle.catalog.specs.declared.catalogue.Catalogue.{Catalogue}
 use Rattle.matrix_geometry.specs.declared.address.Address.{Address}
 use Rattle.metatile_locks.specs.declared.render.Render.{Render}
 use Rattle.metatile_locks.specs.Running.{running_for, render_of}
 use Rattle.metatile_locks.specs.Tickets.{Ticketed}
-use Rattle.raster_field.specs.Blocks.{block_of, tile_part}
+use Rattle.metatile_plan.specs.declared.metatile.MetaKey.{MetaKey}
+use Rattle.raster_field.specs.Blocks.{block_of, blob_size, tile_part}
 use Rattle.cache_core.specs.declared.actor.Actor.{Actor}
 use Rattle.cache_core.specs.declared.actor.Actor.TheVariants.{Idle, Waiting, Holding, Rendered, Failed}
 use Rattle.cache_core.specs.declared.outcome.Outcome.{Outcome}
@@ -99,22 +103,29 @@ finished s t blob = ended s t blob (render_of t (now s).out)
 
 -- THE RENDER
 
--- a rendering that failed, or the blob that it gave
-abbrev pub painted : State → Ticketed → Address → Option (List ℕ) → Stepped
+-- the blob of a metatile that has these bytes, by their places
+abbrev pub blob_of : Catalogue → MetaKey → (ℕ → ℕ) → List ℕ
+blob_of c m bytes = map bytes (range_with_len 0 (blob_size c m))
+
+abbrev pub holds : State → Ticketed → Address → List ℕ → Stepped
+holds s t a blob = goes_on s (Rendered t blob (tile_at false t.number (tile_part s.catalogue a blob)))
+
+-- a rendering that failed, or the bytes that it gave
+abbrev pub painted : State → Ticketed → Address → Option (ℕ → ℕ) → Stepped
 painted s t a None = goes_on s (Failed t)
-painted s t a (Some blob) = goes_on s (Rendered t blob (tile_at false t.number (tile_part s.catalogue a blob)))
+painted s t a (Some bytes) = holds s t a (blob_of s.catalogue t.meta bytes)
 
-abbrev pub rendered : State → Ticketed → Address → Bool → Option (List ℕ) → Stepped
-rendered s t a false blob = ends (abandoned s t) outcome.NoMemory
-rendered s t a true blob = painted s t a blob
+abbrev pub rendered : State → Ticketed → Address → Bool → Option (ℕ → ℕ) → Stepped
+rendered s t a false bytes = ends (abandoned s t) outcome.NoMemory
+rendered s t a true bytes = painted s t a bytes
 
--- THE NEXT EVENT of an actor: memory is left or runs out, and a rendering gives this blob or fails
-abbrev pub advanced : State → Actor → Bool → Option (List ℕ) → Stepped
-advanced s Idle left blob = goes_on s Idle
-advanced s (Waiting a force) left blob = began s a force left
-advanced s (Holding t a) left blob = rendered s t a left blob
-advanced s (Rendered t text tile) left blob = ends (finished s t text) (outcome.Tile tile)
-advanced s (Failed t) left blob = ends (abandoned s t) outcome.SourceFailed
+-- THE NEXT EVENT of an actor: memory is left or runs out, and a rendering gives these bytes or fails
+abbrev pub advanced : State → Actor → Bool → Option (ℕ → ℕ) → Stepped
+advanced s Idle left bytes = goes_on s Idle
+advanced s (Waiting a force) left bytes = began s a force left
+advanced s (Holding t a) left bytes = rendered s t a left bytes
+advanced s (Rendered t text tile) left bytes = ends (finished s t text) (outcome.Tile tile)
+advanced s (Failed t) left bytes = ends (abandoned s t) outcome.SourceFailed
 
 -- an actor that gives up abandons its ticket
 abbrev pub given_up : State → Actor → State

@@ -9,5 +9,3 @@ pub mod actor;
 pub mod outcome;
 mod render;
 pub mod steps;
-#[cfg(test)]
-mod tests;

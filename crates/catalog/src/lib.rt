@@ -17,8 +17,6 @@ pub mod layer;
 pub mod look_up;
 pub mod named;
 pub mod names;
-#[cfg(test)]
-mod tests;
 pub mod valid_dimension;
 mod valid_grid;
 pub mod valid_layer;

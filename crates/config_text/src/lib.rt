@@ -24,5 +24,3 @@ mod styles;
 
 pub use read::read_catalogue;
 
-#[cfg(test)]
-mod tests;

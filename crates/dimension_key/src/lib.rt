@@ -6,6 +6,4 @@
 #![tactic(auto)]
 
 pub mod draft;
-#[cfg(test)]
-mod tests;
 pub mod theme_draft;

@@ -99,6 +99,14 @@ module _ (old new : Log) (same_first : first_of new.first new.bytes.items ≡ fi
   pub steps_none : (step : Content → Content → Type 0) → ((c : Content) → step c c) → calls' ≡ calls → Steps step Before Now
   steps_none step same is = carried step calls is (unchanged step same Before)
 
+  -- what a read gives, after a call that leaves that as it is, and after none
+  pub seen_kept : (call : Call) → ((c : Content) → seen_after_call call c ≡ c) → calls' ≡ calls ++ call ∷ [] → Now.seen ≡ Before.seen
+  seen_kept call keeps is =
+      ap (λ (f : Content). seen_after calls' f) same_first ∙ ap (λ (l : List Call). seen_after l first) is ∙ seen_after-push calls call first ∙ keeps (seen_after calls first)
+
+  pub seen_none : calls' ≡ calls → Now.seen ≡ Before.seen
+  seen_none is = ap (λ (f : Content). seen_after calls' f) same_first ∙ ap (λ (l : List Call). seen_after l first) is
+
   module _ (at : ℕ) (bytes : List ℕ) (kept : Vec ℕ Global) (same : kept.items ≡ bytes) where
     abbrev Torn : Content → Content → Type 0
     Torn = TornWrite at (length bytes)

@@ -1,5 +1,5 @@
 // What each call of a disk in memory does, where it succeeds and where it fails.
-ghost use Rattle.std.specs.Prelude.{◌≡◌, ◌≤◌, ◌+◌, ◌^◌, length, OnOk};
+ghost use Rattle.std.specs.Prelude.{◌≡◌, ◌≤◌, ◌+◌, ◌^◌, length, OnErr, OnOk};
 ghost use Rattle.disk_model.specs.Content.{bytes_at, written, resized, TornWrite, TornCut, Same};
 ghost use Rattle.disk_model.specs.Images.{Only, Steps};
 ghost use Rattle.disk_model.specs.Memory.{log_state};
@@ -21,20 +21,22 @@ pub(crate) fn read_into(bytes: &[u8], at: u64, into: &mut [u8])
 /// Writes. Where memory runs out nothing changes.
 pub(crate) fn write(alloc: Global, log: &mut Log, at: u64, bytes: &[u8]) -> Result<(), AllocError>
     ensures written { OnOk result ((log_state log.new).seen ≡ written at bytes.now (log_state log.old).seen) }
+    ensures kept { OnErr result ((log_state log.new).seen ≡ (log_state log.old).seen) }
     ensures steps { Steps (TornWrite at (length bytes.now)) (log_state log.old) (log_state log.new) }
 {
     let kept = Vec::from_slice(alloc, bytes)?;
     log.make(alloc, Call::Written(at, kept))
 }
 
-/// Keeps that a write failed, where there is memory for that.
+/// Keeps that a write failed, where there is memory for that. What a read gives stays.
 pub(crate) fn fail_write(
     alloc: Global,
     log: &mut Log,
     at: u64,
     bytes: &[u8],
 ) -> Result<(), AllocError>
-    ensures { Steps (TornWrite at (length bytes.now)) (log_state log.old) (log_state log.new) }
+    ensures kept { (log_state log.new).seen ≡ (log_state log.old).seen }
+    ensures steps { Steps (TornWrite at (length bytes.now)) (log_state log.old) (log_state log.new) }
 {
     let kept = Vec::from_slice(alloc, bytes)?;
     log.make(alloc, Call::WriteFailed(at, kept))
@@ -43,14 +45,16 @@ pub(crate) fn fail_write(
 /// Cuts or grows. Where memory runs out nothing changes.
 pub(crate) fn resize(alloc: Global, log: &mut Log, length: u64) -> Result<(), AllocError>
     ensures resized { OnOk result ((log_state log.new).seen ≡ resized length (log_state log.old).seen) }
+    ensures kept { OnErr result ((log_state log.new).seen ≡ (log_state log.old).seen) }
     ensures steps { Steps (TornCut length) (log_state log.old) (log_state log.new) }
 {
     log.make(alloc, Call::Resized(length))
 }
 
-/// Keeps that a cut failed, where there is memory for that.
+/// Keeps that a cut failed, where there is memory for that. What a read gives stays.
 pub(crate) fn fail_cut(alloc: Global, log: &mut Log, length: u64) -> Result<(), AllocError>
-    ensures { Steps (TornCut length) (log_state log.old) (log_state log.new) }
+    ensures kept { (log_state log.new).seen ≡ (log_state log.old).seen }
+    ensures steps { Steps (TornCut length) (log_state log.old) (log_state log.new) }
 {
     log.make(alloc, Call::CutFailed(length))
 }

@@ -1,8 +1,8 @@
 // What a crash leaves of a disk in memory.
-ghost use Rattle.std.specs.Prelude.{◌≡◌, OnOk, IfOk};
+ghost use Rattle.std.specs.Prelude.{◌≡◌, [], OnOk, IfOk};
 ghost use Rattle.disk_model.specs.Crash.{write_left, cut_left, call_left, crashed};
 ghost use Rattle.disk_model.specs.Images.{Only};
-ghost use Rattle.disk_model.specs.Memory.{memory_state, memory_faults, crash_by};
+ghost use Rattle.disk_model.specs.Memory.{memory_state, memory_faults, crash_by, calls_of, new_script, script_of};
 
 use crate::Pick;
 use crate::bytes::{overwrite, resize, spoil_end};
@@ -78,13 +78,15 @@ fn left(alloc: Global, first: Vec<u8>, calls: &[Call], pick: Pick) -> Result<Vec
 }
 
 impl MemoryDisk {
-    /// A disk as a crash now leaves it, by this pick. Nothing is pending on it, and no call of it fails. `AllocError` where
-    /// memory runs out.
+    /// A disk as a crash now leaves it, by this pick. Nothing is pending on it, no call of it is to fail, and its counts and
+    /// what was done to it begin anew. `AllocError` where memory runs out.
     pub fn crash(self, alloc: Global, pick: Pick) -> Result<MemoryDisk, AllocError>
         ensures image { IfOk result (λ disk. (memory_state self).may_leave (memory_state disk).seen) }
         ensures picked { IfOk result (λ disk. (memory_state disk).seen ≡ crash_by pick self) }
         ensures clean { IfOk result (λ disk. Only (memory_state disk).seen (memory_state disk).may_leave) }
         ensures faults { IfOk result (λ disk. memory_faults disk ≡ 0) }
+        ensures script { IfOk result (λ disk. script_of disk ≡ new_script []) }
+        ensures calls { IfOk result (λ disk. calls_of disk ≡ []) }
     {
         let Log {
             first,

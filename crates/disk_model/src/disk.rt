@@ -59,6 +59,10 @@ pub trait Disk: Drop {
         ensures steps { IsTrue (told self.old) → Steps Same (state self.old) (state self.new) }
         ensures cause { HasCause (faults self.old) (faults self.new) result };
 
+    /// How often it has failed.
+    fn fault_count(&self) -> u64
+        ensures { result ≡ faults self.now };
+
     ghost lawful: { (disk : Self) → IsTrue (told disk) → IsLawful (state disk) };
 }
 
@@ -86,5 +90,9 @@ impl<D: Disk> Disk for &mut D {
 
     fn sync(&mut self) -> Result<(), Failed> {
         (**self).sync()
+    }
+
+    fn fault_count(&self) -> u64 {
+        (**self).fault_count()
     }
 }

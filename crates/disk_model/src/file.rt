@@ -1,4 +1,4 @@
-ghost use Rattle.std.specs.Prelude.{false};
+ghost use Rattle.std.specs.Prelude.{◌≡◌, false};
 ghost use Rattle.std.proofs.lemmas.Bool.{false≢true};
 ghost use Rattle.causes.specs.Causes.{HasCause};
 ghost use Rattle.disk_model.specs.Images.{silent};
@@ -17,8 +17,10 @@ pub struct FileDisk {
 }
 
 impl FileDisk {
-    /// A disk over a file that is open for reading and writing.
-    pub fn new(file: File) -> FileDisk {
+    /// A disk over a file that is open for reading and writing. It has not failed yet.
+    pub fn new(file: File) -> FileDisk
+        ensures { result.faults ≡ 0 }
+    {
         FileDisk { file, faults: 0 }
     }
 
@@ -72,5 +74,9 @@ impl Disk for FileDisk {
     fn sync(&mut self) -> Result<(), Failed> {
         let done = self.file.sync_all();
         self.answer(done)
+    }
+
+    fn fault_count(&self) -> u64 {
+        self.faults
     }
 }

@@ -26,5 +26,3 @@ pub use memory::MemoryDisk;
 pub use pick::Pick;
 pub use through::write_through;
 
-#[cfg(test)]
-mod tests;

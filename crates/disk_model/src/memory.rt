@@ -14,7 +14,9 @@ pub struct MemoryDisk {
     pub(crate) fail: Vec<u64>,
     /// How many calls there were.
     pub(crate) made: u64,
-    /// From which number of calls on each fails.
+    /// Each call behind so many fails.
     pub(crate) stop_at: u64,
     pub(crate) faults: u64,
+    /// How many calls failed because memory ran out.
+    pub(crate) shortages: u64,
 }

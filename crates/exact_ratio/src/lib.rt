@@ -12,6 +12,4 @@ pub mod items;
 pub mod lowest;
 pub mod ratio;
 pub mod read;
-#[cfg(test)]
-mod tests;
 pub mod words;

@@ -8,5 +8,3 @@
 pub mod code;
 mod escape;
 pub mod report;
-#[cfg(test)]
-mod tests;

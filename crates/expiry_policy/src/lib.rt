@@ -9,6 +9,4 @@ mod choosing;
 pub mod laws;
 mod order;
 mod table;
-#[cfg(test)]
-mod tests;
 pub mod uses;

@@ -9,5 +9,3 @@
 pub mod extents;
 mod holes;
 pub mod part;
-#[cfg(test)]
-mod tests;

@@ -1,5 +1,5 @@
 -- What the two writes of a new record leave.
-use Rattle.std.proofs.Common.{◌≡◌, ◌≢◌, ℕ, ◌+◌, ◌<◌, ◌≤◌, List, [], ◌∷◌, ◌++◌, length, Result, Ok, Err, refl, sym, ◌∙◌, ap, subst, arith, inl, inr}
+use Rattle.std.proofs.Common.{◌≡◌, ◌≢◌, ℕ, ◌+◌, ◌<◌, ◌≤◌, List, [], ◌∷◌, ◌++◌, Result, Ok, Err, refl, sym, ◌∙◌, ap, arith, inl, inr}
 use Rattle.std.proofs.lemmas.Bool.{cases_eq, cases_lt}
 use Rattle.disk_model.specs.Content.{Content, byte_at, bytes_at, written, TornWrite}
 use Rattle.disk_model.specs.Images.{DiskState, Only, After, Leaves, ChangesBy, IsLawful}
@@ -11,7 +11,7 @@ use Rattle.gate_journal.specs.Opened.{opened, records}
 use Rattle.gate_journal.specs.Sound.{IsLaidOut, IsSoundAs, Stands, SameOutside, SameFrom, kept_by, opens_by}
 use Rattle.gate_journal.proofs.Deciding.{OpensToEither, undecided, decided}
 use Rattle.gate_journal.proofs.Gates.{laid_out_opens}
-use Rattle.gate_journal.proofs.Places.{half_low, half_high, torn_same, written_bytes}
+use Rattle.gate_journal.proofs.Places.{half_low, half_high, torn_same}
 use Rattle.gate_journal.proofs.Same.{same_bytes, same_bodies, bodies_push, laid_out_by, same_laid_out}
 use Rattle.gate_journal.proofs.Steps.{err_only, on_err, past_write}
 
@@ -103,10 +103,7 @@ module _ (l : Layout) (room : l.count < l.slots) (at : ℕ) (is_at : at ≡ slot
     }
 
     -- the body is on the disk
-    module _ (size : length body ≡ 63) (put : mid.seen ≡ written at body old.seen) (only_mid : Only mid.seen mid.may_leave) (lawful_mid : IsLawful mid) (new : DiskState) (second : ChangesBy (TornWrite (at + 63) 1) mid new) where
-      is_body : bytes_at mid.seen at 63 ≡ body
-      is_body = subst (λ (n : ℕ). bytes_at mid.seen at n ≡ body) size (written_bytes at body old.seen mid.seen put)
-
+    module _ (is_body : bytes_at mid.seen at 63 ≡ body) (only_mid : Only mid.seen mid.may_leave) (lawful_mid : IsLawful mid) (new : DiskState) (second : ChangesBy (TornWrite (at + 63) 1) mid new) where
       near_kept : (c : Content) → SameOutside (at + 63) 1 mid.seen c → kept_by l c ≡ before
       near_kept c same = gate_kept mid.seen c same ∙ stands_mid.same_records
 

@@ -2,15 +2,16 @@
 -- leaves it as it was.
 use Rattle.std.proofs.Common.{◌≡◌, ◌⊎◌, ℕ, zero, suc, ◌+◌, ◌≤◌, length, refl, sym, ◌∙◌, ap, subst, arith, inl, inr}
 use Rattle.std.proofs.lemmas.Bool.{cases_eq}
-use Rattle.disk_model.specs.Content.{Content, byte_at, TornWrite}
+use Rattle.disk_model.specs.Content.{Content, Same, byte_at, bytes_at, TornWrite}
 use Rattle.disk_model.specs.Images.{DiskState, Every, After, Leaves, ChangesBy}
 use Rattle.disk_model.specs.Moments.{leaves_as}
+use Rattle.disk_model.proofs.Reading.{bytes_at-same}
 use Rattle.gate_journal.specs.declared.journal.Journal.{Journal}
 use Rattle.gate_journal.specs.declared.standing.Standing.{Standing}
 use Rattle.gate_journal.specs.declared.standing.Standing.TheVariants.{Settled, Pending, Undecided}
 use Rattle.gate_journal.specs.Layout.{Layout, half_at, gate_at, journal_length}
 use Rattle.gate_journal.specs.Opened.{bodies_at, opened, records}
-use Rattle.gate_journal.specs.Sound.{IsSoundAs, IsSound, Stands, SameBefore, IsSettled, layout_of, kept, kept_by, opens_by, room_of, slots_of, digest_of, other, other_as}
+use Rattle.gate_journal.specs.Sound.{IsSoundAs, IsSound, Stands, Wavers, SameBefore, SameFrom, IsSettled, layout_of, kept, kept_by, opens_by, room_of, slots_of, digest_of, other, other_as}
 use Rattle.gate_journal.proofs.Gates.{laid_out_opens}
 use Rattle.gate_journal.proofs.Places.{half_high, same_here}
 use Rattle.gate_journal.proofs.Same.{same_bodies, same_laid_out}
@@ -87,3 +88,25 @@ stays_behind j at n old new settled sound reads behind change =
       kept_new (layout_of j) j.within at n behind old new settled_sound reads change,
       moments_new (layout_of j) j.within at n behind old new settled_sound reads change,
     )
+
+-- Calls that change nothing past the journal leave the bytes there.
+pub stays_past : (slots at n : ℕ) (old new : Content) → journal_length slots ≤ at → SameFrom (journal_length slots) old new → bytes_at new at n ≡ bytes_at old at n
+stays_past slots at n old new past same = bytes_at-same new old at n (λ place lo hi. same.others place (omega arith))
+
+-- The images that are left were all possible before.
+same_sound : (standing : Standing) (gate : ℕ) (l : Layout) (seen : Content) (old new : DiskState) → old.seen ≡ seen → new.seen ≡ seen → ((c : Content) → new.may_leave c → old.may_leave c)
+    → IsSoundAs standing gate l old → IsSoundAs standing gate l new
+same_sound Settled gate l seen old new was is images sound = λ c now.
+    subst (λ s. Stands l s c × SameBefore (journal_length l.slots) s c) (was ∙ sym is) (sound c (images c now))
+same_sound Pending gate l seen old new was is images sound = λ c now. subst (λ s. Stands l s c) (was ∙ sym is) (sound c (images c now))
+same_sound Undecided gate l seen old new was is images sound = λ d now c near. subst (λ s. Wavers l gate s c) (was ∙ sym is) (sound d (images d now) c near)
+
+-- Calls that only read leave any journal as it is.
+pub stays_read : (j : Journal) (old new : DiskState) → IsSound j old → ChangesBy Same old new
+    → IsSound j new × (kept j new.seen ≡ kept j old.seen) × (other j new.seen ≡ other j old.seen)
+stays_read j old new sound quiet = (
+  same_sound j.standing j.gate (layout_of j) old.seen old new refl quiet.reads
+      (λ c now. let from = quiet.crash c now in subst old.may_leave (sym from.2) from.1) sound,
+  ap (kept j) quiet.reads,
+  ap (other j) quiet.reads,
+)

@@ -1,10 +1,10 @@
 -- What the slots of a half hold once they are written.
 use Rattle.std.proofs.Common.{◌≡◌, ℕ, zero, suc, ◌+◌, ◌*◌, ◌<◌, ◌≤◌, List, [], ◌∷◌, ◌++◌, replicate, length, get_or, refl, sym, ◌∙◌, ap, subst, arith, inl, inr}
 use Rattle.std.proofs.lemmas.Bool.{cases_lt}
-use Rattle.disk_model.specs.Content.{Content, byte_at, bytes_at, written, TornWrite}
-use Rattle.disk_model.specs.Images.{DiskState, Steps, ChangesBy}
-use Rattle.disk_model.specs.Moments.{changes_at, changes_then}
-use Rattle.disk_model.specs.Writes.{written_others}
+use Rattle.disk_model.specs.Content.{Content, byte_at, bytes_at, written, TornWrite, Same}
+use Rattle.disk_model.specs.Images.{DiskState, After, Steps, ChangesBy}
+use Rattle.disk_model.specs.Moments.{leaves_none, changes_at, changes_then}
+use Rattle.disk_model.specs.Writes.{unchanged_write, written_others}
 use Rattle.gate_journal.specs.Opened.{bodies_at}
 use Rattle.gate_journal.specs.Sound.{slot_of}
 use Rattle.gate_journal.proofs.Headers.{two_parts}
@@ -54,6 +54,22 @@ pub torn_more : (at n start m : ℕ) (old mid new : DiskState) → start ≤ at 
 torn_more at n start m old mid new low high before one =
     changes_then (TornWrite start m) (TornWrite at n) (TornWrite start m) old mid new (λ c d torn. torn)
     (λ c d e first next. torn_then start m c d e first (torn_within at n start m d e low high next)) before (changes_at (TornWrite at n) mid new one)
+
+-- one slot more of a half
+pub torn_slot : (start here n k slots : ℕ) (old mid new : DiskState) → k < slots → here ≡ start + 64 * k → n ≡ 64 → ChangesBy (TornWrite start (64 * slots)) old mid → Steps (TornWrite here n) mid new → ChangesBy (TornWrite start (64 * slots)) old new
+torn_slot start here n k slots old mid new lt is size before one = torn_more here n start (64 * slots) old mid new (omega arith) (omega arith) before one
+
+-- no write yet, and none but a sync
+pub torn_none : (start m : ℕ) (disk : DiskState) → ChangesBy (TornWrite start m) disk disk
+torn_none start m disk = record {
+  reads = unchanged_write start m disk.seen;
+  crash = λ c now. (c, now, unchanged_write start m c);
+  any_moment = leaves_none disk (After (TornWrite start m) disk.may_leave);
+}
+
+pub torn_synced : (start m : ℕ) (old mid new : DiskState) → ChangesBy (TornWrite start m) old mid → Steps Same mid new → ChangesBy (TornWrite start m) old new
+torn_synced start m old mid new before sync =
+    changes_then (TornWrite start m) Same (TornWrite start m) old mid new (λ c d torn. torn) (λ c d e torn same. subst (TornWrite start m c) (sym same) torn) before (changes_at Same mid new sync)
 
 -- the bodies of a half that is filled
 all_bodies : (c : Content) (at : ℕ) (bodies : List (List ℕ)) → ((i : ℕ) → i < length bodies → bytes_at c (at + 64 * i) 63 ≡ get_or bodies i []) → bodies_at c at (length bodies) ≡ bodies

@@ -64,6 +64,10 @@ written_same at bytes c d fits is = subst (SameOutside at (length bytes) c) (sym
 pub written_bytes : (at : ℕ) (bytes : List ℕ) (c d : Content) → d ≡ written at bytes c → bytes_at d at (length bytes) ≡ bytes
 written_bytes at bytes c d is = sym (is_bytes_at d at (length bytes) bytes refl (λ i lt. sym (ap (λ (e : Content). byte_at e (at + i)) is ∙ written_within at bytes c i lt)))
 
+-- the body of a slot
+pub written_body : (at : ℕ) (body : List ℕ) (c d : Content) → length body ≡ 63 → d ≡ written at body c → bytes_at d at 63 ≡ body
+written_body at body c d size is = subst (λ (n : ℕ). bytes_at d at n ≡ body) size (written_bytes at body c d is)
+
 -- one byte put into a content
 pub set_same : (at byte : ℕ) (c : Content) → SameOutside at 1 c (set c at byte)
 set_same at byte c = record { same_length = length-set c at byte; others = λ i out. get_or-set_other c at i byte 0 (λ is. elim out [ inl lt ↦ (omega arith) | inr le ↦ (omega arith) ]) }

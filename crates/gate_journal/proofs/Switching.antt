@@ -20,6 +20,13 @@ use Rattle.gate_journal.proofs.Places.{Agree, half_low, half_high, header_low, h
 use Rattle.gate_journal.proofs.Same.{same_bytes, same_counts, same_generation, same_digest, same_bodies, same_laid_out}
 use Rattle.gate_journal.proofs.Steps.{err_only, on_err, from_only, past_write, past_same, past_then}
 
+-- a gate that was closed, and is on the disk
+pub shut_by_write : (gate : ℕ) (mid new : DiskState) → new.seen ≡ written gate (0 ∷ []) mid.seen → Only new.seen new.may_leave → Every new.may_leave (λ c. byte_at c gate ≢ 1)
+shut_by_write gate mid new put only c now is =
+    let zero_there : byte_at new.seen gate ≡ 0 = ap (λ (bytes : List ℕ). get_or bytes 0 0) (written_bytes gate (0 ∷ []) mid.seen new.seen put) in
+    let one_there : byte_at new.seen gate ≡ 1 = ap (λ (e : Content). byte_at e gate) (sym (only c now)) ∙ is in
+    absurd (omega arith)
+
 module _ (l : Layout) (fits : l.count ≤ l.slots) where
   abbrev end : ℕ
   end = journal_length l.slots
@@ -125,12 +132,6 @@ module _ (l : Layout) (fits : l.count ≤ l.slots) where
         past = past_then end old mid new read_past (past_write gate 1 end mid new low lawful_mid.reads_as (λ d was. (read_stands d was).0.whole) change);
       }
 
-      pub closed_in_each : new.seen ≡ written gate (0 ∷ []) mid.seen → Only new.seen new.may_leave → Every new.may_leave (λ c. byte_at c gate ≢ 1)
-      closed_in_each put only c now is =
-          let zero_there : byte_at new.seen gate ≡ 0 = ap (λ (bytes : List ℕ). get_or bytes 0 0) (written_bytes gate (0 ∷ []) mid.seen new.seen put) in
-          let one_there : byte_at new.seen gate ≡ 1 = ap (λ (e : Content). byte_at e gate) (sym (only c now)) ∙ is in
-          absurd (omega arith)
-
   -- filling the other half
   filled_header : (c d : Content) → SameOutside start (64 * l.slots) c d → Agree 0 128 c d
   filled_header c d same i lo hi = same.others i (inl (omega (arith, half_low l.slots (other_half l.half))))
@@ -211,7 +212,7 @@ kept_then result l l' standing last after old mid new keeps moves = record {
 -- The other half is filled, and its header is written and opened.
 module _ (l : Layout) (fits : l.count ≤ l.slots) (small : l.generation < 2 ^ 64) (digest_size : length l.digest ≡ 32) (bodies : List (List ℕ)) (few : length bodies ≤ l.slots)
     (long : (i : ℕ) → i < length bodies → length (get_or bodies i []) ≡ 63) (old mid : DiskState) (lawful : IsLawful old) (filled : IsFilled l bodies old) (own_gate : ℕ)
-    (title : List ℕ) (title_size : length title ≡ 63) (first : ChangesBy (TornWrite (header_at (other_half l.half)) 63) old mid) where
+    (title : List ℕ) (first : ChangesBy (TornWrite (header_at (other_half l.half)) 63) old mid) where
   abbrev number : ℕ
   number = (l.generation + 1) % 2 ^ 64
 
@@ -255,7 +256,7 @@ module _ (l : Layout) (fits : l.count ≤ l.slots) (small : l.generation < 2 ^ 6
   title_failed result fault is = kept_failed l own_gate bodies old mid result fault is titling
 
   -- the header's body is on the disk, and its gate is written
-  module _ (is_title : title ≡ magic ++ to_be_bytes w64 number ++ l.digest ++ replicate 15 0) (put : mid.seen ≡ written (header_at (other_half l.half)) title old.seen) (only_mid : Only mid.seen mid.may_leave)
+  module _ (is_title : title ≡ magic ++ to_be_bytes w64 number ++ l.digest ++ replicate 15 0) (put : bytes_at mid.seen (header_at (other_half l.half)) 63 ≡ title) (only_mid : Only mid.seen mid.may_leave)
       (lawful_mid : IsLawful mid) (new : DiskState) (second : ChangesBy (TornWrite (header_at (other_half l.half) + 63) 1) mid new) where
     abbrev mark : ℕ
     mark = header_at (other_half l.half) + 63
@@ -263,7 +264,7 @@ module _ (l : Layout) (fits : l.count ≤ l.slots) (small : l.generation < 2 ^ 6
     says : (c : Content) → SameOutside mark 1 mid.seen c → IsHeader (header_at (other_half l.half)) number l.digest c
     says c same = is_header (header_at (other_half l.half)) number l.digest c digest_size
         (same_bytes mid.seen c (header_at (other_half l.half)) 63 (λ i lo hi. same.others i (inl hi))
-        ∙ subst (λ (n : ℕ). bytes_at mid.seen (header_at (other_half l.half)) n ≡ title) title_size (written_bytes (header_at (other_half l.half)) title old.seen mid.seen put) ∙ is_title)
+        ∙ put ∙ is_title)
 
     near_kept : (c : Content) → SameOutside mark 1 mid.seen c → kept_by l c ≡ kept_by l old.seen
     near_kept c same = closing_kept l fits mid.seen c same ∙ mid_stands.same_records

@@ -1,8 +1,9 @@
 //! A journal of records behind gate bytes, in two halves.
 //!
-//! Promises: `Journal::open` gives the records of an image, or says what it is instead (`specs/Opened.antt`). After `Ok` of
-//! `append` each image of the disk has the record; at every moment within `append`, `settle` and `compact` each image opens
-//! to the records from before the call or to those after it, and nothing past the journal changes (`specs/Calls.antt`).
+//! Promises: `Journal::open` gives the records that a disk opens to, or says what it is instead (`specs/Opened.antt`). At every
+//! moment within `append` and `compact` each image opens to the records from before the call or to those that it is to lead
+//! to, and within `settle` to the records or to what the undecided gate gives; nothing past the journal changes
+//! (`specs/Calls.antt`). After `Ok` of one of them each image of the disk opens to the journal's records (`laws_of_journals`).
 //! Stands on disk_model and causes.
 #![tactic(auto)]
 
@@ -12,6 +13,7 @@ mod fault;
 mod half;
 mod header;
 mod journal;
+mod laws;
 mod making;
 mod open;
 mod opened;
@@ -23,8 +25,7 @@ mod writes;
 
 pub use fault::OpenFault;
 pub use journal::Journal;
+pub use laws::laws_of_journals;
 pub use making::make;
 pub use opened::Opened;
 
-#[cfg(test)]
-mod tests;

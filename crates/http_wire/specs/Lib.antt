@@ -9,5 +9,7 @@ pub mod Reader
 pub mod ReadCause
 pub mod Lengths
 pub mod Lines
+pub mod Takes
+pub mod Fetches
 pub mod Looks
 pub mod Outlines

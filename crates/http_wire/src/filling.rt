@@ -1,10 +1,7 @@
-ghost use Rattle.std.specs.Prelude.{◌≡◌, ◌≤◌, ◌<◌, ◌+◌, ◌⊎◌, true, false, max, IfOk, IfErr, OnOk, OnErr, length};
-ghost use Rattle.std.specs.Io.KnownBytes.{prepend_known, Keeps, IsAtEnd};
-ghost use Rattle.http_wire.specs.ReadCause.{HasReadCause};
-ghost use Rattle.httparse.specs.Grammar.{HasNoRequest};
-ghost use Rattle.http_wire.specs.Answers.{LeavesFault};
+ghost use Rattle.std.specs.Prelude.{◌≡◌, ◌≤◌, ◌+◌, false, max, length};
 ghost use Rattle.http_wire.specs.Lines.{is_line_byte, IsBlankUpTo, HasNoLineEnd, Extends};
-ghost use Rattle.http_wire.specs.Looks.{HadNoHead, HoldsHead, MayHaveHead, SettlesStream};
+ghost use Rattle.http_wire.specs.Looks.{HoldsHead, MayHaveHead};
+ghost use Rattle.http_wire.specs.Takes.{Takes, BringsPiece, BringsLine, BringsUpTo, Gains, Finds, FindsHead};
 
 use crate::look::{Found, HEAD_LIMIT, at_end, step};
 use crate::message::WireFault;
@@ -16,15 +13,8 @@ pub const TAKE_SIZE: usize = 4096;
 
 /// Takes more bytes behind those that are held; false at the end of the source.
 fn take_more<S: ByteSource>(held: &mut Vec<u8>, source: &mut S) -> Result<bool, WireFault>
-    ensures stream { OnOk result (Keeps (prepend_known held.old.items (S.left source.old)) (prepend_known held.new.items (S.left source.new))) }
-    ensures leaves { IfErr result (LeavesFault (prepend_known held.old.items (S.left source.old)) held.new.items (S.left source.new)) }
-    ensures grows { IfOk result (λ more. more ≡ true → length held.old.items < length held.new.items) }
-    ensures ends { IfOk result (λ more. more ≡ false → IsAtEnd (S.left source.new) × (held.new.items ≡ held.old.items)) }
-    ensures extends { OnOk result (Extends held.old.items held.new.items) }
-    ensures few { length held.new.items ≤ length held.old.items + 4096 }
-    ensures kept { OnErr result (held.new.items ≡ held.old.items) }
-    ensures cause { HasReadCause (S.faults source.old) (S.faults source.new) result }
-    ensures apart { S.apart source.new ≡ S.apart source.old }
+    ensures takes { Takes held.old.items held.new.items (S.left source.old) (S.left source.new) (S.faults source.old) (S.faults source.new) (S.apart source.old) (S.apart source.new) result }
+    ensures brings { BringsPiece held.old.items held.new.items (S.left source.new) result }
 {
     let mut chunk = [0; TAKE_SIZE];
     let Ok(count) = source.take(&mut chunk) else {
@@ -81,14 +71,8 @@ fn may_end_head(held: &[u8], from: usize, blank: usize) -> bool
 /// bytes costs as much as they are many, so that it is worth while only then: pieces of one byte, and empty lines, are
 /// read in a time that grows with their number alone.
 fn take_line<S: ByteSource>(held: &mut Vec<u8>, source: &mut S) -> Result<bool, WireFault>
-    ensures stream { OnOk result (Keeps (prepend_known held.old.items (S.left source.old)) (prepend_known held.new.items (S.left source.new))) }
-    ensures leaves { IfErr result (LeavesFault (prepend_known held.old.items (S.left source.old)) held.new.items (S.left source.new)) }
-    ensures grows { IfOk result (λ more. more ≡ true → length held.old.items < length held.new.items) }
-    ensures ends { IfOk result (λ more. more ≡ false → IsAtEnd (S.left source.new) × (held.new.items ≡ held.old.items)) }
-    ensures late { IfOk result (λ more. more ≡ true → HasNoRequest held.old.items → HadNoHead held.new.items) }
-    ensures waits { OnErr result (HasNoRequest held.old.items → HasNoRequest held.new.items) }
-    ensures cause { HasReadCause (S.faults source.old) (S.faults source.new) result }
-    ensures apart { S.apart source.new ≡ S.apart source.old }
+    ensures takes { Takes held.old.items held.new.items (S.left source.old) (S.left source.new) (S.faults source.old) (S.faults source.new) (S.apart source.old) (S.apart source.new) result }
+    ensures brings { BringsLine held.old.items held.new.items (S.left source.new) result }
 {
     let mut seen = held.len();
     let mut blank = blank_front(held.as_slice(), 0);
@@ -114,13 +98,8 @@ fn read_on<S: ByteSource>(
 ) -> Result<Found, WireFault>
     requires room { length headers.old ≡ 64 }
     requires unsettled { MayHaveHead held.old.items }
-    ensures stream { OnOk result (Keeps (prepend_known held.old.items (S.left source.old)) (prepend_known held.new.items (S.left source.new))) }
-    ensures leaves { IfErr result (LeavesFault (prepend_known held.old.items (S.left source.old)) held.new.items (S.left source.new)) }
-    ensures found { IfOk result (λ found. SettlesStream held.new.items headers.new (prepend_known held.new.items (S.left source.new)) found) }
-    ensures late { OnOk result (HadNoHead held.new.items) }
-    ensures waits { OnErr result (HasNoRequest held.new.items) }
-    ensures cause { HasReadCause (S.faults source.old) (S.faults source.new) result }
-    ensures apart { S.apart source.new ≡ S.apart source.old }
+    ensures takes { Takes held.old.items held.new.items (S.left source.old) (S.left source.new) (S.faults source.old) (S.faults source.new) (S.apart source.old) (S.apart source.new) result }
+    ensures finds { Finds held.new.items (S.left source.new) headers.new result }
 {
     'reading: loop {
         if !take_line(held, source)? {
@@ -139,14 +118,9 @@ pub fn read_head<S: ByteSource>(
     headers: &mut [HeaderSpan],
 ) -> Result<Found, WireFault>
     requires { length headers.old ≡ 64 }
-    ensures stream { OnOk result (Keeps (prepend_known held.old.items (S.left source.old)) (prepend_known held.new.items (S.left source.new))) }
-    ensures leaves { IfErr result (LeavesFault (prepend_known held.old.items (S.left source.old)) held.new.items (S.left source.new)) }
-    ensures found { IfOk result (λ found. SettlesStream held.new.items headers.new (prepend_known held.new.items (S.left source.new)) found) }
+    ensures takes { Takes held.old.items held.new.items (S.left source.old) (S.left source.new) (S.faults source.old) (S.faults source.new) (S.apart source.old) (S.apart source.new) result }
+    ensures finds { FindsHead held.old.items held.new.items (S.left source.new) headers.new result }
     ensures untouched { HoldsHead held.old.items → (source.new ≡ source.old) × (held.new ≡ held.old) }
-    ensures late { OnOk result ((held.new.items ≡ held.old.items) ⊎ HadNoHead held.new.items) }
-    ensures waits { OnErr result (HasNoRequest held.new.items) }
-    ensures cause { HasReadCause (S.faults source.old) (S.faults source.new) result }
-    ensures apart { S.apart source.new ≡ S.apart source.old }
 {
     match step(held.as_slice(), headers) {
         Some(found) => Ok(found),
@@ -160,16 +134,10 @@ pub fn read_up_to<S: ByteSource>(
     source: &mut S,
     need: usize,
 ) -> Result<bool, WireFault>
-    ensures stream { OnOk result (Keeps (prepend_known held.old.items (S.left source.old)) (prepend_known held.new.items (S.left source.new))) }
-    ensures leaves { IfErr result (LeavesFault (prepend_known held.old.items (S.left source.old)) held.new.items (S.left source.new)) }
-    ensures whole { IfOk result (λ whole. whole ≡ true → need ≤ length held.new.items) }
-    ensures short { IfOk result (λ whole. whole ≡ false → IsAtEnd (S.left source.new) × (length held.new.items < need)) }
+    ensures takes { Takes held.old.items held.new.items (S.left source.old) (S.left source.new) (S.faults source.old) (S.faults source.new) (S.apart source.old) (S.apart source.new) result }
+    ensures brings { BringsUpTo need held.new.items (S.left source.new) result }
     ensures untouched { need ≤ length held.old.items → source.new ≡ source.old }
-    ensures extends { Extends held.old.items held.new.items }
-    ensures few { length held.new.items ≤ max (length held.old.items) (need + 4095) }
-    ensures waits { OnErr result (length held.new.items < need) }
-    ensures cause { HasReadCause (S.faults source.old) (S.faults source.new) result }
-    ensures apart { S.apart source.new ≡ S.apart source.old }
+    ensures gains { Gains need held.old.items held.new.items }
 {
     'reading: while held.len() < need {
         if !take_more(held, source)? {

@@ -24,5 +24,3 @@ pub mod reader;
 pub mod sending;
 pub mod std_streams;
 pub mod streams;
-#[cfg(test)]
-mod tests;

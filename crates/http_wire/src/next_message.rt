@@ -1,7 +1,6 @@
 ghost use Rattle.std.specs.Prelude.{◌≡◌, ◌≤◌, ◌+◌, length, take, drop, IfOk, OnErr};
-ghost use Rattle.std.specs.Io.KnownBytes.{prepend_known};
-ghost use Rattle.http_wire.specs.Answers.{Answers, IsMessage, IsPartOfTake, Leaves, next_at, again_of, ended_of};
-ghost use Rattle.http_wire.specs.ReadCause.{HasReadCause};
+ghost use Rattle.http_wire.specs.Answers.{next_at, again_of, ended_of};
+ghost use Rattle.http_wire.specs.Fetches.{Fetches};
 ghost use Rattle.http_wire.specs.Messages.{HoldsMessage};
 
 use crate::filling::{read_head, read_up_to};
@@ -68,13 +67,8 @@ pub fn next_of<S: ByteSource>(
     held: &mut Vec<u8>,
     source: &mut S,
 ) -> Result<Next, WireFault>
-    ensures answers { Answers (prepend_known held.old.items (S.left source.old)) (prepend_known held.new.items (S.left source.new)) result }
-    ensures leaves { Leaves (prepend_known held.old.items (S.left source.old)) held.new.items (S.left source.new) result }
-    ensures surplus { IsMessage result → IsPartOfTake held.old.items → IsPartOfTake held.new.items }
+    ensures fetches { Fetches held.old.items held.new.items (S.left source.old) (S.left source.new) (S.faults source.old) (S.faults source.new) (S.apart source.old) (S.apart source.new) result }
     ensures untouched { HoldsMessage held.old.items → source.new ≡ source.old }
-    ensures waits { result ≡ Err WireFault.ReadFault → ¬ (HoldsMessage held.new.items) }
-    ensures cause { HasReadCause (S.faults source.old) (S.faults source.new) result }
-    ensures apart { S.apart source.new ≡ S.apart source.old }
 {
     let mut headers = [EMPTY_HEADER_SPAN; 64];
     let spans = match read_head(held, source, &mut headers)? {

@@ -1,4 +1,4 @@
-ghost use Rattle.std.specs.Prelude.{◌≡◌, ◌≤◌, take, length, IfErr, OnOk};
+ghost use Rattle.std.specs.Prelude.{◌≡◌, ◌<◌, take, length, IfErr, OnOk};
 ghost use Rattle.std.specs.Io.KnownBytes.{Appends};
 ghost use Rattle.causes.specs.Causes.{HasCause};
 
@@ -11,7 +11,7 @@ pub struct Sent(pub u64);
 /// Sends all of the bytes. `Sent(n)` where a write failed, and then exactly the first `n` went out.
 pub fn send<O: ByteSink>(sink: &mut O, bytes: &[u8]) -> Result<(), Sent>
     ensures ok { OnOk result (Appends (O.taken sink.old) (O.taken sink.new) bytes.now) }
-    ensures err { IfErr result (λ sent. (sent.0 ≤ length bytes.now) × Appends (O.taken sink.old) (O.taken sink.new) (take sent.0 bytes.now)) }
+    ensures err { IfErr result (λ sent. (sent.0 < length bytes.now) × Appends (O.taken sink.old) (O.taken sink.new) (take sent.0 bytes.now)) }
     ensures cause { HasCause (O.faults sink.old) (O.faults sink.new) result }
     ensures apart { O.apart sink.new ≡ O.apart sink.old }
 {

@@ -14,5 +14,3 @@ mod values;
 
 pub use cover::read_cover;
 
-#[cfg(test)]
-mod tests;

@@ -8,5 +8,3 @@
 pub mod decimal;
 pub mod list;
 pub mod object;
-#[cfg(test)]
-mod tests;

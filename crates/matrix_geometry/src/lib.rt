@@ -11,6 +11,4 @@ pub mod filter;
 pub mod geometry;
 pub mod making;
 pub mod matrix;
-#[cfg(test)]
-mod tests;
 pub mod theme;

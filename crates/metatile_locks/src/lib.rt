@@ -10,6 +10,4 @@ pub mod locks;
 pub mod render;
 pub mod replies;
 mod table;
-#[cfg(test)]
-mod tests;
 pub mod ticket;

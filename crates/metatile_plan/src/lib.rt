@@ -11,6 +11,4 @@ pub mod metatile;
 pub mod plan;
 pub mod span;
 pub mod spans;
-#[cfg(test)]
-mod tests;
 pub mod window;

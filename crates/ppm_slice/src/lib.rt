@@ -8,5 +8,3 @@
 pub mod of_catalogue;
 pub mod parts;
 pub mod slicing;
-#[cfg(test)]
-mod tests;

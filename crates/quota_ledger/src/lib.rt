@@ -9,5 +9,3 @@
 pub mod account;
 pub mod laws;
 pub mod ledger;
-#[cfg(test)]
-mod tests;

@@ -13,5 +13,3 @@ pub mod known;
 pub mod laws;
 pub mod layout;
 pub mod raster;
-#[cfg(test)]
-mod tests;

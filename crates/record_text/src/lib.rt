@@ -9,6 +9,4 @@ mod draft;
 pub mod entries;
 pub mod laws;
 pub mod reading;
-#[cfg(test)]
-mod tests;
 pub mod writing;

@@ -5,6 +5,4 @@
 #![tactic(auto)]
 
 pub mod line;
-#[cfg(test)]
-mod tests;
 pub mod verb;

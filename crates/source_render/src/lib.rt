@@ -15,5 +15,3 @@ mod palette;
 pub mod scripted;
 pub mod shut;
 pub mod source;
-#[cfg(test)]
-mod tests;

@@ -1,6 +1,6 @@
 -- What the end of a schedule, of a drill or of a session says of a command.
 use Rattle.std.proofs.Common.{ℕ, List, Ok, inr}
-use Rattle.cabinet.specs.State.{State, fresh_state}
+use Rattle.cabinet.specs.State.{State, IsKnown, fresh_state}
 use Rattle.catalog.specs.declared.catalogue.Catalogue.{Catalogue}
 use Rattle.tile_service.specs.declared.drill.DrillEnd.{DrillEnd}
 use Rattle.tile_service.specs.declared.drill.DrillEnd.TheVariants as drill_end
@@ -16,25 +16,25 @@ use Rattle.tile_service.specs.SessionEnds.{HasSession}
 use Rattle.tile_command.specs.Command.{HasScheduled, HasServedDrill, HasServedReplay, Inputs, IsDocument, IsRead, fresh_world, status_of_drill, status_of_schedule, status_of_session}
 
 module _ (i : Inputs) (o : Outside) (CapabilitiesStay LinesStay OutputStays SourceStays : Type 0) (c : Catalogue) (text : List ℕ) (read : IsRead i.catalogue (Ok c)) (document : IsDocument i.capabilities text) where
-  pub served_schedule : (t : World) (Untouched : Type 0) → (Untouched → OutputStays × SourceStays) → (e : ScheduleEnd) → Schedules i.lines o Untouched (fresh_world c text) t e
+  pub served_schedule : (t : World) → IsKnown t.cabinet → (Untouched : Type 0) → (Untouched → OutputStays × SourceStays) → (e : ScheduleEnd) → Schedules i.lines o Untouched (fresh_world c text) t e
       → HasScheduled i o CapabilitiesStay LinesStay OutputStays SourceStays (status_of_schedule e)
-  served_schedule t Untouched stay end.Done h = (c, read, text, document, (t, h))
-  served_schedule t Untouched stay (end.Line n) h = (c, read, text, document, (t, h))
-  served_schedule t Untouched stay end.WriteFault h = (c, read, text, document, (t, h))
-  served_schedule t Untouched stay end.ReadFault h = let s = stay h.1 in (inr (inr (c, read, text, document, h.0)), s.0, s.1)
-  served_schedule t Untouched stay end.TooLong h = let s = stay h.1 in (inr (inr (c, read, text, document, h.0)), s.0, s.1)
-  served_schedule t Untouched stay end.OutOfMemory h = let s = stay h in (inr (inr (c, read, text, document, tt)), s.0, s.1)
+  served_schedule t known Untouched stay end.Done h = (c, read, text, document, (t, known, h))
+  served_schedule t known Untouched stay (end.Line n) h = (c, read, text, document, (t, known, h))
+  served_schedule t known Untouched stay end.WriteFault h = (c, read, text, document, (t, known, h))
+  served_schedule t known Untouched stay end.ReadFault h = let s = stay h.1 in (inr (inr (c, read, text, document, h.0)), s.0, s.1)
+  served_schedule t known Untouched stay end.TooLong h = let s = stay h.1 in (inr (inr (c, read, text, document, h.0)), s.0, s.1)
+  served_schedule t known Untouched stay end.OutOfMemory h = let s = stay h in (inr (inr (c, read, text, document, tt)), s.0, s.1)
 
-  pub served_drill : (t : World) (number : ℕ) → LinesStay → (e : DrillEnd) → Drills o OutputStays number (fresh_world c text) t e → HasServedDrill i o CapabilitiesStay LinesStay OutputStays SourceStays number (status_of_drill e)
-  served_drill t number lines drill_end.Done h = (lines, (c, read, text, document, (t, h)))
-  served_drill t number lines drill_end.WriteFault h = (lines, (c, read, text, document, (t, h)))
-  served_drill t number lines drill_end.OutOfMemory h = inr (lines, (c, read, text, document, (t, h)))
+  pub served_drill : (t : World) → IsKnown t.cabinet → (number : ℕ) → LinesStay → (e : DrillEnd) → Drills o OutputStays number (fresh_world c text) t e → HasServedDrill i o CapabilitiesStay LinesStay OutputStays SourceStays number (status_of_drill e)
+  served_drill t known number lines drill_end.Done h = (lines, (c, read, text, document, (t, known, h)))
+  served_drill t known number lines drill_end.WriteFault h = (lines, (c, read, text, document, (t, known, h)))
+  served_drill t known number lines drill_end.OutOfMemory h = inr (lines, (c, read, text, document, (t, known, h)))
 
-  pub served_replay : (t : State) (e : SessionEnd) → HasSession i.lines o text (fresh_state c) t e → HasServedReplay i o CapabilitiesStay LinesStay OutputStays SourceStays (status_of_session e)
-  served_replay t session_end.Closed h = (c, read, text, document, (t, h))
-  served_replay t session_end.Truncated h = (c, read, text, document, (t, h))
-  served_replay t (session_end.Bad code) h = (c, read, text, document, (t, h))
-  served_replay t session_end.TooMany h = (c, read, text, document, (t, h))
-  served_replay t session_end.ReadFault h = inr (c, read, text, document, (t, h))
-  served_replay t session_end.WriteFault h = (c, read, text, document, (t, h))
-  served_replay t session_end.OutOfMemory h = inr (c, read, text, document, (t, h))
+  pub served_replay : (t : State) → IsKnown t → (e : SessionEnd) → HasSession i.lines o text (fresh_state c) t e → HasServedReplay i o CapabilitiesStay LinesStay OutputStays SourceStays (status_of_session e)
+  served_replay t known session_end.Closed h = (c, read, text, document, (t, known, h))
+  served_replay t known session_end.Truncated h = (c, read, text, document, (t, known, h))
+  served_replay t known (session_end.Bad code) h = (c, read, text, document, (t, known, h))
+  served_replay t known session_end.TooMany h = (c, read, text, document, (t, known, h))
+  served_replay t known session_end.ReadFault h = inr (c, read, text, document, (t, known, h))
+  served_replay t known session_end.WriteFault h = (c, read, text, document, (t, known, h))
+  served_replay t known session_end.OutOfMemory h = inr (c, read, text, document, (t, known, h))

@@ -1,7 +1,7 @@
 -- What a command came to.
 use Rattle.std.specs.Prelude.{ℕ, ◌≡◌, ◌≤◌, ◌+◌, ◌⊎◌, List, length, Option, Some, None, Result, Ok, Err, ⊤}
 use Rattle.std.specs.Io.KnownBytes.{Consumes, IsAtEnd}
-use Rattle.cabinet.specs.State.{State, fresh_state}
+use Rattle.cabinet.specs.State.{State, IsKnown, fresh_state}
 use Rattle.catalog.specs.declared.catalogue.Catalogue.{Catalogue}
 use Rattle.catalog.specs.declared.fault.CatalogueFault.{CatalogueFault}
 use Rattle.causes.specs.Causes.{Rose}
@@ -121,17 +121,17 @@ module _ (i : Inputs) (o : Outside) (CapabilitiesStay LinesStay OutputStays Sour
   abbrev pub BothRead : (Catalogue → List ℕ → Type 0) → Type 0
   BothRead P = (c : Catalogue) × IsRead i.catalogue (Ok c) × (text : List ℕ) × IsDocument i.capabilities text × P c text
 
-  -- the schedule was run with them, and ended so
+  -- the schedule was run with them, and ended so; the cabinet behind it is one that commands can make
   abbrev pub HasEnded : ScheduleEnd → Type 0
-  HasEnded e = BothRead (λ c text. (t : World) × Schedules i.lines o (OutputStays × SourceStays) (fresh_world c text) t e)
+  HasEnded e = BothRead (λ c text. (t : World) × IsKnown t.cabinet × Schedules i.lines o (OutputStays × SourceStays) (fresh_world c text) t e)
 
-  -- the drill was run with them, and ended so
+  -- the drill was run with them, and ended so; so is the cabinet behind it
   abbrev pub HasDrilled : ℕ → DrillEnd → Type 0
-  HasDrilled number e = LinesStay × BothRead (λ c text. (t : World) × Drills o OutputStays number (fresh_world c text) t e)
+  HasDrilled number e = LinesStay × BothRead (λ c text. (t : World) × IsKnown t.cabinet × Drills o OutputStays number (fresh_world c text) t e)
 
-  -- the bytes of a connection were served with them, and the session ended so
+  -- the bytes of a connection were served with them, and the session ended so; so is the cabinet behind it
   abbrev pub HasReplayed : SessionEnd → Type 0
-  HasReplayed e = BothRead (λ c text. (t : State) × HasSession i.lines o text (fresh_state c) t e)
+  HasReplayed e = BothRead (λ c text. (t : State) × IsKnown t × HasSession i.lines o text (fresh_state c) t e)
 
   -- the session ended within the stream: in a message, at bytes that are no message, or behind as many as it answers
   abbrev pub HasBrokenOff : SessionEnd → Type 0

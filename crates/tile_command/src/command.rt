@@ -124,11 +124,19 @@ pub fn run_command<S: Source, I: ByteSource, O: ByteSink>(
     };
     match word {
         Word::Schedule => {
-            status_of_schedule(run_schedule(alloc, &mut counter, source, input, output))
+            let end = run_schedule(alloc, &mut counter, source, input, output);
+            counter.cabinet.known();
+            status_of_schedule(end)
         }
-        Word::Replay => { status_of_session(replay(alloc, &mut counter, source, input, output)) }
+        Word::Replay => {
+            let end = replay(alloc, &mut counter, source, input, output);
+            counter.cabinet.known();
+            status_of_session(end)
+        }
         Word::Drill(number) => {
-            status_of_drill(run_drill(alloc, &mut counter, source, number, output))
+            let end = run_drill(alloc, &mut counter, source, number, output);
+            counter.cabinet.known();
+            status_of_drill(end)
         }
     }
 }

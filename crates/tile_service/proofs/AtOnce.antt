@@ -21,11 +21,11 @@ use Rattle.tile_service.proofs.Telling.{Stays, same_stays, copied_stays, usage_s
 
 -- a chance of which the reading and the answer are chosen
 abbrev pub with_ends : Chance → Bool → Bool → Chance
-with_ends c read left = record { read = read; ask = c.ask; work = c.work; blob = c.blob; left = left }
+with_ends c read left = record { read = read; ask = c.ask; work = c.work; bytes = c.bytes; left = left }
 
 -- memory for what an answer at once needs, or none
 abbrev with_memory : Bool → Chance
-with_memory left = record { read = true; ask = left; work = left; blob = None; left = true }
+with_memory left = record { read = true; ask = left; work = left; bytes = None; left = true }
 
 pub same_events : (kind : Kind) (s : State) (a : Address) (c : Chance) (read left : Bool) → events kind s a c ≡ events kind s a (with_ends c read left)
 same_events Gets s a c read left = refl

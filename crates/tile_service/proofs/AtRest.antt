@@ -14,7 +14,7 @@ use Rattle.cabinet.proofs.Rows.{stood_more}
 use Rattle.cache_core.specs.declared.actor.Actor.TheVariants.{Idle}
 use Rattle.cache_core.specs.declared.outcome.Outcome as cached
 use Rattle.cache_core.specs.declared.outcome.Outcome.TheVariants as core
-use Rattle.cache_core.specs.Steps.{Stepped, ends, given, ticket_for, unless_busy, render_wanted, unless_kept, began, off, abandoned, stored, with_room, ended, finished, rendered}
+use Rattle.cache_core.specs.Steps.{Stepped, abandoned, began, blob_of, ended, ends, finished, given, off, render_wanted, rendered, stored, ticket_for, unless_busy, unless_kept, with_room}
 use Rattle.catalog.specs.declared.catalogue.Scope.{Scope}
 use Rattle.matrix_geometry.specs.declared.address.Address.{Address}
 use Rattle.metatile_locks.specs.Running.{overtaken, render_of, running_for, unmarked, without}
@@ -90,14 +90,14 @@ done_at s o rest = record { told = o; is = refl; idle = refl; rests = rest }
 
 module _ (a : Address) (c : Chance) where
   -- the render of a number that was given, and its end
-  rendered_done : (s : State) (k : ℕ) → (now s).out ≡ unmarked k (block_of s.catalogue a) ∷ [] → (left : Bool) (blob : Option (List ℕ)) → IsDone (further c (rendered s (ticket_for s a k) a left blob))
-  rendered_done s k one false blob = done_at _ core.NoMemory (abandoned_rests s k (block_of s.catalogue a) one)
+  rendered_done : (s : State) (k : ℕ) → (now s).out ≡ unmarked k (block_of s.catalogue a) ∷ [] → (left : Bool) (bytes : Option (ℕ → ℕ)) → IsDone (further c (rendered s (ticket_for s a k) a left bytes))
+  rendered_done s k one false bytes = done_at _ core.NoMemory (abandoned_rests s k (block_of s.catalogue a) one)
   rendered_done s k one true None = done_at _ core.SourceFailed (abandoned_rests s k (block_of s.catalogue a) one)
-  rendered_done s k one true (Some text) = done_at _ _ (finished_rests s k (block_of s.catalogue a) one text)
+  rendered_done s k one true (Some bytes) = done_at _ _ (finished_rests s k (block_of s.catalogue a) one (blob_of s.catalogue (block_of s.catalogue a) bytes))
 
   given_done : (s : State) (n : Option ℕ) → IsAtRest s → IsDone (at_once c (given s a n))
   given_done s None rest = done_at s core.Spent rest
-  given_done s (Some k) rest = rendered_done (with_entry s (entry.Started k (block_of s.catalogue a))) k (started_runs s k (block_of s.catalogue a) rest) c.work c.blob
+  given_done s (Some k) rest = rendered_done (with_entry s (entry.Started k (block_of s.catalogue a))) k (started_runs s k (block_of s.catalogue a) rest) c.work c.bytes
 
   wanted_done : (s : State) → IsAtRest s → IsDone (at_once c (render_wanted s a false))
   wanted_done s rest = subst (λ n. IsDone (at_once c (unless_busy s a false n))) (sym (ap (running_for (block_of s.catalogue a)) rest)) (given_done s (next s.opening (now s)) rest)

@@ -16,10 +16,10 @@ use Rattle.http_wire.specs.declared.message.WireFault.TheVariants as faults
 use Rattle.tile_service.specs.declared.session.SessionEnd.{SessionEnd}
 use Rattle.tile_service.specs.declared.session.SessionEnd.TheVariants.{Closed, Truncated, Bad, ReadFault, WriteFault, TooMany, OutOfMemory}
 use Rattle.tile_service.specs.Outside.{Input, Outside}
-use Rattle.tile_service.specs.Sent.{AppendsFront}
-use Rattle.tile_service.specs.Session.{replies, bad_text}
+use Rattle.tile_service.specs.Sent.{AppendsFront, AppendsPart}
+use Rattle.tile_service.specs.Session.{reply_text, replies, bad_text}
 use Rattle.tile_service.specs.SessionEnds.{AreOpen, GoOn, GoBefore, Ends, HasSession}
-use Rattle.tile_service.proofs.Known.{appends_more, appends_nothing, front_second}
+use Rattle.tile_service.proofs.Known.{appends_more, appends_nothing}
 use Rattle.tile_service.proofs.Replaying.{IsUnderWay, IsAnswered, stand_none}
 use Rattle.tile_service.proofs.SoFar.{is_served, served_start}
 
@@ -65,7 +65,7 @@ module _ (told : Option ℕ) (before now rb ra wb wa : ℕ) (document : List ℕ
   go_on = record { all_open = f.all_open; few = let e = f.served.many in omega arith }
 
   -- the session has ended so
-  ended : (end : SessionEnd) (held : List ℕ) → Keeps here (prepend_known held to) → Ends (input rb ra from to) (outside told before now wb wa empty out) f.messages held (prepend_known held to) (replies f.answers) end → HasEnded end
+  ended : (end : SessionEnd) (held : List ℕ) → Keeps here (prepend_known held to) → Ends (input rb ra from to) (outside told before now wb wa empty out) f.messages f.answers held (prepend_known held to) end → HasEnded end
   ended end held k ends =
       record {
         messages = f.messages;
@@ -98,7 +98,7 @@ module _ (told : Option ℕ) (before now rb ra wb wa : ℕ) (document : List ℕ
     pub bad_cut_off : (status : ℕ) → next ≡ nexts.Bad status → AppendsFront written out (bad_text status) → Rose wb wa → HasEnded WriteFault
     bad_cut_off status is wrote rose =
         let k : StaysAt here (prepend_known held to) (stop.Bad status) = subst stays is leaves in
-        ended WriteFault held k.0 (replies f.answers ++ bad_text status, inr (status, go_on, k.1, refl), rose, front_second empty written out (replies f.answers) (bad_text status) f.text wrote)
+        ended WriteFault held k.0 (replies f.answers, bad_text status, inr (status, go_on, k.1, refl, refl), rose, record { between = written; whole = f.text; part = wrote })
 
   -- a read failed, before a message had come whole
   pub unread_there : (held : List ℕ) → Keeps here (prepend_known held to) → ¬ (HoldsMessage held) → Rose rb ra → out ≡ written → HasEnded ReadFault
@@ -119,7 +119,7 @@ module _ (told : Option ℕ) (before now rb ra wb wa : ℕ) (document : List ℕ
   go_before : (a : IsAnsweredHere) → GoBefore (a.earlier ++ m ∷ []) held m
   go_before a = record { before = a.earlier; whole = refl; go_on = record { all_open = a.all_open; few = let e = a.many in omega arith }; looks_no_further = part }
 
-  ended_behind : (a : IsAnsweredHere) (end : SessionEnd) → Ends (input rb ra from to) (outside told before now wb wa empty out) (a.earlier ++ m ∷ []) held (prepend_known held to) (replies a.answers) end → HasEndedBehind end
+  ended_behind : (a : IsAnsweredHere) (end : SessionEnd) → Ends (input rb ra from to) (outside told before now wb wa empty out) (a.earlier ++ m ∷ []) a.answers held (prepend_known held to) end → HasEndedBehind end
   ended_behind a end ends =
       record {
         messages = a.earlier ++ m ∷ [];
@@ -133,8 +133,9 @@ module _ (told : Option ℕ) (before now rb ra wb wa : ℕ) (document : List ℕ
   pub closed_behind : m.last ≡ true → (a : IsAnsweredHere) × Appends empty out (replies a.answers) → HasEndedBehind Closed
   closed_behind e a = ended_behind a.0 Closed (inl (m, go_before a.0, e), a.1)
 
-  pub cut_off_behind : Rose wb wa → (a : IsAnsweredHere) × AppendsFront empty out (replies a.answers) → HasEndedBehind WriteFault
-  cut_off_behind rose a = ended_behind a.0 WriteFault (replies a.0.answers, inl (m, go_before a.0, refl), rose, a.1)
+  pub cut_off_behind : Rose wb wa → (a : IsAnsweredHere) × AppendsPart empty out (replies a.before_it) (reply_text a.answer) → HasEndedBehind WriteFault
+  cut_off_behind rose a =
+      ended_behind a.0 WriteFault (replies a.0.before_it, reply_text a.0.answer, inl (m, go_before a.0, a.0.before_it, a.0.answer, a.0.split, refl, refl), rose, a.1)
 
 -- BEHIND THE 10,000TH
 

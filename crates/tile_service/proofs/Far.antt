@@ -150,6 +150,10 @@ module _ (told : Option ℕ) (before after : ℕ) (w : World) (done : List (List
   abbrev pub came_to : Option ℕ → Run
   came_to refused = record { answers = answers; world = t; refused = refused }
 
+  -- under these chances and further ones
+  pub so_far_done : (more : List Chance) → run w 1 done (made ++ more) ≡ came_to None
+  so_far_done more = rw (append-nil done, append-nil answers) at (f.goes [] more)
+
   -- no line is left
   pub ends_done : run w 1 done made ≡ came_to None
   ends_done = rw (append-nil done, append-nil made, append-nil answers) at (f.goes [] [])

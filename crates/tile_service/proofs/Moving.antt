@@ -83,20 +83,20 @@ begun_moves told n s a force step t h =
 abbrev Further : Actor → Stepped → Type 0
 Further x r = GoesOn r.actor r.outcome × ((failing r.outcome + owed r.actor ≤ owed x) ⊎ (IsFailed r.actor × (failing r.outcome + owed r.actor ≤ owed x + 1)))
 
-further_after : (s : State) (x : Actor) (left : Bool) (blob : Option (List ℕ)) → (IsIdle x → ⊥) → Further x (advanced s x left blob)
-further_after s actor.Idle left blob busy = absurd (busy tt)
-further_after s (actor.Waiting a force) left blob busy = let p = plain_began s a force left in let none = p.1 in (p.0, inl (omega arith))
-further_after s (actor.Holding t a) false blob busy = (refl, inl (omega arith))
+further_after : (s : State) (x : Actor) (left : Bool) (bytes : Option (ℕ → ℕ)) → (IsIdle x → ⊥) → Further x (advanced s x left bytes)
+further_after s actor.Idle left bytes busy = absurd (busy tt)
+further_after s (actor.Waiting a force) left bytes busy = let p = plain_began s a force left in let none = p.1 in (p.0, inl (omega arith))
+further_after s (actor.Holding t a) false bytes busy = (refl, inl (omega arith))
 further_after s (actor.Holding t a) true None busy = (λ idle. idle, inr (tt, omega arith))
-further_after s (actor.Holding t a) true (Some blob) busy = (λ idle. idle, inl (omega arith))
-further_after s (actor.Rendered t text tile) left blob busy = (refl, inl (omega arith))
-further_after s (actor.Failed t) left blob busy = (refl, inl (omega arith))
+further_after s (actor.Holding t a) true (Some bytes) busy = (λ idle. idle, inl (omega arith))
+further_after s (actor.Rendered t text tile) left bytes busy = (refl, inl (omega arith))
+further_after s (actor.Failed t) left bytes busy = (refl, inl (omega arith))
 
 -- a request goes on after an event, or has its outcome
 pub advance_goes : (told : Option ℕ) (before after : ℕ) (s : State) (x : Actor) (step : Step) (t : State) → (IsIdle x → ⊥) → Advances told before after s x step t → GoesOn step.actor step.outcome
 advance_goes told before after s x step t busy h =
     let P : Stepped → Type 0 = Further x in
-    let after_it : Further x (shown step t) = subst P (sym h.advanced) (further_after s x h.left h.blob busy) in
+    let after_it : Further x (shown step t) = subst P (sym h.advanced) (further_after s x h.left h.bytes busy) in
     after_it.0
 
 place_within : (x : Actor) (here p : ℕ) → p ≤ here → place_of x here p ≤ here
@@ -111,7 +111,7 @@ pub advance_moves : (told : Option ℕ) (before after : ℕ) (s : State) (x : Ac
     → Moves told before after s x a (place_of x (length s.history) p) step t
 advance_moves told before after s x a p step t fit busy within fresh h =
     let P : Stepped → Type 0 = Further x in
-    let after_it : Further x (shown step t) = subst P (sym h.advanced) (further_after s x h.left h.blob busy) in
+    let after_it : Further x (shown step t) = subst P (sym h.advanced) (further_after s x h.left h.bytes busy) in
     record {
       fits = h.fits a fit;
       goes_on = after_it.0;

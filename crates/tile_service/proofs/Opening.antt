@@ -16,8 +16,8 @@ use Rattle.tile_service.specs.Requests.{Chance, is_at_work, further}
 use Rattle.tile_service.proofs.Moving.{begun_moves, moves_further}
 
 -- a chance at an ask, a further event and a render
-abbrev at_chance : Bool → Bool → Option (List ℕ) → Chance
-at_chance ask work blob = record { read = true; ask = ask; work = work; blob = blob; left = true }
+abbrev at_chance : Bool → Bool → Option (ℕ → ℕ) → Chance
+at_chance ask work bytes = record { read = true; ask = ask; work = work; bytes = bytes; left = true }
 
 pub opens_asks : (told : Option ℕ) (n : ℕ) (s : State) (a : Address) (kind : Kind) (step : Step) (t : State) → kind ≡ Asks → Begins s a false step t → Opens told n n s a kind step t
 opens_asks told n s a kind step t e h = record { chance = at_chance h.left true None; made = rw e h.began; moves = begun_moves told n s a false step t h }
@@ -34,31 +34,31 @@ NoRender (actor.Rendered t blob tile) = ⊤
 NoRender (actor.Failed t) = ⊤
 
 -- behind one event of an actor that has work there is no render in its line
-one_render : (s : State) (x : Actor) (left : Bool) (blob : Option (List ℕ)) → is_at_work x ≡ true → NoRender (advanced s x left blob).actor
-one_render s actor.Idle left blob e = let f : false ≡ true = e in cc
-one_render s (actor.Waiting b force) left blob e = let f : false ≡ true = e in cc
-one_render s (actor.Holding t b) false blob e = tt
+one_render : (s : State) (x : Actor) (left : Bool) (bytes : Option (ℕ → ℕ)) → is_at_work x ≡ true → NoRender (advanced s x left bytes).actor
+one_render s actor.Idle left bytes e = let f : false ≡ true = e in cc
+one_render s (actor.Waiting b force) left bytes e = let f : false ≡ true = e in cc
+one_render s (actor.Holding t b) false bytes e = tt
 one_render s (actor.Holding t b) true None e = tt
-one_render s (actor.Holding t b) true (Some text) e = tt
-one_render s (actor.Rendered t text tile) left blob e = tt
-one_render s (actor.Failed t) left blob e = tt
+one_render s (actor.Holding t b) true (Some bytes) e = tt
+one_render s (actor.Rendered t text tile) left bytes e = tt
+one_render s (actor.Failed t) left bytes e = tt
 
 -- chance has no part in an event without a render
-no_chance : (s : State) (x : Actor) (left left' : Bool) (blob blob' : Option (List ℕ)) → NoRender x → is_at_work x ≡ true → advanced s x left blob ≡ advanced s x left' blob'
-no_chance s actor.Idle left left' blob blob' none e = let f : false ≡ true = e in cc
-no_chance s (actor.Waiting b force) left left' blob blob' none e = let f : false ≡ true = e in cc
-no_chance s (actor.Holding t b) left left' blob blob' none e = absurd none
-no_chance s (actor.Rendered t text tile) left left' blob blob' none e = refl
-no_chance s (actor.Failed t) left left' blob blob' none e = refl
+no_chance : (s : State) (x : Actor) (left left' : Bool) (bytes bytes' : Option (ℕ → ℕ)) → NoRender x → is_at_work x ≡ true → advanced s x left bytes ≡ advanced s x left' bytes'
+no_chance s actor.Idle left left' bytes bytes' none e = let f : false ≡ true = e in cc
+no_chance s (actor.Waiting b force) left left' bytes bytes' none e = let f : false ≡ true = e in cc
+no_chance s (actor.Holding t b) left left' bytes bytes' none e = absurd none
+no_chance s (actor.Rendered t text tile) left left' bytes bytes' none e = refl
+no_chance s (actor.Failed t) left left' bytes bytes' none e = refl
 
 further_stays : (c : Chance) (r : Stepped) → is_at_work r.actor ≡ false → further c r ≡ r
 further_stays c r e = rw e refl
 
-further_goes : (c : Chance) (r : Stepped) → is_at_work r.actor ≡ true → further c r ≡ advanced r.cabinet r.actor c.work c.blob
+further_goes : (c : Chance) (r : Stepped) → is_at_work r.actor ≡ true → further c r ≡ advanced r.cabinet r.actor c.work c.bytes
 further_goes c r e = rw e refl
 
 abbrev Twice : State → Address → Bool → Step → State → Type 0
-Twice s a ask step t = (work : Bool) × (blob : Option (List ℕ)) × (shown step t ≡ further (at_chance ask work blob) (further (at_chance ask work blob) (began s a false ask)))
+Twice s a ask step t = (work : Bool) × (bytes : Option (ℕ → ℕ)) × (shown step t ≡ further (at_chance ask work bytes) (further (at_chance ask work bytes) (began s a false ask)))
 
 module _ (told : Option ℕ) (before mid after : ℕ) (s u v t : State) (a : Address) (ask : Bool) (asked rendered step : Step) (h : shown asked u ≡ began s a false ask) where
   twice : GoesFurther told before mid u asked rendered v → GoesFurther told mid after v rendered step t → Twice s a ask step t
@@ -73,14 +73,14 @@ module _ (told : Option ℕ) (before mid after : ℕ) (s u v t : State) (a : Add
       still c (inl g) e n = let d : shown step t ≡ shown rendered v = rw (g.1, g.2) refl in rw (sym e) (d ∙ sym (further_stays c (shown rendered v) n))
       still c (inr g) e n = let f : false ≡ true = sym n ∙ g.0 in cc
   twice (inr f) k =
-      let c = at_chance ask f.1.left f.1.blob in
+      let c = at_chance ask f.1.left f.1.bytes in
       let e : shown rendered v ≡ further c (began s a false ask) = rw (sym h) (f.1.advanced ∙ sym (further_goes c (shown asked u) f.0)) in
       let P : Stepped → Type 0 = λ r. NoRender r.actor in
-      (f.1.left, f.1.blob, again c k e (subst P (sym f.1.advanced) (one_render u asked.actor f.1.left f.1.blob f.0)))
+      (f.1.left, f.1.bytes, again c k e (subst P (sym f.1.advanced) (one_render u asked.actor f.1.left f.1.bytes f.0)))
     where
       again : (c : Chance) → GoesFurther told mid after v rendered step t → shown rendered v ≡ further c (began s a false ask) → NoRender rendered.actor → shown step t ≡ further c (further c (began s a false ask))
       again c (inl g) e none = let d : shown step t ≡ shown rendered v = rw (g.1, g.2) refl in rw (sym e) (d ∙ sym (further_stays c (shown rendered v) g.0))
-      again c (inr g) e none = rw (sym e) (g.1.advanced ∙ no_chance v rendered.actor g.1.left c.work g.1.blob c.blob none g.0 ∙ sym (further_goes c (shown rendered v) g.0))
+      again c (inr g) e none = rw (sym e) (g.1.advanced ∙ no_chance v rendered.actor g.1.left c.work g.1.bytes c.bytes none g.0 ∙ sym (further_goes c (shown rendered v) g.0))
 
 pub opens_gets : (told via : Option ℕ) (before mid after : ℕ) (s u v t : State) (a : Address) (kind : Kind) (asked rendered step : Step) → kind ≡ Gets → Begins s a false asked u
     → GoesFurther told before mid u asked rendered v → via ≡ told → GoesFurther via mid after v rendered step t → Opens told before after s a kind step t

@@ -15,10 +15,10 @@ use Rattle.tile_service.specs.OneLine.{MayTell}
 use Rattle.tile_service.specs.Requests.{told_at}
 use Rattle.tile_service.specs.Response.{response}
 use Rattle.tile_service.specs.Run.{Answer}
-use Rattle.tile_service.specs.Sent.{AppendsFront}
+use Rattle.tile_service.specs.Sent.{AppendsFront, AppendsPart}
 use Rattle.tile_service.specs.Session.{Serves, reply_text, replies}
 use Rattle.tile_service.specs.SessionEnds.{AreOpen}
-use Rattle.tile_service.proofs.Known.{appends_more, appends_nothing, front_second}
+use Rattle.tile_service.proofs.Known.{appends_more, appends_nothing}
 use Rattle.tile_service.proofs.SoFar.{HasServed, served_start, served_next, the_answer}
 
 -- n messages were answered, none of them the last of its connection; this is left of the bytes, and that was written
@@ -53,6 +53,9 @@ under_way_start told count document s from empty reading e =
 pub record IsAnswered (told : Option ℕ) (before now : ℕ) (document : List ℕ) (s t : State) (from left : Option (List ℕ)) (n : ℕ) (m : Message) : Type 0 where
   pub earlier : List Message
   pub answers : List Answer
+  pub before_it : List Answer
+  pub answer : Answer
+  pub split : answers ≡ before_it ++ answer ∷ []
   pub all_open : AreOpen earlier
   pub many : length earlier ≡ n
   pub stand : StandIn from (earlier ++ m ∷ []) left
@@ -84,6 +87,9 @@ module _ (told via : Option ℕ) (before mid after : ℕ) (document words : List
       record {
         earlier = f.messages;
         answers = f.answers ++ its_answer memory ∷ [];
+        before_it = f.answers;
+        answer = its_answer memory;
+        split = refl;
         all_open = f.all_open;
         many = f.served.many;
         stand = stand_in_more from here (prepend_known held left) f.messages m f.stand takes;
@@ -98,11 +104,10 @@ module _ (told via : Option ℕ) (before mid after : ℕ) (document words : List
       (answered k.0, rw (flat_map-append reply_text f.answers (its_answer k.0 ∷ [])) (appends_more empty middle written _ _ f.text one))
 
   -- a front of it was written
-  pub answered_front : MayTell o (λ x. AppendsFront sent written (response m (n + 1) x)) → (a : IsAnswered told before after document s u from (prepend_known held left) n m) × AppendsFront empty written (replies a.answers)
+  pub answered_front : MayTell o (λ x. AppendsFront sent written (response m (n + 1) x)) → (a : IsAnswered told before after document s u from (prepend_known held left) n m) × AppendsPart empty written (replies a.before_it) (reply_text a.answer)
   answered_front tells =
       let k = which_told o (λ x. AppendsFront sent written (response m (n + 1) x)) tells in
-      let one : AppendsFront middle written (replies (its_answer k.0 ∷ [])) = subst (λ x. AppendsFront x written (replies (its_answer k.0 ∷ []))) unsent (subst (AppendsFront sent written) (its_text k.0) k.1) in
-      (answered k.0, rw (flat_map-append reply_text f.answers (its_answer k.0 ∷ [])) (front_second empty middle written _ _ f.text one))
+      (answered k.0, record { between = middle; whole = f.text; part = subst (λ x. AppendsFront x written (reply_text (its_answer k.0))) unsent k.1 })
 
 open_more : (messages : List Message) (m : Message) → AreOpen messages → m.last ≡ false → AreOpen (messages ++ m ∷ [])
 open_more [] m all e = (e, tt)

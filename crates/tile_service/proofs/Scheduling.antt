@@ -1,5 +1,5 @@
 -- How far the run of a schedule's text has come, one more line, and its ends.
-use Rattle.std.proofs.Common.{◌≡◌, ℕ, map, replicate, ◌+◌, ◌≤◌, List, [], ◌∷◌, ◌++◌, Option, Some, None, length, flat_map, refl, sym, ◌∙◌, arith, append_assoc, append-nil}
+use Rattle.std.proofs.Common.{◌≡◌, ℕ, map, replicate, ◌+◌, ◌≤◌, List, [], ◌∷◌, ◌++◌, Option, Some, None, length, flat_map, refl, sym, ap, ◌∙◌, arith, append_assoc, append-nil}
 use Rattle.std.specs.Io.KnownBytes.{Appends}
 use Rattle.std.proofs.lemmas.Grind.{flat_map-append}
 use Rattle.cabinet.specs.State.{State}
@@ -18,8 +18,8 @@ use Rattle.tile_service.specs.Requests.{Chance, calm}
 use Rattle.tile_service.specs.Run.{Busy, free_seats, World, Answer, line_done, answer_text}
 use Rattle.tile_service.specs.Schedules.{HasRun}
 use Rattle.tile_service.specs.Sent.{AppendsFront}
-use Rattle.tile_service.proofs.Known.{appends_more, appends_nothing, front_second}
-use Rattle.tile_service.proofs.Far.{Far, far_next, far_start_free, far_waits, ends_done, ends_refused, ends_upheld, free_same}
+use Rattle.tile_service.proofs.Known.{appends_more, appends_nothing}
+use Rattle.tile_service.proofs.Far.{Far, far_next, far_start_free, far_waits, so_far_done, ends_done, ends_refused, ends_upheld, free_same}
 
 -- n lines of the text are done, and the rest is not
 pub record Reads (told : Option ℕ) (before after : ℕ) (from to : Option (List ℕ)) (w : World) (text : List ℕ) (n : ℕ) (rest : List ℕ) (t : World) : Type 0 where
@@ -53,14 +53,26 @@ module _ (told told' : Option ℕ) (before mid after : ℕ) (from via to : Optio
   outside_cut sb sa = record { told = told; renders = record { before = before; after = after }; writes = record { before = sb; after = sa }; from = from; to = to }
 
   -- a write failed at the line's answer
-  run_cut : (sb sa : ℕ) → AppendsFront via to (flat_map answer_text news) → Rose sb sa → HasRun (outside_cut sb sa) w text u WriteFault
-  run_cut sb sa write rose =
+  run_cut : (sb sa : ℕ) (answer : Answer) → news ≡ answer ∷ [] → AppendsFront via to (answer_text answer) → Rose sb sa → HasRun (outside_cut sb sa) w text u WriteFault
+  run_cut sb sa answer one write rose =
       let e = ends_done told before after w (f.done ++ line ∷ []) (f.made ++ l.chance ∷ []) (f.answers ++ news) (n + 1) u further in
+      let d = so_far_done told before mid w f.done f.made f.answers n t f.far (l.chance ∷ []) in
       record {
         lines = f.done ++ line ∷ [];
         chances = f.made ++ l.chance ∷ [];
         through = (lines_of next, split_more);
-        ends = rw (e, flat_map-append answer_text f.answers news) (refl, rose, front_second from via to _ _ f.written write);
+        ends = (
+          ap (λ r. r.world) (sym e),
+          rose,
+          record {
+            before = f.done;
+            line = line;
+            whole = refl;
+            answer = answer;
+            answers = rw (e, d, one) refl;
+            sent = record { between = via; whole = rw d f.written; part = write };
+          },
+        );
         upheld = ends_upheld told before after w (f.done ++ line ∷ []) (f.made ++ l.chance ∷ []) (f.answers ++ news) (n + 1) u further _ None e;
       }
 
@@ -123,7 +135,7 @@ module _ (told via : Option ℕ) (before mid after sb sm sa : ℕ) (from middle 
   seated_cut l k =
       let d = k f.0 is_seated in
       let rose = d.2.3 in
-      (d.0, d.1, run_cut told via before mid after from middle to w text n rest line next (world_of s document f.0) (world_of t document d.0) d.2.0 f.2 same lines d.2.1 sb sa d.2.2 (omega arith))
+      (d.0, d.1, run_cut told via before mid after from middle to w text n rest line next (world_of s document f.0) (world_of t document d.0) (d.2.0 ∷ []) f.2 same lines d.2.1 sb sa d.2.0 refl d.2.2 (omega arith))
 
   pub seated_refused : Writes one s document seats (n + 1) line t later line_end.Refused → (busy : List (Option Busy)) × (map seat_of busy ≡ later) × HasRun all w text (world_of t document busy) (Line (n + 1))
   seated_refused k =

@@ -30,6 +30,9 @@ module _ (told : Option ℕ) (before after : ℕ) (w : World) (n : ℕ) (line : 
   abbrev the_answer : Bool → Answer
   the_answer left = answer_with r n h.message h.request h.place left
 
+  answer_is : (left : Bool) → framed n r.actor r.start (response_with false (told_at left r.outcome)) ≡ answer_text (the_answer left)
+  answer_is left = rw h.open_after refl
+
   its_text : (left : Bool) → framed n r.actor r.start (response_with false (told_at left r.outcome)) ≡ flat_map answer_text (the_answer left ∷ [])
   its_text left = rw h.open_after (sym (append-nil (framed n r.actor r.start (response_with false (told_at left r.outcome)))))
 
@@ -41,8 +44,8 @@ module _ (told : Option ℕ) (before after : ℕ) (w : World) (n : ℕ) (line : 
   which_told P (inl k) = (true, k)
   which_told P (inr k) = (false, k)
 
-  line_told : (P : List ℕ → Type 0) → MayTell r.outcome (λ o. P (framed n r.actor r.start (response_with false o))) → (answers : List Answer) × IsLine told before after w n line t answers × P (flat_map answer_text answers)
-  line_told P k = let m = which_told (λ o. P (framed n r.actor r.start (response_with false o))) k in (the_answer m.0 ∷ [], its_line m.0, subst P (its_text m.0) m.1)
+  one_told : (P : List ℕ → Type 0) → MayTell r.outcome (λ o. P (framed n r.actor r.start (response_with false o))) → (answer : Answer) × IsLine told before after w n line t (answer ∷ []) × P (answer_text answer)
+  one_told P k = let m = which_told (λ o. P (framed n r.actor r.start (response_with false o))) k in (the_answer m.0, its_line m.0, subst P (answer_is m.0) m.1)
 
   line_counted : (P : List ℕ → Type 0) (k : CacheResult) → MayTell r.outcome (λ o. (k ≡ result_of o) × P (framed n r.actor r.start (response_with false o)))
       → (answers : List Answer) × IsLine told before after w n line t answers × P (flat_map answer_text answers) × (tally_of answers ≡ one_of (Some k))
@@ -69,4 +72,4 @@ module _ (told : Option ℕ) (before after sb sa : ℕ) (from to : Option (List 
 
   pub writes_front : (r : Reply) → MayTell r.outcome (λ o. AppendsFront from to (framed n r.actor r.start (response_with false o))) → Rose sb sa → Deals told before after s document seats n (deed_in line) t seats' (Answers r)
       → Writes (outside told before after sb sa from to) s document seats n line t seats' line_end.WriteFault
-  writes_front r k rose f busy h = let d = f busy h in let l = line_told told before after _ n line _ r d.2 (AppendsFront from to) k in (d.0, d.1, (l.0, l.1, l.2, rose))
+  writes_front r k rose f busy h = let d = f busy h in let l = one_told told before after _ n line _ r d.2 (AppendsFront from to) k in (d.0, d.1, (l.0, l.1, l.2, rose))

@@ -1,5 +1,5 @@
 -- A request and its events in a line, as a function of the cabinet. What happens by chance in a line, that memory runs out,
--- and what a rendering gives or that it fails, is taken as it happened; all else is fixed.
+-- and which bytes a rendering gives or that it fails, is taken as it happened; all else is fixed.
 use Rattle.std.specs.Prelude.{length, nat_lt, ℕ, ◌≡◌, Bool, true, false, if◌then◌else◌, List, Option, Some, None, IfSome, ⊤}
 use Rattle.cabinet.specs.Fresh.{IsFresh}
 use Rattle.cabinet.specs.Commands.{book_before}
@@ -30,18 +30,18 @@ use Rattle.tile_service.specs.Texts.{usage_text, dropped_text}
 -- CHANCES
 
 -- what happened by chance in a line: whether memory was left to read its request, for its first ask or force or its
--- truncation, for what follows or the text that it tells, and for the answer, and what the rendering gave, or nothing where
--- it failed
+-- truncation, for what follows or the text that it tells, and for the answer, and the bytes that the rendering gave, by their
+-- places in the blob, or nothing where it failed
 pub record Chance : Type 0 where
   pub read : Bool
   pub ask : Bool
   pub work : Bool
-  pub blob : Option (List ℕ)
+  pub bytes : Option (ℕ → ℕ)
   pub left : Bool
 
 -- nothing happened by chance
 abbrev pub calm : Chance
-calm = record { read = true; ask = true; work = true; blob = None; left = true }
+calm = record { read = true; ask = true; work = true; bytes = None; left = true }
 
 -- THE EVENTS OF A LINE
 
@@ -54,7 +54,7 @@ is_at_work (Rendered t blob tile) = true
 is_at_work (Failed t) = true
 
 abbrev pub further : Chance → Stepped → Stepped
-further c r = if is_at_work r.actor then advanced r.cabinet r.actor c.work c.blob else r
+further c r = if is_at_work r.actor then advanced r.cabinet r.actor c.work c.bytes else r
 
 -- the render and the finish follow in the same line
 abbrev pub at_once : Chance → Stepped → Stepped

@@ -1,5 +1,5 @@
 -- What the run of a schedule came to, and what it wrote.
-use Rattle.std.specs.Prelude.{ℕ, ◌≡◌, ◌≤◌, ◌+◌, List, ◌++◌, length, Option, Some, None}
+use Rattle.std.specs.Prelude.{ℕ, ◌≡◌, ◌≤◌, ◌+◌, List, [], ◌∷◌, ◌++◌, length, Option, Some, None}
 use Rattle.std.specs.Io.KnownBytes.{Appends, Consumes, IsAtEnd}
 use Rattle.std.specs.List.{AllByRecursion}
 use Rattle.cabinet.specs.State.{IsSound}
@@ -12,22 +12,36 @@ use Rattle.tile_service.specs.declared.schedule.TheConstants.{SCHEDULE_LIMIT}
 use Rattle.tile_service.specs.Lines.{lines_of}
 use Rattle.tile_service.specs.Outside.{Counts, Outside, Input}
 use Rattle.tile_service.specs.Requests.{Chance}
-use Rattle.tile_service.specs.Run.{World, Run, run, output_of, failures, unanswered, closed, IsTrue, IsFresh}
-use Rattle.tile_service.specs.Sent.{AppendsFront}
+use Rattle.tile_service.specs.Run.{World, Answer, Run, run, answer_text, output_of, failures, unanswered, closed, IsTrue, IsFresh}
+use Rattle.tile_service.specs.Sent.{AppendsPart}
 
 -- THE LINES OF A TEXT WERE RUN
 
--- which lines a run goes through: all of them, or those up to a failed write
+-- which lines a run goes through: all of them, or those up to that at whose answer a write failed
 abbrev pub GoesThrough : List (List ℕ) → RunEnd → List (List ℕ) → Type 0
 GoesThrough all run_end.Done lines = lines ≡ all
 GoesThrough all (run_end.Line n) lines = lines ≡ all
 GoesThrough all run_end.WriteFault lines = (rest : List (List ℕ)) × (all ≡ lines ++ rest)
 
--- how the lines end, and what went out of what they write
-abbrev pub Ends : Outside → Run → World → RunEnd → Type 0
-Ends o r t run_end.Done = (r.refused ≡ None) × (t ≡ r.world) × Appends o.from o.to (output_of r)
-Ends o r t (run_end.Line n) = (r.refused ≡ Some n) × (t ≡ r.world) × Appends o.from o.to (output_of r)
-Ends o r t run_end.WriteFault = (t ≡ r.world) × Rose o.writes.before o.writes.after × AppendsFront o.from o.to (output_of r)
+-- a run came to t, with this line refused or none, and all that it writes went out
+abbrev pub IsWhole : Outside → Run → World → Option ℕ → Type 0
+IsWhole o r t refused = (r.refused ≡ refused) × (t ≡ r.world) × Appends o.from o.to (output_of r)
+
+-- The last of these lines has an answer of which only a front went out, and not all of it; all that the lines before it write
+-- went out.
+pub record IsCutInLast (o : Outside) (w : World) (lines : List (List ℕ)) (chances : List Chance) : Type 0 where
+  pub before : List (List ℕ)
+  pub line : List ℕ
+  pub whole : lines ≡ before ++ line ∷ []
+  pub answer : Answer
+  pub answers : (run w 1 lines chances).answers ≡ (run w 1 before chances).answers ++ answer ∷ []
+  pub sent : AppendsPart o.from o.to (output_of (run w 1 before chances)) (answer_text answer)
+
+-- how the run of these lines ends, and what went out of what they write; behind a write that failed nothing is done
+abbrev pub Ends : Outside → World → List (List ℕ) → List Chance → World → RunEnd → Type 0
+Ends o w lines chances t run_end.Done = IsWhole o (run w 1 lines chances) t None
+Ends o w lines chances t (run_end.Line n) = IsWhole o (run w 1 lines chances) t (Some n)
+Ends o w lines chances t run_end.WriteFault = (t ≡ (run w 1 lines chances).world) × Rose o.writes.before o.writes.after × IsCutInLast o w lines chances
 
 -- What is promised of the answers of a run from w. No more of them say that the source failed, and no more failures are yet
 -- to be answered, than its count rose by. Where the source tells that it is the catalogue's, each tile is the picture of its
@@ -42,7 +56,7 @@ pub record HasRun (o : Outside) (w : World) (text : List ℕ) (t : World) (end :
   pub lines : List (List ℕ)
   pub chances : List Chance
   pub through : GoesThrough (lines_of text) end lines
-  pub ends : Ends o (run w 1 lines chances) t end
+  pub ends : Ends o w lines chances t end
   pub upheld : IsUpheld o.told o.renders w (run w 1 lines chances)
 
 -- A SCHEDULE WAS READ AND RUN

@@ -14,8 +14,8 @@ use Rattle.tile_service.specs.declared.session.SessionEnd.{SessionEnd}
 use Rattle.tile_service.specs.declared.session.SessionEnd.TheVariants.{Closed, Truncated, Bad, ReadFault, WriteFault, TooMany, OutOfMemory}
 use Rattle.tile_service.specs.Outside.{Input, Outside}
 use Rattle.tile_service.specs.Run.{Answer}
-use Rattle.tile_service.specs.Sent.{AppendsFront}
-use Rattle.tile_service.specs.Session.{IsServed, replies, bad_text}
+use Rattle.tile_service.specs.Sent.{AppendsPart}
+use Rattle.tile_service.specs.Session.{IsServed, reply_text, replies, bad_text}
 
 -- THE MESSAGES OF A SESSION
 
@@ -46,22 +46,23 @@ StopsThere bytes s = IfSome bytes (λ known. StopsAs known s)
 abbrev pub IsClosed : List Message → List ℕ → Option (List ℕ) → Type 0
 IsClosed messages held rest = ((m : Message) × GoBefore messages held m × (m.last ≡ true)) ⊎ (GoOn messages × StopsThere rest stop.End)
 
--- a text of which not all went out: the replies up to that to the last message, or these and the answer to bytes that are no
--- message
-abbrev pub IsCutOff : List Message → List ℕ → Option (List ℕ) → List ℕ → List ℕ → Type 0
-IsCutOff messages held rest text whole =
-    ((m : Message) × GoBefore messages held m × (whole ≡ text)) ⊎ ((status : ℕ) × GoOn messages × StopsThere rest (stop.Bad status) × (whole ≡ text ++ bad_text status))
+-- What went out whole, and the response of which only a part did: that to the last message behind those to all before it, or that
+-- to bytes that are no message behind those to all messages.
+abbrev pub IsCutOff : List Message → List Answer → List ℕ → Option (List ℕ) → List ℕ → List ℕ → Type 0
+IsCutOff messages answers held rest whole part =
+    ((m : Message) × GoBefore messages held m × (before : List Answer) × (answer : Answer) × (answers ≡ before ++ answer ∷ []) × (whole ≡ replies before) × (part ≡ reply_text answer))
+    ⊎ ((status : ℕ) × GoOn messages × StopsThere rest (stop.Bad status) × (whole ≡ replies answers) × (part ≡ bad_text status))
 
--- How a session ended behind these messages, to which this is the text of the replies. Behind them stand the bytes that are
--- held, then those that are left: this rest of the stream. A read that failed kept no message waiting that had come whole.
-abbrev pub Ends : Input → Outside → List Message → List ℕ → Option (List ℕ) → List ℕ → SessionEnd → Type 0
-Ends i o messages held rest text Closed = IsClosed messages held rest × Appends o.from o.to text
-Ends i o messages held rest text Truncated = GoOn messages × StopsThere rest stop.Truncated × Appends o.from o.to text
-Ends i o messages held rest text (Bad status) = GoOn messages × StopsThere rest (stop.Bad status) × Appends o.from o.to (text ++ bad_text status)
-Ends i o messages held rest text TooMany = (m : Message) × GoBefore messages held m × (m.last ≡ false) × (length messages ≡ 10000) × Appends o.from o.to text
-Ends i o messages held rest text ReadFault = GoOn messages × ¬ (HoldsMessage held) × Rose i.reads.before i.reads.after × Appends o.from o.to text
-Ends i o messages held rest text OutOfMemory = GoOn messages × Appends o.from o.to text
-Ends i o messages held rest text WriteFault = (whole : List ℕ) × IsCutOff messages held rest text whole × Rose o.writes.before o.writes.after × AppendsFront o.from o.to whole
+-- How a session ended behind these messages, which have these answers. Behind them stand the bytes that are held, then those
+-- that are left: this rest of the stream. A read that failed kept no message waiting that had come whole.
+abbrev pub Ends : Input → Outside → List Message → List Answer → List ℕ → Option (List ℕ) → SessionEnd → Type 0
+Ends i o messages answers held rest Closed = IsClosed messages held rest × Appends o.from o.to (replies answers)
+Ends i o messages answers held rest Truncated = GoOn messages × StopsThere rest stop.Truncated × Appends o.from o.to (replies answers)
+Ends i o messages answers held rest (Bad status) = GoOn messages × StopsThere rest (stop.Bad status) × Appends o.from o.to (replies answers ++ bad_text status)
+Ends i o messages answers held rest TooMany = (m : Message) × GoBefore messages held m × (m.last ≡ false) × (length messages ≡ 10000) × Appends o.from o.to (replies answers)
+Ends i o messages answers held rest ReadFault = GoOn messages × ¬ (HoldsMessage held) × Rose i.reads.before i.reads.after × Appends o.from o.to (replies answers)
+Ends i o messages answers held rest OutOfMemory = GoOn messages × Appends o.from o.to (replies answers)
+Ends i o messages answers held rest WriteFault = (whole : List ℕ) × (part : List ℕ) × IsCutOff messages answers held rest whole part × Rose o.writes.before o.writes.after × AppendsPart o.from o.to whole part
 
 -- A session was held over a link, by a cabinet that came from s to t. Its messages stand at the front of the bytes that were
 -- left, where those are told; behind them stand bytes that were taken from the link too early, and those that are left now.
@@ -71,4 +72,4 @@ pub record HasSession (i : Input) (o : Outside) (document : List ℕ) (s t : Sta
   pub held : List ℕ
   pub stand : StandIn i.from messages (prepend_known held i.to)
   pub served : IsServed o.told o.renders document s t messages answers
-  pub ends : Ends i o messages held (prepend_known held i.to) (replies answers) end
+  pub ends : Ends i o messages answers held (prepend_known held i.to) end

@@ -1,5 +1,5 @@
 -- What one line of a schedule came to, with what it wrote.
-use Rattle.std.specs.Prelude.{ℕ, ◌≡◌, ◌≤◌, List, map, Option, None, flat_map}
+use Rattle.std.specs.Prelude.{ℕ, ◌≡◌, ◌≤◌, List, [], ◌∷◌, map, Option, None, flat_map}
 use Rattle.std.specs.Io.KnownBytes.{Appends}
 use Rattle.cabinet.specs.State.{State}
 use Rattle.causes.specs.Causes.{Rose}
@@ -20,7 +20,7 @@ LineEnds o w n line t line_end.Refused = (line_done w n calm (deed_in line) ≡ 
 LineEnds o w n line t (line_end.Done told) =
     (answers : List Answer) × IsLine o.told o.renders.before o.renders.after w n line t answers × Appends o.from o.to (flat_map answer_text answers) × (tally_of answers ≡ one_of told)
 LineEnds o w n line t line_end.WriteFault =
-    (answers : List Answer) × IsLine o.told o.renders.before o.renders.after w n line t answers × AppendsFront o.from o.to (flat_map answer_text answers) × Rose o.writes.before o.writes.after
+    (answer : Answer) × IsLine o.told o.renders.before o.renders.after w n line t (answer ∷ []) × AppendsFront o.from o.to (answer_text answer) × Rose o.writes.before o.writes.after
 
 -- whatever the actors were busy with before, they are busy with these now, and the line ended so
 abbrev pub Writes : Outside → State → List ℕ → List Seat → ℕ → List ℕ → State → List Seat → LineEnd → Type 0

@@ -44,6 +44,4 @@ mod serving;
 pub mod session;
 mod summary;
 mod tally;
-#[cfg(test)]
-mod tests;
 mod usage;

@@ -15,5 +15,3 @@ pub mod fault;
 pub mod laws;
 pub mod list;
 mod purge;
-#[cfg(test)]
-mod tests;

@@ -2,4 +2,3 @@ pub mod Views
 pub mod Rule
 pub mod Steps
 pub mod Passes
-pub mod Counting

@@ -25,5 +25,3 @@ pub use pass::Pass;
 pub use turnstile::Turnstile;
 pub use view::{Known, Made};
 
-#[cfg(test)]
-mod tests;

@@ -6,11 +6,24 @@ use Rattle.catalog.specs.LookUp.{layer_named, served_grid_named, matrix_named, d
 use Rattle.dimension_key.specs.Draft.{draft_of}
 use Rattle.exception_report.specs.declared.code.Code.TheVariants.{MissingParameterValue, InvalidParameterValue, TileOutOfRange}
 use Rattle.matrix_geometry.specs.declared.address.Address.{Address}
+use Rattle.matrix_geometry.specs.declared.theme.Theme.{Theme}
 use Rattle.wmts_kvp.specs.declared.query.Query.{Query}
 use Rattle.wmts_kvp.specs.declared.query.Query.TheVariants.{Tile, Capabilities, Refused}
 use Rattle.wmts_kvp.specs.Pairs.{pairs_of}
 use Rattle.wmts_kvp.specs.Rows.{Row, ◌>>=◌, some_or, parameter, equal, requested, style_or_first, number, dimensions, rows_of, cols_of, below}
 
+-- the rows behind the dimensions, for a layer and a theme of it
+unfoldable pub address_in : Catalogue → List (List ℕ × List ℕ) → ℕ → Theme → Row Address
+address_in c pairs layer theme = do
+  grid ← parameter pairs (codes "TileMatrixSet") MissingParameterValue InvalidParameterValue (served_grid_named c layer)
+  z ← parameter pairs (codes "TileMatrix") MissingParameterValue InvalidParameterValue (matrix_named c grid)
+  row_number ← parameter pairs (codes "TileRow") MissingParameterValue InvalidParameterValue number
+  col_number ← parameter pairs (codes "TileCol") MissingParameterValue InvalidParameterValue number
+  row ← some_or TileOutOfRange (codes "TileRow") (below (rows_of c grid z) row_number)
+  col ← some_or TileOutOfRange (codes "TileCol") (below (cols_of c grid z) col_number)
+  Ok (record { theme = theme; grid = grid; z = z; row = row; col = col })
+
+-- all rows
 unfoldable pub address_of : Catalogue → List (List ℕ × List ℕ) → Row Address
 address_of c pairs = do
   service ← parameter pairs (codes "service") MissingParameterValue InvalidParameterValue (equal (codes "WMTS"))
@@ -20,13 +33,7 @@ address_of c pairs = do
   style ← parameter pairs (codes "style") MissingParameterValue InvalidParameterValue (style_or_first c layer)
   format ← parameter pairs (codes "format") MissingParameterValue InvalidParameterValue (equal (codes "image/x-portable-pixmap"))
   draft ← dimensions c pairs (dimensions_of c layer) (draft_of layer style)
-  grid ← parameter pairs (codes "TileMatrixSet") MissingParameterValue InvalidParameterValue (served_grid_named c layer)
-  z ← parameter pairs (codes "TileMatrix") MissingParameterValue InvalidParameterValue (matrix_named c grid)
-  row_number ← parameter pairs (codes "TileRow") MissingParameterValue InvalidParameterValue number
-  col_number ← parameter pairs (codes "TileCol") MissingParameterValue InvalidParameterValue number
-  row ← some_or TileOutOfRange (codes "TileRow") (below (rows_of c grid z) row_number)
-  col ← some_or TileOutOfRange (codes "TileCol") (below (cols_of c grid z) col_number)
-  Ok (record { theme = draft.theme; grid = grid; z = z; row = row; col = col })
+  address_in c pairs layer draft.theme
 
 abbrev pub ended : Row Address → Query
 ended (Ok address) = Tile address

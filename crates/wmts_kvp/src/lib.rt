@@ -10,6 +10,4 @@ pub mod number;
 mod pairs;
 pub mod query;
 mod rows;
-#[cfg(test)]
-mod tests;
 mod theme;

@@ -1,9 +1,9 @@
-ghost use Rattle.std.specs.Prelude.{◌≡◌, ◌<◌, IfOk, length};
-ghost use Rattle.catalog.specs.LookUp.{IsTile};
+ghost use Rattle.std.specs.Prelude.{◌≡◌, ◌<◌, IfOk, IsSomeAnd, length, slice_get};
+ghost use Rattle.catalog.specs.LookUp.{HasValues, IsTile};
 ghost use Rattle.catalog.specs.Valid.{IsValid};
 ghost use Rattle.dimension_key.specs.Draft.{draft_of};
 ghost use Rattle.wmts_kvp.specs.Ends.{row_of};
-ghost use Rattle.wmts_kvp.specs.Reading.{address_of, reading, query_reading, IsOfCatalogue};
+ghost use Rattle.wmts_kvp.specs.Reading.{address_in, address_of, reading, query_reading, IsOfCatalogue};
 
 use crate::end::End;
 use crate::pairs::pairs_of;
@@ -13,6 +13,7 @@ use catalog::catalogue::Catalogue;
 use exact_ratio::words::Words;
 use exception_report::code::{Code, Locator};
 use matrix_geometry::address::Address;
+use matrix_geometry::theme::Theme;
 use std::alloc::{AllocError, Global};
 
 /// What a request asks for.
@@ -26,33 +27,61 @@ pub enum Query {
     Refused(Code, Locator),
 }
 
-/// The rows of the table of parameters in order, each with the name that a refusal gives.
-#[tactic(auto, unfolding(crate::specs::Reading::address_of))]
-fn address_of<'a>(catalogue: &'a Catalogue, pairs: &'a [(Words, Words)]) -> Result<Address, End<'a>>
-    requires { IsValid catalogue.now }
-    ensures value { row_of result ≡ address_of catalogue.now pairs.now }
+// What a row gives, or else the end that it gives: `?` less its conversion of the error, which each row's proof would pay for.
+macro_rules! row {
+    ($row:expr) => {
+        match $row {
+            Ok(given) => given,
+            Err(end) => return Err(end),
+        }
+    };
+}
+
+/// The rows of the table of parameters behind the dimensions, each with the name that a refusal gives.
+#[tactic(auto, unfolding(crate::specs::Reading::address_in, crate::specs::Pairs::value_of))]
+fn address_in<'a>(
+    catalogue: &Catalogue,
+    pairs: &'a [(Words, Words)],
+    layer: u32,
+    theme: Theme,
+) -> Result<Address, End<'a>>
+    requires valid { IsValid catalogue.now }
+    requires layer { layer ≡ theme.layer }
+    requires style { IsSomeAnd (slice_get catalogue.now.layers layer) (λ l. theme.style < length l.styles) }
+    requires values { HasValues catalogue.now theme }
+    ensures value { row_of result ≡ address_in catalogue.now pairs.now layer theme }
     ensures tile { IfOk result (IsTile catalogue.now) }
 {
-    rows::fixed(pairs, b"service", b"WMTS")?;
-    rows::operation(pairs, b"request")?;
-    rows::fixed(pairs, b"version", b"1.0.0")?;
-    let layer = rows::layer(catalogue, pairs, b"layer")?;
-    let style = rows::style(catalogue, layer, pairs, b"style")?;
-    rows::fixed(pairs, b"format", b"image/x-portable-pixmap")?;
-    let draft = theme(catalogue, pairs, layer, style)?;
-    let grid = rows::grid(catalogue, layer, pairs, b"TileMatrixSet")?;
-    let z = rows::matrix(catalogue, grid, pairs, b"TileMatrix")?;
-    let row = rows::digits(pairs, b"TileRow")?;
-    let col = rows::digits(pairs, b"TileCol")?;
-    let row = rows::in_range(b"TileRow", rows::rows_of(catalogue, grid, z), row)?;
-    let col = rows::in_range(b"TileCol", rows::cols_of(catalogue, grid, z), col)?;
+    let grid = row!(rows::grid(catalogue, layer, pairs, b"TileMatrixSet"));
+    let z = row!(rows::matrix(catalogue, grid, pairs, b"TileMatrix"));
+    let row = row!(rows::digits(pairs, b"TileRow"));
+    let col = row!(rows::digits(pairs, b"TileCol"));
+    let row = row!(rows::in_range(b"TileRow", rows::rows_of(catalogue, grid, z), row));
+    let col = row!(rows::in_range(b"TileCol", rows::cols_of(catalogue, grid, z), col));
     Ok(Address {
-        theme: draft.done(),
+        theme,
         grid,
         z,
         row,
         col,
     })
+}
+
+/// All rows of the table in order.
+#[tactic(auto, unfolding(crate::specs::Reading::address_of, crate::specs::Pairs::value_of))]
+fn address_of<'a>(catalogue: &'a Catalogue, pairs: &'a [(Words, Words)]) -> Result<Address, End<'a>>
+    requires { IsValid catalogue.now }
+    ensures value { row_of result ≡ address_of catalogue.now pairs.now }
+    ensures tile { IfOk result (IsTile catalogue.now) }
+{
+    row!(rows::fixed(pairs, b"service", b"WMTS"));
+    row!(rows::operation(pairs, b"request"));
+    row!(rows::fixed(pairs, b"version", b"1.0.0"));
+    let layer = row!(rows::layer(catalogue, pairs, b"layer"));
+    let style = row!(rows::style(catalogue, layer, pairs, b"style"));
+    row!(rows::fixed(pairs, b"format", b"image/x-portable-pixmap"));
+    let draft = row!(theme(catalogue, pairs, layer, style));
+    address_in(catalogue, pairs, layer, draft.done())
 }
 
 /// Reads what decoded pairs of names and values ask for. `AllocError` where memory runs out.

@@ -9,5 +9,3 @@ mod route;
 mod segments;
 mod spelling;
 pub mod table;
-#[cfg(test)]
-mod tests;

@@ -1,7 +1,7 @@
-use Rattle.std.proofs.lemmas.Result.{on_ok_weaker}
+use Rattle.std.proofs.lemmas.Result.{on_ok_weaker, on_err_weaker}
 use Rattle.disk_model.specs.Content.{TornCut}
 use Rattle.disk_model.specs.Writes.{unchanged_cut}
-use Rattle.disk_model.proofs.Calls.{either, steps_none, steps_resized, seen_resized}
+use Rattle.disk_model.proofs.Calls.{either, seen_none, steps_none, steps_resized, seen_resized}
 use Rattle.disk_model.proofs.attempt.resize.Goals as goal
 
 pub returns-clause-resized : goal.returns-clause-resized
@@ -19,3 +19,6 @@ returns-clause-steps c =
     either c.make.result c.make.ensures.ok c.make.ensures.err
     (steps_resized old new c.make.ensures.first c.args.length)
     (steps_none old new c.make.ensures.first (TornCut c.args.length) (unchanged_cut c.args.length))
+
+pub returns-clause-kept : goal.returns-clause-kept
+returns-clause-kept c = on_err_weaker c.make.result (seen_none c.args.log.now c.make.new.self c.make.ensures.first) c.make.ensures.err

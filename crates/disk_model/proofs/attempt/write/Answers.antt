@@ -1,7 +1,7 @@
-use Rattle.std.proofs.lemmas.Result.{on_ok_weaker}
+use Rattle.std.proofs.lemmas.Result.{on_ok_weaker, on_err_weaker}
 use Rattle.disk_model.specs.Content.{TornWrite}
 use Rattle.disk_model.specs.Writes.{unchanged_write}
-use Rattle.disk_model.proofs.Calls.{either, steps_none, steps_written, seen_written}
+use Rattle.disk_model.proofs.Calls.{either, seen_none, steps_none, steps_written, seen_written}
 use Rattle.std.proofs.Common.{length}
 use Rattle.disk_model.proofs.attempt.write.Goals as goal
 
@@ -20,3 +20,6 @@ returns-clause-steps c =
     either c.make.result c.make.ensures.ok c.make.ensures.err
     (steps_written old new c.make.ensures.first c.args.at c.args.bytes.now c.in_ok-kept.kept c.in_ok-kept.ensures.items)
     (steps_none old new c.make.ensures.first (TornWrite c.args.at (length c.args.bytes.now)) (unchanged_write c.args.at (length c.args.bytes.now)))
+
+pub returns-clause-kept : goal.returns-clause-kept
+returns-clause-kept c = on_err_weaker c.make.result (seen_none c.args.log.now c.make.new.self c.make.ensures.first) c.make.ensures.err

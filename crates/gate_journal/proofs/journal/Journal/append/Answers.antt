@@ -1,4 +1,4 @@
-use Rattle.std.proofs.Common.{◌≡◌, ◌<◌, length, sym, subst, arith, IsTrue}
+use Rattle.std.proofs.Common.{◌<◌, sym, subst, arith, IsTrue}
 use Rattle.std.proofs.lemmas.Result.{err_from_is_err_and}
 use Rattle.gate_journal.specs.Sound.{IsSoundAs, layout_of}
 use Rattle.gate_journal.proofs.Appending.{body_failed, gate_failed, appended}
@@ -10,7 +10,6 @@ returns-in_err-write_body-clause-moves g c told =
     let old = g.D.Disk.state c.args.disk.now in
     let mid = g.D.Disk.state c.write_body.new.disk in
     let room : j.count < j.slots = omega (arith, c.requires.room) in
-    let size : length c.args.body.now ≡ 63 = omega arith in
     let sound = subst (λ s. IsSoundAs s j.gate (layout_of j) old) c.requires.settled (c.requires.sound told) in
     let first = c.write_body.ensures.changes told in
     let fault = err_from_is_err_and c.from_residual.result c.from_residual.ensures.1 in
@@ -24,12 +23,11 @@ returns-in_err-open_gate-clause-moves g c told =
     let new = g.D.Disk.state c.open_gate.new.disk in
     let told1 = subst IsTrue (sym c.write_body.ensures.told) told in
     let room : j.count < j.slots = omega (arith, c.requires.room) in
-    let size : length c.args.body.now ≡ 63 = omega arith in
     let sound = subst (λ s. IsSoundAs s j.gate (layout_of j) old) c.requires.settled (c.requires.sound told) in
     let first = c.write_body.ensures.changes told in
     let fault = err_from_is_err_and c.from_residual-in_err-open_gate.result c.from_residual-in_err-open_gate.ensures.1 in
     gate_failed (layout_of j) room c.next_slot-at.result c.next_slot-at.ensures j.gate old mid (g.met.D.Disk.lawful c.args.disk.now told) sound c.args.body.now first
-    size (c.in_ok-write_body.ensures.written told) (c.in_ok-write_body.ensures.durable told) (g.met.D.Disk.lawful c.write_body.new.disk told1) new (c.open_gate.ensures.changes told1) c.from_residual-in_err-open_gate.result fault.0 fault.1
+    (c.in_ok-write_body.ensures.body told) (c.in_ok-write_body.ensures.durable told) (g.met.D.Disk.lawful c.write_body.new.disk told1) new (c.open_gate.ensures.changes told1) c.from_residual-in_err-open_gate.result fault.0 fault.1
 
 pub returns-clause-moves : goal.returns-clause-moves
 returns-clause-moves g c told =
@@ -39,9 +37,8 @@ returns-clause-moves g c told =
     let new = g.D.Disk.state c.open_gate.new.disk in
     let told1 = subst IsTrue (sym c.write_body.ensures.told) told in
     let room : j.count < j.slots = omega (arith, c.requires.room) in
-    let size : length c.args.body.now ≡ 63 = omega arith in
     let sound = subst (λ s. IsSoundAs s j.gate (layout_of j) old) c.requires.settled (c.requires.sound told) in
     let first = c.write_body.ensures.changes told in
     appended (layout_of j) room c.next_slot-at.result c.next_slot-at.ensures j.gate old mid (g.met.D.Disk.lawful c.args.disk.now told) sound c.args.body.now first
-    size (c.in_ok-write_body.ensures.written told) (c.in_ok-write_body.ensures.durable told) (g.met.D.Disk.lawful c.write_body.new.disk told1) new (c.open_gate.ensures.changes told1) _
+    (c.in_ok-write_body.ensures.body told) (c.in_ok-write_body.ensures.durable told) (g.met.D.Disk.lawful c.write_body.new.disk told1) new (c.open_gate.ensures.changes told1) _
     (c.in_ok-open_gate.ensures.written told1) (c.in_ok-open_gate.ensures.durable told1)

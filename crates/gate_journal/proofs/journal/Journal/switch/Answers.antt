@@ -1,6 +1,6 @@
 use Rattle.std.proofs.Common.{◌≡◌, ◌<◌, ◌+◌, ◌%◌, ◌^◌, ℕ, List, [], ◌∷◌, length, sym, ◌∙◌, ap, subst, arith, IsTrue, Ok}
 use Rattle.std.proofs.lemmas.Result.{err_from_is_err_and}
-use Rattle.disk_model.specs.Content.{written, TornWrite}
+use Rattle.disk_model.specs.Content.{bytes_at, written, TornWrite}
 use Rattle.disk_model.specs.Images.{ChangesBy}
 use Rattle.disk_model.specs.declared.disk.Failed.{Failed}
 use Rattle.gate_journal.specs.declared.half.Half.{Half}
@@ -19,12 +19,11 @@ returns-in_err-write_body-clause-moves g c told =
     let mid = g.D.Disk.state c.write_body.new.disk in
     let here : c.header-header.result ≡ header_at (other_half j.half) = c.header-header.ensures ∙ ap header_at c.other-half.ensures in
     let title : List ℕ = c.header_body.result in
-    let size : length title ≡ 63 = omega arith in
     let small : j.generation < 2 ^ 64 = omega arith in
     let names : length j.digest ≡ 32 = omega arith in
     let first = subst (λ (p : ℕ). ChangesBy (TornWrite p 63) old mid) here (c.write_body.ensures.changes told) in
     let fault = err_from_is_err_and c.from_residual.result c.from_residual.ensures.1 in
-    title_failed (layout_of j) j.within small names c.args.bodies.now c.requires.fits (λ i lt. omega (arith, c.told-bodies i)) old mid (g.met.D.Disk.lawful c.args.disk.now told) (c.requires.filled told) j.gate title size first c.from_residual.result fault.0 fault.1
+    title_failed (layout_of j) j.within small names c.args.bodies.now c.requires.fits (λ i lt. omega (arith, c.told-bodies i)) old mid (g.met.D.Disk.lawful c.args.disk.now told) (c.requires.filled told) j.gate title first c.from_residual.result fault.0 fault.1
 
 pub returns-in_err-open_gate-clause-moves : goal.returns-in_err-open_gate-clause-moves
 returns-in_err-open_gate-clause-moves g c told =
@@ -38,15 +37,14 @@ returns-in_err-open_gate-clause-moves g c told =
     let here : c.header-header.result ≡ header = c.header-header.ensures ∙ ap header_at c.other-half.ensures in
     let mark : c.header-header.result + 63 ≡ header + 63 = ap (λ (n : ℕ). n + 63) here in
     let title : List ℕ = c.header_body.result in
-    let size : length title ≡ 63 = omega arith in
     let small : j.generation < 2 ^ 64 = omega arith in
     let names : length j.digest ≡ 32 = omega arith in
     let first = subst (λ (p : ℕ). ChangesBy (TornWrite p 63) old mid) here (c.write_body.ensures.changes told) in
     let second = subst (λ (p : ℕ). ChangesBy (TornWrite p 1) mid new) mark (c.open_gate.ensures.changes told1) in
-    let put = subst (λ (p : ℕ). mid.seen ≡ written p title old.seen) here (c.in_ok-write_body.ensures.written told) in
+    let put = subst (λ (p : ℕ). bytes_at mid.seen p 63 ≡ title) here (c.in_ok-write_body.ensures.body told) in
     let fault = err_from_is_err_and c.from_residual-in_err-open_gate.result c.from_residual-in_err-open_gate.ensures.1 in
     subst (λ (p : ℕ). MovesAs c.from_residual-in_err-open_gate.result c.args.bodies.now (records c.args.bodies.now) l l Undecided p old new) (sym mark)
-    (mark_failed l j.within small names c.args.bodies.now c.requires.fits (λ i lt. omega (arith, c.told-bodies i)) old mid (g.met.D.Disk.lawful c.args.disk.now told) (c.requires.filled told) j.gate title size first
+    (mark_failed l j.within small names c.args.bodies.now c.requires.fits (λ i lt. omega (arith, c.told-bodies i)) old mid (g.met.D.Disk.lawful c.args.disk.now told) (c.requires.filled told) j.gate title first
     c.header_body.ensures put (c.in_ok-write_body.ensures.durable told) (g.met.D.Disk.lawful c.write_body.new.disk told1) new second c.from_residual-in_err-open_gate.result fault.0 fault.1)
 
 pub returns-clause-moves : goal.returns-clause-moves
@@ -61,15 +59,14 @@ returns-clause-moves g c told =
     let here : c.header-header.result ≡ header = c.header-header.ensures ∙ ap header_at c.other-half.ensures in
     let mark : c.header-header.result + 63 ≡ header + 63 = ap (λ (n : ℕ). n + 63) here in
     let title : List ℕ = c.header_body.result in
-    let size : length title ≡ 63 = omega arith in
     let small : j.generation < 2 ^ 64 = omega arith in
     let names : length j.digest ≡ 32 = omega arith in
     let first = subst (λ (p : ℕ). ChangesBy (TornWrite p 63) old mid) here (c.write_body.ensures.changes told) in
     let second = subst (λ (p : ℕ). ChangesBy (TornWrite p 1) mid new) mark (c.open_gate.ensures.changes told1) in
-    let put = subst (λ (p : ℕ). mid.seen ≡ written p title old.seen) here (c.in_ok-write_body.ensures.written told) in
+    let put = subst (λ (p : ℕ). bytes_at mid.seen p 63 ≡ title) here (c.in_ok-write_body.ensures.body told) in
     let opened = subst (λ (p : ℕ). new.seen ≡ written p (1 ∷ []) mid.seen) mark (c.in_ok-open_gate.ensures.written told1) in
     let switched : Half → Layout = λ half. record { slots = j.slots; half = half; count = length c.args.bodies.now; generation = (j.generation + 1) % 2 ^ 64; digest = j.digest } in
     subst (λ (half : Half). MovesAs {T = Unit {0}} {E = Failed} (Ok tt) c.args.bodies.now (records c.args.bodies.now) l (switched half) Settled (c.header-header.result + 63) old new) (sym c.other-half.ensures)
     (subst (λ (p : ℕ). MovesAs {T = Unit {0}} {E = Failed} (Ok tt) c.args.bodies.now (records c.args.bodies.now) l (switched (other_half j.half)) Settled p old new) (sym mark)
-    (is_switched l j.within small names c.args.bodies.now c.requires.fits (λ i lt. omega (arith, c.told-bodies i)) old mid (g.met.D.Disk.lawful c.args.disk.now told) (c.requires.filled told) j.gate title size first
+    (is_switched l j.within small names c.args.bodies.now c.requires.fits (λ i lt. omega (arith, c.told-bodies i)) old mid (g.met.D.Disk.lawful c.args.disk.now told) (c.requires.filled told) j.gate title first
     c.header_body.ensures put (c.in_ok-write_body.ensures.durable told) (g.met.D.Disk.lawful c.write_body.new.disk told1) new second tt opened (c.in_ok-open_gate.ensures.durable told1)))

@@ -1,2 +1,0 @@
-mod messages;
-mod streams;
