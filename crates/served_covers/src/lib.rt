@@ -2,7 +2,7 @@
 //!
 //! Promises: `is_cover_of` says exactly whether a cover is (`specs/OfCatalogue.antt`), which the readers of covers promise and
 //! the cabinet asks for.
-//! Stands on truncation_list, catalog, matrix_geometry and exact_ratio.
+//! Stands on truncation_list, catalog and matrix_geometry.
 #![tactic(auto)]
 
 pub mod of_catalogue;
