@@ -11,6 +11,8 @@ mod blobs;
 #[cfg(test)]
 mod fixtures;
 #[cfg(test)]
+mod metas;
+#[cfg(test)]
 mod plans;
 #[cfg(test)]
 mod rasters;

@@ -1,9 +1,10 @@
-//! job_forms
+//! job_forms, and served_covers
 use crate::fixtures::sea;
 use job_forms::fault::{JobFault, JobField};
 use job_forms::read_cover;
 use matrix_geometry::boxes::Box9;
 use matrix_geometry::theme::Filter;
+use served_covers::of_catalogue::is_cover_of;
 use std::test::Fail;
 use truncation_list::cover::Cover;
 
@@ -35,5 +36,25 @@ fn a_cover_is_read_or_has_its_first_fault(rt: HostRuntime) -> Result<(), Fail> {
     assert_eq!(rt; read_cover(alloc, &catalogue, TEXT), Ok(COVER));
     let missing = read_cover(alloc, &catalogue, b"{\"grid\":\"none\"}");
     assert_eq!(rt; missing, Err(JobFault::Missing(JobField::Layer)));
+    Ok(())
+}
+
+#[test]
+fn a_cover_of_a_catalogue_has_values_of_its_dimensions(rt: HostRuntime) -> Result<(), Fail> {
+    let catalogue = sea(rt.alloc())?;
+    for (dims, expected) in [
+        ([None, Some(1), None, None], true),
+        ([None, Some(2), None, None], false),
+        ([None, None, Some(0), None], false),
+    ] {
+        let filter = Filter {
+            dims,
+            ..COVER.filter
+        };
+        let cover = Cover { filter, ..COVER };
+        assert_eq!(rt; is_cover_of(&catalogue, &cover), expected);
+    }
+    let deeper = Cover { z_stop: 3, ..COVER };
+    assert!(rt; !is_cover_of(&catalogue, &deeper));
     Ok(())
 }

@@ -1,6 +1,8 @@
-//! Which covers are of a catalogue: the definition alone (`specs/OfCatalogue.antt`), which the readers of covers promise
-//! and the cabinet asks for.
+//! Which covers are of a catalogue.
 //!
-//! It has no code and promises nothing.
-//! Stands on truncation_list and catalog.
+//! Promises: `is_cover_of` says exactly whether a cover is (`specs/OfCatalogue.antt`), which the readers of covers promise and
+//! the cabinet asks for.
+//! Stands on truncation_list, catalog and matrix_geometry.
 #![tactic(auto)]
+
+pub mod of_catalogue;
