@@ -40,10 +40,10 @@ read_whole start left after text chunk count read piece none =
 
 -- the text with a piece more
 pub read_more : (start left after : Option (List ℕ)) (text chunk : List ℕ) (count limit : ℕ) → Consumes start left text → Consumes left after (take count chunk) → count ≤ length chunk → length text + length chunk ≤ limit
-    → Consumes start after (text ++ take count chunk) × (length (text ++ take count chunk) ≤ limit)
+    → Consumes start after (text ++ take count chunk) × (length (text ++ take count chunk) ≤ limit) × (length (text ++ take count chunk) ≡ length text + count)
 read_more start left after text chunk count limit read piece bound room =
     let long : length (text ++ take count chunk) ≡ length text + count = length-append text (take count chunk) ∙ ap (λ n. length text + n) (length-take-le count chunk bound) in
-    (Consumes-trans start left after text (take count chunk) read piece, omega (arith, long, bound, room))
+    (Consumes-trans start left after text (take count chunk) read piece, omega (arith, long, bound, room), long)
 
 -- the piece stands behind the text
 pub appended : {T E : Type 0} (result : Result T E) (failed : Bool) (text bytes new : List ℕ) → failed ≡ is_err result → failed ≡ false → new ≡ cond (is_ok result) (text ++ bytes) text → new ≡ text ++ bytes

@@ -1,12 +1,12 @@
 -- What takes come to, one after another.
-use Rattle.std.proofs.Common.{◌≡◌, ℕ, ◌+◌, ◌≤◌, min, List, [], ◌++◌, Option, Some, None, Result, Ok, Err, refl, sym, ap, ◌∙◌, subst, arith, append_assoc, append-nil}
+use Rattle.std.proofs.Common.{◌≡◌, ℕ, ◌+◌, ◌<◌, ◌≤◌, min, List, [], ◌++◌, length, length-append, take, true, Option, Some, None, Result, Ok, Err, refl, sym, ap, ◌∙◌, subst, arith, append_assoc, append-nil}
 use Rattle.std.specs.Io.KnownBytes.{Keeps, Consumes, prepend_known}
 use Rattle.std.proofs.KnownBytes.{Keeps-refl, Keeps-trans}
 use Rattle.causes.specs.Causes.{Rose}
 use Rattle.http_wire.specs.Answers.{LeavesFault}
 use Rattle.http_wire.specs.ReadCause.{HasReadCause}
 use Rattle.http_wire.specs.Side.{Side}
-use Rattle.http_wire.specs.Takes.{Takes}
+use Rattle.http_wire.specs.Takes.{Takes, BringsPiece}
 use Rattle.http_wire.specs.declared.message.WireFault.{WireFault}
 use Rattle.http_wire.specs.declared.message.WireFault.TheVariants.{ReadFault, OutOfMemory}
 use Rattle.http_wire.proofs.LeftBehind.{fault_before, taken_remain}
@@ -80,3 +80,44 @@ takes_no_room held new bytes left after faults now beside still taken later apar
       cause = record { later = later; fault = λ is. cc };
       apart = apart;
     }
+
+kept_behind : (held : List ℕ) (left after : Option (List ℕ)) → Keeps left after → Keeps (prepend_known held left) (prepend_known held after)
+kept_behind held None after kept = tt
+kept_behind held (Some x) None kept = absurd kept
+kept_behind held (Some x) (Some y) kept = ap (λ (l : List ℕ). held ++ l) kept
+
+piece_behind : (held bytes : List ℕ) (left after : Option (List ℕ)) → Consumes left after bytes → Keeps (prepend_known held left) (prepend_known (held ++ bytes) after)
+piece_behind held bytes None after taken = tt
+piece_behind held bytes (Some x) None taken = absurd taken
+piece_behind held bytes (Some x) (Some y) taken = append_assoc held bytes y ∙ ap (λ (l : List ℕ). held ++ l) (sym taken)
+
+-- the source failed
+pub takes_fails : {T : Type 0} (held : List ℕ) (left after : Option (List ℕ)) (faults now : ℕ) (beside still : Side) → Keeps left after → faults ≤ now → Rose faults now → still ≡ beside → Takes {T = T} held held left after faults now beside still (Err ReadFault)
+takes_fails held left after faults now beside still kept later rose apart =
+    record {
+      stream = tt;
+      leaves = kept_behind held left after kept;
+      cause = record { later = later; fault = λ _. rose };
+      apart = apart;
+    }
+
+-- the piece stands behind the bytes that were held
+pub takes_piece : {T : Type 0} (held new bytes : List ℕ) (left after : Option (List ℕ)) (faults now : ℕ) (beside still : Side) (value : T) → Consumes left after bytes → new ≡ held ++ bytes → faults ≤ now → still ≡ beside → Takes held new left after faults now beside still (Ok value)
+takes_piece held new bytes left after faults now beside still value taken e later apart =
+    record {
+      stream = subst (λ (l : List ℕ). Keeps (prepend_known held left) (prepend_known l after)) (sym e) (piece_behind held bytes left after taken);
+      leaves = tt;
+      cause = no_fault value faults now later;
+      apart = apart;
+    }
+
+-- the source had none left
+pub takes_end : {T : Type 0} (held chunk : List ℕ) (count : ℕ) (left after : Option (List ℕ)) (faults now : ℕ) (beside still : Side) (value : T) → Consumes left after (take count chunk) → count ≡ 0 → faults ≤ now → still ≡ beside → Takes held held left after faults now beside still (Ok value)
+takes_end held chunk count left after faults now beside still value taken none later apart =
+    let nothing : Consumes left after [] = subst (λ (n : ℕ). Consumes left after (take n chunk)) none taken in
+    takes_piece held held [] left after faults now beside still value nothing (sym (append-nil held)) later apart
+
+-- what such a piece brings
+pub brings_piece : (held new bytes : List ℕ) (count : ℕ) (after : Option (List ℕ)) → new ≡ held ++ bytes → length bytes ≡ count → 0 < count → count ≤ 4096 → BringsPiece held new after (Ok true)
+brings_piece held new bytes count after e long some bound =
+    let all : length new ≡ length held + length bytes = ap (λ (l : List ℕ). length l) e ∙ length-append held bytes in (omega (arith, all, long, some), omega (arith, all, long, bound), (bytes, e))

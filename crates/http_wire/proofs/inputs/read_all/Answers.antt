@@ -1,4 +1,4 @@
-use Rattle.std.proofs.Common.{arith, ◌≡◌, ◌+◌, ◌<◌, ◌≤◌, ◌++◌, ◌∙◌, sym, subst, length, List, ℕ, take}
+use Rattle.std.proofs.Common.{arith, ◌≡◌, ◌+◌, ◌<◌, ◌≤◌, ◌++◌, ◌∙◌, refl, sym, ap, subst, length, List, ℕ, take}
 use Rattle.std.specs.Io.KnownBytes.{Consumes}
 use Rattle.std.proofs.KnownBytes.{Consumes-nil, Consumes-kept}
 use Rattle.causes.specs.Causes.{Rose}
@@ -72,4 +72,21 @@ reading-preserved g c =
       later = omega (arith, c.reading.invariant.later, c.in-Ok.ensures.cause.later);
       apart = c.take.ensures.apart ∙ c.reading.invariant.apart;
       fits = subst (λ (l : List ℕ). length l ≤ c.args.limit + 1) (sym text) all.1;
+    }
+
+pub reading-smaller : goal.reading-smaller
+reading-smaller g c =
+    let room : length c.reading.text.items + length c.take.new.into ≤ c.args.limit + 1 =
+    omega (arith, c.reading.text.ok.0, c.take.auto.into, c.split_at_mut-piece.ensures.front_len, c.min-room.ensures, c.len-in-reading.ensures, c.len.ensures, c.reading-test.true) in
+    let all = read_more _ _ _ c.reading.text.items c.take.new.into c.in-Ok.count _ c.reading.invariant.read c.in-Ok.ensures.bytes.0 c.in-Ok.ensures.bound room in
+    let text = appended _ _ c.reading.text.items (take c.in-Ok.count c.take.new.into) _ c.is_err.ensures.value c.if-is_err.false c.extend_from_slice.ensures.items in
+    omega (arith, all.1, all.2, ap (λ (l : List ℕ). length l) text, c.if-count-eq0.false)
+
+pub reading-init : goal.reading-init
+reading-init g c =
+    record {
+      read = subst (Consumes (g.I.ByteSource.left c.args.input.now) (g.I.ByteSource.left c.args.input.now)) (sym c.new-text.ensures.items) (Consumes-nil _);
+      later = omega arith;
+      apart = refl;
+      fits = omega (arith, ap (λ (l : List ℕ). length l) c.new-text.ensures.items);
     }
