@@ -3,7 +3,7 @@ ghost use Rattle.std.specs.Prelude.{IfOk, ◌≡◌};
 ghost use Rattle.catalog.specs.Demo.{demo};
 ghost use Rattle.raster_field.specs.Blocks.{IsMeta};
 
-use crate::fixtures::CORNER;
+use crate::fixtures::corner_tile;
 use cabinet::cabinet::Cabinet;
 use cabinet::replies::{Asked, Finished, Forced};
 use catalog::catalogue::Catalogue;
@@ -28,7 +28,7 @@ fn corner(cabinet: &Cabinet) -> MetaKey
 {
     cabinet.known();
     laws_of_metatiles();
-    block_of(cabinet.catalogue(), &CORNER)
+    block_of(cabinet.catalogue(), &corner_tile())
 }
 
 /// Begins a render of the corner in one cabinet, and hands a blob of its length to another.
@@ -70,7 +70,7 @@ fn asked(alloc: Global, cabinet: &mut Cabinet) -> Result<(bool, u64), AllocError
     requires { cabinet.old.catalogue ≡ demo }
     ensures { cabinet.new.catalogue ≡ demo }
 {
-    match cabinet.ask(alloc, &CORNER)? {
+    match cabinet.ask(alloc, &corner_tile())? {
         Asked::Hit(number, text) => Ok((text.as_slice() == [7; 23].as_slice(), number)),
         Asked::Ticket(ticket) => {
             let number = ticket.number();

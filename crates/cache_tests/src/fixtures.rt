@@ -1,4 +1,7 @@
 //! Names of tiles and metatiles.
+ghost use Rattle.catalog.specs.Demo.{demo};
+ghost use Rattle.catalog.specs.LookUp.{IsTile};
+
 use matrix_geometry::address::Address;
 use matrix_geometry::theme::Theme;
 use metatile_plan::metatile::MetaKey;
@@ -27,3 +30,17 @@ pub const META: MetaKey = MetaKey {
     row: 0,
     col: 0,
 };
+
+/// The corner as a tile of the demo catalogue.
+pub fn corner_tile() -> Address
+    ensures { IsTile demo result }
+{
+    CORNER
+}
+
+/// The one tile of the demo catalogue at zoom 0.
+pub fn first_tile() -> Address
+    ensures { IsTile demo result }
+{
+    Address { z: 0, ..CORNER }
+}

@@ -1,15 +1,11 @@
 //! cache_core
-use crate::fixtures::CORNER;
+use crate::fixtures::first_tile;
 use cabinet::cabinet::Cabinet;
 use cache_core::actor::{Actor, Step};
 use cache_core::steps::{advance, begin, give_up};
 use catalog::catalogue::Catalogue;
-use matrix_geometry::address::Address;
 use source_render::numbered::Numbered;
 use std::test::Fail;
-
-/// The one tile at zoom 0.
-const FIRST: Address = Address { z: 0, ..CORNER };
 
 /// The tile under number 1. The first grey is 7 + 17 * 4 + 13 * 4.
 const TEXT: &[u8] = b"P6\n2 2\n255\n\x7f\x7f\x7f\x07\x07\x07\xe7\xe7\xe7\x6f\x6f\x6f";
@@ -19,7 +15,7 @@ fn a_tile_is_rendered_and_given_up(rt: HostRuntime) -> Result<(), Fail> {
     let alloc = rt.alloc();
     let mut cabinet = Cabinet::memory(alloc, Catalogue::demo(alloc)?)?;
     let mut source = Numbered::new(0);
-    let Step { actor, outcome: _ } = begin(alloc, &mut cabinet, &FIRST, false);
+    let Step { actor, outcome: _ } = begin(alloc, &mut cabinet, &first_tile(), false);
     let Actor::Holding(ticket, address) = actor else {
         give_up(&mut cabinet, actor);
         return Err(Fail::from("no ticket"));
