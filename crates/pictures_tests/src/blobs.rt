@@ -1,5 +1,8 @@
 //! ppm_slice
-use crate::fixtures::rendered;
+ghost use Rattle.catalog.specs.Demo.{demo};
+ghost use Rattle.catalog.specs.LookUp.{IsTile};
+
+use crate::fixtures::{FIRST, rendered};
 use catalog::catalogue::Catalogue;
 use catalog::layer::{Dimension, Layer, Style};
 use exact_ratio::items::Items;
@@ -14,26 +17,27 @@ use std::alloc::{AllocError, Global};
 use std::test::Fail;
 
 /// The one tile of the demo catalogue at zoom 0.
-const FIRST_TILE: Address = Address {
-    theme: Theme {
-        layer: 0,
-        style: 0,
-        dims: [0; 4],
-    },
-    grid: 0,
-    z: 0,
-    row: 0,
-    col: 0,
-};
+fn first_tile() -> Address
+    ensures { IsTile demo result }
+{
+    Address {
+        theme: FIRST.theme,
+        grid: 0,
+        z: 0,
+        row: 0,
+        col: 0,
+    }
+}
 
 #[test]
 fn a_tile_is_its_part_of_the_blob(rt: HostRuntime) -> Result<(), Fail> {
     let catalogue = Catalogue::demo(rt.alloc())?;
-    let meta = block_of(&catalogue, &FIRST_TILE);
+    let tile = first_tile();
+    let meta = block_of(&catalogue, &tile);
     let size = blob_size(&catalogue, &meta);
     let blob = vec![in rt.alloc(); 7; size as usize]?;
     assert_eq!(rt;
-        tile_of(&catalogue, blob.as_slice(), &FIRST_TILE),
+        tile_of(&catalogue, blob.as_slice(), &tile),
         [7; 23].as_slice()
     );
     Ok(())
