@@ -1,3 +1,4 @@
+//! How the journal of a disk is opened. The disk is only read.
 ghost use Rattle.std.specs.Prelude.{◌≡◌, ◌+◌, ◌≤◌, ◌^◌, IfOk, IsTrue, length};
 ghost use Rattle.disk_model.specs.Content.{Same};
 ghost use Rattle.disk_model.specs.Images.{Only, ChangesBy};
