@@ -1,3 +1,4 @@
+//! How a blob is put on a disk: written at its place, then synced.
 ghost use Rattle.std.specs.Prelude.{◌≡◌, ◌<◌, ◌+◌, ◌^◌, IsTrue, length, OnOk};
 ghost use Rattle.causes.specs.Causes.{HasCause};
 ghost use Rattle.disk_model.specs.Content.{TornWrite};

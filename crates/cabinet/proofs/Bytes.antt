@@ -17,10 +17,9 @@ use Rattle.metatile_locks.proofs.Lists.{all_weaker, found, none_passes}
 use Rattle.cabinet.specs.declared.kept.Kept.{Kept}
 use Rattle.cabinet.specs.Counted.{IsCountedIn, part_of, without}
 use Rattle.cabinet.specs.Fresh.{Possible}
-use Rattle.cabinet.specs.Gaps.{regions}
+use Rattle.cabinet.specs.Gaps.{regions, region}
 use Rattle.cabinet.specs.History.{History, but, is_of, nothing, standing}
 use Rattle.cabinet.proofs.Once.{AreOnce, but_none, one_kept}
-use Rattle.cabinet.proofs.Regions.{region}
 use Rattle.cabinet.proofs.Rooted.{metas_of}
 
 -- WITHIN THE BLOBS' BYTES

@@ -20,7 +20,7 @@ use Rattle.cabinet.specs.declared.entry.Entry.{Entry}
 use Rattle.cabinet.specs.declared.entry.Entry.TheVariants as entry
 use Rattle.cabinet.specs.declared.kept.Kept.{Kept}
 use Rattle.cabinet.specs.declared.kept.KeptBlob.{KeptBlob}
-use Rattle.cabinet.specs.Gaps.{gap_for, regions}
+use Rattle.cabinet.specs.Gaps.{gap_for, regions, region}
 use Rattle.cabinet.specs.Hits.{hits_of}
 use Rattle.served_covers.specs.OfCatalogue.{IsCoverOf}
 use Rattle.cabinet.specs.History.{History, Standing, after, but, is_of, least_of, nothing, numbers, spared}
@@ -28,7 +28,7 @@ use Rattle.cabinet.specs.Fresh.{Holds, HoldsOfRender, May, cuts_of}
 use Rattle.cabinet.specs.State.{IsConsistent, State, now}
 use Rattle.cabinet.proofs.Holding.{above_listed, holds_of}
 use Rattle.cabinet.proofs.Lists.{all_push, find_map, map_filter}
-use Rattle.cabinet.proofs.Regions.{alone, last_of, region}
+use Rattle.cabinet.proofs.Regions.{alone, last_of}
 use Rattle.cabinet.proofs.Rows.{map_spared, map_stored, one_more, stood_more}
 
 -- what stands, of its parts

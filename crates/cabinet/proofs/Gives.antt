@@ -7,8 +7,8 @@ use Rattle.extent_map.specs.Parts.{LieInOrder, inserted}
 use Rattle.extent_map.specs.Spaces.{Space, IsTaken}
 use Rattle.cabinet.specs.declared.kept.Kept.{Kept}
 use Rattle.cabinet.specs.declared.kept.KeptBlob.{KeptBlob}
-use Rattle.cabinet.specs.Gaps.{regions}
-use Rattle.cabinet.proofs.Regions.{region, one_of, taken_out, has_inserted}
+use Rattle.cabinet.specs.Gaps.{regions, region}
+use Rattle.cabinet.proofs.Regions.{one_of, taken_out, has_inserted}
 
 -- what still has its region after the first so many were seen to
 abbrev pub still : (Kept → Bool) → List Kept → List KeptBlob → ℕ → List Kept

@@ -5,8 +5,10 @@ pub mod Rooted
 pub mod Sentences
 pub mod Numbers
 pub mod Fresher
+pub mod Fronts
 pub mod Rows
 pub mod Regions
+pub mod Disjoint
 pub mod Served
 pub mod Gives
 pub mod Consistent

@@ -12,7 +12,7 @@ use Rattle.truncation_list.specs.declared.book.Cut.{Cut}
 use Rattle.metatile_locks.specs.declared.render.Render.{Render}
 use Rattle.metatile_locks.specs.Running.{overtaken, marked, unmarked, without, has_number, is_render_of, running_for, runs_for, render_of, OneRuns}
 use Rattle.metatile_locks.specs.Tickets.{Ticketed}
-use Rattle.metatile_locks.proofs.Lists.{all_weaker, all_map, all_passed, all_filter, find_filter}
+use Rattle.metatile_locks.proofs.Lists.{all_weaker, all_map, all_passed, all_filter, find_filter, found}
 use Rattle.metatile_locks.proofs.Runs.{both, one, Differs, marked_is, none_runs, one_begun, one_filter, one_overtaken}
 use Rattle.cabinet.specs.declared.entry.Entry.{Entry}
 use Rattle.cabinet.specs.declared.entry.Entry.TheVariants as entry
@@ -219,3 +219,37 @@ found_runs m k (x ∷ xs) o e = at (has_number k x) (runs_for m x) refl refl (λ
 
 pub running_is : (c : Catalogue) (opening : ℕ) (h : History) (m : MetaKey) (k : ℕ) → Possible c (nothing opening) h → render c h k ≡ Some (unmarked k m) → running_for m (standing c (nothing opening) h).out ≡ Some k
 running_is c opening h m k may e = found_runs m k (standing c (nothing opening) h).out (differ_is c opening h may).one_runs (render_is c opening h k may ∙ e)
+
+-- the first render that passes is the first with its number
+number_of : (q : Render → Bool) (rs : List Render) (r : Render) → ApartBy (λ x. x.number) rs → find q rs ≡ Some r → find (has_number r.number) rs ≡ Some r
+number_of q [] r a e = absurd (cc)
+number_of q (x ∷ xs) r a e = at (q x) refl e (λ f. number_of q xs r a.1 f)
+  where
+    at : (v : Bool) → q x ≡ v → cond v (Some x) (find q xs) ≡ Some r → (find q xs ≡ Some r → find (has_number r.number) xs ≡ Some r) → cond (has_number r.number x) (Some x) (find (has_number r.number) xs) ≡ Some r
+    at true is e ih =
+        let same : x.number ≡ r.number = (let d : x ≡ r = cc in ap (λ (y : Render). y.number) d) in
+        let here : has_number r.number x ≡ true = eq-eqb x.number r.number same in
+        ap (λ (v : Bool). cond v (Some x) (find (has_number r.number) xs)) here ∙ e
+    at false is e ih =
+        let off : x.number ≢ r.number = all_found (λ (y : Render). x.number ≢ y.number) q xs r a.0 e in
+        let here : has_number r.number x ≡ false = grind (arith, nat_tests) in
+        ap (λ (v : Bool). cond v (Some x) (find (has_number r.number) xs)) here ∙ ih e
+
+-- a render that runs for a metatile has no mark
+unmarked_is : (m : MetaKey) (r : Render) → runs_for m r ≡ true → r ≡ unmarked r.number m
+unmarked_is m r is =
+    let p = both (same_meta r.meta m) (is_none r.mark) is in
+    λ i. record { number = r.number; meta = same_meta_is r.meta m p.0 i; mark = none_is r.mark p.1 i }
+
+runs_found : (m : MetaKey) (k : ℕ) (rs : List Render) → ApartBy (λ r. r.number) rs → running_for m rs ≡ Some k → find (has_number k) rs ≡ Some (unmarked k m)
+runs_found m k rs a e = at (find (runs_for m) rs) refl e
+  where
+    at : (o : Option Render) → find (runs_for m) rs ≡ o → option_map (λ r. r.number) o ≡ Some k → find (has_number k) rs ≡ Some (unmarked k m)
+    at None f e = absurd (cc)
+    at (Some r) f e =
+        let number : r.number ≡ k = cc in
+        let there = number_of (runs_for m) rs r a f ∙ ap Some (unmarked_is m r (found (runs_for m) (λ (x : Render). Unit {0}) rs r (each_unit rs) f).0) in
+        subst (λ (n : ℕ). find (has_number n) rs ≡ Some (unmarked n m)) number there
+
+pub runs_is : (c : Catalogue) (opening : ℕ) (h : History) (m : MetaKey) (k : ℕ) → Possible c (nothing opening) h → running_for m (standing c (nothing opening) h).out ≡ Some k → render c h k ≡ Some (unmarked k m)
+runs_is c opening h m k may e = sym (render_is c opening h k may) ∙ runs_found m k (standing c (nothing opening) h).out (differ_is c opening h may).out e

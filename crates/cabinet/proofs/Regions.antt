@@ -10,7 +10,7 @@ use Rattle.extent_map.specs.Spaces.{IsFree, NoneFree, NoneFreeBelow}
 use Rattle.extent_map.proofs.Order.{low_high, earlier}
 use Rattle.metatile_locks.proofs.Lists.{all_weaker}
 use Rattle.cabinet.specs.declared.kept.Kept.{Kept}
-use Rattle.cabinet.specs.Gaps.{regions, lowest_gap}
+use Rattle.cabinet.specs.Gaps.{region, regions, lowest_gap}
 use Rattle.cabinet.proofs.Lists.{all_right}
 
 below_is : (x y : ℕ) → nat_lt x y ≡ true → x < y
@@ -88,10 +88,7 @@ any_order p q xs apart = elim (cases_lt p.place q.place) [
 
 -- A REGION OF MANY
 
-abbrev pub region : Kept → Part
-region t = part_at t.place t.length
-
-all_regions : (P : Part → Type 0) (ts : List Kept) → AllByRecursion P (regions ts) → AllByRecursion (λ t. P (region t)) ts
+pub all_regions : (P : Part → Type 0) (ts : List Kept) → AllByRecursion P (regions ts) → AllByRecursion (λ t. P (region t)) ts
 all_regions P [] a = tt
 all_regions P (t ∷ ts) a = let r = all_inserted P (region t) (regions ts) a in (r.0, all_regions P ts r.1)
 
@@ -170,7 +167,7 @@ not_before from p ps size bytes lower tight behind l free = elim free.1.0 [
   | inr b ↦ tight (omega arith)
 ]
 
-gap_some : (from : ℕ) (parts : List Part) (size bytes x : ℕ) → LieInOrder from parts size → lowest_gap from parts size bytes ≡ Some x → IsGap from parts size bytes x
+pub gap_some : (from : ℕ) (parts : List Part) (size bytes x : ℕ) → LieInOrder from parts size → lowest_gap from parts size bytes ≡ Some x → IsGap from parts size bytes x
 gap_some from [] size bytes x o e = chosen (nat_le (from + bytes) size) refl e
   where
     chosen : (v : Bool) → nat_le (from + bytes) size ≡ v → cond v (Some from) None ≡ Some x → IsGap from [] size bytes x

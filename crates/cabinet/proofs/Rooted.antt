@@ -36,7 +36,7 @@ module _ (P : ℕ → MetaKey → Type 0) where
   marked_has is_hit t r h = subst (λ (n : ℕ). P n (marked is_hit t r).meta) (sym (marked_is is_hit t r).number) (subst (λ (m : MetaKey). P r.number m) (sym (marked_is is_hit t r).meta) h)
 
   -- an entry but Started leaves what is rooted so
-  rooted_after : (c : Catalogue) (s : Standing) (e : Entry) → ((k : ℕ) (m : MetaKey) → e ≡ entry.Started k m → P k m) → Rooted P s → May c s e → Rooted P (after c s e)
+  pub rooted_after : (c : Catalogue) (s : Standing) (e : Entry) → ((k : ℕ) (m : MetaKey) → e ≡ entry.Started k m → P k m) → Rooted P s → May c s e → Rooted P (after c s e)
   rooted_after c s (entry.Started k m) new r may = record { kept = r.kept; out = all_push (λ (x : Render). P x.number x.meta) s.out (unmarked k m) r.out (new k m refl) }
   rooted_after c s (entry.Cut t cover) new r may = record {
     kept = all_filter (λ (x : Kept). P x.number x.meta) (λ x. not (hits_of c cover x.meta)) s.kept r.kept;
@@ -76,7 +76,7 @@ kept_begins c opening h m t may e =
 
 -- METATILES
 
-is_meta : (c : Catalogue) (s : Standing) (e : Entry) → May c s e → (k : ℕ) (m : MetaKey) → e ≡ entry.Started k m → IsMeta c m
+pub is_meta : (c : Catalogue) (s : Standing) (e : Entry) → May c s e → (k : ℕ) (m : MetaKey) → e ≡ entry.Started k m → IsMeta c m
 is_meta c s e may k m is = (subst (λ (x : Entry). May c s x) is may).2
 
 metas_run : (c : Catalogue) (s : Standing) (h : History) → Rooted (λ k m. IsMeta c m) s → Possible c s h → Rooted (λ k m. IsMeta c m) (standing c s h)

@@ -17,6 +17,9 @@ use Rattle.metatile_plan.specs.declared.metatile.MetaKey.{MetaKey}
 use Rattle.raster_field.specs.Blocks.{IsMeta, block_of, blob_size}
 use Rattle.raster_field.proofs.Metas.{tile_meta}
 use Rattle.truncation_list.specs.declared.cover.Cover.{Cover}
+use Rattle.truncation_list.specs.Books.{AnswersForFronted}
+use Rattle.truncation_list.proofs.Answering.{fronted_itself}
+use Rattle.metatile_locks.specs.Running.{unmarked}
 use Rattle.metatile_locks.specs.Tickets.{Ticketed}
 use Rattle.metatile_locks.proofs.Lists.{all_filter}
 use Rattle.cabinet.specs.declared.entry.Entry.{Entry}
@@ -35,13 +38,16 @@ use Rattle.cabinet.specs.declared.replies.CutReply.{CutReply}
 use Rattle.cabinet.specs.declared.replies.CutReply.TheVariants as reply
 use Rattle.cabinet.specs.Hits.{hits_of}
 use Rattle.served_covers.specs.OfCatalogue.{IsCoverOf}
-use Rattle.cabinet.specs.History.{History, Standing, nothing, standing, after, kept_of, next, is_of, but, spared}
-use Rattle.cabinet.specs.Fresh.{May, Possible, IsFresh}
-use Rattle.cabinet.specs.State.{State, now, with_entry, IsKnown, IsKnownAs}
-use Rattle.cabinet.specs.Commands.{Asks, Forces, Finishes, Abandons, Cuts, Expires, IsGiven, IsFreshReply, IsFreshForced, kept_at}
+use Rattle.cabinet.specs.History.{History, Standing, nothing, standing, after, kept_of, next, is_of, but, render, spared}
+use Rattle.cabinet.specs.Fresh.{May, Possible, IsFresh, cuts_of}
+use Rattle.cabinet.specs.State.{State, now, fronted, with_entry, IsKnown, IsKnownAs}
+use Rattle.cabinet.specs.Commands.{Asks, Forces, Finishes, Abandons, Cuts, Expires, IsBusy, IsGiven, IsFreshReply, IsFreshForced, kept_at}
+use Rattle.cabinet.proofs.Fronts.{fronted_after}
+use Rattle.cabinet.proofs.Holding.{holds_of}
 use Rattle.cabinet.proofs.Fresher.{begun_fresh, kept_fresh, still_fresh}
 use Rattle.cabinet.specs.Counted.{use_of, uses_of, victim_in}
 use Rattle.cabinet.proofs.Lists.{all_push, find_map, map_filter}
+use Rattle.cabinet.proofs.Numbers.{runs_is}
 
 pub possible_more : (c : Catalogue) (s : Standing) (h : History) (e : Entry) → Possible c s h → May c (standing c s h) e → Possible c s (h ++ e ∷ [])
 possible_more c s [] e a b = (b, tt)
@@ -66,7 +72,12 @@ next_is e s k h = next_at s.front (e * 2 ^ 40 + (2 ^ 40 - 1)) k (nat_lt s.front 
 -- KNOWN
 
 the_same : (s t : State) → IsKnown s → t ≡ s → IsKnownAs s t
-the_same s t k is = rw is (record { known = k; same_catalogue = refl; same_opening = refl })
+the_same s t k is = rw is (record { known = k; same_catalogue = refl; same_opening = refl; answers = fronted_itself (fronted (now s)) })
+
+answers_more : (s : State) (e : Entry) → IsKnown s → May s.catalogue (now s) e → AnswersForFronted (fronted (standing s.catalogue (nothing s.opening) (s.history ++ e ∷ []))) (fronted (now s))
+answers_more s e k may =
+    subst (λ (x : Standing). AnswersForFronted (fronted x) (fronted (now s))) (sym (stood_more s.catalogue (nothing s.opening) s.history e))
+    (fronted_after s.catalogue (cuts_of s.history) (now s) e (holds_of s.catalogue s.opening s.history k.possible) may)
 
 -- one entry more, and what is kept then
 pub one_more : (s : State) (e : Entry) (blobs : List KeptBlob) → IsKnown s → May s.catalogue (now s) e → map (λ b. b.kept) blobs ≡ (after s.catalogue (now s) e).kept
@@ -84,7 +95,7 @@ one_more s e blobs k may kept long left =
 
 -- an entry that keeps and drops nothing
 entered : (s t : State) (e : Entry) → IsKnown s → May s.catalogue (now s) e → (after s.catalogue (now s) e).kept ≡ (now s).kept → (after s.catalogue (now s) e).front ≤ s.opening * 2 ^ 40 + (2 ^ 40 - 1) → t ≡ with_entry s e → IsKnownAs s t
-entered s t e k may kept left is = rw is (record { known = one_more s e s.blobs k may (k.blobs ∙ sym kept) k.lengths left; same_catalogue = refl; same_opening = refl })
+entered s t e k may kept left is = rw is (record { known = one_more s e s.blobs k may (k.blobs ∙ sym kept) k.lengths left; same_catalogue = refl; same_opening = refl; answers = answers_more s e k may })
 
 ended : (s t : State) (n : ℕ) → IsKnown s → t ≡ with_entry s (entry.Ended n) → IsKnownAs s t
 ended s t n k is = entered s t (entry.Ended n) k tt refl k.left is
@@ -123,6 +134,7 @@ stored s t ticket blob k long r =
           (all_filter (λ (b : KeptBlob). (length b.text ≡ b.kept.length) × (b.kept.length ≡ blob_size s.catalogue b.kept.meta)) (λ b. not (is_of ticket.meta b.kept)) s.blobs k.lengths) (refl, long)) k.left;
       same_catalogue = refl;
       same_opening = refl;
+      answers = answers_more s (entry.Stored ticket.number ticket.meta r.2.0 (length blob)) k (r.0, long, r.2.1);
     })
 
 pub finishes_known : (s t : State) (ticket : Ticketed) (blob : List ℕ) (r : Finished) → IsKnown s → length blob ≡ blob_size s.catalogue ticket.meta → Finishes s ticket blob r t → IsKnownAs s t
@@ -148,6 +160,7 @@ done s t cover n k of r =
           (all_filter (λ (b : KeptBlob). (length b.text ≡ b.kept.length) × (b.kept.length ≡ blob_size s.catalogue b.kept.meta)) (λ b. not (hits_of s.catalogue cover b.kept.meta)) s.blobs k.lengths) (omega arith);
       same_catalogue = refl;
       same_opening = refl;
+      answers = answers_more s (entry.Cut n cover) k (x.number, of);
     })
 
 pub cuts_known : (s t : State) (cover : Cover) (r : CutReply) → IsKnown s → IsCoverOf s.catalogue cover → Cuts s cover r t → IsKnownAs s t
@@ -176,11 +189,17 @@ gone s t m k r =
           (all_filter (λ (b : KeptBlob). (length b.text ≡ b.kept.length) × (b.kept.length ≡ blob_size s.catalogue b.kept.meta)) (λ b. not (is_of m b.kept)) s.blobs k.lengths) k.left;
       same_catalogue = refl;
       same_opening = refl;
+      answers = answers_more s (entry.Dropped m) k (goes_kept s r.0 m r.2);
     })
 
 pub expires_known : (s t : State) (r : Expired) → IsKnown s → Expires s r t → IsKnownAs s t
 expires_known s t expired.Within k r = the_same s t k r.1
 expires_known s t (expired.Dropped m) k r = gone s t m k r
+
+-- BUSY
+
+pub busy_runs : (s t : State) (m : MetaKey) (n : ℕ) → IsKnown s → IsBusy s m n t → render s.catalogue s.history n ≡ Some (unmarked n m)
+busy_runs s t m n k r = runs_is s.catalogue s.opening s.history m n k.possible r.0
 
 -- FRESH
 

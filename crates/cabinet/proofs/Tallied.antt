@@ -26,14 +26,14 @@ use Rattle.cabinet.specs.declared.kept.Kept.{Kept}
 use Rattle.cabinet.specs.declared.kept.KeptBlob.{KeptBlob}
 use Rattle.cabinet.specs.Counted.{IsCounted, IsCountedIn, kept_in, part_of, parts_of, use_of, used, without}
 use Rattle.cabinet.specs.Fresh.{ApartBy}
-use Rattle.cabinet.specs.Gaps.{regions}
+use Rattle.cabinet.specs.Gaps.{regions, region}
 use Rattle.cabinet.specs.History.{but, is_of}
 use Rattle.cabinet.specs.State.{IsConsistent, State, now}
 use Rattle.cabinet.proofs.Bytes.{bytes_within, layers_within, older_counted, older_out}
 use Rattle.cabinet.proofs.Counting.{any_map, held_kept}
 use Rattle.cabinet.proofs.Lists.{all_of, all_of_map, find_map, map_filter}
 use Rattle.cabinet.proofs.Once.{AreOnce, apart_of_map, once, one_kept}
-use Rattle.cabinet.proofs.Regions.{has_inserted, one_of, region, taken_out}
+use Rattle.cabinet.proofs.Regions.{has_inserted, one_of, taken_out}
 
 map_twice : {X Y Z : Type 0} (f : X → Y) (h : Y → Z) (xs : List X) → map h (map f xs) ≡ map (λ x. h (f x)) xs
 map_twice f h [] = refl

@@ -9,7 +9,9 @@ use Rattle.metatile_locks.specs.declared.render.Render.{Render}
 use Rattle.metatile_plan.specs.declared.metatile.MetaKey.{MetaKey}
 use Rattle.raster_field.specs.Blocks.{block_text, blob_size}
 use Rattle.truncation_list.specs.declared.book.Book.{Book}
+use Rattle.truncation_list.specs.declared.book.FrontedBook.{FrontedBook}
 use Rattle.truncation_list.specs.declared.cover.Cover.{Cover}
+use Rattle.truncation_list.specs.Books.{AnswersForFronted}
 use Rattle.cabinet.specs.declared.entry.Entry.{Entry}
 use Rattle.cabinet.specs.declared.entry.Entry.TheVariants as entry
 use Rattle.cabinet.specs.declared.kept.Kept.{Kept}
@@ -29,6 +31,10 @@ pub record State : Type 0 where
 -- what stands now
 abbrev pub now : State → Standing
 now s = standing s.catalogue (nothing s.opening) s.history
+
+-- the book of what stands, with the greatest number that was given
+abbrev pub fronted : Standing → FrontedBook
+fronted s = record { book = s.book; front = s.front }
 
 -- a cabinet in memory in which nothing has happened
 abbrev pub fresh_state : Catalogue → State
@@ -68,11 +74,13 @@ pub record IsKnown (s : State) : Type 0 where
   pub lengths : AllByRecursion (λ b. (length b.text ≡ b.kept.length) × (b.kept.length ≡ blob_size s.catalogue b.kept.meta)) s.blobs
   pub left : (now s).front ≤ s.opening * 2 ^ 40 + (2 ^ 40 - 1)
 
--- the cabinet is known, and has the catalogue and the opening of the one before
+-- the cabinet is known, it has the catalogue and the opening of the one before, and its book answers for the book before it,
+-- the front included
 pub record IsKnownAs (s new : State) : Type 0 where
   pub known : IsKnown new
   pub same_catalogue : new.catalogue ≡ s.catalogue
   pub same_opening : new.opening ≡ s.opening
+  pub answers : AnswersForFronted (fronted (now new)) (fronted (now s))
 
 -- SOUND: each blob that is kept is that of its metatile in the picture of its number
 abbrev pub IsSound : State → Type 0

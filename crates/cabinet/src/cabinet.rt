@@ -1,3 +1,5 @@
+//! The cabinet: its commands, and the counts that it tells. The work of a command on the kept metatiles, on regions and
+//! on renders stands in files of its own; here each command changes the fields and the history together.
 ghost use Rattle.std.specs.Prelude.{IfOk, OnErr, length, ◌<◌, ◌≡◌};
 ghost use Rattle.catalog.specs.LookUp.{IsTile};
 ghost use Rattle.catalog.specs.Valid.{IsValid};

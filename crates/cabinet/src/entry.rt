@@ -1,3 +1,4 @@
+//! The entries of a cabinet's history: what may have happened in it.
 use metatile_plan::metatile::MetaKey;
 use truncation_list::cover::Cover;
 

@@ -1,3 +1,4 @@
+//! A kept metatile: the number of its render and its region, alone and with its blob.
 use exact_ratio::words::Words;
 use metatile_plan::metatile::MetaKey;
 

@@ -17,28 +17,33 @@ ghost use Rattle.cabinet.specs.declared.replies.CutReply.{CutReply};
 ghost use Rattle.cabinet.specs.declared.replies.Expired.{Expired};
 ghost use Rattle.cabinet.specs.declared.replies.Finished.{Finished};
 ghost use Rattle.cabinet.specs.declared.replies.Forced.{Forced};
-ghost use Rattle.cabinet.specs.Commands.{Abandons, Asks, Cuts, Expires, Finishes, Forces, IsFreshForced, IsFreshReply};
-ghost use Rattle.cabinet.specs.Fresh.{Differ, Holds, IsFresh, Possible, cuts_of};
+ghost use Rattle.cabinet.specs.Commands.{Abandons, Asks, Cuts, Expires, Finishes, Forces, IsBusy, IsFreshForced, IsFreshReply};
+ghost use Rattle.cabinet.specs.Fresh.{ApartBy, Differ, Holds, IsFresh, Possible, cuts_of};
+ghost use Rattle.cabinet.specs.Gaps.{HaveRegions};
 ghost use Rattle.served_covers.specs.OfCatalogue.{IsCoverOf};
 ghost use Rattle.cabinet.specs.History.{History, kept, kept_of, nothing, render, standing, ticket_render};
 ghost use Rattle.cabinet.specs.State.{IsKnown, IsKnownAs, State};
 
 /// What stands after a history agrees with the sentence on each metatile, each number and each ticket. What is kept for a
 /// tile is fresh at each place of the history, and stays so. Kept and running numbers keep to the cuts, the book answers for
-/// every cut that there was, and numbers differ.
+/// every cut that there was, and numbers differ. Each metatile is kept once, in a region of its own of the blobs' bytes.
 pub fn laws_of_histories()
     ensures kept_is { (c : Catalogue) (opening : ℕ) (h : History) (m : MetaKey) → kept_of m (standing c (nothing opening) h) ≡ kept c h m }
     ensures render_is { (c : Catalogue) (opening : ℕ) (h : History) (k : ℕ) → Possible c (nothing opening) h → find (has_number k) (standing c (nothing opening) h).out ≡ render c h k }
     ensures ticket_is { (c : Catalogue) (opening : ℕ) (h : History) (t : Ticketed) → Possible c (nothing opening) h → render_of t (standing c (nothing opening) h).out ≡ ticket_render c h t }
     ensures running_is { (c : Catalogue) (opening : ℕ) (h : History) (m : MetaKey) (k : ℕ) → Possible c (nothing opening) h → render c h k ≡ Some (unmarked k m) → running_for m (standing c (nothing opening) h).out ≡ Some k }
+    ensures runs { (c : Catalogue) (opening : ℕ) (h : History) (m : MetaKey) (k : ℕ) → Possible c (nothing opening) h → running_for m (standing c (nothing opening) h).out ≡ Some k → render c h k ≡ Some (unmarked k m) }
     ensures fresh { (c : Catalogue) (opening : ℕ) (h : History) (p : ℕ) (a : Address) (t : Kept) → IsValid c → IsTile c a → Possible c (nothing opening) h → kept_of (block_of c a) (standing c (nothing opening) h) ≡ Some t → IsFresh c h p a t.number }
     ensures later { (c : Catalogue) (h : History) (more : History) (p : ℕ) (a : Address) (k : ℕ) → p ≤ length h → IsFresh c h p a k → IsFresh c (h ++ more) p a k }
     ensures holds { (c : Catalogue) (opening : ℕ) (h : History) → Possible c (nothing opening) h → Holds c (cuts_of h) (standing c (nothing opening) h) }
     ensures answers { (c : Catalogue) (opening : ℕ) (h : History) (cut : Cut) → Possible c (nothing opening) h → Contains (cuts_of h) cut → AnswersFor (standing c (nothing opening) h).book cut }
     ensures differ { (c : Catalogue) (opening : ℕ) (h : History) → Possible c (nothing opening) h → Differ (standing c (nothing opening) h) }
+    ensures once { (c : Catalogue) (opening : ℕ) (h : History) → ApartBy (λ t. t.meta) (standing c (nothing opening) h).kept }
+    ensures regions { (c : Catalogue) (opening : ℕ) (h : History) → IsValid c → Possible c (nothing opening) h → HaveRegions c.blob_bytes (standing c (nothing opening) h).kept }
 {}
 
-/// Each row of a command leaves a known cabinet with the catalogue and the opening of before. The number of a hit or a
+/// Each row of a command leaves a known cabinet with the catalogue and the opening of before, whose book answers for the
+/// book of before. The number of Busy is that of the metatile's render that runs in the history. The number of a hit or a
 /// ticket is fresh at the place of its ask or force.
 pub fn laws_of_rows()
     ensures asks { (s : State) (new : State) (a : Address) (r : Asked) → IsKnown s → IsTile s.catalogue a → Asks s a r new → IsKnownAs s new }
@@ -47,6 +52,7 @@ pub fn laws_of_rows()
     ensures abandons { (s : State) (new : State) (t : Ticketed) → IsKnown s → Abandons s t new → IsKnownAs s new }
     ensures cuts { (s : State) (new : State) (cover : Cover) (r : CutReply) → IsKnown s → IsCoverOf s.catalogue cover → Cuts s cover r new → IsKnownAs s new }
     ensures expires { (s : State) (new : State) (r : Expired) → IsKnown s → Expires s r new → IsKnownAs s new }
+    ensures busy { (s : State) (new : State) (m : MetaKey) (k : ℕ) → IsKnown s → IsBusy s m k new → render s.catalogue s.history k ≡ Some (unmarked k m) }
     ensures asks_fresh { (s : State) (new : State) (a : Address) (r : Asked) → IsKnown s → IsTile s.catalogue a → Asks s a r new → IsFreshReply s a r new }
     ensures forces_fresh { (s : State) (new : State) (a : Address) (r : Forced) → IsKnown s → IsTile s.catalogue a → Forces s (block_of s.catalogue a) r new → IsFreshForced s a r new }
 {}

@@ -1,3 +1,4 @@
+//! What the commands of a cabinet can answer.
 use metatile_locks::ticket::Ticket;
 use metatile_plan::metatile::MetaKey;
 

@@ -1,3 +1,4 @@
+//! The bytes of each layer and the uses of each metatile, counted as one: what keeps or forgets one changes both.
 ghost use Rattle.std.specs.Prelude.{IfOk, IfSome, length, true, ◌+◌, ◌<◌, ◌^◌, ◌≡◌, ◌≤◌};
 ghost use Rattle.catalog.specs.Valid.{IsValid};
 ghost use Rattle.expiry_policy.specs.Victims.{but, is_held};

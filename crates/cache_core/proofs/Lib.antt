@@ -1,3 +1,4 @@
 pub mod Truth
 pub mod Beginnings
 pub mod Endings
+pub mod Alike

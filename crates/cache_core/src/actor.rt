@@ -1,3 +1,4 @@
+//! The state of a request for a tile between two of its events, and what an event comes to.
 use crate::outcome::{Outcome, Tile};
 use exact_ratio::words::Words;
 use matrix_geometry::address::Address;

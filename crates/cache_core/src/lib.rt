@@ -6,6 +6,7 @@
 #![tactic(auto)]
 
 pub mod actor;
+pub mod laws;
 pub mod outcome;
 mod render;
 pub mod steps;

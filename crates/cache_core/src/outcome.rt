@@ -1,3 +1,4 @@
+//! The outcomes of a request for a tile.
 use exact_ratio::words::Words;
 
 /// A tile that is answered: whether a kept metatile gave it, the number of its render, and its text.

@@ -1,3 +1,4 @@
+//! The events of a request for a tile: an ask or a force, a render, and the end at which its ticket is spent.
 ghost use Rattle.std.specs.Prelude.{ℕ, ◌≡◌, ◌≤◌, Bool, true, false, List, None, Option, Some, IfErr, IfOk, length};
 ghost use Rattle.cabinet.specs.State.{IsSound};
 ghost use Rattle.catalog.specs.LookUp.{IsTile};

@@ -1,3 +1,4 @@
+//! Look-ups by name: the number of a layer, a grid, a matrix, a style or a value of a dimension.
 ghost use Rattle.std.specs.Prelude.{◌≡◌, ◌<◌, Contains, IfSome, IsSome, IsSomeAnd, length, slice_get};
 ghost use Rattle.catalog.specs.LookUp.{layer_named, grid_named, served_grid_named, matrix_named, style_named, dimension_at, value_named};
 ghost use Rattle.catalog.specs.Valid.{IsValid};

@@ -1,3 +1,4 @@
+//! The type of the catalogue, with the policy of expiry and the scope of a quota.
 use crate::grid::Grid;
 use crate::layer::Layer;
 use exact_ratio::items::Items;

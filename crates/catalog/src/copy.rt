@@ -1,3 +1,4 @@
+//! A catalogue copied into memory of its own. A copy needs memory, which may run out, so the catalogue isn't `Clone`.
 ghost use Rattle.std.specs.Prelude.{◌≡◌, IfOk};
 
 use crate::catalogue::Catalogue;

@@ -1,3 +1,4 @@
+//! The built-in catalogue, for a program that is given none.
 ghost use Rattle.std.specs.Prelude.{◌≡◌, IfOk, pos, FitsSigned};
 ghost use Rattle.std.specs.Int.{w128};
 ghost use Rattle.catalog.specs.Demo.{demo, tiny, square, demo_layer};

@@ -1,3 +1,4 @@
+//! Why a text is no catalogue, or a catalogue isn't valid: the member, and where its object stands.
 ghost use Rattle.std.specs.Prelude.{◌≡◌};
 ghost use Rattle.catalog.specs.declared.fault.CatalogueFault.TheVariants.{OutOfMemory};
 

@@ -1,3 +1,4 @@
+//! What the tests of several members share: those of names and quotas, and lists that are tested entry by entry.
 ghost use Rattle.std.specs.Prelude.{◌≡◌, ◌<◌, ◌≤◌, ◌^◌, ℕ, List, [], Result, length, ⊤};
 ghost use Rattle.catalog.specs.declared.fault.CatalogueFault.{CatalogueFault};
 ghost use Rattle.catalog.specs.FirstFault.{unless, each, name_test, names_test, quota_test};

@@ -1,3 +1,4 @@
+//! The type of a tile matrix set.
 use exact_ratio::items::Items;
 use exact_ratio::words::Words;
 use matrix_geometry::matrix::Matrix;

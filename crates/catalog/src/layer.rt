@@ -1,3 +1,4 @@
+//! The types of a layer and of its styles and dimensions.
 use exact_ratio::items::Items;
 use exact_ratio::words::Words;
 

@@ -1,3 +1,4 @@
+//! Look-ups by number: what an address names in the catalogue, and the parts of a grid and of a layer.
 ghost use Rattle.std.specs.Prelude.{◌≡◌, Contains, IfSome, option_copied};
 ghost use Rattle.std.specs.Bool.{OnTrue};
 ghost use Rattle.catalog.specs.LookUp.{dimension_at, dimensions_of, layer_of, matrix_in, matrix_of, serves, style_of};

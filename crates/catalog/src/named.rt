@@ -1,3 +1,4 @@
+//! Whatever has a name in a list, and the search for a name: one search for layers, grids, styles and plain names.
 ghost use Rattle.std.specs.Prelude.{◌≡◌, ◌≤◌, ◌^◌, ℕ, List, length};
 ghost use Rattle.catalog.specs.Names.{is_taken, place_named};
 

@@ -1,3 +1,4 @@
+//! The form of names: which bytes they may have, how long they may be, and when two of them count as the same.
 ghost use Rattle.std.specs.Prelude.{◌≡◌};
 ghost use Rattle.std.specs.List.{list_all};
 ghost use Rattle.catalog.specs.Names.{within, is_name_byte, is_name, is_short, are_distinct, is_same, is_parameter};

@@ -1,3 +1,4 @@
+//! The first fault of a dimension: its name, its values and its default.
 ghost use Rattle.std.specs.Prelude.{◌≡◌, ◌<◌, ◌≤◌, ◌^◌, length};
 ghost use Rattle.std.specs.List.{list_any};
 ghost use Rattle.catalog.specs.Names.{is_same};

@@ -1,3 +1,4 @@
+//! The first fault of a grid, and the limits on each of its matrices.
 ghost use Rattle.std.specs.Prelude.{◌≡◌, ◌<◌, ◌≤◌, ◌^◌, [], length, IsTrue};
 ghost use Rattle.catalog.specs.FirstFault.{is_near, has_span, is_fine, has_tile, has_size, is_extent, has_extent, matrix_test, matrices_test, grid_test};
 

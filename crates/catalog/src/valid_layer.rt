@@ -1,3 +1,4 @@
+//! The first fault of a layer. It is tested over the grids of the catalogue, which limit the size of its metatiles.
 ghost use Rattle.std.specs.Prelude.{◌≡◌, ◌<◌, ◌≤◌, ◌^◌, ◌*◌, ◌+◌, ◌==◌, [], length, nat_le, slice_get, IsTrue};
 ghost use Rattle.std.specs.List.{list_all, list_any};
 ghost use Rattle.catalog.specs.FirstFault.{each, grid_number_test, style_test, dimension_test, are_factors, is_small, matrices_at, are_small, layer_test};

@@ -1,3 +1,4 @@
+//! The first fault of a style: its name, and breaks that have to rise strictly from 0.
 ghost use Rattle.std.specs.Prelude.{◌≡◌, ◌<◌, ◌≤◌, ◌^◌, length, nat_le};
 ghost use Rattle.catalog.specs.FirstFault.{rise_above, rise_from_zero, style_test};
 

@@ -1,3 +1,4 @@
+//! The first fault of a whole catalogue.
 ghost use Rattle.std.specs.Prelude.{◌≡◌, ◌≤◌, [], length, OnOk};
 ghost use Rattle.catalog.specs.FirstFault.{each, grid_test, first_fault};
 ghost use Rattle.catalog.specs.Valid.{IsValid};

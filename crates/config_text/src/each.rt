@@ -1,3 +1,4 @@
+//! How the entries of a list are read: one after the other, each beside those before it.
 ghost use Rattle.std.specs.Prelude.{◌≡◌, ℕ, ◌+◌, ◌<◌, ◌≤◌, ◌^◌, List, [], Ok, length, map, Result, IfOk, ⊤};
 ghost use Rattle.serde_json.specs.Data.{Data};
 ghost use Rattle.serde_json.specs.View.{view};

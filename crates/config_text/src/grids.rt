@@ -1,3 +1,4 @@
+//! The grids of the catalogue's text.
 ghost use Rattle.std.specs.Prelude.{◌≡◌, ◌<◌, ◌≤◌, ◌^◌, List, [], Ok, true, length, map, IfOk};
 ghost use Rattle.serde_json.specs.View.{view};
 ghost use Rattle.catalog.specs.FirstFault.{each, grid_test};

@@ -1,3 +1,4 @@
+//! The layers of the catalogue's text, read over its grids.
 ghost use Rattle.std.specs.Prelude.{◌≡◌, ◌<◌, ◌≤◌, ◌^◌, ◌==◌, List, [], Ok, true, length, map, IfOk, codes};
 ghost use Rattle.serde_json.specs.View.{view};
 ghost use Rattle.serde_json.specs.Find.{get};

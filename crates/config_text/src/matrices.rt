@@ -1,3 +1,4 @@
+//! The matrices of a grid, each made of a span or a scale denominator. A fault of its numbers becomes one of the text.
 ghost use Rattle.std.specs.Prelude.{◌≡◌, ◌<◌, ◌≤◌, ◌^◌, [], Ok, length, map, IfOk};
 ghost use Rattle.serde_json.specs.View.{view};
 ghost use Rattle.catalog.specs.FirstFault.{each, matrix_test};

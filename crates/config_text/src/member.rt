@@ -1,3 +1,4 @@
+//! Members that are whole numbers, texts or lists, required or with a default.
 ghost use Rattle.std.specs.Prelude.{◌≡◌, [], map, length, true, IfOk, IfSome};
 ghost use Rattle.std.specs.List.{list_all};
 ghost use Rattle.serde_json.specs.View.{view};

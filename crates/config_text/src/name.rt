@@ -1,3 +1,4 @@
+//! Members that are names: identifiers, each beside those before it, and lists of names.
 ghost use Rattle.std.specs.Prelude.{◌≡◌, map, codes, true, IfOk};
 ghost use Rattle.std.specs.List.{list_all};
 ghost use Rattle.serde_json.specs.View.{view};

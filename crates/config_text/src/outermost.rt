@@ -1,3 +1,4 @@
+//! The members of the outermost object before its lists.
 ghost use Rattle.std.specs.Prelude.{◌≡◌, ◌^◌, codes, true, IfOk, IfSome};
 ghost use Rattle.serde_json.specs.Find.{get};
 ghost use Rattle.serde_json.specs.View.{view};

@@ -1,3 +1,4 @@
+//! The reading of a whole text: the catalogue with the text's SHA-256, or the first fault.
 ghost use Rattle.std.specs.Prelude.{◌≡◌, Ok, IfOk};
 ghost use Rattle.serde_json.specs.View.{view};
 ghost use Rattle.catalog.specs.FirstFault.{first_fault};

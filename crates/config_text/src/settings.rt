@@ -1,3 +1,4 @@
+//! What the outermost object says before its lists, as one value.
 use catalog::catalogue::Policy;
 
 /// The members of the outermost object before its lists.

@@ -1,3 +1,4 @@
+//! Members that are decimal numbers or pairs of numbers, as corners and sizes are.
 ghost use Rattle.std.specs.Prelude.{◌≡◌, pos};
 ghost use Rattle.serde_json.specs.View.{view};
 ghost use Rattle.serde_json.specs.Find.{get};

@@ -1,3 +1,4 @@
+//! What a matrix is made of: the spacing of its pixels and what it takes from its grid; and a matrix with its name.
 use exact_ratio::decimal::Decimal;
 use exact_ratio::ratio::Ratio;
 use exact_ratio::words::Words;

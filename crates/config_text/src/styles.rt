@@ -1,3 +1,4 @@
+//! The styles of a layer, with their breaks.
 ghost use Rattle.std.specs.Prelude.{◌≡◌, ◌≤◌, ◌<◌, ◌^◌, ◌&&◌, List, [], Ok, length, map, nat_le, true, IfOk, codes};
 ghost use Rattle.std.specs.List.{list_all};
 ghost use Rattle.serde_json.specs.View.{view};

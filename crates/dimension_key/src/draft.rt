@@ -1,3 +1,4 @@
+//! A theme whose values are being read, and why a value is refused.
 use matrix_geometry::theme::Theme;
 
 /// A theme whose values are being read.

@@ -1,3 +1,4 @@
+//! How a theme is read, one dimension of its layer after the other.
 ghost use Rattle.std.specs.Prelude.{◌≡◌, OnErr, IsSome, MatchResult, Ok, Err, option_copied};
 ghost use Rattle.catalog.specs.declared.catalogue.Catalogue.{Catalogue};
 ghost use Rattle.catalog.specs.LookUp.{HasValues, dimension_at};

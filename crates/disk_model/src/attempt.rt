@@ -1,4 +1,4 @@
-// What each call of a disk in memory does, where it succeeds and where it fails.
+//! What each call of a disk in memory does, where it succeeds and where it fails.
 ghost use Rattle.std.specs.Prelude.{◌≡◌, ◌≤◌, ◌+◌, ◌^◌, length, OnErr, OnOk};
 ghost use Rattle.disk_model.specs.Content.{bytes_at, written, resized, TornWrite, TornCut, Same};
 ghost use Rattle.disk_model.specs.Images.{Only, Steps};

@@ -1,3 +1,4 @@
+//! Edits of a vector of bytes: overwriting, growing by zeros, cutting, and noise at the end.
 ghost use Rattle.std.specs.Prelude.{◌≡◌, ◌+◌, ◌≤◌, length, OnOk, OnErr};
 ghost use Rattle.disk_model.specs.Content.{grown, overlaid, written, resized};
 ghost use Rattle.disk_model.specs.Crash.{cut_left};

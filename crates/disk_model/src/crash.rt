@@ -1,4 +1,4 @@
-// What a crash leaves of a disk in memory.
+//! What a crash leaves of a disk in memory.
 ghost use Rattle.std.specs.Prelude.{◌≡◌, [], OnOk, IfOk};
 ghost use Rattle.disk_model.specs.Crash.{write_left, cut_left, call_left, crashed};
 ghost use Rattle.disk_model.specs.Images.{Only};

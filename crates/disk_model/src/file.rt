@@ -1,3 +1,4 @@
+//! A disk over a real file. Its contracts tell nothing of the bytes that it holds: the system below it is trusted.
 ghost use Rattle.std.specs.Prelude.{◌≡◌, false};
 ghost use Rattle.std.proofs.lemmas.Bool.{false≢true};
 ghost use Rattle.causes.specs.Causes.{HasCause};

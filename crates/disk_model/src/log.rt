@@ -1,3 +1,5 @@
+//! The types of a log: a content with all that was ever done to it. Its calls stand in `make`: their clauses cite
+//! definitions that name these types.
 ghost use Rattle.std.specs.Prelude.{◌≡◌};
 ghost use Rattle.disk_model.specs.Replay.{first_of, seen_after};
 

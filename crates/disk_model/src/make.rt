@@ -1,3 +1,4 @@
+//! How a log is begun, and how a call is done to its bytes and kept.
 ghost use Rattle.std.specs.Prelude.{◌≡◌, ◌<◌, ◌∷◌, ◌++◌, [], OnOk, OnErr, IsSome, vec_len, vec_capacity};
 ghost use Rattle.disk_model.specs.Replay.{first_of, seen_after_call};
 

@@ -1,3 +1,4 @@
+//! The type of a disk in memory. Its calls stand in `memory_calls`, its crash in `crash`.
 use crate::log::Log;
 use std::alloc::Global;
 

@@ -1,3 +1,4 @@
+//! A write that is on the disk once it has succeeded.
 ghost use Rattle.std.specs.Prelude.{◌≡◌, ◌≤◌, ◌+◌, ◌^◌, IsTrue, length, OnOk};
 ghost use Rattle.causes.specs.Causes.{HasCause};
 ghost use Rattle.disk_model.specs.Content.{written, TornWrite};

@@ -1,3 +1,4 @@
+//! The type of a decimal number, and why a text is none.
 use std::marker::Model;
 
 /// A decimal number, worth `units / 10^places`. Contracts see these two.

@@ -1,3 +1,4 @@
+//! Lists: vectors that contracts see as plain lists.
 ghost use Rattle.std.specs.Prelude.{◌≡◌, length, option_copied, slice_get};
 
 use std::marker::Model;

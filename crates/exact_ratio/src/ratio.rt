@@ -1,3 +1,4 @@
+//! The type of a fraction, which is always in lowest terms.
 ghost use Rattle.std.specs.Prelude.{◌≡◌, pos};
 
 use std::marker::Model;

@@ -1,3 +1,4 @@
+//! How a decimal number is read from a text.
 ghost use Rattle.std.specs.Prelude.{◌≡◌, ℕ, ◌+◌, ◌<◌, ◌≤◌, ◌^◌, length, slice_index, unsigned_abs, FitsSigned, MatchResult};
 ghost use Rattle.std.specs.Char.{IsAsciiDigit};
 ghost use Rattle.std.specs.Int.{w128};

@@ -1,3 +1,4 @@
+//! Texts: vectors of bytes that contracts see as lists of bytes.
 ghost use Rattle.std.specs.Prelude.{◌≡◌, IfOk};
 
 use std::alloc::{AllocError, Global};

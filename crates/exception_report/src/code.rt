@@ -1,3 +1,4 @@
+//! The exception codes, and the locator of an exception.
 use exact_ratio::words::Words;
 
 /// Why a request was refused (OGC 07-057r7, section 7.2.3, and OGC 06-121r3, section 8.3).

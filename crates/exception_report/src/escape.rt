@@ -1,3 +1,4 @@
+//! The escaped value of an XML attribute: entities for markup, `?` for control characters and noncharacters.
 ghost use Rattle.std.specs.Prelude.{◌≡◌, ◌++◌, OnOk};
 ghost use Rattle.exception_report.specs.Report.{escaped_byte, begins_with_noncharacter, escaped};
 

@@ -1,3 +1,4 @@
+//! The exception report as XML, and the status of HTTP that goes with its code.
 ghost use Rattle.std.specs.Prelude.{◌≡◌, IfOk};
 ghost use Rattle.exception_report.specs.Report.{code_text, locator_text, report_of};
 ghost use Rattle.exception_report.specs.Status.{status_of};

@@ -1,3 +1,4 @@
+//! The uses of the held metatiles, and the victim that they make.
 ghost use Rattle.std.specs.Prelude.{[], IfOk, None, OnOk, find, is_some, true, ◌+◌, ◌<◌, ◌↔◌, ◌≡◌, ◌≤◌, ◌⊎◌};
 ghost use Rattle.std.specs.Option.{option_map};
 

@@ -1,3 +1,4 @@
+//! The taken parts of a space: how parts are taken, claimed and given back.
 ghost use Rattle.std.specs.Prelude.{◌≡◌, ◌+◌, ◌<◌, ◌≤◌, [], ◌↔◌, Contains, IfSome, IfNone, IfOk, IsOk, OnOk, OnErr, IsTrue, IsFalse, insert, vec_len, vec_capacity};
 ghost use Rattle.extent_map.specs.Parts.{part_at};
 

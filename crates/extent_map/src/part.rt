@@ -1,3 +1,5 @@
+//! The types of a part and of a hole.
+
 /// A part of a space: so many bytes from a place on.
 #[derive(Clone, Copy, Debug, PartialEq, Eq)]
 pub struct Part {

@@ -3,7 +3,8 @@ use Rattle.std.proofs.Common.{◌≡◌, ℕ, ◌+◌, ◌≤◌, length, Result
 use Rattle.disk_model.specs.Content.{Content, TornWrite, Same}
 use Rattle.disk_model.specs.Images.{DiskState, Every, Only, After, Steps, ChangesBy}
 use Rattle.disk_model.specs.Moments.{leaves_none, leaves_as, changes_at, changes_then}
-use Rattle.gate_journal.specs.Sound.{SameFrom}
+use Rattle.gate_journal.specs.Layout.{Layout, journal_length}
+use Rattle.gate_journal.specs.Sound.{IsLaidOut, SameBefore, SameFrom, Stands}
 use Rattle.gate_journal.proofs.Places.{torn_same, same_from, from_here, from_then}
 
 -- a fact for a result that is known
@@ -59,3 +60,16 @@ quiet_then old mid new one two = changes_then Same Same Same old mid new (λ c d
 -- a disk on which nothing is pending, once it was only read
 pub quiet_only : (old new : DiskState) → Only old.seen old.may_leave → ChangesBy Same old new → Only new.seen new.may_leave
 quiet_only old new only quiet c now = let from = quiet.crash c now in from.2 ∙ only from.0 from.1 ∙ sym quiet.reads
+
+-- a journal that was read from a disk on which nothing is pending
+pub sound_as_read : (l : Layout) (old new : DiskState) → Only old.seen old.may_leave → ChangesBy Same old new → journal_length l.slots ≤ length old.seen → IsLaidOut l old.seen
+    → Every new.may_leave (λ c. Stands l new.seen c × SameBefore (journal_length l.slots) new.seen c)
+sound_as_read l old new only quiet whole out c now =
+    subst (λ (e : Content). Stands l new.seen e × SameBefore (journal_length l.slots) new.seen e) (sym (quiet_only old new only quiet c now)) (
+      record {
+        whole = subst (λ (e : Content). journal_length l.slots ≤ length e) (sym quiet.reads) whole;
+        laid_out = subst (λ (e : Content). IsLaidOut l e) (sym quiet.reads) out;
+        same_records = refl;
+      },
+      λ place lt. refl,
+    )

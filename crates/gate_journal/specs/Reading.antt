@@ -1,7 +1,8 @@
 -- What opening a journal reads, and what it answers.
-use Rattle.std.specs.Prelude.{◌≡◌, ◌≢◌, ℕ, ◌+◌, ◌*◌, ◌<◌, ◌≤◌, List, length, true, false, Option, Some, None, MatchOption, Result, Ok, Err, IfErr, ⊤}
+use Rattle.std.specs.Prelude.{◌≡◌, ◌≢◌, ℕ, ◌+◌, ◌*◌, ◌<◌, ◌≤◌, List, length, Bool, true, false, IsTrue, Option, Some, None, MatchOption, Result, Ok, Err, IfErr, ⊤}
 use Rattle.causes.specs.Causes.{Rose}
-use Rattle.disk_model.specs.Content.{Content, byte_at}
+use Rattle.disk_model.specs.Content.{Content, byte_at, Same}
+use Rattle.disk_model.specs.Images.{DiskState, ChangesBy}
 use Rattle.gate_journal.specs.declared.fault.OpenFault.{OpenFault}
 use Rattle.gate_journal.specs.declared.fault.OpenFault.TheVariants.{NotACache, CatalogueDiffers, BadRecord, Spent, DiskFault, OutOfMemory}
 use Rattle.gate_journal.specs.declared.half.Half.{Half}
@@ -54,6 +55,17 @@ IsReadCause before now Spent = ⊥
 IsReadCause before now DiskFault = Rose before now
 IsReadCause before now OutOfMemory = ⊤
 
+-- The choice of a half: the one in force with its generation, under the asked digest; or what the disk opens to instead, whatever
+-- the number of slots.
+abbrev pub Chooses : List ℕ → Content → Result (Half × ℕ) OpenFault → Type 0
+Chooses digest c (Ok found) = (half_in_force c ≡ Some found.0) × (found.1 ≡ generation_at c (header_at found.0)) × (digest ≡ digest_at c (header_at found.0))
+Chooses digest c (Err NotACache) = (slots : ℕ) → opened digest slots c ≡ no_cache
+Chooses digest c (Err (CatalogueDiffers found asked)) = ((slots : ℕ) → opened digest slots c ≡ differs found) × (asked ≡ digest)
+Chooses digest c (Err (BadRecord slot)) = ⊥
+Chooses digest c (Err Spent) = ⊥
+Chooses digest c (Err DiskFault) = ⊤
+Chooses digest c (Err OutOfMemory) = ⊤
+
 -- reading fails by the disk or for want of memory alone
 pub record HasReadCause {T : Type 0} (before now : ℕ) (result : Result T OpenFault) : Type 0 where
   pub later : before ≤ now
@@ -71,3 +83,10 @@ IsOpenCause before now OutOfMemory = ⊤
 pub record HasOpenCause {T : Type 0} (before now : ℕ) (result : Result T OpenFault) : Type 0 where
   pub later : before ≤ now
   pub failed : IfErr result (IsOpenCause before now)
+
+-- What choosing a half comes to on a disk, which is only read.
+pub record HasChosen (digest : List ℕ) (told told' : Bool) (old new : DiskState) (before now : ℕ) (result : Result (Half × ℕ) OpenFault) : Type 0 where
+  pub same_told : told' ≡ told
+  pub choice : IsTrue told → Chooses digest old.seen result
+  pub quiet : IsTrue told → ChangesBy Same old new
+  pub cause : HasOpenCause before now result

@@ -1,3 +1,4 @@
+//! How a record is added: its body first, and its gate once the body is on the disk.
 ghost use Rattle.std.specs.Prelude.{◌≡◌, ◌+◌, ◌<◌, [], ◌∷◌, ◌++◌, IsTrue, OnOk, OnErr};
 ghost use Rattle.causes.specs.Causes.{HasCause};
 ghost use Rattle.gate_journal.specs.Calls.{Moves};

@@ -1,3 +1,4 @@
+//! How other records replace those of a journal: they are written to the other half, which is then put in force.
 ghost use Rattle.std.specs.Prelude.{◌≡◌, ◌≢◌, ◌+◌, ◌*◌, ◌-◌, ◌<◌, ◌≤◌, [], ◌∷◌, ◌++◌, ℕ, IsTrue, OnOk, OnErr, length, replicate, slice_index_or};
 ghost use Rattle.causes.specs.Causes.{HasCause};
 ghost use Rattle.disk_model.specs.Content.{byte_at, bytes_at, TornWrite};

@@ -1,3 +1,4 @@
+//! Why a cache isn't opened.
 ghost use Rattle.gate_journal.specs.declared.fault.OpenFault.TheVariants.{DiskFault, OutOfMemory};
 ghost use Rattle.std.specs.Prelude.{◌≡◌};
 

@@ -1,3 +1,4 @@
+//! The two halves of a journal, and where each lies on the disk.
 ghost use Rattle.std.specs.Prelude.{◌≡◌, ◌≤◌, ◌^◌};
 ghost use Rattle.gate_journal.specs.Layout.{half_at, header_at, other_half};
 

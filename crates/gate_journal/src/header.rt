@@ -1,3 +1,4 @@
+//! The header of a half: its magic, its generation and its digest.
 ghost use Rattle.std.specs.Prelude.{◌≡◌, ◌++◌, replicate};
 ghost use Rattle.std.specs.Int.{w64, to_be_bytes};
 ghost use Rattle.gate_journal.specs.Opened.{magic};

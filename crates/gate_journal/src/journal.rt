@@ -1,3 +1,4 @@
+//! The type of a journal. Its calls stand in files of their own: their clauses cite definitions that name it.
 ghost use Rattle.std.specs.Prelude.{◌+◌, ◌*◌, ◌<◌, ◌≤◌, ◌^◌};
 
 use crate::half::Half;

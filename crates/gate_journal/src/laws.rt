@@ -1,4 +1,4 @@
-// What callers know of a journal beside its disk.
+//! What callers know of a journal beside its disk.
 ghost use Rattle.std.specs.Prelude.{◌≡◌, ◌⊎◌, ◌≤◌, ℕ, IsTrue};
 ghost use Rattle.disk_model.specs.Content.{Content, Same, TornWrite, bytes_at};
 ghost use Rattle.disk_model.specs.Images.{ChangesBy, Every, Leaves};

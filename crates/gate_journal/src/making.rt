@@ -1,3 +1,4 @@
+//! How a disk becomes a journal without records.
 ghost use Rattle.std.specs.Prelude.{◌≡◌, ◌≤◌, ◌^◌, [], IsTrue, OnOk, length};
 ghost use Rattle.causes.specs.Causes.{HasCause};
 ghost use Rattle.disk_model.specs.Images.{Every, Only};

@@ -1,17 +1,35 @@
+//! How the journal of a disk is opened. The disk is only read.
 ghost use Rattle.std.specs.Prelude.{◌≡◌, ◌+◌, ◌≤◌, ◌^◌, IfOk, IsTrue, length};
 ghost use Rattle.disk_model.specs.Content.{Same};
 ghost use Rattle.disk_model.specs.Images.{Only, ChangesBy};
 ghost use Rattle.gate_journal.specs.Layout.{journal_length};
-ghost use Rattle.gate_journal.specs.Reading.{HasOpenCause, OpensAs};
+ghost use Rattle.gate_journal.specs.Reading.{HasChosen, HasOpenCause, OpensAs};
 ghost use Rattle.gate_journal.specs.Sound.{IsSettled, IsSound, digest_of, room_of, slots_of};
 
 use crate::fault::OpenFault;
+use crate::half::Half;
 use crate::journal::Journal;
 use crate::opened::Opened;
 use crate::reading::{half_of_headers, read_header, read_records};
 use crate::standing::Standing;
 use disk_model::Disk;
 use std::alloc::Global;
+
+/// The half in force with its generation, under the digest that is asked for.
+fn choose<D: Disk>(disk: &mut D, digest: &[u8; 32]) -> Result<(Half, u64), OpenFault>
+    ensures { HasChosen digest.now (D.told disk.old) (D.told disk.new) (D.state disk.old) (D.state disk.new)
+        (D.faults disk.old) (D.faults disk.new) result }
+{
+    let first = read_header(disk, 0)?;
+    let second = read_header(disk, 64)?;
+    let Some((half, header)) = half_of_headers(first, second) else {
+        return Err(OpenFault::NotACache);
+    };
+    if header.digest != *digest {
+        return Err(OpenFault::CatalogueDiffers(header.digest, *digest));
+    }
+    Ok((half, header.generation))
+}
 
 impl Journal {
     /// Opens the journal of a disk on which nothing is pending, as after a sync. A half has so many slots, 1 to 2^40. It is
@@ -36,14 +54,10 @@ impl Journal {
         ensures quiet { IsTrue (D.told disk.old) → ChangesBy Same (D.state disk.old) (D.state disk.new) }
         ensures cause { HasOpenCause (D.faults disk.old) (D.faults disk.new) result }
     {
-        let first = read_header(disk, 0)?;
-        let second = read_header(disk, 64)?;
-        let Some((half, header)) = half_of_headers(first, second) else {
-            return Err(OpenFault::NotACache);
+        let (half, generation) = match choose(disk, digest) {
+            Ok(chosen) => chosen,
+            Err(fault) => return Err(fault),
         };
-        if header.digest != *digest {
-            return Err(OpenFault::CatalogueDiffers(header.digest, *digest));
-        }
         let bodies = match read_records(alloc, disk, half.start(slots), slots) {
             Ok(Some(bodies)) => bodies,
             Ok(None) => return Err(OpenFault::NotACache),
@@ -53,8 +67,8 @@ impl Journal {
             slots,
             half,
             count: bodies.len() as u64,
-            generation: header.generation,
-            digest: header.digest,
+            generation,
+            digest: *digest,
             standing: Standing::Settled,
             gate: 0,
         };

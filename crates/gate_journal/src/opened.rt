@@ -1,3 +1,4 @@
+//! What an opening gives.
 use crate::journal::Journal;
 
 /// A journal that was opened, and the bodies of its records in order.

@@ -1,3 +1,4 @@
+//! What a journal tells without its disk.
 ghost use Rattle.std.specs.Prelude.{◌≡◌, ◌+◌, ◌↔◌, IsTrue, length};
 ghost use Rattle.disk_model.specs.Content.{Content};
 ghost use Rattle.gate_journal.specs.Sound.{IsSettled, kept, room_of, slots_of};

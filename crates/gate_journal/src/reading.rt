@@ -1,3 +1,4 @@
+//! How headers and records are read from a disk, some slots at a time.
 ghost use Rattle.std.specs.Prelude.{◌≡◌, ◌+◌, ◌*◌, ◌≤◌, ◌^◌, ℕ, IfOk, IfSome, IsTrue, MatchBool, MatchOption, length, take, false, vec_len};
 ghost use Rattle.causes.specs.Causes.{HasCause};
 ghost use Rattle.disk_model.specs.Content.{Content, bytes_at, Same};

@@ -1,3 +1,4 @@
+//! How a journal is settled after a call that failed.
 ghost use Rattle.std.specs.Prelude.{◌≡◌, IsTrue, OnOk, OnErr};
 ghost use Rattle.causes.specs.Causes.{HasCause};
 ghost use Rattle.gate_journal.specs.Calls.{Moves};

@@ -1,3 +1,5 @@
+//! The standings of a journal: settled, or as a failed call left it.
+
 /// Whether the disk holds the records of a journal alone.
 #[derive(Clone, Copy, Debug, PartialEq, Eq, Drop)]
 pub enum Standing {

@@ -1,4 +1,4 @@
-// The three writes of a journal, each of which is on the disk once it succeeded.
+//! The three writes of a journal, each of which is on the disk once it succeeded.
 ghost use Rattle.std.specs.Prelude.{◌≡◌, ◌≤◌, ◌+◌, ◌^◌, [], ◌∷◌, IsTrue, OnOk};
 ghost use Rattle.causes.specs.Causes.{HasCause};
 ghost use Rattle.disk_model.specs.Content.{bytes_at, written, TornWrite};

@@ -1,9 +1,8 @@
 -- What a fetch of the next message comes to, at each of its ends.
-use Rattle.std.proofs.Common.{◌≡◌, ℕ, ◌+◌, ◌<◌, ◌≤◌, ◌⊎◌, List, ◌++◌, length, max, take, drop, Option, Bool, true, false, Result, Ok, Err, IfSome, refl, sym, ap, subst, ◌∙◌}
-use Rattle.std.specs.Io.KnownBytes.{IsAtEnd, prepend_known}
-use Rattle.httparse.specs.Grammar.{HasNoRequest}
+use Rattle.std.proofs.Common.{◌≡◌, ℕ, ◌+◌, ◌<◌, ◌≤◌, ◌⊎◌, List, ◌++◌, length, max, take, drop, Option, Bool, true, false, Result, Ok, Err, refl, sym, ap, subst, ◌∙◌}
+use Rattle.std.specs.Io.KnownBytes.{prepend_known}
 use Rattle.httparse.specs.declared.spans.HeaderSpan.{HeaderSpan}
-use Rattle.http_wire.specs.Answers.{AnswersNext, LeavesNext, IsMessage, IsPartOfTake, StaysAt, next_at}
+use Rattle.http_wire.specs.Answers.{AnswersNext, LeavesNext, IsMessage, next_at}
 use Rattle.http_wire.specs.Fetches.{Fetches}
 use Rattle.http_wire.specs.Lines.{Extends}
 use Rattle.http_wire.specs.Looks.{HadNoHead, HoldsHead, SettlesStream}
@@ -24,7 +23,7 @@ use Rattle.http_wire.specs.declared.outline.Outline.{Outline}
 use Rattle.http_wire.specs.declared.outline.Outlined.{Outlined}
 use Rattle.http_wire.specs.declared.outline.Outlined.TheVariants.{Good, Refused}
 use Rattle.http_wire.proofs.AnswersFound.{good_outline, stop_answers, refused_answers, truncated_answers, message_answers}
-use Rattle.http_wire.proofs.HeadAtFront.{whole_message, no_message_none, no_message_short}
+use Rattle.http_wire.proofs.HeadAtFront.{whole_message, no_message_short}
 use Rattle.http_wire.proofs.LeftBehind.{stop_leaves, refused_leaves, truncated_leaves}
 use Rattle.http_wire.proofs.Surplus.{part_of_take}
 use Rattle.http_wire.proofs.TakesOn.{takes_same, takes_more, takes_fault}

@@ -1,5 +1,5 @@
 -- What an answer that is no message leaves: all the bytes, which stop as it says.
-use Rattle.std.proofs.Common.{◌≡◌, ℕ, ◌+◌, ◌<◌, List, [], ◌++◌, length, Option, Some, None, Result, Err, IfSome, sym, ap, subst, ◌∙◌, append_assoc, append-nil}
+use Rattle.std.proofs.Common.{◌≡◌, ℕ, ◌+◌, ◌<◌, List, [], ◌++◌, length, Option, Some, None, IfSome, sym, ap, subst, ◌∙◌, append_assoc, append-nil}
 use Rattle.std.specs.Io.KnownBytes.{Keeps, Consumes, IsAtEnd, prepend_known}
 use Rattle.std.proofs.KnownBytes.{Keeps-trans}
 use Rattle.httparse.specs.declared.spans.HeaderSpan.{HeaderSpan}
@@ -7,7 +7,7 @@ use Rattle.http_wire.specs.Messages.{IsBad, IsTruncated}
 use Rattle.http_wire.specs.Lines.{Extends}
 use Rattle.http_wire.specs.Looks.{SettlesStream}
 use Rattle.http_wire.specs.Outlines.{Outlines, IsOutline}
-use Rattle.http_wire.specs.Answers.{next_at, StaysAt, LeavesNext, LeavesFault, Leaves, Remain}
+use Rattle.http_wire.specs.Answers.{next_at, StaysAt, LeavesNext, LeavesFault, Remain}
 use Rattle.http_wire.specs.declared.message.Stop.{Stop}
 use Rattle.http_wire.specs.declared.message.Stop.TheVariants.{End, Truncated, Bad}
 use Rattle.http_wire.specs.declared.message.Next.{Next}
@@ -32,10 +32,6 @@ taken_remain (Some x) (Some y) held bytes taken = (held ++ bytes, append_assoc h
 pub fault_before : (before now left : Option (List ℕ)) (held : List ℕ) (fault : WireFault) → Keeps before now → LeavesFault now held left fault → LeavesFault before held left fault
 fault_before before now left held ReadFault k stays = Keeps-trans before now (prepend_known held left) k stays
 fault_before before now left held OutOfMemory k r = (r.0, Keeps-trans before now (prepend_known r.0 left) k r.1)
-
--- a fault that is handed on
-pub fault_leaves : (before left : Option (List ℕ)) (held : List ℕ) (fault told : WireFault) (answer : Result Next WireFault) → answer ≡ Err told → told ≡ fault → LeavesFault before held left fault → Leaves before held left answer
-fault_leaves before left held fault told answer is same leaves = rw is (rw same leaves)
 
 -- STOPS
 

@@ -3,7 +3,6 @@ use Rattle.std.proofs.Common.{◌≡◌, ℕ, ◌+◌, ◌<◌, ◌≤◌, min, 
 use Rattle.std.specs.Io.KnownBytes.{Keeps, Consumes, prepend_known}
 use Rattle.std.proofs.KnownBytes.{Keeps-refl, Keeps-trans}
 use Rattle.causes.specs.Causes.{Rose}
-use Rattle.http_wire.specs.Answers.{LeavesFault}
 use Rattle.http_wire.specs.ReadCause.{HasReadCause}
 use Rattle.http_wire.specs.Side.{Side}
 use Rattle.http_wire.specs.Takes.{Takes, BringsPiece}

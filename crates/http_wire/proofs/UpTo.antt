@@ -1,7 +1,6 @@
 -- Takes until so many bytes are held.
-use Rattle.std.proofs.Common.{◌≡◌, ℕ, ◌+◌, ◌<◌, ◌≤◌, max, List, [], length, Option, Bool, true, false, Result, Ok, Err, sym, ap, subst, arith, append-nil}
+use Rattle.std.proofs.Common.{◌≡◌, ℕ, ◌<◌, List, [], length, Option, Bool, true, false, Result, Ok, Err, sym, ap, subst, arith, append-nil}
 use Rattle.std.specs.Io.KnownBytes.{IsAtEnd}
-use Rattle.http_wire.specs.Lines.{Extends}
 use Rattle.http_wire.specs.Takes.{BringsPiece, BringsUpTo, Gains}
 use Rattle.http_wire.specs.declared.message.WireFault.{WireFault}
 use Rattle.http_wire.proofs.NoHeadYet.{extends_more}

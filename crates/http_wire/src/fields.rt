@@ -1,3 +1,4 @@
+//! What the fields of a head say of the body's length and of the connection's end, and the method that a token names.
 ghost use Rattle.std.specs.Prelude.{◌≡◌, ◌≤◌, length, map, All, IfOk, codes};
 ghost use Rattle.std.specs.List.{list_any};
 ghost use Rattle.std.specs.Str.{str_eq_ignore_ascii_case};

@@ -1,3 +1,4 @@
+//! A file as a source of bytes, also where it is absent or can't be opened.
 ghost use Rattle.std.specs.Prelude.{◌≡◌, None};
 
 use crate::streams::{ByteSource, Failed};

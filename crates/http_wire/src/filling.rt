@@ -1,3 +1,5 @@
+//! How bytes are taken until they settle what comes next. They are parsed only where a head may end in them or has no
+//! room left, so that pieces of one byte don't cost a parse each.
 ghost use Rattle.std.specs.Prelude.{◌≡◌, ◌≤◌, ◌+◌, false, max, length};
 ghost use Rattle.http_wire.specs.Lines.{is_line_byte, IsBlankUpTo, HasNoLineEnd, Extends};
 ghost use Rattle.http_wire.specs.Looks.{HoldsHead, MayHaveHead};

@@ -1,3 +1,4 @@
+//! What holds of all streams: each has one reading, but for two stated exceptions, and a reader's answers make it up.
 ghost use Rattle.std.specs.Prelude.{◌≡◌, ◌∷◌, ◌++◌, [], ℕ, List, Option, IfSome};
 ghost use Rattle.http_wire.specs.Answers.{AnswersNext, next_at};
 ghost use Rattle.http_wire.specs.Exceptions.{Agree, AgreeAfter};

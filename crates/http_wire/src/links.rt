@@ -1,3 +1,4 @@
+//! The trait of a connection: a source and a sink in one, of which neither changes with the other.
 ghost use Rattle.std.specs.Prelude.{◌≡◌};
 ghost use Rattle.http_wire.specs.Side.{side};
 

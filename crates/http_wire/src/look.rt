@@ -1,3 +1,4 @@
+//! What the bytes at the front of a stream settle: a head, a stop, or nothing yet.
 ghost use Rattle.std.specs.Prelude.{◌≡◌, length};
 ghost use Rattle.http_wire.specs.Looks.{LooksAs, Steps, MayHaveHead};
 ghost use Rattle.http_wire.specs.Messages.{front, StopsAs};

@@ -1,3 +1,4 @@
+//! A sink in memory, some calls of which may be set to fail.
 ghost use Rattle.std.specs.Prelude.{◌≡◌, ◌≤◌, ◌<◌, Some, [], length, IfOk};
 ghost use Rattle.std.specs.Io.KnownBytes.{WriteAppends};
 ghost use Rattle.causes.specs.Causes.{HasCause};

@@ -1,3 +1,4 @@
+//! A source in memory, which cuts its bytes into pieces and some calls of which may be set to fail.
 ghost use Rattle.std.specs.Prelude.{◌≡◌, ◌≤◌, ◌<◌, Some, length, IfOk};
 ghost use Rattle.std.specs.Io.KnownBytes.{ReadConsumes};
 ghost use Rattle.causes.specs.Causes.{HasCause};

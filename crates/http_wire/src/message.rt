@@ -1,3 +1,4 @@
+//! The types of messages, and of how a stream of them goes on and stops.
 use exact_ratio::words::Words;
 
 /// The method of a message (RFC 9110, section 9).

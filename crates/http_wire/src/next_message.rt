@@ -1,3 +1,4 @@
+//! The next message of a stream, or how it stops; a reader that has ended answers the same again.
 ghost use Rattle.std.specs.Prelude.{◌≡◌, ◌≤◌, ◌+◌, length, take, drop, IfOk, OnErr};
 ghost use Rattle.http_wire.specs.Answers.{next_at, again_of, ended_of};
 ghost use Rattle.http_wire.specs.Fetches.{Fetches};

@@ -1,3 +1,4 @@
+//! What a message takes of its head, or the status that refuses the head.
 ghost use Rattle.std.specs.Prelude.{◌≡◌, ◌≤◌, ◌==◌, ◌||◌, length, map, All, IfOk};
 ghost use Rattle.httparse.specs.Spans.{IsHeaderWithin, header_bytes, IsRequestOf, IsRequestWithin};
 ghost use Rattle.http_wire.specs.Messages.{front};

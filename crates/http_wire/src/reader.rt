@@ -1,3 +1,4 @@
+//! The reader of the messages of a stream.
 ghost use Rattle.std.specs.Prelude.{◌≡◌, [], None, IfOk, IfSome};
 ghost use Rattle.http_wire.specs.Answers.{Answers, IsMessage, IsPartOfTake, Leaves, again_of, ended_of};
 ghost use Rattle.http_wire.specs.ReadCause.{HasReadCause};

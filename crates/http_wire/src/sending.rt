@@ -1,3 +1,4 @@
+//! Bytes sent whole, or how many of them went out before a write failed.
 ghost use Rattle.std.specs.Prelude.{◌≡◌, ◌<◌, take, length, IfErr, OnOk};
 ghost use Rattle.std.specs.Io.KnownBytes.{Appends};
 ghost use Rattle.causes.specs.Causes.{HasCause};

@@ -1,3 +1,4 @@
+//! Standard input as a source, and standard output as a sink.
 ghost use Rattle.std.specs.Prelude.{◌≡◌, None};
 
 use crate::streams::{ByteSink, ByteSource, Failed};

@@ -1,3 +1,4 @@
+//! The box of a cover, in billionths of a unit.
 ghost use Rattle.std.specs.Prelude.{◌≡◌, ◌≤◌, ◌^◌, codes, map, option_map, unsigned_abs, IfOk, IfSome};
 ghost use Rattle.serde_json.specs.Find.{get};
 ghost use Rattle.serde_json.specs.View.{view};

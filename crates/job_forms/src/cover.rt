@@ -1,3 +1,4 @@
+//! The reading of a whole cover.
 ghost use Rattle.std.specs.Prelude.{◌≡◌, ◌≤◌, IfOk};
 ghost use Rattle.serde_json.specs.View.{view};
 ghost use Rattle.catalog.specs.Valid.{IsValid};

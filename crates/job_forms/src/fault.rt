@@ -1,3 +1,5 @@
+//! Why a text is no cover or no job, and the member at fault.
+
 /// A member of a cover or a job.
 #[derive(Clone, Copy, Debug, PartialEq, Eq)]
 pub enum JobField {

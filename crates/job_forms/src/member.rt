@@ -1,3 +1,4 @@
+//! The members of a cover that are a single name or number: layer, grid, matrices, format and style.
 ghost use Rattle.std.specs.Prelude.{◌≡◌, ◌<◌, ◌≤◌, codes, Contains, IfOk, IfSome, IsSomeAnd, length, slice_get};
 ghost use Rattle.serde_json.specs.Find.{get};
 ghost use Rattle.serde_json.specs.View.{view};

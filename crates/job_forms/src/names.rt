@@ -1,3 +1,4 @@
+//! The names of dimensions among the members of an object.
 ghost use Rattle.std.specs.Prelude.{◌≡◌};
 ghost use Rattle.serde_json.specs.View.{members_view};
 ghost use Rattle.catalog.specs.Valid.{IsDimension};

@@ -1,3 +1,4 @@
+//! The values of dimensions that a cover is for.
 ghost use Rattle.std.specs.Prelude.{◌≡◌, ◌<◌, ◌≤◌, ℕ, Some, codes, option_copied, option_map, IfOk, IfSome, IsSomeAnd, length, slice_get};
 ghost use Rattle.serde_json.specs.Find.{get};
 ghost use Rattle.serde_json.specs.View.{members_view, view};

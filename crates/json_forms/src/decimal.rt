@@ -1,3 +1,4 @@
+//! Decimal numbers that are written as JSON strings. Too many digits are told apart from another form.
 ghost use Rattle.std.specs.Prelude.{◌≡◌};
 ghost use Rattle.serde_json.specs.View.{view};
 ghost use Rattle.json_forms.specs.Decimals.{text_of, decimal_text};

@@ -1,3 +1,4 @@
+//! The address of a tile.
 use crate::theme::Theme;
 
 /// One tile: its theme, its grid, the number of its matrix in the grid, and its place in the matrix (OGC 07-057r7,

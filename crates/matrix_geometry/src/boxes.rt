@@ -1,3 +1,4 @@
+//! The edges of a tile, a box on the ground, and a range of tiles.
 use exact_ratio::ratio::Ratio;
 
 /// The four edges of a tile, in units of the grid.

@@ -1,3 +1,4 @@
+//! Which themes a filter admits. The types of both stand in `theme`.
 ghost use Rattle.std.specs.Prelude.{◌≡◌};
 ghost use Rattle.matrix_geometry.specs.Admits.{admits, admits_number, admits_values};
 

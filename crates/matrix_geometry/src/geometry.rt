@@ -1,3 +1,4 @@
+//! The edges of a tile, and the tiles of a box with a tolerance of a millionth of a tile, by exact fractions.
 ghost use Rattle.std.specs.Prelude.{◌≡◌, ◌*◌, ◌<◌, ◌≤◌, ◌^◌, ◌+ℤ◌, ◌-ℤ◌, ◌*ℤ◌, ◌<ℤ◌, pos, IfSome, unsigned_abs};
 ghost use Rattle.std.specs.Int.{int_div_euclid};
 ghost use Rattle.exact_ratio.specs.Fractions.{lowest_terms};

@@ -1,3 +1,4 @@
+//! How a matrix is made of a span or a scale denominator, within the limits on its numbers.
 ghost use Rattle.std.specs.Prelude.{◌≡◌, ◌*◌, ◌^◌, ◌≤◌, ◌*ℤ◌, ◌<ℤ◌, ◌&&◌, pos, unsigned_abs, int_div, IfOk, IfSome, IsTrue, if◌then◌else◌};
 ghost use Rattle.std.specs.Option.{ForSome};
 ghost use Rattle.std.specs.Int.{is_positive};

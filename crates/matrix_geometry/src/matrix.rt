@@ -1,3 +1,4 @@
+//! The types of a tile matrix, of its corner and of a size.
 use exact_ratio::decimal::Decimal;
 use exact_ratio::ratio::Ratio;
 

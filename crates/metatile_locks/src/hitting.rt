@@ -1,3 +1,4 @@
+//! Whether a cover is for some tile of a metatile, told by the metatile's block as a whole.
 ghost use Rattle.std.specs.Prelude.{◌≡◌, ◌↔◌, IsTrue};
 ghost use Rattle.catalog.specs.Valid.{IsGrid};
 ghost use Rattle.matrix_geometry.specs.Limits.{IsWithinLimits};

@@ -1,3 +1,4 @@
+//! The table of the renders that run: how they begin, are overtaken and end.
 ghost use Rattle.std.specs.Prelude.{[], ◌≡◌, ◌<◌, ◌≤◌, IfOk, OnErr, OnOk, length};
 ghost use Rattle.catalog.specs.Valid.{IsGrid};
 ghost use Rattle.truncation_list.specs.Covers.{IsWithinReach};

@@ -1,3 +1,4 @@
+//! The entry of a running render.
 use metatile_plan::metatile::MetaKey;
 
 /// A render that runs, with the number of the last truncation that overtook it.

@@ -1,3 +1,4 @@
+//! What the begin and the end of a render are answered.
 use crate::ticket::Ticket;
 
 /// What a begin is answered.

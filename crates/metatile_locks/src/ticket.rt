@@ -1,3 +1,4 @@
+//! The ticket of a render, made and spent by its crate alone.
 ghost use Rattle.std.specs.Prelude.{◌≡◌};
 
 use metatile_plan::metatile::MetaKey;

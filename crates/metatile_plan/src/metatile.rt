@@ -1,3 +1,4 @@
+//! The key of a metatile, and the factors by which tiles are gathered into metatiles.
 use matrix_geometry::theme::Theme;
 
 /// How the tiles of a layer are gathered into metatiles.

@@ -1,3 +1,5 @@
+//! The type of a part of a text or a blob.
+
 /// A part of a text or a blob, in bytes.
 #[derive(Clone, Copy, Debug, PartialEq, Eq)]
 pub struct Span {

@@ -1,3 +1,4 @@
+//! The type of a metatile's window of pixels.
 use crate::metatile::MetaKey;
 
 /// The pixels that are rendered for a metatile: its block with the gutter, cut to the matrix. `x` and `y` count from the

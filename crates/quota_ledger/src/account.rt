@@ -1,3 +1,4 @@
+//! The account of a layer, or of all of them together.
 ghost use Rattle.std.specs.Prelude.{◌≡◌};
 ghost use Rattle.quota_ledger.specs.Accounts.{is_above};
 

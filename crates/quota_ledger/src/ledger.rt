@@ -1,3 +1,4 @@
+//! The accounts of a catalogue: bytes are counted in and out, and the scope whose quota is exceeded is told.
 ghost use Rattle.std.specs.Prelude.{IfOk, None, [], length, map, ◌+◌, ◌<◌, ◌^◌, ◌≡◌, ◌≤◌};
 ghost use Rattle.std.specs.List.{position};
 ghost use Rattle.quota_ledger.specs.Accounts.{accounts, added, exceeded, is_above, or_all, removed, used_at};

@@ -1,3 +1,4 @@
+//! Colours, and the colour of a value in a style.
 ghost use Rattle.std.specs.Prelude.{◌≡◌};
 ghost use Rattle.raster_field.specs.Picture.{colour_of};
 

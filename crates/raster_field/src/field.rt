@@ -43,6 +43,28 @@ pub fn shade_of(source: u32, number: u64, theme: &Theme) -> u128
     u128::from(source) + 7 * u128::from(number) + 31 * wide(theme.layer) + 131 * dims
 }
 
+/// How far a pixel's middle is from the edge, in half pixels, times the numerator of a pixel's span.
+fn half_pixels(x: u64, numerator: u128) -> u128
+    requires x { x < 2 ^ 41 }
+    requires numerator { numerator ≤ 10 ^ 20 }
+    ensures value { result ≡ (2 * x + 1) * numerator }
+    ensures bound { result < 2 ^ 112 }
+{
+    (2 * u128::from(x) + 1) * numerator
+}
+
+/// How many of these there are in a cell: two halves for each part of a unit that the span's denominator counts.
+fn halves_in(cell: u64, denominator: u128) -> u128
+    requires cell { 1 ≤ cell }
+    requires cell_most { cell ≤ 10 ^ 9 }
+    requires denominator { 1 ≤ denominator }
+    requires denominator_most { denominator ≤ 10 ^ 18 }
+    ensures value { result ≡ 2 * denominator * cell }
+    ensures some { 0 < result }
+{
+    2 * denominator * u128::from(cell)
+}
+
 /// The ground cell of a pixel's column, or of its row.
 pub fn cell_at(matrix: &Matrix, layer: &Layer, x: u64) -> u128
     requires matrix { IsWithinLimits matrix.now }
@@ -53,7 +75,7 @@ pub fn cell_at(matrix: &Matrix, layer: &Layer, x: u64) -> u128
 {
     let n = matrix.span.n.unsigned_abs();
     let d = matrix.span.d.unsigned_abs();
-    (2 * u128::from(x) + 1) * n / (2 * d * u128::from(layer.cell))
+    half_pixels(x, n) / halves_in(layer.cell, d)
 }
 
 /// The value of a pixel of the whole matrix of a metatile, in the picture of a source and a render.

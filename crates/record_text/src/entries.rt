@@ -1,3 +1,4 @@
+//! The records of a journal.
 use metatile_plan::metatile::MetaKey;
 use truncation_list::cover::Cover;
 

@@ -1,3 +1,4 @@
+//! How a record is spelled.
 ghost use Rattle.std.specs.Prelude.{◌≡◌, ◌+◌, ◌≤◌, ◌<◌, ◌^◌, ◌++◌, length, IfSome, None, Some};
 ghost use Rattle.std.specs.List.{AllByRecursion, flat_map};
 ghost use Rattle.byteorder.specs.Endian.{big_bytes};

@@ -1,3 +1,4 @@
+//! The lines of a schedule, and why a text is none.
 ghost use Rattle.std.specs.Prelude.{◌≡◌, ◌≤◌, ℕ, ◌+◌, ◌<◌, length, slice_index, IfOk};
 ghost use Rattle.std.specs.Str.Parse.{AllDigits};
 ghost use Rattle.schedule_text.specs.Line.{digits_len, actor_of, line_of};

@@ -1,3 +1,4 @@
+//! The verbs of a schedule, and what may stand behind each.
 ghost use Rattle.std.specs.Prelude.{◌≡◌, ◌≤◌, length, find, IsTrue, IfSome};
 ghost use Rattle.schedule_text.specs.Line.{word, is_target, has_rest, has_form, verb_of};
 

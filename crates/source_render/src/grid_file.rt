@@ -1,3 +1,4 @@
+//! The source whose pictures come from a file of cells. The layout of such a file is the matter of `cell_file`.
 ghost use Rattle.std.specs.Prelude.{IfSome, None, ℕ, ◌+◌, ◌*◌, ◌^◌, ◌<◌, ◌≡◌, ◌≤◌, get_or, length};
 ghost use Rattle.catalog.specs.Valid.{IsLayer, IsValid};
 ghost use Rattle.matrix_geometry.specs.Limits.{IsWithinLimits};

@@ -1,3 +1,4 @@
+//! The source of numbered pictures.
 ghost use Rattle.std.specs.Prelude.{IsOk, OnOk, Some, ◌≡◌};
 ghost use Rattle.causes.specs.Causes.{HasCause};
 ghost use Rattle.catalog.specs.Valid.{IsValid};

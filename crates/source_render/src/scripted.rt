@@ -1,3 +1,4 @@
+//! The source of numbered pictures that fails at listed calls, by which tests show what a failure leads to.
 ghost use Rattle.std.specs.Prelude.{Contains, IsErr, OnOk, Some, true, min, ◌+◌, ◌-◌, ◌^◌, ◌↔◌, ◌≡◌};
 ghost use Rattle.causes.specs.Causes.{HasCause};
 ghost use Rattle.catalog.specs.Valid.{IsValid};

@@ -1,3 +1,4 @@
+//! The trait of what renders pictures.
 ghost use Rattle.std.specs.Prelude.{◌≡◌, ℕ, OnOk, Some};
 ghost use Rattle.std.specs.declared.option.Option.{Option};
 ghost use Rattle.causes.specs.Causes.{HasCause};

@@ -1,3 +1,4 @@
+//! The document of the capabilities that a command serves, read as it is.
 ghost use Rattle.std.specs.Prelude.{◌≡◌};
 ghost use Rattle.tile_service.specs.Outside.{Input};
 ghost use Rattle.tile_command.specs.Command.{Describes};

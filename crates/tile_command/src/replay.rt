@@ -1,3 +1,4 @@
+//! An input served as the bytes of one connection, with the responses written to an output.
 ghost use Rattle.std.specs.Prelude.{◌≡◌};
 ghost use Rattle.catalog.specs.Valid.{IsValid};
 ghost use Rattle.tile_service.specs.Outside.{Input, Outside};

@@ -1,3 +1,4 @@
+//! The words `schedule`, `replay` and `drill` of a command; those of a server stand in `serve_words`.
 ghost use Rattle.std.specs.Prelude.{◌≡◌};
 ghost use Rattle.tile_command.specs.Words.{number_of, word_of};
 

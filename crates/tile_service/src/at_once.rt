@@ -1,3 +1,4 @@
+//! Requests that aren't for a tile, each answered in one step.
 ghost use Rattle.std.specs.Prelude.{◌≡◌, None};
 ghost use Rattle.catalog.specs.Valid.{IsValid};
 ghost use Rattle.tile_service.specs.Dealing.{IsAtOnce};

@@ -1,3 +1,4 @@
+//! A message whose parts are borrowed, so that the messages of a schedule and of a session are led and read alike.
 use http_wire::message::Method;
 
 /// A message that is not the last of its connection, where it stands: its target and its body are borrowed.

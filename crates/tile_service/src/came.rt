@@ -1,3 +1,4 @@
+//! What a line comes to before its answer is written.
 use crate::outcome::Outcome;
 
 /// What a line answers.

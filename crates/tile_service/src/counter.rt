@@ -1,3 +1,4 @@
+//! What one thread serves with: a cabinet, the reading of paths, and the document of the capabilities.
 use cabinet::cabinet::Cabinet;
 use exact_ratio::words::Words;
 use wmts_rest::table::RestTable;

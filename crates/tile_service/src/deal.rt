@@ -1,3 +1,4 @@
+//! What a line does: its actor sends a message, or makes the next event of what it is busy with.
 ghost use Rattle.std.specs.Prelude.{◌≡◌, List, Option, Some, slice_get};
 ghost use Rattle.catalog.specs.Valid.{IsValid};
 ghost use Rattle.tile_service.specs.Dealing.{IsAsked};

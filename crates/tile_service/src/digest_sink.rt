@@ -1,3 +1,4 @@
+//! A sink that keeps only the digest of its bytes. The bytes themselves stand in a history that proofs alone read.
 ghost use Rattle.std.specs.Prelude.{◌≡◌, ◌++◌, Some};
 ghost use Rattle.sha2.specs.Sha256.{sha256};
 

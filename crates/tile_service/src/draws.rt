@@ -1,3 +1,4 @@
+//! Pseudorandom numbers by a linear congruential generator, so that a drill is the same wherever it is made.
 ghost use Rattle.std.specs.Prelude.{◌≡◌, ◌<◌};
 ghost use Rattle.tile_service.specs.Made.{next_x, drawn};
 

@@ -1,3 +1,4 @@
+//! A drill as a whole: its lines are made and run, and its summary is written.
 ghost use Rattle.std.specs.Prelude.{◌≡◌};
 ghost use Rattle.catalog.specs.Valid.{IsValid};
 ghost use Rattle.tile_service.specs.Drill.{Drills};

@@ -1,3 +1,4 @@
+//! The lines that a drill makes by draws.
 ghost use Rattle.std.specs.Prelude.{◌≡◌, ◌<◌, ◌++◌, IfOk, OnOk, IfSome, IsSome, codes, decimal, flat_map, option_map, slice_get, is_some};
 ghost use Rattle.catalog.specs.Valid.{IsGrid, IsNamedGrid, IsValid};
 ghost use Rattle.tile_service.specs.Drilling.{shown_aim};

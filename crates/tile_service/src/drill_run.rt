@@ -1,3 +1,4 @@
+//! The lines of a drill, each run as soon as it is made, with the count and the digest of the answers.
 ghost use Rattle.std.specs.Prelude.{◌≡◌, List, Option, Some, IfOk, OnErr, map, replicate};
 ghost use Rattle.catalog.specs.Valid.{IsValid};
 ghost use Rattle.tile_service.specs.Drilling.{HasMade, Makes};

@@ -1,3 +1,4 @@
+//! Which events of a request for a tile are made in the line that starts it.
 ghost use Rattle.std.specs.Prelude.{◌≡◌, true};
 ghost use Rattle.cache_core.specs.Shown.{IsIdle};
 ghost use Rattle.cache_core.specs.Fits.{IsFit};

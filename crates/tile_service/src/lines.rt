@@ -1,3 +1,4 @@
+//! The lines of a schedule: where each ends, and what it has its actor do.
 ghost use Rattle.std.specs.Prelude.{◌≡◌, ◌<◌, ◌≤◌, ◌∷◌, length};
 ghost use Rattle.std.specs.Option.{option_map};
 ghost use Rattle.tile_service.specs.Lines.{lines_of, line_length, get, post, deed_of, deed_with, is_idle, deed_in};

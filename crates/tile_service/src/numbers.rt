@@ -1,3 +1,4 @@
+//! Numbers in decimal digits, added to texts that grow; `answer` has the like for texts that take no memory.
 ghost use Rattle.std.specs.Prelude.{◌≡◌, ◌++◌, OnOk, decimal};
 
 use itoa::Buffer;

@@ -1,3 +1,4 @@
+//! The outcomes of all requests.
 use exact_ratio::words::Words;
 use exception_report::code::{Code, Locator};
 use job_forms::fault::JobFault;

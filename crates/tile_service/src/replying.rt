@@ -1,3 +1,4 @@
+//! How the response to a message of a session is written, and the one to bytes that are no message.
 ghost use Rattle.std.specs.Prelude.{◌≡◌, OnOk, OnErr};
 ghost use Rattle.std.specs.Io.KnownBytes.{Appends};
 ghost use Rattle.causes.specs.Causes.{HasCause};

@@ -1,3 +1,4 @@
+//! What messages ask for, and the ways in which a tile is asked for.
 ghost use Rattle.std.specs.Prelude.{◌≡◌};
 ghost use Rattle.tile_service.specs.Requests.{outcome_of};
 

@@ -1,3 +1,4 @@
+//! The bytes of the response to a request, by its outcome.
 ghost use Rattle.std.specs.Prelude.{◌≡◌, ◌≤◌, ◌++◌, length, IfOk, OnOk, codes, []};
 ghost use Rattle.exception_report.specs.Report.{report_of};
 ghost use Rattle.exception_report.specs.Status.{status_of};

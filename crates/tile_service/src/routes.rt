@@ -1,3 +1,4 @@
+//! The table of paths: where a message leads by its method and path, and what it asks for there.
 ghost use Rattle.std.specs.Prelude.{◌≡◌, ◌≤◌, ◌==◌, length, not, IfOk, IfSome};
 ghost use Rattle.std.specs.List.{prefix_len};
 ghost use Rattle.catalog.specs.declared.catalogue.Catalogue.{Catalogue};

@@ -1,3 +1,4 @@
+//! One line of a schedule, run and answered.
 ghost use Rattle.std.specs.Prelude.{◌≡◌, ◌≤◌, List, None, Option, flat_map, map};
 ghost use Rattle.std.specs.Io.KnownBytes.{Appends};
 ghost use Rattle.catalog.specs.Valid.{IsValid};

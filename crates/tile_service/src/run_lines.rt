@@ -1,3 +1,4 @@
+//! The lines of a schedule, run one after the other up to the first that is refused or whose answer can't be written.
 ghost use Rattle.std.specs.Prelude.{◌≡◌, ◌<◌, ◌^◌, List, Option, length, map, replicate};
 ghost use Rattle.catalog.specs.Valid.{IsValid};
 ghost use Rattle.tile_service.specs.OneLine.{seat_of, world_of};

@@ -1,3 +1,4 @@
+//! A schedule as a whole: it is read, its lines are run, and the actors that are still busy give up.
 ghost use Rattle.std.specs.Prelude.{◌≡◌};
 ghost use Rattle.catalog.specs.Valid.{IsValid};
 ghost use Rattle.tile_service.specs.OneLine.{world_of};

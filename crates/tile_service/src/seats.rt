@@ -1,3 +1,4 @@
+//! The seats of the actors, and what each busy one has under way.
 ghost use Rattle.std.specs.Prelude.{◌≡◌, IfOk, IsSome, None, ◌<◌, is_some, length, replicate, slice_get, slice_set};
 ghost use Rattle.cache_core.specs.Steps.{given_up};
 ghost use Rattle.tile_service.specs.Events.{GoesOn};

@@ -1,3 +1,4 @@
+//! A message of a session, served at once, since no render runs beside it.
 ghost use Rattle.std.specs.Prelude.{◌≡◌};
 ghost use Rattle.catalog.specs.LookUp.{IsTile};
 ghost use Rattle.catalog.specs.Valid.{IsValid};

@@ -1,3 +1,4 @@
+//! The messages of one connection, served in order, and how a session ends.
 ghost use Rattle.std.specs.Prelude.{◌≡◌, OnOk, OnErr};
 ghost use Rattle.std.specs.Io.KnownBytes.{Appends};
 ghost use Rattle.catalog.specs.Valid.{IsValid};

@@ -1,3 +1,4 @@
+//! How many answers are hits, misses or neither.
 ghost use Rattle.std.specs.Prelude.{◌≡◌, ◌^◌, ◌<◌};
 ghost use Rattle.tile_service.specs.Tally.{both, one_of, result_of, total};
 

@@ -1,3 +1,4 @@
+//! The type of a block of tiles.
 use matrix_geometry::boxes::Range;
 use matrix_geometry::theme::Theme;
 

@@ -1,3 +1,4 @@
+//! The types of a cut and of a book: the cuts in force with a floor, alone and with the last number that was given.
 use crate::cover::Cover;
 use exact_ratio::items::Items;
 

@@ -1,3 +1,4 @@
+//! Whether one cover contains another, told by their fields alone.
 ghost use Rattle.std.specs.Prelude.{◌≡◌, length};
 ghost use Rattle.std.specs.List.{list_all, zip};
 ghost use Rattle.truncation_list.specs.Contains.{contains, contains_box, contains_filter, contains_number, contains_x, contains_y, contains_zoom};

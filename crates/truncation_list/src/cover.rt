@@ -1,3 +1,4 @@
+//! The type of a cover.
 use matrix_geometry::boxes::Box9;
 use matrix_geometry::theme::Filter;
 

@@ -1,3 +1,4 @@
+//! Whether a cover is for a tile, or for some tile of a block.
 ghost use Rattle.std.specs.Prelude.{IsTrue, ◌≡◌, ◌↔◌, IfSome};
 ghost use Rattle.matrix_geometry.specs.Limits.{IsReachable, IsWithinLimits};
 ghost use Rattle.matrix_geometry.specs.Ranges.{is_in_range};

@@ -1,3 +1,5 @@
+//! Why a truncation is not done.
+
 /// Why a truncation was not done.
 #[derive(Clone, Copy, Debug, PartialEq, Eq)]
 pub enum CutFault {

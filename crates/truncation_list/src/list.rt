@@ -1,3 +1,4 @@
+//! The list of the cuts in force, with its floor: cuts are added, purged and looked up.
 ghost use Rattle.std.specs.Prelude.{IfOk, IsTrue, OnOk, Some, length, max, slice_get, ◌<◌, ◌≡◌, ◌≤◌, ◌↔◌, None};
 ghost use Rattle.matrix_geometry.specs.Limits.{IsWithinLimits};
 ghost use Rattle.truncation_list.specs.declared.cover.Cover.{Cover};

@@ -1,3 +1,4 @@
+//! What ends the reading of a query before its last parameter.
 use exception_report::code::Code;
 
 /// What ends the reading of a query before its last row.

@@ -1,3 +1,4 @@
+//! The decoded pairs of a query, and the value of a name among them.
 ghost use Rattle.std.specs.Prelude.{◌≡◌, IfOk, option_copied};
 ghost use Rattle.wmts_kvp.specs.Pairs.{pairs_of, value_of};
 

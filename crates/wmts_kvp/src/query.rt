@@ -1,3 +1,4 @@
+//! The reading of a query: its parameters, in the order of the table.
 ghost use Rattle.std.specs.Prelude.{◌≡◌, ◌<◌, IfOk, IsSomeAnd, length, slice_get};
 ghost use Rattle.catalog.specs.LookUp.{HasValues, IsTile};
 ghost use Rattle.catalog.specs.Valid.{IsValid};

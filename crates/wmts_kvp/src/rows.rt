@@ -1,3 +1,4 @@
+//! The parameters of a query, each read by a function of its own.
 ghost use Rattle.std.specs.Prelude.{◌≡◌, ◌<◌, ℕ, true, Contains, IfOk, IfSome, IsSomeAnd, length, slice_get};
 ghost use Rattle.std.specs.Str.Parse.{digits_value};
 ghost use Rattle.catalog.specs.LookUp.{layer_named, matrix_named, served_grid_named};

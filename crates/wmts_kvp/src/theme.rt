@@ -1,3 +1,4 @@
+//! The theme of a query, with the values of its layer's dimensions.
 ghost use Rattle.std.specs.Prelude.{◌≡◌, ◌<◌, IfOk, IsSome, length};
 ghost use Rattle.catalog.specs.LookUp.{HasValues, dimension_at, dimensions_of};
 ghost use Rattle.catalog.specs.Valid.{IsValid};

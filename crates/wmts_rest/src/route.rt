@@ -1,3 +1,5 @@
+//! What a path of the RESTful interface may lead to.
+
 /// What a path is routed to.
 #[derive(Clone, Copy, Debug, PartialEq, Eq)]
 pub enum Route {

@@ -1,3 +1,4 @@
+//! The texts of a tile's path as pairs of names and values, so that a path is read as the query that it stands for.
 ghost use Rattle.std.specs.Prelude.{◌≡◌, ◌∷◌, ◌<◌, ◌≤◌, IfOk, IfSome, codes, length, map};
 ghost use Rattle.catalog.specs.Valid.{IsValid};
 ghost use Rattle.wmts_kvp.specs.Reading.{IsOfCatalogue};

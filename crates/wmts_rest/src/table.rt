@@ -1,3 +1,4 @@
+//! The table of routes, and the reading of a path by it.
 ghost use Rattle.std.specs.Prelude.{◌≡◌, IfOk, IfSome, map};
 ghost use Rattle.std.specs.Option.{option_and_then};
 ghost use Rattle.catalog.specs.Valid.{IsValid};

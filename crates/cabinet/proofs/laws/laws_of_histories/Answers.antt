@@ -4,7 +4,9 @@ use Rattle.cabinet.specs.Fresh.{cuts_of}
 use Rattle.cabinet.proofs.Fresher.{kept_fresh, still_fresh}
 use Rattle.cabinet.proofs.Holding.{holds_of}
 use Rattle.cabinet.proofs.Lists.{all_contained}
-use Rattle.cabinet.proofs.Numbers.{differ_is, render_is, running_is, ticket_is}
+use Rattle.cabinet.proofs.Numbers.{differ_is, render_is, running_is, runs_is, ticket_is}
+use Rattle.cabinet.proofs.Disjoint.{regions_are}
+use Rattle.cabinet.proofs.Once.{once}
 use Rattle.cabinet.proofs.Sentences.{kept_is}
 use Rattle.cabinet.proofs.laws.laws_of_histories.Goals as goal
 
@@ -14,9 +16,12 @@ returns c = record {
   render_is = render_is;
   ticket_is = ticket_is;
   running_is = running_is;
+  runs = runs_is;
   fresh = kept_fresh;
   later = still_fresh;
   holds = holds_of;
   answers = λ c e h cut may has. all_contained (AnswersFor (standing c (nothing e) h).book) (cuts_of h) cut (holds_of c e h may).answers has;
   differ = differ_is;
+  once = once;
+  regions = regions_are;
 }

@@ -1,4 +1,4 @@
-use Rattle.std.proofs.Common.{rules, arith, ◌≡◌, true, false, ℕ, List, length, ap, Err}
+use Rattle.std.proofs.Common.{arith, ◌≡◌, true, false, ℕ, List, length, ap, Err}
 use Rattle.std.proofs.lemmas.Result.{err_from_is_err_and}
 use Rattle.http_wire.proofs.TakesOn.{takes_same, takes_more, handed_on}
 use Rattle.http_wire.proofs.Searched.{still_blank, first_piece, next_piece, line_found, ended_behind, ended_before, failed_behind, failed_before}
@@ -64,7 +64,7 @@ blank_front-blank-requires-in-line-clause-blank g c =
 
 pub line-init : goal.line-init
 line-init g c =
-    let at : c.len-seen.result ≡ length c.args.held.now.items = search rules in
+    let at : c.len-seen.result ≡ length c.args.held.now.items = omega (arith, c.len-seen.ensures, c.args.held.now.ok.0) in
     record {
       takes = takes_same true c.in_ok-take_more.ensures.takes;
       searched = first_piece _ _ _ _ _ _ _ c.if-not-branch.false c.in_ok-take_more.ensures.brings at c.as_slice-2.ensures.value c.blank_front-blank-2.ensures.within c.blank_front-blank-2.ensures.blank;
@@ -72,8 +72,8 @@ line-init g c =
 
 pub line-preserved : goal.line-preserved
 line-preserved g c =
-    let at : c.len-seen-in-line.result ≡ length c.line.held.items = search rules in
+    let at : c.len-seen-in-line.result ≡ length c.line.held.items = omega (arith, c.len-seen-in-line.ensures, c.line.held.ok.0) in
     record {
       takes = takes_same true (takes_more _ c.line.invariant.takes c.in_ok-take_more-2.ensures.takes);
-      searched = next_piece _ c.line.held.items _ _ _ _ _ _ _ _ _ c.line.invariant.searched c.as_slice-in-line.ensures.value (c.may_end_head.ensures c.if-not-may_end_head.true) c.if-not-branch-2.false c.in_ok-take_more-2.ensures.brings at c.as_slice-in-line-2.ensures.value c.blank_front-blank-in-line.ensures.grows c.blank_front-blank-in-line.ensures.within c.blank_front-blank-in-line.ensures.blank;
+      searched = next_piece c.args.held.now.items c.line.held.items c.take_more-in-line.new.held.items c.as_slice-in-line.result.now c.as_slice-in-line-2.result.now _ c.in_ok-take_more-2.field-0 c.line.seen c.line.blank c.blank_front-blank-in-line.result c.len-seen-in-line.result c.line.invariant.searched c.as_slice-in-line.ensures.value (c.may_end_head.ensures c.if-not-may_end_head.true) c.if-not-branch-2.false c.in_ok-take_more-2.ensures.brings at c.as_slice-in-line-2.ensures.value c.blank_front-blank-in-line.ensures.grows c.blank_front-blank-in-line.ensures.within c.blank_front-blank-in-line.ensures.blank;
     }

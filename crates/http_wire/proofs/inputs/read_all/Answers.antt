@@ -1,7 +1,6 @@
-use Rattle.std.proofs.Common.{arith, ◌≡◌, ◌+◌, ◌<◌, ◌≤◌, ◌++◌, ◌∙◌, refl, sym, ap, subst, length, List, ℕ, take}
+use Rattle.std.proofs.Common.{arith, ◌+◌, ◌≤◌, ◌++◌, ◌∙◌, refl, sym, ap, subst, length, List, ℕ, take}
 use Rattle.std.specs.Io.KnownBytes.{Consumes}
 use Rattle.std.proofs.KnownBytes.{Consumes-nil, Consumes-kept}
-use Rattle.causes.specs.Causes.{Rose}
 use Rattle.http_wire.proofs.TakesOn.{rose_before}
 use Rattle.http_wire.proofs.InputEnds.{not_end, fault_not_long, fault_not_memory, long_not_fault, long_not_memory, memory_not_fault, memory_not_long, read_whole, read_more, appended}
 use Rattle.http_wire.proofs.inputs.read_all.Goals as goal

@@ -10,7 +10,7 @@ use Rattle.cabinet.specs.declared.replies.Forced.TheVariants as forced
 use Rattle.cabinet.specs.Commands.{IsHit}
 use Rattle.cabinet.specs.Fresh.{IsFresh}
 use Rattle.cabinet.specs.History.{is_of}
-use Rattle.cabinet.specs.State.{IsKnown, IsSound, State, now}
+use Rattle.cabinet.specs.State.{IsKnown, IsSound, State}
 use Rattle.cabinet.proofs.Answered.{found_long, found_text, hit_row, kept_of_some, miss_row}
 use Rattle.cabinet.proofs.Counting.{counted_used, held_kept}
 use Rattle.cabinet.proofs.Consistent.{after_used}

@@ -1,4 +1,4 @@
-use Rattle.std.proofs.Common.{ℕ, ◌≡◌, ◌+◌, ◌++◌, ◌∷◌, [], not, List, Some, None, map, filter, find, length, refl, ap, sym, subst, ◌∙◌, arith}
+use Rattle.std.proofs.Common.{ℕ, ◌≡◌, ◌++◌, ◌∷◌, [], not, List, Some, None, map, filter, find, length, refl, ap, sym, subst, ◌∙◌, arith}
 use Rattle.metatile_locks.specs.Running.{render_of, unmarked, without}
 use Rattle.metatile_plan.specs.declared.metatile.MetaKey.{MetaKey}
 use Rattle.quota_ledger.specs.Accounts.{added}

@@ -1,0 +1,15 @@
+//! What the bytes of a rendering have no part in.
+ghost use Rattle.std.specs.Prelude.{length, ℕ, ◌≡◌};
+ghost use Rattle.cabinet.specs.State.{State};
+ghost use Rattle.catalog.specs.declared.catalogue.Catalogue.{Catalogue};
+ghost use Rattle.metatile_locks.specs.Tickets.{Ticketed};
+ghost use Rattle.metatile_plan.specs.declared.metatile.MetaKey.{MetaKey};
+ghost use Rattle.raster_field.specs.Blocks.{blob_size};
+ghost use Rattle.cache_core.specs.Steps.{blob_of, finished};
+
+/// A blob has its metatile's length, and what the finish of a render adds to the history is the same, whatever bytes were
+/// rendered.
+pub fn laws_of_finishes()
+    ensures size { (c : Catalogue) (m : MetaKey) (bytes : ℕ → ℕ) → length (blob_of c m bytes) ≡ blob_size c m }
+    ensures alike { (s : State) (t : Ticketed) (bytes : ℕ → ℕ) (others : ℕ → ℕ) → (finished s t (blob_of s.catalogue t.meta bytes)).history ≡ (finished s t (blob_of s.catalogue t.meta others)).history }
+{}
