@@ -1,4 +1,4 @@
-//! How a part of a blob, as the text of a tile, is read from a disk.
+//! How a part of a blob, as an encoded tile, is read from a disk.
 ghost use Rattle.std.specs.Prelude.{◌≡◌, ◌≤◌, ◌<◌, ◌+◌, ◌^◌, ℕ, List, IsTrue, length, take, drop, OnOk};
 ghost use Rattle.causes.specs.Causes.{HasCause};
 ghost use Rattle.disk_model.specs.Content.{bytes_at, Same};

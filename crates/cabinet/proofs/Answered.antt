@@ -109,7 +109,7 @@ module _ (s : State) (last room : ℕ) (renders : List Render) (book : Book) (sp
       let block : m ≡ block_of v.catalogue a = is ∙ ap (λ (x : State). block_of x.catalogue a) e in
       (subst (λ (x : State). kept_of (block_of x.catalogue a) (now x) ≡ None) e unkept, subst (λ (x : MetaKey). Forces v x told t) block (subst (λ (x : Forced). Forces v m x t) same forces))
 
-  -- what is found has its length, and in a sound cabinet is the metatile's text
+  -- what is found has its length, and in a sound cabinet is the metatile's blob
   pub found_long : (m : MetaKey) (b : KeptBlob) → find (λ x. is_of m x.kept) s.blobs ≡ Some b → (length b.text ≡ blob_size s.catalogue m)
   found_long m b e =
       let f = found (λ (x : KeptBlob). is_of m x.kept) (λ x. (length x.text ≡ x.kept.length) × (x.kept.length ≡ blob_size s.catalogue x.kept.meta)) s.blobs b k.known.lengths e in

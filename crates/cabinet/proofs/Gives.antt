@@ -31,7 +31,7 @@ filter-append p (x ∷ xs) ys = chosen (p x) (filter-append p xs ys)
 pub giving_start : (keep : Kept → Bool) (front : List Kept) (blobs : List KeptBlob) (e : Space) → e.parts ≡ regions (front ++ map (λ b. b.kept) blobs) → LieInOrder 0 e.parts e.size → IsGiving keep front blobs 0 e e
 giving_start keep front blobs e is sound = record { parts = rw (append-nil front) is; size = refl; spare = omega arith; sound = sound }
 
--- the next one, and those before and behind it
+-- the next one, and those before and after it
 module _ (keep : Kept → Bool) (front : List Kept) (blobs : List KeptBlob) (i : ℕ) (d : KeptBlob) (l : i < length blobs) where
   pub before_is : still keep front blobs i ≡ (front ++ filter keep (map (λ b. b.kept) (take i blobs))) ++ (get_or blobs i d).kept ∷ map (λ b. b.kept) (drop (i + 1) blobs)
   before_is = ap (λ (xs : List KeptBlob). front ++ filter keep (map (λ b. b.kept) (take i blobs)) ++ map (λ b. b.kept) xs) (drop_more blobs i d l)

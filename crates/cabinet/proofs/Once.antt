@@ -25,7 +25,7 @@ pub apart_of_map : {X Y Z : Type 0} (f : X → Y) (h : Y → Z) (xs : List X) �
 apart_of_map f h [] a = tt
 apart_of_map f h (x ∷ xs) a = (all_of_map f (λ y. h (f x) ≢ h y) xs a.0, apart_of_map f h xs a.1)
 
--- one of them differs from those before and behind it
+-- one of them differs from those before and after it
 pub apart_around : {X Y : Type 0} (f : X → Y) (xs : List X) (x : X) (ys : List X) → ApartBy f (xs ++ x ∷ ys) → AllByRecursion (λ y. f x ≢ f y) xs × AllByRecursion (λ y. f x ≢ f y) ys
 apart_around f [] x ys a = (tt, a.0)
 apart_around f (z ∷ zs) x ys a =
@@ -63,7 +63,7 @@ once c opening h = once_run c (nothing opening) h tt
 
 -- THE OTHERS OF ONE
 
--- what is kept of a metatile stands once among what is kept, and the others are those before and behind it
+-- what is kept of a metatile stands once among what is kept, and the others are those before and after it
 pub record IsOneOf (m : MetaKey) (t : Kept) (kept : List Kept) : Type 0 where
   pub before : List Kept
   pub behind : List Kept

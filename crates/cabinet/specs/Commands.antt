@@ -119,7 +119,7 @@ Expires s expired.Within new = (scope_exceeded s ≡ None) × (new ≡ s)
 
 -- WHAT REPLIES PROMISE
 
--- the bytes of a hit are the text of the tile
+-- the bytes of a hit are the encoded tile
 abbrev pub IsTrueHit : Catalogue → Address → Asked → Type 0
 IsTrueHit c a (asked.Hit k bytes) = bytes.items ≡ tile_text c k a
 IsTrueHit c a (asked.Ticket t) = ⊤

@@ -4,7 +4,7 @@ use metatile_plan::metatile::MetaKey;
 
 /// What an ask is answered.
 pub enum Asked {
-    /// The metatile of the tile is kept: the number of its render, and the text of the tile.
+    /// The metatile of the tile is kept: the number of its render, and the encoded tile.
     Hit(u64, Vec<u8>),
     /// The caller is to render the metatile, and then to finish or abandon it.
     Ticket(Ticket),

@@ -1,4 +1,4 @@
--- What a true actor answers is the text of the tile, and a cabinet stays sound where no blob is kept.
+-- What a true actor answers is the encoded tile, and a cabinet stays sound where no blob is kept.
 use Rattle.std.proofs.Common.{◌≡◌, ℕ, List, inl, inr, refl, sym, ◌∙◌, ap, subst}
 use Rattle.cabinet.specs.Commands.{Abandons}
 use Rattle.cabinet.specs.State.{State, IsSound}

@@ -46,7 +46,7 @@ IsTrueActor c (Holding t a) = ⊤
 IsTrueActor c (Rendered t blob tile) = blob ≡ block_text c t.number t.meta
 IsTrueActor c (Failed t) = ⊤
 
--- the tile has the text of its number
+-- the bytes are the encoded tile of its number
 abbrev pub IsTrueOutcome : Catalogue → Address → Option Outcome → Type 0
 IsTrueOutcome c a None = ⊤
 IsTrueOutcome c a (Some (outcome.Tile tile)) = tile.bytes ≡ tile_text c tile.number a

@@ -1,7 +1,7 @@
 //! The outcomes of a request for a tile.
 use exact_ratio::words::Words;
 
-/// A tile that is answered: whether a kept metatile gave it, the number of its render, and its text.
+/// A tile that is answered: whether a kept metatile gave it, the number of its render, and the encoded tile.
 #[derive(Drop)]
 pub struct Tile {
     pub hit: bool,

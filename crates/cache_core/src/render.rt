@@ -36,7 +36,7 @@ impl From<AllocError> for RenderFault {
     }
 }
 
-/// The picture of a ticket's number on the window of its metatile, where the source tells.
+/// The picture of a ticket's number on the window of its metatile, where the source is modelled.
 fn picture_of<S: Source>(
     alloc: Global,
     catalogue: &Catalogue,
@@ -59,7 +59,7 @@ fn picture_of<S: Source>(
     }
 }
 
-/// The blob of a ticket's metatile, in the picture of the ticket's number where the source tells.
+/// The blob of a ticket's metatile, in the picture of the ticket's number where the source is modelled.
 pub fn blob_of<S: Source>(
     alloc: Global,
     catalogue: &Catalogue,
@@ -79,7 +79,7 @@ pub fn blob_of<S: Source>(
     Ok(Words::of(blob))
 }
 
-/// A copy of the text of a tile in a blob of its metatile. `AllocError` where memory runs out.
+/// A copy of an encoded tile in a blob of its metatile. `AllocError` where memory runs out.
 pub fn tile_in(
     alloc: Global,
     catalogue: &Catalogue,

@@ -64,8 +64,8 @@ fn kept(alloc: Global, cabinet: &mut Cabinet) -> Result<Finished, AllocError>
     }
 }
 
-/// Asks for the corner: whether it is a hit with the text that was handed in, and the number of its render, which is given
-/// up where it is none.
+/// Asks for the corner: whether it is a hit with the bytes that were handed in, and the number of its render, which is
+/// given up where it is none.
 fn asked(alloc: Global, cabinet: &mut Cabinet) -> Result<(bool, u64), AllocError>
     requires { cabinet.old.catalogue ≡ demo }
     ensures { cabinet.new.catalogue ≡ demo }

@@ -1,4 +1,4 @@
--- What a disk tells: what a read gives, and which contents, its images, a crash may leave.
+-- What is modelled of a disk: what a read gives, and which contents, its images, a crash may leave.
 use Rattle.std.specs.Prelude.{◌≡◌, ◌⊎◌, ℕ, ◌≤◌, []}
 use Rattle.disk_model.specs.Content.{Content}
 
@@ -13,7 +13,7 @@ pub record DiskState : Type 1 where
   -- what a crash at some moment from that one on might have left, during a call or between two
   pub left_since : ℕ → Content → Type 0
 
--- what stands where nothing is told; no clause speaks of it
+-- what stands where nothing is modelled; no clause speaks of it
 abbrev pub silent : DiskState
 silent = record { seen = []; may_leave = λ c. ⊥; moment = 0; left_since = λ t c. ⊥ }
 

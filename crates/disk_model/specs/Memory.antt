@@ -1,4 +1,4 @@
--- What a disk in memory tells.
+-- What is modelled of a disk in memory.
 use Rattle.std.specs.Prelude.{◌≡◌, ◌⊎◌, ℕ, ◌-◌, ◌^◌, List, Bool, true, false, ◌||◌, ◌==◌, nat_lt, Result, Ok, Err}
 use Rattle.std.specs.List.{list_any}
 use Rattle.causes.specs.Causes.{risen}
@@ -32,7 +32,7 @@ calls_of disk = disk.log.calls.items
 pub record Script : Type 0 where
   -- these calls are to fail
   pub fail : List ℕ
-  -- and so is each behind this one
+  -- and so is each after this one
   pub stop : ℕ
   -- so many calls there were
   pub made : ℕ
@@ -52,7 +52,7 @@ new_script fail = record { fail = fail; stop = 2 ^ 64 - 1; made = 0; faults = 0;
 abbrev pub stopped : ℕ → Script → Script
 stopped calls s = record s { stop = risen s.made calls }
 
--- the next call is to fail: it is listed, or behind the stop
+-- the next call is to fail: it is listed, or after the stop
 abbrev pub is_failing : Script → Bool
 is_failing s = nat_lt s.stop (risen s.made 1) || list_any (λ n. n == risen s.made 1) s.fail
 

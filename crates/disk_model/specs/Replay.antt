@@ -1,4 +1,4 @@
--- A disk in memory keeps what it held at first and each call since. All that it tells follows from them.
+-- A disk in memory keeps what it held at first and each call since. All that is modelled of it follows from them.
 use Rattle.std.specs.Prelude.{◌≡◌, ℕ, ◌≤◌, List, [], ◌∷◌, length, take, Option, Some, None, Vec}
 use Rattle.std.specs.declared.alloc.Global.{Global}
 use Rattle.disk_model.specs.Content.{Content, written, resized, TornWrite, TornCut, Same}
@@ -36,7 +36,7 @@ ImagesAfter (call ∷ calls) seen images = ImagesAfter calls (seen_after_call ca
 abbrev pub Left : Content → List Call → Content → Type 0
 Left first calls = ImagesAfter calls first (Same first)
 
--- what the disk tells
+-- what is modelled of the disk
 abbrev pub state_after : Content → List Call → DiskState
 state_after first calls = record {
   seen = seen_after calls first;

@@ -10,13 +10,13 @@ pub struct Failed;
 
 /// A disk that holds one file of bytes. Places and lengths are in bytes, and stay below 2^62.
 ///
-/// Where it tells what it holds, each call says what a read gives afterwards and what a crash may leave, at the end of the
+/// Where it is modelled, each call says what a read gives afterwards and what a crash may leave, at the end of the
 /// call and at each moment within it.
 pub trait Disk: Drop {
-    /// Whether it tells what it holds. A real file doesn't.
+    /// Whether it is modelled. A real file isn't.
     ghost told: { Self → Bool };
 
-    /// What a read gives, and what a crash may leave. It means something where it is told.
+    /// What a read gives, and what a crash may leave. It means something where the disk is modelled.
     ghost state: { Self → DiskState };
 
     /// How often it has failed. The count stays at its last value.

@@ -1,4 +1,4 @@
-//! A disk over a real file. Its contracts tell nothing of the bytes that it holds: the system below it is trusted.
+//! A disk over a real file. The bytes that it holds aren't modelled: the system below it is trusted.
 ghost use Rattle.std.specs.Prelude.{◌≡◌, false};
 ghost use Rattle.std.proofs.lemmas.Bool.{false≢true};
 ghost use Rattle.causes.specs.Causes.{HasCause};
@@ -10,7 +10,7 @@ use std::fs::File;
 use std::io;
 use std::os::unix::fs::FileExt;
 
-/// A disk over a real file. It tells nothing of what it holds.
+/// A disk over a real file. What it holds isn't modelled.
 #[derive(Drop)]
 pub struct FileDisk {
     file: File,

@@ -4,7 +4,7 @@
 //! stay. After a sync that succeeds, a crash leaves exactly what a read gives. `specs/Images.antt` has the words in which
 //! the contracts of all crates above say what each moment of a call may leave.
 //! Promises: `MemoryDisk` is such a disk, and `crash` leaves one of its images; `write_through` changes nothing but its
-//! range, at every moment. `FileDisk`, over a real file, tells nothing of what it holds: it is trusted, and only tested.
+//! range, at every moment. `FileDisk`, over a real file, isn't modelled: it is trusted, and only tested.
 //! Stands on causes.
 #![tactic(auto)]
 

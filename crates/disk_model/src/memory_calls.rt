@@ -1,4 +1,4 @@
-//! The calls of a disk in memory. Those of a list fail, and so does each one behind a stop.
+//! The calls of a disk in memory. Those of a list fail, and so does each one after a stop.
 ghost use Rattle.std.specs.Prelude.{◌≡◌, ◌+◌, ◌≤◌, ◌^◌, [], length, true, is_ok, OnOk, OnErr};
 ghost use Rattle.causes.specs.Causes.{Rose, HasCause, risen};
 ghost use Rattle.disk_model.specs.Content.{bytes_at, written, resized, Same, TornCut, TornWrite};

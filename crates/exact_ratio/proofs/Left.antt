@@ -72,7 +72,7 @@ zero_whole text place h k digits =
       };
     }
 
--- it has the form where the digits behind the point come last
+-- it has the form where the digits after the point come last
 zero_part : (text : List ℕ) (point place : ℕ) → place ≤ length text → sign_len text < point → point < place → ((k : ℕ) → sign_len text ≤ k → k < point → IsAsciiDigit (get_or text k 0)) → get_or text point 0 ≡ 46 → ((k : ℕ) → point + 1 ≤ k → k < place → IsAsciiDigit (get_or text k 0)) → GoesOn text place
 zero_part text point place h some order whole is_point part =
     let sign = zero_sign text place h (omega arith) in

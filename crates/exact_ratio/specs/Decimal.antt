@@ -34,7 +34,7 @@ left_at text start = if digits_end text start == start then Some start else left
 
 -- THE NUMBER
 
--- the digits from this place on, which stand before the point, and those behind the point that stands at this place
+-- the digits from this place on, which stand before the point, and those after the point that stands at this place
 abbrev pub whole_digits : List ℕ → ℕ → List ℕ
 whole_digits text start = slice_range text start (digits_end text start)
 
@@ -48,7 +48,7 @@ signed negative n = if negative then neg_ℤ (pos n) else pos n
 pub record AreDigits (text : List ℕ) : Type 0 where
   pub at : (k : ℕ) → k < length text → (48 ≤ slice_index text k) × (slice_index text k ≤ 57)
 
--- at most 18 digits, of which at most 15 stand behind the point
+-- at most 18 digits, of which at most 15 stand after the point
 abbrev pub scaled_of : Bool → List ℕ → List ℕ → Result Scaled DecimalFault
 scaled_of negative whole part =
     if nat_lt 18 (length whole + length part) || nat_lt 15 (length part) then Err TooLong else

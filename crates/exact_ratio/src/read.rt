@@ -25,7 +25,7 @@ fn digits_end(text: &[u8], from: usize) -> usize
     text.len()
 }
 
-/// The number that digits write behind the `before` digits of another one.
+/// The number that digits write after the `before` digits of another one.
 fn number_after(number: u64, before: usize, digits: &[u8]) -> u64
     requires small { number < 10 ^ before }
     requires few { before + length digits.now ≤ 18 }
@@ -49,7 +49,7 @@ fn signed(negative: bool, number: u64) -> i128
     if negative { -units } else { units }
 }
 
-/// The decimal number of a sign, the digits before the point and those behind it.
+/// The decimal number of a sign, the digits before the point and those after it.
 fn scaled(negative: bool, whole: &[u8], part: &[u8]) -> Result<Decimal, DecimalFault>
     requires whole { AreDigits whole.now }
     requires part { AreDigits part.now }
@@ -72,7 +72,7 @@ fn is_negative(text: &[u8]) -> bool
     !text.is_empty() && text[0] == b'-'
 }
 
-/// The decimal number behind a sign, which ends at the place `start`.
+/// The decimal number after a sign, which ends at the place `start`.
 fn read_behind_sign(text: &[u8], start: usize, negative: bool) -> Result<Decimal, DecimalFault>
     requires start { start ≡ sign_len text.now }
     requires some { start < length text.now }
@@ -103,7 +103,7 @@ fn read_behind_sign(text: &[u8], start: usize, negative: bool) -> Result<Decimal
 
 impl Decimal {
     /// The decimal number that a text is: an optional `-`, digits, and optionally a point and digits; up to 18 digits, of
-    /// which up to 15 stand behind the point. `Empty` where no byte stands behind the sign; `NotADigit` with the first
+    /// which up to 15 stand after the point. `Empty` where no byte stands after the sign; `NotADigit` with the first
     /// place at which this form is left; `TooLong` where the form is met with more digits.
     #[tactic(auto, unfolding(crate::specs::Decimal::decimal_of))]
     pub fn read(text: &[u8]) -> Result<Decimal, DecimalFault>

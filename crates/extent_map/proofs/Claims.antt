@@ -11,7 +11,7 @@ use Rattle.extent_map.specs.Holes.{first_start, last_end, IsHole}
 use Rattle.extent_map.proofs.Order.{front, back, later, last_end_push, removed, inserted_is}
 use Rattle.extent_map.proofs.Search.{ahead_of}
 
--- BEFORE AND BEHIND AN INDEX
+-- BEFORE AND AFTER AN INDEX
 
 pub within_take : (P : Part → Type 0) (xs : List Part) (index : ℕ) → AllWithin P xs 0 index → All P (take index xs)
 within_take P xs index h = λ k d l.

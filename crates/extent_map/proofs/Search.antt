@@ -87,7 +87,7 @@ reached_before taken size bytes index place d l r fits =
     let start = ap (λ (ps : List Part). first_start ps size) (drop_more taken index d l) in
     reached_hole taken size bytes index place r (subst (λ high. place + bytes ≤ high) (sym start) fits)
 
--- behind all parts
+-- after all parts
 pub reached_last : (taken : List Part) (size bytes index place : ℕ) → length taken ≤ index → IsReached taken size bytes index place → place + bytes ≤ size → IsHole taken size index (part_at place bytes)
 reached_last taken size bytes index place l r fits =
     let start = ap (λ (ps : List Part). first_start ps size) (drop_all index taken l) in

@@ -14,13 +14,13 @@ abbrev pub first_start : List Part → ℕ → ℕ
 first_start [] size = size
 first_start (p ∷ ps) size = p.place
 
--- the part fits behind the first so many of the taken parts and before the others
+-- the part fits after the first so many of the taken parts and before the others
 pub record IsHole (taken : List Part) (size index : ℕ) (p : Part) : Type 0 where
   pub within : index ≤ length taken
   pub behind : LieInOrder 0 (take index taken) p.place
   pub ahead : LieInOrder (end_of p) (drop index taken) size
 
--- the search for so many bytes has come behind the first so many of the taken parts, to this place
+-- the search for so many bytes has come after the first so many of the taken parts, to this place
 pub record IsReached (taken : List Part) (size bytes index place : ℕ) : Type 0 where
   pub within : index ≤ length taken
   pub behind : LieInOrder 0 (take index taken) place

@@ -6,7 +6,7 @@ use Rattle.extent_map.specs.declared.part.Part.{Part}
 abbrev pub part_at : ℕ → ℕ → Part
 part_at place bytes = record { place = place; length = bytes }
 
--- the place behind its last byte
+-- the place after its last byte
 abbrev pub end_of : Part → ℕ
 end_of p = p.place + p.length
 
@@ -14,12 +14,12 @@ end_of p = p.place + p.length
 abbrev pub AreApart : Part → Part → Type 0
 AreApart p q = (end_of p ≤ q.place) ⊎ (end_of q ≤ p.place)
 
--- the parts lie one behind the other between two places, and each has at least one byte
+-- the parts lie one after the other between two places, and each has at least one byte
 abbrev pub LieInOrder : ℕ → List Part → ℕ → Type 0
 LieInOrder low [] high = low ≤ high
 LieInOrder low (p ∷ ps) high = (low ≤ p.place) × (1 ≤ p.length) × LieInOrder (end_of p) ps high
 
--- the parts with one more, before the first that starts behind it
+-- the parts with one more, before the first that starts after it
 abbrev pub inserted : Part → List Part → List Part
 inserted p [] = p ∷ []
 inserted p (q ∷ qs) = if nat_lt p.place q.place then p ∷ q ∷ qs else q ∷ inserted p qs

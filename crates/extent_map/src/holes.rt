@@ -60,7 +60,7 @@ fn end_before(parts: &[Part], size: u64, index: usize) -> u64
     last.place + u64::from(last.length)
 }
 
-/// Where the first part behind so many starts; the size where there is none.
+/// Where the first part after so many starts; the size where there is none.
 fn start_behind(parts: &[Part], size: u64, index: usize) -> u64
     ensures { result ≡ first_start (drop index parts.now) size }
 {

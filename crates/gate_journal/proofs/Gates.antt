@@ -13,7 +13,7 @@ is_one n is = grind (arith, nat_tests)
 pub not_one : (n : ℕ) → n ≢ 1 → (n == 1) ≡ false
 not_one n is = grind (arith, nat_tests)
 
--- the first slot's gate, and those of the slots behind it
+-- the first slot's gate, and those of the slots after it
 pub first_gate : (c : Content) (at : ℕ) → byte_at c (at + 64 * 0 + 63) ≡ byte_at c (at + 63)
 first_gate c at = let e : at + 64 * 0 + 63 ≡ at + 63 = omega arith in ap (byte_at c) e
 

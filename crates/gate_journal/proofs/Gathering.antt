@@ -16,7 +16,7 @@ not_all_closed c at (suc n) (suc k) lt held = elim (cases_eq (byte_at c (at + 63
   | inr first ↦ rw (not_one (byte_at c (at + 63)) first) (not_all_closed c (at + 64) n k (omega arith) (sym (next_gate c at k) ∙ held))
 ]
 
--- an open gate behind a closed one
+-- an open gate after a closed one
 out_of_order : (c : Content) (at n m k : ℕ) → m < k → k < n → byte_at c (at + 64 * m + 63) ≢ 1 → byte_at c (at + 64 * k + 63) ≡ 1 → in_order c at n ≡ false
 out_of_order c at zero m k lt within shut held = absurd (omega arith)
 out_of_order c at (suc n) m zero lt within shut held = absurd (omega arith)
@@ -35,7 +35,7 @@ pub none_read : (c : Content) (start : ℕ) → HasRead c start 0 []
 none_read c start = record { fits = omega arith; opens = λ k lt. absurd (omega arith); shut = λ k lo hi. absurd (omega arith); bodies_are = refl }
 
 module _ (c : Content) (start k : ℕ) (bodies : List (List ℕ)) (read : HasRead c start k bodies) where
-  -- one slot more, behind a closed gate
+  -- one slot more, after a closed gate
   pub more_shut : byte_at c (start + 64 * k + 63) ≢ 1 → HasRead c start (k + 1) bodies
   more_shut not = record {
     fits = let fits = read.fits in omega arith;
@@ -47,7 +47,7 @@ module _ (c : Content) (start k : ℕ) (bodies : List (List ℕ)) (read : HasRea
     bodies_are = read.bodies_are;
   }
 
-  -- one slot more, behind an open gate
+  -- one slot more, after an open gate
   pub more_open : (body : List ℕ) → length bodies ≡ k → byte_at c (start + 64 * k + 63) ≡ 1 → bytes_at c (start + 64 * k) 63 ≡ body → HasRead c start (k + 1) (bodies ++ body ∷ [])
   more_open body size held is =
       let longer : length (bodies ++ body ∷ []) ≡ k + 1 = omega (arith, length-append bodies (body ∷ []), size) in
@@ -64,7 +64,7 @@ module _ (c : Content) (start k : ℕ) (bodies : List (List ℕ)) (read : HasRea
       same : bodies_at c start k ≡ bodies
       same = ap (bodies_at c start) (sym size) ∙ read.bodies_are
 
-  -- an open gate behind a closed one
+  -- an open gate after a closed one
   pub found_disorder : length bodies < k → byte_at c (start + 64 * k + 63) ≡ 1 → IsDisordered c start (k + 1)
   found_disorder fewer held = record {
     closed = length bodies;

@@ -27,7 +27,7 @@ pub record HasRead (c : Content) (start slots : ℕ) (bodies : List (List ℕ)) 
   pub shut : (k : ℕ) → length bodies ≤ k → k < slots → byte_at c (start + 64 * k + 63) ≢ 1
   pub bodies_are : bodies_at c start (length bodies) ≡ bodies
 
--- of the first slots of a half an open gate stands behind a closed one
+-- of the first slots of a half an open gate stands after a closed one
 pub record IsDisordered (c : Content) (start slots : ℕ) : Type 0 where
   pub closed : ℕ
   pub behind : ℕ
@@ -36,7 +36,7 @@ pub record IsDisordered (c : Content) (start slots : ℕ) : Type 0 where
   pub shut : byte_at c (start + 64 * closed + 63) ≢ 1
   pub opens : byte_at c (start + 64 * behind + 63) ≡ 1
 
--- the answer to an opening is what the disk opens to, but for a fault of the disk and want of memory
+-- the answer to an opening is what the disk opens to, but for a fault of the disk and where memory runs out
 abbrev pub OpensAs : List ℕ → ℕ → Content → Result Opened OpenFault → Type 0
 OpensAs digest slots c (Ok o) = (opened digest slots c ≡ records o.bodies.items) × (kept o.journal c ≡ o.bodies.items)
 OpensAs digest slots c (Err NotACache) = opened digest slots c ≡ no_cache
@@ -66,7 +66,7 @@ Chooses digest c (Err Spent) = ⊥
 Chooses digest c (Err DiskFault) = ⊤
 Chooses digest c (Err OutOfMemory) = ⊤
 
--- reading fails by the disk or for want of memory alone
+-- reading fails only by the disk or where memory runs out
 pub record HasReadCause {T : Type 0} (before now : ℕ) (result : Result T OpenFault) : Type 0 where
   pub later : before ≤ now
   pub failed : IfErr result (IsReadCause before now)

@@ -8,7 +8,7 @@ use std::alloc::{AllocError, AllocFailed};
 /// Why a cache isn't opened.
 #[derive(Clone, Copy, Debug, PartialEq, Eq, Drop)]
 pub enum OpenFault {
-    /// No header counts, or an open gate stands behind a closed one.
+    /// No header counts, or an open gate stands after a closed one.
     NotACache,
     /// The digest that the cache was made with, and the one that was asked for.
     CatalogueDiffers([u8; 32], [u8; 32]),

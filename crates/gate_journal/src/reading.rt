@@ -81,7 +81,7 @@ fn body_of(slot: &[u8]) -> [u8; 63]
     body
 }
 
-/// Adds the bodies of some slots, which stand after `before` others. False where an open gate stands behind a closed one.
+/// Adds the bodies of some slots, which stand after `before` others. False where an open gate stands after a closed one.
 fn gather(
     slots: &[u8],
     count: u64,
@@ -108,7 +108,7 @@ fn gather(
     Ok(true)
 }
 
-/// Reads some slots, and adds their bodies. False where an open gate stands behind a closed one.
+/// Reads some slots, and adds their bodies. False where an open gate stands after a closed one.
 fn read_some<D: Disk>(
     disk: &mut D,
     buffer: &mut [u8],
@@ -135,7 +135,7 @@ fn read_some<D: Disk>(
 /// How many slots are read at a time.
 const AT_ONCE: u64 = 1024;
 
-/// The records of a half, or `None` where an open gate stands behind a closed one.
+/// The records of a half, or `None` where an open gate stands after a closed one.
 pub(crate) fn read_records<D: Disk>(
     alloc: Global,
     disk: &mut D,

@@ -49,7 +49,7 @@ handed_fault {held = held} {new} {left} {after} {faults} {now} {beside} {still} 
     let e : result ≡ Err fault = is ∙ ap (λ (f : WireFault). Err f) same in
     subst (Fetches held new left after faults now beside still) (sym e) (fault_fetched fault takes (λ _. waits))
 
--- want of memory behind takes that went well, whatever is held then
+-- out of memory after takes that went well, whatever is held then
 pub no_memory : {T : Type 0} {held new last : List ℕ} {left after : Option (List ℕ)} {faults now : ℕ} {beside still : Side} {value : T} → Takes held new left after faults now beside still (Ok value) → Fetches held last left after faults now beside still (Err OutOfMemory)
 no_memory {new = new} takes =
     record {

@@ -45,7 +45,7 @@ read_more start left after text chunk count limit read piece bound room =
     let long : length (text ++ take count chunk) ≡ length text + count = length-append text (take count chunk) ∙ ap (λ n. length text + n) (length-take-le count chunk bound) in
     (Consumes-trans start left after text (take count chunk) read piece, omega (arith, long, bound, room), long)
 
--- the piece stands behind the text
+-- the piece stands after the text
 pub appended : {T E : Type 0} (result : Result T E) (failed : Bool) (text bytes new : List ℕ) → failed ≡ is_err result → failed ≡ false → new ≡ cond (is_ok result) (text ++ bytes) text → new ≡ text ++ bytes
 appended (Ok _) failed text bytes new is went e = e
 appended (Err _) failed text bytes new is went e = absurd (let f : true ≡ false = sym is ∙ went in cc)

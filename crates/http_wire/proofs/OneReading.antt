@@ -18,9 +18,9 @@ use Rattle.http_wire.specs.declared.message.Stop.TheVariants.{End, Truncated, Ba
 use Rattle.http_wire.proofs.HeadAtFront.{front_reads, no_head_none}
 use Rattle.http_wire.proofs.TooManyFields.{exceeds_overflows}
 
--- ---- what stands behind a head
+-- ---- what stands after a head
 
--- why no message stands behind a head, by the length that it says, whether it is coded, and how many bytes follow
+-- why no message stands after a head, by the length that it says, whether it is coded, and how many bytes follow
 abbrev verdict_of : Option ℕ → Bool → ℕ → Option Stop
 verdict_of None coded left = Some (Bad 400)
 verdict_of (Some size) coded left =

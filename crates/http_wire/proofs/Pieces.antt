@@ -9,7 +9,7 @@ copied_front left copied room count fits e =
     let long : length copied ≡ count = ap (λ (xs : List ℕ). length xs) e ∙ length-take-le count left fits in
     subst (λ (n : ℕ). take n (copied ++ room) ≡ take count left) long (take-append_seam copied room ∙ e)
 
--- the bytes from a place on are the piece that was copied, and those behind it
+-- the bytes from a place on are the piece that was copied, and those after it
 pub piece_at : (bytes left copied room : List ℕ) (at count : ℕ) → left ≡ drop at bytes → count ≤ length left → copied ≡ take count left
     → drop at bytes ≡ take count (copied ++ room) ++ drop (at + count) bytes
 piece_at bytes left copied room at count from fits e =

@@ -8,7 +8,7 @@ use Rattle.http_wire.specs.declared.message.WireFault.{WireFault}
 use Rattle.http_wire.proofs.NoHeadYet.{still_none, blank_more, quiet_so_far, quiet_more, extends_more}
 use Rattle.http_wire.proofs.Surplus.{none_now, none_before}
 
--- Behind the old bytes some were taken. Those up to `seen` were there before the last piece, and no line ends in them but
+-- After the old bytes some were taken. Those up to `seen` were there before the last piece, and no line ends in them but
 -- the empty ones at the front, which are known up to `blank`.
 pub record Searched (old held : List ℕ) (seen blank : ℕ) : Type 0 where
   pub grown : length old < length held
@@ -71,7 +71,7 @@ none_so_far : (old held looked : List ℕ) (seen blank : ℕ) → Searched old h
 none_so_far old held looked seen blank had look none before =
     still_none old held blank before had.extends had.is_blank (quiet_so_far blank (length old) seen held looked look had.quiet none)
 
--- the source ends behind a piece in which no head may end
+-- the source ends after a piece in which no head may end
 pub ended_behind : (old held new looked : List ℕ) (after : Option (List ℕ)) (more : Bool) (seen blank : ℕ) → Searched old held seen blank → looked ≡ held → HasNoLineEnd (max blank seen) (length looked) looked → more ≡ false → BringsPiece held new after (Ok more) → BringsLine old new after (Ok true)
 ended_behind old held new looked after more seen blank had look none went brings =
     let ended : BringsPiece held new after (Ok false) = subst (λ (b : Bool). BringsPiece held new after (Ok b)) went brings in
@@ -82,7 +82,7 @@ ended_behind old held new looked after more seen blank had look none went brings
 pub ended_before : (old new : List ℕ) (after : Option (List ℕ)) (more : Bool) → more ≡ false → BringsPiece old new after (Ok more) → BringsLine old new after (Ok false)
 ended_before old new after more went brings = subst (λ (b : Bool). BringsPiece old new after (Ok b)) went brings
 
--- a take fails behind a piece in which no head may end
+-- a take fails after a piece in which no head may end
 pub failed_behind : (old held new looked : List ℕ) (after : Option (List ℕ)) (seen blank : ℕ) (told : WireFault) (result : Result Bool WireFault) → Searched old held seen blank → looked ≡ held → HasNoLineEnd (max blank seen) (length looked) looked → new ≡ held → result ≡ Err told
     → BringsLine old new after result
 failed_behind old held new looked after seen blank told result had look none kept is =

@@ -1,4 +1,4 @@
--- One more answer of a reader: a message more of its stream, or the stop behind them.
+-- One more answer of a reader: a message more of its stream, or the stop after them.
 use Rattle.std.proofs.Common.{◌≡◌, ℕ, List, [], ◌∷◌, ◌++◌, Option, Some, None, IfSome, refl, sym, subst}
 use Rattle.http_wire.specs.Answers.{TakesMessage, AnswersNext, next_at}
 use Rattle.http_wire.specs.Messages.{IsNext, StopsAs}
@@ -35,7 +35,7 @@ stops_behind None b ms stop s is = tt
 stops_behind (Some x) None ms stop s is = absurd s
 stops_behind (Some x) (Some y) ms stop s is = (y, s, is)
 
--- messages, and a stop behind them, are a whole stream
+-- messages, and a stop after them, are a whole stream
 pub whole_stream : (a b c : Option (List ℕ)) (ms : List Message) (stop : Stop) → StandIn a ms b → AnswersNext b c (next_at stop) → IfSome a (λ bytes. Messages bytes ms stop)
 whole_stream a b c ms stop s answer = stops_behind a b ms stop s (stop_of_answer b c stop answer)
 

@@ -1,4 +1,4 @@
--- How few bytes are held behind a message: no head had stood in them before the last were taken.
+-- How few bytes are held after a message: no head had stood in them before the last were taken.
 use Rattle.std.proofs.Common.{◌≡◌, ℕ, ◌+◌, ◌-◌, ◌<◌, ◌≤◌, ◌⊎◌, true, max, min, List, ◌++◌, length, length-append, length-take, length-drop, take, drop, sym, ap, ◌∙◌, subst, arith, inl, inr, get_or-take, take-append-drop}
 use Rattle.std.proofs.Math.Seq.{take-append-add, take_all}
 use Rattle.httparse.specs.Grammar.{print_request, ReadsRequest, HasNoRequest}
@@ -38,7 +38,7 @@ none_before old held blank seen none more from few is quiet =
       none = still_none old (take seen held) (min blank seen) none (extends_seen old held seen more from) (blank_seen blank seen held is) (quiet_seen blank (length old) seen held quiet);
     }
 
--- BEHIND THE HEAD, AND BEHIND THE MESSAGE
+-- AFTER THE HEAD, AND AFTER THE MESSAGE
 
 -- the head ends in the bytes that were taken last
 head_is_late : (held : List ℕ) (o : Outline) → IsOutline held o → HadNoHead held → length held < o.start + 4096
@@ -55,7 +55,7 @@ head_is_late held o is had = elim_place (places o.start had.seen)
         let there = head_within (take had.seen held) (drop had.seen held) is.head (drop o.start held) (subst (λ (l : List ℕ). ReadsRequest l is.head (drop o.start held)) (sym (take-append-drop had.seen held)) is.begins.reads) short in
         absurd (had.none is.head there.0 there.1)
 
--- the rest behind the message is a part of one take
+-- the rest after the message is a part of one take
 pub part_of_take : (old held all rest : List ℕ) (o : Outline) → IsOutline held o → (held ≡ old) ⊎ HadNoHead held → length all ≤ max (length held) (o.start + o.size + 4095) → rest ≡ drop o.size (drop o.start all) → IsPartOfTake old → IsPartOfTake rest
 part_of_take old held all rest o is late few e part =
     let count : length rest ≡ length all - o.start - o.size = ap length e ∙ length-drop o.size (drop o.start all) ∙ ap (λ (n : ℕ). n - o.size) (length-drop o.start all) in

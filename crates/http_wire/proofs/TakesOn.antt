@@ -50,7 +50,7 @@ pub takes_none : {T : Type 0} (held : List ℕ) (left : Option (List ℕ)) (faul
 takes_none held left faults beside value =
     record { stream = Keeps-refl (prepend_known held left); leaves = tt; cause = no_fault value faults faults (omega arith); apart = refl }
 
--- one call behind another that went well
+-- one call after another that went well
 pub takes_more : {T U : Type 0} {held middle new : List ℕ} {left between after : Option (List ℕ)} {faults counted now : ℕ} {beside besides still : Side} {value : T} (result : Result U WireFault)
     → Takes held middle left between faults counted beside besides (Ok value) → Takes middle new between after counted now besides still result → Takes held new left after faults now beside still result
 takes_more {held = held} {middle} {new} {left} {between} {after} (Ok other) first then =
@@ -100,7 +100,7 @@ takes_fails held left after faults now beside still kept later rose apart =
       apart = apart;
     }
 
--- the piece stands behind the bytes that were held
+-- the piece stands after the bytes that were held
 pub takes_piece : {T : Type 0} (held new bytes : List ℕ) (left after : Option (List ℕ)) (faults now : ℕ) (beside still : Side) (value : T) → Consumes left after bytes → new ≡ held ++ bytes → faults ≤ now → still ≡ beside → Takes held new left after faults now beside still (Ok value)
 takes_piece held new bytes left after faults now beside still value taken e later apart =
     record {

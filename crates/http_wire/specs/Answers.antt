@@ -46,18 +46,18 @@ AnswersNext before after nexts.End = IfSome before (λ bytes. StopsAs bytes End)
 AnswersNext before after nexts.Truncated = IfSome before (λ bytes. StopsAs bytes Truncated)
 AnswersNext before after (nexts.Bad status) = IfSome before (λ bytes. StopsAs bytes (Bad status))
 
--- The answer is what the bytes before say, where they are told. A fault says nothing of them.
+-- The answer is what the bytes before say, where they are modelled. A fault says nothing of them.
 abbrev pub Answers : Option (List ℕ) → Option (List ℕ) → Result Next WireFault → Type 0
 Answers before after (Ok next) = AnswersNext before after next
 Answers before after (Err fault) = ⊤
 
--- WHAT STANDS BEHIND AN ANSWER
+-- WHAT STANDS AFTER AN ANSWER
 
 -- at a stop the bytes stay, and stop so
 abbrev pub StaysAt : Option (List ℕ) → Option (List ℕ) → Stop → Type 0
 StaysAt before after stop = Keeps before after × IfSome after (λ bytes. StopsAs bytes stop)
 
--- behind a message stands what TakesMessage says
+-- after a message stands what TakesMessage says
 abbrev pub LeavesNext : Option (List ℕ) → Option (List ℕ) → Next → Type 0
 LeavesNext before after (nexts.Message message) = ⊤
 LeavesNext before after nexts.End = StaysAt before after End

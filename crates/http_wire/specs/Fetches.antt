@@ -9,7 +9,7 @@ use Rattle.http_wire.specs.declared.message.Next.{Next}
 use Rattle.http_wire.specs.declared.message.WireFault.{WireFault}
 use Rattle.http_wire.specs.declared.message.WireFault.TheVariants.{ReadFault}
 
--- The answer is what stands next, and takes no byte out of the stream if it is no message; behind a message fewer bytes are
+-- The answer is what stands next, and takes no byte out of the stream if it is no message; after a message fewer bytes are
 -- held than one take may bring; a read fault has its cause in the source, and no whole message is held then; the other side
 -- of a link stays.
 pub record Fetches (held new : List ℕ) (left after : Option (List ℕ)) (faults now : ℕ) (beside still : Side) (result : Result Next WireFault) : Type 0 where

@@ -13,6 +13,6 @@ IsBlankUpTo n bytes = (k : ℕ) → k < n → is_line_byte (slice_index bytes k)
 abbrev pub HasNoLineEnd : ℕ → ℕ → List ℕ → Type 0
 HasNoLineEnd from to bytes = (k : ℕ) → from ≤ k → k < to → slice_index bytes k ≢ 10
 
--- the new bytes are the old ones and more behind them
+-- the new bytes are the old ones and more after them
 abbrev pub Extends : List ℕ → List ℕ → Type 0
 Extends old new = (more : List ℕ) × (new ≡ old ++ more)

@@ -40,7 +40,7 @@ abbrev pub Steps : List ℕ → List HeaderSpan → Option Found → Type 0
 Steps held headers None = MayHaveHead held
 Steps held headers (Some found) = Settles held headers found
 
--- what is settled for a stream, where it is told
+-- what is settled for a stream, where it is modelled
 abbrev pub SettlesStream : List ℕ → List HeaderSpan → Option (List ℕ) → Found → Type 0
 SettlesStream held headers stream (Head spans) = IsRequestOf (front held) headers spans × IsRequestWithin (front held) headers spans
 SettlesStream held headers stream (Stopped stop) = IfSome stream (λ bytes. StopsAs bytes stop)

@@ -18,7 +18,7 @@ pub record Intake : Type 0 where
   pub calls : ℕ
   pub faults : ℕ
 
--- the call behind so many is one of those that fail
+-- the call after so many is one of those that fail
 abbrev pub is_failing : ℕ → List ℕ → Bool
 is_failing calls fail = list_any (λ n. n == risen calls 1) fail
 
@@ -33,7 +33,7 @@ Supplies s t room (Ok n) =
 Supplies s t room (Err _) =
     (is_failing s.calls s.fail ≡ true) × (t ≡ record s { calls = risen s.calls 1; faults = risen s.faults 1 })
 
--- a call that is to fail fails, and any other takes all of the bytes, or fails for want of memory
+-- a call that is to fail fails, and any other takes all of the bytes, or fails out of memory
 abbrev pub TakesIn : {E : Type 0} → Intake → Intake → List ℕ → Result ℕ E → Type 0
 TakesIn s t bytes (Ok n) =
     (is_failing s.calls s.fail ≡ false) × (n ≡ length bytes) × (t ≡ record s { taken = s.taken ++ bytes; calls = risen s.calls 1 })

@@ -8,6 +8,6 @@ pub record Reading : Type 0 where
   pub held : List ℕ
   pub ended : Option Ended
 
--- the bytes from the next message on, where what is left is told
+-- the bytes from the next message on, where what is left is modelled
 abbrev pub stream : Reading → Option (List ℕ) → Option (List ℕ)
 stream reading left = prepend_known reading.held left

@@ -1,7 +1,7 @@
 -- one side of a link
 use Rattle.std.specs.Prelude.{ℕ, List, Option, None}
 
--- the bytes left or taken there, where they are told, and the count of its faults
+-- the bytes left or taken there, where they are modelled, and the count of its faults
 pub record Side : Type 0 where
   pub bytes : Option (List ℕ)
   pub faults : ℕ

@@ -13,7 +13,7 @@ Stand bytes (message ∷ messages) rest = (next : List ℕ) × IsNext bytes mess
 abbrev pub Messages : List ℕ → List Message → Stop → Type 0
 Messages bytes messages stop = (rest : List ℕ) × Stand bytes messages rest × StopsAs rest stop
 
--- Stand, where the bytes are told
+-- Stand, where the bytes are modelled
 abbrev pub StandIn : Option (List ℕ) → List Message → Option (List ℕ) → Type 0
 StandIn None messages after = ⊤
 StandIn (Some bytes) messages None = ⊥

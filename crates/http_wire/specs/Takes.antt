@@ -1,4 +1,4 @@
--- What a call comes to that takes bytes of a source, and puts them behind those that are held.
+-- What a call comes to that takes bytes of a source, and puts them after those that are held.
 use Rattle.std.specs.Prelude.{◌≡◌, ℕ, ◌+◌, ◌<◌, ◌≤◌, ◌⊎◌, max, List, length, Option, Bool, true, false, Result, Ok, Err, IfErr, OnOk}
 use Rattle.std.specs.Io.KnownBytes.{prepend_known, Keeps, IsAtEnd}
 use Rattle.httparse.specs.Grammar.{HasNoRequest}
@@ -40,7 +40,7 @@ abbrev pub FindsHead : List ℕ → List ℕ → Option (List ℕ) → List Head
 FindsHead held new after headers (Ok found) = SettlesStream new headers (prepend_known new after) found × ((new ≡ held) ⊎ HadNoHead new)
 FindsHead held new after headers (Err fault) = HasNoRequest new
 
--- bytes are taken behind those that are held, at most the take that brings the last that are needed
+-- bytes are taken after those that are held, at most the take that brings the last that are needed
 pub record Gains (need : ℕ) (held new : List ℕ) : Type 0 where
   pub extends : Extends held new
   pub few : length new ≤ max (length held) (need + 4095)

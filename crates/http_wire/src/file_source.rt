@@ -14,7 +14,7 @@ enum Found {
     Shut,
 }
 
-/// The bytes of a file. It tells no content.
+/// The bytes of a file. Its content isn't modelled.
 #[derive(Drop)]
 pub struct FileSource {
     found: Found,

@@ -13,7 +13,7 @@ use httparse::spans::HeaderSpan;
 /// How many bytes are taken at a time, at most.
 pub const TAKE_SIZE: usize = 4096;
 
-/// Takes more bytes behind those that are held; false at the end of the source.
+/// Takes more bytes after those that are held; false at the end of the source.
 fn take_more<S: ByteSource>(held: &mut Vec<u8>, source: &mut S) -> Result<bool, WireFault>
     ensures takes { Takes held.old.items held.new.items (S.left source.old) (S.left source.new) (S.faults source.old) (S.faults source.new) (S.apart source.old) (S.apart source.new) result }
     ensures brings { BringsPiece held.old.items held.new.items (S.left source.new) result }

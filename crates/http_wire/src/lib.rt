@@ -3,7 +3,7 @@
 //! Promises: `MessageReader::next` gives the next message of a link's stream, or how the stream stops, however the bytes
 //! are cut (`specs/Messages.antt`); `one_reading` says that a stream has one reading but for two stated exceptions; `send`
 //! sends all of its bytes or exactly the first so many; `read_all` reads a source to its end. Each fault has its cause in
-//! the count of the object handed in. A memory form tells what it holds, a form over the system tells nothing.
+//! the count of the object handed in. A form in memory is modelled, a form over the system isn't.
 //! Stands on causes and exact_ratio, and on `httparse` and `http` for heads and methods.
 #![tactic(auto)]
 

@@ -50,7 +50,7 @@ impl MessageReader {
         // How it has ended is kept, and answered again.
         ensures ends { self.old.ended ≡ None → self.new.ended ≡ ended_of result }
         ensures again { IfSome self.old.ended (λ ended. (result ≡ again_of ended) × (self.new ≡ self.old) × (link.new ≡ link.old)) }
-        // Of the bytes behind a message it holds fewer than one take may bring: once the message is whole it takes none.
+        // Of the bytes after a message it holds fewer than one take may bring: once the message is whole it takes none.
         ensures surplus { self.old.ended ≡ None → IsMessage result → IsPartOfTake self.old.held → IsPartOfTake self.new.held }
         // A whole message waits for no further byte: held before, it leaves the link untouched, and no fault comes before it.
         ensures untouched { self.old.ended ≡ None → HoldsMessage self.old.held → link.new ≡ link.old }

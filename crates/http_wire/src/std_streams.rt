@@ -4,7 +4,7 @@ ghost use Rattle.std.specs.Prelude.{◌≡◌, None};
 use crate::streams::{ByteSink, ByteSource, Failed};
 use std::io::{Read, Stdin, Stdout, Write};
 
-/// The process's standard input. It tells no content.
+/// The process's standard input. Its content isn't modelled.
 #[derive(Drop)]
 pub struct StdinSource {
     stdin: Stdin,
@@ -34,7 +34,7 @@ impl ByteSource for StdinSource {
     }
 }
 
-/// The process's standard output. It tells no content.
+/// The process's standard output. Its content isn't modelled.
 #[derive(Drop)]
 pub struct StdoutSink {
     stdout: Stdout,

@@ -11,7 +11,7 @@ pub struct Failed;
 
 /// Where bytes come from.
 pub trait ByteSource: Drop {
-    /// The bytes that are left, where it tells.
+    /// The bytes that are left, where they are modelled.
     ghost left: { Self → Option (List ℕ) };
 
     /// How often a take has failed.
@@ -32,7 +32,7 @@ pub trait ByteSource: Drop {
 
 /// Where bytes go.
 pub trait ByteSink: Drop {
-    /// The bytes that were taken so far, where it tells.
+    /// The bytes that were taken so far, where they are modelled.
     ghost taken: { Self → Option (List ℕ) };
 
     /// How often a put has failed.

@@ -28,7 +28,7 @@ fn edge_numerator(corner: i128, pixels: i128, n: i128, d: i128) -> i128
     corner * d + pixels * n * 1_000_000_000
 }
 
-/// The edge that lies so many pixels behind a corner in billionths of a unit.
+/// The edge that lies so many pixels past a corner in billionths of a unit.
 fn edge(corner: i64, pixels: i128, span: &Ratio) -> Ratio
     requires corner { unsigned_abs corner ≤ 10 ^ 17 }
     requires d_positive { pos 0 <ℤ span.now.d }
@@ -83,7 +83,7 @@ fn tiles_away(distance: i128, side: u32, span: &Ratio, more: i128) -> i128
     floor_of_parts(distance, tile_numerator(side, span), span.d, more)
 }
 
-/// How far a place lies behind another one, in billionths of a unit.
+/// How far a place lies past another one, in billionths of a unit.
 fn distance(from: i64, to: i64) -> i128
     requires from { unsigned_abs from ≤ 10 ^ 17 }
     requires to { unsigned_abs to ≤ 10 ^ 17 }
@@ -93,7 +93,7 @@ fn distance(from: i64, to: i64) -> i128
     i128::from(to) - i128::from(from)
 }
 
-/// The first and the last column or row of so many, cut to them; `None` where the first lies behind the last.
+/// The first and the last column or row of so many, cut to them; `None` where the first lies after the last.
 fn cut(least: i128, greatest: i128, count: u32) -> Option<(u32, u32)>
     requires { 1 ≤ count }
     ensures { result ≡ cut_to least greatest count }

@@ -16,7 +16,7 @@ below above before width height row col =
 place_below : (r : Range) (row col : ℕ) → IsIn r row col → place_in r row col + 1 ≤ across r * down r
 place_below r row col is = below (row - r.row_min) (col - r.col_min) (across r) (down r) (omega (arith, is.row_min, is.row_max)) (omega (arith, is.col_min, is.col_max))
 
--- the text of a tile ends within the blob
+-- an encoded tile ends within the blob
 pub span_within : (f : Factors) (m : Matrix) (k : MetaKey) (row col : ℕ) → IsIn (tiles_of f m k) row col → (span_of f m k row col).start + (span_of f m k row col).length ≤ blob_len f m k
 span_within f m k row col is =
     let h = mul-le-mul_right (tile_len m) (place_below (tiles_of f m k) row col is) in omega (arith, h)

@@ -1,5 +1,5 @@
--- Metatiles in the terms of a matrix: which tiles a metatile has, which pixels are rendered for it, and where the texts of
--- its tiles stand in its blob.
+-- Metatiles in the terms of a matrix: which tiles a metatile has, which pixels are rendered for it, and where its
+-- encoded tiles stand in its blob.
 use Rattle.std.specs.Prelude.{ℕ, ◌≤◌, ◌<◌, ◌+◌, ◌-◌, ◌*◌, ◌/◌, min}
 use Rattle.matrix_geometry.specs.declared.address.Address.{Address}
 use Rattle.matrix_geometry.specs.declared.boxes.Range.{Range}

@@ -1,4 +1,4 @@
--- The texts of tiles in a blob: binary PPM images (the Netpbm description of PPM), the tiles of a block row by row.
+-- Encoded tiles in a blob: binary PPM images (the Netpbm description of PPM), the tiles of a block row by row.
 use Rattle.std.specs.Prelude.{ℕ, ◌+◌, ◌-◌, ◌*◌, List, ◌++◌, length, codes, decimal}
 use Rattle.matrix_geometry.specs.declared.boxes.Range.{Range}
 use Rattle.matrix_geometry.specs.declared.matrix.Matrix.{Matrix}
@@ -11,7 +11,7 @@ use Rattle.metatile_plan.specs.Plan.{tiles_of}
 abbrev pub header : Matrix → List ℕ
 header m = codes "P6\n" ++ decimal m.tile_w ++ codes " " ++ decimal m.tile_h ++ codes "\n255\n"
 
--- the bytes of the text of one tile
+-- the bytes of one encoded tile
 abbrev pub tile_len : Matrix → ℕ
 tile_len m = length (header m) + 3 * m.tile_w * m.tile_h
 
@@ -30,6 +30,6 @@ blob_len f m k = across (tiles_of f m k) * down (tiles_of f m k) * tile_len m
 abbrev pub place_in : Range → ℕ → ℕ → ℕ
 place_in r row col = (row - r.row_min) * across r + (col - r.col_min)
 
--- where the text of a tile stands in the blob of its metatile
+-- where an encoded tile stands in the blob of its metatile
 abbrev pub span_of : Factors → Matrix → MetaKey → ℕ → ℕ → Span
 span_of f m k row col = record { start = place_in (tiles_of f m k) row col * tile_len m; length = tile_len m }

@@ -26,8 +26,8 @@ pub fn laws_of_windows()
     ensures { (f : Factors) (m : Matrix) (k : MetaKey) → IsWithinLimits m → IsPlan f m → IsMetaIn f m k → IsWindowOn m (tiles_of f m k) (window_of f m k) }
 {}
 
-/// The texts of a block stand in its blob row by row and without a gap: the first begins at 0, each further one where the
-/// one before it ends, and the last one ends where the blob does.
+/// The encoded tiles of a block stand in its blob row by row and without a gap: the first begins at 0, each further one
+/// where the one before it ends, and the last one ends where the blob does.
 pub fn laws_of_spans()
     ensures first { (f : Factors) (m : Matrix) (k : MetaKey) → (span_of f m k (tiles_of f m k).row_min (tiles_of f m k).col_min).start ≡ 0 }
     ensures right { (f : Factors) (m : Matrix) (k : MetaKey) (row col : ℕ) → IsIn (tiles_of f m k) row col → (span_of f m k row (col + 1)).start ≡ (span_of f m k row col).start + (span_of f m k row col).length }

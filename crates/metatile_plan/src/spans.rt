@@ -1,4 +1,4 @@
-//! Where the texts of tiles stand in a blob.
+//! Where encoded tiles stand in a blob.
 ghost use Rattle.std.specs.Prelude.{decimal, length, ◌+◌, ◌<◌, ◌≡◌, ◌≤◌};
 ghost use Rattle.matrix_geometry.specs.Limits.{IsWithinLimits};
 ghost use Rattle.metatile_plan.specs.Plan.{IsIn, IsMetaIn, IsPlan, tiles_of};
@@ -20,7 +20,7 @@ fn digits(number: u32) -> u32
     buffer.format(number).len() as u32
 }
 
-/// The bytes of the text of one tile.
+/// The bytes of one encoded tile.
 pub fn tile_len(m: &Matrix) -> u32
     requires { IsWithinLimits m.now }
     ensures value { result ≡ tile_len m.now }
@@ -42,7 +42,7 @@ pub fn blob_len(meta: &MetaKey, f: &Factors, m: &Matrix) -> u32
     across * down * tile_len(m)
 }
 
-/// Where the text of a tile stands in the blob of its metatile.
+/// Where an encoded tile stands in the blob of its metatile.
 pub fn tile_span_in_blob(meta: &MetaKey, f: &Factors, m: &Matrix, row: u32, col: u32) -> Span
     requires limits { IsWithinLimits m.now }
     requires plan { IsPlan f.now m.now }

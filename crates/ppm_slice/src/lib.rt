@@ -1,4 +1,4 @@
-//! Blobs of metatiles: the texts of tiles that are cut out of a rendered window, and handed out of a blob again.
+//! Blobs of metatiles: encoded tiles that are cut out of a rendered window, and handed out of a blob again.
 //!
 //! Promises: `slice_blob` cuts the gutter away, also at the edge of the matrix; where the raster shows the picture on the
 //! metatile's window, the blob is `block_text`. `tile_bytes` is the tile's part of a blob, and of `block_text` it is

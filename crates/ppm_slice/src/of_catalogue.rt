@@ -34,7 +34,7 @@ pub fn blob_of(
     slice_blob(alloc, meta, &layout.factors, &layout.matrix, raster)
 }
 
-/// The text of a tile of the catalogue in a blob of its metatile, without a copy.
+/// An encoded tile of the catalogue in a blob of its metatile, without a copy.
 pub fn tile_of<'a>(catalogue: &Catalogue, blob: &'a [u8], address: &Address) -> &'a [u8]
     requires valid { IsValid catalogue.now }
     requires tile { IsTile catalogue.now address.now }

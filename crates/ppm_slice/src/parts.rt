@@ -1,4 +1,4 @@
-//! The text of a tile in a blob.
+//! An encoded tile in a blob.
 ghost use Rattle.std.specs.Prelude.{Some, length, ℕ, ◌≡◌};
 ghost use Rattle.catalog.specs.declared.catalogue.Catalogue.{Catalogue};
 ghost use Rattle.catalog.specs.LookUp.{matrix_in};
@@ -12,7 +12,7 @@ use matrix_geometry::matrix::Matrix;
 use metatile_plan::metatile::{Factors, MetaKey};
 use metatile_plan::spans::tile_span_in_blob;
 
-/// The text of a tile in a blob of its metatile, without a copy.
+/// An encoded tile in a blob of its metatile, without a copy.
 pub fn tile_bytes<'a>(
     blob: &'a [u8],
     meta: &MetaKey,

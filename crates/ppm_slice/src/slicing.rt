@@ -1,4 +1,4 @@
-//! The texts of tiles, cut out of a raster.
+//! Encoded tiles, cut out of a raster.
 ghost use Rattle.std.specs.Prelude.{IfOk, OnOk, Some, length, ℕ, ◌+◌, ◌-◌, ◌*◌, ◌<◌, ◌≡◌, ◌≤◌, ◌++◌};
 ghost use Rattle.catalog.specs.declared.catalogue.Catalogue.{Catalogue};
 ghost use Rattle.catalog.specs.LookUp.{matrix_in};
@@ -80,7 +80,7 @@ impl Slicer<'_> {
         Ok(())
     }
 
-    /// Adds the text of a tile.
+    /// Adds an encoded tile.
     fn add_text(&self, blob: &mut Vec<u8>, row: u32, col: u32) -> Result<(), AllocError>
         requires slicer { IsSlicer self.now }
         requires tile { IsIn self.now.tiles row col }
@@ -93,7 +93,7 @@ impl Slicer<'_> {
         self.add_pixels(blob, x, y)
     }
 
-    /// Adds the texts of the tiles in a row of the block, from the left.
+    /// Adds the encoded tiles in a row of the block, from the left.
     #[tactic(auto, using(crate::proofs::Steps::step_more, std::proofs::lemmas::List::append_assoc))]
     fn add_row(&self, blob: &mut Vec<u8>, row: u32) -> Result<(), AllocError>
         requires slicer { IsSlicer self.now }
@@ -108,7 +108,7 @@ impl Slicer<'_> {
         Ok(())
     }
 
-    /// Adds the texts of the tiles of the block, row by row.
+    /// Adds the encoded tiles of the block, row by row.
     #[tactic(auto, using(crate::proofs::Steps::step_more, std::proofs::lemmas::List::append_assoc))]
     fn add_block(&self, blob: &mut Vec<u8>) -> Result<(), AllocError>
         requires slicer { IsSlicer self.now }
@@ -125,7 +125,7 @@ impl Slicer<'_> {
     }
 }
 
-/// The blob of a metatile out of a raster of its window: the texts of its tiles, row by row. The gutter is cut away.
+/// The blob of a metatile out of a raster of its window: its encoded tiles, row by row. The gutter is cut away.
 /// `AllocError` where memory runs out.
 pub fn slice_blob(
     alloc: Global,

@@ -34,7 +34,7 @@ unused_layers i (l ∷ ls) = ap (λ xs. record { quota = l.quota; used = 0 } ∷
 
 -- CHANGES
 
--- a change behind the first account
+-- a change after the first account
 changed_later : (f : Account → Account) (k : ℕ) (x : Account) (xs : List Account) → changed f (suc k) (x ∷ xs) ≡ x ∷ changed f k xs
 changed_later f k x xs = go (slice_get xs k)
   where

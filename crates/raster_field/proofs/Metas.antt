@@ -83,7 +83,7 @@ its_plan c k valid p =
     subst (λ (f : Factors). IsPlan f p.its_matrix) (sym (factors_are c k p))
     (record { x = lawful.meta_x; x_most = lawful.meta_x_most; y = lawful.meta_y; y_most = lawful.meta_y_most; gutter_most = lawful.gutter_most; small = small })
 
--- ---- its scene and its texts
+-- ---- its scene and its encoded tiles
 
 abbrev pub its_scene : (c : Catalogue) (k : MetaKey) → Parts c k → ℕ → ℕ → Scene
 its_scene c k p source number =
@@ -131,7 +131,7 @@ block_length c k number is =
     let p = parts c k is in
     ap (λ (xs : List ℕ). length xs) (block_is c k p number) ∙ on_length c k p number (factors_at c k.theme) ∙ sym (size_is c k p)
 
--- ---- a part of the blob is the text of a tile
+-- ---- a part of the blob is an encoded tile
 
 part_on : (c : Catalogue) (k : MetaKey) (p : Parts c k) (number : ℕ) (f : Factors) (row col : ℕ) → IsIn (tiles_of f p.its_matrix k) row col
     → part_of (span_of f p.its_matrix k row col) (text_on c number k f p.its_matrix) ≡ tile_text c number (tile_in k row col)

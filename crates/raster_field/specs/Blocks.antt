@@ -45,11 +45,11 @@ blob_size c m = option_map_or (λ x. blob_len (factors_at c m.theme) x m) (matri
 abbrev pub tile_in : MetaKey → ℕ → ℕ → Address
 tile_in m row col = record { theme = m.theme; grid = m.grid; z = m.z; row = row; col = col }
 
--- the texts of the tiles in one row of a block, from the left
+-- the encoded tiles in one row of a block, from the left
 abbrev pub row_text : Catalogue → ℕ → MetaKey → ℕ → ℕ → ℕ → List ℕ
 row_text c k m row first count = flat_map (λ col. tile_text c k (tile_in m row col)) (range_with_len first count)
 
--- the texts of the tiles of a block on this matrix, row by row
+-- the encoded tiles of a block on this matrix, row by row
 abbrev pub text_on : Catalogue → ℕ → MetaKey → Factors → Matrix → List ℕ
 text_on c k m f x = flat_map (λ row. row_text c k m row (tiles_of f x m).col_min (across (tiles_of f x m))) (range_with_len (tiles_of f x m).row_min (down (tiles_of f x m)))
 
@@ -62,6 +62,6 @@ block_text c k m = option_map_or (λ x. text_on c k m (factors_at c m.theme) x) 
 abbrev pub part_of : Span → List ℕ → List ℕ
 part_of span blob = take span.length (drop span.start blob)
 
--- the text of a tile in a blob of its metatile
+-- an encoded tile in a blob of its metatile
 abbrev pub tile_part : Catalogue → Address → List ℕ → List ℕ
 tile_part c a blob = option_map_or (λ x. part_of (span_of (factors_at c a.theme) x (block_of c a) a.row a.col) blob) (matrix_in c a.grid a.z) []

@@ -1,4 +1,4 @@
--- The text of a tile: a binary PPM image (the Netpbm description of PPM), its part of the picture of a render.
+-- An encoded tile: a binary PPM image (the Netpbm description of PPM), its part of the picture of a render.
 use Rattle.std.specs.Prelude.{ℕ, ◌+◌, ◌*◌, List, [], ◌∷◌, ◌++◌, Option, Some, None}
 use Rattle.std.specs.List.{flat_map, range_with_len}
 use Rattle.catalog.specs.declared.catalogue.Catalogue.{Catalogue}
@@ -34,7 +34,7 @@ text_in (Some s) row col = header s.matrix ++ tile_pixels s row col
 abbrev pub pixels : Catalogue → ℕ → ℕ → Address → List ℕ
 pixels c source number a = pixels_in (scene_of c source number a.theme a.grid a.z) a.row a.col
 
--- the text of a tile of the catalogue in the picture of a render
+-- an encoded tile of the catalogue in the picture of a render
 abbrev pub tile_text : Catalogue → ℕ → Address → List ℕ
 tile_text c number a = text_in (scene_of c c.source number a.theme a.grid a.z) a.row a.col
 

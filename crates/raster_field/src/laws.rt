@@ -25,7 +25,7 @@ pub fn laws_of_pictures()
 {}
 
 /// The metatile of a tile of the catalogue is one of the catalogue. Such a metatile is within the limits and has a scene,
-/// and its blob has the size that is said of it, with the text of each of its tiles in the tile's place.
+/// and its blob has the size that is said of it, with each of its encoded tiles in the tile's place.
 pub fn laws_of_metatiles()
     ensures meta { (c : Catalogue) (a : Address) → IsTile c a → IsMeta c (block_of c a) }
     ensures limits { (c : Catalogue) (k : MetaKey) (m : Matrix) → IsValid c → IsMeta c k → matrix_in c k.grid k.z ≡ Some m → IsWithinLimits m }

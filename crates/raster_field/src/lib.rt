@@ -1,4 +1,4 @@
-//! What a numbered picture shows: colours, values and rasters, and in `specs/` the picture of a render, the text of a tile
+//! What a numbered picture shows: colours, values and rasters, and in `specs/` the picture of a render, an encoded tile
 //! and the blob of a metatile.
 //!
 //! Promises: `colour_of` is the colour of a value in a style, and `field_value` the value of a pixel. A raster is what was

@@ -1,4 +1,4 @@
-//! A body that is being written, one field behind the other.
+//! A body that is being written, one field after the other.
 ghost use Rattle.std.specs.Prelude.{◌≡◌, ◌+◌, ◌≤◌, ◌<◌, ◌^◌, ◌++◌, ◌∷◌, [], length};
 ghost use Rattle.byteorder.specs.Endian.{big_bytes};
 ghost use Rattle.record_text.specs.Spelling.{filled};

@@ -27,7 +27,7 @@ actor_of digits = if is_plain digits && nat_lt (digits_value 10 digits) 64 then 
 
 -- THE VERB
 
--- how a verb is spelt, with the space behind it where a rest follows
+-- how a verb is spelt, with the space after it where a rest follows
 abbrev pub word : Verb → List ℕ
 word Get = codes "GET "
 word Ask = codes "ASK "
@@ -40,7 +40,7 @@ word Expire = codes "EXPIRE"
 abbrev pub is_target : List ℕ → Bool
 is_target rest = not (length rest == 0) && not (list_any (λ b. b == 32) rest)
 
--- what may stand behind the word
+-- what may stand after the word
 abbrev pub has_rest : Verb → List ℕ → Bool
 has_rest Get rest = is_target rest
 has_rest Ask rest = is_target rest
@@ -67,7 +67,7 @@ abbrev pub with_verb : List ℕ → ℕ → ℕ → Option Verb → Result Line 
 with_verb line actor at None = Err NoVerb
 with_verb line actor at (Some verb) = Ok (record { actor = actor; verb = verb; rest = rest_from line (at + length (word verb)) })
 
--- behind so many digits, which name an actor or not, one space stands, and then the verb
+-- after so many digits, which name an actor or not, one space stands, and then the verb
 abbrev pub with_actor : List ℕ → ℕ → Option ℕ → Result Line LineFault
 with_actor line count None = Err NoActor
 with_actor line count (Some actor) = if slice_index line count == 32 then with_verb line actor (count + 1) (verb_of (drop (count + 1) line)) else Err NoActor

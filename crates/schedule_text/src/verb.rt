@@ -1,4 +1,4 @@
-//! The verbs of a schedule, and what may stand behind each.
+//! The verbs of a schedule, and what may stand after each.
 ghost use Rattle.std.specs.Prelude.{◌≡◌, ◌≤◌, length, find, IsTrue, IfSome};
 ghost use Rattle.schedule_text.specs.Line.{word, is_target, has_rest, has_form, verb_of};
 
@@ -36,7 +36,7 @@ fn is_target(rest: &[u8]) -> bool
 }
 
 impl Verb {
-    /// How the verb is spelt, with the space behind it where a rest follows.
+    /// How the verb is spelt, with the space after it where a rest follows.
     pub fn word(self) -> &'static [u8]
         ensures value { result.now ≡ word self }
         ensures short { length result.now ≤ 9 }
@@ -51,7 +51,7 @@ impl Verb {
         }
     }
 
-    /// Whether this may stand behind the verb's word.
+    /// Whether this may stand after the verb's word.
     fn has_rest(self, rest: &[u8]) -> bool
         ensures { result ≡ has_rest self rest.now }
     {

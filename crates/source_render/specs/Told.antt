@@ -1,4 +1,4 @@
--- what the sources of a program tell
+-- what is modelled of the sources of a program
 use Rattle.std.specs.Prelude.{ℕ, Option, Some, None}
 use Rattle.source_render.specs.declared.any.AnySource.{AnySource}
 use Rattle.source_render.specs.declared.any.AnySource.TheVariants.{Numbered, File, Shut}

@@ -21,7 +21,7 @@ use raster_field::layout::{layer_of, matrix_of, style_of};
 use raster_field::raster::Raster;
 use std::fs::File;
 
-/// A source whose pictures come from a file of cells, which is read at each render. It tells no number.
+/// A source whose pictures come from a file of cells, which is read at each render. Its number isn't modelled.
 #[derive(Drop)]
 pub struct GridFile {
     file: File,

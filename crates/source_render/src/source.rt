@@ -17,7 +17,7 @@ pub struct Failed;
 
 /// What renders pictures.
 pub trait Source: Drop {
-    /// The number of the source whose pictures it renders, where it tells.
+    /// The number of the source whose pictures it renders, where it is modelled.
     ghost told: { Self → Option ℕ };
 
     /// How often it has failed. The count stays at its last value, 2^64 - 1.

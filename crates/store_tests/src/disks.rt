@@ -60,7 +60,7 @@ fn a_stopped_disk_fails(rt: HostRuntime) -> Result<(), Fail> {
     Ok(())
 }
 
-/// What the bytes from the second one on are, once three were written behind the third and the file was cut to five.
+/// What the bytes from the second one on are, once three were written after the third and the file was cut to five.
 fn read_back(mut disk: FileDisk) -> Result<[u8; 7], Failed> {
     write_through(&mut disk, 3, b"abc")?;
     disk.cut(5)?;

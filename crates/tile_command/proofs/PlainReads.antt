@@ -69,7 +69,7 @@ module _ (app : App) (texts words : List (List ℕ)) (app_is : app ≡ serve_app
       let same_connections = same_number m (codes "connections") is.connections 1000000 n.connections w.connections connections_held is.connections_number connections in
       inl (λ i. Ok (record { port = same_port i; connections = same_connections i }))
 
-  -- clap refuses the words for want of memory alone
+  -- clap refuses the words only where memory runs out
   pub refused_plain : (e : Error) (fault : ServeFault) → (takes app texts ≡ true → kind_of e ≡ kind.OutOfMemory) → (kind_of e ≡ kind.OutOfMemory → fault ≡ OutOfMemory)
       → (w : ServeWords) → IsPlain words w → Gives (Err fault) w
   refused_plain e fault passes told w is = inr (ap (λ (f : ServeFault). Err f) (told (passes (ap₂ takes app_is texts_are ∙ is.holds.taken))))

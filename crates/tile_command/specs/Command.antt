@@ -63,7 +63,7 @@ Configures i (Err unconfigured.OutOfMemory) = ⊤
 
 -- THE CAPABILITIES
 
--- the input was read to its end, and this is its text, the document of the capabilities
+-- the input was read to its end, and this is its text, the capabilities document
 pub record IsDocument (i : Input) (text : List ℕ) : Type 0 where
   pub read : Consumes i.from i.to text
   pub at_end : IsAtEnd i.to
@@ -81,7 +81,7 @@ Describes i (Err input_end.OutOfMemory) = ⊤
 
 -- THE COMMAND
 
--- a cabinet in memory of a catalogue, in which nothing has happened, beside the document of the capabilities; no actor is busy
+-- a cabinet in memory of a catalogue, in which nothing has happened, beside the capabilities document; no actor is busy
 abbrev pub fresh_world : Catalogue → List ℕ → World
 fresh_world c text = record { cabinet = fresh_state c; capabilities = text; seats = free_seats }
 
@@ -117,30 +117,30 @@ status_of_session session_end.OutOfMemory = status.OutOfMemory
 
 -- That an input, the output or the source stays as it was is a fact of its own for each of them.
 module _ (i : Inputs) (o : Outside) (CapabilitiesStay LinesStay OutputStays SourceStays : Type 0) where
-  -- both files were read, and this holds of the catalogue and of the document of the capabilities
+  -- both files were read, and this holds of the catalogue and of the capabilities document
   abbrev pub BothRead : (Catalogue → List ℕ → Type 0) → Type 0
   BothRead P = (c : Catalogue) × IsRead i.catalogue (Ok c) × (text : List ℕ) × IsDocument i.capabilities text × P c text
 
-  -- the schedule was run with them, and ended so; the cabinet behind it is one that commands can make
+  -- the schedule was run with them, and ended so; the cabinet after it is one that commands can make
   abbrev pub HasEnded : ScheduleEnd → Type 0
   HasEnded e = BothRead (λ c text. (t : World) × IsKnown t.cabinet × Schedules i.lines o (OutputStays × SourceStays) (fresh_world c text) t e)
 
-  -- the drill was run with them, and ended so; so is the cabinet behind it
+  -- the drill was run with them, and ended so; so is the cabinet after it
   abbrev pub HasDrilled : ℕ → DrillEnd → Type 0
   HasDrilled number e = LinesStay × BothRead (λ c text. (t : World) × IsKnown t.cabinet × Drills o OutputStays number (fresh_world c text) t e)
 
-  -- the bytes of a connection were served with them, and the session ended so; so is the cabinet behind it
+  -- the bytes of a connection were served with them, and the session ended so; so is the cabinet after it
   abbrev pub HasReplayed : SessionEnd → Type 0
   HasReplayed e = BothRead (λ c text. (t : State) × IsKnown t × HasSession i.lines o text (fresh_state c) t e)
 
-  -- the session ended within the stream: in a message, at bytes that are no message, or behind as many as it answers
+  -- the session ended within the stream: in a message, at bytes that are no message, or after as many as it answers
   abbrev pub HasBrokenOff : SessionEnd → Type 0
   HasBrokenOff session_end.Truncated = HasReplayed session_end.Truncated
   HasBrokenOff (session_end.Bad code) = HasReplayed (session_end.Bad code)
   HasBrokenOff session_end.TooMany = HasReplayed session_end.TooMany
   HasBrokenOff e = ⊥
 
-  -- one input is the first of which its fact holds: those before it were read, and those behind it stay as they were
+  -- one input is the first of which its fact holds: those before it were read, and those after it stay as they were
   abbrev pub AtFirst : Type 0 → Type 0 → Type 0 → Type 0
   AtFirst OfCatalogue OfCapabilities OfLines =
       (OfCatalogue × CapabilitiesStay × LinesStay)

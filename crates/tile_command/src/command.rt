@@ -64,7 +64,7 @@ fn status_of_session(end: SessionEnd) -> Status
     }
 }
 
-/// A cabinet in memory of a catalogue, beside the document of the capabilities.
+/// A cabinet in memory of a catalogue, beside the capabilities document.
 fn counter_of(
     alloc: Global,
     catalogue: Catalogue,
@@ -80,7 +80,7 @@ fn counter_of(
     })
 }
 
-/// Does what the words say, on a cabinet in memory of the catalogue that it reads, with the document of the capabilities. A
+/// Does what the words say, on a cabinet in memory of the catalogue that it reads, with the capabilities document. A
 /// catalogue of no bytes is the built-in one. `schedule` runs the lines of the input and writes the answers; `replay` serves
 /// the input as the bytes of one connection and writes the responses; `drill` and a number runs the lines that the number
 /// makes, and writes a summary. `Usage` exactly where the words are none of these; each other status comes as `Status` says.

@@ -1,4 +1,4 @@
-//! The document of the capabilities that a command serves, read as it is.
+//! The capabilities document that a command serves, read as it is.
 ghost use Rattle.std.specs.Prelude.{◌≡◌};
 ghost use Rattle.tile_service.specs.Outside.{Input};
 ghost use Rattle.tile_command.specs.Command.{Describes};
@@ -8,10 +8,10 @@ use http_wire::inputs::{InputEnd, read_all};
 use http_wire::streams::ByteSource;
 use std::alloc::Global;
 
-/// The most bytes of the document of the capabilities.
+/// The most bytes of the capabilities document.
 const CAPABILITIES_LIMIT: usize = 4_194_304;
 
-/// Reads the document of the capabilities, as it is.
+/// Reads the capabilities document, as it is.
 pub fn described<I: ByteSource>(alloc: Global, input: &mut I) -> Result<Words, InputEnd>
     ensures { Describes (record { reads = record { before = I.faults input.old; after = I.faults input.new }; from = I.left input.old; to = I.left input.new }) result }
 {

@@ -22,10 +22,10 @@ pub enum Status {
     /// Memory ran out: before the first line of a schedule, before or between the lines of a drill, before or at the reading
     /// of a message of a connection.
     OutOfMemory,
-    /// The bytes of a connection ended within a message, held bytes that are no message, or went on behind as many messages
+    /// The bytes of a connection ended within a message, held bytes that are no message, or went on after as many messages
     /// as a session answers. The messages before that were answered.
     Stream(SessionEnd),
-    /// The catalogue, the document of the capabilities or the schedule has more bytes than it may have.
+    /// The catalogue, the capabilities document or the schedule has more bytes than it may have.
     TooLong,
 }
 

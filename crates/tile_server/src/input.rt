@@ -7,7 +7,7 @@ use http_wire::memory_source::MemorySource;
 use http_wire::std_streams::StdinSource;
 use http_wire::streams::{ByteSource, Failed};
 
-/// Where the program reads from: a file, bytes that were read from a file before, or standard input. It tells no content.
+/// Where the program reads from: a file, bytes that were read from a file before, or standard input. It isn't modelled.
 #[derive(Drop)]
 pub enum Input {
     File(FileSource),

@@ -85,7 +85,7 @@ fn catalogue_of(rt: &(impl Files<File = File> + AllocGlobal)) -> Result<Catalogu
     })
 }
 
-/// The words behind the program's name.
+/// The words after the program's name.
 fn words_of(rt: &(impl Env + AllocGlobal)) -> io::Result<Vec<Words>> {
     let mut words = Vec::new(rt.alloc());
     for word in env::args(rt)?.skip(1) {

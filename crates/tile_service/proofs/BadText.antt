@@ -4,7 +4,7 @@ use Rattle.std.proofs.lemmas.Fmt.{decimal_digit}
 use Rattle.tile_service.specs.Response.{status_text}
 use Rattle.tile_service.specs.Session.{bad_text}
 
--- the parts behind the status are one
+-- the parts after the status are one
 behind_status : (x b c d e f g : List ℕ) → x ++ (b ++ c ++ d ++ e ++ f ++ g) ≡ x ++ b ++ [] ++ c ++ d ++ e ++ [] ++ f ++ g ++ []
 behind_status x b c d e f g =
     rw (append-nil (x ++ b), append-nil (x ++ b ++ c ++ d ++ e), append-nil (x ++ b ++ c ++ d ++ e ++ f ++ g))

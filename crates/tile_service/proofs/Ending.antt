@@ -107,7 +107,7 @@ module _ (told : Option ℕ) (before now rb ra wb wa : ℕ) (document : List ℕ
   pub short_there : Remain here to → out ≡ written → HasEnded OutOfMemory
   short_there remain e = ended OutOfMemory remain.0 remain.1 (go_on, same_text e)
 
--- BEHIND A MESSAGE
+-- AFTER A MESSAGE
 
 module _ (told : Option ℕ) (before now rb ra wb wa : ℕ) (document : List ℕ) (s t : State) (from to empty out : Option (List ℕ)) (held : List ℕ) (n : ℕ) (m : Message) (few : n < 10000) (part : IsPartOfTake held) where
   abbrev HasEndedBehind : SessionEnd → Type 0
@@ -137,9 +137,9 @@ module _ (told : Option ℕ) (before now rb ra wb wa : ℕ) (document : List ℕ
   cut_off_behind rose a =
       ended_behind a.0 WriteFault (replies a.0.before_it, reply_text a.0.answer, inl (m, go_before a.0, a.0.before_it, a.0.answer, a.0.split, refl, refl), rose, a.1)
 
--- BEHIND THE 10,000TH
+-- AFTER THE 10,000TH
 
--- messages of which none is the last of its connection, with one of them behind the others
+-- messages of which none is the last of its connection, with one of them after the others
 abbrev OneBehind : List Message → Type 0
 OneBehind messages = (earlier : List Message) × (m : Message) × (messages ≡ earlier ++ m ∷ []) × AreOpen earlier × (m.last ≡ false)
 

@@ -104,7 +104,7 @@ module _ (told told' : Option ℕ) (before mid after : ℕ) (w : World) (done : 
       let e : failures (answers ++ news) ≡ failures answers + failures news = sum_by-append _ answers news in
       rw e (omega arith)
 
-  -- the source tells that it is the catalogue's, as it did at the start
+  -- the source is modelled as the catalogue's, as it was at the start
   tells : told ≡ Some w.cabinet.catalogue.source → told' ≡ Some t.cabinet.catalogue.source
   tells h = same ∙ h ∙ ap (λ c. Some c.source) (sym f.catalogue)
 

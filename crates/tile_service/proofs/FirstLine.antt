@@ -17,7 +17,7 @@ pub lines_split : (text : List ℕ) → 0 < length text → lines_of text ≡ ta
 lines_split [] l = absurd (omega arith)
 lines_split (b ∷ bs) l = split_at b bs (lines_split bs) (b == 10)
 
--- what stands behind the first line, by what stands behind its bytes
+-- what stands after the first line, by what stands after its bytes
 pub lines_split_at : (text line rest next : List ℕ) (n : ℕ) → 0 < length text → n ≡ line_length text → line ≡ take n text → rest ≡ drop n text → next ≡ drop 1 rest → lines_of text ≡ line ∷ lines_of next
 lines_split_at text line rest next n l e f g h = rw (h, g, f, drop-drop 1 n text, e) (lines_split text l)
 

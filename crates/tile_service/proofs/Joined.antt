@@ -42,7 +42,7 @@ no_values (x ∷ dims) [] (suc i) e = no_numbers (drop i dims)
 no_values (x ∷ dims) (y ∷ numbers) (suc i) e = no_values dims numbers i e
 
 module _ (dims : List Dimension) (numbers : List ℕ) (i : ℕ) (text whole : List ℕ) (so_far : text ++ joined_rest i (value_texts (drop i dims) (drop i numbers)) ≡ whole) where
-  -- the next value is added behind its comma
+  -- the next value is added after its comma
   pub value_added : (d : Dimension) (n : ℕ) (longer : List ℕ) → slice_get dims i ≡ Some d → slice_get numbers i ≡ Some n → longer ≡ text ++ comma_before i ++ value_text d n
       → longer ++ joined_rest (i + 1) (value_texts (drop (i + 1) dims) (drop (i + 1) numbers)) ≡ whole
   value_added d n longer e f g =

@@ -18,7 +18,7 @@ appends_nothing (Some xs) = sym (append-nil xs)
 pub front_taken : (a b : Option (List ℕ)) (x : List ℕ) (n : ℕ) → n < length x → Appends a b (take n x) → AppendsFront a b x
 front_taken a b x n l h = record { front = take n x; rest = drop n x; whole = sym (take-append-drop n x); short = let e = length-drop n x in omega arith; grows = h }
 
--- a front of a first part, and a front behind all of it
+-- a front of a first part, and a front after all of it
 pub front_first : (a b : Option (List ℕ)) (x y : List ℕ) → AppendsFront a b x → AppendsFront a b (x ++ y)
 front_first a b x y f = record { front = f.front; rest = f.rest ++ y; whole = rw f.whole (append_assoc f.front f.rest y); short = let e = length-append f.rest y in let s = f.short in omega arith; grows = f.grows }
 

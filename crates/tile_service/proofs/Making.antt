@@ -63,7 +63,7 @@ tally_more answers news =
 
 -- HOW FAR
 
--- n lines are made and done, and x is the number of the draws behind them
+-- n lines are made and done, and x is the number of the draws after them
 pub record Made (told : Option ℕ) (before after : ℕ) (w : World) (number n x : ℕ) (tally : Tally) (text : List ℕ) (t : World) : Type 0 where
   pub done : List (List ℕ)
   pub chances : List Chance

@@ -33,7 +33,7 @@ NoRender (actor.Holding t a) = ⊥
 NoRender (actor.Rendered t blob tile) = ⊤
 NoRender (actor.Failed t) = ⊤
 
--- behind one event of an actor that has work there is no render in its line
+-- after one event of an actor that has work there is no render in its line
 one_render : (s : State) (x : Actor) (left : Bool) (bytes : Option (ℕ → ℕ)) → is_at_work x ≡ true → NoRender (advanced s x left bytes).actor
 one_render s actor.Idle left bytes e = let f : false ≡ true = e in cc
 one_render s (actor.Waiting b force) left bytes e = let f : false ≡ true = e in cc

@@ -28,7 +28,7 @@ plain_both m n a b p q =
 plain_label : (label : List ℕ) → leb (length label) 60 ≡ true → list_any (λ b. b == 32) label ≡ false → IsPlain 60 label
 plain_label label s e = record { short = leb-true _ _ s; spaceless = e }
 
--- a label, and what stands behind it
+-- a label, and what stands after it
 plain_first : (n : ℕ) (label value : List ℕ) → IsPlain 60 label → IsPlain n value → IsPlain (60 + n) (label ++ value)
 plain_first n label value p q = plain_both 60 n label value p q
 

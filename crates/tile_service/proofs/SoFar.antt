@@ -77,7 +77,7 @@ module _ (told told' : Option ℕ) (before mid after : ℕ) (document : List ℕ
       let e : failures (answers ++ the_answer ∷ []) ≡ failures answers + failures (the_answer ∷ []) = sum_by-append _ answers (the_answer ∷ []) in
       rw e (omega arith)
 
-  -- the source tells that it is the catalogue's, as it did at the start
+  -- the source is modelled as the catalogue's, as it was at the start
   tells : told ≡ Some s.catalogue.source → told' ≡ Some t.catalogue.source
   tells e = same ∙ e ∙ ap (λ c. Some c.source) (sym f.catalogue)
 

@@ -41,7 +41,7 @@ IsAtOnce s document request.Expiry o t = (left : Bool) × IsBoth (expired s left
 
 -- WHERE THE CODE'S SEATS ARE
 
--- a request that an actor starts: a tile comes to its events and the seat behind them, all else to its outcome, and nothing
+-- a request that an actor starts: a tile comes to its events and the seat after them, all else to its outcome, and nothing
 -- else happens
 abbrev pub IsAsked : Option ℕ → ℕ → ℕ → State → List ℕ → List Seat → ℕ → Kind → ℕ → Request → State → List Seat → Came → Type 0
 IsAsked told before after s document seats n kind i r t seats' came =

@@ -27,7 +27,7 @@ is_busy (Some (Some b)) = true
 abbrev pub made : World → ℕ → Made
 made w x = made_line w.cabinet.catalogue (is_busy (slice_get w.seats (drawn 4 x))) x
 
--- behind a refused line none is made
+-- after a refused line none is made
 abbrev pub lines_behind : Option (World × List Answer) → (World → List (List ℕ)) → List (List ℕ)
 lines_behind None on = []
 lines_behind (Some done) on = on done.0

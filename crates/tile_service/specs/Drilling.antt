@@ -22,7 +22,7 @@ abbrev pub shown_aim : Aim → Aimed
 shown_aim a = record { layer = a.layer.now; style = a.style.now; grid = a.grid.now }
 
 -- Whatever the actors were busy with before, they are busy with these now; the line that is made in that world, where x is
--- the number of the draws before it and x' the one behind it, ended so.
+-- the number of the draws before it and x' the one after it, ended so.
 abbrev pub Makes : Outside → State → List ℕ → List Seat → ℕ → ℕ → State → List Seat → ℕ → LineEnd → Type 0
 Makes o s document seats n x t seats' x' end =
     (busy : List (Option Busy)) → IsSeated s document seats busy

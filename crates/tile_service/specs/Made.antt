@@ -8,7 +8,7 @@ use Rattle.catalog.specs.declared.layer.Style.{Style}
 
 -- DRAWS
 
--- the number of the draws behind x
+-- the number of the draws after x
 unfoldable pub next_x : ℕ → ℕ
 next_x x = (x * 6364136223846793005 + 1442695040888963407) % 2 ^ 64
 
@@ -72,7 +72,7 @@ said aim t z row col =
     else if nat_lt t 14 then codes "EXPIRE"
     else codes "TRUNCATE " ++ cover_text aim z
 
--- a line, and the number of the draws behind it
+-- a line, and the number of the draws after it
 pub record Made : Type 0 where
   pub line : List ℕ
   pub x : ℕ

@@ -20,7 +20,7 @@ use Rattle.tile_service.specs.Lines.{Deed, deed_in}
 use Rattle.tile_service.specs.Requests.{Chance, calm, told_at}
 use Rattle.tile_service.specs.Run.{Busy, World, Answer, line_done, failures, unanswered, IsTrue, IsFresh}
 
--- P holds of the outcome, or of that of want of memory
+-- P holds of the outcome, or of that of no memory
 abbrev pub MayTell : Outcome → (Outcome → Type 0) → Type 0
 MayTell o P = P o ⊎ P NoMemory
 
@@ -54,7 +54,7 @@ IsTrueWorld w = IsSound w.cabinet × AllByRecursion (IsTrueSeat w.cabinet.catalo
 -- ONE LINE
 
 -- From w to t, with these answers, while the source went from one count of faults to another: no more failures are answered
--- or yet to be answered than the count rose by; the world stays one; where the source tells that it is the catalogue's, what
+-- or yet to be answered than the count rose by; the world stays one; where the source is modelled as the catalogue's, what
 -- is kept and held stays true and each tile is the picture of its number; each tile is fresh at its place; the history goes on.
 pub record Keeps (told : Option ℕ) (before after : ℕ) (w t : World) (answers : List Answer) : Type 0 where
   pub later : before ≤ after

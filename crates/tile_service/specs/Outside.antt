@@ -6,8 +6,8 @@ pub record Counts : Type 0 where
   pub before : ℕ
   pub after : ℕ
 
--- what a call saw of its source and its output: the number that the source tells, their faults, and what the output has
--- taken, where it tells
+-- what a call saw of its source and its output: the number that is modelled of the source, their faults,
+-- and what the output has taken, where it is modelled
 pub record Outside : Type 0 where
   pub told : Option ℕ
   pub renders : Counts
@@ -15,7 +15,7 @@ pub record Outside : Type 0 where
   pub from : Option (List ℕ)
   pub to : Option (List ℕ)
 
--- what a call saw of its input: its faults, and the bytes that are left, where it tells
+-- what a call saw of its input: its faults, and the bytes that are left, where they are modelled
 pub record Input : Type 0 where
   pub reads : Counts
   pub from : Option (List ℕ)

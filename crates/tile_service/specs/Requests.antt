@@ -78,7 +78,7 @@ outcome_of core.NoMemory = outcome.NoMemory
 abbrev pub told_at : Bool → Outcome → Outcome
 told_at left o = if left then o else outcome.NoMemory
 
--- the document of the capabilities is copied
+-- the capabilities document is copied
 abbrev pub copied : List ℕ → Bool → Outcome
 copied document left = told_at left (outcome.Document document)
 
@@ -125,7 +125,7 @@ tile_of (request.Truncation cover) = None
 tile_of (request.Unformed fault) = None
 tile_of request.Expiry = None
 
--- the number and the text of a tile that is answered
+-- the number of a tile that is answered, and the encoded tile
 abbrev pub tile_in : Outcome → Option (ℕ × List ℕ)
 tile_in (outcome.Tile hit k text) = Some (k, text)
 tile_in (outcome.Document text) = None
@@ -155,7 +155,7 @@ IsOf c (request.Truncation cover) = IsCoverOf c cover
 IsOf c (request.Unformed fault) = ⊤
 IsOf c request.Expiry = ⊤
 
--- a tile that is answered has the text of its number
+-- the bytes of a tile that is answered are the encoded tile of its number
 abbrev pub IsTrueTile : Catalogue → Address → Outcome → Type 0
 IsTrueTile c a o = IfSome (tile_in o) (λ t. t.1 ≡ tile_text c t.0 a)
 

@@ -64,7 +64,7 @@ json closes status body = response_text status (codes "application/json") [] clo
 abbrev pub cut_text : ℕ → List ℕ
 cut_text number = codes "{\"cut\":" ++ decimal number ++ codes "}\n"
 
--- the kind of a fault of a cover's text; want of memory is never one, and is answered otherwise
+-- the kind of a fault of a cover's text; out of memory is never one, and is answered otherwise
 abbrev pub kind_of : JobFault → List ℕ
 kind_of NotJson = codes "not json"
 kind_of (Missing field) = codes "missing"
@@ -129,7 +129,7 @@ response message i o = response_with (closes message i) o
 abbrev pub answer_line : ℕ → ℕ → ℕ → ℕ → List ℕ
 answer_line line actor start bytes = codes "answer " ++ decimal line ++ codes " " ++ decimal actor ++ codes " " ++ decimal start ++ codes " " ++ decimal bytes ++ codes "\n"
 
--- a response behind its line
+-- a response after its line
 abbrev pub framed : ℕ → ℕ → ℕ → List ℕ → List ℕ
 framed line actor start text = answer_line line actor start (length text) ++ text
 

@@ -19,7 +19,7 @@ use Rattle.wmts_kvp.specs.declared.query.Query.TheVariants as query
 use Rattle.wmts_kvp.specs.Reading.{query_reading}
 use Rattle.wmts_rest.specs.Paths.{path_reading}
 
--- the path of a target is what stands before its first ? (63 in ASCII), and the query what stands behind it
+-- the path of a target is what stands before its first ? (63 in ASCII), and the query what stands after it
 abbrev pub path_of : List ℕ → List ℕ
 path_of target = take (prefix_len (λ b. not (b == 63)) target) target
 

@@ -34,7 +34,7 @@ pub record Busy : Type 0 where
   pub place : ℕ
   pub actor : Actor
 
--- what a run goes through: the cabinet, the document of the capabilities, which stays as it is, and what each actor is busy
+-- what a run goes through: the cabinet, the capabilities document, which stays as it is, and what each actor is busy
 -- with
 pub record World : Type 0 where
   pub cabinet : State

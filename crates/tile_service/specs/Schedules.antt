@@ -37,14 +37,14 @@ pub record IsCutInLast (o : Outside) (w : World) (lines : List (List ℕ)) (chan
   pub answers : (run w 1 lines chances).answers ≡ (run w 1 before chances).answers ++ answer ∷ []
   pub sent : AppendsPart o.from o.to (output_of (run w 1 before chances)) (answer_text answer)
 
--- how the run of these lines ends, and what went out of what they write; behind a write that failed nothing is done
+-- how the run of these lines ends, and what went out of what they write; after a write that failed nothing is done
 abbrev pub Ends : Outside → World → List (List ℕ) → List Chance → World → RunEnd → Type 0
 Ends o w lines chances t run_end.Done = IsWhole o (run w 1 lines chances) t None
 Ends o w lines chances t (run_end.Line n) = IsWhole o (run w 1 lines chances) t (Some n)
 Ends o w lines chances t run_end.WriteFault = (t ≡ (run w 1 lines chances).world) × Rose o.writes.before o.writes.after × IsCutInLast o w lines chances
 
 -- What is promised of the answers of a run from w. No more of them say that the source failed, and no more failures are yet
--- to be answered, than its count rose by. Where the source tells that it is the catalogue's, each tile is the picture of its
+-- to be answered, than its count rose by. Where the source is modelled as the catalogue's, each tile is the picture of its
 -- number; and each tile is fresh at its last ask or force.
 pub record IsUpheld (told : Option ℕ) (renders : Counts) (w : World) (r : Run) : Type 0 where
   pub failed : RoseBy (failures r.answers + unanswered r.world.seats) renders.before renders.after

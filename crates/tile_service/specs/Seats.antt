@@ -24,7 +24,7 @@ desk_at None = None
 desk_at (Some Free) = None
 desk_at (Some (Busy desk)) = Some desk
 
--- the seat behind events of a request, and what they answer
+-- the seat after events of a request, and what they answer
 abbrev pub next_seat : ℕ → Address → Actor → Option core.Outcome → Seat
 next_seat start a actor None = Busy (record { start = start; address = a; actor = actor })
 next_seat start a actor (Some o) = Free

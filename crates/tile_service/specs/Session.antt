@@ -45,7 +45,7 @@ bad_text status = bare true status
 -- WHAT IS PROMISED OF IT
 
 -- From s these messages of a session came to t with these answers, under some chances: each message has one. No more answers
--- say that the source failed than its count rose by. Where the source tells that it is the catalogue's, each tile is the
+-- say that the source failed than its count rose by. Where the source is modelled as the catalogue's, each tile is the
 -- picture of its number; and each tile is fresh at its ask.
 pub record IsServed (told : Option ℕ) (renders : Counts) (document : List ℕ) (s t : State) (messages : List Message) (answers : List Answer) : Type 0 where
   pub chances : List Chance

@@ -23,37 +23,37 @@ use Rattle.tile_service.specs.Session.{IsServed, reply_text, replies, bad_text}
 abbrev pub AreOpen : List Message → Type 0
 AreOpen messages = AllByRecursion (λ m. m.last ≡ false) messages
 
--- behind these messages the session looks for a further one: none is the last, and they are fewer than 10,000
+-- after these messages the session looks for a further one: none is the last, and they are fewer than 10,000
 pub record GoOn (messages : List Message) : Type 0 where
   pub all_open : AreOpen messages
   pub few : length messages < 10000
 
--- Behind these messages, of which this is the last, the session ends: it went on behind each before it. No further one is looked
--- for: the bytes that were taken behind the last came with it, as a part of one take.
+-- After these messages, of which this is the last, the session ends: it went on after each before it. No further one is looked
+-- for: the bytes that were taken after the last came with it, as a part of one take.
 pub record GoBefore (messages : List Message) (held : List ℕ) (last : Message) : Type 0 where
   pub before : List Message
   pub whole : messages ≡ before ++ last ∷ []
   pub go_on : GoOn before
   pub looks_no_further : IsPartOfTake held
 
--- where these bytes are told, a stream of them stops so
+-- where these bytes are modelled, a stream of them stops so
 abbrev pub StopsThere : Option (List ℕ) → Stop → Type 0
 StopsThere bytes s = IfSome bytes (λ known. StopsAs known s)
 
 -- THE ENDS
 
--- the last message was answered, and the connection was to be closed, or the stream ended behind the messages
+-- the last message was answered, and the connection was to be closed, or the stream ended after the messages
 abbrev pub IsClosed : List Message → List ℕ → Option (List ℕ) → Type 0
 IsClosed messages held rest = ((m : Message) × GoBefore messages held m × (m.last ≡ true)) ⊎ (GoOn messages × StopsThere rest stop.End)
 
--- What went out whole, and the response of which only a part did: that to the last message behind those to all before it, or that
--- to bytes that are no message behind those to all messages.
+-- What went out whole, and the response of which only a part did: that to the last message after those to all before it, or that
+-- to bytes that are no message after those to all messages.
 abbrev pub IsCutOff : List Message → List Answer → List ℕ → Option (List ℕ) → List ℕ → List ℕ → Type 0
 IsCutOff messages answers held rest whole part =
     ((m : Message) × GoBefore messages held m × (before : List Answer) × (answer : Answer) × (answers ≡ before ++ answer ∷ []) × (whole ≡ replies before) × (part ≡ reply_text answer))
     ⊎ ((status : ℕ) × GoOn messages × StopsThere rest (stop.Bad status) × (whole ≡ replies answers) × (part ≡ bad_text status))
 
--- How a session ended behind these messages, which have these answers. Behind them stand the bytes that are held, then those
+-- How a session ended after these messages, which have these answers. After them stand the bytes that are held, then those
 -- that are left: this rest of the stream. A read that failed kept no message waiting that had come whole.
 abbrev pub Ends : Input → Outside → List Message → List Answer → List ℕ → Option (List ℕ) → SessionEnd → Type 0
 Ends i o messages answers held rest Closed = IsClosed messages held rest × Appends o.from o.to (replies answers)
@@ -65,7 +65,7 @@ Ends i o messages answers held rest OutOfMemory = GoOn messages × Appends o.fro
 Ends i o messages answers held rest WriteFault = (whole : List ℕ) × (part : List ℕ) × IsCutOff messages answers held rest whole part × Rose o.writes.before o.writes.after × AppendsPart o.from o.to whole part
 
 -- A session was held over a link, by a cabinet that came from s to t. Its messages stand at the front of the bytes that were
--- left, where those are told; behind them stand bytes that were taken from the link too early, and those that are left now.
+-- left, where modelled; after them stand bytes that were taken from the link too early, and those that are left now.
 pub record HasSession (i : Input) (o : Outside) (document : List ℕ) (s t : State) (end : SessionEnd) : Type 0 where
   pub messages : List Message
   pub answers : List Answer

@@ -1,4 +1,4 @@
-//! What is answered at once from the cabinet and the document of the capabilities.
+//! What is answered at once from the cabinet and the capabilities document.
 ghost use Rattle.std.specs.Prelude.{◌≡◌, Bool};
 ghost use Rattle.catalog.specs.Valid.{IsValid};
 ghost use Rattle.served_covers.specs.OfCatalogue.{IsCoverOf};
@@ -13,7 +13,7 @@ use exact_ratio::words::Words;
 use std::alloc::Global;
 use truncation_list::cover::Cover;
 
-/// The document of the capabilities.
+/// The capabilities document.
 pub fn document(alloc: Global, text: &[u8]) -> Outcome
     ensures { (left : Bool) × (result ≡ copied text.now left) }
 {

@@ -1,4 +1,4 @@
-//! What one thread serves with: a cabinet, the reading of paths, and the document of the capabilities.
+//! What one thread serves with: a cabinet, the reading of paths, and the capabilities document.
 use cabinet::cabinet::Cabinet;
 use exact_ratio::words::Words;
 use wmts_rest::table::RestTable;

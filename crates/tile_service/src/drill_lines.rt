@@ -68,7 +68,7 @@ fn cols_at(grid: &Grid, z: u32) -> u32
     }
 }
 
-/// Adds a label and the text behind it.
+/// Adds a label and the text after it.
 fn add_pair(text: &mut Vec<u8>, label: &[u8], value: &[u8]) -> Result<(), AllocError>
     ensures { OnOk result (text.new.items ≡ text.old.items ++ label.now ++ value.now) }
 {
@@ -76,7 +76,7 @@ fn add_pair(text: &mut Vec<u8>, label: &[u8], value: &[u8]) -> Result<(), AllocE
     text.extend_from_slice(value)
 }
 
-/// Adds a label and the number behind it.
+/// Adds a label and the number after it.
 fn add_count(text: &mut Vec<u8>, label: &[u8], number: u32) -> Result<(), AllocError>
     ensures { OnOk result (text.new.items ≡ text.old.items ++ label.now ++ decimal number) }
 {

@@ -2,7 +2,7 @@
 //! one by draws.
 //!
 //! An actor sends a message, or makes the next event of the tile that it is busy with. Messages ask for tiles, for the
-//! document of the capabilities or for what is kept, truncate, or expire.
+//! capabilities document or for what is kept, truncate, or expire.
 //!
 //! Promises: the answers of a schedule are those of its run (`specs/Run.antt`), in order, each message led by the table of
 //! paths (`specs/Routes.antt`) and answered by its response (`specs/Response.antt`); each tile is the picture of its number

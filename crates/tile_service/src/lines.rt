@@ -34,7 +34,7 @@ fn line_length(text: &[u8]) -> usize
     count
 }
 
-/// The first line of a text, and what stands behind it.
+/// The first line of a text, and what stands after it.
 #[tactic(auto, using(crate::proofs::FirstLine::lines_split_at, crate::proofs::FirstLine::no_more))]
 pub fn split_line(text: &[u8]) -> (&[u8], &[u8])
     requires { 0 < length text.now }

@@ -6,9 +6,9 @@ use job_forms::fault::JobFault;
 /// How a request ended.
 #[derive(Drop)]
 pub enum Outcome {
-    /// The tile: whether a kept one gave it, the number of its render, and its text.
+    /// The tile: whether a kept one gave it, the number of its render, and the encoded tile.
     Tile(bool, u64, Words),
-    /// The document of the capabilities, as the operator wrote it.
+    /// The capabilities document, as the operator wrote it.
     Document(Words),
     /// The request is refused.
     Refused(Code, Locator),

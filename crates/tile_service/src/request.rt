@@ -14,7 +14,7 @@ use truncation_list::cover::Cover;
 pub enum Request {
     /// A tile of the catalogue.
     Tile(Address),
-    /// The document of the capabilities.
+    /// The capabilities document.
     Capabilities,
     /// What the reading of the request refuses.
     Refused(Code, Locator),

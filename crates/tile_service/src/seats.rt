@@ -90,7 +90,7 @@ fn put(cabinet: &mut Cabinet, seats: &mut [Seat], actor: u32, seat: Seat)
     }
 }
 
-/// Puts the free seat of an actor behind events of a request that started in line `start`, and says what they answer.
+/// Puts the free seat of an actor after events of a request that started in line `start`, and says what they answer.
 pub fn settle(
     cabinet: &mut Cabinet,
     seats: &mut [Seat],

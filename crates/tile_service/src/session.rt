@@ -27,7 +27,7 @@ const SESSION_LIMIT: u64 = 10_000;
 /// How a session ended.
 #[derive(Clone, Copy, Debug, PartialEq, Eq)]
 pub enum SessionEnd {
-    /// The stream ended behind a message, or its last message was answered.
+    /// The stream ended after a message, or its last message was answered.
     Closed,
     /// The stream ended within a message.
     Truncated,

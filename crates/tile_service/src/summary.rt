@@ -13,7 +13,7 @@ use arrayvec::ArrayVec;
 use http_wire::sending::Sent;
 use http_wire::streams::ByteSink;
 
-/// Adds a label and the number behind it.
+/// Adds a label and the number after it.
 fn add_count(text: &mut ArrayVec<u8, 256>, label: &[u8], number: u64)
     requires { array_vec_len text.old + length label.now + 20 ≤ 256 }
     ensures items { text.new.items ≡ text.old.items ++ label.now ++ decimal number }

@@ -68,7 +68,7 @@ module _ {H N : Type 0} where
       pub replies : may_reply (charter found) before.told (shown found) (shown left) command reply
       pub is : after ≡ seen_by before (book left) (made_of book shown note command reply found left ∷ [])
 
-  -- a turn that came to nothing for want of memory: the chest is as before, and the pass has seen it and gained no note
+  -- a turn that came to nothing as memory ran out: the chest is as before, and the pass has seen it and gained no note
   module _ {C X : Type 0} (charter : C → H) (sound : C → Type 0) (book : C → FrontedBook) (shown : C → X) (as_before : C → C → Type 0) where
     pub record Unturned (before after : Holding H N) : Type 0 where
       pub found : C

@@ -12,7 +12,7 @@ use Rattle.wmts_kvp.specs.declared.query.Query.TheVariants.{Tile, Capabilities, 
 use Rattle.wmts_kvp.specs.Pairs.{pairs_of}
 use Rattle.wmts_kvp.specs.Rows.{Row, ◌>>=◌, some_or, parameter, equal, requested, style_or_first, number, dimensions, rows_of, cols_of, below}
 
--- the rows behind the dimensions, for a layer and a theme of it
+-- the rows after the dimensions, for a layer and a theme of it
 unfoldable pub address_in : Catalogue → List (List ℕ × List ℕ) → ℕ → Theme → Row Address
 address_in c pairs layer theme = do
   grid ← parameter pairs (codes "TileMatrixSet") MissingParameterValue InvalidParameterValue (served_grid_named c layer)

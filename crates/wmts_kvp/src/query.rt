@@ -38,7 +38,7 @@ macro_rules! row {
     };
 }
 
-/// The rows of the table of parameters behind the dimensions, each with the name that a refusal gives.
+/// The rows of the table of parameters after the dimensions, each with the name that a refusal gives.
 #[tactic(auto, unfolding(crate::specs::Reading::address_in, crate::specs::Pairs::value_of))]
 fn address_in<'a>(
     catalogue: &Catalogue,
@@ -106,7 +106,7 @@ pub fn read_pairs(
     }
 }
 
-/// Reads what a query asks for, the part of a request's target behind its `?`. `AllocError` where memory runs out.
+/// Reads what a query asks for, the part of a request's target after its `?`. `AllocError` where memory runs out.
 #[tactic(auto, unfolding(crate::specs::Reading::query_reading))]
 pub fn read_query(alloc: Global, catalogue: &Catalogue, query: &[u8]) -> Result<Query, AllocError>
     requires { IsValid catalogue.now }

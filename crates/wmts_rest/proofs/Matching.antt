@@ -92,7 +92,7 @@ literal_or_all {K} (x ∷ lit) r s (b ∷ path) lit_text text =
         or_all false = refl
     by (inr e) ih = rw (e.0, e.1, nowhere {K = K} 0 path) refl
 
--- the answer of both rows behind a front
+-- the answer of both rows after a front
 abbrev pub answer : {K : Type 0} → List ℕ → List ℕ → K → K → List ℕ → Option K
 answer f lit r s path = cond (bytes_eq path (f ++ lit)) (Some r) (option_and_then (rest_of s) (after f path))
 

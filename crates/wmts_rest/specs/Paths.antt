@@ -32,7 +32,7 @@ before ending text =
 unfoldable pub inside : List ℕ → Option (List ℕ)
 inside path = option_and_then (before (codes ".ppm")) (after front path)
 
--- the segments behind `/rest/wmts/`, the last one without its `.ppm`
+-- the segments after `/rest/wmts/`, the last one without its `.ppm`
 abbrev pub segments_of : List ℕ → Option (List (List ℕ))
 segments_of path = option_map (slice_split (λ b. b == 47)) (inside path)
 

@@ -5,6 +5,6 @@
 pub enum Route {
     /// The document of the service's capabilities.
     Capabilities,
-    /// A tile, which the segments behind `/rest/wmts/` name.
+    /// A tile, which the segments after `/rest/wmts/` name.
     Tile,
 }

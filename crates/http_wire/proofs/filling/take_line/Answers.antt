@@ -20,7 +20,7 @@ returns-then-not-branch-clause-takes g c = takes_same false c.in_ok-take_more.en
 pub returns-then-not-branch-clause-brings : goal.returns-then-not-branch-clause-brings
 returns-then-not-branch-clause-brings g c = ended_before _ _ _ _ c.if-not-branch.true c.in_ok-take_more.ensures.brings
 
--- THE TAKES BEHIND IT
+-- THE TAKES AFTER IT
 -- Whether a head may end in the last piece was asked before: it couldn't, so that none has ended in the bytes so far.
 
 pub returns-in_err-take_more-2-clause-takes : goal.returns-in_err-take_more-2-clause-takes

@@ -59,7 +59,7 @@ returns-in-Err-OutOfMemory-clause-session g c =
     let i = c.serving.invariant in
     short_there _ _ _ _ _ _ _ _ _ _ _ _ _ _ _ _ _ i.under_way (omega arith) (remain_there _ _ _ _ c.in-Err-OutOfMemory.field-0-is (c.in-Err-OutOfMemory.ensures.leaves i.going)) c.next.ensures.taken
 
--- BEHIND A MESSAGE
+-- AFTER A MESSAGE
 
 pub returns-in-Err-respond-clause-session : goal.returns-in-Err-respond-clause-session
 returns-in-Err-respond-clause-session g c =
