@@ -5,6 +5,7 @@ pub mod Rooted
 pub mod Sentences
 pub mod Numbers
 pub mod Fresher
+mod Tiles
 pub mod Fronts
 pub mod Rows
 pub mod Regions

@@ -1,4 +1,4 @@
-//! quota_ledger
+//! Tests of quota_ledger.
 use catalog::catalogue::{Catalogue, Scope};
 use quota_ledger::ledger::Ledger;
 use std::test::Fail;

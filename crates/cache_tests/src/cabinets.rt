@@ -1,4 +1,4 @@
-//! cabinet
+//! Tests of cabinet.
 ghost use Rattle.std.specs.Prelude.{IfOk, ◌≡◌};
 ghost use Rattle.catalog.specs.Demo.{demo};
 ghost use Rattle.raster_field.specs.Blocks.{IsMeta};

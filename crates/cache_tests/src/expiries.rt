@@ -1,4 +1,4 @@
-//! expiry_policy
+//! Tests of expiry_policy.
 use crate::fixtures::META;
 use catalog::catalogue::{Policy, Scope};
 use expiry_policy::uses::Uses;

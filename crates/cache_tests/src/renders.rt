@@ -1,4 +1,4 @@
-//! metatile_locks
+//! Tests of metatile_locks.
 use crate::fixtures::META;
 use metatile_locks::locks::Locks;
 use metatile_locks::replies::{Begin, End};

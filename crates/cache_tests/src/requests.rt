@@ -1,4 +1,4 @@
-//! cache_core
+//! Tests of cache_core.
 use crate::fixtures::first_tile;
 use cabinet::cabinet::Cabinet;
 use cache_core::actor::{Actor, Step};

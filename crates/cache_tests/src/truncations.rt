@@ -1,4 +1,4 @@
-//! truncation_list
+//! Tests of truncation_list.
 ghost use Rattle.std.specs.Prelude.{IfOk, unsigned_abs, ◌^◌, ◌≤◌};
 ghost use Rattle.matrix_geometry.specs.Limits.{IsWithinLimits};
 ghost use Rattle.truncation_list.specs.Covers.{IsWithinReach};

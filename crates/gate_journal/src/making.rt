@@ -12,8 +12,8 @@ use disk_model::{Disk, Failed};
 
 /// Makes a journal with no records, in place of what the disk holds. A half has so many slots, 1 to 2^40. After `Ok` each
 /// image opens to no records under the digest, by the first half and generation 1, nothing is pending, and the disk ends
-/// where the journal does. `Failed` only where the disk's count of faults rose; nothing is said of what the disk then holds, and
-/// `make` is to be called again.
+/// where the journal does. `Failed` only where the disk's count of faults rose; nothing is said of what the disk then
+/// holds, and `make` is to be called again.
 pub fn make<D: Disk>(disk: &mut D, digest: &[u8; 32], slots: u64) -> Result<(), Failed>
     requires some { 1 ≤ slots }
     requires limit { slots ≤ 2 ^ 40 }

@@ -6,7 +6,7 @@ ghost use Rattle.disk_model.specs.Images.{Only, ChangesBy};
 
 use disk_model::{Disk, Failed, write_through};
 
-/// Writes the body of a slot. At no moment may its gate, or anything else, be other than before.
+/// Writes the body of a slot. At no moment may its gate, or another byte below the old end, be other than before.
 #[tactic(auto, using(crate::proofs::Places::written_body))]
 pub(crate) fn write_body<D: Disk>(disk: &mut D, at: u64, body: &[u8; 63]) -> Result<(), Failed>
     requires { at + 64 ≤ 2 ^ 62 }

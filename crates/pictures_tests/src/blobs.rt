@@ -1,4 +1,4 @@
-//! ppm_slice
+//! Tests of ppm_slice.
 ghost use Rattle.catalog.specs.Demo.{demo};
 ghost use Rattle.catalog.specs.LookUp.{IsTile};
 

@@ -1,4 +1,4 @@
-//! metatile_plan
+//! Tests of metatile_plan.
 ghost use Rattle.std.specs.Prelude.{IfOk, ◌≡◌};
 ghost use Rattle.matrix_geometry.specs.Limits.{IsWithinLimits};
 

@@ -1,4 +1,4 @@
-//! raster_field
+//! Tests of raster_field.
 use crate::fixtures::FIRST;
 use catalog::catalogue::Catalogue;
 use raster_field::colour::{Colour, colour_of};

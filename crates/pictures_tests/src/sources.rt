@@ -1,4 +1,4 @@
-//! source_render
+//! Tests of source_render.
 use crate::fixtures::{FIRST_BLOB, renders};
 use source_render::any::AnySource;
 use source_render::grid_file::GridFile;

@@ -1,4 +1,4 @@
-//! schedule_text
+//! Tests of schedule_text.
 use schedule_text::line::{LineFault, read_line};
 use schedule_text::verb::Verb;
 use std::test::Fail;

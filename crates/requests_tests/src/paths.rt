@@ -1,4 +1,4 @@
-//! wmts_rest
+//! Tests of wmts_rest.
 use crate::fixtures::sea;
 use matrix_geometry::address::Address;
 use matrix_geometry::theme::Theme;

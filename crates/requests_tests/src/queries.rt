@@ -1,4 +1,4 @@
-//! wmts_kvp
+//! Tests of wmts_kvp.
 use crate::fixtures::sea;
 use exception_report::code::Code;
 use matrix_geometry::address::Address;

@@ -1,4 +1,4 @@
-//! blob_store
+//! Tests of blob_store.
 use blob_store::{put, read_tile};
 use disk_model::{Failed, MemoryDisk, Pick};
 use metatile_plan::span::Span;

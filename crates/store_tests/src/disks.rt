@@ -1,4 +1,4 @@
-//! disk_model
+//! Tests of disk_model.
 use disk_model::{Disk, Failed, FileDisk, MemoryDisk, Pick, write_through};
 use std::fs::File;
 use std::test::Fail;
@@ -36,6 +36,17 @@ fn a_crash_leaves_old_new_or_noise(rt: HostRuntime) -> Result<(), Fail> {
         disk.cut(5)?;
         assert_eq!(rt; disk.crash(rt.alloc(), pick)?.bytes(), left);
     }
+    Ok(())
+}
+
+#[test]
+fn a_listed_call_fails_and_is_counted(rt: HostRuntime) -> Result<(), Fail> {
+    let mut disk = dots(&rt, [2].to_vec(rt.alloc())?)?;
+    disk.write_at(0, b"a")?;
+    assert_eq!(rt; disk.sync(), Err(Failed));
+    disk.sync()?;
+    assert_eq!(rt; disk.fault_count(), 1);
+    assert_eq!(rt; disk.shortages(), 0);
     Ok(())
 }
 

@@ -1,4 +1,4 @@
-//! extent_map
+//! Tests of extent_map.
 use extent_map::extents::Extents;
 use std::test::Fail;
 

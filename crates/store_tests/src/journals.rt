@@ -1,4 +1,4 @@
-//! gate_journal
+//! Tests of gate_journal.
 ghost use Rattle.std.specs.Prelude.{◌≡◌, IfOk};
 ghost use Rattle.disk_model.specs.Memory.{memory_state};
 ghost use Rattle.gate_journal.specs.Sound.{IsSettled, IsSound, slots_of};

@@ -1,4 +1,4 @@
-//! record_text
+//! Tests of record_text.
 use matrix_geometry::boxes::Box9;
 use matrix_geometry::theme::{Filter, Theme};
 use metatile_plan::metatile::MetaKey;

@@ -24,3 +24,4 @@ pub mod BadText
 pub mod SoFar
 pub mod Replaying
 pub mod Ending
+pub mod Shapes

@@ -5,6 +5,7 @@ pub mod Routes
 pub mod Response
 pub mod Events
 pub mod Run
+pub mod Alike
 pub mod Seats
 pub mod Dealing
 pub mod OneLine

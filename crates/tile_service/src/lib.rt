@@ -29,6 +29,7 @@ mod drill_lines;
 mod drill_run;
 mod dropped;
 mod events;
+pub mod laws;
 mod lines;
 mod numbers;
 pub mod outcome;

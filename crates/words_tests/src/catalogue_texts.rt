@@ -1,4 +1,4 @@
-//! config_text
+//! Tests of config_text.
 use catalog::catalogue::Catalogue;
 use config_text::read_catalogue;
 use std::test::Fail;

@@ -1,4 +1,4 @@
-//! catalog
+//! Tests of catalog.
 use crate::fixtures::sea;
 use catalog::catalogue::{Catalogue, Policy};
 use catalog::fault::{CatalogueFault, Field};

@@ -1,4 +1,4 @@
-//! dimension_key
+//! Tests of dimension_key.
 use crate::fixtures::sea;
 use dimension_key::draft::{DimFault, ThemeDraft};
 use std::test::Fail;

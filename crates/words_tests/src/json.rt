@@ -1,4 +1,4 @@
-//! json_forms
+//! Tests of json_forms.
 use exact_ratio::decimal::Decimal;
 use json_forms::decimal::{DecimalText, decimal_text};
 use json_forms::list::values_of;

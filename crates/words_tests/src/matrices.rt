@@ -1,4 +1,4 @@
-//! matrix_geometry
+//! Tests of matrix_geometry.
 ghost use Rattle.std.specs.Prelude.{IfOk};
 ghost use Rattle.matrix_geometry.specs.Limits.{IsWithinLimits};
 

@@ -1,4 +1,4 @@
-//! exact_ratio
+//! Tests of exact_ratio.
 use exact_ratio::decimal::{Decimal, DecimalFault};
 use exact_ratio::floor::floor_div;
 use exact_ratio::items::Items;

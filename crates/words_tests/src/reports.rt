@@ -1,4 +1,4 @@
-//! exception_report
+//! Tests of exception_report.
 use exact_ratio::words::Words;
 use exception_report::code::{Code, Locator};
 use exception_report::report::{report, status_of};
