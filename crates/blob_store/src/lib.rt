@@ -5,8 +5,5 @@
 //! Stands on disk_model, metatile_plan and causes.
 #![tactic(auto)]
 
-mod putting;
-mod reading;
-
-pub use putting::put;
-pub use reading::read_tile;
+pub mod putting;
+pub mod reading;

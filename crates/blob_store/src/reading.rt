@@ -4,7 +4,7 @@ ghost use Rattle.causes.specs.Causes.{HasCause};
 ghost use Rattle.disk_model.specs.Content.{bytes_at, Same};
 ghost use Rattle.disk_model.specs.Images.{Steps};
 
-use disk_model::{Disk, Failed};
+use disk_model::disk::{Disk, Failed};
 use metatile_plan::span::Span;
 
 /// Reads a part of the blob at a place, which is of the length of `into`. Its end is below 2^62. `Failed` only where the

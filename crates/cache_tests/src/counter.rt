@@ -1,6 +1,6 @@
 //! A chest of a turnstile that counts.
 use std::alloc::{AllocError, Global};
-use turnstile::Chest;
+use turnstile::chest::Chest;
 
 /// What a turn does to a counter.
 #[derive(Drop)]

@@ -14,12 +14,10 @@ mod matrices;
 mod member;
 mod name;
 mod outermost;
-mod read;
+pub mod read;
 mod row;
 mod settings;
 mod shape;
 mod spacing;
 mod span;
 mod styles;
-
-pub use read::read_catalogue;

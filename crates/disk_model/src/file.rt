@@ -4,7 +4,7 @@ ghost use Rattle.std.proofs.lemmas.Bool.{false≢true};
 ghost use Rattle.causes.specs.Causes.{HasCause};
 ghost use Rattle.disk_model.specs.Images.{silent};
 
-use crate::{Disk, Failed};
+use crate::disk::{Disk, Failed};
 use causes::one_more;
 use std::fs::File;
 use std::io;

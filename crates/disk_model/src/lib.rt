@@ -11,17 +11,11 @@
 mod attempt;
 mod bytes;
 mod crash;
-mod disk;
-mod file;
+pub mod disk;
+pub mod file;
 mod log;
 mod make;
-mod memory;
+pub mod memory;
 mod memory_calls;
-mod pick;
-mod through;
-
-pub use disk::{Disk, Failed};
-pub use file::FileDisk;
-pub use memory::MemoryDisk;
-pub use pick::Pick;
-pub use through::write_through;
+pub mod pick;
+pub mod through;

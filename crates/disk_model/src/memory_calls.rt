@@ -10,7 +10,7 @@ ghost use Rattle.disk_model.specs.Memory.{GoesBy, GoesWithMemory, IsUntouched, c
 use crate::attempt::{fail_cut, fail_write, read_into, resize, sync, write};
 use crate::log::Log;
 use crate::memory::MemoryDisk;
-use crate::{Disk, Failed};
+use crate::disk::{Disk, Failed};
 use causes::one_more;
 use std::alloc::{AllocError, Global};
 

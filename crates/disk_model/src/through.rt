@@ -4,7 +4,7 @@ ghost use Rattle.causes.specs.Causes.{HasCause};
 ghost use Rattle.disk_model.specs.Content.{written, TornWrite};
 ghost use Rattle.disk_model.specs.Images.{Only, ChangesBy};
 
-use crate::{Disk, Failed};
+use crate::disk::{Disk, Failed};
 
 /// Writes from a place on, and syncs. After `Ok` the bytes are on the disk; at each moment nothing but their range, and the
 /// part past the old end, may be other than before. `Failed` only where the disk's count of faults rose.

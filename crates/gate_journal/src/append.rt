@@ -9,7 +9,7 @@ ghost use Rattle.gate_journal.specs.Sound.{IsAlike, IsSettled, IsSound, generati
 use crate::journal::Journal;
 use crate::standing::Standing;
 use crate::writes::{open_gate, write_body};
-use disk_model::{Disk, Failed};
+use disk_model::disk::{Disk, Failed};
 
 impl Journal {
     /// Where the next record goes.

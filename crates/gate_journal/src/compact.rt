@@ -13,7 +13,7 @@ use crate::header::header_body;
 use crate::journal::Journal;
 use crate::standing::Standing;
 use crate::writes::{close_gate, open_gate, write_body};
-use disk_model::{Disk, Failed};
+use disk_model::disk::{Disk, Failed};
 
 /// A slot of a half that is to hold these bodies.
 fn filled_slot(bodies: &[[u8; 63]], k: u64) -> [u8; 64]

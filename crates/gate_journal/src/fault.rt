@@ -2,7 +2,7 @@
 ghost use Rattle.gate_journal.specs.declared.fault.OpenFault.TheVariants.{DiskFault, OutOfMemory};
 ghost use Rattle.std.specs.Prelude.{◌≡◌};
 
-use disk_model::Failed;
+use disk_model::disk::Failed;
 use std::alloc::{AllocError, AllocFailed};
 
 /// Why a cache isn't opened.

@@ -9,22 +9,16 @@
 
 mod append;
 mod compact;
-mod fault;
+pub mod fault;
 mod half;
 mod header;
-mod journal;
-mod laws;
-mod making;
+pub mod journal;
+pub mod laws;
+pub mod making;
 mod open;
-mod opened;
+pub mod opened;
 mod queries;
 mod reading;
 mod settle;
 mod standing;
 mod writes;
-
-pub use fault::OpenFault;
-pub use journal::Journal;
-pub use laws::laws_of_journals;
-pub use making::make;
-pub use opened::Opened;

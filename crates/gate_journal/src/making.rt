@@ -8,7 +8,7 @@ ghost use Rattle.gate_journal.specs.Sound.{IsLaidOut};
 
 use crate::header::header_body;
 use crate::writes::open_gate;
-use disk_model::{Disk, Failed};
+use disk_model::disk::{Disk, Failed};
 
 /// Makes a journal with no records, in place of what the disk holds. A half has so many slots, 1 to 2^40. After `Ok` each
 /// image opens to no records under the digest, by the first half and generation 1, nothing is pending, and the disk ends

@@ -12,7 +12,7 @@ use crate::journal::Journal;
 use crate::opened::Opened;
 use crate::reading::{half_of_headers, read_header, read_records};
 use crate::standing::Standing;
-use disk_model::Disk;
+use disk_model::disk::Disk;
 use std::alloc::Global;
 
 /// The half in force with its generation, under the digest that is asked for.

@@ -9,7 +9,7 @@ ghost use Rattle.gate_journal.specs.Reading.{Says, SaysForce, HasRead, IsDisorde
 use crate::fault::OpenFault;
 use crate::half::Half;
 use crate::header::{Header, MAGIC};
-use disk_model::{Disk, Failed};
+use disk_model::disk::{Disk, Failed};
 use std::alloc::{AllocError, Global};
 
 /// The header in a slot, where it counts.

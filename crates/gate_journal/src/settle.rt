@@ -7,7 +7,7 @@ ghost use Rattle.gate_journal.specs.Sound.{IsAlike, IsSettled, IsSound, generati
 use crate::journal::Journal;
 use crate::standing::Standing;
 use crate::writes::close_gate;
-use disk_model::{Disk, Failed};
+use disk_model::disk::{Disk, Failed};
 
 impl Journal {
     /// Closes durably the gate that a call left undecided, where there is one, and else syncs. The records are as before.

@@ -6,10 +6,8 @@
 #![tactic(auto)]
 
 mod bounds;
-mod cover;
+pub mod cover;
 pub mod fault;
 mod member;
 mod names;
 mod values;
-
-pub use cover::read_cover;

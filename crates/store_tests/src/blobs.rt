@@ -1,6 +1,9 @@
 //! Tests of blob_store.
-use blob_store::{put, read_tile};
-use disk_model::{Failed, MemoryDisk, Pick};
+use blob_store::putting::put;
+use blob_store::reading::read_tile;
+use disk_model::disk::Failed;
+use disk_model::memory::MemoryDisk;
+use disk_model::pick::Pick;
 use metatile_plan::span::Span;
 use std::test::Fail;
 

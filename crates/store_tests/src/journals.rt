@@ -3,8 +3,12 @@ ghost use Rattle.std.specs.Prelude.{◌≡◌, IfOk};
 ghost use Rattle.disk_model.specs.Memory.{memory_state};
 ghost use Rattle.gate_journal.specs.Sound.{IsSettled, IsSound, slots_of};
 
-use disk_model::{Disk, MemoryDisk, Pick};
-use gate_journal::{Journal, OpenFault, make};
+use disk_model::disk::Disk;
+use disk_model::memory::MemoryDisk;
+use disk_model::pick::Pick;
+use gate_journal::fault::OpenFault;
+use gate_journal::journal::Journal;
+use gate_journal::making::make;
 use std::alloc::{AllocError, Global};
 use std::process::Abort;
 use std::test::Fail;

@@ -7,7 +7,7 @@ ghost use Rattle.tile_command.specs.Command.{Configures, Comes};
 
 use catalog::catalogue::Catalogue;
 use catalog::fault::CatalogueFault;
-use config_text::read_catalogue;
+use config_text::read::read_catalogue;
 use http_wire::inputs::{InputEnd, read_all};
 use http_wire::streams::ByteSource;
 use std::alloc::Global;

@@ -13,7 +13,7 @@ use crate::request::Request;
 use catalog::catalogue::Catalogue;
 use http_wire::message::Method;
 use job_forms::fault::JobFault;
-use job_forms::read_cover;
+use job_forms::cover::read_cover;
 use std::alloc::{AllocError, Global};
 use wmts_kvp::query::{Query, read_query};
 use wmts_rest::table::RestTable;

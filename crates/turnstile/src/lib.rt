@@ -8,19 +8,13 @@
 //! Stands on truncation_list (books), trace (data for contracts alone) and atomic_table (the atomic steps).
 #![tactic(auto)]
 
-mod chest;
+pub mod chest;
 mod deal;
-mod entry;
+pub mod entry;
 mod gate;
-mod pass;
+pub mod pass;
 mod start;
 mod steps;
 mod turns;
-mod turnstile;
-mod view;
-
-pub use chest::Chest;
-pub use entry::Entry;
-pub use pass::Pass;
-pub use turnstile::Turnstile;
-pub use view::{Known, Made};
+pub mod turnstile;
+pub mod view;

@@ -1,6 +1,6 @@
 //! Tests of config_text.
 use catalog::catalogue::Catalogue;
-use config_text::read_catalogue;
+use config_text::read::read_catalogue;
 use std::test::Fail;
 
 const DEMO: &[u8] = br#"{"source":0,"keptLimit":64,"cutLimit":16,"blobBytes":4096,"policy":"lru",
