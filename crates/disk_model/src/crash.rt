@@ -4,11 +4,11 @@ ghost use Rattle.disk_model.specs.Crash.{write_left, cut_left, call_left, crashe
 ghost use Rattle.disk_model.specs.Images.{Only};
 ghost use Rattle.disk_model.specs.Memory.{memory_state, memory_faults, crash_by, calls_of, new_script, script_of};
 
-use crate::pick::Pick;
 use crate::bytes::{overwrite, resize, spoil_end};
 use crate::log::{Call, Log};
 use crate::make::redo;
 use crate::memory::MemoryDisk;
+use crate::pick::Pick;
 use std::alloc::{AllocError, Global};
 
 /// Leaves a write in an image.

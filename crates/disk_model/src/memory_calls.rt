@@ -8,9 +8,9 @@ ghost use Rattle.disk_model.specs.Replay.{first_of};
 ghost use Rattle.disk_model.specs.Memory.{GoesBy, GoesWithMemory, IsUntouched, called, calls_of, is_failing, memory_faults, memory_state, new_script, script_of, stopped};
 
 use crate::attempt::{fail_cut, fail_write, read_into, resize, sync, write};
+use crate::disk::{Disk, Failed};
 use crate::log::Log;
 use crate::memory::MemoryDisk;
-use crate::disk::{Disk, Failed};
 use causes::one_more;
 use std::alloc::{AllocError, Global};
 

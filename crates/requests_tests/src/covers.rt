@@ -1,7 +1,7 @@
 //! job_forms, and served_covers
 use crate::fixtures::sea;
-use job_forms::fault::{JobFault, JobField};
 use job_forms::cover::read_cover;
+use job_forms::fault::{JobFault, JobField};
 use matrix_geometry::boxes::Box9;
 use matrix_geometry::theme::Filter;
 use served_covers::of_catalogue::is_cover_of;
