@@ -3,10 +3,10 @@ ghost use Rattle.std.specs.Prelude.{IfOk, ◌≡◌};
 ghost use Rattle.catalog.specs.Demo.{demo};
 ghost use Rattle.raster_field.specs.Blocks.{IsMeta};
 
-use crate::fixtures::corner_tile;
 use cabinet::cabinet::Cabinet;
 use cabinet::replies::{Asked, Finished, Forced};
 use catalog::catalogue::Catalogue;
+use fixtures::tiles::corner_tile;
 use metatile_plan::metatile::MetaKey;
 use raster_field::laws::laws_of_metatiles;
 use raster_field::layout::{blob_size, block_of};

@@ -1,7 +1,7 @@
 //! Tests of expiry_policy.
-use crate::fixtures::META;
 use catalog::catalogue::{Policy, Scope};
 use expiry_policy::uses::Uses;
+use fixtures::tiles::META;
 use metatile_plan::metatile::MetaKey;
 use std::alloc::{AllocError, Global};
 use std::test::Fail;

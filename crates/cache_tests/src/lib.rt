@@ -16,8 +16,6 @@ mod counter;
 #[cfg(test)]
 mod expiries;
 #[cfg(test)]
-mod fixtures;
-#[cfg(test)]
 mod renders;
 #[cfg(test)]
 mod requests;

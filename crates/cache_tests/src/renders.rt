@@ -1,5 +1,5 @@
 //! Tests of metatile_locks.
-use crate::fixtures::META;
+use fixtures::tiles::META;
 use metatile_locks::locks::Locks;
 use metatile_locks::replies::{Begin, End};
 use std::test::Fail;

@@ -1,9 +1,9 @@
 //! Tests of cache_core.
-use crate::fixtures::first_tile;
 use cabinet::cabinet::Cabinet;
 use cache_core::actor::{Actor, Step};
 use cache_core::steps::{advance, begin, give_up};
 use catalog::catalogue::Catalogue;
+use fixtures::tiles::first_tile;
 use source_render::numbered::Numbered;
 use std::test::Fail;
 

@@ -3,9 +3,9 @@ ghost use Rattle.std.specs.Prelude.{IfOk, unsigned_abs, ◌^◌, ◌≤◌};
 ghost use Rattle.matrix_geometry.specs.Limits.{IsWithinLimits};
 ghost use Rattle.truncation_list.specs.Covers.{IsWithinReach};
 
-use crate::fixtures::{CORNER, GREY};
 use exact_ratio::decimal::Decimal;
 use exact_ratio::ratio::Ratio;
+use fixtures::tiles::{CORNER, GREY};
 use matrix_geometry::address::Address;
 use matrix_geometry::boxes::{Box9, Range};
 use matrix_geometry::matrix::{Corner, Matrix, Size};

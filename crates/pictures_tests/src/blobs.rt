@@ -2,11 +2,12 @@
 ghost use Rattle.catalog.specs.Demo.{demo};
 ghost use Rattle.catalog.specs.LookUp.{IsTile};
 
-use crate::fixtures::{FIRST, rendered};
+use crate::renders::rendered;
 use catalog::catalogue::Catalogue;
 use catalog::layer::{Dimension, Layer, Style};
 use exact_ratio::items::Items;
 use exact_ratio::words::Words;
+use fixtures::tiles::FIRST;
 use matrix_geometry::address::Address;
 use matrix_geometry::theme::Theme;
 use metatile_plan::metatile::MetaKey;

@@ -9,12 +9,12 @@
 #[cfg(test)]
 mod blobs;
 #[cfg(test)]
-mod fixtures;
-#[cfg(test)]
 mod metas;
 #[cfg(test)]
 mod plans;
 #[cfg(test)]
 mod rasters;
+#[cfg(test)]
+mod renders;
 #[cfg(test)]
 mod sources;

@@ -1,9 +1,9 @@
 //! raster_field: metatiles of a catalogue with a dimension
-use crate::fixtures::FIRST;
 use catalog::catalogue::Catalogue;
 use catalog::layer::{Dimension, Layer, Style};
 use exact_ratio::items::Items;
 use exact_ratio::words::Words;
+use fixtures::tiles::FIRST;
 use matrix_geometry::theme::Theme;
 use metatile_plan::metatile::MetaKey;
 use raster_field::known::is_meta;

@@ -1,6 +1,6 @@
 //! Tests of raster_field.
-use crate::fixtures::FIRST;
 use catalog::catalogue::Catalogue;
+use fixtures::tiles::FIRST;
 use raster_field::colour::{Colour, colour_of};
 use raster_field::field::field_value;
 use raster_field::layout::{style_of, window_at};

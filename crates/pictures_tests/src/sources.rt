@@ -1,5 +1,5 @@
 //! Tests of source_render.
-use crate::fixtures::{FIRST_BLOB, renders};
+use crate::renders::{FIRST_BLOB, renders};
 use source_render::any::AnySource;
 use source_render::grid_file::GridFile;
 use source_render::numbered::Numbered;

@@ -1,5 +1,5 @@
 //! job_forms, and served_covers
-use crate::fixtures::sea;
+use fixtures::sea::sea_catalogue;
 use job_forms::cover::read_cover;
 use job_forms::fault::{JobFault, JobField};
 use matrix_geometry::boxes::Box9;
@@ -31,7 +31,7 @@ const COVER: Cover = Cover {
 #[test]
 fn a_cover_is_read_or_has_its_first_fault(rt: HostRuntime) -> Result<(), Fail> {
     let alloc = rt.alloc();
-    let catalogue = sea(alloc)?;
+    let catalogue = sea_catalogue(alloc)?;
     catalogue.validate()?;
     assert_eq!(rt; read_cover(alloc, &catalogue, TEXT), Ok(COVER));
     let missing = read_cover(alloc, &catalogue, b"{\"grid\":\"none\"}");
@@ -41,7 +41,7 @@ fn a_cover_is_read_or_has_its_first_fault(rt: HostRuntime) -> Result<(), Fail> {
 
 #[test]
 fn a_cover_of_a_catalogue_has_values_of_its_dimensions(rt: HostRuntime) -> Result<(), Fail> {
-    let catalogue = sea(rt.alloc())?;
+    let catalogue = sea_catalogue(rt.alloc())?;
     for (dims, expected) in [
         ([None, Some(1), None, None], true),
         ([None, Some(2), None, None], false),

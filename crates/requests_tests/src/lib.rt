@@ -9,8 +9,6 @@
 #[cfg(test)]
 mod covers;
 #[cfg(test)]
-mod fixtures;
-#[cfg(test)]
 mod lines;
 #[cfg(test)]
 mod messages;

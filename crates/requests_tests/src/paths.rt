@@ -1,5 +1,5 @@
 //! Tests of wmts_rest.
-use crate::fixtures::sea;
+use fixtures::sea::sea_catalogue;
 use matrix_geometry::address::Address;
 use matrix_geometry::theme::Theme;
 use std::test::Fail;
@@ -21,7 +21,7 @@ const TILE: Address = Address {
 #[test]
 fn a_path_names_a_tile_where_it_is_text(rt: HostRuntime) -> Result<(), Fail> {
     let alloc = rt.alloc();
-    let catalogue = sea(alloc)?;
+    let catalogue = sea_catalogue(alloc)?;
     catalogue.validate()?;
     let table = RestTable::new(alloc)?;
     let path = b"/rest/wmts/s%65a/grey/b%3Ac/10/tiny/2/1/3.ppm";

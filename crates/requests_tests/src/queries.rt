@@ -1,6 +1,6 @@
 //! Tests of wmts_kvp.
-use crate::fixtures::sea;
 use exception_report::code::Code;
+use fixtures::sea::sea_catalogue;
 use matrix_geometry::address::Address;
 use matrix_geometry::theme::Theme;
 use std::test::Fail;
@@ -24,7 +24,7 @@ const QUERY: &[u8] =
 #[test]
 fn a_query_names_a_tile_or_is_refused(rt: HostRuntime) -> Result<(), Fail> {
     let alloc = rt.alloc();
-    let catalogue = sea(alloc)?;
+    let catalogue = sea_catalogue(alloc)?;
     catalogue.validate()?;
     let tile = read_query(alloc, &catalogue, QUERY)?;
     assert!(rt; matches!(&tile, Query::Tile(address) if *address == TILE));

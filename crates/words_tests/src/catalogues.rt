@@ -1,9 +1,9 @@
 //! Tests of catalog.
-use crate::fixtures::sea;
 use catalog::catalogue::{Catalogue, Policy};
 use catalog::fault::{CatalogueFault, Field};
 use catalog::names::{are_distinct, is_name, is_parameter, is_same};
 use exact_ratio::words::Words;
+use fixtures::sea::sea_catalogue;
 use matrix_geometry::address::Address;
 use matrix_geometry::theme::Theme;
 use std::test::Fail;
@@ -31,7 +31,7 @@ fn the_demo_has_no_fault(rt: HostRuntime) -> Result<(), Fail> {
 
 #[test]
 fn what_has_a_name_has_its_number(rt: HostRuntime) -> Result<(), Fail> {
-    let catalogue = sea(rt.alloc())?;
+    let catalogue = sea_catalogue(rt.alloc())?;
     catalogue.validate()?;
     assert_eq!(rt; catalogue.grid_named(b"tiny"), Some(0));
     assert_eq!(rt; catalogue.layer_named(b"sea"), Some(0));
@@ -48,7 +48,7 @@ fn what_has_a_name_has_its_number(rt: HostRuntime) -> Result<(), Fail> {
 
 #[test]
 fn what_has_a_number_is_found(rt: HostRuntime) -> Result<(), Fail> {
-    let catalogue = sea(rt.alloc())?;
+    let catalogue = sea_catalogue(rt.alloc())?;
     let layer = catalogue.layer_at(&LAST).ok_or("no layer")?;
     assert!(rt; layer.serves(0));
     assert_eq!(rt; catalogue.dimensions_of(0).len(), 2);

@@ -1,11 +1,11 @@
 //! Tests of dimension_key.
-use crate::fixtures::sea;
 use dimension_key::draft::{DimFault, ThemeDraft};
+use fixtures::sea::sea_catalogue;
 use std::test::Fail;
 
 #[test]
 fn a_value_is_named_or_the_default_or_refused(rt: HostRuntime) -> Result<(), Fail> {
-    let catalogue = sea(rt.alloc())?;
+    let catalogue = sea_catalogue(rt.alloc())?;
     catalogue.validate()?;
     let mut draft = ThemeDraft::new(0, 0);
     assert!(rt; draft.next_dimension(&catalogue).is_some());

@@ -12,8 +12,6 @@ mod catalogues;
 #[cfg(test)]
 mod dimensions;
 #[cfg(test)]
-mod fixtures;
-#[cfg(test)]
 mod json;
 #[cfg(test)]
 mod matrices;

@@ -1,8 +1,8 @@
-//! The first metatile of the demo catalogue, and what a source renders.
+//! What a source renders of a metatile.
 ghost use Rattle.catalog.specs.Valid.{IsValid};
 
 use catalog::catalogue::Catalogue;
-use matrix_geometry::theme::Theme;
+use fixtures::tiles::FIRST;
 use metatile_locks::locks::Locks;
 use metatile_locks::replies::Begin;
 use metatile_plan::metatile::MetaKey;
@@ -14,20 +14,7 @@ use source_render::source::Source;
 use std::alloc::Global;
 use std::test::Fail;
 
-/// The one metatile of the demo catalogue at zoom 0, with one tile of 2 by 2 pixels.
-pub const FIRST: MetaKey = MetaKey {
-    theme: Theme {
-        layer: 0,
-        style: 0,
-        dims: [0; 4],
-    },
-    grid: 0,
-    z: 0,
-    row: 0,
-    col: 0,
-};
-
-/// The blob of it under number 1. The first grey is 7 + 17 * 4 + 13 * 4, and the ground cells are 4 and 12 both ways.
+/// The blob of the first metatile under number 1. The first grey is 7 + 17 * 4 + 13 * 4, and the ground cells are 4 and 12 both ways.
 pub const FIRST_BLOB: &[u8] = b"P6\n2 2\n255\n\x7f\x7f\x7f\x07\x07\x07\xe7\xe7\xe7\x6f\x6f\x6f";
 
 /// The blob of a metatile that a source renders under number 1; `None` where the source failed.
