@@ -20,7 +20,7 @@ FIELDS = {
     "Tile": ("matrix", "tile"), "Size": ("matrix", "size"),
     "LayerId": ("layer", "id"), "LayerGrids": ("layer", "grids"), "Styles": ("layer", "styles"),
     "Dimensions": ("layer", "dimensions"), "Meta": ("layer", "meta"), "Gutter": ("layer", "gutter"), "Cell": ("layer", "cell"),
-    "LayerQuota": ("layer", "quota"),
+    "LayerQuota": ("layer", "quota"), "Ages": ("layer", "ages"),
     "StyleId": ("style", "id"), "Breaks": ("style", "breaks"),
     "DimensionId": ("dimension", "id"), "Values": ("dimension", "values"), "Default": ("dimension", "default"),
 }

@@ -1,5 +1,6 @@
 -- A catalogue of which each test is met is valid.
 use Rattle.std.proofs.Common.{◌≡◌, ℕ, suc, ◌^◌, ◌<◌, ◌≤◌, ◌<ℤ◌, ◌==◌, true, not, int_lt, List, [], ◌∷◌, ◌++◌, length, map, Option, Some, None, IfSome, OnOk, Ok, Err, slice_get, refl, sym, subst, arith, ℤ, append_assoc}
+use Rattle.std.specs.Bool.{IsTrue}
 use Rattle.std.specs.List.{AllByRecursion, list_all, list_any}
 use Rattle.std.specs.Char.{to_ascii_lowercase}
 use Rattle.std.proofs.lemmas.Bool.{leb-true, eqb-true, eq-eqb, and_parts}
@@ -12,10 +13,11 @@ use Rattle.catalog.specs.declared.fault.CatalogueFault.TheVariants.{Bad, Duplica
 use Rattle.catalog.specs.declared.fault.Field.{Field}
 use Rattle.catalog.specs.declared.fault.Field.TheVariants as field
 use Rattle.catalog.specs.declared.grid.Grid.{Grid}
+use Rattle.catalog.specs.declared.layer.Age.{Age}
 use Rattle.catalog.specs.declared.layer.Dimension.{Dimension}
 use Rattle.catalog.specs.declared.layer.Layer.{Layer}
 use Rattle.catalog.specs.declared.layer.Style.{Style}
-use Rattle.catalog.specs.FirstFault.{Test, unless, next, matrix_test, name_test, matrices_test, grid_test, grid_number_test, style_test, dimension_name_test, names_test, default_test, dimension_test, is_small, matrices_at, are_small, quota_test, layer_test, first_fault}
+use Rattle.catalog.specs.FirstFault.{Test, unless, next, matrix_test, name_test, matrices_test, grid_test, grid_number_test, style_test, dimension_name_test, names_test, default_test, dimension_test, is_small, matrices_at, are_small, quota_test, zooms_rise, ages_test, layer_test, first_fault}
 use Rattle.catalog.specs.Names.{within, is_name, is_short, is_taken, is_parameter, is_same}
 use Rattle.catalog.specs.Valid.{IsName, AreDistinct, IsGrid, IsNamedGrid, IsStyle, IsDimension, IsLayer, IsServed, IsSmallOn, IsValid}
 use Rattle.catalog.proofs.Passing.{next_met, holds, fails, at_least, at_most, each_met, all_met}
@@ -222,6 +224,13 @@ small_met grids l e =
     l.grids
     e
 
+ages_met : (at : ℕ) (ages : List Age) → ages_test at ages ≡ Ok tt → (length ages ≤ 30) × IsTrue (zooms_rise 0 ages)
+unfolding ages_test
+ages_met at ages e =
+    let after_count = next_met (unless (nat_le (length ages) 30) (Limit field.Ages at)) _ e in
+    let after_order = next_met (unless (zooms_rise 0 ages) (Bad field.Ages at)) _ after_count.1 in
+    (leb-true _ _ (holds _ _ after_count.0), holds _ _ after_order.0)
+
 layer_met : (grids : List Grid) (before : List Layer) (l : Layer) → layer_test grids before l ≡ Ok tt → IsLayer l × IsServed grids l
 unfolding layer_test
 layer_met grids before l e =
@@ -237,7 +246,9 @@ layer_met grids before l e =
     let after_gutter = next_met _ _ after_meta.1 in
     let after_cell = next_met _ _ after_gutter.1 in
     let after_quota = next_met _ _ after_cell.1 in
-    let after_pixels = next_met _ _ after_quota.1 in
+    let after_ages = next_met _ _ after_quota.1 in
+    let after_pixels = next_met _ _ after_ages.1 in
+    let ages = ages_met at l.ages after_ages.0 in
     let count : within 1 16 (length l.grids) ≡ true = holds _ _ after_grids.0 in
     let style_count : within 1 32 (length l.styles) ≡ true = holds _ _ after_count.0 in
     let meta = and_parts _ _ (holds _ _ after_meta.0) in
@@ -262,6 +273,8 @@ layer_met grids before l e =
         cell = at_least 1 1000000000 l.cell cell;
         cell_most = at_most 1 1000000000 l.cell cell;
         quota = quota_met field.LayerQuota at l.quota after_quota.0;
+        ages_most = ages.0;
+        ages_rise = ages.1;
       },
       record {
         there = each_met (grid_number_test at grids) (λ n. n < length grids) (number_met at grids) [] l.grids after_numbers.0;

@@ -36,6 +36,7 @@ demo_layer =
       gutter = 0;
       cell = 1;
       quota = None;
+      ages = [];
     }
 
 abbrev pub demo : Catalogue

@@ -9,6 +9,7 @@ use Rattle.catalog.specs.declared.fault.CatalogueFault.TheVariants.{Bad, Duplica
 use Rattle.catalog.specs.declared.fault.Field.{Field}
 use Rattle.catalog.specs.declared.fault.Field.TheVariants as field
 use Rattle.catalog.specs.declared.grid.Grid.{Grid}
+use Rattle.catalog.specs.declared.layer.Age.{Age}
 use Rattle.catalog.specs.declared.layer.Break.{Break}
 use Rattle.catalog.specs.declared.layer.Dimension.{Dimension}
 use Rattle.catalog.specs.declared.layer.Layer.{Layer}
@@ -191,6 +192,18 @@ unfoldable pub are_small : List Grid → List ℕ → ℕ → ℕ → ℕ → Bo
 are_small grids numbers meta_x meta_y gutter =
     list_all (λ n. list_all (is_small meta_x meta_y gutter) (matrices_at (slice_get grids n))) numbers
 
+-- the zooms rise strictly, the first at least n and the last at most 29
+abbrev pub zooms_rise : ℕ → List Age → Bool
+zooms_rise n [] = true
+zooms_rise n (age ∷ ages) = within n 29 age.zoom && zooms_rise (age.zoom + 1) ages
+
+unfoldable pub ages_test : ℕ → List Age → Test
+ages_test at ages =
+    first (
+    unless (nat_le (length ages) 30) (Limit field.Ages at) ∷
+    unless (zooms_rise 0 ages) (Bad field.Ages at) ∷
+    [])
+
 unfoldable pub layer_test : List Grid → List Layer → Layer → Test
 layer_test grids before l =
     let at = length before in
@@ -206,6 +219,7 @@ layer_test grids before l =
     unless (nat_le l.gutter 64) (Limit field.Gutter at) ∷
     unless (within 1 1000000000 l.cell) (Limit field.Cell at) ∷
     quota_test field.LayerQuota at l.quota ∷
+    ages_test at l.ages ∷
     unless (are_small grids l.grids l.meta_x l.meta_y l.gutter) (Limit field.Meta at) ∷
     [])
 

@@ -1,3 +1,4 @@
+pub mod AgeLimits
 pub mod Demo
 pub mod FirstFault
 pub mod LookUp

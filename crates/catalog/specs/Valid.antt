@@ -7,7 +7,7 @@ use Rattle.catalog.specs.declared.grid.Grid.{Grid}
 use Rattle.catalog.specs.declared.layer.Dimension.{Dimension}
 use Rattle.catalog.specs.declared.layer.Layer.{Layer}
 use Rattle.catalog.specs.declared.layer.Style.{Style}
-use Rattle.catalog.specs.FirstFault.{rise_from_zero, matrices_at}
+use Rattle.catalog.specs.FirstFault.{rise_from_zero, matrices_at, zooms_rise}
 use Rattle.catalog.specs.Names.{is_name, is_parameter}
 use Rattle.matrix_geometry.specs.declared.matrix.Matrix.{Matrix}
 use Rattle.matrix_geometry.specs.Limits.{IsWithinLimits}
@@ -68,6 +68,8 @@ pub record IsLayer (l : Layer) : Type 0 where
   pub cell : 1 ≤ l.cell
   pub cell_most : l.cell ≤ 10 ^ 9
   pub quota : IfSome l.quota (λ bytes. bytes ≤ 2 ^ 50)
+  pub ages_most : length l.ages ≤ 30
+  pub ages_rise : IsTrue (zooms_rise 0 l.ages)
 
 -- a metatile of the layer has few enough pixels on this matrix, with its gutter
 abbrev pub IsSmallOn : Layer → Matrix → Type 0

@@ -84,6 +84,7 @@ impl Copied for Layer {
             gutter: self.gutter,
             cell: self.cell,
             quota: self.quota,
+            ages: plain(alloc, &self.ages)?,
         })
     }
 }

@@ -70,6 +70,7 @@ fn demo_layer(alloc: Global) -> Result<Layer, AllocError>
         gutter: 0,
         cell: 1,
         quota: None,
+        ages: Items::of(Vec::new(alloc)),
     })
 }
 

@@ -69,6 +69,8 @@ pub enum Field {
     Cell,
     /// `quota` of a layer
     LayerQuota,
+    /// `ages` of a layer
+    Ages,
 }
 
 /// Why a text is no catalogue, or why a catalogue isn't valid: a member, with the place of its object in its list, 0 for

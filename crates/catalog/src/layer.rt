@@ -1,4 +1,4 @@
-//! The types of a layer and of its styles and dimensions.
+//! The types of a layer and of its styles, dimensions and age limits.
 use exact_ratio::items::Items;
 use exact_ratio::words::Words;
 
@@ -27,6 +27,15 @@ pub struct Dimension {
     pub default: Option<u32>,
 }
 
+/// From a zoom on, the age up to which a kept metatile may answer.
+#[derive(Clone, Copy, Debug, PartialEq, Eq)]
+pub struct Age {
+    /// The number of the matrix in its grid from which on this counts, up to the zoom of the next age.
+    pub zoom: u32,
+    /// The age in seconds. 0 stands for no limit.
+    pub seconds: u32,
+}
+
 /// A layer of the map.
 #[derive(Drop)]
 pub struct Layer {
@@ -45,4 +54,6 @@ pub struct Layer {
     pub cell: u64,
     /// The most bytes that its kept metatiles may take.
     pub quota: Option<u64>,
+    /// How old its kept metatiles may be, by zooms that rise strictly. Below the first zoom there is no limit.
+    pub ages: Items<Age>,
 }

@@ -1,35 +1,84 @@
-//! Look-ups by number: what an address names in the catalogue, and the parts of a grid and of a layer.
-ghost use Rattle.std.specs.Prelude.{◌≡◌, Contains, IfSome, option_copied};
-ghost use Rattle.std.specs.Bool.{OnTrue};
-ghost use Rattle.catalog.specs.LookUp.{dimension_at, dimensions_of, layer_of, matrix_in, matrix_of, serves, style_of};
-ghost use Rattle.catalog.specs.Valid.{IsDimension, IsValid};
+//! Look-ups by number: the layers, styles, grids, matrices and dimensions of the catalogue.
+ghost use Rattle.std.specs.Prelude.{◌≡◌, ◌↔◌, true, Contains, IfSome, IsSome, Some, option_copied, slice_get};
+ghost use Rattle.catalog.specs.LookUp.{dimension_at, dimensions_of, layer_of, matrix_in, serves, style_of};
+ghost use Rattle.catalog.specs.Valid.{IsDimension, IsGrid, IsLayer, IsNamedGrid, IsStyle, IsValid};
+ghost use Rattle.matrix_geometry.specs.Limits.{IsWithinLimits};
 
 use crate::catalogue::Catalogue;
+use crate::grid::Grid;
 use crate::layer::{Dimension, Layer, Style};
-use matrix_geometry::address::Address;
 use matrix_geometry::matrix::Matrix;
+use matrix_geometry::theme::Theme;
 
 impl Catalogue {
-    /// The layer that an address names.
-    pub fn layer_at(&self, address: &Address) -> Option<&Layer>
-        ensures { option_copied result ≡ layer_of self.now address.now.theme }
+    /// The layer of this number, which has to be that of one.
+    pub fn layer(&self, number: u32) -> &Layer
+        requires valid { IsValid self.now }
+        requires there { IsSome (slice_get self.now.layers number) }
+        ensures layer { slice_get self.now.layers number ≡ Some result.now }
+        ensures valid { IsLayer result.now }
     {
-        self.layers.get(address.theme.layer as usize)
+        let Some(layer) = self.layers.get(number as usize) else {
+            unreachable!()
+        };
+        layer
     }
 
-    /// The style that an address names.
-    pub fn style_at(&self, address: &Address) -> Option<&Style>
-        ensures { option_copied result ≡ style_of self.now address.now.theme }
+    /// The layer of a theme of the catalogue.
+    pub fn layer_of(&self, theme: &Theme) -> &Layer
+        requires valid { IsValid self.now }
+        requires theme { IsSome (style_of self.now theme.now) }
+        ensures layer { layer_of self.now theme.now ≡ Some result.now }
+        ensures valid { IsLayer result.now }
     {
-        let layer = self.layers.get(address.theme.layer as usize)?;
-        layer.styles.get(address.theme.style as usize)
+        let Some(layer) = self.layers.get(theme.layer as usize) else {
+            unreachable!()
+        };
+        layer
     }
 
-    /// The matrix that an address names.
-    pub fn matrix_at(&self, address: &Address) -> Option<&Matrix>
-        ensures { option_copied result ≡ matrix_of self.now address.now }
+    /// The style of a theme of the catalogue.
+    pub fn style_of(&self, theme: &Theme) -> &Style
+        requires valid { IsValid self.now }
+        requires theme { IsSome (style_of self.now theme.now) }
+        ensures style { style_of self.now theme.now ≡ Some result.now }
+        ensures valid { IsStyle result.now }
     {
-        self.matrix_in(address.grid, address.z)
+        let layer = self.layer_of(theme);
+        let Some(style) = layer.styles.get(theme.style as usize) else {
+            unreachable!()
+        };
+        style
+    }
+
+    /// The grid of this number, which has to be that of one.
+    pub fn grid(&self, number: u32) -> &Grid
+        requires valid { IsValid self.now }
+        requires there { IsSome (slice_get self.now.grids number) }
+        ensures grid { slice_get self.now.grids number ≡ Some result.now }
+        ensures valid { IsGrid result.now }
+        ensures named { IsNamedGrid result.now }
+    {
+        let Some(grid) = self.grids.get(number as usize) else {
+            unreachable!()
+        };
+        grid
+    }
+
+    /// The matrix of this number in a grid, which has to be that of one.
+    pub fn matrix(&self, grid: u32, z: u32) -> &Matrix
+        requires valid { IsValid self.now }
+        requires there { IsSome (matrix_in self.now grid z) }
+        ensures matrix { matrix_in self.now grid z ≡ Some result.now }
+        ensures limits { IsWithinLimits result.now }
+    {
+        let Some(grid) = self.grids.get(grid as usize) else {
+            unreachable!()
+        };
+        let Some(matrix) = grid.matrices.get(z as usize) else {
+            unreachable!()
+        };
+        matrix
     }
 
     /// The matrix of this number in a grid; `None` exactly where the grid has no such matrix, or there is no such grid.
@@ -65,7 +114,7 @@ impl Layer {
     #[tactic(auto, using(crate::proofs::Found::contains_of))]
     pub fn serves(&self, grid: u32) -> bool
         ensures value { result ≡ serves self.now grid }
-        ensures there { OnTrue result (Contains self.now.grids grid) }
+        ensures there { (result ≡ true) ↔ Contains self.now.grids grid }
     {
         self.grids.as_slice().contains(&grid)
     }

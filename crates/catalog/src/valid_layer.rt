@@ -9,6 +9,7 @@ use crate::grid::Grid;
 use crate::layer::{Dimension, Layer, Style};
 use crate::named::Named;
 use crate::names::within;
+use crate::valid_ages::ages_test;
 use matrix_geometry::matrix::Matrix;
 
 impl Named for Layer {
@@ -182,6 +183,7 @@ fn layer_test(grids: &[Grid], before: &[Layer], layer: &Layer) -> Result<(), Cat
         CatalogueFault::Limit(Field::Cell, at),
     )?;
     quota_test(Field::LayerQuota, at, layer.quota)?;
+    ages_test(at, layer.ages.as_slice())?;
     unless(
         are_small(grids, numbers, meta_x, meta_y, gutter),
         CatalogueFault::Limit(Field::Meta, at),

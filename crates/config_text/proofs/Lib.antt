@@ -1,3 +1,4 @@
+mod AgeRows
 mod Breaks
 mod Digits
 mod EmptyText

@@ -7,8 +7,9 @@ use Rattle.catalog.specs.declared.fault.CatalogueFault.{CatalogueFault}
 use Rattle.catalog.specs.declared.fault.Field.{Field}
 use Rattle.catalog.specs.declared.fault.Field.TheVariants as field
 use Rattle.catalog.specs.declared.grid.Grid.{Grid}
+use Rattle.catalog.specs.declared.layer.Age.{Age}
 use Rattle.catalog.specs.declared.layer.Layer.{Layer}
-use Rattle.catalog.specs.FirstFault.{unless, each, name_test, names_test, quota_test, grid_test, grid_number_test, style_test, dimension_test, are_factors, are_small, layer_test, first_fault}
+use Rattle.catalog.specs.FirstFault.{unless, each, name_test, names_test, quota_test, grid_test, grid_number_test, style_test, dimension_test, are_factors, are_small, zooms_rise, ages_test, layer_test, first_fault}
 use Rattle.catalog.specs.Names.{within, is_short}
 use Rattle.catalog.proofs.Passing.{at_most, holds, next_met}
 use Rattle.config_text.proofs.Loop.{next_is}
@@ -33,6 +34,10 @@ quota_met : (f : Field) (at : ℕ) (quota : Option ℕ) → IfSome quota (λ n. 
 quota_met f at None h = refl
 quota_met f at (Some n) h = rw (below (2 ^ 50) n h) refl
 
+ages_met : (at : ℕ) (ages : List Age) → nat_le (length ages) 30 ≡ true → zooms_rise 0 ages ≡ true → ages_test at ages ≡ Ok tt
+unfolding ages_test
+ages_met at ages few rise = next_is _ _ (unless_is _ _ few) (next_is _ _ (unless_is _ _ rise) refl)
+
 pub layer_met : (grids : List Grid) (before : List Layer) (l : Layer) →
     name_test (λ x. x.id) before field.LayerId (length before) l.id ≡ Ok tt →
     within 1 16 (length l.grids) ≡ true →
@@ -45,10 +50,12 @@ pub layer_met : (grids : List Grid) (before : List Layer) (l : Layer) →
     within 0 64 l.gutter ≡ true →
     within 1 1000000000 l.cell ≡ true →
     IfSome l.quota (λ n. within 0 (2 ^ 50) n ≡ true) →
+    nat_le (length l.ages) 30 ≡ true →
+    zooms_rise 0 l.ages ≡ true →
     are_small grids l.grids l.meta_x l.meta_y l.gutter ≡ true →
     layer_test grids before l ≡ Ok tt
 unfolding layer_test
-layer_met grids before l name count numbers style_count styles dim_count dims meta gutter cell quota small =
+layer_met grids before l name count numbers style_count styles dim_count dims meta gutter cell quota few_ages ages_rise small =
     next_is _ _ name
     (next_is _ _ (unless_is _ _ count)
     (next_is _ _ numbers
@@ -60,7 +67,8 @@ layer_met grids before l name count numbers style_count styles dim_count dims me
     (next_is _ _ (unless_is _ _ (below 64 l.gutter gutter))
     (next_is _ _ (unless_is _ _ cell)
     (next_is _ _ (quota_met field.LayerQuota (length before) l.quota quota)
-    (next_is _ _ (unless_is _ _ small) refl)))))))))))
+    (next_is _ _ (ages_met (length before) l.ages few_ages ages_rise)
+    (next_is _ _ (unless_is _ _ small) refl))))))))))))
 
 pub catalogue_met : (c : Catalogue) →
     within 1 1048576 c.kept_limit ≡ true →

@@ -20,6 +20,7 @@ use Rattle.json_forms.specs.Forms.{number_of}
 use Rattle.config_text.specs.Reading.{◌>>=◌, tested, entries}
 use Rattle.config_text.specs.Member.{Form, required, or, if_any, of_kind, items, objects, name_beside, names, own_names, whole}
 use Rattle.config_text.specs.Shape.{size}
+use Rattle.config_text.specs.Ages.{ages}
 
 -- ---- styles
 
@@ -119,7 +120,8 @@ layer_of grids before d = do
   gutter ← or 0 (whole 0 64) field.Gutter (length before) (get (codes "gutter") d)
   cell ← or 1 (whole 1 1000000000) field.Cell (length before) (get (codes "cell") d)
   quota ← if_any (whole 0 (2 ^ 50)) field.LayerQuota (length before) (get (codes "quota") d)
-  tested (unless (are_small grids numbers meta.w meta.h gutter) (Limit field.Meta (length before))) (record { id = id; grids = numbers; styles = styles; dims = dims; meta_x = meta.w; meta_y = meta.h; gutter = gutter; cell = cell; quota = quota })
+  ages ← or [] ages field.Ages (length before) (get (codes "ages") d)
+  tested (unless (are_small grids numbers meta.w meta.h gutter) (Limit field.Meta (length before))) (record { id = id; grids = numbers; styles = styles; dims = dims; meta_x = meta.w; meta_y = meta.h; gutter = gutter; cell = cell; quota = quota; ages = ages })
 
 unfoldable pub layers_of : List Grid → Data → Result (List Layer) CatalogueFault
 layers_of grids d = do

@@ -3,6 +3,7 @@ pub mod Member
 pub mod Shape
 pub mod Settings
 pub mod Grids
+pub mod Ages
 pub mod Layers
 pub mod Matrices
 pub mod Text

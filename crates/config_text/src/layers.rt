@@ -8,6 +8,7 @@ ghost use Rattle.config_text.specs.Reading.{Gives, entries};
 ghost use Rattle.config_text.specs.Member.{or};
 ghost use Rattle.config_text.specs.Layers.{grid_number, factors, layer_of, layers_of};
 
+use crate::ages::ages_or_none;
 use crate::dimensions::dimensions_of;
 use crate::member::{objects_or_none, required_objects, whole_if_any, whole_or};
 use crate::name::{required_id, required_names};
@@ -111,6 +112,7 @@ fn layer_of(
     let gutter = whole_or(object, "gutter", Field::Gutter, at, 0, 64, 0)? as u32;
     let cell = whole_or(object, "cell", Field::Cell, at, 1, 1_000_000_000, 1)?;
     let quota = whole_if_any(object, "quota", Field::LayerQuota, at, 1 << 50)?;
+    let ages = ages_or_none(alloc, object, at)?;
     unless(
         are_small(grids, numbers.as_slice(), meta.w, meta.h, gutter),
         CatalogueFault::Limit(Field::Meta, at),
@@ -125,6 +127,7 @@ fn layer_of(
         gutter,
         cell,
         quota,
+        ages: Items::of(ages),
     })
 }
 

@@ -5,6 +5,7 @@
 //! Stands on json_forms, catalog, matrix_geometry, exact_ratio, serde_json and sha2.
 #![tactic(auto)]
 
+mod ages;
 mod dimensions;
 mod each;
 mod grids;

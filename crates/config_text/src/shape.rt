@@ -16,7 +16,7 @@ use serde_json::Value;
 
 /// A list of two values.
 #[tactic(auto, unfolding(crate::specs::Shape::two))]
-fn two(value: &Value, field: Field, at: u32) -> Result<(&Value, &Value), CatalogueFault>
+pub(crate) fn two(value: &Value, field: Field, at: u32) -> Result<(&Value, &Value), CatalogueFault>
     ensures { Gives (λ p. (view p.0.now, view p.1.now)) result (two field at (view value.now)) }
 {
     let values = items(value, field, at)?;

@@ -59,13 +59,13 @@ pub fn required_grid(catalogue: &Catalogue, layer: u32, object: &Value) -> Resul
 }
 
 /// How many matrices a grid has.
+#[tactic(auto, using(catalog::proofs::Found::some_within))]
 pub fn matrices_of(catalogue: &Catalogue, grid: u32) -> usize
+    requires valid { IsValid catalogue.now }
+    requires grid { grid < length catalogue.now.grids }
     ensures { result ≡ matrices_of catalogue.now grid }
 {
-    match catalogue.grids.get(grid as usize) {
-        Some(grid) => grid.matrices.len(),
-        None => 0,
-    }
+    catalogue.grid(grid).matrices.len()
 }
 
 fn zoom(first: u32, matrices: usize, value: &Value) -> Option<u32>

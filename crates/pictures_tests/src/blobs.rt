@@ -72,6 +72,7 @@ fn with_gutter(alloc: Global) -> Result<Catalogue, AllocError> {
         gutter: 1,
         cell: 1,
         quota: None,
+        ages: Items::of(Vec::new(alloc)),
     };
     let mut catalogue = Catalogue::demo(alloc)?;
     let mut layers = catalogue.layers.into_vec();

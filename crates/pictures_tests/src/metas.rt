@@ -35,6 +35,7 @@ fn sea(alloc: Global) -> Result<Catalogue, AllocError> {
         gutter: 1,
         cell: 1,
         quota: None,
+        ages: Items::of(Vec::new(alloc)),
     };
     let mut catalogue = Catalogue::demo(alloc)?;
     catalogue.layers = Items::of(vec![in alloc; layer]?);

@@ -3,7 +3,7 @@ use catalog::catalogue::Catalogue;
 use fixtures::tiles::FIRST;
 use raster_field::colour::{Colour, colour_of};
 use raster_field::field::field_value;
-use raster_field::layout::{style_of, window_at};
+use raster_field::layout::window_at;
 use raster_field::raster::Raster;
 use std::test::Fail;
 
@@ -18,7 +18,7 @@ fn the_first_value_is_told(rt: HostRuntime) -> Result<(), Fail> {
         g: 0x7f,
         b: 0x7f,
     };
-    assert_eq!(rt; colour_of(style_of(&catalogue, &FIRST), value), grey);
+    assert_eq!(rt; colour_of(catalogue.style_of(&FIRST.theme), value), grey);
     Ok(())
 }
 

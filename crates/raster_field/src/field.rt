@@ -6,7 +6,6 @@ ghost use Rattle.raster_field.specs.Blocks.{IsMeta};
 ghost use Rattle.raster_field.specs.Fields.{IsPixel, field_value};
 ghost use Rattle.raster_field.specs.Picture.{cell_at, shade_of, weighted};
 
-use crate::layout::{layer_of, matrix_of};
 use catalog::catalogue::Catalogue;
 use catalog::layer::Layer;
 use matrix_geometry::matrix::Matrix;
@@ -79,6 +78,7 @@ pub fn cell_at(matrix: &Matrix, layer: &Layer, x: u64) -> u128
 }
 
 /// The value of a pixel of the whole matrix of a metatile, in the picture of a source and a render.
+#[tactic(auto, using(catalog::proofs::Found::some_told))]
 pub fn field_value(
     catalogue: &Catalogue,
     id: u32,
@@ -92,8 +92,8 @@ pub fn field_value(
     requires pixel { IsPixel catalogue.now meta.now x y }
     ensures { result ≡ field_value catalogue.now id number meta.now x y }
 {
-    let matrix = matrix_of(catalogue, meta);
-    let layer = layer_of(catalogue, meta);
+    let matrix = catalogue.matrix(meta.grid, meta.z);
+    let layer = catalogue.layer_of(&meta.theme);
     let across = cell_at(matrix, layer, x);
     let down = cell_at(matrix, layer, y);
     ((shade_of(id, number, &meta.theme) + 17 * across + 13 * down) % 256) as u8

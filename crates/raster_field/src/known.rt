@@ -24,12 +24,6 @@ fn has_tile(layer: &Layer, matrix: &Matrix, meta: &MetaKey) -> bool
     left < u64::from(matrix.cols)
 }
 
-fn serves(layer: &Layer, grid: u32) -> bool
-    ensures { (result ≡ true) ↔ Rattle.std.specs.Prelude.Contains layer.now.grids grid }
-{
-    layer.grids.as_slice().contains(&grid)
-}
-
 /// How many values a theme may have at a place: those of the layer's dimension there, and 0 alone where it has none there.
 fn values_at(catalogue: &Catalogue, layer: u32, place: u32) -> usize
     ensures { result ≡ values_at catalogue.now layer place }
@@ -62,7 +56,7 @@ pub fn is_meta(catalogue: &Catalogue, meta: &MetaKey) -> bool
     let Some(layer) = catalogue.layers.get(meta.theme.layer as usize) else {
         return false;
     };
-    if !serves(layer, meta.grid) {
+    if !layer.serves(meta.grid) {
         return false;
     }
     let Some(_) = layer.styles.get(meta.theme.style as usize) else {
@@ -71,10 +65,7 @@ pub fn is_meta(catalogue: &Catalogue, meta: &MetaKey) -> bool
     if !has_values(catalogue, &meta.theme) {
         return false;
     }
-    let Some(grid) = catalogue.grids.get(meta.grid as usize) else {
-        return false;
-    };
-    let Some(matrix) = grid.matrices.get(meta.z as usize) else {
+    let Some(matrix) = catalogue.matrix_in(meta.grid, meta.z) else {
         return false;
     };
     has_tile(layer, matrix, meta)

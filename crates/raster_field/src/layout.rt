@@ -1,14 +1,14 @@
-//! What a catalogue says of a metatile: its layer, its style, its matrix and its factors.
+//! What a catalogue says of a metatile: how its tiles are gathered, on which matrix, and what its blob and its window are.
 ghost use Rattle.std.specs.Prelude.{◌≡◌, ◌≤◌, Some};
-ghost use Rattle.catalog.specs.LookUp.{IsTile, layer_of, matrix_in, style_of};
-ghost use Rattle.catalog.specs.Valid.{IsLayer, IsValid};
+ghost use Rattle.catalog.specs.LookUp.{IsTile, matrix_in};
+ghost use Rattle.catalog.specs.Valid.{IsValid};
 ghost use Rattle.matrix_geometry.specs.Limits.{IsWithinLimits};
 ghost use Rattle.metatile_plan.specs.Plan.{IsMetaIn, IsPlan};
 ghost use Rattle.raster_field.specs.Blocks.{IsMeta, blob_size, block_of, factors_at, factors_of};
 ghost use Rattle.raster_field.specs.Rasters.{IsWindowOf, window_in};
 
 use catalog::catalogue::Catalogue;
-use catalog::layer::{Layer, Style};
+use catalog::layer::Layer;
 use matrix_geometry::address::Address;
 use matrix_geometry::matrix::Matrix;
 use metatile_plan::metatile::{Factors, MetaKey};
@@ -16,49 +16,8 @@ use metatile_plan::plan::{meta_of, window};
 use metatile_plan::spans::blob_len;
 use metatile_plan::window::Window;
 
-/// The layer of a metatile of the catalogue.
-pub fn layer_of<'a>(catalogue: &'a Catalogue, meta: &MetaKey) -> &'a Layer
-    requires valid { IsValid catalogue.now }
-    requires meta { IsMeta catalogue.now meta.now }
-    ensures layer { layer_of catalogue.now meta.now.theme ≡ Some result.now }
-    ensures valid { IsLayer result.now }
-{
-    let Some(layer) = catalogue.layers.get(meta.theme.layer as usize) else {
-        unreachable!()
-    };
-    layer
-}
-
-/// The style of a metatile of the catalogue.
-pub fn style_of<'a>(catalogue: &'a Catalogue, meta: &MetaKey) -> &'a Style
-    requires valid { IsValid catalogue.now }
-    requires meta { IsMeta catalogue.now meta.now }
-    ensures style { style_of catalogue.now meta.now.theme ≡ Some result.now }
-{
-    let layer = layer_of(catalogue, meta);
-    let Some(style) = layer.styles.get(meta.theme.style as usize) else {
-        unreachable!()
-    };
-    style
-}
-
-/// The matrix of a metatile of the catalogue.
-pub fn matrix_of<'a>(catalogue: &'a Catalogue, meta: &MetaKey) -> &'a Matrix
-    requires valid { IsValid catalogue.now }
-    requires meta { IsMeta catalogue.now meta.now }
-    ensures matrix { matrix_in catalogue.now meta.now.grid meta.now.z ≡ Some result.now }
-    ensures limits { IsWithinLimits result.now }
-{
-    let Some(grid) = catalogue.grids.get(meta.grid as usize) else {
-        unreachable!()
-    };
-    let Some(matrix) = grid.matrices.get(meta.z as usize) else {
-        unreachable!()
-    };
-    matrix
-}
-
-fn factors_of(layer: &Layer) -> Factors
+/// How the tiles of a layer are gathered into metatiles.
+pub fn factors_of(layer: &Layer) -> Factors
     ensures { result ≡ factors_of layer.now }
 {
     Factors {
@@ -76,6 +35,7 @@ pub struct Layout {
 }
 
 /// The factors and the matrix of a metatile of the catalogue. They are within the limits.
+#[tactic(auto, using(catalog::proofs::Found::some_told))]
 pub fn layout_of(catalogue: &Catalogue, meta: &MetaKey) -> Layout
     requires valid { IsValid catalogue.now }
     requires meta { IsMeta catalogue.now meta.now }
@@ -86,8 +46,8 @@ pub fn layout_of(catalogue: &Catalogue, meta: &MetaKey) -> Layout
     ensures place { IsMetaIn result.factors result.matrix meta.now }
 {
     Layout {
-        factors: factors_of(layer_of(catalogue, meta)),
-        matrix: *matrix_of(catalogue, meta),
+        factors: factors_of(catalogue.layer_of(&meta.theme)),
+        matrix: *catalogue.matrix(meta.grid, meta.z),
     }
 }
 
@@ -98,9 +58,7 @@ pub fn block_of(catalogue: &Catalogue, address: &Address) -> MetaKey
     ensures meta { result ≡ block_of catalogue.now address.now }
     ensures is_meta { IsMeta catalogue.now result }
 {
-    let Some(layer) = catalogue.layer_at(address) else {
-        unreachable!()
-    };
+    let layer = catalogue.layer_of(&address.theme);
     meta_of(address, &factors_of(layer))
 }
 

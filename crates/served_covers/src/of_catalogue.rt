@@ -14,7 +14,7 @@ fn is_served(catalogue: &Catalogue, layer: u32, grid: u32) -> bool
     ensures { (result ≡ true) ↔ IsSomeAnd (slice_get catalogue.now.layers layer) (λ l. Contains l.grids grid) }
 {
     match catalogue.layers.get(layer as usize) {
-        Some(layer) => layer.grids.as_slice().contains(&grid),
+        Some(layer) => layer.serves(grid),
         None => false,
     }
 }

@@ -17,7 +17,6 @@ use metatile_plan::metatile::MetaKey;
 use metatile_plan::window::Window;
 use raster_field::colour::Colour;
 use raster_field::field::cell_at;
-use raster_field::layout::{layer_of, matrix_of, style_of};
 use raster_field::raster::Raster;
 use std::fs::File;
 
@@ -107,6 +106,7 @@ fn paint_rows(
 }
 
 /// Paints a window; `None` where the file can't be read or is of another form.
+#[tactic(auto, using(catalog::proofs::Found::some_told))]
 fn paint(
     file: &File,
     catalogue: &Catalogue,
@@ -122,9 +122,9 @@ fn paint(
 {
     let grid = read_grid(file)?;
     let width = into.width();
-    let palette = palette_of(style_of(catalogue, meta));
-    let matrix = matrix_of(catalogue, meta);
-    let layer = layer_of(catalogue, meta);
+    let palette = palette_of(catalogue.style_of(&meta.theme));
+    let matrix = catalogue.matrix(meta.grid, meta.z);
+    let layer = catalogue.layer_of(&meta.theme);
     let mut row = [0; BYTES];
     let row = &mut row[..width as usize * 3];
     paint_rows(file, grid, matrix, layer, &palette, window, row, into)

@@ -17,7 +17,6 @@ use metatile_plan::metatile::MetaKey;
 use metatile_plan::window::Window;
 use raster_field::colour::Colour;
 use raster_field::field::{cell_at, shade_of};
-use raster_field::layout::{layer_of, matrix_of, style_of};
 use raster_field::raster::Raster;
 
 /// The most columns of a window: 8 tiles of 512, and 64 on both sides.
@@ -178,6 +177,7 @@ impl Painter<'_> {
 }
 
 /// Paints the picture of a source and a render on a window of a metatile of the catalogue.
+#[tactic(auto, using(catalog::proofs::Found::some_told))]
 pub fn paint(
     source: u32,
     catalogue: &Catalogue,
@@ -196,9 +196,9 @@ pub fn paint(
         source,
         number,
         theme: meta.theme,
-        matrix: *matrix_of(catalogue, meta),
-        layer: layer_of(catalogue, meta),
-        style: style_of(catalogue, meta),
+        matrix: *catalogue.matrix(meta.grid, meta.z),
+        layer: catalogue.layer_of(&meta.theme),
+        style: catalogue.style_of(&meta.theme),
     };
     painter.paint(window, into);
 }

@@ -46,3 +46,27 @@ fn no_text_gives_the_demo(rt: HostRuntime) -> Result<(), Fail> {
     assert!(rt; read.digest == demo.digest);
     Ok(())
 }
+
+/// A layer with limits of age from zoom 1 to 2 and from zoom 5 on.
+const AGES: &[u8] = br#"{"blobBytes":1,"grids":[
+{"id":"one","corner":["0","16"],"matrices":[{"id":"0","span":"8","tile":[2,2],"size":[1,1]}]}],
+"layers":[{"id":"a","grids":["one"],"styles":[{"id":"grey","breaks":[]}],"ages":[[1,10],[3,0],[5,4294967295]]}]}
+"#;
+
+#[test]
+fn the_last_age_up_to_a_zoom_counts(rt: HostRuntime) -> Result<(), Fail> {
+    let read = read_catalogue(rt.alloc(), AGES).ok().ok_or("a fault")?;
+    let layer = read.layers.get(0).ok_or("no layer")?;
+    for (z, limit) in [
+        (0, None),
+        (1, Some(10)),
+        (2, Some(10)),
+        (3, None),
+        (4, None),
+        (5, Some(4_294_967_295)),
+        (29, Some(4_294_967_295)),
+    ] {
+        assert_eq!(rt; layer.age_limit(z), limit);
+    }
+    Ok(())
+}

@@ -1,24 +1,15 @@
 //! Tests of catalog.
+ghost use Rattle.std.specs.Prelude.{IsSome};
+ghost use Rattle.catalog.specs.Demo.{demo};
+ghost use Rattle.catalog.specs.LookUp.{style_of};
+
 use catalog::catalogue::{Catalogue, Policy};
 use catalog::fault::{CatalogueFault, Field};
 use catalog::names::{are_distinct, is_name, is_parameter, is_same};
 use exact_ratio::words::Words;
 use fixtures::sea::sea_catalogue;
-use matrix_geometry::address::Address;
 use matrix_geometry::theme::Theme;
 use std::test::Fail;
-
-const LAST: Address = Address {
-    theme: Theme {
-        layer: 0,
-        style: 0,
-        dims: [0, 1, 0, 0],
-    },
-    grid: 0,
-    z: 2,
-    row: 3,
-    col: 3,
-};
 
 #[test]
 fn the_demo_has_no_fault(rt: HostRuntime) -> Result<(), Fail> {
@@ -49,12 +40,34 @@ fn what_has_a_name_has_its_number(rt: HostRuntime) -> Result<(), Fail> {
 #[test]
 fn what_has_a_number_is_found(rt: HostRuntime) -> Result<(), Fail> {
     let catalogue = sea_catalogue(rt.alloc())?;
-    let layer = catalogue.layer_at(&LAST).ok_or("no layer")?;
+    let layer = catalogue.layers.get(0).ok_or("no layer")?;
     assert!(rt; layer.serves(0));
     assert_eq!(rt; catalogue.dimensions_of(0).len(), 2);
-    assert!(rt; catalogue.style_at(&LAST).is_some());
-    assert!(rt; catalogue.matrix_at(&LAST).is_some());
+    assert!(rt; catalogue.matrix_in(0, 2).is_some());
     assert!(rt; catalogue.matrix_in(0, 3).is_none());
+    Ok(())
+}
+
+/// The theme of the built-in catalogue.
+fn only_theme() -> Theme
+    ensures { IsSome (style_of demo result) }
+{
+    Theme {
+        layer: 0,
+        style: 0,
+        dims: [0; 4],
+    }
+}
+
+#[test]
+fn what_is_of_the_catalogue_is_there(rt: HostRuntime) -> Result<(), Fail> {
+    let demo = Catalogue::demo(rt.alloc())?;
+    let theme = only_theme();
+    assert!(rt; demo.layer(0).id.bytes() == b"demo".as_slice());
+    assert!(rt; demo.layer_of(&theme).id.bytes() == b"demo".as_slice());
+    assert!(rt; demo.style_of(&theme).id.bytes() == b"grey".as_slice());
+    assert!(rt; demo.grid(0).id.bytes() == b"tiny".as_slice());
+    assert_eq!(rt; demo.matrix(0, 2).rows, 4);
     Ok(())
 }
 

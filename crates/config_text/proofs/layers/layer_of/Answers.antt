@@ -5,7 +5,7 @@ use Rattle.config_text.proofs.layers.layer_of.Goals as goal
 
 pub returns-clause-met : goal.returns-clause-met
 returns-clause-met c =
-    rw (c.of.ensures, c.of-2.ensures, c.of-3.ensures)
+    rw (c.of.ensures, c.of-2.ensures, c.of-3.ensures, c.of-4.ensures)
     (layer_met
     c.args.grids.now
     c.args.before.now
@@ -21,4 +21,6 @@ returns-clause-met c =
     c.in_ok-gutter.ensures.within
     c.in_ok-cell.ensures.within
     c.in_ok-quota.ensures.within
+    c.in_ok-ages.ensures.few
+    c.in_ok-ages.ensures.rise
     (rw (c.as_slice-2.ensures.value) at (sym c.are_small.ensures ∙ holds _ _ (sym c.in_ok-unless.ensures))))
