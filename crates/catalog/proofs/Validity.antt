@@ -1,5 +1,5 @@
 -- A catalogue of which each test is met is valid.
-use Rattle.std.proofs.Common.{◌≡◌, ℕ, suc, ◌^◌, ◌<◌, ◌≤◌, ◌<ℤ◌, ◌==◌, true, not, int_lt, List, [], ◌∷◌, ◌++◌, length, map, Option, Some, None, IfSome, OnOk, Ok, Err, slice_get, refl, sym, subst, arith, ℤ, append_assoc}
+use Rattle.std.proofs.Common.{◌≡◌, ℕ, suc, ◌^◌, ◌<◌, ◌≤◌, ◌<ℤ◌, ◌==◌, true, not, int_lt, nat_le, List, [], ◌∷◌, ◌++◌, length, map, Option, Some, None, IfSome, OnOk, Ok, Err, slice_get, refl, sym, subst, arith, ℤ, append_assoc}
 use Rattle.std.specs.Bool.{IsTrue}
 use Rattle.std.specs.List.{AllByRecursion, list_all, list_any}
 use Rattle.std.specs.Char.{to_ascii_lowercase}

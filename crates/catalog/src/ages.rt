@@ -24,7 +24,11 @@ fn limit_of(found: Option<Age>) -> Option<u32>
 {
     match found {
         None => None,
-        Some(age) => if age.seconds == 0 { None } else { Some(age.seconds) },
+        Some(age) => if age.seconds == 0 {
+            None
+        } else {
+            Some(age.seconds)
+        },
     }
 }
 
