@@ -33,37 +33,62 @@ fn square(span: Ratio, count: u32) -> Matrix
     }
 }
 
+/// A list of these values.
+fn items<T: Drop, const N: usize>(alloc: Global, values: [T; N]) -> Result<Items<T>, AllocError>
+    ensures { IfOk result (λ items. items ≡ values) }
+{
+    Ok(Items::of(Vec::from_array(alloc, values)?))
+}
+
+fn names(alloc: Global) -> Result<Items<Words>, AllocError>
+    ensures { IfOk result (λ names. names ≡ tiny.names) }
+{
+    let zero = Words::new(alloc, b"0")?;
+    let one = Words::new(alloc, b"1")?;
+    let two = Words::new(alloc, b"2")?;
+    items(alloc, [zero, one, two])
+}
+
+fn matrices(alloc: Global) -> Result<Items<Matrix>, AllocError>
+    ensures { IfOk result (λ matrices. matrices ≡ tiny.matrices) }
+{
+    let zero = square(Ratio::whole(8), 1);
+    let one = square(Ratio::whole(4), 2);
+    let two = square(Ratio::whole(2), 4);
+    items(alloc, [zero, one, two])
+}
+
 fn tiny(alloc: Global) -> Result<Grid, AllocError>
     ensures { IfOk result (λ g. g ≡ tiny) }
 {
-    let names = vec![in alloc;
-        Words::new(alloc, b"0")?,
-        Words::new(alloc, b"1")?,
-        Words::new(alloc, b"2")?,
-    ]?;
-    let matrices = vec![in alloc;
-        square(Ratio::whole(8), 1),
-        square(Ratio::whole(4), 2),
-        square(Ratio::whole(2), 4),
-    ]?;
+    let id = Words::new(alloc, b"tiny")?;
+    let names = names(alloc)?;
+    let matrices = matrices(alloc)?;
     Ok(Grid {
-        id: Words::new(alloc, b"tiny")?,
-        names: Items::of(names),
-        matrices: Items::of(matrices),
+        id,
+        names,
+        matrices,
     })
+}
+
+fn styles(alloc: Global) -> Result<Items<Style>, AllocError>
+    ensures { IfOk result (λ styles. styles ≡ demo_layer.styles) }
+{
+    let id = Words::new(alloc, b"grey")?;
+    let breaks = Items::of(Vec::new(alloc));
+    items(alloc, [Style { id, breaks }])
 }
 
 fn demo_layer(alloc: Global) -> Result<Layer, AllocError>
     ensures { IfOk result (λ l. l ≡ demo_layer) }
 {
-    let grey = Style {
-        id: Words::new(alloc, b"grey")?,
-        breaks: Items::of(Vec::new(alloc)),
-    };
+    let id = Words::new(alloc, b"demo")?;
+    let grids = items(alloc, [0])?;
+    let styles = styles(alloc)?;
     Ok(Layer {
-        id: Words::new(alloc, b"demo")?,
-        grids: Items::of(vec![in alloc; 0]?),
-        styles: Items::of(vec![in alloc; grey]?),
+        id,
+        grids,
+        styles,
         dims: Items::of(Vec::new(alloc)),
         meta_x: 1,
         meta_y: 1,
@@ -74,9 +99,25 @@ fn demo_layer(alloc: Global) -> Result<Layer, AllocError>
     })
 }
 
+fn grids(alloc: Global) -> Result<Items<Grid>, AllocError>
+    ensures { IfOk result (λ grids. grids ≡ demo.grids) }
+{
+    let grid = tiny(alloc)?;
+    items(alloc, [grid])
+}
+
+fn layers(alloc: Global) -> Result<Items<Layer>, AllocError>
+    ensures { IfOk result (λ layers. layers ≡ demo.layers) }
+{
+    let layer = demo_layer(alloc)?;
+    items(alloc, [layer])
+}
+
 fn built_in(alloc: Global) -> Result<Catalogue, AllocError>
     ensures { IfOk result (λ c. c ≡ demo) }
 {
+    let grids = grids(alloc)?;
+    let layers = layers(alloc)?;
     Ok(Catalogue {
         digest: EMPTY_DIGEST,
         source: 0,
@@ -85,8 +126,8 @@ fn built_in(alloc: Global) -> Result<Catalogue, AllocError>
         blob_bytes: 4096,
         quota: None,
         policy: Policy::Lru,
-        grids: Items::of(vec![in alloc; tiny(alloc)?]?),
-        layers: Items::of(vec![in alloc; demo_layer(alloc)?]?),
+        grids,
+        layers,
     })
 }
 
