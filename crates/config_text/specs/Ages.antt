@@ -1,5 +1,5 @@
 -- The age limits of a layer.
-use Rattle.std.specs.Prelude.{ℕ, ◌&&◌, List, [], length, map, min, Bool, nat_le, Result, Ok, Err}
+use Rattle.std.specs.Prelude.{ℕ, ◌&&◌, List, [], length, map, min, Bool, nat_le, Result, Ok}
 use Rattle.std.specs.List.{list_all}
 use Rattle.serde_json.specs.Data.{Data}
 use Rattle.json_forms.specs.Forms.{number_of}
