@@ -7,3 +7,10 @@ pub mod Settled
 pub mod Last
 pub mod Boxes
 pub mod Rule
+pub mod Places
+pub mod Shelves
+pub mod InLists
+pub mod Standing
+pub mod Outermost
+pub mod Along
+pub mod Indexing

@@ -11,7 +11,7 @@ none_of : (s t : Bool) → (s || t) ≡ false → (s ≡ false) × (t ≡ false)
 none_of true t h = absurd (cc)
 none_of false t h = (refl, h)
 
-neither : (s t : Bool) → s ≡ false → t ≡ false → (s || t) ≡ false
+pub neither : (s t : Bool) → s ≡ false → t ≡ false → (s || t) ≡ false
 neither true t h k = absurd (cc)
 neither false t h k = k
 

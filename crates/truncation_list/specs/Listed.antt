@@ -1,5 +1,5 @@
 -- What a list of cuts is seen as.
-use Rattle.std.specs.Prelude.{ℕ, ◌≡◌, ◌<◌, ◌≤◌, false, List, [], ◌∷◌, IsTrue, Option, Some, None}
+use Rattle.std.specs.Prelude.{ℕ, ◌≡◌, ◌<◌, ◌≤◌, false, List, [], ◌∷◌, IsTrue, if◌then◌else◌, Option, Some, None}
 use Rattle.std.specs.List.{All, Any}
 use Rattle.matrix_geometry.specs.declared.address.Address.{Address}
 use Rattle.matrix_geometry.specs.declared.matrix.Matrix.{Matrix}
@@ -7,21 +7,42 @@ use Rattle.truncation_list.specs.declared.book.Book.{Book}
 use Rattle.truncation_list.specs.declared.book.Cut.{Cut}
 use Rattle.truncation_list.specs.declared.cover.Cover.{Cover}
 use Rattle.truncation_list.specs.Covers.{covers}
+use Rattle.truncation_list.specs.declared.index.Shelf.{Shelf}
+use Rattle.truncation_list.specs.Index.{HasRoom}
 use Rattle.truncation_list.specs.Purge.{is_outdone}
 
--- its book, and how many more cuts it has room for
+-- for how many more cuts there is memory in the list by number, and the shelves with their lists
+pub record Room : Type 0 where
+  pub by_number : ℕ
+  pub shelves : List Shelf
+
+-- a cut of this cover can be listed with no memory taken
+abbrev pub HasRoomFor : Room → Cover → Type 0
+HasRoomFor room cover = (0 < room.by_number) × HasRoom room.shelves cover
+
+-- cuts by number in their lists
+pub record Indexed : Type 0 where
+  pub cuts : List Cut
+  pub room : Room
+
+-- the whole list: its book, and the room for more cuts
 pub record Listed : Type 0 where
   pub book : Book
-  pub room : ℕ
+  pub room : Room
 
 -- a cut of this cover can be added with no memory taken
 abbrev pub IsReady : Listed → Cover → Type 0
-IsReady listed cover = 0 < listed.room
+IsReady listed cover = HasRoomFor listed.room cover
 
 -- no cut lies within a later one, so that the next purge needs no test of pairs
 abbrev pub IsSettled : List Cut → Type 0
 IsSettled [] = Unit {0}
 IsSettled (cut ∷ later) = (is_outdone later cut ≡ false) × IsSettled later
+
+-- the cuts that do not lie within a later one
+abbrev pub outermost : List Cut → List Cut
+outermost [] = []
+outermost (cut ∷ later) = if is_outdone later cut then outermost later else cut ∷ outermost later
 
 -- the greatest number of a cut that covers the tile, none where no cut does
 abbrev pub IsLastCovering : List Cut → Matrix → Address → Option ℕ → Type 0

@@ -42,11 +42,12 @@ pub fn covers(cover: &Cover, m: &Matrix, a: &Address) -> bool
     requires reachable { IsWithinReach cover.now }
     ensures { result ≡ covers cover.now m.now a.now }
 {
+    // The box is the costly test, so it comes last.
     cover.layer == a.theme.layer
         && cover.grid == a.grid
         && is_in_zoom(cover, a.z)
-        && is_in_bounds(cover.bounds, m, a.row, a.col)
         && cover.filter.admits(&a.theme)
+        && is_in_bounds(cover.bounds, m, a.row, a.col)
 }
 
 fn has_tile(tiles: Range) -> bool

@@ -5,40 +5,39 @@ ghost use Rattle.truncation_list.specs.declared.cover.Cover.{Cover};
 ghost use Rattle.truncation_list.specs.Books.{AnswersForBook, last_seen};
 ghost use Rattle.truncation_list.specs.Covers.{IsWithinReach};
 ghost use Rattle.truncation_list.specs.Listed.{IsLastCovering, IsReady};
-ghost use Rattle.truncation_list.specs.Purge.{IsAbove, IsInOrder, added, empty_book, purged, remaining, with_cut, with_floor};
+ghost use Rattle.truncation_list.specs.Purge.{IsAbove, IsInOrder, added, empty_book, purged, with_cut, with_floor};
 
-use crate::book::Cut;
 use crate::cover::Cover;
-use crate::purge::{last_covering, purge, stay_at_least};
+use crate::indexed::IndexedCuts;
+use crate::purge::{floor_after, none_old, stay_at_least};
 use matrix_geometry::address::Address;
 use matrix_geometry::matrix::Matrix;
 use std::alloc::{AllocError, Global};
 use std::marker::Model;
 
-/// The cuts in force by number, and a floor. Contracts see its book, and how many more cuts it has room for; it holds at
-/// most 2^32 - 1 of them.
+/// The cuts in force by number, and a floor. Contracts see its book, and the room for more cuts; it holds at most 2^32 - 1 of
+/// them.
 ///
-/// In the calls below `least` is the least number that is kept or running, `None` where there is none. Each call goes over
-/// the cuts at most once, but for the first purge after an `enter`, and `full` before it: they compare each cut with the later
-/// ones.
+/// In the calls below `least` is the least number that is kept or running, `None` where there is none. `last` reads the cuts
+/// of the tile's layer, grid and zoom alone. `full` and `add` read those of the cover's zooms, and go over all cuts only where
+/// one may go. The first purge after an `enter`, and `full` before it, compare each cut with the later ones.
 #[derive(Drop)]
 pub struct CutList {
-    cuts: Vec<Cut>,
+    cuts: IndexedCuts,
     floor: u64,
     /// Whether it is known that no cut lies within a later one. `enter` alone forgets it.
     is_settled: bool,
 }
 
 impl Model for CutList {
-    ghost use Rattle.std.specs.Prelude.{IsTrue, min, vec_capacity, vec_len, ◌-◌, ◌^◌, ◌≤◌};
+    ghost use Rattle.std.specs.Prelude.{IsTrue};
     ghost use Rattle.truncation_list.specs.Listed.{IsSettled, Listed};
-    ghost use Rattle.truncation_list.specs.Purge.{IsInOrder};
 
     ghost Value = { Listed };
 
-    ghost view = { λ l. record { book = record { cuts = l.cuts.items; floor = l.floor }; room = min (vec_capacity l.cuts) (2 ^ 32 - 1) - vec_len l.cuts } };
+    ghost view = { λ l. record { book = record { cuts = l.cuts.cuts; floor = l.floor }; room = l.cuts.room } };
 
-    ghost invariant = { λ l. IsInOrder l.cuts.items × (IsTrue l.is_settled → IsSettled l.cuts.items) × (vec_len l.cuts ≤ 2 ^ 32 - 1) };
+    ghost invariant = { λ l. IsTrue l.is_settled → IsSettled l.cuts.cuts };
 }
 
 impl CutList {
@@ -47,35 +46,56 @@ impl CutList {
         ensures { IfOk result (λ list. list.book ≡ empty_book) }
     {
         Ok(CutList {
-            cuts: Vec::new(alloc),
+            cuts: IndexedCuts::new(alloc),
             floor: 0,
             is_settled: true,
         })
     }
 
     /// Makes the list ready for a cut of this cover. It stays ready for it until the next `reserve`, `add` or `enter`.
-    pub fn reserve(&mut self, _alloc: Global, _cover: &Cover) -> Result<(), AllocError>
+    pub fn reserve(&mut self, alloc: Global, cover: &Cover) -> Result<(), AllocError>
         ensures book { self.new.book ≡ self.old.book }
-        ensures ready { OnOk result (IsReady self.new _cover.now) }
+        ensures ready { OnOk result (IsReady self.new cover.now) }
     {
-        // A plain list needs the same room for every cover.
-        if self.cuts.len() >= u32::MAX as usize {
-            return Err(AllocError);
-        }
-        self.cuts.reserve(1)
+        self.cuts.reserve(alloc, cover)
     }
 
     /// Whether `limit` or more cuts stay after the purge for this cover.
     pub fn full(&self, cover: &Cover, least: Option<u64>, limit: u32) -> bool
         ensures { IsTrue result ↔ (limit ≤ length (purged (Some cover.now) least self.now.book).cuts) }
     {
-        stay_at_least(
-            &self.cuts,
-            &Some(*cover),
-            least,
-            self.is_settled,
-            limit as usize,
-        )
+        let cuts = self.cuts.as_slice();
+        if cuts.len() < limit as usize {
+            return false;
+        }
+        let cover = Some(*cover);
+        if self.none_goes(&cover, least) {
+            return true;
+        }
+        stay_at_least(cuts, &cover, least, self.is_settled, limit as usize)
+    }
+
+    /// Whether it is seen, with no pass over the cuts, that a purge takes none out.
+    fn none_goes(&self, cover: &Option<Cover>, least: Option<u64>) -> bool
+        ensures book { IsTrue result → purged cover.now least self.now.book ≡ self.now.book }
+        ensures order { IsInOrder self.now.book.cuts }
+    {
+        let cuts = self.cuts.as_slice();
+        self.is_settled && none_old(cuts, least) && self.cuts.none_within(cover)
+    }
+
+    /// Takes out the cuts that go, and raises the floor.
+    fn let_go(&mut self, cover: &Option<Cover>, least: Option<u64>)
+        ensures book { self.new.book ≡ purged cover.now least self.old.book }
+        ensures order { IsInOrder self.old.book.cuts }
+        ensures ready { (cover : Cover) → IsReady self.old cover → IsReady self.new cover }
+    {
+        if self.none_goes(cover, least) {
+            return;
+        }
+        self.floor = floor_after(self.cuts.as_slice(), self.floor, least);
+        self.cuts.purge(cover, least, self.is_settled);
+        self.is_settled = true;
     }
 
     /// Purges for this cover, and adds its cut.
@@ -86,18 +106,9 @@ impl CutList {
         ensures book { self.new.book ≡ added number cover.now least self.old.book }
         ensures answers { AnswersForBook self.new.book self.old.book }
     {
-        self.floor = purge(
-            &mut self.cuts,
-            self.floor,
-            &Some(*cover),
-            least,
-            self.is_settled,
-        );
+        self.let_go(&Some(*cover), least);
+        self.cuts.push(number, cover);
         self.is_settled = true;
-        self.cuts.push_reserved(Cut {
-            number,
-            cover: *cover,
-        });
     }
 
     /// Adds a cut without a purge.
@@ -109,10 +120,7 @@ impl CutList {
         ensures answers { AnswersForBook self.new.book self.old.book }
     {
         self.is_settled = false;
-        self.cuts.push_reserved(Cut {
-            number,
-            cover: *cover,
-        });
+        self.cuts.push(number, cover);
     }
 
     /// Purges, and adds no cut.
@@ -121,8 +129,7 @@ impl CutList {
         ensures answers { AnswersForBook self.new.book self.old.book }
         ensures ready { (cover : Cover) → IsReady self.old cover → IsReady self.new cover }
     {
-        self.floor = purge(&mut self.cuts, self.floor, &None, least, self.is_settled);
-        self.is_settled = true;
+        self.let_go(&None, least);
     }
 
     /// Raises the floor to this number, where it is below it.
@@ -139,7 +146,7 @@ impl CutList {
         requires { i < length self.now.book.cuts }
         ensures { slice_get self.now.book.cuts i ≡ Some (record { number = result.0; cover = result.1 }) }
     {
-        let cut = self.cuts[i as usize];
+        let cut = self.cuts.as_slice()[i as usize];
         (cut.number, cut.cover)
     }
 
@@ -148,14 +155,14 @@ impl CutList {
         requires { IsWithinLimits m.now }
         ensures { IsLastCovering self.now.book.cuts m.now a.now result }
     {
-        last_covering(&self.cuts, m, a)
+        self.cuts.last(m, a)
     }
 
     /// The greatest cut that the list has seen: the greater of its floor and its greatest listed number.
     pub fn seen(&self) -> u64
         ensures { result ≡ last_seen self.now.book }
     {
-        match self.cuts.last() {
+        match self.cuts.as_slice().last() {
             None => self.floor,
             Some(cut) => self.floor.max(cut.number),
         }
@@ -173,6 +180,6 @@ impl CutList {
         ensures count { result ≡ length self.now.book.cuts }
         ensures order { IsInOrder self.now.book.cuts }
     {
-        self.cuts.len() as u32
+        self.cuts.as_slice().len() as u32
     }
 }

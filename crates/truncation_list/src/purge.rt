@@ -1,15 +1,12 @@
-//! The work on a plain list of cuts: its purge, and a look for the last one that covers a tile.
-ghost use Rattle.std.specs.Prelude.{IsTrue, false, fold, length, vec_capacity, vec_len, ◌+◌, ◌≡◌, ◌≤◌, ◌↔◌};
-ghost use Rattle.matrix_geometry.specs.Limits.{IsWithinLimits};
-ghost use Rattle.truncation_list.specs.Listed.{IsLastCovering, IsSettled};
+//! The purge of a plain list of cuts: which of them go, how many stay, and the floor after it.
+ghost use Rattle.std.specs.Prelude.{IsTrue, false, filter, fold, length, not, vec_capacity, ◌≡◌, ◌≤◌, ◌↔◌, ◌||◌};
+ghost use Rattle.std.specs.List.{All};
+ghost use Rattle.truncation_list.specs.Listed.{IsSettled, outermost};
 ghost use Rattle.truncation_list.specs.Purge.{IsInOrder, goes, is_old, is_outdone, is_within, raised, remaining};
 
 use crate::book::Cut;
 use crate::containing::contains;
 use crate::cover::Cover;
-use crate::covering::covers;
-use matrix_geometry::address::Address;
-use matrix_geometry::matrix::Matrix;
 
 fn is_within(cover: &Option<Cover>, cut: &Cut) -> bool
     ensures { result ≡ is_within cover.now cut.now }
@@ -32,16 +29,6 @@ fn is_old(least: Option<u64>, cut: &Cut) -> bool
     match least {
         None => true,
         Some(least) => cut.number < least,
-    }
-}
-
-fn raised(least: Option<u64>, floor: u64, cut: &Cut) -> u64
-    ensures { result ≡ raised least floor cut.now }
-{
-    if is_old(least, cut) {
-        floor.max(cut.number)
-    } else {
-        floor
     }
 }
 
@@ -86,25 +73,37 @@ pub fn stay_at_least(
     true
 }
 
-/// Takes out the cuts that go, and gives the floor after that.
-pub fn purge(
-    cuts: &mut Vec<Cut>,
-    floor: u64,
-    cover: &Option<Cover>,
-    least: Option<u64>,
-    is_settled: bool,
-) -> u64
-    requires { IsTrue is_settled → IsSettled cuts.old.items }
-    ensures items { cuts.new.items ≡ remaining cover.now least cuts.old.items }
-    ensures floor { result ≡ fold (raised least) floor cuts.old.items }
-    ensures len { vec_len cuts.new ≤ vec_len cuts.old }
+/// Whether no cut meets the test on numbers. The first one has the least number.
+pub fn none_old(cuts: &[Cut], least: Option<u64>) -> bool
+    requires { IsInOrder cuts.now }
+    ensures { IsTrue result → All (λ cut. is_old least cut ≡ false) cuts.now }
+{
+    cuts.is_empty() || !is_old(least, &cuts[0])
+}
+
+/// The floor after a purge: the cuts that meet the test on numbers come first.
+pub fn floor_after(cuts: &[Cut], floor: u64, least: Option<u64>) -> u64
+    requires { IsInOrder cuts.now }
+    ensures { result ≡ fold (raised least) floor cuts.now }
+{
+    let mut top = floor;
+    'rising: for i in 0..cuts.len() {
+        if !is_old(least, &cuts[i]) {
+            return top;
+        }
+        top = top.max(cuts[i].number);
+    }
+    top
+}
+
+/// Takes out the cuts that lie within a later one.
+fn settle(cuts: &mut Vec<Cut>)
+    ensures items { cuts.new.items ≡ outermost cuts.old.items }
     ensures capacity { vec_capacity cuts.new ≡ vec_capacity cuts.old }
 {
     let mut kept = 0;
-    let mut top = floor;
-    'purging: for i in 0..cuts.len() {
-        top = raised(least, top, &cuts[i]);
-        if !goes(cover, least, &cuts[i + 1..], &cuts[i], is_settled) {
+    'settling: for i in 0..cuts.len() {
+        if !is_outdone(&cuts[i + 1..], &cuts[i]) {
             // A cut that stays in its place isn't written again.
             if kept < i {
                 cuts[kept] = cuts[i];
@@ -113,21 +112,24 @@ pub fn purge(
         }
     }
     cuts.truncate(kept);
-    top
 }
 
-/// The number of the last cut that covers the tile.
-pub fn last_covering(cuts: &[Cut], m: &Matrix, a: &Address) -> Option<u64>
-    requires limits { IsWithinLimits m.now }
-    requires order { IsInOrder cuts.now }
-    ensures { IsLastCovering cuts.now m.now a.now result }
+/// Takes out the cuts that lie within the cover that comes, and those that meet the test on numbers.
+fn let_go(cuts: &mut Vec<Cut>, cover: &Option<Cover>, least: Option<u64>)
+    ensures items { cuts.new.items ≡ filter (λ cut. not (is_within cover.now cut || is_old least cut)) cuts.old.items }
+    ensures capacity { vec_capacity cuts.new ≡ vec_capacity cuts.old }
 {
-    let mut rest = cuts.len();
-    'looking: while rest > 0 {
-        rest -= 1;
-        if covers(&cuts[rest].cover, m, a) {
-            return Some(cuts[rest].number);
-        }
+    cuts.retain(|cut| !(is_within(cover, cut) || is_old(least, cut)));
+}
+
+/// Takes out the cuts that go.
+pub fn purge(cuts: &mut Vec<Cut>, cover: &Option<Cover>, least: Option<u64>, is_settled: bool)
+    requires { IsTrue is_settled → IsSettled cuts.old.items }
+    ensures items { cuts.new.items ≡ remaining cover.now least cuts.old.items }
+    ensures capacity { vec_capacity cuts.new ≡ vec_capacity cuts.old }
+{
+    if !is_settled {
+        settle(cuts);
     }
-    None
+    let_go(cuts, cover, least);
 }

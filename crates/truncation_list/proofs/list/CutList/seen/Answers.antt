@@ -7,7 +7,7 @@ use Rattle.truncation_list.proofs.list.CutList.seen.Goals as goal
 
 pub returns-in-Some : goal.returns-in-Some
 returns-in-Some c =
-    let cuts = c.self.inside.cuts.items in
-    let found : Some c.in-Some.cut.now ≡ slice_get cuts (length cuts - 1) = rw (← c.deref.ensures.value) c.in-Some.ensures.value in
-    let top = greatest_is_at_end cuts c.in-Some.cut.now c.self.invariant.0.by_number found in
+    let cuts = c.self.inside.cuts.cuts in
+    let found : Some c.in-Some.cut.now ≡ slice_get cuts (length cuts - 1) = rw (← c.as_slice.ensures.value) c.in-Some.ensures.value in
+    let top = greatest_is_at_end cuts c.in-Some.cut.now c.as_slice.ensures.order.by_number found in
     c.max.ensures ∙ ap (λ (n : ℕ). max c.self.inside.floor n) (sym top) ∙ ap (λ (l : Listed). last_seen l.book) c.self.view_is

@@ -1,0 +1,76 @@
+-- a list of a shelf by its number, after a write to one
+use Rattle.std.proofs.Common.{ℕ, ◌≡◌, ◌<◌, ◌≤◌, ◌∙◌, inl, inr, ap, arith, subst, sym, zero, suc, List, [], ◌∷◌, length, map, set, get_or}
+use Rattle.std.specs.Prelude.{Vec, vec_capacity, vec_len}
+use Rattle.std.specs.declared.alloc.Global.{Global}
+use Rattle.std.proofs.lemmas.List.{get_or-map, get_or-set_other, get_or-set_same, get_or_past, length-map, map-set, with_items_is}
+use Rattle.std.proofs.lemmas.Bool.{cases_eq, cases_lt}
+use Rattle.std.specs.Vec.{with_items}
+use Rattle.truncation_list.specs.Index.{capacity_in, places_in}
+
+module _ {A : Type 0} (of : Vec ℕ Global → A) (none : A) where
+  pub at_same : (lists : List (Vec ℕ Global)) (k : ℕ) (v : Vec ℕ Global) → k < length lists → get_or (map of (set lists k v)) k none ≡ of v
+  at_same lists k v l =
+      ap (λ (xs : List A). get_or xs k none) (map-set of lists k v)
+      ∙ get_or-set_same (map of lists) k (of v) none (let n = length-map lists of in omega (arith, n))
+
+  pub at_other : (lists : List (Vec ℕ Global)) (k j : ℕ) (v : Vec ℕ Global) → (j ≡ k → ⊥) → get_or (map of (set lists k v)) j none ≡ get_or (map of lists) j none
+  at_other lists k j v ne =
+      ap (λ (xs : List A). get_or xs j none) (map-set of lists k v) ∙ get_or-set_other (map of lists) k j (of v) none ne
+
+module _ (lists : List (Vec ℕ Global)) (k : ℕ) (d : Vec ℕ Global) where
+  pub places_read : k < length lists → places_in lists k ≡ (get_or lists k d).items
+  places_read l = get_or-map (λ (v : Vec ℕ Global). v.items) lists k d [] l
+
+  pub capacity_read : k < length lists → capacity_in lists k ≡ vec_capacity (get_or lists k d)
+  capacity_read l = get_or-map (λ (v : Vec ℕ Global). vec_capacity v) lists k d 0 l
+
+  pub room_read : length (places_in lists k) < capacity_in lists k → k < length lists → vec_len (get_or lists k d) < vec_capacity (get_or lists k d)
+  room_read h l =
+      let items = ap (λ (xs : List ℕ). length xs) (places_read l) in
+      let space = capacity_read l in
+      let long = (get_or lists k d).ok.0 in
+      omega (arith, h, items, space, long)
+
+  module _ (v : Vec ℕ Global) where
+    pub places_set : k < length lists → places_in (set lists k v) k ≡ v.items
+    places_set l = at_same (λ (w : Vec ℕ Global). w.items) [] lists k v l
+
+    pub places_set_other : (j : ℕ) → (j ≡ k → ⊥) → places_in (set lists k v) j ≡ places_in lists j
+    places_set_other j ne = at_other (λ (w : Vec ℕ Global). w.items) [] lists k j v ne
+
+    -- a list with the same items, or with the same capacity
+    pub places_set_same : k < length lists → v.items ≡ (get_or lists k d).items → (j : ℕ) → places_in (set lists k v) j ≡ places_in lists j
+    places_set_same l e j =
+        elim (cases_eq j k) [
+          | inl s ↦ subst (λ (i : ℕ). places_in (set lists k v) i ≡ places_in lists i) (sym s) (places_set l ∙ e ∙ sym (places_read l))
+          | inr ne ↦ places_set_other j ne
+        ]
+
+    pub capacity_set : k < length lists → vec_capacity v ≡ vec_capacity (get_or lists k d) → (j : ℕ) → capacity_in (set lists k v) j ≡ capacity_in lists j
+    capacity_set l e j =
+        elim (cases_eq j k) [
+          | inl s ↦ subst (λ (i : ℕ). capacity_in (set lists k v) i ≡ capacity_in lists i) (sym s) (at_same (λ (w : Vec ℕ Global). vec_capacity w) 0 lists k v l ∙ e ∙ sym (capacity_read l))
+          | inr ne ↦ at_other (λ (w : Vec ℕ Global). vec_capacity w) 0 lists k j v ne
+        ]
+
+    pub capacity_set_at : k < length lists → capacity_in (set lists k v) k ≡ vec_capacity v
+    capacity_set_at l = at_same (λ (w : Vec ℕ Global). vec_capacity w) 0 lists k v l
+
+-- a list with room is there
+pub within_capacity : (lists : List (Vec ℕ Global)) (k n : ℕ) → n < capacity_in lists k → k < length lists
+within_capacity lists k n h = elim (cases_lt k (length lists)) [ inl l ↦ l | inr past ↦ absurd (none past) ]
+  where
+    none : length lists ≤ k → ⊥
+    none past =
+        let e = get_or_past (map (λ (v : Vec ℕ Global). vec_capacity v) lists) k 0 (let n = length-map lists (λ (v : Vec ℕ Global). vec_capacity v) in omega (arith, n)) in
+        omega (arith, e, h)
+
+-- no list has more places than it has memory for
+pub fits_capacity : (lists : List (Vec ℕ Global)) (k : ℕ) → length (places_in lists k) ≤ capacity_in lists k
+fits_capacity [] k = omega arith
+fits_capacity (v ∷ vs) zero = let long = v.ok.0 in let most = v.ok.1 in omega (arith, long, most)
+fits_capacity (v ∷ vs) (suc k) = fits_capacity vs k
+
+-- the list of a Vec whose items were written through a slice
+pub written : (v : Vec (Vec ℕ Global) Global) (ws : List (Vec ℕ Global)) → length ws ≡ length v.items → (with_items v ws).items ≡ ws
+written v ws e = with_items_is v ws (e ∙ sym v.ok.0)
