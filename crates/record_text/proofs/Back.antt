@@ -12,10 +12,10 @@ use Rattle.matrix_geometry.specs.declared.theme.Filter.{Filter}
 use Rattle.metatile_plan.specs.declared.metatile.MetaKey.{MetaKey}
 use Rattle.truncation_list.specs.declared.cover.Cover.{Cover}
 use Rattle.record_text.specs.declared.entries.Record.{Record}
-use Rattle.record_text.specs.declared.entries.Record.TheVariants.{Opened, Stored, Dropped, Cut}
+use Rattle.record_text.specs.declared.entries.Record.TheVariants.{Opened, Stored, Dropped, Cut, Uses}
 use Rattle.record_text.specs.Fits.{Fits, FitsBox, FitsCover, FitsFilter, FitsMetatile}
 use Rattle.record_text.specs.Reading.{number_at, values_at, metatile_at, coordinate_at, box_at, bounds_at, wanted_of, filter_at, cover_at, entry_of}
-use Rattle.record_text.specs.Spelling.{position, metatile, blob, coordinate, bounds, wanted, filter, cover, fields, spelling}
+use Rattle.record_text.specs.Spelling.{position, metatile, blob, counted, coordinate, bounds, wanted, filter, cover, fields, spelling}
 
 -- a number stands where its bytes begin
 reads : (width at x : ℕ) (bytes rest : List ℕ) → x < 256 ^ width → drop at bytes ≡ big_bytes width x ++ rest → number_at width at bytes ≡ x
@@ -142,23 +142,35 @@ entry_back (Opened opening floor) fits =
     let first = reads 4 1 opening body (big_bytes 8 floor ++ zeros (Opened opening floor)) fits.0 refl in
     let second = reads 8 5 floor body (zeros (Opened opening floor)) fits.1 refl in
     λ k. Some (Opened (first k) (second k))
-entry_back (Stored number key place size) fits =
-    let body = spelling (Stored number key place size) in
-    let end = zeros (Stored number key place size) in
-    let after = blob place size in
+entry_back (Stored number key place size moment uses) fits =
+    let body = spelling (Stored number key place size moment uses) in
+    let end = zeros (Stored number key place size moment uses) in
+    let after = blob place size ++ counted moment uses in
     let first = reads 8 1 number body ((metatile key ++ after) ++ end) fits.0 refl in
     let middle : drop 9 body ≡ metatile key ++ (after ++ end) = append_assoc (metatile key) after end in
     let second = metatile_back 9 body (after ++ end) key fits.1 middle in
     let rear : drop 33 body ≡ after ++ end = further 9 33 24 body _ refl middle ∙ after_metatile key (after ++ end) fits.1 in
-    let third = reads 8 33 place body (big_bytes 4 size ++ end) fits.2 rear in
-    let fourth = field 4 33 41 8 size body _ end refl fits.3 rear refl in
-    λ k. Some (Stored (first k) (second k) (third k) (fourth k))
+    let third = reads 8 33 place body (big_bytes 4 size ++ (big_bytes 8 moment ++ (big_bytes 8 uses ++ end))) fits.2 rear in
+    let fourth = field 4 33 41 8 size body _ (big_bytes 8 moment ++ (big_bytes 8 uses ++ end)) refl fits.3 rear refl in
+    let fifth = field 8 33 45 12 moment body _ (big_bytes 8 uses ++ end) refl fits.4 rear refl in
+    let sixth = field 8 33 53 20 uses body _ end refl fits.5 rear refl in
+    λ k. Some (Stored (first k) (second k) (third k) (fourth k) (fifth k) (sixth k))
 entry_back (Dropped number key) fits =
     let body = spelling (Dropped number key) in
     let end = zeros (Dropped number key) in
     let first = reads 8 1 number body (metatile key ++ end) fits.0 refl in
     let second = metatile_back 9 body end key fits.1 refl in
     λ k. Some (Dropped (first k) (second k))
+entry_back (Uses number key uses) fits =
+    let body = spelling (Uses number key uses) in
+    let end = zeros (Uses number key uses) in
+    let after = big_bytes 8 uses in
+    let first = reads 8 1 number body ((metatile key ++ after) ++ end) fits.0 refl in
+    let middle : drop 9 body ≡ metatile key ++ (after ++ end) = append_assoc (metatile key) after end in
+    let second = metatile_back 9 body (after ++ end) key fits.1 middle in
+    let rear : drop 33 body ≡ after ++ end = further 9 33 24 body _ refl middle ∙ after_metatile key (after ++ end) fits.1 in
+    let third = reads 8 33 uses body end fits.2 rear in
+    λ k. Some (Uses (first k) (second k) (third k))
 entry_back (Cut number c) fits =
     let body = spelling (Cut number c) in
     let end = zeros (Cut number c) in

@@ -1,4 +1,5 @@
 pub mod Back
 pub mod Decoded
 pub mod Drafts
+pub mod Older
 pub mod Sizes

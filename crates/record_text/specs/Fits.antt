@@ -8,7 +8,7 @@ use Rattle.matrix_geometry.specs.declared.theme.Theme.{Theme}
 use Rattle.metatile_plan.specs.declared.metatile.MetaKey.{MetaKey}
 use Rattle.truncation_list.specs.declared.cover.Cover.{Cover}
 use Rattle.record_text.specs.declared.entries.Record.{Record}
-use Rattle.record_text.specs.declared.entries.Record.TheVariants.{Opened, Stored, Dropped, Cut}
+use Rattle.record_text.specs.declared.entries.Record.TheVariants.{Opened, Stored, Dropped, Cut, Uses}
 use Rattle.record_text.specs.Spelling.{wanted}
 
 pub record FitsTheme (t : Theme) : Type 0 where
@@ -45,6 +45,8 @@ pub record FitsCover (c : Cover) : Type 0 where
 
 abbrev pub Fits : Record → Type 0
 Fits (Opened opening floor) = (opening < 2 ^ 32) × (floor < 2 ^ 64)
-Fits (Stored number key place size) = (number < 2 ^ 64) × FitsMetatile key × (place < 2 ^ 64) × (size < 2 ^ 32)
+Fits (Stored number key place size moment uses) =
+    (number < 2 ^ 64) × FitsMetatile key × (place < 2 ^ 64) × (size < 2 ^ 32) × (moment < 2 ^ 64) × (uses < 2 ^ 64)
 Fits (Dropped number key) = (number < 2 ^ 64) × FitsMetatile key
 Fits (Cut number c) = (number < 2 ^ 64) × FitsCover c
+Fits (Uses number key uses) = (number < 2 ^ 64) × FitsMetatile key × (uses < 2 ^ 64)

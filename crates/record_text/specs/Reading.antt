@@ -7,7 +7,7 @@ use Rattle.matrix_geometry.specs.declared.theme.Filter.{Filter}
 use Rattle.metatile_plan.specs.declared.metatile.MetaKey.{MetaKey}
 use Rattle.truncation_list.specs.declared.cover.Cover.{Cover}
 use Rattle.record_text.specs.declared.entries.Record.{Record}
-use Rattle.record_text.specs.declared.entries.Record.TheVariants.{Opened, Stored, Dropped, Cut}
+use Rattle.record_text.specs.declared.entries.Record.TheVariants.{Opened, Stored, Dropped, Cut, Uses}
 
 -- the number in so many bytes from a place
 abbrev pub number_at : ℕ → ℕ → List ℕ → ℕ
@@ -64,7 +64,8 @@ cover_at at bytes =
 unfoldable pub entry_of : List ℕ → Option Record
 entry_of bytes =
     if slice_index bytes 0 == 1 then Some (Opened (number_at 4 1 bytes) (number_at 8 5 bytes))
-    else if slice_index bytes 0 == 2 then Some (Stored (number_at 8 1 bytes) (metatile_at 9 bytes) (number_at 8 33 bytes) (number_at 4 41 bytes))
+    else if slice_index bytes 0 == 2 then Some (Stored (number_at 8 1 bytes) (metatile_at 9 bytes) (number_at 8 33 bytes) (number_at 4 41 bytes) (number_at 8 45 bytes) (number_at 8 53 bytes))
     else if slice_index bytes 0 == 3 then Some (Dropped (number_at 8 1 bytes) (metatile_at 9 bytes))
     else if slice_index bytes 0 == 4 then Some (Cut (number_at 8 1 bytes) (cover_at 9 bytes))
+    else if slice_index bytes 0 == 5 then Some (Uses (number_at 8 1 bytes) (metatile_at 9 bytes) (number_at 8 33 bytes))
     else None

@@ -1,4 +1,4 @@
--- How a record is spelled in the 63 bytes of a body: its kind, its fields one after the other, and zeros. Numbers are big
+-- How a record of version 2 is spelled in the 63 bytes of a body: its kind, its fields one after the other, and zeros. Numbers are big
 -- endian, and `big_bytes width number` are the bytes of one.
 use Rattle.std.specs.Prelude.{ℕ, ◌+◌, ◌-◌, ℤ, List, ◌∷◌, ◌++◌, length, map, replicate, Option, Some, None}
 use Rattle.std.specs.Int.{w64, cast_unsigned}
@@ -10,7 +10,7 @@ use Rattle.matrix_geometry.specs.declared.theme.Theme.{Theme}
 use Rattle.metatile_plan.specs.declared.metatile.MetaKey.{MetaKey}
 use Rattle.truncation_list.specs.declared.cover.Cover.{Cover}
 use Rattle.record_text.specs.declared.entries.Record.{Record}
-use Rattle.record_text.specs.declared.entries.Record.TheVariants.{Opened, Stored, Dropped, Cut}
+use Rattle.record_text.specs.declared.entries.Record.TheVariants.{Opened, Stored, Dropped, Cut, Uses}
 
 -- a theme in 11 bytes
 abbrev pub theme : Theme → List ℕ
@@ -27,6 +27,10 @@ metatile m = theme m.theme ++ position m
 -- the place and the length of a blob, in 12 bytes
 abbrev pub blob : ℕ → ℕ → List ℕ
 blob place size = big_bytes 8 place ++ big_bytes 4 size
+
+-- the moment at which its render began and how often it was used, in 16 bytes
+abbrev pub counted : ℕ → ℕ → List ℕ
+counted moment uses = big_bytes 8 moment ++ big_bytes 8 uses
 
 -- a coordinate in 8 bytes, as two's complement
 abbrev pub coordinate : ℤ → List ℕ
@@ -54,9 +58,10 @@ cover c =
 -- the kind and the fields after it
 abbrev pub fields : Record → List ℕ
 fields (Opened opening floor) = 1 ∷ big_bytes 4 opening ++ big_bytes 8 floor
-fields (Stored number key place size) = 2 ∷ big_bytes 8 number ++ metatile key ++ blob place size
+fields (Stored number key place size moment uses) = 2 ∷ big_bytes 8 number ++ metatile key ++ (blob place size ++ counted moment uses)
 fields (Dropped number key) = 3 ∷ big_bytes 8 number ++ metatile key
 fields (Cut number c) = 4 ∷ big_bytes 8 number ++ cover c
+fields (Uses number key uses) = 5 ∷ big_bytes 8 number ++ metatile key ++ big_bytes 8 uses
 
 -- zeros up to 63 bytes
 abbrev pub filled : List ℕ → List ℕ

@@ -1,10 +1,11 @@
 //! How a record is read from a body, which has to be the one spelling of it.
-ghost use Rattle.std.specs.Prelude.{◌≡◌, ◌+◌, ◌≤◌, ◌<◌, ◌^◌, ◌↔◌, length, Some, FitsSigned, IfSome};
+ghost use Rattle.std.specs.Prelude.{◌≡◌, ◌+◌, ◌≤◌, ◌<◌, ◌^◌, ◌↔◌, length, Some, FitsSigned, IfSome, IsTrue};
 ghost use Rattle.std.specs.Int.{w64};
 ghost use Rattle.std.specs.List.{AllByRecursion};
 ghost use Rattle.record_text.specs.declared.entries.Record.{Record};
 ghost use Rattle.record_text.specs.Fits.{Fits, FitsBox, FitsCover, FitsFilter, FitsMetatile};
 ghost use Rattle.record_text.specs.Spelling.{spelling, wanted};
+ghost use Rattle.record_text.specs.Old.{IsOld, old_spelling};
 ghost use Rattle.record_text.specs.Reading.{number_at, values_at, metatile_at, coordinate_at, box_at, bounds_at, wanted_of, filter_at, cover_at, entry_of};
 
 use crate::entries::Record;
@@ -165,15 +166,19 @@ fn entry_of(body: &[u8; 63]) -> Option<Record>
             metatile_at(body, 9),
             eight_at(body, 33),
             four_at(body, 41),
+            eight_at(body, 45),
+            eight_at(body, 53),
         )),
         3 => Some(Record::Dropped(eight_at(body, 1), metatile_at(body, 9))),
         4 => Some(Record::Cut(eight_at(body, 1), cover_at(body, 9))),
+        5 => Some(Record::Uses(eight_at(body, 1), metatile_at(body, 9), eight_at(body, 33))),
         _ => None,
     }
 }
 
-/// The record that a body spells; `None` where the body is no spelling. Each body that is one is the spelling of one
-/// record alone, so it is read by the places of the fields and then compared with what that record is spelled as.
+/// The record that a body of version 2 spells; `None` exactly where the body is no spelling. Each body that is one is the
+/// spelling of one record alone, so it is read by the places of the fields and then compared with what that record is
+/// spelled as.
 pub fn decode(body: &[u8; 63]) -> Option<Record>
     ensures { (entry : Record) → (result ≡ Some entry) ↔ (Fits entry × (spelling entry ≡ body.now)) }
 {
@@ -182,5 +187,27 @@ pub fn decode(body: &[u8; 63]) -> Option<Record>
         Some(entry)
     } else {
         None
+    }
+}
+
+/// Whether a record has a spelling in version 1 too: it knows neither moments nor uses.
+fn is_old(entry: &Record) -> bool
+    ensures { IsTrue result ↔ IsOld entry.now }
+{
+    match entry {
+        Record::Stored(_, _, _, _, moment, uses) => *moment == 0 && *uses == 0,
+        Record::Uses(_, _, _) => false,
+        Record::Opened(_, _) | Record::Dropped(_, _) | Record::Cut(_, _) => true,
+    }
+}
+
+/// The record that a body of version 1 spells; `None` exactly where the body is no spelling of that version. A metatile that
+/// is stored there has the moment 0 and no uses. What is spelled in version 1 is spelled so in version 2 as well.
+pub fn decode_old(body: &[u8; 63]) -> Option<Record>
+    ensures { (entry : Record) → (result ≡ Some entry) ↔ (Fits entry × IsOld entry × (old_spelling entry ≡ body.now)) }
+{
+    match decode(body) {
+        None => None,
+        Some(entry) => { if is_old(&entry) { Some(entry) } else { None } }
     }
 }

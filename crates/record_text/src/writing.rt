@@ -3,7 +3,7 @@ ghost use Rattle.std.specs.Prelude.{◌≡◌, ◌+◌, ◌≤◌, ◌<◌, ◌^
 ghost use Rattle.std.specs.List.{AllByRecursion, flat_map};
 ghost use Rattle.byteorder.specs.Endian.{big_bytes};
 ghost use Rattle.record_text.specs.Fits.{Fits, FitsBox, FitsCover, FitsFilter, FitsMetatile, FitsTheme};
-ghost use Rattle.record_text.specs.Spelling.{blob, bounds, coordinate, cover, filter, metatile, position, spelling, theme, wanted};
+ghost use Rattle.record_text.specs.Spelling.{blob, bounds, coordinate, counted, cover, filter, metatile, position, spelling, theme, wanted};
 
 use crate::draft::Draft;
 use crate::entries::Record;
@@ -68,6 +68,23 @@ fn with_blob(draft: Draft, place: u64, size: u32) -> Draft
     ensures size { length result ≡ length draft + 12 }
 {
     draft.number(place, 8).number(u64::from(size), 4)
+}
+
+fn with_counted(draft: Draft, moment: u64, uses: u64) -> Draft
+    requires room { length draft + 16 ≤ 63 }
+    ensures bytes { result ≡ draft ++ counted moment uses }
+    ensures size { length result ≡ length draft + 16 }
+{
+    draft.number(moment, 8).number(uses, 8)
+}
+
+/// What stands behind a stored metatile.
+fn with_kept(draft: Draft, place: u64, size: u32, moment: u64, uses: u64) -> Draft
+    requires room { length draft + 28 ≤ 63 }
+    ensures bytes { result ≡ draft ++ (blob place size ++ counted moment uses) }
+    ensures size { length result ≡ length draft + 28 }
+{
+    with_counted(with_blob(draft, place, size), moment, uses)
 }
 
 /// A coordinate as two's complement.
@@ -164,15 +181,19 @@ pub fn encode(entry: &Record) -> [u8; 63]
             .number(u64::from(*opening), 4)
             .number(*floor, 8)
             .body(),
-        Record::Stored(number, key, place, size) => {
+        Record::Stored(number, key, place, size, moment, uses) => {
             let draft = with_metatile(Draft::of_kind(2).number(*number, 8), key);
-            with_blob(draft, *place, *size).body()
+            with_kept(draft, *place, *size, *moment, *uses).body()
         }
         Record::Dropped(number, key) => {
             with_metatile(Draft::of_kind(3).number(*number, 8), key).body()
         }
         Record::Cut(number, part) => {
             with_cover(Draft::of_kind(4).number(*number, 8), part).body()
+        }
+        Record::Uses(number, key, uses) => {
+            let draft = with_metatile(Draft::of_kind(5).number(*number, 8), key);
+            draft.number(*uses, 8).body()
         }
     }
 }

@@ -3,7 +3,7 @@ use matrix_geometry::boxes::Box9;
 use matrix_geometry::theme::{Filter, Theme};
 use metatile_plan::metatile::MetaKey;
 use record_text::entries::Record;
-use record_text::reading::decode;
+use record_text::reading::{decode, decode_old};
 use record_text::writing::encode;
 use truncation_list::cover::Cover;
 
@@ -62,7 +62,7 @@ fn body_of(front: &[u8], filter: [u8; 9]) -> [u8; 63] {
 
 #[test]
 fn a_record_has_its_bytes(rt: HostRuntime) {
-    let cases: [(&[u8], [u8; 9], Record); 5] = [
+    let cases: [(&[u8], [u8; 9], Record); 6] = [
         (
             &[1, 0, 0, 0, 1, 0, 0, 0, 0, 0, 0, 1, 2],
             NO_FILTER,
@@ -71,10 +71,19 @@ fn a_record_has_its_bytes(rt: HostRuntime) {
         (
             &[
                 2, 0, 0, 0, 0, 0, 0, 2, 1, 1, 2, 3, 0, 4, 0, 5, 0, 6, 0, 7, 8, 9, 0, 0, 0, 10, 0,
-                0, 0, 11, 0, 0, 0, 0, 0, 0, 0, 0, 0, 0, 12, 0, 0, 0, 13,
+                0, 0, 11, 0, 0, 0, 0, 0, 0, 0, 0, 0, 0, 12, 0, 0, 0, 13, 0, 0, 0, 0, 0, 0, 1, 14,
+                0, 0, 0, 0, 0, 0, 0, 15,
             ],
             NO_FILTER,
-            Record::Stored(513, KEY, 12, 13),
+            Record::Stored(513, KEY, 12, 13, 270, 15),
+        ),
+        (
+            &[
+                5, 0, 0, 0, 0, 0, 0, 2, 1, 1, 2, 3, 0, 4, 0, 5, 0, 6, 0, 7, 8, 9, 0, 0, 0, 10, 0,
+                0, 0, 11, 0, 0, 0, 0, 0, 0, 0, 0, 0, 1, 3,
+            ],
+            NO_FILTER,
+            Record::Uses(513, KEY, 259),
         ),
         (
             &[
@@ -117,7 +126,7 @@ fn a_record_has_its_bytes(rt: HostRuntime) {
 fn a_body_that_is_no_spelling_has_no_record(rt: HostRuntime) {
     let cases: [(&[u8], usize, u8); 5] = [
         (&[], 0, 0),
-        (&[5], 0, 5),
+        (&[6], 0, 6),
         (&[1, 0, 0, 0, 1, 0, 0, 0, 0, 0, 0, 1, 2], 62, 1),
         (&[4, 0, 0, 0, 0, 0, 0, 0, 1], 14, 2),
         (&[4, 0, 0, 0, 0, 0, 0, 0, 1], 46, 1),
@@ -128,5 +137,24 @@ fn a_body_that_is_no_spelling_has_no_record(rt: HostRuntime) {
             body[place] = byte;
         }
         assert_eq!(rt; decode(&body), None);
+    }
+}
+
+// What is stored in version 1 has 45 bytes, and no moment and no uses; with a moment or uses, and for uses alone, there is none.
+#[test]
+fn a_body_of_version_1_has_neither_moments_nor_uses(rt: HostRuntime) {
+    let stored: [u8; 45] = [
+        2, 0, 0, 0, 0, 0, 0, 2, 1, 1, 2, 3, 0, 4, 0, 5, 0, 6, 0, 7, 8, 9, 0, 0, 0, 10, 0, 0, 0, 11,
+        0, 0, 0, 0, 0, 0, 0, 0, 0, 0, 12, 0, 0, 0, 13,
+    ];
+    let body = body_of(&stored, NO_FILTER);
+    assert_eq!(rt;
+        decode_old(&body),
+        Some(Record::Stored(513, KEY, 12, 13, 0, 0))
+    );
+    for (place, byte) in [(52, 1), (60, 1), (0, 5)] {
+        let mut other = body;
+        other[place] = byte;
+        assert_eq!(rt; decode_old(&other), None);
     }
 }

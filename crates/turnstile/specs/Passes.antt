@@ -6,9 +6,10 @@ use Rattle.truncation_list.specs.declared.book.FrontedBook.{FrontedBook}
 use Rattle.truncation_list.specs.Books.{AnswersForFronted}
 use Rattle.turnstile.specs.declared.view.Known.{Known}
 use Rattle.turnstile.specs.declared.view.Made.{Made}
+use Rattle.turnstile.specs.declared.view.Opening.{Opening}
 use Rattle.turnstile.specs.declared.view.Stage.TheVariants.{Idle, Out}
 use Rattle.turnstile.specs.declared.view.View.{View}
-use Rattle.turnstile.specs.Views.{made_of}
+use Rattle.turnstile.specs.Views.{first_view, made_of}
 use Rattle.turnstile.specs.Steps.{Found}
 
 -- which turnstile it is, and how many passes were made for it
@@ -34,6 +35,12 @@ module _ {H N : Type 0} where
   module _ {C : Type 0} (charter : C → H) (book : C → FrontedBook) where
     abbrev pub fresh_pass : TableId → C → Bool → Holding H N
     fresh_pass table chest told = record { table = table; charter = Some (charter chest); told = told; book = book chest; made = [] }
+
+  -- a seat of a new table, with this many parts left to deal out
+  module _ {C S : Type 0} (charter : C → H) (book : C → FrontedBook) where
+    pub record IsDealer (table : TableId) (opening : Opening C) (parts : ℕ) (seat : Seat S (View C H N)) : Type 0 where
+      pub same_table : seat.table_id ≡ table
+      pub holds : seat.me ≡ (record (first_view charter book opening) { parts = parts }, [])
 
   -- a pass that has seen the book of a chest, and made these besides
   abbrev pub seen_by : Holding H N → FrontedBook → List (Made N) → Holding H N

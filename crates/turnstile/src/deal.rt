@@ -1,9 +1,9 @@
 //! Passes are dealt out when a turnstile is made, and gathered when it is closed.
-ghost use Rattle.std.specs.Prelude.{◌≡◌, ◌<◌, ◌≤◌, [], All, IfOk, length};
+ghost use Rattle.std.specs.Prelude.{◌≡◌, ◌-◌, ◌<◌, ◌≤◌, [], All, IfOk, length};
 ghost use Rattle.truncation_list.specs.Books.{last_seen};
 ghost use Rattle.turnstile.specs.Views.{first_view};
 ghost use Rattle.turnstile.specs.Steps.{Found};
-ghost use Rattle.turnstile.specs.Passes.{IsReady, fresh_pass, known_by, knows};
+ghost use Rattle.turnstile.specs.Passes.{IsDealer, IsReady, fresh_pass, known_by, knows};
 
 use crate::chest::Chest;
 use crate::gate::Gate;
@@ -11,6 +11,24 @@ use crate::pass::Pass;
 use crate::view::{Lodged, Opening, View};
 use atomic_table::Seat;
 use std::alloc::{AllocError, Global};
+
+/// Deals out one pass of a new table from a seat with so many parts left. `latest` is the greatest cut that its chest has
+/// seen.
+fn deal_one<C: Chest>(
+    gate: &Gate<C>,
+    opening: &Opening<C>,
+    seat: &mut Seat<Option<Lodged<C, C::Command, C::Reply>>, View<C, C::Charter, C::Note>>,
+    left: u32,
+    latest: u64,
+) -> Pass<C>
+    requires some { 0 < left }
+    requires dealer { IsDealer C.charter C.book gate.now.table.shared.table_id opening.now left seat.old }
+    requires latest { latest ≡ last_seen (C.book opening.now.start.chest).book }
+    ensures dealer { IsDealer C.charter C.book gate.now.table.shared.table_id opening.now (left - 1) seat.new }
+    ensures pass { result ≡ fresh_pass C.charter C.book gate.now.table.shared.table_id opening.now.start.chest opening.now.start.told }
+{
+    Pass::of(gate.deal(seat), latest)
+}
 
 /// All passes of a new table, from its first seat. `latest` is the greatest cut that its chest has seen.
 pub fn deal_out<C: Chest>(
@@ -26,14 +44,14 @@ pub fn deal_out<C: Chest>(
     requires first { seat.me ≡ (first_view C.charter C.book opening.now, []) }
     requires latest { latest ≡ last_seen (C.book opening.now.start.chest).book }
     ensures count { IfOk result (λ all. length all.items ≡ passes) }
-    ensures own { IfOk result (λ all. All (λ p. p.table ≡ gate.now.table.shared.table_id) all.items) }
     ensures each { IfOk result (λ all. All (λ p. p ≡ fresh_pass C.charter C.book gate.now.table.shared.table_id opening.now.start.chest opening.now.start.told) all.items) }
 {
     let mut seat = seat;
     let mut all = Vec::with_capacity(alloc, passes as usize)?;
-    for _ in 1..passes {
-        let dealt = gate.deal(&mut seat);
-        all.push(Pass::of(dealt, latest))?;
+    let mut left = passes;
+    'dealing: while left > 1 {
+        all.push(deal_one(gate, opening, &mut seat, left, latest))?;
+        left -= 1;
     }
     all.push(Pass::of(seat, latest))?;
     Ok(all)

@@ -1,13 +1,14 @@
-use Rattle.std.proofs.Common.{◌≡◌, ◌+◌, ◌-◌, [], All, length}
-use Rattle.turnstile.specs.Views.{first_view}
-use Rattle.turnstile.specs.Passes.{fresh_pass}
+use Rattle.std.proofs.Common.{◌≡◌, ◌+◌, ◌<◌, All, length}
+use Rattle.turnstile.specs.Passes.{IsDealer, fresh_pass}
 use Rattle.turnstile.proofs.deal.deal_out.Given as goal
 
-abbrev pub invariant-loop : goal.invariant-loop
-invariant-loop g l = record {
-  table : l.seat.table_id ≡ l.gate.table.shared.table_id;
-  seat : l.seat.me ≡ (record (first_view g.C.Chest.charter g.C.Chest.book {N = g.row.C-Note.Denot} l.opening) { parts = (l.passes + 1) - l.counter }, []);
-  count : length l.all.items + 1 ≡ l.counter;
-  own : All (λ p. p.table ≡ l.gate.table.shared.table_id) l.all.items;
+abbrev pub invariant-dealing : goal.invariant-dealing
+invariant-dealing g l = record {
+  some : 0 < l.left;
+  dealer : IsDealer g.C.Chest.charter g.C.Chest.book l.gate.table.shared.table_id l.opening l.left l.seat;
+  count : length l.all.items + l.left ≡ l.passes;
   each : All (λ p. p ≡ fresh_pass g.C.Chest.charter g.C.Chest.book l.gate.table.shared.table_id l.opening.start.chest l.opening.start.told) l.all.items;
 }
+
+abbrev pub decreases-dealing : goal.decreases-dealing
+decreases-dealing g l = l.left
