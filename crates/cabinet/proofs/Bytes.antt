@@ -1,5 +1,5 @@
 -- The bytes of what is kept: their sum lies within the blobs' bytes, and one metatile is counted out.
-use Rattle.std.proofs.Common.{ℕ, ◌≡◌, ◌+◌, ◌<◌, ◌≤◌, Bool, true, false, cond, List, [], ◌∷◌, ◌++◌, length, map, find, Option, Some, None, refl, sym, ap, subst, ◌∙◌, arith}
+use Rattle.std.proofs.Common.{ℕ, ◌≡◌, ◌+◌, ◌<◌, ◌≤◌, Bool, true, false, cond, List, [], ◌∷◌, ◌++◌, length, map, filter, find, Option, Some, None, refl, sym, ap, subst, ◌∙◌, arith}
 use Rattle.std.specs.Prelude.{IfSome, nat_lt}
 use Rattle.std.specs.List.{AllByRecursion, sum_by}
 use Rattle.std.proofs.lemmas.List.{map-append}
@@ -15,10 +15,11 @@ use Rattle.raster_field.specs.Blocks.{IsMeta}
 use Rattle.raster_field.proofs.Metas.{parts}
 use Rattle.metatile_locks.proofs.Lists.{all_weaker, found, none_passes}
 use Rattle.cabinet.specs.declared.kept.Kept.{Kept}
-use Rattle.cabinet.specs.Counted.{IsCountedIn, part_of, without}
+use Rattle.cabinet.specs.Counted.{part_of}
 use Rattle.cabinet.specs.Fresh.{Possible}
 use Rattle.cabinet.specs.Gaps.{regions, region}
 use Rattle.cabinet.specs.History.{History, but, is_of, nothing, standing}
+use Rattle.cabinet.specs.Shelved.{IsCountedIn, without}
 use Rattle.cabinet.proofs.Once.{AreOnce, but_none, one_kept}
 use Rattle.cabinet.proofs.Rooted.{metas_of}
 
@@ -52,6 +53,18 @@ sum_between low (x ∷ xs) high o =
 -- the bytes of what has its regions in a space are no more than the space's
 pub bytes_within : (kept : List Kept) (size : ℕ) → LieInOrder 0 (regions kept) size → used_all (map part_of kept) ≤ size
 bytes_within kept size o = omega (arith, sum_regions kept, sum_between 0 (regions kept) size o)
+
+-- what passes has no more bytes
+pub bytes_filter : (q : Kept → Bool) (ts : List Kept) → used_all (map part_of (filter q ts)) ≤ used_all (map part_of ts)
+bytes_filter q [] = omega arith
+bytes_filter q (t ∷ ts) = chosen (q t) (bytes_filter q ts)
+  where
+    chosen : (v : Bool) → used_all (map part_of (filter q ts)) ≤ used_all (map part_of ts) → used_all (map part_of (cond v (t ∷ filter q ts) (filter q ts))) ≤ used_all (map part_of (t ∷ ts))
+    chosen true h =
+        let a = sum_by-cons (λ (p : Part). p.length) (part_of t) (map part_of ts) in
+        let b = sum_by-cons (λ (p : Part). p.length) (part_of t) (map part_of (filter q ts)) in
+        omega (arith, a, b, h)
+    chosen false h = let a = sum_by-cons (λ (p : Part). p.length) (part_of t) (map part_of ts) in omega (arith, a, h)
 
 -- LAYERS
 

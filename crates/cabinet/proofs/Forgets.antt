@@ -14,7 +14,8 @@ use Rattle.quota_ledger.specs.Accounts.{Accounts, accounts, removed}
 use Rattle.metatile_locks.proofs.Lists.{all_at, all_filter}
 use Rattle.cabinet.specs.declared.kept.Kept.{Kept}
 use Rattle.cabinet.specs.declared.kept.KeptBlob.{KeptBlob}
-use Rattle.cabinet.specs.Counted.{IsCountedIn, holding, part_of}
+use Rattle.cabinet.specs.Counted.{part_of}
+use Rattle.cabinet.specs.Shelved.{IsCountedIn, holding}
 use Rattle.cabinet.specs.Fresh.{ApartBy}
 use Rattle.cabinet.proofs.Bytes.{one_counted, one_out}
 use Rattle.cabinet.proofs.Gives.{before_is, still, still_end, still_off, still_on}

@@ -38,7 +38,7 @@ apart_around f (z ∷ zs) x ys a =
 not_of : (m n : MetaKey) → not (same_meta m n) ≡ true → m ≢ n
 not_of m n off e = absurd (let same = subst (λ (x : MetaKey). same_meta m x ≡ true) e (same_meta_self m) in let f : not (same_meta m n) ≡ not true = ap not same in cc)
 
-but_apart : (m : MetaKey) (kept : List Kept) → AllByRecursion (λ t. t.meta ≢ m) (but m kept)
+pub but_apart : (m : MetaKey) (kept : List Kept) → AllByRecursion (λ t. t.meta ≢ m) (but m kept)
 but_apart m kept = all_passed (λ (t : Kept). Unit {0}) (λ t. t.meta ≢ m) (λ t. not (is_of m t)) (λ t off u. not_of t.meta m off) kept (all_of (λ (t : Kept). Unit {0}) kept (λ t has. tt))
 
 abbrev pub AreOnce : List Kept → Type 0

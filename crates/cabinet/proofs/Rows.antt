@@ -80,10 +80,10 @@ answers_more s e k may =
     (fronted_after s.catalogue (cuts_of s.history) (now s) e (holds_of s.catalogue s.opening s.history k.possible) may)
 
 -- one entry more, and what is kept then
-pub one_more : (s : State) (e : Entry) (blobs : List KeptBlob) → IsKnown s → May s.catalogue (now s) e → map (λ b. b.kept) blobs ≡ (after s.catalogue (now s) e).kept
+pub one_more_known : (s : State) (e : Entry) (blobs : List KeptBlob) → IsKnown s → May s.catalogue (now s) e → map (λ b. b.kept) blobs ≡ (after s.catalogue (now s) e).kept
     → AllByRecursion (λ b. (length b.text ≡ b.kept.length) × (b.kept.length ≡ blob_size s.catalogue b.kept.meta)) blobs → (after s.catalogue (now s) e).front ≤ s.opening * 2 ^ 40 + (2 ^ 40 - 1)
     → IsKnown (record { catalogue = s.catalogue; opening = s.opening; history = s.history ++ e ∷ []; blobs = blobs })
-one_more s e blobs k may kept long left =
+one_more_known s e blobs k may kept long left =
     let stood = stood_more s.catalogue (nothing s.opening) s.history e in
     record {
       valid = k.valid;
@@ -95,7 +95,7 @@ one_more s e blobs k may kept long left =
 
 -- an entry that keeps and drops nothing
 entered : (s t : State) (e : Entry) → IsKnown s → May s.catalogue (now s) e → (after s.catalogue (now s) e).kept ≡ (now s).kept → (after s.catalogue (now s) e).front ≤ s.opening * 2 ^ 40 + (2 ^ 40 - 1) → t ≡ with_entry s e → IsKnownAs s t
-entered s t e k may kept left is = rw is (record { known = one_more s e s.blobs k may (k.blobs ∙ sym kept) k.lengths left; same_catalogue = refl; same_opening = refl; answers = answers_more s e k may })
+entered s t e k may kept left is = rw is (record { known = one_more_known s e s.blobs k may (k.blobs ∙ sym kept) k.lengths left; same_catalogue = refl; same_opening = refl; answers = answers_more s e k may })
 
 ended : (s t : State) (n : ℕ) → IsKnown s → t ≡ with_entry s (entry.Ended n) → IsKnownAs s t
 ended s t n k is = entered s t (entry.Ended n) k tt refl k.left is
@@ -128,7 +128,7 @@ stored s t ticket blob k long r =
     let place = r.2.0 in
     let new = kept_at ticket r.2.0 (length blob) in
     rw r.2.2 (record {
-      known = one_more s (entry.Stored ticket.number ticket.meta r.2.0 (length blob)) (filter (λ b. not (is_of ticket.meta b.kept)) s.blobs ++ record { kept = new; text = blob } ∷ []) k
+      known = one_more_known s (entry.Stored ticket.number ticket.meta r.2.0 (length blob)) (filter (λ b. not (is_of ticket.meta b.kept)) s.blobs ++ record { kept = new; text = blob } ∷ []) k
           (r.0, long, r.2.1) (map_stored new blob s.blobs (now s).kept k.blobs)
           (all_push (λ (b : KeptBlob). (length b.text ≡ b.kept.length) × (b.kept.length ≡ blob_size s.catalogue b.kept.meta)) (filter (λ b. not (is_of ticket.meta b.kept)) s.blobs) (record { kept = new; text = blob })
           (all_filter (λ (b : KeptBlob). (length b.text ≡ b.kept.length) × (b.kept.length ≡ blob_size s.catalogue b.kept.meta)) (λ b. not (is_of ticket.meta b.kept)) s.blobs k.lengths) (refl, long)) k.left;
@@ -156,7 +156,7 @@ done s t cover n k of r =
     let x = next_is s.opening (now s) n r.0 in
     let l = x.left in let f = k.left in
     rw r.2 (record {
-      known = one_more s (entry.Cut n cover) (filter (λ b. not (hits_of s.catalogue cover b.kept.meta)) s.blobs) k (x.number, of) (map_spared s.catalogue cover s.blobs (now s).kept k.blobs)
+      known = one_more_known s (entry.Cut n cover) (filter (λ b. not (hits_of s.catalogue cover b.kept.meta)) s.blobs) k (x.number, of) (map_spared s.catalogue cover s.blobs (now s).kept k.blobs)
           (all_filter (λ (b : KeptBlob). (length b.text ≡ b.kept.length) × (b.kept.length ≡ blob_size s.catalogue b.kept.meta)) (λ b. not (hits_of s.catalogue cover b.kept.meta)) s.blobs k.lengths) (omega arith);
       same_catalogue = refl;
       same_opening = refl;
@@ -173,7 +173,7 @@ map_others : (m : MetaKey) (blobs : List KeptBlob) (kept : List Kept) → map (�
 map_others m blobs kept e = map_filter (λ (b : KeptBlob). b.kept) (λ t. not (is_of m t)) blobs ∙ ap (but m) e
 
 -- a victim is kept
-goes_kept : (s : State) (scope : Scope) (m : MetaKey) → victim_in s scope ≡ Some m → IsSome (kept_of m (now s))
+pub goes_kept : (s : State) (scope : Scope) (m : MetaKey) → victim_in s scope ≡ Some m → IsSome (kept_of m (now s))
 goes_kept s scope m goes =
     let held = victim_held s.catalogue.policy scope (uses_of s) m goes in
     some_before (λ (t : Kept). use_of s.history t.meta) (kept_of m (now s)) (subst IsSome (find_map (λ (t : Kept). use_of s.history t.meta) (victims.is_of m) (now s).kept) held)
@@ -185,7 +185,7 @@ goes_kept s scope m goes =
 gone : (s t : State) (m : MetaKey) → IsKnown s → Expires s (expired.Dropped m) t → IsKnownAs s t
 gone s t m k r =
     rw r.3 (record {
-      known = one_more s (entry.Dropped m) (filter (λ b. not (is_of m b.kept)) s.blobs) k (goes_kept s r.0 m r.2) (map_others m s.blobs (now s).kept k.blobs)
+      known = one_more_known s (entry.Dropped m) (filter (λ b. not (is_of m b.kept)) s.blobs) k (goes_kept s r.0 m r.2) (map_others m s.blobs (now s).kept k.blobs)
           (all_filter (λ (b : KeptBlob). (length b.text ≡ b.kept.length) × (b.kept.length ≡ blob_size s.catalogue b.kept.meta)) (λ b. not (is_of m b.kept)) s.blobs k.lengths) k.left;
       same_catalogue = refl;
       same_opening = refl;

@@ -4,11 +4,8 @@ use Rattle.std.specs.List.{AllByRecursion}
 use Rattle.std.specs.Option.{option_map_or}
 use Rattle.catalog.specs.declared.catalogue.Catalogue.{Catalogue}
 use Rattle.catalog.specs.Valid.{IsValid}
-use Rattle.extent_map.specs.Spaces.{Space}
-use Rattle.metatile_locks.specs.declared.render.Render.{Render}
 use Rattle.metatile_plan.specs.declared.metatile.MetaKey.{MetaKey}
 use Rattle.raster_field.specs.Blocks.{block_text, blob_size}
-use Rattle.truncation_list.specs.declared.book.Book.{Book}
 use Rattle.truncation_list.specs.declared.book.FrontedBook.{FrontedBook}
 use Rattle.truncation_list.specs.declared.cover.Cover.{Cover}
 use Rattle.truncation_list.specs.Books.{AnswersForFronted}
@@ -17,7 +14,6 @@ use Rattle.cabinet.specs.declared.entry.Entry.TheVariants as entry
 use Rattle.cabinet.specs.declared.kept.Kept.{Kept}
 use Rattle.cabinet.specs.declared.kept.KeptBlob.{KeptBlob}
 use Rattle.cabinet.specs.Fresh.{Possible}
-use Rattle.cabinet.specs.Gaps.{regions}
 use Rattle.cabinet.specs.History.{History, Standing, nothing, standing, is_of}
 use Rattle.cabinet.specs.Hits.{hits_of}
 
@@ -85,15 +81,3 @@ pub record IsKnownAs (s new : State) : Type 0 where
 -- SOUND: each blob that is kept is that of its metatile in the picture of its number
 abbrev pub IsSound : State → Type 0
 IsSound s = AllByRecursion (λ b. b.text ≡ block_text s.catalogue b.kept.number b.kept.meta) s.blobs
-
--- THE PARTS OF A CABINET
-
--- the cabinet is known, its parts are what its history says, and the kept list and the extents have the room for each
--- running render to be kept
-pub record IsConsistent (s : State) (last room : ℕ) (renders : List Render) (book : Book) (space : Space) : Type 0 where
-  pub known : IsKnown s
-  pub stands : now s ≡ record { front = last; kept = map (λ b. b.kept) s.blobs; out = renders; book = book }
-  pub parts : space.parts ≡ regions (map (λ b. b.kept) s.blobs)
-  pub size : space.size ≡ s.catalogue.blob_bytes
-  pub fits : length s.blobs + length renders ≤ room
-  pub spare : length renders ≤ space.spare
