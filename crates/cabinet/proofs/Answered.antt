@@ -35,7 +35,7 @@ use Rattle.cabinet.specs.Commands.{Cuts, Expires, Finishes, Forces, IsHit, kept_
 use Rattle.cabinet.specs.Consistent.{IsConsistent, Parts, seen}
 use Rattle.cabinet.specs.Counted.{kept_in, part_of, scope_exceeded, use_of, uses_of}
 use Rattle.cabinet.specs.Gaps.{gap_for}
-use Rattle.cabinet.specs.History.{History, Standing, but, is_of, kept_of, least_of, lesser, next, numbers}
+use Rattle.cabinet.specs.History.{History, Standing, but, is_of, kept_of, least_of, lesser, next, numbers, last_number, whole}
 use Rattle.cabinet.specs.Shelved.{Drops, Shelved, Shelves, listed, scope_above}
 use Rattle.cabinet.specs.State.{IsSound, State, now, with_blob, with_cut, with_dropped, with_entry}
 use Rattle.cabinet.proofs.Holding.{least_has, least_most}
@@ -80,10 +80,10 @@ module _ (p : Parts) (h : History) (k : IsConsistent p h) where
 
   -- NUMBERS
 
-  pub next_some : p.last < 2 ^ 40 - 1 → next 0 (now here) ≡ Some (p.last + 1)
+  pub next_some : p.last < last_number p.opening → next p.opening (now here) ≡ Some (p.last + 1)
   next_some left =
-      let lt : nat_lt p.last (0 * 2 ^ 40 + (2 ^ 40 - 1)) ≡ true = grind (arith, nat_tests) in
-      ap (next 0) k.stands ∙ ap (λ (v : Bool). cond v (Some (p.last + 1)) None) lt
+      let lt : nat_lt p.last (last_number p.opening) ≡ true = grind (arith, nat_tests) in
+      ap (next p.opening) k.stands ∙ ap (λ (v : Bool). cond v (Some (p.last + 1)) None) lt
 
   -- HITS
 
@@ -164,7 +164,7 @@ module _ (p : Parts) (h : History) (k : IsConsistent p h) where
       let there : listed' ≡ (now here).book = b ∙ ap (λ (x : Standing). x.book) (sym k.stands) in
       λ i. purged (Some cover) (whole i) (there i)
 
-  module _ (cover : Cover) (least : Option ℕ) (book : Book) (left : p.last < 2 ^ 40 - 1) (low : least ≡ least_of (numbers p.renders (listed p.shelf.blobs))) (same : book ≡ p.book) (new : State) where
+  module _ (cover : Cover) (least : Option ℕ) (book : Book) (left : p.last < last_number p.opening) (low : least ≡ least_of (numbers p.renders (listed p.shelf.blobs))) (same : book ≡ p.book) (new : State) where
     pub cut_full_row : p.shelf.catalogue.cut_limit ≤ length (purged (Some cover) least book).cuts → new ≡ here → Cuts here cover reply.Full new
     cut_full_row full is = (rw (next_some left) refl, subst (λ (x : Book). p.shelf.catalogue.cut_limit ≤ length x.cuts) (before_is cover least book low same) full, is)
 
@@ -177,7 +177,7 @@ module _ (p : Parts) (h : History) (k : IsConsistent p h) where
   scope_is o e = ap (λ (ts : List Kept). exceeded (accounts p.shelf.catalogue (map part_of ts))) (sym kept_are) ∙ e
 
   uses_are : p.shelf.uses ≡ uses_of here
-  uses_are = k.uses ∙ ap (map (λ (t : Kept). use_of h t.meta)) kept_are
+  uses_are = k.uses ∙ ap (map (λ (t : Kept). use_of (whole p.opening h) t.meta)) kept_are
 
   pub within_row : (shelf' : Shelved) (new : State) → Drops p.shelf None shelf' → new ≡ here → Expires here expired.Within new
   within_row shelf' new x is = (scope_is None x.0, is)

@@ -18,7 +18,7 @@ use Rattle.cabinet.specs.declared.kept.Kept.{Kept}
 use Rattle.cabinet.specs.Counted.{part_of}
 use Rattle.cabinet.specs.Fresh.{Possible}
 use Rattle.cabinet.specs.Gaps.{regions, region}
-use Rattle.cabinet.specs.History.{History, but, is_of, nothing, standing}
+use Rattle.cabinet.specs.History.{History, Opening, but, first, is_of, standing}
 use Rattle.cabinet.specs.Shelved.{IsCountedIn, without}
 use Rattle.cabinet.proofs.Once.{AreOnce, but_none, one_kept}
 use Rattle.cabinet.proofs.Rooted.{metas_of}
@@ -71,8 +71,8 @@ bytes_filter q (t ∷ ts) = chosen (q t) (bytes_filter q ts)
 pub layer_within : (c : Catalogue) (m : MetaKey) → IsMeta c m → m.theme.layer < length c.layers
 layer_within c m is = let p = parts c m is in slice_get_within c.layers m.theme.layer p.its_layer p.layer
 
-pub layers_within : (c : Catalogue) (opening : ℕ) (h : History) → Possible c (nothing opening) h → AllByRecursion (λ t. t.meta.theme.layer < length c.layers) (standing c (nothing opening) h).kept
-layers_within c opening h may = all_weaker (λ (t : Kept). IsMeta c t.meta) (λ t. t.meta.theme.layer < length c.layers) (λ t is. layer_within c t.meta is) (standing c (nothing opening) h).kept (metas_of c opening h may).kept
+pub layers_within : (c : Catalogue) (o : Opening) (h : History) → Possible c o h → AllByRecursion (λ t. t.meta.theme.layer < length c.layers) (standing c (first o) h).kept
+layers_within c o h may = all_weaker (λ (t : Kept). IsMeta c t.meta) (λ t. t.meta.theme.layer < length c.layers) (λ t is. layer_within c t.meta is) (standing c (first o) h).kept (metas_of c o h may).kept
 
 -- ONE COUNTED OUT
 

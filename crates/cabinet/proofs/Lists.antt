@@ -90,3 +90,8 @@ any_found q (y ∷ ys) x e = chosen (q y) e (any_found q ys x)
 pub any_map : {X Y : Type 0} (f : X → Y) (q : Y → Bool) (xs : List X) → list_any q (map f xs) ≡ list_any (λ x. q (f x)) xs
 any_map f q [] = refl
 any_map f q (x ∷ xs) = ap (λ (v : Bool). q (f x) || v) (any_map f q xs)
+
+-- one of two that are the same
+pub either_same : {X : Type 0} (x : X) (v : Bool) → cond v x x ≡ x
+either_same x true = refl
+either_same x false = refl

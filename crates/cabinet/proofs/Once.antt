@@ -9,9 +9,9 @@ use Rattle.metatile_locks.proofs.Lists.{all_map, all_passed, all_weaker}
 use Rattle.cabinet.specs.declared.entry.Entry.{Entry}
 use Rattle.cabinet.specs.declared.entry.Entry.TheVariants as entry
 use Rattle.cabinet.specs.declared.kept.Kept.{Kept}
-use Rattle.cabinet.specs.Fresh.{ApartBy}
+use Rattle.cabinet.specs.Fresh.{ApartBy, Opens}
 use Rattle.cabinet.specs.Hits.{hits_of}
-use Rattle.cabinet.specs.History.{History, Standing, after, but, is_of, nothing, standing}
+use Rattle.cabinet.specs.History.{History, Opening, Standing, after, but, first, is_of, standing}
 use Rattle.cabinet.proofs.Lists.{all_of, all_of_map, all_right}
 use Rattle.cabinet.proofs.Numbers.{apart_filter, apart_push}
 
@@ -58,8 +58,8 @@ once_run : (c : Catalogue) (s : Standing) (h : History) → AreOnce s.kept → A
 once_run c s [] a = a
 once_run c s (e ∷ es) a = once_run c (after c s e) es (once_after c s e a)
 
-pub once : (c : Catalogue) (opening : ℕ) (h : History) → AreOnce (standing c (nothing opening) h).kept
-once c opening h = once_run c (nothing opening) h tt
+pub once : (c : Catalogue) (o : Opening) (h : History) → Opens c o → AreOnce (standing c (first o) h).kept
+once c o h opens = once_run c (first o) h opens.once
 
 -- THE OTHERS OF ONE
 

@@ -1,9 +1,10 @@
 //! The cabinet: its commands, and the counts that it tells. The work of a command on what is kept is the shelf's, that on
 //! renders the locks'; here each command changes the parts and the history together.
-ghost use Rattle.std.specs.Prelude.{IfOk, OnErr, length, ◌<◌, ◌≡◌};
+ghost use Rattle.std.specs.Prelude.{IfOk, OnErr, length, ◌<◌, ◌^◌, ◌≡◌};
 ghost use Rattle.catalog.specs.LookUp.{IsTile};
 ghost use Rattle.catalog.specs.Valid.{IsValid};
 ghost use Rattle.raster_field.specs.Blocks.{IsMeta, blob_size, block_text};
+ghost use Rattle.cabinet.specs.History.{bare_opening, last_number};
 
 use crate::blob::tile_in;
 use crate::entry::Entry;
@@ -25,14 +26,23 @@ use trace::Trace;
 use truncation_list::cover::Cover;
 use truncation_list::list::CutList;
 
-/// The last number of an opening.
+/// The numbers of the opening e are e * 2^40 + c, with c from 1 to this.
 const LAST: u64 = (1 << 40) - 1;
+
+/// The last number of an opening.
+fn last_number(opening: u32) -> u64
+    requires { opening < 2 ^ 24 }
+    ensures { result ≡ last_number (bare_opening opening) }
+{
+    u64::from(opening) * (LAST + 1) + LAST
+}
 
 /// Keeps metatiles, gives the numbers of renders, and drops what truncations hit. Contracts see its catalogue, its opening
 /// number, its history and the blobs that it keeps.
 #[derive(Drop)]
 pub struct Cabinet {
     shelf: Shelf,
+    opening: u32,
     last: u64,
     locks: Locks,
     cuts: CutList,
@@ -41,13 +51,14 @@ pub struct Cabinet {
 
 impl Model for Cabinet {
     ghost use Rattle.cabinet.specs.Consistent.{IsConsistent};
+    ghost use Rattle.cabinet.specs.History.{bare_opening};
     ghost use Rattle.cabinet.specs.State.{State};
 
     ghost Value = { State };
 
-    ghost view = { λ a. record { catalogue = a.shelf.catalogue; opening = 0; history = a.past.entries; blobs = a.shelf.blobs } };
+    ghost view = { λ a. record { catalogue = a.shelf.catalogue; opening = bare_opening a.opening; history = a.past.entries; since = a.past.entries; blobs = a.shelf.blobs } };
 
-    ghost invariant = { λ a. IsConsistent (record { shelf = a.shelf; last = a.last; renders = a.locks.renders; book = a.cuts.book }) a.past.entries };
+    ghost invariant = { λ a. IsConsistent (record { opening = bare_opening a.opening; shelf = a.shelf; last = a.last; renders = a.locks.renders; book = a.cuts.book }) a.past.entries };
 }
 
 impl Cabinet {
@@ -66,6 +77,7 @@ impl Cabinet {
         let cuts = CutList::new(alloc)?;
         Ok(Cabinet {
             shelf,
+            opening: 0,
             last: 0,
             locks,
             cuts,
@@ -126,7 +138,7 @@ impl Cabinet {
             Some(number) => return Ok(Forced::Busy(number)),
             None => {}
         }
-        if self.last >= LAST {
+        if self.last >= last_number(self.opening) {
             return Ok(Forced::Spent);
         }
         make_room(alloc, &mut self.shelf, &mut self.locks)?;
@@ -196,7 +208,7 @@ impl Cabinet {
         ensures cuts { IfOk result (λ reply. Cuts self.old cover.now reply self.new) }
         ensures err { OnErr result (self.new ≡ self.old) }
     {
-        if self.last >= LAST {
+        if self.last >= last_number(self.opening) {
             return Ok(CutReply::Spent);
         }
         self.cuts.reserve(alloc, cover)?;

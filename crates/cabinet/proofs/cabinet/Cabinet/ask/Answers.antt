@@ -11,7 +11,7 @@ use Rattle.cabinet.specs.declared.replies.Forced.TheVariants as forced
 use Rattle.cabinet.specs.Commands.{IsHit}
 use Rattle.cabinet.specs.Consistent.{Parts, seen}
 use Rattle.cabinet.specs.Fresh.{IsFresh}
-use Rattle.cabinet.specs.History.{is_of}
+use Rattle.cabinet.specs.History.{is_of, bare_opening}
 use Rattle.cabinet.specs.State.{IsKnown, IsSound, State}
 use Rattle.cabinet.proofs.Answered.{found_long, found_text, hit_row, miss_row, some_listed}
 use Rattle.cabinet.proofs.Consistent.{after_used}
@@ -21,7 +21,7 @@ use Rattle.cabinet.proofs.cabinet.Cabinet.ask.Goals as goal
 pub tile_in-requires-clause-blob : goal.tile_in-requires-clause-blob
 tile_in-requires-clause-blob c =
     let i = c.self.inside in
-    let p : Parts = record { shelf = i.shelf; last = i.last; renders = i.locks.renders; book = i.cuts.book } in
+    let p : Parts = record { opening = bare_opening i.opening; shelf = i.shelf; last = i.last; renders = i.locks.renders; book = i.cuts.book } in
     let h = i.past.entries in
     let e : find (λ (x : KeptBlob). is_of c.block_of-meta.result x.kept) i.shelf.blobs ≡ Some c.in-Some.blob.now = search rules in
     let is = c.block_of-meta.ensures.meta ∙ ap (λ (x : Catalogue). block_of x c.args.address.now) c.catalogue.ensures.catalogue in
@@ -32,31 +32,31 @@ tile_in-requires-clause-blob c =
 pub invariant_of-self : goal.invariant_of-self
 invariant_of-self c =
     let i = c.self.inside in
-    let p : Parts = record { shelf = i.shelf; last = i.last; renders = i.locks.renders; book = i.cuts.book } in
+    let p : Parts = record { opening = bare_opening i.opening; shelf = i.shelf; last = i.last; renders = i.locks.renders; book = i.cuts.book } in
     let h = i.past.entries in
     let e : find (λ (x : KeptBlob). is_of c.block_of-meta.result x.kept) i.shelf.blobs ≡ Some c.in-Some.blob.now = search rules in
-    after_used p h c.self.invariant c.block_of-meta.result c.and-self-inside.result.entries _ c.and-self-inside.ensures (λ j. record { shelf = c.touch.ensures j; last = i.last; renders = i.locks.renders; book = i.cuts.book })
+    after_used p h c.self.invariant c.block_of-meta.result c.and-self-inside.result.entries _ c.and-self-inside.ensures (λ j. record { opening = bare_opening i.opening; shelf = c.touch.ensures j; last = i.last; renders = i.locks.renders; book = i.cuts.book })
     (some_listed p h c.self.invariant c.block_of-meta.result c.in-Some.blob.now e)
 
 pub returns-in-Some-clause-asked : goal.returns-in-Some-clause-asked
 returns-in-Some-clause-asked c =
     let i = c.self.inside in
-    let p : Parts = record { shelf = i.shelf; last = i.last; renders = i.locks.renders; book = i.cuts.book } in
+    let p : Parts = record { opening = bare_opening i.opening; shelf = i.shelf; last = i.last; renders = i.locks.renders; book = i.cuts.book } in
     let h = i.past.entries in
     let e : find (λ (x : KeptBlob). is_of c.block_of-meta.result x.kept) i.shelf.blobs ≡ Some c.in-Some.blob.now = search rules in
     let is = c.block_of-meta.ensures.meta ∙ ap (λ (x : Catalogue). block_of x c.args.address.now) c.catalogue.ensures.catalogue in
     let f : find (λ (x : KeptBlob). is_of (block_of i.shelf.catalogue c.args.address.now) x.kept) i.shelf.blobs ≡ Some c.in-Some.blob.now = subst (λ (m : MetaKey). find (λ (x : KeptBlob). is_of m x.kept) i.shelf.blobs ≡ Some c.in-Some.blob.now) is e in
     let same = c.catalogue-in-Some.ensures.catalogue in
-    let new : State = record { catalogue = c.touch.new.self.catalogue; opening = 0; history = c.and-self-inside.result.entries; blobs = c.touch.new.self.blobs } in
+    let new : State = record { catalogue = c.touch.new.self.catalogue; opening = bare_opening i.opening; history = c.and-self-inside.result.entries; since = c.and-self-inside.result.entries; blobs = c.touch.new.self.blobs } in
     let part = c.in_ok-text-in-Some.ensures.part ∙ (λ j. tile_part (same j) c.args.address.now (c.bytes.ensures j)) in
     let told = c.and-self-inside.ensures ∙ ap (λ (m : MetaKey). i.past.entries ++ entry.Used m ∷ []) is in
-    let hit = hit_row p h c.self.invariant c.args.address.now c.in-Some.blob.now c.in_ok-text-in-Some.text.items new f part (λ j. record { catalogue = (c.touch.ensures j).catalogue; opening = 0; history = told j; blobs = (c.touch.ensures j).blobs }) in
+    let hit = hit_row p h c.self.invariant c.args.address.now c.in-Some.blob.now c.in_ok-text-in-Some.text.items new f part (λ j. record { catalogue = (c.touch.ensures j).catalogue; opening = bare_opening i.opening; history = told j; since = told j; blobs = (c.touch.ensures j).blobs }) in
     subst (λ (v : State). IsHit v c.args.address.now c.in-Some.blob.now.kept.number c.in_ok-text-in-Some.text.items new) c.self.view_is hit
 
 pub returns-in-Some-clause-sound : goal.returns-in-Some-clause-sound
 returns-in-Some-clause-sound c = λ sound.
     let i = c.self.inside in
-    let p : Parts = record { shelf = i.shelf; last = i.last; renders = i.locks.renders; book = i.cuts.book } in
+    let p : Parts = record { opening = bare_opening i.opening; shelf = i.shelf; last = i.last; renders = i.locks.renders; book = i.cuts.book } in
     let h = i.past.entries in
     let e : find (λ (x : KeptBlob). is_of c.block_of-meta.result x.kept) i.shelf.blobs ≡ Some c.in-Some.blob.now = search rules in
     let is = c.block_of-meta.ensures.meta ∙ ap (λ (x : Catalogue). block_of x c.args.address.now) c.catalogue.ensures.catalogue in
@@ -70,16 +70,16 @@ returns-in-Some-clause-sound c = λ sound.
 pub returns-in-Some-clause-fresh : goal.returns-in-Some-clause-fresh
 returns-in-Some-clause-fresh c =
     let i = c.self.inside in
-    let p : Parts = record { shelf = i.shelf; last = i.last; renders = i.locks.renders; book = i.cuts.book } in
+    let p : Parts = record { opening = bare_opening i.opening; shelf = i.shelf; last = i.last; renders = i.locks.renders; book = i.cuts.book } in
     let h = i.past.entries in
     let e : find (λ (x : KeptBlob). is_of c.block_of-meta.result x.kept) i.shelf.blobs ≡ Some c.in-Some.blob.now = search rules in
     let is = c.block_of-meta.ensures.meta ∙ ap (λ (x : Catalogue). block_of x c.args.address.now) c.catalogue.ensures.catalogue in
     let f : find (λ (x : KeptBlob). is_of (block_of i.shelf.catalogue c.args.address.now) x.kept) i.shelf.blobs ≡ Some c.in-Some.blob.now = subst (λ (m : MetaKey). find (λ (x : KeptBlob). is_of m x.kept) i.shelf.blobs ≡ Some c.in-Some.blob.now) is e in
     let same = c.catalogue-in-Some.ensures.catalogue in
-    let new : State = record { catalogue = c.touch.new.self.catalogue; opening = 0; history = c.and-self-inside.result.entries; blobs = c.touch.new.self.blobs } in
+    let new : State = record { catalogue = c.touch.new.self.catalogue; opening = bare_opening i.opening; history = c.and-self-inside.result.entries; since = c.and-self-inside.result.entries; blobs = c.touch.new.self.blobs } in
     let part = c.in_ok-text-in-Some.ensures.part ∙ (λ j. tile_part (same j) c.args.address.now (c.bytes.ensures j)) in
     let told = c.and-self-inside.ensures ∙ ap (λ (m : MetaKey). i.past.entries ++ entry.Used m ∷ []) is in
-    let hit = hit_row p h c.self.invariant c.args.address.now c.in-Some.blob.now c.in_ok-text-in-Some.text.items new f part (λ j. record { catalogue = (c.touch.ensures j).catalogue; opening = 0; history = told j; blobs = (c.touch.ensures j).blobs }) in
+    let hit = hit_row p h c.self.invariant c.args.address.now c.in-Some.blob.now c.in_ok-text-in-Some.text.items new f part (λ j. record { catalogue = (c.touch.ensures j).catalogue; opening = bare_opening i.opening; history = told j; since = told j; blobs = (c.touch.ensures j).blobs }) in
     let tile = subst (λ (v : State). IsTile v.catalogue c.args.address.now) (sym c.self.view_is) c.requires in
     subst (λ (v : State). IsFresh v.catalogue c.and-self-inside.result.entries (length v.history) c.args.address.now c.in-Some.blob.now.kept.number) c.self.view_is
     (asks_fresh (seen p h) new c.args.address.now (asked.Hit c.in-Some.blob.now.kept.number c.in_ok-text-in-Some.text) c.self.invariant.known tile hit)
@@ -87,7 +87,7 @@ returns-in-Some-clause-fresh c =
 pub returns-in-Ticket-clause-asked : goal.returns-in-Ticket-clause-asked
 returns-in-Ticket-clause-asked c =
     let i = c.self.inside in
-    let p : Parts = record { shelf = i.shelf; last = i.last; renders = i.locks.renders; book = i.cuts.book } in
+    let p : Parts = record { opening = bare_opening i.opening; shelf = i.shelf; last = i.last; renders = i.locks.renders; book = i.cuts.book } in
     let h = i.past.entries in
     let none : find (λ (x : KeptBlob). is_of c.block_of-meta.result x.kept) i.shelf.blobs ≡ None = search rules in
     let is = c.block_of-meta.ensures.meta ∙ ap (λ (x : Catalogue). block_of x c.args.address.now) c.catalogue.ensures.catalogue in
@@ -96,7 +96,7 @@ returns-in-Ticket-clause-asked c =
 pub returns-in-Ticket-clause-fresh : goal.returns-in-Ticket-clause-fresh
 returns-in-Ticket-clause-fresh c =
     let i = c.self.inside in
-    let p : Parts = record { shelf = i.shelf; last = i.last; renders = i.locks.renders; book = i.cuts.book } in
+    let p : Parts = record { opening = bare_opening i.opening; shelf = i.shelf; last = i.last; renders = i.locks.renders; book = i.cuts.book } in
     let h = i.past.entries in
     let none : find (λ (x : KeptBlob). is_of c.block_of-meta.result x.kept) i.shelf.blobs ≡ None = search rules in
     let is = c.block_of-meta.ensures.meta ∙ ap (λ (x : Catalogue). block_of x c.args.address.now) c.catalogue.ensures.catalogue in
@@ -106,7 +106,7 @@ returns-in-Ticket-clause-fresh c =
 pub returns-in-Busy-clause-asked : goal.returns-in-Busy-clause-asked
 returns-in-Busy-clause-asked c =
     let i = c.self.inside in
-    let p : Parts = record { shelf = i.shelf; last = i.last; renders = i.locks.renders; book = i.cuts.book } in
+    let p : Parts = record { opening = bare_opening i.opening; shelf = i.shelf; last = i.last; renders = i.locks.renders; book = i.cuts.book } in
     let h = i.past.entries in
     let none : find (λ (x : KeptBlob). is_of c.block_of-meta.result x.kept) i.shelf.blobs ≡ None = search rules in
     let is = c.block_of-meta.ensures.meta ∙ ap (λ (x : Catalogue). block_of x c.args.address.now) c.catalogue.ensures.catalogue in
@@ -115,7 +115,7 @@ returns-in-Busy-clause-asked c =
 pub returns-in-Spent-clause-asked : goal.returns-in-Spent-clause-asked
 returns-in-Spent-clause-asked c =
     let i = c.self.inside in
-    let p : Parts = record { shelf = i.shelf; last = i.last; renders = i.locks.renders; book = i.cuts.book } in
+    let p : Parts = record { opening = bare_opening i.opening; shelf = i.shelf; last = i.last; renders = i.locks.renders; book = i.cuts.book } in
     let h = i.past.entries in
     let none : find (λ (x : KeptBlob). is_of c.block_of-meta.result x.kept) i.shelf.blobs ≡ None = search rules in
     let is = c.block_of-meta.ensures.meta ∙ ap (λ (x : Catalogue). block_of x c.args.address.now) c.catalogue.ensures.catalogue in

@@ -3,22 +3,23 @@ use Rattle.cabinet.specs.Consistent.{Parts, seen}
 use Rattle.cabinet.specs.State.{IsSound, State}
 use Rattle.cabinet.proofs.Answered.{goes_listed, sound_dropped}
 use Rattle.cabinet.proofs.Consistent.{after_dropped}
+use Rattle.cabinet.specs.History.{bare_opening}
 use Rattle.cabinet.proofs.cabinet.Cabinet.expire.Goals as goal
 
 pub invariant_of-self-in-Some : goal.invariant_of-self-in-Some
 invariant_of-self-in-Some c =
     let i = c.self.inside in
-    let p : Parts = record { shelf = i.shelf; last = i.last; renders = i.locks.renders; book = i.cuts.book } in
+    let p : Parts = record { opening = bare_opening i.opening; shelf = i.shelf; last = i.last; renders = i.locks.renders; book = i.cuts.book } in
     let h = i.past.entries in
     let drops = c.in-Some.ensures.drops in
-    after_dropped p h c.self.invariant c.in-Some.meta c.drop_first.new.self.room c.and-self-inside.result.entries _ c.and-self-inside.ensures (λ j. record { shelf = drops.3 j; last = i.last; renders = i.locks.renders; book = i.cuts.book })
+    after_dropped p h c.self.invariant c.in-Some.meta c.drop_first.new.self.room c.and-self-inside.result.entries _ c.and-self-inside.ensures (λ j. record { opening = bare_opening i.opening; shelf = drops.3 j; last = i.last; renders = i.locks.renders; book = i.cuts.book })
     (goes_listed p h c.self.invariant c.in-Some.meta c.drop_first.new.self drops) c.drop_first.ensures.room
 
 pub returns-in-Some-clause-sound : goal.returns-in-Some-clause-sound
 returns-in-Some-clause-sound c = λ sound.
     let i = c.self.inside in
-    let p : Parts = record { shelf = i.shelf; last = i.last; renders = i.locks.renders; book = i.cuts.book } in
+    let p : Parts = record { opening = bare_opening i.opening; shelf = i.shelf; last = i.last; renders = i.locks.renders; book = i.cuts.book } in
     let h = i.past.entries in
     let drops = c.in-Some.ensures.drops in
     sound_dropped (seen p h) c.in-Some.meta _ (subst (λ (v : State). IsSound v) (sym c.self.view_is) sound)
-    (λ j. record { catalogue = (drops.3 j).catalogue; opening = 0; history = c.and-self-inside.ensures j; blobs = (drops.3 j).blobs })
+    (λ j. record { catalogue = (drops.3 j).catalogue; opening = bare_opening i.opening; history = c.and-self-inside.ensures j; since = c.and-self-inside.ensures j; blobs = (drops.3 j).blobs })

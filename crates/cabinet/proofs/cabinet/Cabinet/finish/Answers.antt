@@ -10,19 +10,20 @@ use Rattle.cabinet.specs.Shelved.{Shelved, listed}
 use Rattle.cabinet.specs.State.{IsSound, State}
 use Rattle.cabinet.proofs.Consistent.{after_ended, after_stored}
 use Rattle.cabinet.proofs.Answered.{sound_stored}
+use Rattle.cabinet.specs.History.{bare_opening}
 use Rattle.cabinet.proofs.cabinet.Cabinet.finish.Goals as goal
 
 -- what is kept is sound
 abbrev SoundOn : Shelved → Type 0
-SoundOn x = IsSound (record { catalogue = x.catalogue; opening = 0; history = []; blobs = x.blobs })
+SoundOn x = IsSound (record { catalogue = x.catalogue; opening = bare_opening 0; history = []; since = []; blobs = x.blobs })
 
 pub invariant_of-self-in-Overtaken : goal.invariant_of-self-in-Overtaken
 invariant_of-self-in-Overtaken c =
     let i = c.self.inside in
-    let p : Parts = record { shelf = i.shelf; last = i.last; renders = i.locks.renders; book = i.cuts.book } in
+    let p : Parts = record { opening = bare_opening i.opening; shelf = i.shelf; last = i.last; renders = i.locks.renders; book = i.cuts.book } in
     let h = i.past.entries in
     let told = c.and-self-inside.ensures ∙ ap (λ (n : ℕ). i.past.entries ++ entry.Ended n ∷ []) c.number-number.ensures in
-    after_ended p h c.self.invariant c.args.ticket.number c.and-self-inside.result.entries _ told (λ j. record { shelf = i.shelf; last = i.last; renders = c.in-Overtaken.ensures.ends.1 j; book = i.cuts.book })
+    after_ended p h c.self.invariant c.args.ticket.number c.and-self-inside.result.entries _ told (λ j. record { opening = bare_opening i.opening; shelf = i.shelf; last = i.last; renders = c.in-Overtaken.ensures.ends.1 j; book = i.cuts.book })
 
 pub returns-in-Overtaken-clause-sound : goal.returns-in-Overtaken-clause-sound
 returns-in-Overtaken-clause-sound c = λ sound text. subst (λ (v : State). IsSound v) (sym c.self.view_is) sound
@@ -30,10 +31,10 @@ returns-in-Overtaken-clause-sound c = λ sound text. subst (λ (v : State). IsSo
 pub invariant_of-self-in-Full : goal.invariant_of-self-in-Full
 invariant_of-self-in-Full c =
     let i = c.self.inside in
-    let p : Parts = record { shelf = i.shelf; last = i.last; renders = i.locks.renders; book = i.cuts.book } in
+    let p : Parts = record { opening = bare_opening i.opening; shelf = i.shelf; last = i.last; renders = i.locks.renders; book = i.cuts.book } in
     let h = i.past.entries in
     let told = c.and-self-inside-in-Full.ensures ∙ ap (λ (n : ℕ). i.past.entries ++ entry.Ended n ∷ []) c.number-number.ensures in
-    after_ended p h c.self.invariant c.args.ticket.number c.and-self-inside-in-Full.result.entries _ told (λ j. record { shelf = c.in-Full.ensures.shelves.1 j; last = i.last; renders = c.in-Whole.ensures.ends.1 j; book = i.cuts.book })
+    after_ended p h c.self.invariant c.args.ticket.number c.and-self-inside-in-Full.result.entries _ told (λ j. record { opening = bare_opening i.opening; shelf = c.in-Full.ensures.shelves.1 j; last = i.last; renders = c.in-Whole.ensures.ends.1 j; book = i.cuts.book })
 
 pub returns-in-Full-clause-sound : goal.returns-in-Full-clause-sound
 returns-in-Full-clause-sound c = λ sound text. subst (λ (x : Shelved). SoundOn x) (sym c.in-Full.ensures.shelves.1) (subst (λ (v : State). IsSound v) (sym c.self.view_is) sound)
@@ -41,10 +42,10 @@ returns-in-Full-clause-sound c = λ sound text. subst (λ (x : Shelved). SoundOn
 pub invariant_of-self-in-NoRoom : goal.invariant_of-self-in-NoRoom
 invariant_of-self-in-NoRoom c =
     let i = c.self.inside in
-    let p : Parts = record { shelf = i.shelf; last = i.last; renders = i.locks.renders; book = i.cuts.book } in
+    let p : Parts = record { opening = bare_opening i.opening; shelf = i.shelf; last = i.last; renders = i.locks.renders; book = i.cuts.book } in
     let h = i.past.entries in
     let told = c.and-self-inside-in-NoRoom.ensures ∙ ap (λ (n : ℕ). i.past.entries ++ entry.Ended n ∷ []) c.number-number.ensures in
-    after_ended p h c.self.invariant c.args.ticket.number c.and-self-inside-in-NoRoom.result.entries _ told (λ j. record { shelf = c.in-NoRoom.ensures.shelves.2 j; last = i.last; renders = c.in-Whole.ensures.ends.1 j; book = i.cuts.book })
+    after_ended p h c.self.invariant c.args.ticket.number c.and-self-inside-in-NoRoom.result.entries _ told (λ j. record { opening = bare_opening i.opening; shelf = c.in-NoRoom.ensures.shelves.2 j; last = i.last; renders = c.in-Whole.ensures.ends.1 j; book = i.cuts.book })
 
 pub returns-in-NoRoom-clause-sound : goal.returns-in-NoRoom-clause-sound
 returns-in-NoRoom-clause-sound c = λ sound text. subst (λ (x : Shelved). SoundOn x) (sym c.in-NoRoom.ensures.shelves.2) (subst (λ (v : State). IsSound v) (sym c.self.view_is) sound)
@@ -52,7 +53,7 @@ returns-in-NoRoom-clause-sound c = λ sound text. subst (λ (x : Shelved). Sound
 pub invariant_of-self-in-Kept : goal.invariant_of-self-in-Kept
 invariant_of-self-in-Kept c =
     let i = c.self.inside in
-    let p : Parts = record { shelf = i.shelf; last = i.last; renders = i.locks.renders; book = i.cuts.book } in
+    let p : Parts = record { opening = bare_opening i.opening; shelf = i.shelf; last = i.last; renders = i.locks.renders; book = i.cuts.book } in
     let h = i.past.entries in
     let shelves = c.in-Kept.ensures.shelves in
     let t = c.in-Kept.kept in
@@ -65,12 +66,12 @@ invariant_of-self-in-Kept c =
     (subst (λ (m : MetaKey). render_of (record { number = c.args.ticket.number; meta = m }) i.locks.renders ≡ Some (unmarked c.args.ticket.number m)) meta c.in-Whole.ensures.ends.0) in
     let off = c.in-Whole.ensures.ends.1 ∙ ap (λ (n : ℕ). without n i.locks.renders) number in
     let gap = subst (λ (n : ℕ). gap_for i.shelf.catalogue (listed i.shelf.blobs) n ≡ Some t.place) long shelves.1 in
-    after_stored p h c.self.invariant t c.args.blob.items c.keep.new.self.room c.and-self-inside-in-Kept.result.entries _ told (λ j. record { shelf = shelves.3 j; last = i.last; renders = off j; book = i.cuts.book }) runs long size gap c.keep.ensures.room
+    after_stored p h c.self.invariant t c.args.blob.items c.keep.new.self.room c.and-self-inside-in-Kept.result.entries _ told (λ j. record { opening = bare_opening i.opening; shelf = shelves.3 j; last = i.last; renders = off j; book = i.cuts.book }) runs long size gap c.keep.ensures.room
 
 pub returns-in-Kept-clause-sound : goal.returns-in-Kept-clause-sound
 returns-in-Kept-clause-sound c = λ sound text.
     let i = c.self.inside in
-    let p : Parts = record { shelf = i.shelf; last = i.last; renders = i.locks.renders; book = i.cuts.book } in
+    let p : Parts = record { opening = bare_opening i.opening; shelf = i.shelf; last = i.last; renders = i.locks.renders; book = i.cuts.book } in
     let h = i.past.entries in
     let shelves = c.in-Kept.ensures.shelves in
     let t = c.in-Kept.kept in
@@ -79,4 +80,4 @@ returns-in-Kept-clause-sound c = λ sound text.
     let told = c.and-self-inside-in-Kept.ensures ∙ (λ j. i.past.entries ++ entry.Stored ((sym shelves.2) j).number ((sym shelves.2) j).meta t.place t.length ∷ []) in
     let true_text = text ∙ (λ j. block_text (sym c.self.view_is j).catalogue (number j) (meta j)) in
     sound_stored (seen p h) t c.args.blob.items _ (subst (λ (v : State). IsSound v) (sym c.self.view_is) sound) true_text
-    (λ j. record { catalogue = (shelves.3 j).catalogue; opening = 0; history = told j; blobs = (shelves.3 j).blobs })
+    (λ j. record { catalogue = (shelves.3 j).catalogue; opening = bare_opening i.opening; history = told j; since = told j; blobs = (shelves.3 j).blobs })
