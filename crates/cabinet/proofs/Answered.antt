@@ -1,5 +1,5 @@
 -- The rows of commands, from what the parts of a cabinet answer.
-use Rattle.std.proofs.Common.{ℕ, ◌≡◌, ◌+◌, ◌-◌, ◌*◌, ◌^◌, ◌<◌, ◌≤◌, Bool, true, false, cond, not, List, [], ◌∷◌, ◌==◌, length, map, filter, find, fold, Option, Some, None, IsSome, inl, inr, refl, sym, ap, subst, ◌∙◌, arith}
+use Rattle.std.proofs.Common.{ℕ, ◌≡◌, ◌+◌, ◌<◌, ◌≤◌, Bool, true, false, cond, not, List, [], ◌∷◌, ◌==◌, length, map, filter, find, fold, Option, Some, None, IsSome, inl, inr, refl, sym, ap, subst, ◌∙◌, arith}
 use Rattle.std.specs.Prelude.{nat_lt}
 use Rattle.std.specs.List.{AllByRecursion}
 use Rattle.std.specs.Option.{option_map, option_map_or}
@@ -14,7 +14,7 @@ use Rattle.matrix_geometry.specs.declared.address.Address.{Address}
 use Rattle.metatile_plan.specs.declared.metatile.MetaKey.{MetaKey}
 use Rattle.metatile_plan.proofs.Same.{same_meta_is}
 use Rattle.quota_ledger.specs.Accounts.{accounts, exceeded}
-use Rattle.raster_field.specs.Blocks.{blob_size, block_of, block_text, tile_part}
+use Rattle.raster_field.specs.Blocks.{block_of, block_text, tile_part}
 use Rattle.truncation_list.specs.declared.book.Book.{Book}
 use Rattle.truncation_list.specs.declared.cover.Cover.{Cover}
 use Rattle.truncation_list.specs.Purge.{purged}
@@ -30,18 +30,20 @@ use Rattle.cabinet.specs.declared.replies.CutReply.TheVariants as reply
 use Rattle.cabinet.specs.declared.replies.Expired.TheVariants as expired
 use Rattle.cabinet.specs.declared.replies.Finished.TheVariants as finished
 use Rattle.cabinet.specs.declared.replies.Forced.{Forced}
+use Rattle.cabinet.specs.declared.shelving.Found.{Found}
 use Rattle.cabinet.specs.declared.shelving.Shelving.TheVariants as shelving
 use Rattle.cabinet.specs.Commands.{Cuts, Expires, Finishes, Forces, IsHit, kept_at, others, place_for}
 use Rattle.cabinet.specs.Consistent.{IsConsistent, Parts, seen}
 use Rattle.cabinet.specs.Counted.{kept_in, part_of, scope_exceeded, use_of, uses_of}
 use Rattle.cabinet.specs.Gaps.{gap_for}
 use Rattle.cabinet.specs.History.{History, Standing, but, is_of, kept_of, least_of, lesser, next, numbers, last_number, whole}
-use Rattle.cabinet.specs.Shelved.{Drops, Shelved, Shelves, listed, scope_above}
+use Rattle.cabinet.specs.Shelved.{Drops, Reads, Shelved, Shelves, listed, scope_above}
 use Rattle.cabinet.specs.State.{IsSound, State, now, with_blob, with_cut, with_dropped, with_entry}
 use Rattle.cabinet.proofs.Holding.{least_has, least_most}
 use Rattle.cabinet.proofs.Lists.{all_of_map, all_push, find_map}
 use Rattle.cabinet.proofs.OnShelf.{listed_filter}
 use Rattle.cabinet.proofs.Rows.{goes_kept}
+use Rattle.raster_field.specs.TileText.{tile_text}
 
 -- THE LEAST NUMBER
 
@@ -93,15 +95,24 @@ module _ (p : Parts) (h : History) (k : IsConsistent p h) where
   pub some_listed : (m : MetaKey) (b : KeptBlob) → find (λ b. is_of m b.kept) p.shelf.blobs ≡ Some b → IsSome (find (is_of m) (listed p.shelf.blobs))
   some_listed m b e = rw (find_map (λ (x : KeptBlob). x.kept) (is_of m) p.shelf.blobs, e) refl
 
-  pub hit_row : (a : Address) (b : KeptBlob) (bytes : List ℕ) (new : State) → find (λ b. is_of (block_of p.shelf.catalogue a) b.kept) p.shelf.blobs ≡ Some b → bytes ≡ tile_part p.shelf.catalogue a b.text
-      → new ≡ with_entry here (entry.Used (block_of p.shelf.catalogue a)) → IsHit here a b.kept.number bytes new
-  hit_row a b bytes new e part is = record {
-    kept = b.kept;
-    is_kept = listed_of (block_of p.shelf.catalogue a) (Some b) e;
-    number = refl;
-    part = part ∙ ap (λ (o : Option KeptBlob). tile_part p.shelf.catalogue a (option_map_or (λ x. x.text) o [])) (sym e);
+  -- what is found in a sound cabinet is the metatile's blob
+  pub found_text : (m : MetaKey) (b : KeptBlob) → find (λ b. is_of m b.kept) p.shelf.blobs ≡ Some b → IsSound here → b.text ≡ block_text p.shelf.catalogue b.kept.number m
+  found_text m b e sound =
+      let f = found (λ (x : KeptBlob). is_of m x.kept) (λ x. x.text ≡ block_text p.shelf.catalogue x.kept.number x.kept.meta) p.shelf.blobs b sound e in
+      f.1 ∙ ap (block_text p.shelf.catalogue b.kept.number) (same_meta_is b.kept.meta m f.0)
+
+  pub hit_row : (a : Address) (f : Found) (new : State) → Reads p.shelf a (Some f) → new ≡ with_entry here (entry.Used (block_of p.shelf.catalogue a)) → IsHit here a f.number f.text.items new
+  hit_row a f new r is = record {
+    kept = r.0.kept;
+    is_kept = listed_of (block_of p.shelf.catalogue a) (Some r.0) r.1;
+    number = r.2;
+    part = r.3 ∙ ap (λ (o : Option KeptBlob). tile_part p.shelf.catalogue a (option_map_or (λ x. x.text) o [])) (sym r.1);
     state = is;
   }
+
+  -- what is read of a sound cabinet is the encoded tile
+  pub hit_sound : (a : Address) (f : Found) → Reads p.shelf a (Some f) → IsSound here → f.text.items ≡ tile_text p.shelf.catalogue f.number a
+  hit_sound a f r sound = r.4 f.number (found_text (block_of p.shelf.catalogue a) r.0 r.1 sound ∙ ap (λ (k : ℕ). block_text p.shelf.catalogue k (block_of p.shelf.catalogue a)) (sym r.2))
 
   -- WHAT IS TOLD
 
@@ -115,23 +126,12 @@ module _ (p : Parts) (h : History) (k : IsConsistent p h) where
   -- MISSES
 
   -- nothing is kept of the tile's metatile, and what its force came to is what the ask comes to
-  pub miss_row : (v : State) (a : Address) (m : MetaKey) (came told : Forced) (t : State) → here ≡ v → m ≡ block_of p.shelf.catalogue a → find (λ b. is_of m b.kept) p.shelf.blobs ≡ None → came ≡ told → Forces v m came t
+  pub miss_row : (v : State) (a : Address) (m : MetaKey) (came told : Forced) (t : State) → here ≡ v → m ≡ block_of p.shelf.catalogue a → Reads p.shelf a None → came ≡ told → Forces v m came t
       → (kept_of (block_of v.catalogue a) (now v) ≡ None) × Forces v (block_of v.catalogue a) told t
   miss_row v a m came told t e is none same forces =
-      let unkept : kept_of (block_of p.shelf.catalogue a) (now here) ≡ None = subst (λ (x : MetaKey). kept_of x (now here) ≡ None) is (listed_of m None none) in
+      let unkept : kept_of (block_of p.shelf.catalogue a) (now here) ≡ None = listed_of (block_of p.shelf.catalogue a) None none in
       let block : m ≡ block_of v.catalogue a = is ∙ ap (λ (x : State). block_of x.catalogue a) e in
       (subst (λ (x : State). kept_of (block_of x.catalogue a) (now x) ≡ None) e unkept, subst (λ (x : MetaKey). Forces v x told t) block (subst (λ (x : Forced). Forces v m x t) same forces))
-
-  -- what is found has its length, and in a sound cabinet is the metatile's blob
-  pub found_long : (m : MetaKey) (b : KeptBlob) → find (λ b. is_of m b.kept) p.shelf.blobs ≡ Some b → (length b.text ≡ blob_size p.shelf.catalogue m)
-  found_long m b e =
-      let f = found (λ (x : KeptBlob). is_of m x.kept) (λ x. (length x.text ≡ x.kept.length) × (x.kept.length ≡ blob_size p.shelf.catalogue x.kept.meta)) p.shelf.blobs b k.known.lengths e in
-      f.1.0 ∙ f.1.1 ∙ ap (blob_size p.shelf.catalogue) (same_meta_is b.kept.meta m f.0)
-
-  pub found_text : (m : MetaKey) (b : KeptBlob) → find (λ b. is_of m b.kept) p.shelf.blobs ≡ Some b → IsSound here → b.text ≡ block_text p.shelf.catalogue b.kept.number m
-  found_text m b e sound =
-      let f = found (λ (x : KeptBlob). is_of m x.kept) (λ x. x.text ≡ block_text p.shelf.catalogue x.kept.number x.kept.meta) p.shelf.blobs b sound e in
-      f.1 ∙ ap (block_text p.shelf.catalogue b.kept.number) (same_meta_is b.kept.meta m f.0)
 
   -- FINISHES
 

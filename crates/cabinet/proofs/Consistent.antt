@@ -1,5 +1,5 @@
 -- What each command leaves of the parts of a cabinet.
-use Rattle.std.proofs.Common.{ℕ, ◌≡◌, ◌+◌, ◌-◌, ◌*◌, ◌^◌, ◌<◌, ◌≤◌, max, not, List, [], ◌∷◌, ◌++◌, length, map, filter, find, Option, Some, None, refl, sym, ap, subst, ◌∙◌, arith, length-append, append_assoc}
+use Rattle.std.proofs.Common.{ℕ, ◌≡◌, ◌+◌, ◌<◌, ◌≤◌, max, not, List, [], ◌∷◌, ◌++◌, length, map, filter, find, Option, Some, None, refl, sym, ap, subst, ◌∙◌, arith, length-append, append_assoc}
 use Rattle.std.specs.Prelude.{IsSome}
 use Rattle.std.specs.List.{AllByRecursion}
 use Rattle.std.proofs.lemmas.List.{length-map}
@@ -10,7 +10,7 @@ use Rattle.expiry_policy.specs.Victims as victims
 use Rattle.metatile_plan.specs.declared.metatile.MetaKey.{MetaKey}
 use Rattle.raster_field.specs.Blocks.{IsMeta, blob_size}
 use Rattle.truncation_list.specs.declared.cover.Cover.{Cover}
-use Rattle.truncation_list.specs.Purge.{IsAbove, added}
+use Rattle.truncation_list.specs.Purge.{IsAbove, added, empty_book}
 use Rattle.metatile_locks.specs.declared.render.Render.{Render}
 use Rattle.metatile_locks.specs.Running.{IsAboveAll, begun, has_number, is_render_of, marked, overtaken, render_of, running_for, unmarked, without}
 use Rattle.metatile_locks.specs.Tickets.{Ticketed}
@@ -25,19 +25,33 @@ use Rattle.cabinet.specs.Counted.{clock, clock_after, use_of}
 use Rattle.cabinet.specs.Gaps.{gap_for}
 use Rattle.cabinet.specs.Hits.{hits_of}
 use Rattle.served_covers.specs.OfCatalogue.{IsCoverOf}
-use Rattle.cabinet.specs.History.{History, Standing, after, but, is_of, least_of, numbers, spared, first_entries, last_number, whole}
+use Rattle.cabinet.specs.History.{History, Standing, after, but, is_of, least_of, numbers, spared, first_entries, last_number, whole, bare_opening}
 use Rattle.cabinet.specs.Fresh.{Holds, HoldsOfRender, May, cuts_of}
-use Rattle.cabinet.specs.Shelved.{dropping, keeping, listed, sifted, touched_on, with_room}
+use Rattle.cabinet.specs.Shelved.{dropping, keeping, listed, sifted, touched_on, with_room, bare, Shelved}
 use Rattle.cabinet.specs.State.{IsKnown, now, grown}
-use Rattle.cabinet.proofs.Holding.{above_listed, holds_of}
+use Rattle.cabinet.proofs.Holding.{above_listed, holds_of, bare_opens}
 use Rattle.cabinet.proofs.Lists.{all_push, map_filter}
 use Rattle.cabinet.proofs.OnShelf.{listed_filter, listed_put}
 use Rattle.cabinet.proofs.Rows.{one_more_known, now_more}
 use Rattle.cabinet.proofs.UsesAfter.{clock_more, entered_all, touched_all, use_more}
+use Rattle.catalog.specs.Valid.{IsValid}
+use Rattle.truncation_list.specs.declared.book.Book.{Book}
 
 -- the blob has its length
 abbrev pub IsLong : Catalogue → KeptBlob → Type 0
 IsLong c b = (length b.text ≡ b.kept.length) × (b.kept.length ≡ blob_size c b.kept.meta)
+
+-- a cabinet in memory in which nothing has happened
+pub at_first : (c : Catalogue) (shelf : Shelved) (renders : List Render) (book : Book) (h : History) → IsValid c → shelf ≡ bare c shelf.room → renders ≡ [] → book ≡ empty_book → h ≡ []
+    → IsConsistent (record { opening = bare_opening 0; shelf = shelf; last = 0; renders = renders; book = book }) h
+at_first c shelf renders book h valid bared none empty new =
+    subst (λ (x : Parts × History). IsConsistent x.0 x.1) (λ i. (record { opening = bare_opening 0; shelf = sym bared i; last = 0; renders = sym none i; book = sym empty i }, sym new i)) (record {
+      known = record { valid = valid; number = omega arith; whole = refl; possible = record { opens = bare_opens c 0; follows = tt }; blobs = refl; lengths = tt; left = omega arith };
+      stands = refl;
+      clock_is = refl;
+      uses = refl;
+      room = omega arith;
+    })
 
 module _ (p : Parts) (h : History) (k : IsConsistent p h) where
   holding : Holds p.shelf.catalogue (cuts_of (whole p.opening h)) (stood p)

@@ -34,6 +34,7 @@ use Rattle.cabinet.proofs.Lists.{all_of, all_push, any_found, any_map, find_map,
 use Rattle.cabinet.proofs.Numbers.{apart_filter, apart_push}
 use Rattle.cabinet.proofs.Once.{AreOnce, but_apart, but_none, one_kept}
 use Rattle.cabinet.proofs.Regions.{alone, gap_at, has_inserted, last_of, no_gap, one_of, taken_out}
+use Rattle.raster_field.specs.Blocks.{blob_size}
 
 none_passes_any : {X : Type 0} (q : X → Bool) (xs : List X) → filter q xs ≡ [] → list_any q xs ≡ false
 none_passes_any q [] e = refl
@@ -116,6 +117,12 @@ module _ (c : Catalogue) (blobs : List KeptBlob) (space : Space) (ledger : Accou
   region_given m t given e taken =
       taken_out 0 (region t) given.parts (regions (but m (listed blobs))) space.size (subst (λ (ps : List extent.Part.Part). LieInOrder 0 ps space.size) taken.entered n.order) (sym taken.entered ∙ its_region m t e)
 
+  -- what is found has its metatile's length
+  pub found_long : (m : MetaKey) (b : KeptBlob) → find (λ x. is_of m x.kept) blobs ≡ Some b → length b.text ≡ blob_size c m
+  found_long m b e =
+      let f = found (λ (x : KeptBlob). is_of m x.kept) (λ x. (length x.text ≡ x.kept.length) × (x.kept.length ≡ blob_size c x.kept.meta)) blobs b n.lengths e in
+      f.1.0 ∙ f.1.1 ∙ ap (blob_size c) (same_meta_is b.kept.meta m f.0)
+
   -- ONE IS USED
 
   pub listed_some : (m : MetaKey) → IsSome (find (λ b. is_of m b.kept) blobs) → IsSome (find (is_of m) (listed blobs))
@@ -130,6 +137,7 @@ module _ (c : Catalogue) (blobs : List KeptBlob) (space : Space) (ledger : Accou
     valid = n.valid;
     once = n.once;
     within = n.within;
+    lengths = n.lengths;
     few = n.few;
     parts = n.parts;
     size = n.size;
@@ -153,6 +161,7 @@ module _ (c : Catalogue) (blobs : List KeptBlob) (space : Space) (ledger : Accou
         valid = n.valid;
         once = subst AreOnce (sym list) (apart_filter (λ (t : Kept). t.meta) (λ t. q t.meta) (listed blobs) n.once);
         within = subst (AllByRecursion (λ (t : Kept). t.meta.theme.layer < length c.layers)) (sym list) (all_filter (λ (t : Kept). t.meta.theme.layer < length c.layers) (λ t. q t.meta) (listed blobs) n.within);
+        lengths = all_filter (λ (b : KeptBlob). (length b.text ≡ b.kept.length) × (b.kept.length ≡ blob_size c b.kept.meta)) (λ b. q b.kept.meta) blobs n.lengths;
         few = omega (arith, less, most);
         parts = parts ∙ ap regions (sym list);
         size = size ∙ n.size;
@@ -233,9 +242,9 @@ module _ (c : Catalogue) (blobs : List KeptBlob) (space : Space) (ledger : Accou
           spare_at (Some o) gave left = omega (arith, took.one_less, gave.one_less)
 
       -- the shelf with one more
-      pub kept_shelved : (text : List ℕ) (ledger' : Accounts) (counts' : Counts) → t.meta.theme.layer < length c.layers → length (but t.meta (listed blobs)) < c.kept_limit → ledger' ≡ added t.meta.theme.layer t.length (without older ledger)
+      pub kept_shelved : (text : List ℕ) (ledger' : Accounts) (counts' : Counts) → length text ≡ t.length → t.length ≡ blob_size c t.meta → t.meta.theme.layer < length c.layers → length (but t.meta (listed blobs)) < c.kept_limit → ledger' ≡ added t.meta.theme.layer t.length (without older ledger)
           → counts' ≡ entering t.meta counts'.spare counts → IsShelved c (filter (λ b. not (is_of t.meta b.kept)) blobs ++ record { kept = t; text = text } ∷ []) given ledger' counts'
-      kept_shelved text ledger' counts' layer others bytes same =
+      kept_shelved text ledger' counts' long_text long_blob layer others bytes same =
           let list = listed_put t text blobs in
           let rest = but t.meta (listed blobs) in
           let ordered : LieInOrder 0 (regions (t ∷ but t.meta (listed blobs))) given.size = subst (λ (ps : List extent.Part.Part). LieInOrder 0 ps given.size) given_parts sound in
@@ -246,6 +255,8 @@ module _ (c : Catalogue) (blobs : List KeptBlob) (space : Space) (ledger : Accou
             once = subst AreOnce (sym list) (apart_push (λ (x : Kept). x.meta) (but t.meta (listed blobs)) t (apart_filter (λ (x : Kept). x.meta) (λ x. not (is_of t.meta x)) (listed blobs) n.once) (but_apart t.meta (listed blobs)));
             within = subst (AllByRecursion (λ (x : Kept). x.meta.theme.layer < length c.layers)) (sym list)
                 (all_push (λ (x : Kept). x.meta.theme.layer < length c.layers) (but t.meta (listed blobs)) t (all_filter (λ (x : Kept). x.meta.theme.layer < length c.layers) (λ x. not (is_of t.meta x)) (listed blobs) n.within) layer);
+            lengths = all_push (λ (b : KeptBlob). (length b.text ≡ b.kept.length) × (b.kept.length ≡ blob_size c b.kept.meta)) (filter (λ b. not (is_of t.meta b.kept)) blobs) (record { kept = t; text = text })
+                (all_filter (λ (b : KeptBlob). (length b.text ≡ b.kept.length) × (b.kept.length ≡ blob_size c b.kept.meta)) (λ b. not (is_of t.meta b.kept)) blobs n.lengths) (long_text, long_blob);
             few = omega (arith, long, others_are t.meta, others);
             parts = given_parts ∙ sym pushed ∙ ap regions (sym list);
             size = given_size ∙ n.size;

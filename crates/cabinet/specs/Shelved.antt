@@ -1,5 +1,5 @@
 -- What contracts see of a shelf, what its calls leave, and how its parts are tied together.
-use Rattle.std.specs.Prelude.{ℕ, ◌≡◌, ◌<◌, ◌≤◌, not, List, [], ◌∷◌, ◌++◌, length, map, filter, Option, Some, None}
+use Rattle.std.specs.Prelude.{ℕ, ◌≡◌, ◌<◌, ◌≤◌, not, List, [], ◌∷◌, ◌++◌, length, map, filter, find, Option, Some, None}
 use Rattle.std.specs.List.{AllByRecursion}
 use Rattle.std.specs.Option.{option_map_or}
 use Rattle.catalog.specs.declared.catalogue.Catalogue.{Catalogue}
@@ -9,13 +9,17 @@ use Rattle.expiry_policy.specs.declared.uses.Use.{Use}
 use Rattle.expiry_policy.specs.Victims.{Counts, entered, one_more, touched, victim}
 use Rattle.expiry_policy.specs.Victims as victims
 use Rattle.extent_map.specs.Spaces.{Space, IsSound}
+use Rattle.matrix_geometry.specs.declared.address.Address.{Address}
 use Rattle.metatile_locks.specs.Tickets.{Ticketed}
 use Rattle.metatile_plan.specs.declared.metatile.MetaKey.{MetaKey}
 use Rattle.quota_ledger.specs.Accounts.{Accounts, accounts, exceeded, removed, used_at}
 use Rattle.quota_ledger.specs.Accounts as ledger
+use Rattle.raster_field.specs.Blocks.{blob_size, block_of, block_text, tile_part}
+use Rattle.raster_field.specs.TileText.{tile_text}
 use Rattle.truncation_list.specs.declared.cover.Cover.{Cover}
 use Rattle.cabinet.specs.declared.kept.Kept.{Kept}
 use Rattle.cabinet.specs.declared.kept.KeptBlob.{KeptBlob}
+use Rattle.cabinet.specs.declared.shelving.Found.{Found}
 use Rattle.cabinet.specs.declared.shelving.Shelving.{Shelving}
 use Rattle.cabinet.specs.declared.shelving.Shelving.TheVariants as shelving
 use Rattle.cabinet.specs.Fresh.{ApartBy}
@@ -45,11 +49,12 @@ listed blobs = map (λ b. b.kept) blobs
 -- THE PARTS OF A SHELF
 
 -- the accounts and the uses are those of what is kept, and its regions are the taken ones, in order; each metatile is kept once, is of a layer
--- of the catalogue, and no more are kept than may be
+-- of the catalogue, with a blob of its metatile's length, and no more are kept than may be
 pub record IsShelved (c : Catalogue) (blobs : List KeptBlob) (space : Space) (ledger : Accounts) (counts : Counts) : Type 0 where
   pub valid : IsValid c
   pub once : ApartBy (λ t. t.meta) (listed blobs)
   pub within : AllByRecursion (λ t. t.meta.theme.layer < length c.layers) (listed blobs)
+  pub lengths : AllByRecursion (λ b. (length b.text ≡ b.kept.length) × (b.kept.length ≡ blob_size c b.kept.meta)) blobs
   pub few : length blobs ≤ c.kept_limit
   pub parts : space.parts ≡ regions (listed blobs)
   pub size : space.size ≡ c.blob_bytes
@@ -74,6 +79,16 @@ holding held spare u = record { policy = u.policy; layers = u.layers; now = u.no
 -- the counts where a key was entered, and so much room is left
 abbrev pub entering : MetaKey → ℕ → Counts → Counts
 entering m spare u = record { policy = u.policy; layers = u.layers; now = one_more u.now; held = entered m (one_more u.now) u.held; spare = spare }
+
+-- WHAT IS READ
+
+-- the number and the tile's part of the blob that is kept of the tile's metatile, which is the encoded tile where the blob is the
+-- metatile's; or nothing is kept of it
+abbrev pub Reads : Shelved → Address → Option Found → Type 0
+Reads s a None = find (λ b. is_of (block_of s.catalogue a) b.kept) s.blobs ≡ None
+Reads s a (Some f) =
+    (b : KeptBlob) × (find (λ b. is_of (block_of s.catalogue a) b.kept) s.blobs ≡ Some b) × (f.number ≡ b.kept.number) × (f.text.items ≡ tile_part s.catalogue a b.text)
+    × ((k : ℕ) → b.text ≡ block_text s.catalogue k (block_of s.catalogue a) → f.text.items ≡ tile_text s.catalogue k a)
 
 -- WHAT CALLS LEAVE
 

@@ -6,7 +6,6 @@ ghost use Rattle.catalog.specs.Valid.{IsValid};
 ghost use Rattle.raster_field.specs.Blocks.{IsMeta, blob_size, block_text};
 ghost use Rattle.cabinet.specs.History.{bare_opening, last_number};
 
-use crate::blob::tile_in;
 use crate::entry::Entry;
 use crate::hitting::overtake;
 use crate::replies::{Asked, CutReply, Expired, Finished, Forced};
@@ -68,6 +67,7 @@ impl Cabinet {
     ghost use Rattle.cabinet.specs.Counted.{kept_in, used, used_all};
 
     /// A cabinet in memory, in which nothing has happened. `AllocError` where memory runs out.
+    #[tactic(auto, using(crate::proofs::Consistent::at_first))]
     pub fn memory(alloc: Global, catalogue: Catalogue) -> Result<Cabinet, AllocError>
         requires { IsValid catalogue }
         ensures { IfOk result (λ c. c ≡ fresh_state catalogue) }
@@ -110,13 +110,11 @@ impl Cabinet {
         ensures err { OnErr result (self.new ≡ self.old) }
     {
         let meta = block_of(self.shelf.catalogue(), address);
-        match self.shelf.get(&meta) {
-            Some(blob) => {
-                let number = blob.kept.number;
-                let text = tile_in(alloc, self.shelf.catalogue(), address, blob.text.bytes())?;
+        match self.shelf.read(alloc, address)? {
+            Some(found) => {
                 self.shelf.touch(&meta);
                 self.past = self.past.and(&Entry::Used(meta));
-                return Ok(Asked::Hit(number, text));
+                return Ok(Asked::Hit(found.number, found.text));
             }
             None => {}
         }

@@ -1,19 +1,22 @@
 //! The shelf of a cabinet: what is kept, and all that this takes up, which change together.
-ghost use Rattle.std.specs.Prelude.{IfOk, OnErr, OnOk, filter, find, fold, length, map, not, option_copied, ◌+◌, ◌<◌, ◌==◌, ◌≡◌, ◌≤◌};
+ghost use Rattle.std.specs.Prelude.{IfOk, OnErr, OnOk, filter, find, fold, length, map, not, ◌+◌, ◌<◌, ◌==◌, ◌≡◌, ◌≤◌};
 ghost use Rattle.std.specs.Prelude.{IsSome};
+ghost use Rattle.catalog.specs.LookUp.{IsTile};
 ghost use Rattle.catalog.specs.Valid.{IsValid};
 ghost use Rattle.raster_field.specs.Blocks.{IsMeta, blob_size};
 ghost use Rattle.served_covers.specs.OfCatalogue.{IsCoverOf};
 ghost use Rattle.cabinet.specs.History.{is_of, lesser};
 
-use crate::blob::blob_bytes;
-use crate::kept::{Kept, KeptBlob};
-use crate::shelving::Shelving;
+use crate::blob::{blob_bytes, tile_in};
+use crate::kept::Kept;
+use crate::shelving::{Found, Shelving};
 use crate::sifting::sift;
 use crate::store::Store;
 use crate::tally::Tally;
 use catalog::catalogue::Catalogue;
+use matrix_geometry::address::Address;
 use metatile_plan::metatile::MetaKey;
+use raster_field::layout::block_of;
 use std::alloc::{AllocError, Global};
 use std::marker::Model;
 use truncation_list::cover::Cover;
@@ -39,7 +42,7 @@ impl Model for Shelf {
 }
 
 impl Shelf {
-    ghost use Rattle.cabinet.specs.Shelved.{Drops, Shelves, bare, sifted, touched_on, used_on, used_on_all, with_room};
+    ghost use Rattle.cabinet.specs.Shelved.{Drops, Reads, Shelves, bare, sifted, touched_on, used_on, used_on_all, with_room};
 
     /// A shelf on which nothing is kept. `AllocError` where memory runs out.
     pub fn new(alloc: Global, catalogue: Catalogue) -> Result<Shelf, AllocError>
@@ -80,11 +83,20 @@ impl Shelf {
         self.tally.extents.reserve(alloc, metatiles)
     }
 
-    /// What is kept of a metatile.
-    pub fn get(&self, meta: &MetaKey) -> Option<&KeptBlob>
-        ensures { option_copied result ≡ find (λ b. is_of meta.now b.kept) self.now.blobs }
+    /// Reads a tile out of what is kept of its metatile; `None` exactly where nothing is. `AllocError` where memory runs out.
+    pub fn read(&self, alloc: Global, address: &Address) -> Result<Option<Found>, AllocError>
+        requires { IsTile self.now.catalogue address.now }
+        ensures { IfOk result (λ found. Reads self.now address.now found) }
     {
-        self.store.get(meta)
+        let meta = block_of(&self.catalogue, address);
+        match self.store.get(&meta) {
+            None => Ok(None),
+            Some(blob) => {
+                let number = blob.kept.number;
+                let text = tile_in(alloc, &self.catalogue, address, blob.text.bytes())?;
+                Ok(Some(Found { number, text }))
+            }
+        }
     }
 
     /// Adds a use of a metatile that is kept.

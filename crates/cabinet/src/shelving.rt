@@ -1,5 +1,14 @@
-//! What a shelf can answer when a render is to be kept.
+//! What a shelf can answer: what it reads, and how it keeps a render.
 use crate::kept::Kept;
+
+/// What is read of a kept metatile.
+#[derive(Drop)]
+pub struct Found {
+    /// The number of its render.
+    pub number: u64,
+    /// The tile's part of its blob.
+    pub text: Vec<u8>,
+}
 
 /// How the shelving of a render ended.
 #[derive(Clone, Copy, Debug, PartialEq, Eq)]

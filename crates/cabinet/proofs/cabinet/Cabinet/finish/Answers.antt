@@ -4,14 +4,18 @@ use Rattle.metatile_plan.specs.declared.metatile.MetaKey.{MetaKey}
 use Rattle.raster_field.specs.Blocks.{blob_size, block_text}
 use Rattle.cabinet.specs.declared.entry.Entry.TheVariants as entry
 use Rattle.cabinet.specs.declared.kept.Kept.{Kept}
+use Rattle.cabinet.specs.declared.replies.Finished.TheVariants as finished
+use Rattle.cabinet.specs.declared.shelving.Shelving.TheVariants as shelving
 use Rattle.cabinet.specs.Consistent.{Parts, seen}
 use Rattle.cabinet.specs.Gaps.{gap_for}
-use Rattle.cabinet.specs.Shelved.{Shelved, listed}
+use Rattle.cabinet.specs.Shelved.{Shelved, listed, Shelves, keeping}
 use Rattle.cabinet.specs.State.{IsSound, State}
 use Rattle.cabinet.proofs.Consistent.{after_ended, after_stored}
-use Rattle.cabinet.proofs.Answered.{sound_stored}
+use Rattle.cabinet.proofs.Answered.{sound_stored, full_row, no_room_row, kept_row}
 use Rattle.cabinet.specs.History.{bare_opening}
 use Rattle.cabinet.proofs.cabinet.Cabinet.finish.Goals as goal
+use Rattle.cabinet.specs.Commands.{Finishes}
+use Rattle.metatile_locks.specs.Tickets.{Ticketed}
 
 -- what is kept is sound
 abbrev SoundOn : Shelved → Type 0
@@ -81,3 +85,43 @@ returns-in-Kept-clause-sound c = λ sound text.
     let true_text = text ∙ (λ j. block_text (sym c.self.view_is j).catalogue (number j) (meta j)) in
     sound_stored (seen p h) t c.args.blob.items _ (subst (λ (v : State). IsSound v) (sym c.self.view_is) sound) true_text
     (λ j. record { catalogue = (shelves.3 j).catalogue; opening = bare_opening i.opening; history = told j; since = told j; blobs = (shelves.3 j).blobs })
+
+pub returns-in-Full-clause-finished : goal.returns-in-Full-clause-finished
+returns-in-Full-clause-finished c =
+    let i = c.self.inside in
+    let p : Parts = record { opening = bare_opening i.opening; shelf = i.shelf; last = i.last; renders = i.locks.renders; book = i.cuts.book } in
+    let h = i.past.entries in
+    let told = c.and-self-inside-in-Full.ensures ∙ ap (λ (n : ℕ). i.past.entries ++ entry.Ended n ∷ []) c.number-number.ensures in
+    let same = c.in-Full.ensures.shelves.1 in
+    let new : State = record { catalogue = c.keep.new.self.catalogue; opening = bare_opening i.opening; history = c.and-self-inside-in-Full.result.entries; since = c.and-self-inside-in-Full.result.entries; blobs = c.keep.new.self.blobs } in
+    let shelves = subst (λ (t : Ticketed). Shelves i.shelf t c.args.blob.items shelving.Full c.keep.new.self) (λ j. record { number = c.number-number.ensures j; meta = c.meta-meta.ensures j }) c.in-Full.ensures.shelves in
+    subst (λ (v : State). Finishes v c.args.ticket c.args.blob.items finished.Full new) c.self.view_is
+    (full_row p h c.self.invariant c.args.ticket c.args.blob.items c.in-Whole.ensures.ends.0 new c.keep.new.self shelves
+    (λ j. record { catalogue = (same j).catalogue; opening = bare_opening i.opening; history = told j; since = told j; blobs = (same j).blobs }))
+
+pub returns-in-NoRoom-clause-finished : goal.returns-in-NoRoom-clause-finished
+returns-in-NoRoom-clause-finished c =
+    let i = c.self.inside in
+    let p : Parts = record { opening = bare_opening i.opening; shelf = i.shelf; last = i.last; renders = i.locks.renders; book = i.cuts.book } in
+    let h = i.past.entries in
+    let told = c.and-self-inside-in-NoRoom.ensures ∙ ap (λ (n : ℕ). i.past.entries ++ entry.Ended n ∷ []) c.number-number.ensures in
+    let same = c.in-NoRoom.ensures.shelves.2 in
+    let new : State = record { catalogue = c.keep.new.self.catalogue; opening = bare_opening i.opening; history = c.and-self-inside-in-NoRoom.result.entries; since = c.and-self-inside-in-NoRoom.result.entries; blobs = c.keep.new.self.blobs } in
+    let shelves = subst (λ (t : Ticketed). Shelves i.shelf t c.args.blob.items shelving.NoRoom c.keep.new.self) (λ j. record { number = c.number-number.ensures j; meta = c.meta-meta.ensures j }) c.in-NoRoom.ensures.shelves in
+    subst (λ (v : State). Finishes v c.args.ticket c.args.blob.items finished.NoRoom new) c.self.view_is
+    (no_room_row p h c.self.invariant c.args.ticket c.args.blob.items c.in-Whole.ensures.ends.0 new c.keep.new.self shelves
+    (λ j. record { catalogue = (same j).catalogue; opening = bare_opening i.opening; history = told j; since = told j; blobs = (same j).blobs }))
+
+pub returns-in-Kept-clause-finished : goal.returns-in-Kept-clause-finished
+returns-in-Kept-clause-finished c =
+    let i = c.self.inside in
+    let p : Parts = record { opening = bare_opening i.opening; shelf = i.shelf; last = i.last; renders = i.locks.renders; book = i.cuts.book } in
+    let h = i.past.entries in
+    let t = c.in-Kept.kept in
+    let new : State = record { catalogue = c.keep.new.self.catalogue; opening = bare_opening i.opening; history = c.and-self-inside-in-Kept.result.entries; since = c.and-self-inside-in-Kept.result.entries; blobs = c.keep.new.self.blobs } in
+    let shelves = subst (λ (t : Ticketed). Shelves i.shelf t c.args.blob.items (shelving.Kept c.in-Kept.kept) c.keep.new.self) (λ j. record { number = c.number-number.ensures j; meta = c.meta-meta.ensures j }) c.in-Kept.ensures.shelves in
+    let told = c.and-self-inside-in-Kept.ensures ∙ (λ j. i.past.entries ++ entry.Stored (c.number-number.ensures j) (c.meta-meta.ensures j) t.place ((shelves.2 j).length) ∷ []) in
+    let kept = shelves.3 ∙ ap (λ (x : Kept). keeping x c.args.blob.items c.keep.new.self.room i.shelf) shelves.2 in
+    subst (λ (v : State). Finishes v c.args.ticket c.args.blob.items finished.Kept new) c.self.view_is
+    (kept_row p h c.self.invariant c.args.ticket c.args.blob.items c.in-Whole.ensures.ends.0 new c.in-Kept.kept c.keep.new.self shelves
+    (λ j. record { catalogue = (kept j).catalogue; opening = bare_opening i.opening; history = told j; since = told j; blobs = (kept j).blobs }))

@@ -67,9 +67,10 @@ invariant_of-self-2 c =
     let left = c.keep.new.self in
     let meta = subst (λ (v : Shelved). IsMeta v.catalogue c.args.meta) (sym c.self.view_is) c.requires.meta in
     let others = c.count_others.ensures ∙ others_are i.catalogue i.store.blobs i.tally.extents i.tally.ledger i.tally.uses c.self.invariant c.args.meta in
+    let long : c.blob_bytes-length.result ≡ length c.args.blob.items = c.blob_bytes-length.ensures.size ∙ ap (λ (v : Shelved). blob_size v.catalogue c.args.meta) c.self.view_is ∙ sym c.requires.blob in
     subst (λ (bs : List KeptBlob). IsShelved i.catalogue bs left.extents left.ledger left.uses) (sym c.put.ensures.blobs)
     (kept_shelved i.catalogue i.store.blobs i.tally.extents i.tally.ledger i.tally.uses c.self.invariant t c.kept_of.result c.kept_of.ensures c.take.new.self c.in-Some.ensures.taken c.take.ensures.sound left.extents c.keep.ensures.given c.keep.ensures.left
-    c.keep.ensures.sound c.args.blob.items left.ledger left.uses (layer_within i.catalogue c.args.meta meta) (subst (λ (n : ℕ). n < i.catalogue.kept_limit) others c.if-count_others-self.false) c.keep.ensures.bytes c.keep.ensures.uses)
+    c.keep.ensures.sound c.args.blob.items left.ledger left.uses (sym long) c.blob_bytes-length.ensures.size (layer_within i.catalogue c.args.meta meta) (subst (λ (n : ℕ). n < i.catalogue.kept_limit) others c.if-count_others-self.false) c.keep.ensures.bytes c.keep.ensures.uses)
 
 pub returns-clause-shelves : goal.returns-clause-shelves
 returns-clause-shelves c =
