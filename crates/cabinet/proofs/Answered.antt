@@ -101,7 +101,7 @@ module _ (p : Parts) (h : History) (k : IsConsistent p h) where
       let f = found (λ (x : KeptBlob). is_of m x.kept) (λ x. x.text ≡ block_text p.shelf.catalogue x.kept.number x.kept.meta) p.shelf.blobs b sound e in
       f.1 ∙ ap (block_text p.shelf.catalogue b.kept.number) (same_meta_is b.kept.meta m f.0)
 
-  pub hit_row : (a : Address) (f : Found) (new : State) → Reads p.shelf a (Some f) → new ≡ with_entry here (entry.Used (block_of p.shelf.catalogue a)) → IsHit here a f.number f.text.items new
+  pub hit_row : (a : Address) (f : Found) (new : State) → Reads p.shelf.catalogue p.shelf.blobs a (Some f) → new ≡ with_entry here (entry.Used (block_of p.shelf.catalogue a)) → IsHit here a f.number f.text.items new
   hit_row a f new r is = record {
     kept = r.0.kept;
     is_kept = listed_of (block_of p.shelf.catalogue a) (Some r.0) r.1;
@@ -111,7 +111,7 @@ module _ (p : Parts) (h : History) (k : IsConsistent p h) where
   }
 
   -- what is read of a sound cabinet is the encoded tile
-  pub hit_sound : (a : Address) (f : Found) → Reads p.shelf a (Some f) → IsSound here → f.text.items ≡ tile_text p.shelf.catalogue f.number a
+  pub hit_sound : (a : Address) (f : Found) → Reads p.shelf.catalogue p.shelf.blobs a (Some f) → IsSound here → f.text.items ≡ tile_text p.shelf.catalogue f.number a
   hit_sound a f r sound = r.4 f.number (found_text (block_of p.shelf.catalogue a) r.0 r.1 sound ∙ ap (λ (k : ℕ). block_text p.shelf.catalogue k (block_of p.shelf.catalogue a)) (sym r.2))
 
   -- WHAT IS TOLD
@@ -126,7 +126,7 @@ module _ (p : Parts) (h : History) (k : IsConsistent p h) where
   -- MISSES
 
   -- nothing is kept of the tile's metatile, and what its force came to is what the ask comes to
-  pub miss_row : (v : State) (a : Address) (m : MetaKey) (came told : Forced) (t : State) → here ≡ v → m ≡ block_of p.shelf.catalogue a → Reads p.shelf a None → came ≡ told → Forces v m came t
+  pub miss_row : (v : State) (a : Address) (m : MetaKey) (came told : Forced) (t : State) → here ≡ v → m ≡ block_of p.shelf.catalogue a → Reads p.shelf.catalogue p.shelf.blobs a None → came ≡ told → Forces v m came t
       → (kept_of (block_of v.catalogue a) (now v) ≡ None) × Forces v (block_of v.catalogue a) told t
   miss_row v a m came told t e is none same forces =
       let unkept : kept_of (block_of p.shelf.catalogue a) (now here) ≡ None = listed_of (block_of p.shelf.catalogue a) None none in

@@ -13,15 +13,13 @@ use Rattle.quota_ledger.specs.Accounts.{Accounts, Part, accounts, removed, used_
 use Rattle.quota_ledger.proofs.Counting.{counted_part, removed_part, same_layers}
 use Rattle.raster_field.specs.Blocks.{IsMeta}
 use Rattle.raster_field.proofs.Metas.{parts}
-use Rattle.metatile_locks.proofs.Lists.{all_weaker, found, none_passes}
+use Rattle.metatile_locks.proofs.Lists.{found, none_passes}
 use Rattle.cabinet.specs.declared.kept.Kept.{Kept}
 use Rattle.cabinet.specs.Counted.{part_of}
-use Rattle.cabinet.specs.Fresh.{Possible}
 use Rattle.cabinet.specs.Gaps.{regions, region}
-use Rattle.cabinet.specs.History.{History, Opening, but, first, is_of, standing}
+use Rattle.cabinet.specs.History.{but, is_of}
 use Rattle.cabinet.specs.Shelved.{IsCountedIn, without}
 use Rattle.cabinet.proofs.Once.{AreOnce, but_none, one_kept}
-use Rattle.cabinet.proofs.Rooted.{metas_of}
 
 -- WITHIN THE BLOBS' BYTES
 
@@ -70,9 +68,6 @@ bytes_filter q (t ∷ ts) = chosen (q t) (bytes_filter q ts)
 
 pub layer_within : (c : Catalogue) (m : MetaKey) → IsMeta c m → m.theme.layer < length c.layers
 layer_within c m is = let p = parts c m is in slice_get_within c.layers m.theme.layer p.its_layer p.layer
-
-pub layers_within : (c : Catalogue) (o : Opening) (h : History) → Possible c o h → AllByRecursion (λ t. t.meta.theme.layer < length c.layers) (standing c (first o) h).kept
-layers_within c o h may = all_weaker (λ (t : Kept). IsMeta c t.meta) (λ t. t.meta.theme.layer < length c.layers) (λ t is. layer_within c t.meta is) (standing c (first o) h).kept (metas_of c o h may).kept
 
 -- ONE COUNTED OUT
 

@@ -19,7 +19,6 @@ use Rattle.metatile_locks.proofs.Runs.{both}
 use Rattle.cabinet.specs.declared.entry.Entry.{Entry}
 use Rattle.cabinet.specs.declared.entry.Entry.TheVariants as entry
 use Rattle.cabinet.specs.declared.kept.Kept.{Kept}
-use Rattle.cabinet.specs.declared.kept.KeptBlob.{KeptBlob}
 use Rattle.cabinet.specs.Consistent.{IsConsistent, Parts, seen, stood}
 use Rattle.cabinet.specs.Counted.{clock, clock_after, use_of}
 use Rattle.cabinet.specs.Gaps.{gap_for}
@@ -27,7 +26,7 @@ use Rattle.cabinet.specs.Hits.{hits_of}
 use Rattle.served_covers.specs.OfCatalogue.{IsCoverOf}
 use Rattle.cabinet.specs.History.{History, Standing, after, but, is_of, least_of, numbers, spared, first_entries, last_number, whole, bare_opening}
 use Rattle.cabinet.specs.Fresh.{Holds, HoldsOfRender, May, cuts_of}
-use Rattle.cabinet.specs.Shelved.{dropping, keeping, listed, sifted, touched_on, with_room, bare, Shelved}
+use Rattle.cabinet.specs.Shelved.{IsLong, dropping, keeping, listed, sifted, touched_on, with_room, bare, Shelved}
 use Rattle.cabinet.specs.State.{IsKnown, now, grown}
 use Rattle.cabinet.proofs.Holding.{above_listed, holds_of, bare_opens}
 use Rattle.cabinet.proofs.Lists.{all_push, map_filter}
@@ -36,10 +35,6 @@ use Rattle.cabinet.proofs.Rows.{one_more_known, now_more}
 use Rattle.cabinet.proofs.UsesAfter.{clock_more, entered_all, touched_all, use_more}
 use Rattle.catalog.specs.Valid.{IsValid}
 use Rattle.truncation_list.specs.declared.book.Book.{Book}
-
--- the blob has its length
-abbrev pub IsLong : Catalogue → KeptBlob → Type 0
-IsLong c b = (length b.text ≡ b.kept.length) × (b.kept.length ≡ blob_size c b.kept.meta)
 
 -- a cabinet in memory in which nothing has happened
 pub at_first : (c : Catalogue) (shelf : Shelved) (renders : List Render) (book : Book) (h : History) → IsValid c → shelf ≡ bare c shelf.room → renders ≡ [] → book ≡ empty_book → h ≡ []

@@ -32,8 +32,8 @@ use Rattle.cabinet.specs.Fresh.{Follows, May, Possible, cuts_after, cuts_of, IsN
 use Rattle.cabinet.proofs.Hits.{covered_hit}
 use Rattle.cabinet.proofs.Lists.{all_push, all_left, all_right, all_found, all_contained, all_both, all_of_map}
 
-pub holds_nothing : (c : Catalogue) (e : ℕ) → Holds c [] (first (bare_opening e))
-holds_nothing c e = record {
+pub holds_bare : (c : Catalogue) (e : ℕ) → Holds c [] (first (bare_opening e))
+holds_bare c e = record {
   given = tt;
   floor_given = omega arith;
   listed = tt;
@@ -229,7 +229,7 @@ dropped c cuts s m h = record { given = h.given; floor_given = h.floor_given; li
 -- AN OPENING WITH NOTHING IN IT
 
 pub bare_opens : (c : Catalogue) (e : ℕ) → Opens c (bare_opening e)
-bare_opens c e = record { holds = holds_nothing c e; numbers = tt; once = tt; metas = tt; regions = record { some = tt; within = tt; disjoint = tt } }
+bare_opens c e = record { holds = holds_bare c e; numbers = tt; once = tt; metas = tt; regions = record { some = tt; within = tt; disjoint = tt } }
 
 -- HISTORIES
 
@@ -261,10 +261,6 @@ cuts_whole o later = rw fold-append (ap (λ (ks : List Cut). fold cuts_after ks 
 pub holds_of : (c : Catalogue) (o : Opening) (later : History) → Possible c o later → Holds c (cuts_of (whole o later)) (standing c (first o) later)
 holds_of c o later may =
     subst (λ (ks : List Cut). Holds c ks (standing c (first o) later)) (sym (cuts_whole o later)) (holds_run c o.book.cuts (first o) later may.opens.holds may.follows)
-
--- the number after the front is above each listed cut
-pub above_front : (c : Catalogue) (o : Opening) (h : History) (t : ℕ) → Possible c o h → (standing c (first o) h).front < t → IsAbove t (standing c (first o) h).book.cuts
-above_front c o h t may l = above_listed c (cuts_of (whole o h)) (standing c (first o) h) t (holds_of c o h may) l
 
 -- WHAT IS FRESH
 

@@ -42,9 +42,6 @@ pub all_of_map : {X Y : Type 0} (f : X → Y) (P : Y → Type 0) (xs : List X) �
 all_of_map f P [] a = tt
 all_of_map f P (x ∷ xs) a = (a.0, all_of_map f P xs a.1)
 
-pub all_themselves : {X : Type 0} (xs : List X) → AllByRecursion (Contains xs) xs
-all_themselves xs = recursion_from_All (Contains xs) xs (All-contains_itself xs)
-
 -- each element, where it is one of the list
 pub all_of : {X : Type 0} (P : X → Type 0) (xs : List X) → ((x : X) → Contains xs x → P x) → AllByRecursion P xs
 all_of P xs f = recursion_from_All P xs (λ k d l. f _ (All-contains_itself xs k d l))

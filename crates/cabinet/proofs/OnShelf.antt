@@ -28,7 +28,7 @@ use Rattle.cabinet.specs.declared.kept.KeptBlob.{KeptBlob}
 use Rattle.cabinet.specs.Counted.{part_of}
 use Rattle.cabinet.specs.Gaps.{gap_for, lowest_gap, regions, region}
 use Rattle.cabinet.specs.History.{but, is_of}
-use Rattle.cabinet.specs.Shelved.{IsCountedIn, IsShelved, entering, holding, listed, without}
+use Rattle.cabinet.specs.Shelved.{IsLong, IsCountedIn, IsShelved, entering, holding, listed, without}
 use Rattle.cabinet.proofs.Bytes.{bytes_filter, bytes_within, older_counted, older_out}
 use Rattle.cabinet.proofs.Lists.{all_of, all_push, any_found, any_map, find_map, map_filter, map_twice}
 use Rattle.cabinet.proofs.Numbers.{apart_filter, apart_push}
@@ -64,6 +64,12 @@ touched_keys m at (u ∷ us) = (λ i. key_at (same_meta u.meta m) i ∷ touched_
     key_at : (v : Bool) → (cond v (victims.used_at at u) u).meta ≡ u.meta
     key_at true = refl
     key_at false = refl
+
+-- what is found has its metatile's length
+pub found_long : (c : Catalogue) (blobs : List KeptBlob) (m : MetaKey) (b : KeptBlob) → AllByRecursion (IsLong c) blobs → find (λ x. is_of m x.kept) blobs ≡ Some b → length b.text ≡ blob_size c m
+found_long c blobs m b long e =
+    let f = found (λ (x : KeptBlob). is_of m x.kept) (IsLong c) blobs b long e in
+    f.1.0 ∙ f.1.1 ∙ ap (blob_size c) (same_meta_is b.kept.meta m f.0)
 
 module _ (c : Catalogue) (blobs : List KeptBlob) (space : Space) (ledger : Accounts) (counts : Counts) (n : IsShelved c blobs space ledger counts) where
   pub its_account : (layer : ℕ) → layer < length c.layers → layer < length ledger.layers
@@ -117,12 +123,6 @@ module _ (c : Catalogue) (blobs : List KeptBlob) (space : Space) (ledger : Accou
   region_given m t given e taken =
       taken_out 0 (region t) given.parts (regions (but m (listed blobs))) space.size (subst (λ (ps : List extent.Part.Part). LieInOrder 0 ps space.size) taken.entered n.order) (sym taken.entered ∙ its_region m t e)
 
-  -- what is found has its metatile's length
-  pub found_long : (m : MetaKey) (b : KeptBlob) → find (λ x. is_of m x.kept) blobs ≡ Some b → length b.text ≡ blob_size c m
-  found_long m b e =
-      let f = found (λ (x : KeptBlob). is_of m x.kept) (λ x. (length x.text ≡ x.kept.length) × (x.kept.length ≡ blob_size c x.kept.meta)) blobs b n.lengths e in
-      f.1.0 ∙ f.1.1 ∙ ap (blob_size c) (same_meta_is b.kept.meta m f.0)
-
   -- ONE IS USED
 
   pub listed_some : (m : MetaKey) → IsSome (find (λ b. is_of m b.kept) blobs) → IsSome (find (is_of m) (listed blobs))
@@ -161,7 +161,7 @@ module _ (c : Catalogue) (blobs : List KeptBlob) (space : Space) (ledger : Accou
         valid = n.valid;
         once = subst AreOnce (sym list) (apart_filter (λ (t : Kept). t.meta) (λ t. q t.meta) (listed blobs) n.once);
         within = subst (AllByRecursion (λ (t : Kept). t.meta.theme.layer < length c.layers)) (sym list) (all_filter (λ (t : Kept). t.meta.theme.layer < length c.layers) (λ t. q t.meta) (listed blobs) n.within);
-        lengths = all_filter (λ (b : KeptBlob). (length b.text ≡ b.kept.length) × (b.kept.length ≡ blob_size c b.kept.meta)) (λ b. q b.kept.meta) blobs n.lengths;
+        lengths = all_filter (IsLong c) (λ b. q b.kept.meta) blobs n.lengths;
         few = omega (arith, less, most);
         parts = parts ∙ ap regions (sym list);
         size = size ∙ n.size;
@@ -255,8 +255,8 @@ module _ (c : Catalogue) (blobs : List KeptBlob) (space : Space) (ledger : Accou
             once = subst AreOnce (sym list) (apart_push (λ (x : Kept). x.meta) (but t.meta (listed blobs)) t (apart_filter (λ (x : Kept). x.meta) (λ x. not (is_of t.meta x)) (listed blobs) n.once) (but_apart t.meta (listed blobs)));
             within = subst (AllByRecursion (λ (x : Kept). x.meta.theme.layer < length c.layers)) (sym list)
                 (all_push (λ (x : Kept). x.meta.theme.layer < length c.layers) (but t.meta (listed blobs)) t (all_filter (λ (x : Kept). x.meta.theme.layer < length c.layers) (λ x. not (is_of t.meta x)) (listed blobs) n.within) layer);
-            lengths = all_push (λ (b : KeptBlob). (length b.text ≡ b.kept.length) × (b.kept.length ≡ blob_size c b.kept.meta)) (filter (λ b. not (is_of t.meta b.kept)) blobs) (record { kept = t; text = text })
-                (all_filter (λ (b : KeptBlob). (length b.text ≡ b.kept.length) × (b.kept.length ≡ blob_size c b.kept.meta)) (λ b. not (is_of t.meta b.kept)) blobs n.lengths) (long_text, long_blob);
+            lengths = all_push (IsLong c) (filter (λ b. not (is_of t.meta b.kept)) blobs) (record { kept = t; text = text })
+                (all_filter (IsLong c) (λ b. not (is_of t.meta b.kept)) blobs n.lengths) (long_text, long_blob);
             few = omega (arith, long, others_are t.meta, others);
             parts = given_parts ∙ sym pushed ∙ ap regions (sym list);
             size = given_size ∙ n.size;

@@ -46,6 +46,10 @@ pub record Shelved : Type 0 where
 abbrev pub listed : List KeptBlob → List Kept
 listed blobs = map (λ b. b.kept) blobs
 
+-- a blob has its length, which is that of its metatile
+abbrev pub IsLong : Catalogue → KeptBlob → Type 0
+IsLong c b = (length b.text ≡ b.kept.length) × (b.kept.length ≡ blob_size c b.kept.meta)
+
 -- THE PARTS OF A SHELF
 
 -- the accounts and the uses are those of what is kept, and its regions are the taken ones, in order; each metatile is kept once, is of a layer
@@ -54,7 +58,7 @@ pub record IsShelved (c : Catalogue) (blobs : List KeptBlob) (space : Space) (le
   pub valid : IsValid c
   pub once : ApartBy (λ t. t.meta) (listed blobs)
   pub within : AllByRecursion (λ t. t.meta.theme.layer < length c.layers) (listed blobs)
-  pub lengths : AllByRecursion (λ b. (length b.text ≡ b.kept.length) × (b.kept.length ≡ blob_size c b.kept.meta)) blobs
+  pub lengths : AllByRecursion (IsLong c) blobs
   pub few : length blobs ≤ c.kept_limit
   pub parts : space.parts ≡ regions (listed blobs)
   pub size : space.size ≡ c.blob_bytes
@@ -84,11 +88,11 @@ entering m spare u = record { policy = u.policy; layers = u.layers; now = one_mo
 
 -- the number and the tile's part of the blob that is kept of the tile's metatile, which is the encoded tile where the blob is the
 -- metatile's; or nothing is kept of it
-abbrev pub Reads : Shelved → Address → Option Found → Type 0
-Reads s a None = find (λ b. is_of (block_of s.catalogue a) b.kept) s.blobs ≡ None
-Reads s a (Some f) =
-    (b : KeptBlob) × (find (λ b. is_of (block_of s.catalogue a) b.kept) s.blobs ≡ Some b) × (f.number ≡ b.kept.number) × (f.text.items ≡ tile_part s.catalogue a b.text)
-    × ((k : ℕ) → b.text ≡ block_text s.catalogue k (block_of s.catalogue a) → f.text.items ≡ tile_text s.catalogue k a)
+abbrev pub Reads : Catalogue → List KeptBlob → Address → Option Found → Type 0
+Reads c blobs a None = find (λ b. is_of (block_of c a) b.kept) blobs ≡ None
+Reads c blobs a (Some f) =
+    (b : KeptBlob) × (find (λ b. is_of (block_of c a) b.kept) blobs ≡ Some b) × (f.number ≡ b.kept.number) × (f.text.items ≡ tile_part c a b.text)
+    × ((k : ℕ) → b.text ≡ block_text c k (block_of c a) → f.text.items ≡ tile_text c k a)
 
 -- WHAT CALLS LEAVE
 

@@ -72,9 +72,9 @@ impl Cabinet {
         requires { IsValid catalogue }
         ensures { IfOk result (λ c. c ≡ fresh_state catalogue) }
     {
-        let shelf = Shelf::new(alloc, catalogue)?;
         let locks = Locks::new(alloc)?;
         let cuts = CutList::new(alloc)?;
+        let shelf = Shelf::new(alloc, catalogue)?;
         Ok(Cabinet {
             shelf,
             opening: 0,

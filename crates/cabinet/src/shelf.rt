@@ -7,7 +7,7 @@ ghost use Rattle.raster_field.specs.Blocks.{IsMeta, blob_size};
 ghost use Rattle.served_covers.specs.OfCatalogue.{IsCoverOf};
 ghost use Rattle.cabinet.specs.History.{is_of, lesser};
 
-use crate::blob::{blob_bytes, tile_in};
+use crate::blob::blob_bytes;
 use crate::kept::Kept;
 use crate::shelving::{Found, Shelving};
 use crate::sifting::sift;
@@ -16,7 +16,6 @@ use crate::tally::Tally;
 use catalog::catalogue::Catalogue;
 use matrix_geometry::address::Address;
 use metatile_plan::metatile::MetaKey;
-use raster_field::layout::block_of;
 use std::alloc::{AllocError, Global};
 use std::marker::Model;
 use truncation_list::cover::Cover;
@@ -86,17 +85,9 @@ impl Shelf {
     /// Reads a tile out of what is kept of its metatile; `None` exactly where nothing is. `AllocError` where memory runs out.
     pub fn read(&self, alloc: Global, address: &Address) -> Result<Option<Found>, AllocError>
         requires { IsTile self.now.catalogue address.now }
-        ensures { IfOk result (λ found. Reads self.now address.now found) }
+        ensures { IfOk result (λ found. Reads self.now.catalogue self.now.blobs address.now found) }
     {
-        let meta = block_of(&self.catalogue, address);
-        match self.store.get(&meta) {
-            None => Ok(None),
-            Some(blob) => {
-                let number = blob.kept.number;
-                let text = tile_in(alloc, &self.catalogue, address, blob.text.bytes())?;
-                Ok(Some(Found { number, text }))
-            }
-        }
+        self.store.read(alloc, &self.catalogue, address)
     }
 
     /// Adds a use of a metatile that is kept.

@@ -1,14 +1,21 @@
 //! The kept metatiles in the order in which they were kept, and their blobs. The blobs lie in memory, beside the entries:
 //! no other file knows where they lie.
-ghost use Rattle.std.specs.Prelude.{[], OnOk, filter, find, fold, length, map, not, option_copied, take, ◌+◌, ◌++◌, ◌<◌, ◌==◌, ◌≡◌, ◌≤◌, ◌∷◌};
-ghost use Rattle.std.specs.List.{SwappedAt, slice_index_or};
+ghost use Rattle.std.specs.Prelude.{[], IfOk, OnOk, filter, find, fold, length, map, not, option_copied, take, ◌+◌, ◌++◌, ◌<◌, ◌==◌, ◌≡◌, ◌≤◌, ◌∷◌};
+ghost use Rattle.std.specs.List.{AllByRecursion, SwappedAt, slice_index_or};
+ghost use Rattle.catalog.specs.LookUp.{IsTile};
+ghost use Rattle.catalog.specs.Valid.{IsValid};
 ghost use Rattle.cabinet.specs.declared.kept.KeptBlob.{KeptBlob};
 ghost use Rattle.cabinet.specs.History.{is_of, lesser};
 
+use crate::blob::tile_in;
 use crate::kept::{Kept, KeptBlob};
 use crate::kept_list::{drop_of, find_of, least_with};
+use crate::shelving::Found;
+use catalog::catalogue::Catalogue;
 use exact_ratio::words::Words;
+use matrix_geometry::address::Address;
 use metatile_plan::metatile::MetaKey;
+use raster_field::layout::block_of;
 use std::alloc::{AllocError, Global};
 use std::marker::Model;
 
@@ -28,6 +35,8 @@ impl Model for Store {
 }
 
 impl Store {
+    ghost use Rattle.cabinet.specs.Shelved.{IsLong, Reads};
+
     /// A store that keeps nothing.
     pub fn new(alloc: Global) -> Store
         ensures { result.blobs ≡ [] }
@@ -62,10 +71,33 @@ impl Store {
     }
 
     /// What is kept of a metatile, with its blob. All that is kept is gone through for it.
-    pub fn get(&self, meta: &MetaKey) -> Option<&KeptBlob>
+    fn get(&self, meta: &MetaKey) -> Option<&KeptBlob>
         ensures { option_copied result ≡ find (λ b. is_of meta.now b.kept) self.now.blobs }
     {
         find_of(self.blobs.as_slice(), meta)
+    }
+
+    /// Reads a tile out of what is kept of its metatile; `None` exactly where nothing is. `AllocError` where memory runs out.
+    pub fn read(
+        &self,
+        alloc: Global,
+        catalogue: &Catalogue,
+        address: &Address,
+    ) -> Result<Option<Found>, AllocError>
+        requires valid { IsValid catalogue.now }
+        requires tile { IsTile catalogue.now address.now }
+        requires lengths { AllByRecursion (IsLong catalogue.now) self.now.blobs }
+        ensures { IfOk result (λ found. Reads catalogue.now self.now.blobs address.now found) }
+    {
+        let meta = block_of(catalogue, address);
+        match self.get(&meta) {
+            None => Ok(None),
+            Some(blob) => {
+                let number = blob.kept.number;
+                let text = tile_in(alloc, catalogue, address, blob.text.bytes())?;
+                Ok(Some(Found { number, text }))
+            }
+        }
     }
 
     /// Which render of a metatile is kept, and where. All that is kept is gone through for it.

@@ -24,7 +24,7 @@ invariant_of-self c =
     let i = c.self.inside in
     let p : Parts = record { opening = bare_opening i.opening; shelf = i.shelf; last = i.last; renders = i.locks.renders; book = i.cuts.book } in
     let h = i.past.entries in
-    let reads = subst (Reads i.shelf c.args.address.now) c.in-Some.is c.in_ok-found.ensures in
+    let reads = subst (Reads i.shelf.catalogue i.shelf.blobs c.args.address.now) c.in-Some.is c.in_ok-found.ensures in
     let is = c.block_of-meta.ensures.meta ∙ ap (λ (x : Catalogue). block_of x c.args.address.now) c.catalogue.ensures.catalogue in
     let e = subst (λ (m : MetaKey). find (λ (x : KeptBlob). is_of m x.kept) i.shelf.blobs ≡ Some reads.0) (sym is) reads.1 in
     after_used p h c.self.invariant c.block_of-meta.result c.and-self-inside.result.entries _ c.and-self-inside.ensures
@@ -35,7 +35,7 @@ returns-in-Some-clause-asked c =
     let i = c.self.inside in
     let p : Parts = record { opening = bare_opening i.opening; shelf = i.shelf; last = i.last; renders = i.locks.renders; book = i.cuts.book } in
     let h = i.past.entries in
-    let reads = subst (Reads i.shelf c.args.address.now) c.in-Some.is c.in_ok-found.ensures in
+    let reads = subst (Reads i.shelf.catalogue i.shelf.blobs c.args.address.now) c.in-Some.is c.in_ok-found.ensures in
     let is = c.block_of-meta.ensures.meta ∙ ap (λ (x : Catalogue). block_of x c.args.address.now) c.catalogue.ensures.catalogue in
     let told = c.and-self-inside.ensures ∙ ap (λ (m : MetaKey). i.past.entries ++ entry.Used m ∷ []) is in
     let new : State = record { catalogue = c.touch.new.self.catalogue; opening = bare_opening i.opening; history = c.and-self-inside.result.entries; since = c.and-self-inside.result.entries; blobs = c.touch.new.self.blobs } in
@@ -47,7 +47,7 @@ returns-in-Some-clause-sound c = λ sound.
     let i = c.self.inside in
     let p : Parts = record { opening = bare_opening i.opening; shelf = i.shelf; last = i.last; renders = i.locks.renders; book = i.cuts.book } in
     let h = i.past.entries in
-    let reads = subst (Reads i.shelf c.args.address.now) c.in-Some.is c.in_ok-found.ensures in
+    let reads = subst (Reads i.shelf.catalogue i.shelf.blobs c.args.address.now) c.in-Some.is c.in_ok-found.ensures in
     hit_sound p h c.self.invariant c.args.address.now c.in-Some.found reads (subst (λ (v : State). IsSound v) (sym c.self.view_is) sound)
     ∙ ap (λ (v : State). tile_text v.catalogue c.in-Some.found.number c.args.address.now) c.self.view_is
 
@@ -56,7 +56,7 @@ returns-in-Some-clause-fresh c =
     let i = c.self.inside in
     let p : Parts = record { opening = bare_opening i.opening; shelf = i.shelf; last = i.last; renders = i.locks.renders; book = i.cuts.book } in
     let h = i.past.entries in
-    let reads = subst (Reads i.shelf c.args.address.now) c.in-Some.is c.in_ok-found.ensures in
+    let reads = subst (Reads i.shelf.catalogue i.shelf.blobs c.args.address.now) c.in-Some.is c.in_ok-found.ensures in
     let is = c.block_of-meta.ensures.meta ∙ ap (λ (x : Catalogue). block_of x c.args.address.now) c.catalogue.ensures.catalogue in
     let told = c.and-self-inside.ensures ∙ ap (λ (m : MetaKey). i.past.entries ++ entry.Used m ∷ []) is in
     let new : State = record { catalogue = c.touch.new.self.catalogue; opening = bare_opening i.opening; history = c.and-self-inside.result.entries; since = c.and-self-inside.result.entries; blobs = c.touch.new.self.blobs } in
@@ -70,7 +70,7 @@ returns-in-Ticket-clause-asked c =
     let i = c.self.inside in
     let p : Parts = record { opening = bare_opening i.opening; shelf = i.shelf; last = i.last; renders = i.locks.renders; book = i.cuts.book } in
     let h = i.past.entries in
-    let none = subst (Reads i.shelf c.args.address.now) c.in-None.is c.in_ok-found.ensures in
+    let none = subst (Reads i.shelf.catalogue i.shelf.blobs c.args.address.now) c.in-None.is c.in_ok-found.ensures in
     let is = c.block_of-meta.ensures.meta ∙ ap (λ (x : Catalogue). block_of x c.args.address.now) c.catalogue.ensures.catalogue in
     miss_row p h c.self.invariant c.args.self.now c.args.address.now c.block_of-meta.result _ (forced.Ticket c.in-Ticket.ticket) c.force.new.self c.self.view_is is none c.in-Ticket.is c.in_ok-ticket.ensures.forced
 
@@ -79,7 +79,7 @@ returns-in-Ticket-clause-fresh c =
     let i = c.self.inside in
     let p : Parts = record { opening = bare_opening i.opening; shelf = i.shelf; last = i.last; renders = i.locks.renders; book = i.cuts.book } in
     let h = i.past.entries in
-    let none = subst (Reads i.shelf c.args.address.now) c.in-None.is c.in_ok-found.ensures in
+    let none = subst (Reads i.shelf.catalogue i.shelf.blobs c.args.address.now) c.in-None.is c.in_ok-found.ensures in
     let is = c.block_of-meta.ensures.meta ∙ ap (λ (x : Catalogue). block_of x c.args.address.now) c.catalogue.ensures.catalogue in
     let row = miss_row p h c.self.invariant c.args.self.now c.args.address.now c.block_of-meta.result _ (forced.Ticket c.in-Ticket.ticket) c.force.new.self c.self.view_is is none c.in-Ticket.is c.in_ok-ticket.ensures.forced in
     asks_fresh c.args.self.now c.force.new.self c.args.address.now (asked.Ticket c.in-Ticket.ticket) (subst IsKnown c.self.view_is c.self.invariant.known) c.requires row
@@ -89,7 +89,7 @@ returns-in-Busy-clause-asked c =
     let i = c.self.inside in
     let p : Parts = record { opening = bare_opening i.opening; shelf = i.shelf; last = i.last; renders = i.locks.renders; book = i.cuts.book } in
     let h = i.past.entries in
-    let none = subst (Reads i.shelf c.args.address.now) c.in-None.is c.in_ok-found.ensures in
+    let none = subst (Reads i.shelf.catalogue i.shelf.blobs c.args.address.now) c.in-None.is c.in_ok-found.ensures in
     let is = c.block_of-meta.ensures.meta ∙ ap (λ (x : Catalogue). block_of x c.args.address.now) c.catalogue.ensures.catalogue in
     miss_row p h c.self.invariant c.args.self.now c.args.address.now c.block_of-meta.result _ (forced.Busy c.in-Busy.number) c.force.new.self c.self.view_is is none c.in-Busy.is c.in_ok-ticket.ensures.forced
 
@@ -98,6 +98,6 @@ returns-in-Spent-clause-asked c =
     let i = c.self.inside in
     let p : Parts = record { opening = bare_opening i.opening; shelf = i.shelf; last = i.last; renders = i.locks.renders; book = i.cuts.book } in
     let h = i.past.entries in
-    let none = subst (Reads i.shelf c.args.address.now) c.in-None.is c.in_ok-found.ensures in
+    let none = subst (Reads i.shelf.catalogue i.shelf.blobs c.args.address.now) c.in-None.is c.in_ok-found.ensures in
     let is = c.block_of-meta.ensures.meta ∙ ap (λ (x : Catalogue). block_of x c.args.address.now) c.catalogue.ensures.catalogue in
     miss_row p h c.self.invariant c.args.self.now c.args.address.now c.block_of-meta.result _ (forced.Spent) c.force.new.self c.self.view_is is none c.in-Spent.is c.in_ok-ticket.ensures.forced
