@@ -1,5 +1,5 @@
 -- The rows of commands, from what the parts of a cabinet answer.
-use Rattle.std.proofs.Common.{ℕ, ◌≡◌, ◌+◌, ◌-◌, ◌*◌, ◌^◌, ◌<◌, ◌≤◌, Bool, true, false, cond, not, List, [], ◌∷◌, length, map, filter, find, fold, Option, Some, None, IsSome, inl, inr, refl, sym, ap, subst, ◌∙◌, arith}
+use Rattle.std.proofs.Common.{ℕ, ◌≡◌, ◌+◌, ◌<◌, ◌≤◌, Bool, true, false, cond, not, List, [], ◌∷◌, ◌==◌, length, map, filter, find, fold, Option, Some, None, IsSome, inl, inr, refl, sym, ap, subst, ◌∙◌, arith}
 use Rattle.std.specs.Prelude.{nat_lt}
 use Rattle.std.specs.List.{AllByRecursion}
 use Rattle.std.specs.Option.{option_map, option_map_or}
@@ -7,16 +7,14 @@ use Rattle.std.proofs.lemmas.Bool.{cases_lt}
 use Rattle.std.proofs.lemmas.Bool.Decides.{nat_tests}
 use Rattle.std.proofs.lemmas.Grind.{fold-append}
 use Rattle.std.proofs.lemmas.List.{length-map}
+use Rattle.std.proofs.lemmas.List.Sums.{length-filter}
 use Rattle.catalog.specs.declared.catalogue.Scope.{Scope}
-use Rattle.expiry_policy.specs.Victims.{Counts, victim}
-use Rattle.extent_map.specs.declared.part.Part.{Part}
-use Rattle.extent_map.specs.Parts.{part_at, LieInOrder}
-use Rattle.extent_map.specs.Spaces.{Space, IsFree, IsTaken, NoneFree, NoneFreeBelow}
+use Rattle.expiry_policy.specs.Victims.{victim}
 use Rattle.matrix_geometry.specs.declared.address.Address.{Address}
 use Rattle.metatile_plan.specs.declared.metatile.MetaKey.{MetaKey}
 use Rattle.metatile_plan.proofs.Same.{same_meta_is}
-use Rattle.quota_ledger.specs.Accounts.{Accounts, exceeded}
-use Rattle.raster_field.specs.Blocks.{blob_size, block_of, block_text, tile_part}
+use Rattle.quota_ledger.specs.Accounts.{accounts, exceeded}
+use Rattle.raster_field.specs.Blocks.{block_of, block_text, tile_part}
 use Rattle.truncation_list.specs.declared.book.Book.{Book}
 use Rattle.truncation_list.specs.declared.cover.Cover.{Cover}
 use Rattle.truncation_list.specs.Purge.{purged}
@@ -32,15 +30,20 @@ use Rattle.cabinet.specs.declared.replies.CutReply.TheVariants as reply
 use Rattle.cabinet.specs.declared.replies.Expired.TheVariants as expired
 use Rattle.cabinet.specs.declared.replies.Finished.TheVariants as finished
 use Rattle.cabinet.specs.declared.replies.Forced.{Forced}
-use Rattle.cabinet.specs.Commands.{Cuts, Expires, Finishes, Forces, IsHit, kept_at, others}
-use Rattle.cabinet.specs.Counted.{IsCounted}
-use Rattle.cabinet.specs.Gaps.{gap_for, lowest_gap}
-use Rattle.cabinet.specs.History.{Standing, but, is_of, kept_of, least_of, lesser, next, numbers}
-use Rattle.cabinet.specs.State.{IsConsistent, IsSound, State, now, with_blob, with_cut, with_dropped, with_entry}
-use Rattle.cabinet.proofs.Consistent.{stood}
+use Rattle.cabinet.specs.declared.shelving.Found.{Found}
+use Rattle.cabinet.specs.declared.shelving.Shelving.TheVariants as shelving
+use Rattle.cabinet.specs.Commands.{Cuts, Expires, Finishes, Forces, IsHit, kept_at, others, place_for}
+use Rattle.cabinet.specs.Consistent.{IsConsistent, Parts, seen}
+use Rattle.cabinet.specs.Counted.{kept_in, part_of, scope_exceeded, use_of, uses_of}
+use Rattle.cabinet.specs.Gaps.{gap_for}
+use Rattle.cabinet.specs.History.{History, Standing, but, is_of, kept_of, least_of, lesser, next, numbers, last_number, whole}
+use Rattle.cabinet.specs.Shelved.{Drops, Reads, Shelved, Shelves, listed, scope_above}
+use Rattle.cabinet.specs.State.{IsSound, State, now, with_blob, with_cut, with_dropped, with_entry}
 use Rattle.cabinet.proofs.Holding.{least_has, least_most}
-use Rattle.cabinet.proofs.Lists.{all_of_map, all_push, find_map, map_filter}
-use Rattle.cabinet.proofs.Regions.{alone, gap_at, no_gap}
+use Rattle.cabinet.proofs.Lists.{all_of_map, all_push, find_map}
+use Rattle.cabinet.proofs.OnShelf.{listed_filter}
+use Rattle.cabinet.proofs.Rows.{goes_kept}
+use Rattle.raster_field.specs.TileText.{tile_text}
 
 -- THE LEAST NUMBER
 
@@ -67,119 +70,124 @@ map_numbers (b ∷ bs) = ap (λ (ns : List ℕ). b.kept.number ∷ ns) (map_numb
 pub least_is : (least was : Option ℕ) (renders : List Render) (blobs those : List KeptBlob) → IsLeast was renders → least ≡ fold lesser was (map (λ b. b.kept.number) those) → those ≡ blobs → least ≡ least_of (numbers renders (map (λ b. b.kept) blobs))
 least_is least was renders blobs those w e same = e ∙ rw (least_running was renders w, same, fold-append, map_numbers blobs) refl
 
-module _ (s : State) (last room : ℕ) (renders : List Render) (book : Book) (space : Space) (k : IsConsistent s last room renders book space) where
-  kept_are : map (λ b. b.kept) s.blobs ≡ (now s).kept
+module _ (p : Parts) (h : History) (k : IsConsistent p h) where
+  abbrev here : State
+  here = seen p h
+
+  kept_are : listed p.shelf.blobs ≡ (now here).kept
   kept_are = k.known.blobs
 
-  out_are : renders ≡ (now s).out
+  out_are : p.renders ≡ (now here).out
   out_are = ap (λ (x : Standing). x.out) (sym k.stands)
 
   -- NUMBERS
 
-  pub next_some : s.opening ≡ 0 → last < 2 ^ 40 - 1 → next s.opening (now s) ≡ Some (last + 1)
-  next_some zero left =
-      let lt : nat_lt last (0 * 2 ^ 40 + (2 ^ 40 - 1)) ≡ true = grind (arith, nat_tests) in
-      let here : next 0 (stood last s.blobs renders book) ≡ Some (last + 1) = ap (λ (v : Bool). cond v (Some (last + 1)) None) lt in
-      ap (λ (e : ℕ). next e (now s)) zero ∙ ap (next 0) k.stands ∙ here
+  pub next_some : p.last < last_number p.opening → next p.opening (now here) ≡ Some (p.last + 1)
+  next_some left =
+      let lt : nat_lt p.last (last_number p.opening) ≡ true = grind (arith, nat_tests) in
+      ap (next p.opening) k.stands ∙ ap (λ (v : Bool). cond v (Some (p.last + 1)) None) lt
 
   -- HITS
 
-  pub kept_of_some : (m : MetaKey) (b : KeptBlob) → find (λ x. is_of m x.kept) s.blobs ≡ Some b → kept_of m (now s) ≡ Some b.kept
-  kept_of_some m b e = ap (find (is_of m)) (sym kept_are) ∙ find_map (λ (x : KeptBlob). x.kept) (is_of m) s.blobs ∙ ap (option_map (λ (x : KeptBlob). x.kept)) e
+  listed_of : (m : MetaKey) (o : Option KeptBlob) → find (λ b. is_of m b.kept) p.shelf.blobs ≡ o → kept_of m (now here) ≡ option_map (λ b. b.kept) o
+  listed_of m o e = ap (find (is_of m)) (sym kept_are) ∙ find_map (λ (x : KeptBlob). x.kept) (is_of m) p.shelf.blobs ∙ ap (option_map (λ (x : KeptBlob). x.kept)) e
 
-  pub kept_of_none : (m : MetaKey) → find (λ x. is_of m x.kept) s.blobs ≡ None → kept_of m (now s) ≡ None
-  kept_of_none m e = ap (find (is_of m)) (sym kept_are) ∙ find_map (λ (x : KeptBlob). x.kept) (is_of m) s.blobs ∙ ap (option_map (λ (x : KeptBlob). x.kept)) e
+  pub some_listed : (m : MetaKey) (b : KeptBlob) → find (λ b. is_of m b.kept) p.shelf.blobs ≡ Some b → IsSome (find (is_of m) (listed p.shelf.blobs))
+  some_listed m b e = rw (find_map (λ (x : KeptBlob). x.kept) (is_of m) p.shelf.blobs, e) refl
 
-  pub hit_row : (a : Address) (b : KeptBlob) (bytes : List ℕ) (new : State) → find (λ x. is_of (block_of s.catalogue a) x.kept) s.blobs ≡ Some b → bytes ≡ tile_part s.catalogue a b.text → new ≡ with_entry s (entry.Used (block_of s.catalogue a)) → IsHit s a b.kept.number bytes new
-  hit_row a b bytes new e part is = record {
-    kept = b.kept;
-    is_kept = kept_of_some (block_of s.catalogue a) b e;
-    number = refl;
-    part = part ∙ ap (λ (o : Option KeptBlob). tile_part s.catalogue a (option_map_or (λ x. x.text) o [])) (sym e);
+  -- what is found in a sound cabinet is the metatile's blob
+  pub found_text : (m : MetaKey) (b : KeptBlob) → find (λ b. is_of m b.kept) p.shelf.blobs ≡ Some b → IsSound here → b.text ≡ block_text p.shelf.catalogue b.kept.number m
+  found_text m b e sound =
+      let f = found (λ (x : KeptBlob). is_of m x.kept) (λ x. x.text ≡ block_text p.shelf.catalogue x.kept.number x.kept.meta) p.shelf.blobs b sound e in
+      f.1 ∙ ap (block_text p.shelf.catalogue b.kept.number) (same_meta_is b.kept.meta m f.0)
+
+  pub hit_row : (a : Address) (f : Found) (new : State) → Reads p.shelf.catalogue p.shelf.blobs a (Some f) → new ≡ with_entry here (entry.Used (block_of p.shelf.catalogue a)) → IsHit here a f.number f.text.items new
+  hit_row a f new r is = record {
+    kept = r.0.kept;
+    is_kept = listed_of (block_of p.shelf.catalogue a) (Some r.0) r.1;
+    number = r.2;
+    part = r.3 ∙ ap (λ (o : Option KeptBlob). tile_part p.shelf.catalogue a (option_map_or (λ x. x.text) o [])) (sym r.1);
     state = is;
   }
+
+  -- what is read of a sound cabinet is the encoded tile
+  pub hit_sound : (a : Address) (f : Found) → Reads p.shelf.catalogue p.shelf.blobs a (Some f) → IsSound here → f.text.items ≡ tile_text p.shelf.catalogue f.number a
+  hit_sound a f r sound = r.4 f.number (found_text (block_of p.shelf.catalogue a) r.0 r.1 sound ∙ ap (λ (k : ℕ). block_text p.shelf.catalogue k (block_of p.shelf.catalogue a)) (sym r.2))
+
+  -- WHAT IS TOLD
+
+  pub layer_kept : (layer : ℕ) → length (filter (λ b. b.kept.meta.theme.layer == layer) p.shelf.blobs) ≡ kept_in here layer
+  layer_kept layer =
+      sym (length-map (filter (λ b. b.kept.meta.theme.layer == layer) p.shelf.blobs) (λ (b : KeptBlob). b.kept))
+      ∙ ap length (listed_filter (λ t. t.meta.theme.layer == layer) p.shelf.blobs)
+      ∙ ap (λ (ts : List Kept). length (filter (λ t. t.meta.theme.layer == layer) ts)) kept_are
+      ∙ length-filter (λ t. t.meta.theme.layer == layer) (now here).kept
 
   -- MISSES
 
   -- nothing is kept of the tile's metatile, and what its force came to is what the ask comes to
-  pub miss_row : (v : State) (a : Address) (m : MetaKey) (came told : Forced) (t : State) → s ≡ v → m ≡ block_of s.catalogue a → find (λ x. is_of m x.kept) s.blobs ≡ None → came ≡ told → Forces v m came t
+  pub miss_row : (v : State) (a : Address) (m : MetaKey) (came told : Forced) (t : State) → here ≡ v → m ≡ block_of p.shelf.catalogue a → Reads p.shelf.catalogue p.shelf.blobs a None → came ≡ told → Forces v m came t
       → (kept_of (block_of v.catalogue a) (now v) ≡ None) × Forces v (block_of v.catalogue a) told t
   miss_row v a m came told t e is none same forces =
-      let unkept : kept_of (block_of s.catalogue a) (now s) ≡ None = subst (λ (x : MetaKey). kept_of x (now s) ≡ None) is (kept_of_none m none) in
+      let unkept : kept_of (block_of p.shelf.catalogue a) (now here) ≡ None = listed_of (block_of p.shelf.catalogue a) None none in
       let block : m ≡ block_of v.catalogue a = is ∙ ap (λ (x : State). block_of x.catalogue a) e in
       (subst (λ (x : State). kept_of (block_of x.catalogue a) (now x) ≡ None) e unkept, subst (λ (x : MetaKey). Forces v x told t) block (subst (λ (x : Forced). Forces v m x t) same forces))
 
-  -- what is found has its length, and in a sound cabinet is the metatile's blob
-  pub found_long : (m : MetaKey) (b : KeptBlob) → find (λ x. is_of m x.kept) s.blobs ≡ Some b → (length b.text ≡ blob_size s.catalogue m)
-  found_long m b e =
-      let f = found (λ (x : KeptBlob). is_of m x.kept) (λ x. (length x.text ≡ x.kept.length) × (x.kept.length ≡ blob_size s.catalogue x.kept.meta)) s.blobs b k.known.lengths e in
-      f.1.0 ∙ f.1.1 ∙ ap (blob_size s.catalogue) (same_meta_is b.kept.meta m f.0)
-
-  pub found_text : (m : MetaKey) (b : KeptBlob) → find (λ x. is_of m x.kept) s.blobs ≡ Some b → IsSound s → b.text ≡ block_text s.catalogue b.kept.number m
-  found_text m b e sound =
-      let f = found (λ (x : KeptBlob). is_of m x.kept) (λ x. x.text ≡ block_text s.catalogue x.kept.number x.kept.meta) s.blobs b sound e in
-      f.1 ∙ ap (block_text s.catalogue b.kept.number) (same_meta_is b.kept.meta m f.0)
-
   -- FINISHES
 
-  pub others_are : (m : MetaKey) → length (filter (λ b. not (is_of m b.kept)) s.blobs) ≡ others s m
-  others_are m =
-      sym (length-map (filter (λ b. not (is_of m b.kept)) s.blobs) (λ (b : KeptBlob). b.kept)) ∙ ap length (map_filter (λ (b : KeptBlob). b.kept) (λ t. not (is_of m t)) s.blobs ∙ ap (but m) kept_are)
-
-  runs_are : (t : Ticketed) (r : Render) → render_of t renders ≡ Some r → render_of t (now s).out ≡ Some r
+  runs_are : (t : Ticketed) (r : Render) → render_of t p.renders ≡ Some r → render_of t (now here).out ≡ Some r
   runs_are t r e = ap (render_of t) (sym out_are) ∙ e
 
-  gap_of : (bytes : ℕ) (o : Option ℕ) → lowest_gap 0 space.parts space.size bytes ≡ o → gap_for s.catalogue (map (λ b. b.kept) s.blobs) bytes ≡ o
-  gap_of bytes o e = (λ i. lowest_gap 0 (sym k.parts i) (sym k.size i) bytes) ∙ e
+  others_are : (m : MetaKey) → length (but m (listed p.shelf.blobs)) ≡ others here m
+  others_are m = ap (λ (ts : List Kept). length (but m ts)) kept_are
 
-  -- the gap that was taken, and where there is none
-  pub gap_taken : (bytes x : ℕ) (taken : Space) → IsFree space.parts space.size (part_at x bytes) → NoneFreeBelow space.parts space.size bytes x → IsTaken space (part_at x bytes) taken → LieInOrder 0 taken.parts taken.size
-      → gap_for s.catalogue (map (λ b. b.kept) s.blobs) bytes ≡ Some x
-  gap_taken bytes x taken free below took sound =
-      let ordered = alone 0 (part_at x bytes) space.parts taken.size (subst (λ (ps : List Part). LieInOrder 0 ps taken.size) took.entered sound) in
-      gap_of bytes (Some x) (gap_at space.parts space.size bytes x (subst (LieInOrder 0 space.parts) took.same_size ordered.order) free below)
+  place_is : (bytes : ℕ) (o : Option ℕ) → gap_for p.shelf.catalogue (listed p.shelf.blobs) bytes ≡ o → place_for here bytes ≡ o
+  place_is bytes o e = ap (λ (ts : List Kept). gap_for p.shelf.catalogue ts bytes) (sym kept_are) ∙ e
 
-  pub gap_none : (bytes : ℕ) (after : Space) → NoneFree space.parts space.size bytes → after ≡ space → LieInOrder 0 after.parts after.size → gap_for s.catalogue (map (λ b. b.kept) s.blobs) bytes ≡ None
-  gap_none bytes after none same sound = gap_of bytes None (no_gap space.parts space.size bytes (subst (λ (e : Space). LieInOrder 0 e.parts e.size) same sound) none)
+  module _ (t : Ticketed) (blob : List ℕ) (runs : render_of t p.renders ≡ Some (unmarked t.number t.meta)) (new : State) where
+    pub full_row : (shelf' : Shelved) → Shelves p.shelf t blob shelving.Full shelf' → new ≡ with_entry here (entry.Ended t.number) → Finishes here t blob finished.Full new
+    full_row shelf' x is = (runs_are t (unmarked t.number t.meta) runs, subst (λ (n : ℕ). p.shelf.catalogue.kept_limit ≤ n) (others_are t.meta) x.0, is)
 
-  pub full_row : (t : Ticketed) (blob : List ℕ) (count : ℕ) (new : State) → render_of t renders ≡ Some (unmarked t.number t.meta) → count ≡ length (filter (λ b. not (is_of t.meta b.kept)) s.blobs) → s.catalogue.kept_limit ≤ count
-      → new ≡ with_entry s (entry.Ended t.number) → Finishes s t blob finished.Full new
-  full_row t blob count new e c l is = (runs_are t (unmarked t.number t.meta) e, subst (λ (n : ℕ). s.catalogue.kept_limit ≤ n) (c ∙ others_are t.meta) l, is)
+    pub no_room_row : (shelf' : Shelved) → Shelves p.shelf t blob shelving.NoRoom shelf' → new ≡ with_entry here (entry.Ended t.number) → Finishes here t blob finished.NoRoom new
+    no_room_row shelf' x is = (runs_are t (unmarked t.number t.meta) runs, subst (λ (n : ℕ). n < p.shelf.catalogue.kept_limit) (others_are t.meta) x.0, place_is (length blob) None x.1, is)
 
-  pub no_room_row : (t : Ticketed) (blob : List ℕ) (count : ℕ) (new : State) → render_of t renders ≡ Some (unmarked t.number t.meta) → count ≡ length (filter (λ b. not (is_of t.meta b.kept)) s.blobs) → count < s.catalogue.kept_limit
-      → gap_for s.catalogue (map (λ b. b.kept) s.blobs) (length blob) ≡ None → new ≡ with_entry s (entry.Ended t.number) → Finishes s t blob finished.NoRoom new
-  no_room_row t blob count new e c l gap is =
-      (runs_are t (unmarked t.number t.meta) e, subst (λ (n : ℕ). n < s.catalogue.kept_limit) (c ∙ others_are t.meta) l, (ap (λ (ts : List Kept). gap_for s.catalogue ts (length blob)) (sym kept_are) ∙ gap), is)
-
-  pub kept_row : (t : Ticketed) (blob : List ℕ) (count place : ℕ) (new : State) → render_of t renders ≡ Some (unmarked t.number t.meta) → count ≡ length (filter (λ b. not (is_of t.meta b.kept)) s.blobs) → count < s.catalogue.kept_limit
-      → gap_for s.catalogue (map (λ b. b.kept) s.blobs) (length blob) ≡ Some place → new ≡ with_blob s (kept_at t place (length blob)) blob → Finishes s t blob finished.Kept new
-  kept_row t blob count place new e c l gap is =
-      (runs_are t (unmarked t.number t.meta) e, subst (λ (n : ℕ). n < s.catalogue.kept_limit) (c ∙ others_are t.meta) l, (place, (ap (λ (ts : List Kept). gap_for s.catalogue ts (length blob)) (sym kept_are) ∙ gap), is))
+    pub kept_row : (kept : Kept) (shelf' : Shelved) → Shelves p.shelf t blob (shelving.Kept kept) shelf' → new ≡ with_blob here (kept_at t kept.place (length blob)) blob → Finishes here t blob finished.Kept new
+    kept_row kept shelf' x is =
+        (runs_are t (unmarked t.number t.meta) runs, subst (λ (n : ℕ). n < p.shelf.catalogue.kept_limit) (others_are t.meta) x.0, (kept.place, place_is (length blob) (Some kept.place) x.1, is))
 
   -- CUTS
 
-  before_is : (cover : Cover) (least : Option ℕ) (listed : Book) → least ≡ least_of (numbers renders (map (λ b. b.kept) s.blobs)) → listed ≡ book
-      → purged (Some cover) least listed ≡ purged (Some cover) (least_of (numbers (now s).out (now s).kept)) (now s).book
-  before_is cover least listed l b =
-      let whole : least ≡ least_of (numbers (now s).out (now s).kept) = l ∙ (λ i. least_of (numbers (out_are i) (kept_are i))) in
-      let there : listed ≡ (now s).book = b ∙ ap (λ (x : Standing). x.book) (sym k.stands) in
+  before_is : (cover : Cover) (least : Option ℕ) (listed' : Book) → least ≡ least_of (numbers p.renders (listed p.shelf.blobs)) → listed' ≡ p.book
+      → purged (Some cover) least listed' ≡ purged (Some cover) (least_of (numbers (now here).out (now here).kept)) (now here).book
+  before_is cover least listed' l b =
+      let whole : least ≡ least_of (numbers (now here).out (now here).kept) = l ∙ (λ i. least_of (numbers (out_are i) (kept_are i))) in
+      let there : listed' ≡ (now here).book = b ∙ ap (λ (x : Standing). x.book) (sym k.stands) in
       λ i. purged (Some cover) (whole i) (there i)
 
-  pub cut_full_row : (cover : Cover) (least : Option ℕ) (listed : Book) (new : State) → s.opening ≡ 0 → last < 2 ^ 40 - 1 → least ≡ least_of (numbers renders (map (λ b. b.kept) s.blobs)) → listed ≡ book
-      → s.catalogue.cut_limit ≤ length (purged (Some cover) least listed).cuts → new ≡ s → Cuts s cover reply.Full new
-  cut_full_row cover least listed new zero left l b full is =
-      (rw (next_some zero left) refl, subst (λ (x : Book). s.catalogue.cut_limit ≤ length x.cuts) (before_is cover least listed l b) full, is)
+  module _ (cover : Cover) (least : Option ℕ) (book : Book) (left : p.last < last_number p.opening) (low : least ≡ least_of (numbers p.renders (listed p.shelf.blobs))) (same : book ≡ p.book) (new : State) where
+    pub cut_full_row : p.shelf.catalogue.cut_limit ≤ length (purged (Some cover) least book).cuts → new ≡ here → Cuts here cover reply.Full new
+    cut_full_row full is = (rw (next_some left) refl, subst (λ (x : Book). p.shelf.catalogue.cut_limit ≤ length x.cuts) (before_is cover least book low same) full, is)
 
-  pub cut_done_row : (cover : Cover) (least : Option ℕ) (listed : Book) (new : State) → s.opening ≡ 0 → last < 2 ^ 40 - 1 → least ≡ least_of (numbers renders (map (λ b. b.kept) s.blobs)) → listed ≡ book
-      → length (purged (Some cover) least listed).cuts < s.catalogue.cut_limit → new ≡ with_cut s (last + 1) cover → Cuts s cover (reply.Done (last + 1)) new
-  cut_done_row cover least listed new zero left l b room_left is =
-      (next_some zero left, subst (λ (x : Book). length x.cuts < s.catalogue.cut_limit) (before_is cover least listed l b) room_left, is)
+    pub cut_done_row : length (purged (Some cover) least book).cuts < p.shelf.catalogue.cut_limit → new ≡ with_cut here (p.last + 1) cover → Cuts here cover (reply.Done (p.last + 1)) new
+    cut_done_row room_left is = (next_some left, subst (λ (x : Book). length x.cuts < p.shelf.catalogue.cut_limit) (before_is cover least book low same) room_left, is)
 
--- EXPIRES
+  -- EXPIRES
 
-pub dropped_row : (s : State) (running : ℕ) (ledger : Accounts) (counts : Counts) → IsCounted s running ledger counts → (scope : Scope) (m : MetaKey) (new : State) → exceeded ledger ≡ Some scope → victim counts.policy scope counts.held ≡ Some m
-    → new ≡ with_dropped s m → Expires s (expired.Dropped m) new
-dropped_row s running ledger counts k scope m new above goes is = (scope, ap exceeded (sym k.bytes) ∙ above, (λ i. victim (sym k.policy i) scope (sym k.held i)) ∙ goes, is)
+  scope_is : (o : Option Scope) → scope_above p.shelf ≡ o → scope_exceeded here ≡ o
+  scope_is o e = ap (λ (ts : List Kept). exceeded (accounts p.shelf.catalogue (map part_of ts))) (sym kept_are) ∙ e
+
+  uses_are : p.shelf.uses ≡ uses_of here
+  uses_are = k.uses ∙ ap (map (λ (t : Kept). use_of (whole p.opening h) t.meta)) kept_are
+
+  pub within_row : (shelf' : Shelved) (new : State) → Drops p.shelf None shelf' → new ≡ here → Expires here expired.Within new
+  within_row shelf' new x is = (scope_is None x.0, is)
+
+  pub dropped_row : (m : MetaKey) (shelf' : Shelved) (new : State) → Drops p.shelf (Some m) shelf' → new ≡ with_dropped here m → Expires here (expired.Dropped m) new
+  dropped_row m shelf' new x is = (x.0, scope_is (Some x.0) x.1, ap (victim p.shelf.catalogue.policy x.0) (sym uses_are) ∙ x.2, is)
+
+  -- what goes is kept
+  pub goes_listed : (m : MetaKey) (shelf' : Shelved) → Drops p.shelf (Some m) shelf' → IsSome (find (is_of m) (listed p.shelf.blobs))
+  goes_listed m shelf' x = subst (λ (ts : List Kept). IsSome (find (is_of m) ts)) (sym kept_are) (goes_kept here x.0 m (ap (victim p.shelf.catalogue.policy x.0) (sym uses_are) ∙ x.2))
 
 -- a count that is not told to be at the limit is below it
 pub below_limit : (count limit : ℕ) (told : Bool) → told ≡ false → (limit ≤ count → told ≡ true) → count < limit

@@ -1,5 +1,5 @@
 -- The bytes of what is kept: their sum lies within the blobs' bytes, and one metatile is counted out.
-use Rattle.std.proofs.Common.{ℕ, ◌≡◌, ◌+◌, ◌<◌, ◌≤◌, Bool, true, false, cond, List, [], ◌∷◌, ◌++◌, length, map, find, Option, Some, None, refl, sym, ap, subst, ◌∙◌, arith}
+use Rattle.std.proofs.Common.{ℕ, ◌≡◌, ◌+◌, ◌<◌, ◌≤◌, Bool, true, false, cond, List, [], ◌∷◌, ◌++◌, length, map, filter, find, Option, Some, None, refl, sym, ap, subst, ◌∙◌, arith}
 use Rattle.std.specs.Prelude.{IfSome, nat_lt}
 use Rattle.std.specs.List.{AllByRecursion, sum_by}
 use Rattle.std.proofs.lemmas.List.{map-append}
@@ -13,14 +13,13 @@ use Rattle.quota_ledger.specs.Accounts.{Accounts, Part, accounts, removed, used_
 use Rattle.quota_ledger.proofs.Counting.{counted_part, removed_part, same_layers}
 use Rattle.raster_field.specs.Blocks.{IsMeta}
 use Rattle.raster_field.proofs.Metas.{parts}
-use Rattle.metatile_locks.proofs.Lists.{all_weaker, found, none_passes}
+use Rattle.metatile_locks.proofs.Lists.{found, none_passes}
 use Rattle.cabinet.specs.declared.kept.Kept.{Kept}
-use Rattle.cabinet.specs.Counted.{IsCountedIn, part_of, without}
-use Rattle.cabinet.specs.Fresh.{Possible}
+use Rattle.cabinet.specs.Counted.{part_of}
 use Rattle.cabinet.specs.Gaps.{regions, region}
-use Rattle.cabinet.specs.History.{History, but, is_of, nothing, standing}
+use Rattle.cabinet.specs.History.{but, is_of}
+use Rattle.cabinet.specs.Shelved.{IsCountedIn, without}
 use Rattle.cabinet.proofs.Once.{AreOnce, but_none, one_kept}
-use Rattle.cabinet.proofs.Rooted.{metas_of}
 
 -- WITHIN THE BLOBS' BYTES
 
@@ -53,13 +52,22 @@ sum_between low (x ∷ xs) high o =
 pub bytes_within : (kept : List Kept) (size : ℕ) → LieInOrder 0 (regions kept) size → used_all (map part_of kept) ≤ size
 bytes_within kept size o = omega (arith, sum_regions kept, sum_between 0 (regions kept) size o)
 
+-- what passes has no more bytes
+pub bytes_filter : (q : Kept → Bool) (ts : List Kept) → used_all (map part_of (filter q ts)) ≤ used_all (map part_of ts)
+bytes_filter q [] = omega arith
+bytes_filter q (t ∷ ts) = chosen (q t) (bytes_filter q ts)
+  where
+    chosen : (v : Bool) → used_all (map part_of (filter q ts)) ≤ used_all (map part_of ts) → used_all (map part_of (cond v (t ∷ filter q ts) (filter q ts))) ≤ used_all (map part_of (t ∷ ts))
+    chosen true h =
+        let a = sum_by-cons (λ (p : Part). p.length) (part_of t) (map part_of ts) in
+        let b = sum_by-cons (λ (p : Part). p.length) (part_of t) (map part_of (filter q ts)) in
+        omega (arith, a, b, h)
+    chosen false h = let a = sum_by-cons (λ (p : Part). p.length) (part_of t) (map part_of ts) in omega (arith, a, h)
+
 -- LAYERS
 
 pub layer_within : (c : Catalogue) (m : MetaKey) → IsMeta c m → m.theme.layer < length c.layers
 layer_within c m is = let p = parts c m is in slice_get_within c.layers m.theme.layer p.its_layer p.layer
-
-pub layers_within : (c : Catalogue) (opening : ℕ) (h : History) → Possible c (nothing opening) h → AllByRecursion (λ t. t.meta.theme.layer < length c.layers) (standing c (nothing opening) h).kept
-layers_within c opening h may = all_weaker (λ (t : Kept). IsMeta c t.meta) (λ t. t.meta.theme.layer < length c.layers) (λ t is. layer_within c t.meta is) (standing c (nothing opening) h).kept (metas_of c opening h may).kept
 
 -- ONE COUNTED OUT
 

@@ -14,14 +14,15 @@ use Rattle.quota_ledger.specs.Accounts.{Accounts, accounts, removed}
 use Rattle.metatile_locks.proofs.Lists.{all_at, all_filter}
 use Rattle.cabinet.specs.declared.kept.Kept.{Kept}
 use Rattle.cabinet.specs.declared.kept.KeptBlob.{KeptBlob}
-use Rattle.cabinet.specs.Counted.{IsCountedIn, holding, part_of}
+use Rattle.cabinet.specs.Counted.{part_of}
+use Rattle.cabinet.specs.Shelved.{IsCountedIn, holding}
 use Rattle.cabinet.specs.Fresh.{ApartBy}
 use Rattle.cabinet.proofs.Bytes.{one_counted, one_out}
 use Rattle.cabinet.proofs.Gives.{before_is, still, still_end, still_off, still_on}
 use Rattle.cabinet.proofs.Once.{apart_around, apart_map, apart_of_map, off_of}
 
 pub record IsForgetting (keep : MetaKey → Bool) (c : Catalogue) (blobs : List KeptBlob) (i : ℕ) (old now : Counts) (ledger : Accounts) : Type 0 where
-  pub bytes : ledger ≡ accounts c (map part_of (still (λ t. keep t.meta) [] blobs i))
+  pub bytes : ledger ≡ accounts c (map part_of (still (λ t. keep t.meta) blobs i))
   pub uses : now ≡ holding (filter (λ u. keep u.meta) (take i old.held) ++ drop i old.held) now.spare old
   pub room : old.spare ≤ now.spare
 
@@ -75,7 +76,7 @@ module _ (keep : MetaKey → Bool) (c : Catalogue) (blobs : List KeptBlob) (i : 
   ledger_is : ledger ≡ accounts c (map part_of (filter (λ t. keep t.meta) (map (λ b. b.kept) (take i blobs)) ++ x.kept ∷ map (λ b. b.kept) (drop (i + 1) blobs)))
   ledger_is =
       g.bytes
-      ∙ ap (λ (ts : List Kept). accounts c (map part_of ts)) (before_is (λ t. keep t.meta) [] blobs i x l)
+      ∙ ap (λ (ts : List Kept). accounts c (map part_of ts)) (before_is (λ t. keep t.meta) blobs i x l)
       ∙ ap (λ (b : KeptBlob). accounts c (map part_of (filter (λ t. keep t.meta) (map (λ b. b.kept) (take i blobs)) ++ b.kept ∷ map (λ b. b.kept) (drop (i + 1) blobs)))) (sym at)
 
   -- it is held
@@ -96,7 +97,7 @@ module _ (keep : MetaKey → Bool) (c : Catalogue) (blobs : List KeptBlob) (i : 
       let spare = g.room in
       record {
         bytes = bytes ∙ one_out c (filter (λ t. keep t.meta) (map (λ b. b.kept) (take i blobs))) x.kept (map (λ b. b.kept) (drop (i + 1) blobs)) ledger layer ledger_is
-            ∙ ap (λ (ts : List Kept). accounts c (map part_of ts)) (sym (still_off (λ t. keep t.meta) [] blobs i x l (subst (λ (b : KeptBlob). keep b.kept.meta ≡ false) at off)));
+            ∙ ap (λ (ts : List Kept). accounts c (map part_of ts)) (sym (still_off (λ t. keep t.meta) blobs i x l (subst (λ (b : KeptBlob). keep b.kept.meta ≡ false) at off)));
         uses = uses ∙ (λ j. holding ((left ∙ ap (λ (us : List Use). us ++ back) (sym here)) j) new.spare (g.uses j));
         room = omega (arith, spare, room);
       }
@@ -108,7 +109,7 @@ module _ (keep : MetaKey → Bool) (c : Catalogue) (blobs : List KeptBlob) (i : 
       let same : front ++ drop i old.held ≡ filter (λ u. keep u.meta) (take (i + 1) old.held) ++ back =
       ap (λ (us : List Use). front ++ us) (drop_more old.held i none long) ∙ sym (append_assoc front (its_use ∷ []) back) ∙ ap (λ (us : List Use). us ++ back) (sym here) in
       record {
-        bytes = g.bytes ∙ ap (λ (ts : List Kept). accounts c (map part_of ts)) (sym (still_on (λ t. keep t.meta) [] blobs i x l (subst (λ (b : KeptBlob). keep b.kept.meta ≡ true) at on)));
+        bytes = g.bytes ∙ ap (λ (ts : List Kept). accounts c (map part_of ts)) (sym (still_on (λ t. keep t.meta) blobs i x l (subst (λ (b : KeptBlob). keep b.kept.meta ≡ true) at on)));
         uses = g.uses ∙ ap (λ (us : List Use). holding us now.spare old) same;
         room = g.room;
       }
@@ -136,4 +137,4 @@ forgetting_end keep c blobs i old now ledger l keys g =
     let long : length old.held ≤ i = omega (arith, l, length-map old.held (λ (u : Use). u.meta), length-map blobs (λ (b : KeptBlob). b.kept.meta), ap length keys) in
     let all : filter (λ u. keep u.meta) (take i old.held) ++ drop i old.held ≡ filter (λ u. keep u.meta) old.held =
     (λ j. filter (λ u. keep u.meta) (take_all i old.held long j) ++ drop_all i old.held long j) ∙ append-nil (filter (λ u. keep u.meta) old.held) in
-    (g.bytes ∙ ap (λ (ts : List Kept). accounts c (map part_of ts)) (still_end (λ t. keep t.meta) [] blobs i l), g.uses ∙ ap (λ (us : List Use). holding us now.spare old) all)
+    (g.bytes ∙ ap (λ (ts : List Kept). accounts c (map part_of ts)) (still_end (λ t. keep t.meta) blobs i l), g.uses ∙ ap (λ (us : List Use). holding us now.spare old) all)

@@ -11,28 +11,28 @@ use Rattle.metatile_locks.proofs.Lists.{all_weaker}
 use Rattle.cabinet.specs.declared.entry.Entry.TheVariants as entry
 use Rattle.cabinet.specs.declared.kept.Kept.{Kept}
 use Rattle.cabinet.specs.Hits.{hits_of}
-use Rattle.cabinet.specs.History.{History, nothing, standing, kept_of}
+use Rattle.cabinet.specs.History.{History, Opening, first, kept_of, standing, whole}
 use Rattle.cabinet.specs.Fresh.{Possible, IsFresh, IsNoOlder, IsNewer, HoldsOfKept, cuts_of}
 use Rattle.cabinet.proofs.Holding.{holds_of, kept_has, all_no_older}
 use Rattle.cabinet.proofs.Lists.{all_take, all_front}
 use Rattle.cabinet.proofs.Rooted.{begins_left, begins_right, kept_begins}
 
-pub kept_fresh : (c : Catalogue) (opening : ℕ) (h : History) (p : ℕ) (a : Address) (t : Kept) → IsValid c → IsTile c a → Possible c (nothing opening) h → kept_of (block_of c a) (standing c (nothing opening) h) ≡ Some t → IsFresh c h p a t.number
-kept_fresh c opening h p a t valid tile may e =
-    let s = standing c (nothing opening) h in
-    let k = kept_has (HoldsOfKept c (cuts_of h) s.front s.book.floor) (block_of c a) (standing c (nothing opening) h) t (holds_of c opening h may).kept e in
-    let newer : IsNewer c (cuts_of h) t.number (block_of c a) = subst (IsNewer c (cuts_of h) t.number) k.1 k.0.newer in
-    record { begins = kept_begins c opening h (block_of c a) t may e; above = all_take (IsNoOlder c t.number a) p h (all_no_older c h a t.number valid tile newer) }
+pub kept_fresh : (c : Catalogue) (o : Opening) (h : History) (p : ℕ) (a : Address) (t : Kept) → IsValid c → IsTile c a → Possible c o h → kept_of (block_of c a) (standing c (first o) h) ≡ Some t → IsFresh c (whole o h) p a t.number
+kept_fresh c o h p a t valid tile may e =
+    let s = standing c (first o) h in
+    let k = kept_has (HoldsOfKept c (cuts_of (whole o h)) s.front s.book.floor) (block_of c a) (standing c (first o) h) t (holds_of c o h may).kept e in
+    let newer : IsNewer c (cuts_of (whole o h)) t.number (block_of c a) = subst (IsNewer c (cuts_of (whole o h)) t.number) k.1 k.0.newer in
+    record { begins = kept_begins c o h (block_of c a) t may e; above = all_take (IsNoOlder c t.number a) p (whole o h) (all_no_older c (whole o h) a t.number valid tile newer) }
 
 -- the number after the front is newer than each cut before
-pub begun_fresh : (c : Catalogue) (opening : ℕ) (h : History) (a : Address) (k : ℕ) → IsValid c → IsTile c a → Possible c (nothing opening) h → k ≡ (standing c (nothing opening) h).front + 1
-    → IsFresh c (h ++ entry.Started k (block_of c a) ∷ []) (length h) a k
-begun_fresh c opening h a k valid tile may is =
-    let s = standing c (nothing opening) h in
-    let newer : IsNewer c (cuts_of h) k (block_of c a) = all_weaker (λ (x : Cut). x.number ≤ s.front) (λ x. IsTrue (hits_of c x.cover (block_of c a)) → x.number < k) (λ x l _. omega arith) (cuts_of h) (holds_of c opening h may).given in
+pub begun_fresh : (c : Catalogue) (o : Opening) (h : History) (a : Address) (k : ℕ) → IsValid c → IsTile c a → Possible c o h → k ≡ (standing c (first o) h).front + 1
+    → IsFresh c (whole o h ++ entry.Started k (block_of c a) ∷ []) (length (whole o h)) a k
+begun_fresh c o h a k valid tile may is =
+    let s = standing c (first o) h in
+    let newer : IsNewer c (cuts_of (whole o h)) k (block_of c a) = all_weaker (λ (x : Cut). x.number ≤ s.front) (λ x. IsTrue (hits_of c x.cover (block_of c a)) → x.number < k) (λ x l _. omega arith) (cuts_of (whole o h)) (holds_of c o h may).given in
     record {
-      begins = begins_right k (block_of c a) h (entry.Started k (block_of c a) ∷ []) (inl (refl, refl));
-      above = all_front (IsNoOlder c k a) h (entry.Started k (block_of c a) ∷ []) (all_no_older c h a k valid tile newer);
+      begins = begins_right k (block_of c a) (whole o h) (entry.Started k (block_of c a) ∷ []) (inl (refl, refl));
+      above = all_front (IsNoOlder c k a) (whole o h) (entry.Started k (block_of c a) ∷ []) (all_no_older c (whole o h) a k valid tile newer);
     }
 
 take_longer : {X : Type 0} (P : X → Type 0) (p : ℕ) (xs ys : List X) → p ≤ length xs → AllByRecursion P (take p xs) → AllByRecursion P (take p (xs ++ ys))

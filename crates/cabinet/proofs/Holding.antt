@@ -1,5 +1,5 @@
 -- Each possible history keeps its numbers, its floor and its book: what is kept is newer than each cut that hits it.
-use Rattle.std.proofs.Common.{ℕ, ◌≡◌, ◌+◌, ◌<◌, ◌≤◌, max, Bool, true, false, cond, not, List, [], ◌∷◌, ◌++◌, map, fold, Option, Some, None, IsTrue, refl, sym, ap, subst, ◌∙◌, arith}
+use Rattle.std.proofs.Common.{ℕ, ◌≡◌, ◌+◌, ◌<◌, ◌≤◌, max, Bool, true, false, cond, not, List, [], ◌∷◌, ◌++◌, map, fold, Option, Some, None, IsTrue, refl, sym, ap, subst, ◌∙◌, arith, append_assoc, append-nil}
 use Rattle.std.specs.Prelude.{nat_lt}
 use Rattle.std.specs.List.{AllByRecursion, Contains}
 use Rattle.std.proofs.lemmas.Bool.Decides.{nat_tests}
@@ -22,17 +22,18 @@ use Rattle.truncation_list.proofs.Remaining.{all_remaining, in_order_added, floo
 use Rattle.metatile_locks.specs.declared.render.Render.{Render}
 use Rattle.metatile_locks.specs.Running.{marked, unmarked, without, has_number, render_of, is_render_of}
 use Rattle.metatile_locks.proofs.Lists.{all_joined, all_weaker, all_map, all_passed, all_filter, found}
+use Rattle.std.proofs.lemmas.Grind.{fold-append}
 use Rattle.cabinet.specs.declared.entry.Entry.{Entry}
 use Rattle.cabinet.specs.declared.entry.Entry.TheVariants as entry
 use Rattle.cabinet.specs.declared.kept.Kept.{Kept}
 use Rattle.cabinet.specs.Hits.{hits_of}
-use Rattle.cabinet.specs.History.{History, Standing, nothing, numbers, lesser, least_of, is_of, but, after, standing, kept_of}
-use Rattle.cabinet.specs.Fresh.{May, Possible, cuts_after, cuts_of, IsNewer, HoldsOfKept, HoldsOfRender, Holds, IsNoOlder}
+use Rattle.cabinet.specs.History.{History, Opening, Standing, after, bare_opening, but, first, is_of, kept_of, least_of, lesser, numbers, standing, whole}
+use Rattle.cabinet.specs.Fresh.{Follows, May, Possible, cuts_after, cuts_of, IsNewer, HoldsOfKept, HoldsOfRender, Holds, IsNoOlder, Opens}
 use Rattle.cabinet.proofs.Hits.{covered_hit}
 use Rattle.cabinet.proofs.Lists.{all_push, all_left, all_right, all_found, all_contained, all_both, all_of_map}
 
-pub holds_nothing : (c : Catalogue) (e : ℕ) → Holds c [] (nothing e)
-holds_nothing c e = record {
+pub holds_bare : (c : Catalogue) (e : ℕ) → Holds c [] (first (bare_opening e))
+holds_bare c e = record {
   given = tt;
   floor_given = omega arith;
   listed = tt;
@@ -225,6 +226,11 @@ ended c cuts s k h = record { given = h.given; floor_given = h.floor_given; list
 dropped : (c : Catalogue) (cuts : List Cut) (s : Standing) (m : MetaKey) → Holds c cuts s → Holds c cuts (after c s (entry.Dropped m))
 dropped c cuts s m h = record { given = h.given; floor_given = h.floor_given; listed = h.listed; order = h.order; answers = h.answers; kept = kept_but c cuts s.front s.book.floor m s.kept h.kept; out = h.out }
 
+-- AN OPENING WITH NOTHING IN IT
+
+pub bare_opens : (c : Catalogue) (e : ℕ) → Opens c (bare_opening e)
+bare_opens c e = record { holds = holds_bare c e; numbers = tt; once = tt; metas = tt; regions = record { some = tt; within = tt; disjoint = tt } }
+
 -- HISTORIES
 
 pub holds_step : (c : Catalogue) (cuts : List Cut) (s : Standing) (e : Entry) → Holds c cuts s → May c s e → Holds c (cuts_after cuts e) (after c s e)
@@ -236,16 +242,25 @@ holds_step c cuts s (entry.Ended k) h may = ended c cuts s k h
 holds_step c cuts s (entry.Used m) h may = h
 holds_step c cuts s (entry.Dropped m) h may = dropped c cuts s m h
 
-pub holds_run : (c : Catalogue) (cuts : List Cut) (s : Standing) (h : History) → Holds c cuts s → Possible c s h → Holds c (fold cuts_after cuts h) (standing c s h)
+pub holds_run : (c : Catalogue) (cuts : List Cut) (s : Standing) (h : History) → Holds c cuts s → Follows c s h → Holds c (fold cuts_after cuts h) (standing c s h)
 holds_run c cuts s [] hold may = hold
 holds_run c cuts s (e ∷ es) hold may = holds_run c (cuts_after cuts e) (after c s e) es (holds_step c cuts s e hold may.0) may.1
 
-pub holds_of : (c : Catalogue) (opening : ℕ) (h : History) → Possible c (nothing opening) h → Holds c (cuts_of h) (standing c (nothing opening) h)
-holds_of c opening h may = holds_run c [] (nothing opening) h (holds_nothing c opening) may
+-- the cuts of the first entries are those of the opening's book
+cuts_run : (before ks : List Cut) (more : History) → fold cuts_after before (map (λ k. entry.Cut k.number k.cover) ks ++ more) ≡ fold cuts_after (before ++ ks) more
+cuts_run before [] more = ap (λ (ks : List Cut). fold cuts_after ks more) (sym (append-nil before))
+cuts_run before (k ∷ ks) more = cuts_run (before ++ k ∷ []) ks more ∙ ap (λ (js : List Cut). fold cuts_after js more) (append_assoc before (k ∷ []) ks)
 
--- the number after the front is above each listed cut
-pub above_front : (c : Catalogue) (opening : ℕ) (h : History) (t : ℕ) → Possible c (nothing opening) h → (standing c (nothing opening) h).front < t → IsAbove t (standing c (nothing opening) h).book.cuts
-above_front c opening h t may l = above_listed c (cuts_of h) (standing c (nothing opening) h) t (holds_of c opening h may) l
+no_cuts : (before : List Cut) (ts : List Kept) → fold cuts_after before (map (λ t. entry.Stored t.number t.meta t.place t.length) ts) ≡ before
+no_cuts before [] = refl
+no_cuts before (t ∷ ts) = no_cuts before ts
+
+cuts_whole : (o : Opening) (later : History) → cuts_of (whole o later) ≡ fold cuts_after o.book.cuts later
+cuts_whole o later = rw fold-append (ap (λ (ks : List Cut). fold cuts_after ks later) (cuts_run [] o.book.cuts (map (λ t. entry.Stored t.number t.meta t.place t.length) o.kept) ∙ no_cuts o.book.cuts o.kept))
+
+pub holds_of : (c : Catalogue) (o : Opening) (later : History) → Possible c o later → Holds c (cuts_of (whole o later)) (standing c (first o) later)
+holds_of c o later may =
+    subst (λ (ks : List Cut). Holds c ks (standing c (first o) later)) (sym (cuts_whole o later)) (holds_run c o.book.cuts (first o) later may.opens.holds may.follows)
 
 -- WHAT IS FRESH
 

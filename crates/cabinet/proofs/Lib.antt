@@ -15,8 +15,8 @@ pub mod Gives
 pub mod Consistent
 pub mod Answered
 pub mod UsesAfter
-pub mod Counting
 pub mod Once
 pub mod Bytes
-pub mod Tallied
 pub mod Forgets
+pub mod OnShelf
+pub mod Sifts

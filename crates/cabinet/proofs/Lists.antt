@@ -1,7 +1,7 @@
 -- What holds of each element of a list.
 use Rattle.std.specs.Prelude.{slice_get}
-use Rattle.std.proofs.Common.{ℕ, zero, suc, ◌≡◌, Bool, true, false, cond, List, [], ◌∷◌, ◌++◌, map, filter, take, length, Some, find, refl, ap, subst}
-use Rattle.std.specs.List.{AllByRecursion, Contains}
+use Rattle.std.proofs.Common.{ℕ, zero, suc, ◌≡◌, Bool, true, false, cond, ◌||◌, List, [], ◌∷◌, ◌++◌, map, filter, take, length, Some, find, refl, ap, subst}
+use Rattle.std.specs.List.{AllByRecursion, Contains, list_any}
 use Rattle.std.specs.Option.{option_map}
 use Rattle.std.proofs.lemmas.List.Elements.{All-from_recursion, All-contains, All-contains_itself, recursion_from_All}
 use Rattle.metatile_locks.proofs.Lists.{all_joined, found}
@@ -42,9 +42,6 @@ pub all_of_map : {X Y : Type 0} (f : X → Y) (P : Y → Type 0) (xs : List X) �
 all_of_map f P [] a = tt
 all_of_map f P (x ∷ xs) a = (a.0, all_of_map f P xs a.1)
 
-pub all_themselves : {X : Type 0} (xs : List X) → AllByRecursion (Contains xs) xs
-all_themselves xs = recursion_from_All (Contains xs) xs (All-contains_itself xs)
-
 -- each element, where it is one of the list
 pub all_of : {X : Type 0} (P : X → Type 0) (xs : List X) → ((x : X) → Contains xs x → P x) → AllByRecursion P xs
 all_of P xs f = recursion_from_All P xs (λ k d l. f _ (All-contains_itself xs k d l))
@@ -60,6 +57,10 @@ map_filter f p (x ∷ xs) = chosen (p (f x)) (map_filter f p xs)
     chosen true h = ap (λ ys. f x ∷ ys) h
     chosen false h = h
 
+pub map_twice : {X Y Z : Type 0} (f : X → Y) (h : Y → Z) (xs : List X) → map h (map f xs) ≡ map (λ x. h (f x)) xs
+map_twice f h [] = refl
+map_twice f h (x ∷ xs) = ap (λ ys. h (f x) ∷ ys) (map_twice f h xs)
+
 pub find_map : {X Y : Type 0} (f : X → Y) (q : Y → Bool) (xs : List X) → find q (map f xs) ≡ option_map f (find (λ x. q (f x)) xs)
 find_map f q [] = refl
 find_map f q (x ∷ xs) = chosen (q (f x)) (find_map f q xs)
@@ -72,3 +73,22 @@ pub all_got : {X : Type 0} (P : X → Type 0) (xs : List X) (i : ℕ) (x : X) �
 all_got P [] i x a e = absurd (cc)
 all_got P (y ∷ ys) zero x a e = let d : y ≡ x = cc in subst P d a.0
 all_got P (y ∷ ys) (suc i) x a e = all_got P ys i x a.1 e
+
+-- ANY
+
+pub any_found : {X : Type 0} (q : X → Bool) (xs : List X) (x : X) → find q xs ≡ Some x → list_any q xs ≡ true
+any_found q [] x e = absurd (cc)
+any_found q (y ∷ ys) x e = chosen (q y) e (any_found q ys x)
+  where
+    chosen : (v : Bool) → cond v (Some y) (find q ys) ≡ Some x → (find q ys ≡ Some x → list_any q ys ≡ true) → (v || list_any q ys) ≡ true
+    chosen true e ih = refl
+    chosen false e ih = ih e
+
+pub any_map : {X Y : Type 0} (f : X → Y) (q : Y → Bool) (xs : List X) → list_any q (map f xs) ≡ list_any (λ x. q (f x)) xs
+any_map f q [] = refl
+any_map f q (x ∷ xs) = ap (λ (v : Bool). q (f x) || v) (any_map f q xs)
+
+-- one of two that are the same
+pub either_same : {X : Type 0} (x : X) (v : Bool) → cond v x x ≡ x
+either_same x true = refl
+either_same x false = refl

@@ -1,5 +1,5 @@
 -- Kept and running numbers differ, and what runs agrees with the sentence on each number.
-use Rattle.std.proofs.Common.{◌&&◌, ℕ, ◌≡◌, ◌≢◌, Bool, true, false, cond, not, ◌==◌, List, [], ◌∷◌, ◌++◌, filter, fold, find, is_none, Option, Some, None, refl, sym, ap, subst, ◌∙◌, arith, eq-eqb}
+use Rattle.std.proofs.Common.{◌&&◌, ℕ, ◌≡◌, ◌≢◌, Bool, true, false, cond, not, ◌==◌, List, [], ◌∷◌, ◌++◌, filter, fold, map, find, is_none, Option, Some, None, refl, sym, ap, subst, ◌∙◌, arith, eq-eqb}
 use Rattle.std.specs.List.{AllByRecursion}
 use Rattle.std.specs.Option.{option_map, option_or, option_and_then}
 use Rattle.std.proofs.lemmas.List.Folds.{find-append}
@@ -8,6 +8,7 @@ use Rattle.catalog.specs.declared.catalogue.Catalogue.{Catalogue}
 use Rattle.metatile_plan.specs.declared.metatile.MetaKey.{MetaKey}
 use Rattle.metatile_plan.specs.Keys.{same_meta}
 use Rattle.metatile_plan.proofs.Same.{same_meta_is, same_meta_self}
+use Rattle.std.proofs.lemmas.Grind.{fold-append}
 use Rattle.truncation_list.specs.declared.book.Cut.{Cut}
 use Rattle.metatile_locks.specs.declared.render.Render.{Render}
 use Rattle.metatile_locks.specs.Running.{overtaken, marked, unmarked, without, has_number, is_render_of, running_for, runs_for, render_of, OneRuns}
@@ -18,10 +19,10 @@ use Rattle.cabinet.specs.declared.entry.Entry.{Entry}
 use Rattle.cabinet.specs.declared.entry.Entry.TheVariants as entry
 use Rattle.cabinet.specs.declared.kept.Kept.{Kept}
 use Rattle.cabinet.specs.Hits.{hits_of}
-use Rattle.cabinet.specs.History.{History, Standing, nothing, is_of, but, spared, after, standing, render_after, render, of_meta, ticket_render}
-use Rattle.cabinet.specs.Fresh.{May, Possible, cuts_after, Holds, HoldsOfRender, HoldsOfKept, ApartBy, Differ}
-use Rattle.cabinet.proofs.Holding.{holds_step, holds_nothing}
-use Rattle.cabinet.proofs.Lists.{all_push, all_found, all_both}
+use Rattle.cabinet.specs.History.{History, Opening, Standing, after, but, first, is_of, of_meta, render, render_after, spared, standing, ticket_render, whole}
+use Rattle.cabinet.specs.Fresh.{Follows, May, Possible, cuts_after, Holds, HoldsOfRender, HoldsOfKept, ApartBy, Differ}
+use Rattle.cabinet.proofs.Holding.{holds_step}
+use Rattle.cabinet.proofs.Lists.{all_push, all_found, all_both, either_same}
 
 -- NUMBERS THAT DIFFER
 
@@ -116,12 +117,12 @@ differ_step c cuts s (entry.Dropped m) h d may = record {
   one_runs = d.one_runs;
 }
 
-differ_run : (c : Catalogue) (cuts : List Cut) (s : Standing) (h : History) → Holds c cuts s → Differ s → Possible c s h → Differ (standing c s h)
+differ_run : (c : Catalogue) (cuts : List Cut) (s : Standing) (h : History) → Holds c cuts s → Differ s → Follows c s h → Differ (standing c s h)
 differ_run c cuts s [] hold d may = d
 differ_run c cuts s (e ∷ es) hold d may = differ_run c (cuts_after cuts e) (after c s e) es (holds_step c cuts s e hold may.0) (differ_step c cuts s e hold d may.0) may.1
 
-pub differ_is : (c : Catalogue) (opening : ℕ) (h : History) → Possible c (nothing opening) h → Differ (standing c (nothing opening) h)
-differ_is c opening h may = differ_run c [] (nothing opening) h (holds_nothing c opening) (record { out = tt; kept = tt; both = tt; one_runs = tt }) may
+pub differ_is : (c : Catalogue) (o : Opening) (h : History) → Possible c o h → Differ (standing c (first o) h)
+differ_is c o h may = differ_run c o.book.cuts (first o) h may.opens.holds (record { out = tt; kept = may.opens.numbers; both = tt; one_runs = tt }) may.follows
 
 -- BY NUMBER
 
@@ -161,13 +162,26 @@ render_step c cuts k s (entry.Ended j) h may = without_is k j s.out
 render_step c cuts k s (entry.Used m) h may = refl
 render_step c cuts k s (entry.Dropped m) h may = refl
 
-render_run : (c : Catalogue) (cuts : List Cut) (k : ℕ) (s : Standing) (h : History) → Holds c cuts s → Possible c s h → find (has_number k) (standing c s h).out ≡ fold (render_after c k) (find (has_number k) s.out) h
+render_run : (c : Catalogue) (cuts : List Cut) (k : ℕ) (s : Standing) (h : History) → Holds c cuts s → Follows c s h → find (has_number k) (standing c s h).out ≡ fold (render_after c k) (find (has_number k) s.out) h
 render_run c cuts k s [] hold may = refl
 render_run c cuts k s (e ∷ es) hold may =
     render_run c (cuts_after cuts e) k (after c s e) es (holds_step c cuts s e hold may.0) may.1 ∙ ap (λ (o : Option Render). fold (render_after c k) o es) (render_step c cuts k s e hold may.0)
 
-pub render_is : (c : Catalogue) (opening : ℕ) (h : History) (k : ℕ) → Possible c (nothing opening) h → find (has_number k) (standing c (nothing opening) h).out ≡ render c h k
-render_is c opening h k may = render_run c [] k (nothing opening) h (holds_nothing c opening) may
+-- no first entry begins a render
+no_first_cut : (c : Catalogue) (k : ℕ) (ks : List Cut) (more : History) → fold (render_after c k) None (map (λ j. entry.Cut j.number j.cover) ks ++ more) ≡ fold (render_after c k) None more
+no_first_cut c k [] more = refl
+no_first_cut c k (j ∷ ks) more = no_first_cut c k ks more
+
+no_first_kept : (c : Catalogue) (k : ℕ) (ts : List Kept) → fold (render_after c k) None (map (λ t. entry.Stored t.number t.meta t.place t.length) ts) ≡ None
+no_first_kept c k [] = refl
+no_first_kept c k (t ∷ ts) = ap (λ (o : Option Render). fold (render_after c k) o (map (λ t. entry.Stored t.number t.meta t.place t.length) ts)) (either_same None (t.number == k)) ∙ no_first_kept c k ts
+
+render_whole : (c : Catalogue) (o : Opening) (later : History) (k : ℕ) → render c (whole o later) k ≡ fold (render_after c k) None later
+render_whole c o later k =
+    rw fold-append (ap (λ (r : Option Render). fold (render_after c k) r later) (no_first_cut c k o.book.cuts (map (λ t. entry.Stored t.number t.meta t.place t.length) o.kept) ∙ no_first_kept c k o.kept))
+
+pub render_is : (c : Catalogue) (o : Opening) (h : History) (k : ℕ) → Possible c o h → find (has_number k) (standing c (first o) h).out ≡ render c (whole o h) k
+render_is c o h k may = render_run c o.book.cuts k (first o) h may.opens.holds may.follows ∙ sym (render_whole c o h k)
 
 -- BY NUMBER AND METATILE
 
@@ -190,8 +204,8 @@ by_number : (t : Ticketed) (rs : List Render) → ApartBy (λ r. r.number) rs �
 by_number t [] a = refl
 by_number t (r ∷ rs) a = render_at t r rs (has_number t.number r) (same_meta r.meta t.meta) refl refl a.0 (by_number t rs a.1)
 
-pub ticket_is : (c : Catalogue) (opening : ℕ) (h : History) (t : Ticketed) → Possible c (nothing opening) h → render_of t (standing c (nothing opening) h).out ≡ ticket_render c h t
-ticket_is c opening h t may = by_number t (standing c (nothing opening) h).out (differ_is c opening h may).out ∙ ap (option_and_then (of_meta t.meta)) (render_is c opening h t.number may)
+pub ticket_is : (c : Catalogue) (o : Opening) (h : History) (t : Ticketed) → Possible c o h → render_of t (standing c (first o) h).out ≡ ticket_render c (whole o h) t
+ticket_is c o h t may = by_number t (standing c (first o) h).out (differ_is c o h may).out ∙ ap (option_and_then (of_meta t.meta)) (render_is c o h t.number may)
 
 -- BY METATILE
 
@@ -217,8 +231,8 @@ found_runs m k (x ∷ xs) o e = at (has_number k x) (runs_for m x) refl refl (λ
         absurd (a (subst (λ (y : MetaKey). same_meta m y ≡ true) (sym same) (same_meta_self m)) (none_is x.mark p.1) refl)
     at false false n r ih e = ih e
 
-pub running_is : (c : Catalogue) (opening : ℕ) (h : History) (m : MetaKey) (k : ℕ) → Possible c (nothing opening) h → render c h k ≡ Some (unmarked k m) → running_for m (standing c (nothing opening) h).out ≡ Some k
-running_is c opening h m k may e = found_runs m k (standing c (nothing opening) h).out (differ_is c opening h may).one_runs (render_is c opening h k may ∙ e)
+pub running_is : (c : Catalogue) (o : Opening) (h : History) (m : MetaKey) (k : ℕ) → Possible c o h → render c (whole o h) k ≡ Some (unmarked k m) → running_for m (standing c (first o) h).out ≡ Some k
+running_is c o h m k may e = found_runs m k (standing c (first o) h).out (differ_is c o h may).one_runs (render_is c o h k may ∙ e)
 
 -- the first render that passes is the first with its number
 number_of : (q : Render → Bool) (rs : List Render) (r : Render) → ApartBy (λ x. x.number) rs → find q rs ≡ Some r → find (has_number r.number) rs ≡ Some r
@@ -251,5 +265,5 @@ runs_found m k rs a e = at (find (runs_for m) rs) refl e
         let there = number_of (runs_for m) rs r a f ∙ ap Some (unmarked_is m r (found (runs_for m) (λ (x : Render). Unit {0}) rs r (each_unit rs) f).0) in
         subst (λ (n : ℕ). find (has_number n) rs ≡ Some (unmarked n m)) number there
 
-pub runs_is : (c : Catalogue) (opening : ℕ) (h : History) (m : MetaKey) (k : ℕ) → Possible c (nothing opening) h → running_for m (standing c (nothing opening) h).out ≡ Some k → render c h k ≡ Some (unmarked k m)
-runs_is c opening h m k may e = sym (render_is c opening h k may) ∙ runs_found m k (standing c (nothing opening) h).out (differ_is c opening h may).out e
+pub runs_is : (c : Catalogue) (o : Opening) (h : History) (m : MetaKey) (k : ℕ) → Possible c o h → running_for m (standing c (first o) h).out ≡ Some k → render c (whole o h) k ≡ Some (unmarked k m)
+runs_is c o h m k may e = sym (render_is c o h k may) ∙ runs_found m k (standing c (first o) h).out (differ_is c o h may).out e

@@ -1,5 +1,5 @@
 -- Each metatile is kept once.
-use Rattle.std.proofs.Common.{ℕ, ◌≡◌, ◌≢◌, Bool, true, false, cond, not, List, [], ◌∷◌, ◌++◌, map, find, Some, refl, sym, ap, subst, ◌∙◌}
+use Rattle.std.proofs.Common.{◌≡◌, ◌≢◌, Bool, true, false, cond, not, List, [], ◌∷◌, ◌++◌, map, find, Some, refl, sym, ap, subst, ◌∙◌}
 use Rattle.std.specs.List.{AllByRecursion}
 use Rattle.catalog.specs.declared.catalogue.Catalogue.{Catalogue}
 use Rattle.metatile_plan.specs.declared.metatile.MetaKey.{MetaKey}
@@ -9,9 +9,9 @@ use Rattle.metatile_locks.proofs.Lists.{all_map, all_passed, all_weaker}
 use Rattle.cabinet.specs.declared.entry.Entry.{Entry}
 use Rattle.cabinet.specs.declared.entry.Entry.TheVariants as entry
 use Rattle.cabinet.specs.declared.kept.Kept.{Kept}
-use Rattle.cabinet.specs.Fresh.{ApartBy}
+use Rattle.cabinet.specs.Fresh.{ApartBy, Opens}
 use Rattle.cabinet.specs.Hits.{hits_of}
-use Rattle.cabinet.specs.History.{History, Standing, after, but, is_of, nothing, standing}
+use Rattle.cabinet.specs.History.{History, Opening, Standing, after, but, first, is_of, standing}
 use Rattle.cabinet.proofs.Lists.{all_of, all_of_map, all_right}
 use Rattle.cabinet.proofs.Numbers.{apart_filter, apart_push}
 
@@ -38,7 +38,7 @@ apart_around f (z ∷ zs) x ys a =
 not_of : (m n : MetaKey) → not (same_meta m n) ≡ true → m ≢ n
 not_of m n off e = absurd (let same = subst (λ (x : MetaKey). same_meta m x ≡ true) e (same_meta_self m) in let f : not (same_meta m n) ≡ not true = ap not same in cc)
 
-but_apart : (m : MetaKey) (kept : List Kept) → AllByRecursion (λ t. t.meta ≢ m) (but m kept)
+pub but_apart : (m : MetaKey) (kept : List Kept) → AllByRecursion (λ t. t.meta ≢ m) (but m kept)
 but_apart m kept = all_passed (λ (t : Kept). Unit {0}) (λ t. t.meta ≢ m) (λ t. not (is_of m t)) (λ t off u. not_of t.meta m off) kept (all_of (λ (t : Kept). Unit {0}) kept (λ t has. tt))
 
 abbrev pub AreOnce : List Kept → Type 0
@@ -58,8 +58,8 @@ once_run : (c : Catalogue) (s : Standing) (h : History) → AreOnce s.kept → A
 once_run c s [] a = a
 once_run c s (e ∷ es) a = once_run c (after c s e) es (once_after c s e a)
 
-pub once : (c : Catalogue) (opening : ℕ) (h : History) → AreOnce (standing c (nothing opening) h).kept
-once c opening h = once_run c (nothing opening) h tt
+pub once : (c : Catalogue) (o : Opening) (h : History) → Opens c o → AreOnce (standing c (first o) h).kept
+once c o h opens = once_run c (first o) h opens.once
 
 -- THE OTHERS OF ONE
 

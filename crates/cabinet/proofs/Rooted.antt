@@ -1,5 +1,5 @@
 -- What is kept or runs was begun in the history, and is a metatile of the catalogue.
-use Rattle.std.proofs.Common.{ℕ, ◌≡◌, Bool, not, [], ◌∷◌, ◌++◌, Some, inl, inr, refl, sym, subst, append_assoc, append-nil}
+use Rattle.std.proofs.Common.{ℕ, ◌≡◌, Bool, not, List, [], ◌∷◌, ◌++◌, map, Some, inl, inr, refl, sym, subst, append_assoc, append-nil}
 use Rattle.std.specs.List.{AllByRecursion}
 use Rattle.catalog.specs.declared.catalogue.Catalogue.{Catalogue}
 use Rattle.metatile_plan.specs.declared.metatile.MetaKey.{MetaKey}
@@ -12,8 +12,8 @@ use Rattle.cabinet.specs.declared.entry.Entry.{Entry}
 use Rattle.cabinet.specs.declared.entry.Entry.TheVariants as entry
 use Rattle.cabinet.specs.declared.kept.Kept.{Kept}
 use Rattle.cabinet.specs.Hits.{hits_of}
-use Rattle.cabinet.specs.History.{History, Standing, nothing, is_of, but, after, standing, kept_of}
-use Rattle.cabinet.specs.Fresh.{May, Possible, Begins}
+use Rattle.cabinet.specs.History.{History, Opening, Standing, first, first_entries, is_of, but, after, standing, kept_of, whole}
+use Rattle.cabinet.specs.Fresh.{Begins, Follows, May, Possible}
 use Rattle.cabinet.proofs.Holding.{kept_has}
 use Rattle.cabinet.proofs.Lists.{all_push, all_found}
 
@@ -60,7 +60,7 @@ longer h e s r = record {
   out = all_weaker (λ (t : Render). Begins t.number t.meta h) (λ t. Begins t.number t.meta (h ++ e ∷ [])) (λ t x. begins_left t.number t.meta h (e ∷ []) x) s.out r.out;
 }
 
-begun_run : (c : Catalogue) (past : History) (s : Standing) (h : History) → Rooted (λ k m. Begins k m past) s → Possible c s h → Rooted (λ k m. Begins k m (past ++ h)) (standing c s h)
+begun_run : (c : Catalogue) (past : History) (s : Standing) (h : History) → Rooted (λ k m. Begins k m past) s → Follows c s h → Rooted (λ k m. Begins k m (past ++ h)) (standing c s h)
 begun_run c past s [] r may = subst (λ (h : History). Rooted (λ k m. Begins k m h) s) (sym (append-nil past)) r
 begun_run c past s (e ∷ es) r may =
     let started : (k : ℕ) (m : MetaKey) → e ≡ entry.Started k m → Begins k m (past ++ e ∷ []) = λ k m is. subst (λ (x : Entry). Begins k m (past ++ x ∷ [])) (sym is) (begins_right k m past (entry.Started k m ∷ []) (inl (refl, refl))) in
@@ -68,20 +68,35 @@ begun_run c past s (e ∷ es) r may =
     (begun_run c (past ++ e ∷ []) (after c s e) es (rooted_after (λ k m. Begins k m (past ++ e ∷ [])) c s e started (longer past e s r) may.0) may.1)
 
 -- what is kept of a metatile was begun
-pub kept_begins : (c : Catalogue) (opening : ℕ) (h : History) (m : MetaKey) (t : Kept) → Possible c (nothing opening) h → kept_of m (standing c (nothing opening) h) ≡ Some t → Begins t.number m h
-kept_begins c opening h m t may e =
-    let r = begun_run c [] (nothing opening) h (record { kept = tt; out = tt }) may in
-    let k = kept_has (λ (x : Kept). Begins x.number x.meta h) m (standing c (nothing opening) h) t r.kept e in
-    subst (λ (n : MetaKey). Begins t.number n h) k.1 k.0
+-- what an opening keeps stands in its first entries
+stored_begin : (ts : List Kept) → AllByRecursion (λ t. Begins t.number t.meta (map (λ t. entry.Stored t.number t.meta t.place t.length) ts)) ts
+stored_begin [] = tt
+stored_begin (t ∷ ts) = (
+  inl (refl, refl),
+  all_weaker (λ (x : Kept). Begins x.number x.meta (map (λ t. entry.Stored t.number t.meta t.place t.length) ts)) (λ x. Begins x.number x.meta (map (λ t. entry.Stored t.number t.meta t.place t.length) (t ∷ ts))) (λ x b. inr b) ts (stored_begin ts),
+)
+
+first_begin : (o : Opening) → Rooted (λ k m. Begins k m (first_entries o)) (first o)
+first_begin o = record {
+  kept = all_weaker (λ (x : Kept). Begins x.number x.meta (map (λ t. entry.Stored t.number t.meta t.place t.length) o.kept)) (λ x. Begins x.number x.meta (first_entries o))
+      (λ x b. begins_right x.number x.meta (map (λ k. entry.Cut k.number k.cover) o.book.cuts) (map (λ t. entry.Stored t.number t.meta t.place t.length) o.kept) b) o.kept (stored_begin o.kept);
+  out = tt;
+}
+
+pub kept_begins : (c : Catalogue) (o : Opening) (h : History) (m : MetaKey) (t : Kept) → Possible c o h → kept_of m (standing c (first o) h) ≡ Some t → Begins t.number m (whole o h)
+kept_begins c o h m t may e =
+    let r = begun_run c (first_entries o) (first o) h (first_begin o) may.follows in
+    let k = kept_has (λ (x : Kept). Begins x.number x.meta (whole o h)) m (standing c (first o) h) t r.kept e in
+    subst (λ (n : MetaKey). Begins t.number n (whole o h)) k.1 k.0
 
 -- METATILES
 
 pub is_meta : (c : Catalogue) (s : Standing) (e : Entry) → May c s e → (k : ℕ) (m : MetaKey) → e ≡ entry.Started k m → IsMeta c m
 is_meta c s e may k m is = (subst (λ (x : Entry). May c s x) is may).2
 
-metas_run : (c : Catalogue) (s : Standing) (h : History) → Rooted (λ k m. IsMeta c m) s → Possible c s h → Rooted (λ k m. IsMeta c m) (standing c s h)
+metas_run : (c : Catalogue) (s : Standing) (h : History) → Rooted (λ k m. IsMeta c m) s → Follows c s h → Rooted (λ k m. IsMeta c m) (standing c s h)
 metas_run c s [] r may = r
 metas_run c s (e ∷ es) r may = metas_run c (after c s e) es (rooted_after (λ k m. IsMeta c m) c s e (is_meta c s e may.0) r may.0) may.1
 
-pub metas_of : (c : Catalogue) (opening : ℕ) (h : History) → Possible c (nothing opening) h → Rooted (λ k m. IsMeta c m) (standing c (nothing opening) h)
-metas_of c opening h may = metas_run c (nothing opening) h (record { kept = tt; out = tt }) may
+pub metas_of : (c : Catalogue) (o : Opening) (h : History) → Possible c o h → Rooted (λ k m. IsMeta c m) (standing c (first o) h)
+metas_of c o h may = metas_run c (first o) h (record { kept = may.opens.metas; out = tt }) may.follows

@@ -1,5 +1,5 @@
 -- Each row of a command leaves a cabinet of which all that is said of cabinets holds, and what it hands out is fresh.
-use Rattle.std.proofs.Common.{ℕ, ◌≡◌, ◌+◌, ◌-◌, ◌*◌, ◌^◌, ◌<◌, ◌≤◌, Bool, true, false, cond, not, List, [], ◌∷◌, ◌++◌, length, map, filter, Option, Some, None, refl, sym, ap, subst, ◌∙◌, inl, inr, arith}
+use Rattle.std.proofs.Common.{ℕ, ◌≡◌, ◌+◌, ◌<◌, ◌≤◌, Bool, true, false, cond, not, List, [], ◌∷◌, ◌++◌, length, map, filter, Option, Some, None, refl, sym, ap, subst, ◌∙◌, inl, inr, arith, append_assoc}
 use Rattle.std.specs.Prelude.{IsSome, nat_lt}
 use Rattle.std.specs.List.{AllByRecursion}
 use Rattle.std.specs.Option.{option_map}
@@ -38,9 +38,9 @@ use Rattle.cabinet.specs.declared.replies.CutReply.{CutReply}
 use Rattle.cabinet.specs.declared.replies.CutReply.TheVariants as reply
 use Rattle.cabinet.specs.Hits.{hits_of}
 use Rattle.served_covers.specs.OfCatalogue.{IsCoverOf}
-use Rattle.cabinet.specs.History.{History, Standing, nothing, standing, after, kept_of, next, is_of, but, render, spared}
-use Rattle.cabinet.specs.Fresh.{May, Possible, IsFresh, cuts_of}
-use Rattle.cabinet.specs.State.{State, now, fronted, with_entry, IsKnown, IsKnownAs}
+use Rattle.cabinet.specs.History.{History, Opening, Standing, after, but, first, first_entries, is_of, kept_of, last_number, next, render, spared, standing, whole}
+use Rattle.cabinet.specs.Fresh.{Follows, IsFresh, May, cuts_of}
+use Rattle.cabinet.specs.State.{IsKnown, IsKnownAs, State, fronted, grown, now, with_entry}
 use Rattle.cabinet.specs.Commands.{Asks, Forces, Finishes, Abandons, Cuts, Expires, IsBusy, IsGiven, IsFreshReply, IsFreshForced, kept_at}
 use Rattle.cabinet.proofs.Fronts.{fronted_after}
 use Rattle.cabinet.proofs.Holding.{holds_of}
@@ -49,12 +49,16 @@ use Rattle.cabinet.specs.Counted.{use_of, uses_of, victim_in}
 use Rattle.cabinet.proofs.Lists.{all_push, find_map, map_filter}
 use Rattle.cabinet.proofs.Numbers.{runs_is}
 
-pub possible_more : (c : Catalogue) (s : Standing) (h : History) (e : Entry) → Possible c s h → May c (standing c s h) e → Possible c s (h ++ e ∷ [])
-possible_more c s [] e a b = (b, tt)
-possible_more c s (x ∷ xs) e a b = (a.0, possible_more c (after c s x) xs e a.1 b)
+follows_more : (c : Catalogue) (s : Standing) (h : History) (e : Entry) → Follows c s h → May c (standing c s h) e → Follows c s (h ++ e ∷ [])
+follows_more c s [] e a b = (b, tt)
+follows_more c s (x ∷ xs) e a b = (a.0, follows_more c (after c s x) xs e a.1 b)
 
 pub stood_more : (c : Catalogue) (s : Standing) (h : History) (e : Entry) → standing c s (h ++ e ∷ []) ≡ after c (standing c s h) e
 stood_more c s h e = rw fold-append refl
+
+-- what stands in a cabinet after one more entry
+pub now_more : (s : State) (e : Entry) (blobs : List KeptBlob) → now (grown s e blobs) ≡ after s.catalogue (now s) e
+now_more s e blobs = stood_more s.catalogue (first s.opening) s.since e
 
 -- NUMBERS
 
@@ -66,36 +70,42 @@ next_at : (front top k : ℕ) (v : Bool) → nat_lt front top ≡ v → cond v (
 next_at front top k true is e = let d : front + 1 ≡ k = cc in let l : front < top = grind (arith, nat_tests) in record { number = sym d; left = omega arith }
 next_at front top k false is e = absurd (cc)
 
-pub next_is : (e : ℕ) (s : Standing) (k : ℕ) → next e s ≡ Some k → IsNext s.front (e * 2 ^ 40 + (2 ^ 40 - 1)) k
-next_is e s k h = next_at s.front (e * 2 ^ 40 + (2 ^ 40 - 1)) k (nat_lt s.front (e * 2 ^ 40 + (2 ^ 40 - 1))) refl h
+pub next_is : (o : Opening) (s : Standing) (k : ℕ) → next o s ≡ Some k → IsNext s.front (last_number o) k
+next_is o s k h = next_at s.front (last_number o) k (nat_lt s.front (last_number o)) refl h
 
 -- KNOWN
 
 the_same : (s t : State) → IsKnown s → t ≡ s → IsKnownAs s t
 the_same s t k is = rw is (record { known = k; same_catalogue = refl; same_opening = refl; answers = fronted_itself (fronted (now s)) })
 
-answers_more : (s : State) (e : Entry) → IsKnown s → May s.catalogue (now s) e → AnswersForFronted (fronted (standing s.catalogue (nothing s.opening) (s.history ++ e ∷ []))) (fronted (now s))
-answers_more s e k may =
-    subst (λ (x : Standing). AnswersForFronted (fronted x) (fronted (now s))) (sym (stood_more s.catalogue (nothing s.opening) s.history e))
-    (fronted_after s.catalogue (cuts_of s.history) (now s) e (holds_of s.catalogue s.opening s.history k.possible) may)
+answers_more : (s : State) (e : Entry) (blobs : List KeptBlob) → IsKnown s → May s.catalogue (now s) e → AnswersForFronted (fronted (now (grown s e blobs))) (fronted (now s))
+answers_more s e blobs k may =
+    subst (λ (x : Standing). AnswersForFronted (fronted x) (fronted (now s))) (sym (now_more s e blobs))
+    (fronted_after s.catalogue (cuts_of (whole s.opening s.since)) (now s) e (holds_of s.catalogue s.opening s.since k.possible) may)
 
 -- one entry more, and what is kept then
-pub one_more : (s : State) (e : Entry) (blobs : List KeptBlob) → IsKnown s → May s.catalogue (now s) e → map (λ b. b.kept) blobs ≡ (after s.catalogue (now s) e).kept
-    → AllByRecursion (λ b. (length b.text ≡ b.kept.length) × (b.kept.length ≡ blob_size s.catalogue b.kept.meta)) blobs → (after s.catalogue (now s) e).front ≤ s.opening * 2 ^ 40 + (2 ^ 40 - 1)
-    → IsKnown (record { catalogue = s.catalogue; opening = s.opening; history = s.history ++ e ∷ []; blobs = blobs })
-one_more s e blobs k may kept long left =
-    let stood = stood_more s.catalogue (nothing s.opening) s.history e in
+pub one_more_known : (s : State) (e : Entry) (blobs : List KeptBlob) → IsKnown s → May s.catalogue (now s) e → map (λ b. b.kept) blobs ≡ (after s.catalogue (now s) e).kept
+    → AllByRecursion (λ b. (length b.text ≡ b.kept.length) × (b.kept.length ≡ blob_size s.catalogue b.kept.meta)) blobs → (after s.catalogue (now s) e).front ≤ last_number s.opening → IsKnown (grown s e blobs)
+one_more_known s e blobs k may kept long left =
+    let stood = now_more s e blobs in
     record {
       valid = k.valid;
-      possible = possible_more s.catalogue (nothing s.opening) s.history e k.possible may;
+      number = k.number;
+      whole = ap (λ (h : History). h ++ e ∷ []) k.whole ∙ append_assoc (first_entries s.opening) s.since (e ∷ []);
+      possible = record { opens = k.possible.opens; follows = follows_more s.catalogue (first s.opening) s.since e k.possible.follows may };
       blobs = kept ∙ ap (λ (x : Standing). x.kept) (sym stood);
       lengths = long;
-      left = subst (λ (x : Standing). x.front ≤ s.opening * 2 ^ 40 + (2 ^ 40 - 1)) (sym stood) left;
+      left = subst (λ (x : Standing). x.front ≤ last_number s.opening) (sym stood) left;
     }
 
+known_more : (s t : State) (e : Entry) (blobs : List KeptBlob) → IsKnown s → May s.catalogue (now s) e → map (λ b. b.kept) blobs ≡ (after s.catalogue (now s) e).kept
+    → AllByRecursion (λ b. (length b.text ≡ b.kept.length) × (b.kept.length ≡ blob_size s.catalogue b.kept.meta)) blobs → (after s.catalogue (now s) e).front ≤ last_number s.opening → t ≡ grown s e blobs → IsKnownAs s t
+known_more s t e blobs k may kept long left is =
+    rw is (record { known = one_more_known s e blobs k may kept long left; same_catalogue = refl; same_opening = refl; answers = answers_more s e blobs k may })
+
 -- an entry that keeps and drops nothing
-entered : (s t : State) (e : Entry) → IsKnown s → May s.catalogue (now s) e → (after s.catalogue (now s) e).kept ≡ (now s).kept → (after s.catalogue (now s) e).front ≤ s.opening * 2 ^ 40 + (2 ^ 40 - 1) → t ≡ with_entry s e → IsKnownAs s t
-entered s t e k may kept left is = rw is (record { known = one_more s e s.blobs k may (k.blobs ∙ sym kept) k.lengths left; same_catalogue = refl; same_opening = refl; answers = answers_more s e k may })
+entered : (s t : State) (e : Entry) → IsKnown s → May s.catalogue (now s) e → (after s.catalogue (now s) e).kept ≡ (now s).kept → (after s.catalogue (now s) e).front ≤ last_number s.opening → t ≡ with_entry s e → IsKnownAs s t
+entered s t e k may kept left is = known_more s t e s.blobs k may (k.blobs ∙ sym kept) k.lengths left is
 
 ended : (s t : State) (n : ℕ) → IsKnown s → t ≡ with_entry s (entry.Ended n) → IsKnownAs s t
 ended s t n k is = entered s t (entry.Ended n) k tt refl k.left is
@@ -125,17 +135,11 @@ map_stored t text blobs kept e =
 
 stored : (s t : State) (ticket : Ticketed) (blob : List ℕ) → IsKnown s → length blob ≡ blob_size s.catalogue ticket.meta → Finishes s ticket blob finished.Kept t → IsKnownAs s t
 stored s t ticket blob k long r =
-    let place = r.2.0 in
     let new = kept_at ticket r.2.0 (length blob) in
-    rw r.2.2 (record {
-      known = one_more s (entry.Stored ticket.number ticket.meta r.2.0 (length blob)) (filter (λ b. not (is_of ticket.meta b.kept)) s.blobs ++ record { kept = new; text = blob } ∷ []) k
-          (r.0, long, r.2.1) (map_stored new blob s.blobs (now s).kept k.blobs)
-          (all_push (λ (b : KeptBlob). (length b.text ≡ b.kept.length) × (b.kept.length ≡ blob_size s.catalogue b.kept.meta)) (filter (λ b. not (is_of ticket.meta b.kept)) s.blobs) (record { kept = new; text = blob })
-          (all_filter (λ (b : KeptBlob). (length b.text ≡ b.kept.length) × (b.kept.length ≡ blob_size s.catalogue b.kept.meta)) (λ b. not (is_of ticket.meta b.kept)) s.blobs k.lengths) (refl, long)) k.left;
-      same_catalogue = refl;
-      same_opening = refl;
-      answers = answers_more s (entry.Stored ticket.number ticket.meta r.2.0 (length blob)) k (r.0, long, r.2.1);
-    })
+    known_more s t (entry.Stored ticket.number ticket.meta r.2.0 (length blob)) (filter (λ b. not (is_of ticket.meta b.kept)) s.blobs ++ record { kept = kept_at ticket r.2.0 (length blob); text = blob } ∷ []) k
+    (r.0, long, r.2.1) (map_stored new blob s.blobs (now s).kept k.blobs)
+    (all_push (λ (b : KeptBlob). (length b.text ≡ b.kept.length) × (b.kept.length ≡ blob_size s.catalogue b.kept.meta)) (filter (λ b. not (is_of ticket.meta b.kept)) s.blobs) (record { kept = new; text = blob })
+    (all_filter (λ (b : KeptBlob). (length b.text ≡ b.kept.length) × (b.kept.length ≡ blob_size s.catalogue b.kept.meta)) (λ b. not (is_of ticket.meta b.kept)) s.blobs k.lengths) (refl, long)) k.left r.2.2
 
 pub finishes_known : (s t : State) (ticket : Ticketed) (blob : List ℕ) (r : Finished) → IsKnown s → length blob ≡ blob_size s.catalogue ticket.meta → Finishes s ticket blob r t → IsKnownAs s t
 finishes_known s t ticket blob finished.Stranger k long r = the_same s t k r.1
@@ -155,13 +159,8 @@ done : (s t : State) (cover : Cover) (n : ℕ) → IsKnown s → IsCoverOf s.cat
 done s t cover n k of r =
     let x = next_is s.opening (now s) n r.0 in
     let l = x.left in let f = k.left in
-    rw r.2 (record {
-      known = one_more s (entry.Cut n cover) (filter (λ b. not (hits_of s.catalogue cover b.kept.meta)) s.blobs) k (x.number, of) (map_spared s.catalogue cover s.blobs (now s).kept k.blobs)
-          (all_filter (λ (b : KeptBlob). (length b.text ≡ b.kept.length) × (b.kept.length ≡ blob_size s.catalogue b.kept.meta)) (λ b. not (hits_of s.catalogue cover b.kept.meta)) s.blobs k.lengths) (omega arith);
-      same_catalogue = refl;
-      same_opening = refl;
-      answers = answers_more s (entry.Cut n cover) k (x.number, of);
-    })
+    known_more s t (entry.Cut n cover) (filter (λ b. not (hits_of s.catalogue cover b.kept.meta)) s.blobs) k (x.number, of) (map_spared s.catalogue cover s.blobs (now s).kept k.blobs)
+    (all_filter (λ (b : KeptBlob). (length b.text ≡ b.kept.length) × (b.kept.length ≡ blob_size s.catalogue b.kept.meta)) (λ b. not (hits_of s.catalogue cover b.kept.meta)) s.blobs k.lengths) (omega arith) r.2
 
 pub cuts_known : (s t : State) (cover : Cover) (r : CutReply) → IsKnown s → IsCoverOf s.catalogue cover → Cuts s cover r t → IsKnownAs s t
 cuts_known s t cover reply.Spent k of r = the_same s t k r.1
@@ -173,7 +172,7 @@ map_others : (m : MetaKey) (blobs : List KeptBlob) (kept : List Kept) → map (�
 map_others m blobs kept e = map_filter (λ (b : KeptBlob). b.kept) (λ t. not (is_of m t)) blobs ∙ ap (but m) e
 
 -- a victim is kept
-goes_kept : (s : State) (scope : Scope) (m : MetaKey) → victim_in s scope ≡ Some m → IsSome (kept_of m (now s))
+pub goes_kept : (s : State) (scope : Scope) (m : MetaKey) → victim_in s scope ≡ Some m → IsSome (kept_of m (now s))
 goes_kept s scope m goes =
     let held = victim_held s.catalogue.policy scope (uses_of s) m goes in
     some_before (λ (t : Kept). use_of s.history t.meta) (kept_of m (now s)) (subst IsSome (find_map (λ (t : Kept). use_of s.history t.meta) (victims.is_of m) (now s).kept) held)
@@ -184,13 +183,8 @@ goes_kept s scope m goes =
 
 gone : (s t : State) (m : MetaKey) → IsKnown s → Expires s (expired.Dropped m) t → IsKnownAs s t
 gone s t m k r =
-    rw r.3 (record {
-      known = one_more s (entry.Dropped m) (filter (λ b. not (is_of m b.kept)) s.blobs) k (goes_kept s r.0 m r.2) (map_others m s.blobs (now s).kept k.blobs)
-          (all_filter (λ (b : KeptBlob). (length b.text ≡ b.kept.length) × (b.kept.length ≡ blob_size s.catalogue b.kept.meta)) (λ b. not (is_of m b.kept)) s.blobs k.lengths) k.left;
-      same_catalogue = refl;
-      same_opening = refl;
-      answers = answers_more s (entry.Dropped m) k (goes_kept s r.0 m r.2);
-    })
+    known_more s t (entry.Dropped m) (filter (λ b. not (is_of m b.kept)) s.blobs) k (goes_kept s r.0 m r.2) (map_others m s.blobs (now s).kept k.blobs)
+    (all_filter (λ (b : KeptBlob). (length b.text ≡ b.kept.length) × (b.kept.length ≡ blob_size s.catalogue b.kept.meta)) (λ b. not (is_of m b.kept)) s.blobs k.lengths) k.left r.3
 
 pub expires_known : (s t : State) (r : Expired) → IsKnown s → Expires s r t → IsKnownAs s t
 expires_known s t expired.Within k r = the_same s t k r.1
@@ -199,19 +193,20 @@ expires_known s t (expired.Dropped m) k r = gone s t m k r
 -- BUSY
 
 pub busy_runs : (s t : State) (m : MetaKey) (n : ℕ) → IsKnown s → IsBusy s m n t → render s.catalogue s.history n ≡ Some (unmarked n m)
-busy_runs s t m n k r = runs_is s.catalogue s.opening s.history m n k.possible r.0
+busy_runs s t m n k r = ap (λ (h : History). render s.catalogue h n) k.whole ∙ runs_is s.catalogue s.opening s.since m n k.possible r.0
 
 -- FRESH
 
 given_fresh : (s : State) (a : Address) (ticket : Ticketed) (t : State) → IsKnown s → IsTile s.catalogue a → IsGiven s (block_of s.catalogue a) ticket t → IsFresh s.catalogue t.history (length s.history) a ticket.number
 given_fresh s a ticket t k tile g =
     subst (λ (x : State). IsFresh s.catalogue x.history (length s.history) a ticket.number) (sym g.state)
-    (begun_fresh s.catalogue s.opening s.history a ticket.number k.valid tile k.possible (next_is s.opening (now s) ticket.number g.number).number)
+    (subst (λ (h : History). IsFresh s.catalogue (h ++ entry.Started ticket.number (block_of s.catalogue a) ∷ []) (length h) a ticket.number) (sym k.whole)
+    (begun_fresh s.catalogue s.opening s.since a ticket.number k.valid tile k.possible (next_is s.opening (now s) ticket.number g.number).number))
 
 pub asks_fresh : (s t : State) (a : Address) (r : Asked) → IsKnown s → IsTile s.catalogue a → Asks s a r t → IsFreshReply s a r t
 asks_fresh s t a (asked.Hit n bytes) k tile r =
     let h = s.history ++ entry.Used (block_of s.catalogue a) ∷ [] in
-    let f = still_fresh s.catalogue s.history (entry.Used (block_of s.catalogue a) ∷ []) (length s.history) a r.kept.number (omega arith) (kept_fresh s.catalogue s.opening s.history (length s.history) a r.kept k.valid tile k.possible r.is_kept) in
+    let f = still_fresh s.catalogue s.history (entry.Used (block_of s.catalogue a) ∷ []) (length s.history) a r.kept.number (omega arith) (subst (λ (h : History). IsFresh s.catalogue h (length s.history) a r.kept.number) (sym k.whole) (kept_fresh s.catalogue s.opening s.since (length s.history) a r.kept k.valid tile k.possible r.is_kept)) in
     subst (λ (m : ℕ). IsFresh s.catalogue t.history (length s.history) a m) (sym r.number) (subst (λ (x : State). IsFresh s.catalogue x.history (length s.history) a r.kept.number) (sym r.state) f)
 asks_fresh s t a (asked.Busy n) k tile r = tt
 asks_fresh s t a asked.Spent k tile r = tt

@@ -1,6 +1,8 @@
 -- The lists that stand after a history agree with the sentence on each metatile.
-use Rattle.std.proofs.Common.{ℕ, ◌≡◌, Bool, true, false, cond, not, List, [], ◌∷◌, fold, find, Option, Some, None, refl, sym, ap, subst, ◌∙◌}
+use Rattle.std.proofs.Common.{◌≡◌, Bool, true, false, cond, not, List, [], ◌∷◌, ◌++◌, ◌≢◌, map, fold, find, Option, Some, None, refl, sym, ap, subst, ◌∙◌}
+use Rattle.std.specs.List.{AllByRecursion}
 use Rattle.std.specs.Option.{option_or}
+use Rattle.std.proofs.lemmas.Grind.{fold-append}
 use Rattle.std.proofs.lemmas.List.Folds.{find-append}
 use Rattle.catalog.specs.declared.catalogue.Catalogue.{Catalogue}
 use Rattle.metatile_plan.specs.declared.metatile.MetaKey.{MetaKey}
@@ -10,8 +12,11 @@ use Rattle.metatile_locks.proofs.Lists.{find_filter}
 use Rattle.cabinet.specs.declared.entry.Entry.{Entry}
 use Rattle.cabinet.specs.declared.entry.Entry.TheVariants as entry
 use Rattle.cabinet.specs.declared.kept.Kept.{Kept}
+use Rattle.cabinet.specs.Fresh.{ApartBy, Opens}
 use Rattle.cabinet.specs.Hits.{hits_of}
-use Rattle.cabinet.specs.History.{History, Standing, nothing, is_of, but, after, standing, kept_of, kept_after, kept}
+use Rattle.truncation_list.specs.declared.book.Cut.{Cut}
+use Rattle.cabinet.specs.History.{History, Opening, Standing, after, but, first, first_entries, is_of, kept, kept_after, kept_of, standing, whole}
+use Rattle.cabinet.proofs.Lists.{either_same}
 
 truths : (b c : Bool) → (b ≡ true → c ≡ true) → (c ≡ true → b ≡ true) → b ≡ c
 truths true c f g = sym (f refl)
@@ -53,5 +58,39 @@ kept_run : (c : Catalogue) (m : MetaKey) (s : Standing) (h : History) → kept_o
 kept_run c m s [] = refl
 kept_run c m s (e ∷ es) = kept_run c m (after c s e) es ∙ ap (λ (o : Option Kept). fold (kept_after c m) o es) (kept_step c m s e)
 
-pub kept_is : (c : Catalogue) (opening : ℕ) (h : History) (m : MetaKey) → kept_of m (standing c (nothing opening) h) ≡ kept c h m
-kept_is c opening h m = kept_run c m (nothing opening) h
+-- WHAT IT BEGINS WITH
+
+-- the cuts of an opening leave nothing kept
+first_cuts : (c : Catalogue) (m : MetaKey) (ks : List Cut) (more : History) → fold (kept_after c m) None (map (λ k. entry.Cut k.number k.cover) ks ++ more) ≡ fold (kept_after c m) None more
+first_cuts c m [] more = refl
+first_cuts c m (k ∷ ks) more = ap (λ (o : Option Kept). fold (kept_after c m) o (map (λ k. entry.Cut k.number k.cover) ks ++ more)) (either_same None (hits_of c k.cover m)) ∙ first_cuts c m ks more
+
+none_of : (m : MetaKey) (t : Kept) (ts : List Kept) → same_meta t.meta m ≡ true → AllByRecursion (λ u. t.meta ≢ u.meta) ts → find (is_of m) ts ≡ None
+none_of m t [] is a = refl
+none_of m t (u ∷ us) is a = off (same_meta u.meta m) refl (none_of m t us is a.1)
+  where
+    off : (v : Bool) → same_meta u.meta m ≡ v → find (is_of m) us ≡ None → cond v (Some u) (find (is_of m) us) ≡ None
+    off true e rest = absurd (a.0 (same_meta_is t.meta m is ∙ sym (same_meta_is u.meta m e)))
+    off false e rest = rest
+
+-- what it keeps of a metatile is the last that is stored, since it is stored once
+first_kept : (c : Catalogue) (m : MetaKey) (was : Option Kept) (ts : List Kept) → ApartBy (λ t. t.meta) ts → fold (kept_after c m) was (map (λ t. entry.Stored t.number t.meta t.place t.length) ts) ≡ option_or (find (is_of m) ts) was
+first_kept c m was [] a = refl
+first_kept c m was (t ∷ ts) a = chosen (same_meta t.meta m) refl (λ x. first_kept c m x ts a.1)
+  where
+    chosen : (v : Bool) → same_meta t.meta m ≡ v
+        → ((x : Option Kept) → fold (kept_after c m) x (map (λ t. entry.Stored t.number t.meta t.place t.length) ts) ≡ option_or (find (is_of m) ts) x) → fold (kept_after c m) (cond v (Some t) was) (map (λ t. entry.Stored t.number t.meta t.place t.length) ts) ≡ option_or (cond v (Some t) (find (is_of m) ts)) was
+    chosen true e rest = rest (Some t) ∙ ap (λ (o : Option Kept). option_or o (Some t)) (none_of m t ts e a.0)
+    chosen false e rest = rest was
+
+or_none : (o : Option Kept) → option_or o None ≡ o
+or_none None = refl
+or_none (Some t) = refl
+
+first_is : (c : Catalogue) (o : Opening) (m : MetaKey) → Opens c o → kept c (first_entries o) m ≡ kept_of m (first o)
+first_is c o m opens = first_cuts c m o.book.cuts (map (λ t. entry.Stored t.number t.meta t.place t.length) o.kept) ∙ first_kept c m None o.kept opens.once ∙ or_none (find (is_of m) o.kept)
+
+pub kept_is : (c : Catalogue) (o : Opening) (h : History) (m : MetaKey) → Opens c o → kept_of m (standing c (first o) h) ≡ kept c (whole o h) m
+kept_is c o h m opens =
+    let end : kept c (whole o h) m ≡ fold (kept_after c m) (kept c (first_entries o) m) h = rw fold-append refl in
+    kept_run c m (first o) h ∙ sym (end ∙ ap (λ (was : Option Kept). fold (kept_after c m) was h) (first_is c o m opens))

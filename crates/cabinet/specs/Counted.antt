@@ -1,12 +1,11 @@
 -- What is counted of a cabinet: the bytes and the uses of what it keeps, and which metatile an expiry drops.
-use Rattle.std.specs.Prelude.{ℕ, ◌≡◌, ◌<◌, ◌≤◌, ◌==◌, if◌then◌else◌, List, length, map, fold, count_by, Option}
-use Rattle.std.specs.Option.{option_map_or}
+use Rattle.std.specs.Prelude.{ℕ, ◌==◌, if◌then◌else◌, List, map, fold, count_by, Option}
 use Rattle.catalog.specs.declared.catalogue.Scope.{Scope}
 use Rattle.expiry_policy.specs.declared.uses.Use.{Use}
-use Rattle.expiry_policy.specs.Victims.{Counts, entered, one_more, victim}
+use Rattle.expiry_policy.specs.Victims.{one_more, victim}
 use Rattle.metatile_plan.specs.declared.metatile.MetaKey.{MetaKey}
 use Rattle.metatile_plan.specs.Keys.{same_meta}
-use Rattle.quota_ledger.specs.Accounts.{Accounts, Part, accounts, exceeded, removed, used_at}
+use Rattle.quota_ledger.specs.Accounts.{Part, accounts, exceeded}
 use Rattle.quota_ledger.specs.Accounts as ledger
 use Rattle.cabinet.specs.declared.entry.Entry.{Entry}
 use Rattle.cabinet.specs.declared.entry.Entry.TheVariants.{Started, Cut, Missed, Stored, Ended, Used, Dropped}
@@ -97,32 +96,3 @@ uses_of s = map (λ t. use_of s.history t.meta) (now s).kept
 -- the metatile of a scope that an expiry drops
 abbrev pub victim_in : State → Scope → Option MetaKey
 victim_in s scope = victim s.catalogue.policy scope (uses_of s)
-
--- WHAT IS COUNTED OF EACH CABINET
-
--- the bytes of a kept metatile are among those that the accounts count
-abbrev pub IsCountedIn : Accounts → Kept → Type 0
-IsCountedIn a t = (t.meta.theme.layer < length a.layers) × (t.length ≤ used_at a t.meta.theme.layer)
-
--- the accounts without the bytes of what was kept, where anything was
-abbrev pub without : Option Kept → Accounts → Accounts
-without older a = option_map_or (λ t. removed t.meta.theme.layer t.length a) older a
-
--- the counts with these uses held, and so much room
-abbrev pub holding : List Use → ℕ → Counts → Counts
-holding held spare u = record { policy = u.policy; layers = u.layers; now = u.now; held = held; spare = spare }
-
--- the counts where a key was entered, and so much room is left
-abbrev pub entering : MetaKey → ℕ → Counts → Counts
-entering m spare u = record { policy = u.policy; layers = u.layers; now = one_more u.now; held = entered m (one_more u.now) u.held; spare = spare }
-
--- the accounts are those of what is kept, and the uses those of its metatiles, with room for each running render to be kept;
--- and no more is kept than may be
-pub record IsCounted (s : State) (running : ℕ) (ledger : Accounts) (counts : Counts) : Type 0 where
-  pub bytes : ledger ≡ accounts s.catalogue (parts_of s)
-  pub policy : counts.policy ≡ s.catalogue.policy
-  pub layers : counts.layers ≡ length s.catalogue.layers
-  pub clock_is : counts.now ≡ clock s.history
-  pub held : counts.held ≡ uses_of s
-  pub room : running ≤ counts.spare
-  pub few : length (now s).kept ≤ s.catalogue.kept_limit

@@ -13,8 +13,8 @@ use Rattle.truncation_list.specs.Purge.{IsInOrder}
 use Rattle.cabinet.specs.declared.entry.Entry.{Entry}
 use Rattle.cabinet.specs.declared.entry.Entry.TheVariants as entry
 use Rattle.cabinet.specs.declared.kept.Kept.{Kept}
-use Rattle.cabinet.specs.Gaps.{gap_for}
-use Rattle.cabinet.specs.History.{History, Standing, after, kept_of}
+use Rattle.cabinet.specs.Gaps.{HaveRegions, gap_for}
+use Rattle.cabinet.specs.History.{History, Opening, Standing, after, first, kept_of}
 use Rattle.cabinet.specs.Hits.{hits_of, covers_in}
 use Rattle.served_covers.specs.OfCatalogue.{IsCoverOf}
 
@@ -31,9 +31,10 @@ May c s (entry.Ended k) = ⊤
 May c s (entry.Used m) = IsSome (kept_of m s)
 May c s (entry.Dropped m) = IsSome (kept_of m s)
 
-abbrev pub Possible : Catalogue → Standing → History → Type 0
-Possible c s [] = ⊤
-Possible c s (e ∷ es) = May c s e × Possible c (after c s e) es
+-- from what stands on, each of the entries does
+abbrev pub Follows : Catalogue → Standing → History → Type 0
+Follows c s [] = ⊤
+Follows c s (e ∷ es) = May c s e × Follows c (after c s e) es
 
 -- THE CUTS of a history, purged ones too
 
@@ -87,6 +88,23 @@ pub record Differ (s : Standing) : Type 0 where
   pub kept : ApartBy (λ t. t.number) s.kept
   pub both : AllByRecursion (λ r. AllByRecursion (λ t. r.number ≢ t.number) s.kept) s.out
   pub one_runs : OneRuns s.out
+
+-- THE POSSIBLE HISTORIES
+
+-- what a cabinet may begin with: its kept list and its book keep to what each history keeps to, each metatile is kept once, under
+-- a number and in a region of its own, and is of the catalogue
+pub record Opens (c : Catalogue) (o : Opening) : Type 0 where
+  pub holds : Holds c o.book.cuts (first o)
+  pub numbers : ApartBy (λ t. t.number) o.kept
+  pub once : ApartBy (λ t. t.meta) o.kept
+  pub metas : AllByRecursion (λ t. IsMeta c t.meta) o.kept
+  pub regions : HaveRegions c.blob_bytes o.kept
+
+-- the history of an opening and these later entries: the first entries are the opening's, and each later one comes where the
+-- commands let it
+pub record Possible (c : Catalogue) (o : Opening) (later : History) : Type 0 where
+  pub opens : Opens c o
+  pub follows : Follows c (first o) later
 
 -- FRESH
 

@@ -28,9 +28,38 @@ pub record Standing : Type 0 where
   pub out : List Render
   pub book : Book
 
--- nothing happened in the opening e, whose numbers are e * 2^40 + 1 and so on
-abbrev pub nothing : ℕ → Standing
-nothing e = record { front = e * 2 ^ 40; kept = []; out = []; book = empty_book }
+-- AN OPENING
+
+-- what a cabinet begins with: the number of the opening, what is kept, and the book with its floor
+pub record Opening : Type 0 where
+  pub number : ℕ
+  pub kept : List Kept
+  pub book : Book
+
+-- an opening with nothing in it; a cabinet in memory is opening 0
+abbrev pub bare_opening : ℕ → Opening
+bare_opening e = record { number = e; kept = []; book = empty_book }
+
+-- the numbers of the opening e are e * 2^40 + c, with c from 1 to 2^40 - 1
+abbrev pub first_front : Opening → ℕ
+first_front o = o.number * 2 ^ 40
+
+abbrev pub last_number : Opening → ℕ
+last_number o = o.number * 2 ^ 40 + (2 ^ 40 - 1)
+
+-- what stands at first
+abbrev pub first : Opening → Standing
+first o = record { front = first_front o; kept = o.kept; out = []; book = o.book }
+
+-- the entries that a history begins with: the cuts of the book by number, then what is kept, in its order
+abbrev pub first_entries : Opening → History
+first_entries o = map (λ k. Cut k.number k.cover) o.book.cuts ++ map (λ t. Stored t.number t.meta t.place t.length) o.kept
+
+-- the history that these later entries make
+abbrev pub whole : Opening → History → History
+whole o later = first_entries o ++ later
+
+-- WHAT ENTRIES DO
 
 abbrev pub lesser : Option ℕ → ℕ → Option ℕ
 lesser None n = Some n
@@ -73,9 +102,9 @@ standing c s h = fold (after c) s h
 abbrev pub kept_of : MetaKey → Standing → Option Kept
 kept_of m s = find (is_of m) s.kept
 
--- the next number of the opening e, while one of its 2^40 - 1 is left
-abbrev pub next : ℕ → Standing → Option ℕ
-next e s = if nat_lt s.front (e * 2 ^ 40 + (2 ^ 40 - 1)) then Some (s.front + 1) else None
+-- the next number of the opening, while one of its 2^40 - 1 is left
+abbrev pub next : Opening → Standing → Option ℕ
+next o s = if nat_lt s.front (last_number o) then Some (s.front + 1) else None
 
 -- ONE METATILE AND ONE NUMBER, a sentence each
 

@@ -1,14 +1,11 @@
 -- What contracts see of a cabinet.
-use Rattle.std.specs.Prelude.{ℕ, ◌≡◌, ◌+◌, ◌*◌, ◌-◌, ◌^◌, ◌≤◌, List, [], ◌∷◌, ◌++◌, length, map, filter, find, not}
+use Rattle.std.specs.Prelude.{ℕ, ◌≡◌, ◌^◌, ◌<◌, ◌≤◌, List, [], ◌∷◌, ◌++◌, length, map, filter, find, not}
 use Rattle.std.specs.List.{AllByRecursion}
 use Rattle.std.specs.Option.{option_map_or}
 use Rattle.catalog.specs.declared.catalogue.Catalogue.{Catalogue}
 use Rattle.catalog.specs.Valid.{IsValid}
-use Rattle.extent_map.specs.Spaces.{Space}
-use Rattle.metatile_locks.specs.declared.render.Render.{Render}
 use Rattle.metatile_plan.specs.declared.metatile.MetaKey.{MetaKey}
 use Rattle.raster_field.specs.Blocks.{block_text, blob_size}
-use Rattle.truncation_list.specs.declared.book.Book.{Book}
 use Rattle.truncation_list.specs.declared.book.FrontedBook.{FrontedBook}
 use Rattle.truncation_list.specs.declared.cover.Cover.{Cover}
 use Rattle.truncation_list.specs.Books.{AnswersForFronted}
@@ -17,20 +14,21 @@ use Rattle.cabinet.specs.declared.entry.Entry.TheVariants as entry
 use Rattle.cabinet.specs.declared.kept.Kept.{Kept}
 use Rattle.cabinet.specs.declared.kept.KeptBlob.{KeptBlob}
 use Rattle.cabinet.specs.Fresh.{Possible}
-use Rattle.cabinet.specs.Gaps.{regions}
-use Rattle.cabinet.specs.History.{History, Standing, nothing, standing, is_of}
+use Rattle.cabinet.specs.History.{History, Opening, Standing, bare_opening, first, is_of, last_number, standing}
+use Rattle.cabinet.specs.History as histories
 use Rattle.cabinet.specs.Hits.{hits_of}
 
--- a cabinet: its catalogue, the number of its opening, what happened in it, and the blobs that it keeps
+-- a cabinet: its catalogue, its opening, its history, of that the entries since the opening, and the blobs that it keeps
 pub record State : Type 0 where
   pub catalogue : Catalogue
-  pub opening : ℕ
+  pub opening : Opening
   pub history : History
+  pub since : History
   pub blobs : List KeptBlob
 
--- what stands now
+-- what stands now: what stood at the opening, and what happened since
 abbrev pub now : State → Standing
-now s = standing s.catalogue (nothing s.opening) s.history
+now s = standing s.catalogue (first s.opening) s.since
 
 -- the book of what stands, with the greatest number that was given
 abbrev pub fronted : Standing → FrontedBook
@@ -38,26 +36,27 @@ fronted s = record { book = s.book; front = s.front }
 
 -- a cabinet in memory in which nothing has happened
 abbrev pub fresh_state : Catalogue → State
-fresh_state c = record { catalogue = c; opening = 0; history = []; blobs = [] }
+fresh_state c = record { catalogue = c; opening = bare_opening 0; history = []; since = []; blobs = [] }
+
+-- the cabinet after one more entry, with these blobs
+abbrev pub grown : State → Entry → List KeptBlob → State
+grown s e blobs = record { catalogue = s.catalogue; opening = s.opening; history = s.history ++ e ∷ []; since = s.since ++ e ∷ []; blobs = blobs }
 
 -- the cabinet after an entry that keeps and drops no blob
 abbrev pub with_entry : State → Entry → State
-with_entry s e = record { catalogue = s.catalogue; opening = s.opening; history = s.history ++ e ∷ []; blobs = s.blobs }
+with_entry s e = grown s e s.blobs
 
 -- the cabinet after a blob is kept
 abbrev pub with_blob : State → Kept → List ℕ → State
-with_blob s t text =
-    record { catalogue = s.catalogue; opening = s.opening; history = s.history ++ entry.Stored t.number t.meta t.place t.length ∷ []; blobs = filter (λ b. not (is_of t.meta b.kept)) s.blobs ++ record { kept = t; text = text } ∷ [] }
+with_blob s t text = grown s (entry.Stored t.number t.meta t.place t.length) (filter (λ b. not (is_of t.meta b.kept)) s.blobs ++ record { kept = t; text = text } ∷ [])
 
 -- the cabinet after a truncation
 abbrev pub with_cut : State → ℕ → Cover → State
-with_cut s t cover =
-    record { catalogue = s.catalogue; opening = s.opening; history = s.history ++ entry.Cut t cover ∷ []; blobs = filter (λ b. not (hits_of s.catalogue cover b.kept.meta)) s.blobs }
+with_cut s t cover = grown s (entry.Cut t cover) (filter (λ b. not (hits_of s.catalogue cover b.kept.meta)) s.blobs)
 
 -- the cabinet after an expiry
 abbrev pub with_dropped : State → MetaKey → State
-with_dropped s m =
-    record { catalogue = s.catalogue; opening = s.opening; history = s.history ++ entry.Dropped m ∷ []; blobs = filter (λ b. not (is_of m b.kept)) s.blobs }
+with_dropped s m = grown s (entry.Dropped m) (filter (λ b. not (is_of m b.kept)) s.blobs)
 
 -- the blob that is kept of a metatile
 abbrev pub kept_text : State → MetaKey → List ℕ
@@ -65,14 +64,16 @@ kept_text s m = option_map_or (λ b. b.text) (find (λ b. is_of m b.kept) s.blob
 
 -- WHAT HOLDS OF EACH CABINET
 
--- its catalogue is valid, its history is one that commands can make, its blobs are those that the history keeps, each of its
--- metatile's length
+-- its catalogue is valid, its history is one that an opening and commands can make, its blobs are those that the history keeps,
+-- each of its metatile's length, and its numbers are those of its opening, which fit 64 bits
 pub record IsKnown (s : State) : Type 0 where
   pub valid : IsValid s.catalogue
-  pub possible : Possible s.catalogue (nothing s.opening) s.history
+  pub number : s.opening.number < 2 ^ 24
+  pub whole : s.history ≡ histories.whole s.opening s.since
+  pub possible : Possible s.catalogue s.opening s.since
   pub blobs : map (λ b. b.kept) s.blobs ≡ (now s).kept
   pub lengths : AllByRecursion (λ b. (length b.text ≡ b.kept.length) × (b.kept.length ≡ blob_size s.catalogue b.kept.meta)) s.blobs
-  pub left : (now s).front ≤ s.opening * 2 ^ 40 + (2 ^ 40 - 1)
+  pub left : (now s).front ≤ last_number s.opening
 
 -- the cabinet is known, it has the catalogue and the opening of the one before, and its book answers for the book before it,
 -- the front included
@@ -85,15 +86,3 @@ pub record IsKnownAs (s new : State) : Type 0 where
 -- SOUND: each blob that is kept is that of its metatile in the picture of its number
 abbrev pub IsSound : State → Type 0
 IsSound s = AllByRecursion (λ b. b.text ≡ block_text s.catalogue b.kept.number b.kept.meta) s.blobs
-
--- THE PARTS OF A CABINET
-
--- the cabinet is known, its parts are what its history says, and the kept list and the extents have the room for each
--- running render to be kept
-pub record IsConsistent (s : State) (last room : ℕ) (renders : List Render) (book : Book) (space : Space) : Type 0 where
-  pub known : IsKnown s
-  pub stands : now s ≡ record { front = last; kept = map (λ b. b.kept) s.blobs; out = renders; book = book }
-  pub parts : space.parts ≡ regions (map (λ b. b.kept) s.blobs)
-  pub size : space.size ≡ s.catalogue.blob_bytes
-  pub fits : length s.blobs + length renders ≤ room
-  pub spare : length renders ≤ space.spare

@@ -1,25 +1,18 @@
-//! The cabinet: its commands, and the counts that it tells. The work of a command on the kept metatiles, on regions and
-//! on renders stands in files of its own; here each command changes the fields and the history together.
-ghost use Rattle.std.specs.Prelude.{IfOk, OnErr, length, ◌<◌, ◌≡◌};
+//! The cabinet: its commands, and the counts that it tells. The work of a command on what is kept is the shelf's, that on
+//! renders the locks'; here each command changes the parts and the history together.
+ghost use Rattle.std.specs.Prelude.{IfOk, OnErr, length, ◌<◌, ◌^◌, ◌≡◌};
 ghost use Rattle.catalog.specs.LookUp.{IsTile};
 ghost use Rattle.catalog.specs.Valid.{IsValid};
 ghost use Rattle.raster_field.specs.Blocks.{IsMeta, blob_size, block_text};
+ghost use Rattle.cabinet.specs.History.{bare_opening, last_number};
 
-use crate::blob::{blob_bytes, tile_in};
 use crate::entry::Entry;
-use crate::forgetting::forget_hit;
-use crate::giving::{give_hit, give_older, give_one};
 use crate::hitting::overtake;
-use crate::kept::{Kept, KeptBlob};
 use crate::replies::{Asked, CutReply, Expired, Finished, Forced};
 use crate::room::make_room;
-use crate::shelf::{
-    count_in, count_others, drop_hit, drop_of, kept_of, least_with, older_of, shelve,
-};
-use crate::tally::Tally;
+use crate::shelf::Shelf;
+use crate::shelving::Shelving;
 use catalog::catalogue::Catalogue;
-use exact_ratio::words::Words;
-use extent_map::extents::Extents;
 use matrix_geometry::address::Address;
 use metatile_locks::locks::Locks;
 use metatile_locks::replies::{Begin, End};
@@ -32,33 +25,39 @@ use trace::Trace;
 use truncation_list::cover::Cover;
 use truncation_list::list::CutList;
 
-/// The last number of an opening.
+/// The numbers of the opening e are e * 2^40 + c, with c from 1 to this.
 const LAST: u64 = (1 << 40) - 1;
+
+/// The last number of an opening.
+fn last_number(opening: u32) -> u64
+    requires { opening < 2 ^ 24 }
+    ensures { result ≡ last_number (bare_opening opening) }
+{
+    u64::from(opening) * (LAST + 1) + LAST
+}
 
 /// Keeps metatiles, gives the numbers of renders, and drops what truncations hit. Contracts see its catalogue, its opening
 /// number, its history and the blobs that it keeps.
 #[derive(Drop)]
 pub struct Cabinet {
-    catalogue: Catalogue,
+    shelf: Shelf,
+    opening: u32,
     last: u64,
-    blobs: Vec<KeptBlob>,
     locks: Locks,
     cuts: CutList,
-    extents: Extents,
-    tally: Tally,
     past: Trace<Entry>,
 }
 
 impl Model for Cabinet {
-    ghost use Rattle.std.specs.Prelude.{length, vec_capacity};
-    ghost use Rattle.cabinet.specs.Counted.{IsCounted};
-    ghost use Rattle.cabinet.specs.State.{IsConsistent, State};
+    ghost use Rattle.cabinet.specs.Consistent.{IsConsistent};
+    ghost use Rattle.cabinet.specs.History.{bare_opening};
+    ghost use Rattle.cabinet.specs.State.{State};
 
     ghost Value = { State };
 
-    ghost view = { λ a. record { catalogue = a.catalogue; opening = 0; history = a.past.entries; blobs = a.blobs.items } };
+    ghost view = { λ a. record { catalogue = a.shelf.catalogue; opening = bare_opening a.opening; history = a.past.entries; since = a.past.entries; blobs = a.shelf.blobs } };
 
-    ghost invariant = { λ a. IsConsistent (record { catalogue = a.catalogue; opening = 0; history = a.past.entries; blobs = a.blobs.items }) a.last (vec_capacity a.blobs) a.locks.renders a.cuts.book a.extents × IsCounted (record { catalogue = a.catalogue; opening = 0; history = a.past.entries; blobs = a.blobs.items }) (length a.locks.renders) a.tally.ledger a.tally.uses };
+    ghost invariant = { λ a. IsConsistent (record { opening = bare_opening a.opening; shelf = a.shelf; last = a.last; renders = a.locks.renders; book = a.cuts.book }) a.past.entries };
 }
 
 impl Cabinet {
@@ -68,22 +67,20 @@ impl Cabinet {
     ghost use Rattle.cabinet.specs.Counted.{kept_in, used, used_all};
 
     /// A cabinet in memory, in which nothing has happened. `AllocError` where memory runs out.
+    #[tactic(auto, using(crate::proofs::Consistent::at_first))]
     pub fn memory(alloc: Global, catalogue: Catalogue) -> Result<Cabinet, AllocError>
         requires { IsValid catalogue }
         ensures { IfOk result (λ c. c ≡ fresh_state catalogue) }
     {
         let locks = Locks::new(alloc)?;
         let cuts = CutList::new(alloc)?;
-        let extents = Extents::new(alloc, catalogue.blob_bytes)?;
-        let tally = Tally::new(alloc, &catalogue)?;
+        let shelf = Shelf::new(alloc, catalogue)?;
         Ok(Cabinet {
-            catalogue,
+            shelf,
+            opening: 0,
             last: 0,
-            blobs: Vec::new(alloc),
             locks,
             cuts,
-            extents,
-            tally,
             past: Trace::new(),
         })
     }
@@ -92,13 +89,14 @@ impl Cabinet {
     pub fn catalogue(&self) -> &Catalogue
         ensures { result.now ≡ self.now.catalogue }
     {
-        &self.catalogue
+        self.shelf.catalogue()
     }
 
     /// What holds of every cabinet: its history is one that commands can make, so that the laws of histories hold of it.
     pub fn known(&self)
         ensures { IsKnown self.now }
     {
+        // The body reads a field, so that the proof has the invariant.
         let _ = &self.past;
     }
 
@@ -111,14 +109,12 @@ impl Cabinet {
         ensures fresh { IfOk result (λ asked. IsFreshReply self.old address.now asked self.new) }
         ensures err { OnErr result (self.new ≡ self.old) }
     {
-        let meta = block_of(&self.catalogue, address);
-        match kept_of(self.blobs.as_slice(), &meta) {
-            Some(blob) => {
-                let number = blob.kept.number;
-                let text = tile_in(alloc, &self.catalogue, address, blob.text.bytes())?;
-                self.tally.uses.touch(&meta);
+        let meta = block_of(self.shelf.catalogue(), address);
+        match self.shelf.read(alloc, address)? {
+            Some(found) => {
+                self.shelf.touch(&meta);
                 self.past = self.past.and(&Entry::Used(meta));
-                return Ok(Asked::Hit(number, text));
+                return Ok(Asked::Hit(found.number, found.text));
             }
             None => {}
         }
@@ -140,16 +136,10 @@ impl Cabinet {
             Some(number) => return Ok(Forced::Busy(number)),
             None => {}
         }
-        if self.last >= LAST {
+        if self.last >= last_number(self.opening) {
             return Ok(Forced::Spent);
         }
-        make_room(
-            alloc,
-            &mut self.blobs,
-            &mut self.locks,
-            &mut self.extents,
-            &mut self.tally.uses,
-        )?;
+        make_room(alloc, &mut self.shelf, &mut self.locks)?;
         let number = self.last + 1;
         let ticket = match self.locks.begin(meta, number) {
             Begin::Busy(busy) => return Ok(Forced::Busy(busy)),
@@ -178,28 +168,22 @@ impl Cabinet {
             }
             End::Whole => {}
         }
-        if count_others(self.blobs.as_slice(), &meta) >= self.catalogue.kept_limit as usize {
-            self.past = self.past.and(&Entry::Ended(number));
-            return Finished::Full;
+        match self.shelf.keep(number, meta, blob) {
+            Shelving::Full => {
+                self.past = self.past.and(&Entry::Ended(number));
+                Finished::Full
+            }
+            Shelving::NoRoom => {
+                self.past = self.past.and(&Entry::Ended(number));
+                Finished::NoRoom
+            }
+            Shelving::Kept(kept) => {
+                self.past = self
+                    .past
+                    .and(&Entry::Stored(number, meta, kept.place, kept.length));
+                Finished::Kept
+            }
         }
-        let length = blob_bytes(&self.catalogue, &meta);
-        let Some(place) = self.extents.take(length) else {
-            self.past = self.past.and(&Entry::Ended(number));
-            return Finished::NoRoom;
-        };
-        let kept = Kept {
-            number,
-            meta,
-            place,
-            length,
-        };
-        give_older(&mut self.extents, self.blobs.as_slice(), &kept);
-        self.tally
-            .keep(older_of(self.blobs.as_slice(), &meta), kept);
-        let text = Words::of(blob);
-        shelve(&mut self.blobs, KeptBlob { kept, text });
-        self.past = self.past.and(&Entry::Stored(number, meta, place, length));
-        Finished::Kept
     }
 
     /// Ends a render, and keeps nothing of it; a stranger's ticket changes nothing. It takes no memory.
@@ -222,20 +206,20 @@ impl Cabinet {
         ensures cuts { IfOk result (λ reply. Cuts self.old cover.now reply self.new) }
         ensures err { OnErr result (self.new ≡ self.old) }
     {
-        if self.last >= LAST {
+        if self.last >= last_number(self.opening) {
             return Ok(CutReply::Spent);
         }
         self.cuts.reserve(alloc, cover)?;
-        let least = least_with(self.locks.least(), self.blobs.as_slice());
-        if self.cuts.full(cover, least, self.catalogue.cut_limit) {
+        let least = self.shelf.least_with(self.locks.least());
+        if self
+            .cuts
+            .full(cover, least, self.shelf.catalogue().cut_limit)
+        {
             return Ok(CutReply::Full);
         }
         let number = self.last + 1;
-        let blobs = self.blobs.as_slice();
-        forget_hit(&mut self.tally, blobs, &self.catalogue, cover);
-        give_hit(&mut self.extents, blobs, &self.catalogue, cover);
-        drop_hit(&mut self.blobs, &self.catalogue, cover);
-        overtake(&mut self.locks, &self.catalogue, cover, number);
+        self.shelf.drop_hit(cover);
+        overtake(&mut self.locks, self.shelf.catalogue(), cover, number);
         self.cuts.add(number, cover, least);
         self.last = number;
         self.past = self.past.and(&Entry::Cut(number, *cover));
@@ -247,21 +231,13 @@ impl Cabinet {
         ensures expires { Expires self.old result self.new }
         ensures sound { IsSound self.old → IsSound self.new }
     {
-        let scope = match self.tally.ledger.exceeded() {
-            None => return Expired::Within,
-            Some(scope) => scope,
-        };
-        let Some(meta) = self.tally.uses.victim(scope) else {
-            unreachable!()
-        };
-        let Some(kept) = older_of(self.blobs.as_slice(), &meta) else {
-            unreachable!()
-        };
-        give_one(&mut self.extents, kept);
-        self.tally.forget(kept);
-        drop_of(&mut self.blobs, &meta);
-        self.past = self.past.and(&Entry::Dropped(meta));
-        Expired::Dropped(meta)
+        match self.shelf.drop_first() {
+            None => Expired::Within,
+            Some(meta) => {
+                self.past = self.past.and(&Entry::Dropped(meta));
+                Expired::Dropped(meta)
+            }
+        }
     }
 
     /// The bytes that the kept metatiles of a layer take.
@@ -269,28 +245,28 @@ impl Cabinet {
         requires { layer < length self.now.catalogue.layers }
         ensures { result ≡ used self.now layer }
     {
-        self.tally.ledger.used(layer)
+        self.shelf.used(layer)
     }
 
     /// The bytes that all kept metatiles take.
     pub fn used_all(&self) -> u64
         ensures { result ≡ used_all self.now }
     {
-        self.tally.ledger.used_all()
+        self.shelf.used_all()
     }
 
     /// How many metatiles of a layer are kept.
     pub fn kept_in(&self, layer: u32) -> u32
         ensures { result ≡ kept_in self.now layer }
     {
-        count_in(self.blobs.as_slice(), layer) as u32
+        self.shelf.kept_in(layer)
     }
 
     /// How many metatiles are kept.
     pub fn kept(&self) -> u32
         ensures { result ≡ length (now self.now).kept }
     {
-        self.blobs.len() as u32
+        self.shelf.count()
     }
 
     /// How many cuts are in force.

@@ -18,28 +18,30 @@ ghost use Rattle.cabinet.specs.declared.replies.Expired.{Expired};
 ghost use Rattle.cabinet.specs.declared.replies.Finished.{Finished};
 ghost use Rattle.cabinet.specs.declared.replies.Forced.{Forced};
 ghost use Rattle.cabinet.specs.Commands.{Abandons, Asks, Cuts, Expires, Finishes, Forces, IsBusy, IsFreshForced, IsFreshReply};
-ghost use Rattle.cabinet.specs.Fresh.{ApartBy, Differ, Holds, IsFresh, Possible, cuts_of};
+ghost use Rattle.cabinet.specs.Fresh.{ApartBy, Differ, Holds, IsFresh, Opens, Possible, cuts_of};
 ghost use Rattle.cabinet.specs.Gaps.{HaveRegions};
 ghost use Rattle.served_covers.specs.OfCatalogue.{IsCoverOf};
-ghost use Rattle.cabinet.specs.History.{History, kept, kept_of, nothing, render, standing, ticket_render};
+ghost use Rattle.cabinet.specs.History.{History, Opening, bare_opening, first, kept, kept_of, render, standing, ticket_render, whole};
 ghost use Rattle.cabinet.specs.State.{IsKnown, IsKnownAs, State};
 
-/// What stands after a history agrees with the sentence on each metatile, each number and each ticket. What is kept for a
+/// In what follows `o` is an opening, `h` what happened since, and `whole o h` the history that they make. An opening with
+/// nothing in it is one. What stands after a history agrees with the sentence on each metatile, each number and each ticket. What is kept for a
 /// tile is fresh at each place of the history, and stays so. Kept and running numbers keep to the cuts, the book answers for
 /// every cut that there was, and numbers differ. Each metatile is kept once, in a region of its own of the blobs' bytes.
 pub fn laws_of_histories()
-    ensures kept_is { (c : Catalogue) (opening : ℕ) (h : History) (m : MetaKey) → kept_of m (standing c (nothing opening) h) ≡ kept c h m }
-    ensures render_is { (c : Catalogue) (opening : ℕ) (h : History) (k : ℕ) → Possible c (nothing opening) h → find (has_number k) (standing c (nothing opening) h).out ≡ render c h k }
-    ensures ticket_is { (c : Catalogue) (opening : ℕ) (h : History) (t : Ticketed) → Possible c (nothing opening) h → render_of t (standing c (nothing opening) h).out ≡ ticket_render c h t }
-    ensures running_is { (c : Catalogue) (opening : ℕ) (h : History) (m : MetaKey) (k : ℕ) → Possible c (nothing opening) h → render c h k ≡ Some (unmarked k m) → running_for m (standing c (nothing opening) h).out ≡ Some k }
-    ensures runs { (c : Catalogue) (opening : ℕ) (h : History) (m : MetaKey) (k : ℕ) → Possible c (nothing opening) h → running_for m (standing c (nothing opening) h).out ≡ Some k → render c h k ≡ Some (unmarked k m) }
-    ensures fresh { (c : Catalogue) (opening : ℕ) (h : History) (p : ℕ) (a : Address) (t : Kept) → IsValid c → IsTile c a → Possible c (nothing opening) h → kept_of (block_of c a) (standing c (nothing opening) h) ≡ Some t → IsFresh c h p a t.number }
+    ensures bare { (c : Catalogue) (e : ℕ) → Opens c (bare_opening e) }
+    ensures kept_is { (c : Catalogue) (o : Opening) (h : History) (m : MetaKey) → Opens c o → kept_of m (standing c (first o) h) ≡ kept c (whole o h) m }
+    ensures render_is { (c : Catalogue) (o : Opening) (h : History) (k : ℕ) → Possible c o h → find (has_number k) (standing c (first o) h).out ≡ render c (whole o h) k }
+    ensures ticket_is { (c : Catalogue) (o : Opening) (h : History) (t : Ticketed) → Possible c o h → render_of t (standing c (first o) h).out ≡ ticket_render c (whole o h) t }
+    ensures running_is { (c : Catalogue) (o : Opening) (h : History) (m : MetaKey) (k : ℕ) → Possible c o h → render c (whole o h) k ≡ Some (unmarked k m) → running_for m (standing c (first o) h).out ≡ Some k }
+    ensures runs { (c : Catalogue) (o : Opening) (h : History) (m : MetaKey) (k : ℕ) → Possible c o h → running_for m (standing c (first o) h).out ≡ Some k → render c (whole o h) k ≡ Some (unmarked k m) }
+    ensures fresh { (c : Catalogue) (o : Opening) (h : History) (p : ℕ) (a : Address) (t : Kept) → IsValid c → IsTile c a → Possible c o h → kept_of (block_of c a) (standing c (first o) h) ≡ Some t → IsFresh c (whole o h) p a t.number }
     ensures later { (c : Catalogue) (h : History) (more : History) (p : ℕ) (a : Address) (k : ℕ) → p ≤ length h → IsFresh c h p a k → IsFresh c (h ++ more) p a k }
-    ensures holds { (c : Catalogue) (opening : ℕ) (h : History) → Possible c (nothing opening) h → Holds c (cuts_of h) (standing c (nothing opening) h) }
-    ensures answers { (c : Catalogue) (opening : ℕ) (h : History) (cut : Cut) → Possible c (nothing opening) h → Contains (cuts_of h) cut → AnswersFor (standing c (nothing opening) h).book cut }
-    ensures differ { (c : Catalogue) (opening : ℕ) (h : History) → Possible c (nothing opening) h → Differ (standing c (nothing opening) h) }
-    ensures once { (c : Catalogue) (opening : ℕ) (h : History) → ApartBy (λ t. t.meta) (standing c (nothing opening) h).kept }
-    ensures regions { (c : Catalogue) (opening : ℕ) (h : History) → IsValid c → Possible c (nothing opening) h → HaveRegions c.blob_bytes (standing c (nothing opening) h).kept }
+    ensures holds { (c : Catalogue) (o : Opening) (h : History) → Possible c o h → Holds c (cuts_of (whole o h)) (standing c (first o) h) }
+    ensures answers { (c : Catalogue) (o : Opening) (h : History) (cut : Cut) → Possible c o h → Contains (cuts_of (whole o h)) cut → AnswersFor (standing c (first o) h).book cut }
+    ensures differ { (c : Catalogue) (o : Opening) (h : History) → Possible c o h → Differ (standing c (first o) h) }
+    ensures once { (c : Catalogue) (o : Opening) (h : History) → Opens c o → ApartBy (λ t. t.meta) (standing c (first o) h).kept }
+    ensures regions { (c : Catalogue) (o : Opening) (h : History) → IsValid c → Possible c o h → HaveRegions c.blob_bytes (standing c (first o) h).kept }
 {}
 
 /// Each row of a command leaves a known cabinet with the catalogue and the opening of before, whose book answers for the

@@ -12,12 +12,14 @@
 mod blob;
 pub mod cabinet;
 pub mod entry;
-mod forgetting;
-mod giving;
 mod hitting;
 pub mod kept;
+mod kept_list;
 pub mod laws;
 pub mod replies;
 mod room;
 mod shelf;
+mod shelving;
+mod sifting;
+mod store;
 mod tally;

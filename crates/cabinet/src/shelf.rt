@@ -1,106 +1,195 @@
-//! The work on the list of kept metatiles.
-ghost use Rattle.std.specs.Prelude.{[], fold, filter, find, length, map, not, option_copied, vec_capacity, vec_len, ◌+◌, ◌++◌, ◌<◌, ◌==◌, ◌≡◌, ◌≤◌, ◌∷◌};
+//! The shelf of a cabinet: what is kept, and all that this takes up, which change together.
+ghost use Rattle.std.specs.Prelude.{IfOk, OnErr, OnOk, filter, find, fold, length, map, not, ◌+◌, ◌<◌, ◌==◌, ◌≡◌, ◌≤◌};
+ghost use Rattle.std.specs.Prelude.{IsSome};
+ghost use Rattle.catalog.specs.LookUp.{IsTile};
 ghost use Rattle.catalog.specs.Valid.{IsValid};
-ghost use Rattle.cabinet.specs.Hits.{hits_of};
+ghost use Rattle.raster_field.specs.Blocks.{IsMeta, blob_size};
 ghost use Rattle.served_covers.specs.OfCatalogue.{IsCoverOf};
 ghost use Rattle.cabinet.specs.History.{is_of, lesser};
 
-use crate::hitting::is_hit;
-use crate::kept::{Kept, KeptBlob};
+use crate::blob::blob_bytes;
+use crate::kept::Kept;
+use crate::shelving::{Found, Shelving};
+use crate::sifting::sift;
+use crate::store::Store;
+use crate::tally::Tally;
 use catalog::catalogue::Catalogue;
-use metatile_plan::keys::same_meta;
+use matrix_geometry::address::Address;
 use metatile_plan::metatile::MetaKey;
+use std::alloc::{AllocError, Global};
+use std::marker::Model;
 use truncation_list::cover::Cover;
 
-/// What is kept of a metatile. The kept list is gone through for it.
-pub fn kept_of<'a>(blobs: &'a [KeptBlob], meta: &MetaKey) -> Option<&'a KeptBlob>
-    ensures { option_copied result ≡ find (λ b. is_of meta.now b.kept) blobs.now }
-{
-    blobs.iter().find(|blob| same_meta(&blob.kept.meta, meta))
+/// Keeps metatiles of a catalogue, each once, within its limits, and counts what they take up. Contracts see the catalogue,
+/// what is kept with its blobs, the uses, the count of entries that kept or used, and for how many more there is room.
+#[derive(Drop)]
+pub struct Shelf {
+    catalogue: Catalogue,
+    store: Store,
+    tally: Tally,
 }
 
-/// Which render of a metatile is kept, and where. The kept list is gone through for it.
-pub fn older_of(blobs: &[KeptBlob], meta: &MetaKey) -> Option<Kept>
-    ensures { result ≡ find (is_of meta.now) (map (λ b. b.kept) blobs.now) }
-{
-    match kept_of(blobs, meta) {
-        Some(blob) => Some(blob.kept),
-        None => None,
+impl Model for Shelf {
+    ghost use Rattle.std.specs.Prelude.{min};
+    ghost use Rattle.cabinet.specs.Shelved.{IsShelved, Shelved};
+
+    ghost Value = { Shelved };
+
+    ghost view = { λ s. record { catalogue = s.catalogue; blobs = s.store.blobs; uses = s.tally.uses.held; clock = s.tally.uses.now; room = min s.store.spare (min s.tally.extents.spare s.tally.uses.spare) } };
+
+    ghost invariant = { λ s. IsShelved s.catalogue s.store.blobs s.tally.extents s.tally.ledger s.tally.uses };
+}
+
+impl Shelf {
+    ghost use Rattle.cabinet.specs.Shelved.{Drops, Reads, Shelves, bare, sifted, touched_on, used_on, used_on_all, with_room};
+
+    /// A shelf on which nothing is kept. `AllocError` where memory runs out.
+    pub fn new(alloc: Global, catalogue: Catalogue) -> Result<Shelf, AllocError>
+        requires { IsValid catalogue }
+        ensures { IfOk result (λ shelf. shelf ≡ bare catalogue shelf.room) }
+    {
+        let tally = Tally::new(alloc, &catalogue)?;
+        Ok(Shelf {
+            catalogue,
+            store: Store::new(alloc),
+            tally,
+        })
     }
-}
 
-/// How many other metatiles are kept.
-pub fn count_others(blobs: &[KeptBlob], meta: &MetaKey) -> usize
-    ensures { result ≡ length (filter (λ b. not (is_of meta.now b.kept)) blobs.now) }
-{
-    blobs
-        .iter()
-        .filter(|blob| !same_meta(&blob.kept.meta, meta))
-        .count()
-}
+    /// The catalogue that it was made with.
+    pub fn catalogue(&self) -> &Catalogue
+        ensures catalogue { result.now ≡ self.now.catalogue }
+        ensures valid { IsValid result.now }
+    {
+        &self.catalogue
+    }
 
-/// How many kept metatiles are of a layer.
-pub fn count_in(blobs: &[KeptBlob], layer: u32) -> usize
-    ensures { result ≡ length (filter (λ b. b.kept.meta.theme.layer == layer) blobs.now) }
-{
-    blobs
-        .iter()
-        .filter(|blob| blob.kept.meta.theme.layer == layer)
-        .count()
-}
-
-/// Drops what is kept of a metatile.
-pub fn drop_of(blobs: &mut Vec<KeptBlob>, meta: &MetaKey)
-    ensures items { blobs.new.items ≡ filter (λ b. not (is_of meta.now b.kept)) blobs.old.items }
-    ensures len { vec_len blobs.new ≤ vec_len blobs.old }
-    ensures capacity { vec_capacity blobs.new ≡ vec_capacity blobs.old }
-{
-    blobs.retain(|blob| !same_meta(&blob.kept.meta, meta));
-}
-
-/// Keeps a metatile in the place of its older render, if there is one, with no memory taken.
-pub fn shelve(blobs: &mut Vec<KeptBlob>, blob: KeptBlob)
-    requires { vec_len blobs.old < vec_capacity blobs.old }
-    ensures items { blobs.new.items ≡ filter (λ b. not (is_of blob.kept.meta b.kept)) blobs.old.items ++ blob ∷ [] }
-    ensures len { vec_len blobs.new ≤ vec_len blobs.old + 1 }
-    ensures capacity { vec_capacity blobs.new ≡ vec_capacity blobs.old }
-{
-    drop_of(blobs, &blob.kept.meta);
-    blobs.push_reserved(blob);
-}
-
-/// Drops each metatile of which the cover is for a tile.
-pub fn drop_hit(blobs: &mut Vec<KeptBlob>, catalogue: &Catalogue, cover: &Cover)
-    requires valid { IsValid catalogue.now }
-    requires cover { IsCoverOf catalogue.now cover.now }
-    ensures items { blobs.new.items ≡ filter (λ b. not (hits_of catalogue.now cover.now b.kept.meta)) blobs.old.items }
-    ensures len { vec_len blobs.new ≤ vec_len blobs.old }
-    ensures capacity { vec_capacity blobs.new ≡ vec_capacity blobs.old }
-{
-    blobs.retain(|blob| !is_hit(catalogue, cover, &blob.kept.meta));
-}
-
-fn lesser(was: Option<u64>, number: u64) -> Option<u64>
-    ensures { result ≡ lesser was number }
-{
-    match was {
-        None => Some(number),
-        Some(least) => {
-            if number < least {
-                return Some(number);
-            }
-            Some(least)
+    /// Makes room for so many more to be kept. `AllocError` where memory runs out; all else is as before, and no room is
+    /// lost.
+    pub fn reserve(&mut self, alloc: Global, metatiles: u32) -> Result<(), AllocError>
+        ensures same { self.new ≡ with_room self.new.room self.old }
+        ensures no_less { self.old.room ≤ self.new.room }
+        ensures room { OnOk result (metatiles ≤ self.new.room) }
+    {
+        match self.store.reserve(metatiles as usize) {
+            Err(fault) => return Err(fault),
+            Ok(()) => {}
         }
+        match self.tally.uses.reserve(alloc, metatiles) {
+            Err(fault) => return Err(fault),
+            Ok(()) => {}
+        }
+        self.tally.extents.reserve(alloc, metatiles)
     }
-}
 
-/// The least of the kept numbers and of one that was found before.
-pub fn least_with(was: Option<u64>, blobs: &[KeptBlob]) -> Option<u64>
-    ensures { result ≡ fold lesser was (map (λ b. b.kept.number) blobs.now) }
-{
-    let mut least = was;
-    'comparing: for blob in blobs {
-        least = lesser(least, blob.kept.number);
+    /// Reads a tile out of what is kept of its metatile; `None` exactly where nothing is. `AllocError` where memory runs out.
+    pub fn read(&self, alloc: Global, address: &Address) -> Result<Option<Found>, AllocError>
+        requires { IsTile self.now.catalogue address.now }
+        ensures { IfOk result (λ found. Reads self.now.catalogue self.now.blobs address.now found) }
+    {
+        self.store.read(alloc, &self.catalogue, address)
     }
-    least
+
+    /// Adds a use of a metatile that is kept.
+    pub fn touch(&mut self, meta: &MetaKey)
+        requires { IsSome (find (λ b. is_of meta.now b.kept) self.old.blobs) }
+        ensures { self.new ≡ touched_on meta.now self.old }
+    {
+        self.tally.uses.touch(meta);
+    }
+
+    /// Keeps a render in the place of its metatile's older one, if there is one, unless as many others are kept as may be, or
+    /// no gap has room for its blob. The region of the older one is still taken while the gap is looked for. It takes no
+    /// memory.
+    pub fn keep(&mut self, number: u64, meta: MetaKey, blob: Vec<u8>) -> Shelving
+        requires meta { IsMeta self.old.catalogue meta }
+        requires blob { length blob.items ≡ blob_size self.old.catalogue meta }
+        requires room { 1 ≤ self.old.room }
+        ensures shelves { Shelves self.old (record { number = number; meta = meta }) blob.items result self.new }
+        ensures room { self.old.room ≤ self.new.room + 1 }
+    {
+        if self.store.count_others(&meta) >= self.catalogue.kept_limit as usize {
+            return Shelving::Full;
+        }
+        let length = blob_bytes(&self.catalogue, &meta);
+        let Some(place) = self.tally.extents.take(length) else {
+            return Shelving::NoRoom;
+        };
+        let kept = Kept {
+            number,
+            meta,
+            place,
+            length,
+        };
+        self.tally.keep(self.store.kept_of(&meta), kept);
+        self.store.put(kept, blob);
+        Shelving::Kept(kept)
+    }
+
+    /// Drops each metatile of which the cover is for a tile. It takes no memory, and tests each once.
+    pub fn drop_hit(&mut self, cover: &Cover)
+        requires { IsCoverOf self.old.catalogue cover.now }
+        ensures sifted { self.new ≡ sifted cover.now self.new.room self.old }
+        ensures room { self.old.room ≤ self.new.room }
+    {
+        let stays = sift(&mut self.store, &mut self.tally, &self.catalogue, cover);
+        self.store.truncate(stays);
+    }
+
+    /// Drops the first metatile to go of the scope whose quota is exceeded, and tells it; `None` exactly where no quota is
+    /// exceeded. It takes no memory.
+    pub fn drop_first(&mut self) -> Option<MetaKey>
+        ensures drops { Drops self.old result self.new }
+        ensures room { self.old.room ≤ self.new.room }
+    {
+        let scope = match self.tally.ledger.exceeded() {
+            None => return None,
+            Some(scope) => scope,
+        };
+        let Some(meta) = self.tally.uses.victim(scope) else {
+            unreachable!()
+        };
+        let Some(kept) = self.store.kept_of(&meta) else {
+            unreachable!()
+        };
+        self.tally.forget(kept);
+        self.store.drop_of(&meta);
+        Some(meta)
+    }
+
+    /// The least of the kept numbers and of one that was found before.
+    pub fn least_with(&self, was: Option<u64>) -> Option<u64>
+        ensures { result ≡ fold lesser was (map (λ b. b.kept.number) self.now.blobs) }
+    {
+        self.store.least_with(was)
+    }
+
+    /// The bytes that the kept metatiles of a layer take.
+    pub fn used(&self, layer: u32) -> u64
+        requires { layer < length self.now.catalogue.layers }
+        ensures { result ≡ used_on self.now layer }
+    {
+        self.tally.ledger.used(layer)
+    }
+
+    /// The bytes that all kept metatiles take.
+    pub fn used_all(&self) -> u64
+        ensures { result ≡ used_on_all self.now }
+    {
+        self.tally.ledger.used_all()
+    }
+
+    /// How many metatiles of a layer are kept.
+    pub fn kept_in(&self, layer: u32) -> u32
+        ensures { result ≡ length (filter (λ b. b.kept.meta.theme.layer == layer) self.now.blobs) }
+    {
+        self.store.count_in(layer) as u32
+    }
+
+    /// How many metatiles are kept.
+    pub fn count(&self) -> u32
+        ensures { result ≡ length self.now.blobs }
+    {
+        self.store.count() as u32
+    }
 }

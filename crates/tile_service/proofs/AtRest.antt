@@ -8,9 +8,9 @@ use Rattle.cabinet.specs.declared.entry.Entry.{Entry}
 use Rattle.cabinet.specs.declared.entry.Entry.TheVariants as entry
 use Rattle.cabinet.specs.declared.kept.Kept.{Kept}
 use Rattle.cabinet.specs.Hits.{hits_of}
-use Rattle.cabinet.specs.History.{after, kept_of, next, nothing, standing}
-use Rattle.cabinet.specs.State.{State, now, with_entry, with_cut}
-use Rattle.cabinet.proofs.Rows.{stood_more}
+use Rattle.cabinet.specs.History.{after, kept_of, next}
+use Rattle.cabinet.specs.State.{State, grown, now, with_entry, with_cut}
+use Rattle.cabinet.proofs.Rows.{now_more}
 use Rattle.cache_core.specs.declared.actor.Actor.TheVariants.{Idle}
 use Rattle.cache_core.specs.declared.outcome.Outcome as cached
 use Rattle.cache_core.specs.declared.outcome.Outcome.TheVariants as core
@@ -32,8 +32,8 @@ use Rattle.truncation_list.specs.declared.cover.Cover.{Cover}
 -- ENTRIES
 
 -- the renders that run after one entry more
-runs_after : (s : State) (e : Entry) → (standing s.catalogue (nothing s.opening) (s.history ++ e ∷ [])).out ≡ (after s.catalogue (now s) e).out
-runs_after s e = ap (λ x. x.out) (stood_more s.catalogue (nothing s.opening) s.history e)
+runs_after : (s : State) (e : Entry) → (now (grown s e [])).out ≡ (after s.catalogue (now s) e).out
+runs_after s e = ap (λ x. x.out) (now_more s e [])
 
 pub used_rests : (s : State) (m : MetaKey) → IsAtRest s → IsAtRest (with_entry s (entry.Used m))
 used_rests s m rest = runs_after s (entry.Used m) ∙ rest

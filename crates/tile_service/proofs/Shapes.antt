@@ -9,7 +9,7 @@ use Rattle.cabinet.specs.declared.kept.Kept.{Kept}
 use Rattle.cabinet.specs.Commands.{others, place_for, book_before}
 use Rattle.cabinet.specs.Counted.{scope_exceeded, victim_in}
 use Rattle.cabinet.specs.History.{kept_of, next}
-use Rattle.cabinet.specs.State.{State, now}
+use Rattle.cabinet.specs.State.{State, now, with_entry}
 use Rattle.cache_core.specs.declared.actor.Actor.{Actor}
 use Rattle.cache_core.specs.declared.actor.Actor.TheVariants as actor
 use Rattle.cache_core.specs.declared.outcome.Outcome as cached
@@ -40,7 +40,7 @@ use Rattle.tile_service.specs.Alike.{without_bytes, any_bytes}
 -- CABINETS
 
 abbrev plain : State → State
-plain s = record { catalogue = s.catalogue; opening = s.opening; history = s.history; blobs = [] }
+plain s = record s { blobs = [] }
 
 abbrev plain_tile : Tile → Tile
 plain_tile t = record { hit = t.hit; number = t.number; bytes = [] }
@@ -102,7 +102,7 @@ off_like s t (Some r) = refl
 module _ (s : State) (t : Ticketed) (xs ys : List ℕ) (e : length xs ≡ length ys) where
   stored_like : (p : Option ℕ) → plain (stored s t xs p) ≡ plain (stored (plain s) t ys p)
   stored_like None = refl
-  stored_like (Some place) = ap (λ n. plain (record s { history = s.history ++ entry.Stored t.number t.meta place n ∷ [] })) e
+  stored_like (Some place) = ap (λ n. plain (with_entry s (entry.Stored t.number t.meta place n))) e
 
   room_like : (full : Bool) → plain (with_room s t xs full) ≡ plain (with_room (plain s) t ys full)
   room_like true = refl

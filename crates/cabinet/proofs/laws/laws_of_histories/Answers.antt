@@ -1,8 +1,8 @@
 use Rattle.truncation_list.specs.Books.{AnswersFor}
-use Rattle.cabinet.specs.History.{nothing, standing}
+use Rattle.cabinet.specs.History.{first, standing, whole}
 use Rattle.cabinet.specs.Fresh.{cuts_of}
 use Rattle.cabinet.proofs.Fresher.{kept_fresh, still_fresh}
-use Rattle.cabinet.proofs.Holding.{holds_of}
+use Rattle.cabinet.proofs.Holding.{bare_opens, holds_of}
 use Rattle.cabinet.proofs.Lists.{all_contained}
 use Rattle.cabinet.proofs.Numbers.{differ_is, render_is, running_is, runs_is, ticket_is}
 use Rattle.cabinet.proofs.Disjoint.{regions_are}
@@ -12,6 +12,7 @@ use Rattle.cabinet.proofs.laws.laws_of_histories.Goals as goal
 
 pub returns : goal.returns
 returns c = record {
+  bare = bare_opens;
   kept_is = kept_is;
   render_is = render_is;
   ticket_is = ticket_is;
@@ -20,7 +21,7 @@ returns c = record {
   fresh = kept_fresh;
   later = still_fresh;
   holds = holds_of;
-  answers = λ c e h cut may has. all_contained (AnswersFor (standing c (nothing e) h).book) (cuts_of h) cut (holds_of c e h may).answers has;
+  answers = λ c o h cut may has. all_contained (AnswersFor (standing c (first o) h).book) (cuts_of (whole o h)) cut (holds_of c o h may).answers has;
   differ = differ_is;
   once = once;
   regions = regions_are;

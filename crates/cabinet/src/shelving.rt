@@ -1,0 +1,22 @@
+//! What a shelf can answer: what it reads, and how it keeps a render.
+use crate::kept::Kept;
+
+/// What is read of a kept metatile.
+#[derive(Drop)]
+pub struct Found {
+    /// The number of its render.
+    pub number: u64,
+    /// The tile's part of its blob.
+    pub text: Vec<u8>,
+}
+
+/// How the shelving of a render ended.
+#[derive(Clone, Copy, Debug, PartialEq, Eq)]
+pub enum Shelving {
+    /// As many other metatiles are kept as may be; nothing changed.
+    Full,
+    /// No gap between the kept regions has room for the blob; nothing changed.
+    NoRoom,
+    /// The render is kept, here.
+    Kept(Kept),
+}
