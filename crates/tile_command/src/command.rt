@@ -2,7 +2,7 @@
 ghost use Rattle.std.specs.Prelude.{◌≡◌, ◌↔◌, IfOk};
 ghost use Rattle.cabinet.specs.State.{fresh_state};
 ghost use Rattle.catalog.specs.Valid.{IsValid};
-ghost use Rattle.tile_service.specs.Outside.{Input, Outside};
+ghost use Rattle.tile_service.specs.Outside.{InputChange, Outside};
 ghost use Rattle.tile_command.specs.Command.{HasServed, status_of_drill, status_of_schedule, status_of_session};
 ghost use Rattle.tile_command.specs.Words.{word_of};
 

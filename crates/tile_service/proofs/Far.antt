@@ -16,10 +16,10 @@ use Rattle.tile_service.specs.declared.outcome.Outcome.{Outcome}
 use Rattle.tile_service.specs.declared.request.Request.{Request}
 use Rattle.tile_service.specs.declared.seats.Seat.TheVariants as seat
 use Rattle.tile_service.specs.declared.seats.TheConstants.{ACTORS}
-use Rattle.tile_service.specs.Lines.{deed_in}
+use Rattle.tile_service.specs.Lines.{action_in}
 use Rattle.tile_service.specs.OneLine.{IsLine, IsSeat, IsWorld, IsTrueSeat, IsTrueWorld, seat_of, world_of}
 use Rattle.tile_service.specs.Requests.{Chance, calm, tile_of, tile_in, IsFreshTile}
-use Rattle.tile_service.specs.Run.{Busy, free_seats, owed_at, World, Answer, Run, run, behind, line_done, failures, unanswered, IsTrue, IsFresh, IsFreshFor}
+use Rattle.tile_service.specs.Run.{PendingRequest, free_seats, owed_at, World, Answer, Run, run, behind, line_done, failures, unanswered, IsTrue, IsFresh, IsFreshFor}
 use Rattle.tile_service.specs.Schedules.{IsUpheld}
 use Rattle.tile_service.proofs.Moving.{within_longer}
 
@@ -85,7 +85,7 @@ all_append P [] bs h k = k
 all_append P (a ∷ news) bs h k = (h.0, all_append P news bs h.1 k)
 
 -- one line, and then others
-one_line : (t u : World) (n : ℕ) (line : List ℕ) (c : Chance) (news : List Answer) → line_done t n c (deed_in line) ≡ Some (u, news)
+one_line : (t u : World) (n : ℕ) (line : List ℕ) (c : Chance) (news : List Answer) → line_done t n c (action_in line) ≡ Some (u, news)
     → (tail : List (List ℕ)) (more : List Chance) → run t n (line ∷ tail) (c ∷ more) ≡ behind news (run u (n + 1) tail more)
 one_line t u n line c news e tail more = rw e refl
 
@@ -159,7 +159,7 @@ module _ (told : Option ℕ) (before after : ℕ) (w : World) (done : List (List
   ends_done = rw (append-nil done, append-nil made, append-nil answers) at (f.goes [] [])
 
   -- the next line is refused
-  pub ends_refused : (line : List ℕ) (tail : List (List ℕ)) → line_done t (n + 1) calm (deed_in line) ≡ None → run w 1 (done ++ line ∷ tail) made ≡ came_to (Some (n + 1))
+  pub ends_refused : (line : List ℕ) (tail : List (List ℕ)) → line_done t (n + 1) calm (action_in line) ≡ None → run w 1 (done ++ line ∷ tail) made ≡ came_to (Some (n + 1))
   ends_refused line tail none =
       let last : run t (n + 1) (line ∷ tail) [] ≡ record { answers = []; world = t; refused = Some (n + 1) } = rw none refl in
       rw (append-nil made, append-nil answers) at (f.goes (line ∷ tail) [] ∙ ap (behind answers) last)
@@ -176,7 +176,7 @@ module _ (told : Option ℕ) (before after : ℕ) (w : World) (done : List (List
 
 -- SEATS OF WHICH NONE IS BUSY
 
-all_free : (P : Option Busy → Type 0) → P None → (n : ℕ) → AllByRecursion P (replicate n None)
+all_free : (P : Option PendingRequest → Type 0) → P None → (n : ℕ) → AllByRecursion P (replicate n None)
 all_free P none zero = tt
 all_free P none (suc n) = (none, all_free P none n)
 

@@ -7,8 +7,8 @@ pub mod Seating
 pub mod Joined
 pub mod Telling
 pub mod AtRest
-pub mod AtOnce
-pub mod Dealt
+pub mod Immediately
+pub mod Performed
 pub mod Served
 pub mod Writing
 pub mod Far

@@ -13,27 +13,27 @@ use Rattle.tile_service.specs.declared.drill_run.MadeEnd.TheVariants as made_end
 use Rattle.tile_service.specs.declared.seats.Seat.{Seat}
 use Rattle.tile_service.specs.declared.seats.Seat.TheVariants as seat
 use Rattle.tile_service.specs.declared.seats.TheConstants.{ACTORS}
-use Rattle.tile_service.specs.declared.tally.CacheResult.{CacheResult}
-use Rattle.tile_service.specs.declared.tally.CacheResult.TheVariants.{Hit, Miss, Other}
-use Rattle.tile_service.specs.declared.tally.Tally.{Tally}
+use Rattle.tile_service.specs.declared.cache_tally.CacheResult.{CacheResult}
+use Rattle.tile_service.specs.declared.cache_tally.CacheResult.TheVariants.{Hit, Miss, Other}
+use Rattle.tile_service.specs.declared.cache_tally.CacheTally.{CacheTally}
 use Rattle.sha2.specs.Sha256.{sha256}
 use Rattle.tile_service.specs.Drill.{IsDrilled, drill_lines, drill_run, is_busy, line_count, made, made_lines}
 use Rattle.tile_service.specs.Drilling.{HasMade, HasMadeAll, Makes}
-use Rattle.tile_service.specs.Lines.{deed_in}
+use Rattle.tile_service.specs.Lines.{action_in}
 use Rattle.tile_service.specs.Made.{Made as Line, drawn, made_line}
 use Rattle.tile_service.specs.OneLine.{IsLine, IsSeated, seat_of, world_of}
 use Rattle.tile_service.specs.Outside.{Outside}
 use Rattle.tile_service.specs.Requests.{Chance, calm}
-use Rattle.tile_service.specs.Run.{Answer, Busy, World, answer_text, free_seats, line_done, output_of, run}
-use Rattle.tile_service.specs.Seats.{desk_at}
-use Rattle.tile_service.specs.Tally.{both, is_hit, is_miss, is_other, one_of, result_of, tally_of, total}
+use Rattle.tile_service.specs.Run.{Answer, PendingRequest, World, answer_text, free_seats, line_done, output_of, run}
+use Rattle.tile_service.specs.Seats.{pending_at}
+use Rattle.tile_service.specs.CacheTally.{both, is_hit, is_miss, is_other, one_of, result_of, tally_of, total}
 use Rattle.tile_service.specs.Written.{LineEnds, Writes}
 use Rattle.tile_service.proofs.Far.{Far, ends_done, ends_upheld, far_next, far_start_free, free_same}
 use Rattle.tile_service.proofs.Speaking.{never_refused}
 
 -- THE SEATS OF THE CODE
 
-pub busy_same : (busy : List (Option Busy)) (i : ℕ) → is_some (desk_at (slice_get (map seat_of busy) i)) ≡ is_busy (slice_get busy i)
+pub busy_same : (busy : List (Option PendingRequest)) (i : ℕ) → is_some (pending_at (slice_get (map seat_of busy) i)) ≡ is_busy (slice_get busy i)
 busy_same [] i = refl
 busy_same (None ∷ busy) zero = refl
 busy_same (Some b ∷ busy) zero = refl
@@ -41,11 +41,11 @@ busy_same (b ∷ busy) (suc i) = busy_same busy i
 
 -- the line that the code makes by its seats is the one that is made in the world
 pub makes_at : (o : Outside) (s : State) (document : List ℕ) (seats : List Seat) (n x : ℕ) (t : State) (seats' : List Seat) (x' : ℕ) (end : LineEnd) (line : List ℕ)
-    → ◌≡◌ {A = Line} (record { line = line; x = x' }) (made_line s.catalogue (is_some (desk_at (slice_get seats (drawn 4 x)))) x) → Writes o s document seats n line t seats' end → Makes o s document seats n x t seats' x' end
+    → ◌≡◌ {A = Line} (record { line = line; x = x' }) (made_line s.catalogue (is_some (pending_at (slice_get seats (drawn 4 x)))) x) → Writes o s document seats n line t seats' end → Makes o s document seats n x t seats' x' end
 makes_at o s document seats n x t seats' x' end line e k busy is =
     let d = k busy is in
     let w = world_of s document busy in
-    let same = e ∙ ap (λ b. made_line s.catalogue b x) (ap (λ ss. is_some (desk_at (slice_get ss (drawn 4 x)))) (sym is.same) ∙ busy_same busy (drawn 4 x)) in
+    let same = e ∙ ap (λ b. made_line s.catalogue b x) (ap (λ ss. is_some (pending_at (slice_get ss (drawn 4 x)))) (sym is.same) ∙ busy_same busy (drawn 4 x)) in
     (d.0, d.1, subst (λ l. LineEnds o w n l (world_of t document d.0) end) (ap (λ m. m.line) same) d.2, ap (λ m. m.x) same)
 
 -- COUNTS
@@ -64,7 +64,7 @@ tally_more answers news =
 -- HOW FAR
 
 -- n lines are made and done, and x is the number of the draws after them
-pub record Made (told : Option ℕ) (before after : ℕ) (w : World) (number n x : ℕ) (tally : Tally) (text : List ℕ) (t : World) : Type 0 where
+pub record Made (told : Option ℕ) (before after : ℕ) (w : World) (number n x : ℕ) (tally : CacheTally) (text : List ℕ) (t : World) : Type 0 where
   pub done : List (List ℕ)
   pub chances : List Chance
   pub answers : List Answer
@@ -76,7 +76,7 @@ pub record Made (told : Option ℕ) (before after : ℕ) (w : World) (number n x
   pub far : Far told before after w done chances answers n t
 
 -- one line, and then others
-one_made : (t u : World) (n x : ℕ) (c : Chance) (news : List Answer) → line_done t n c (deed_in (made t x).line) ≡ Some (u, news)
+one_made : (t u : World) (n x : ℕ) (c : Chance) (news : List Answer) → line_done t n c (action_in (made t x).line) ≡ Some (u, news)
     → (count : ℕ) (more : List Chance) → made_lines (suc count) t n x (c ∷ more) ≡ (made t x).line ∷ made_lines count u (n + 1) (made t x).x more
 unfolding made_lines
 one_made t u n x c news e count more = rw e refl
@@ -85,13 +85,13 @@ none_made : (t : World) (n x : ℕ) (more : List Chance) → made_lines 0 t n x 
 unfolding made_lines
 none_made t n x more = refl
 
-few_more : (a : Tally) (answered : Option CacheResult) (n : ℕ) → total a ≤ n → total (both a (one_of answered)) ≤ n + 1
+few_more : (a : CacheTally) (answered : Option CacheResult) (n : ℕ) → total a ≤ n → total (both a (one_of answered)) ≤ n + 1
 few_more a None n l = omega arith
 few_more a (Some Hit) n l = omega arith
 few_more a (Some Miss) n l = omega arith
 few_more a (Some Other) n l = omega arith
 
-module _ (told told' : Option ℕ) (before mid after : ℕ) (w : World) (number n x : ℕ) (tally : Tally) (text : List ℕ) (t u : World) (news : List Answer) (answered : Option CacheResult)
+module _ (told told' : Option ℕ) (before mid after : ℕ) (w : World) (number n x : ℕ) (tally : CacheTally) (text : List ℕ) (t u : World) (news : List Answer) (answered : Option CacheResult)
     (f : Made told before mid w number n x tally text t) (same : told' ≡ told) (l : IsLine told' mid after t (n + 1) (made t x).line u news) (counts : tally_of news ≡ one_of answered) where
   lines_more : (count : ℕ) (more : List Chance) → made_lines (n + 1 + count) w 1 number ((f.chances ++ l.chance ∷ []) ++ more) ≡ (f.done ++ (made t x).line ∷ []) ++ made_lines count u (n + 1 + 1) (made t x).x more
   lines_more count more =
@@ -115,7 +115,7 @@ module _ (told told' : Option ℕ) (before mid after : ℕ) (w : World) (number 
 
 -- ENDS
 
-module _ (told : Option ℕ) (before after : ℕ) (w : World) (number n x : ℕ) (tally : Tally) (text : List ℕ) (t : World) (f : Made told before after w number n x tally text t) where
+module _ (told : Option ℕ) (before after : ℕ) (w : World) (number n x : ℕ) (tally : CacheTally) (text : List ℕ) (t : World) (f : Made told before after w number n x tally text t) where
   all_lines : drill_lines n w number f.chances ≡ f.done
   all_lines =
       let none : n + 0 ≡ n = omega arith in
@@ -139,12 +139,12 @@ module _ (told : Option ℕ) (before after : ℕ) (w : World) (number n x : ℕ)
 
 -- THE SEATS OF THE CODE
 
-abbrev pub Seated : Option ℕ → ℕ → ℕ → World → ℕ → ℕ → ℕ → Tally → List ℕ → State → List ℕ → List Seat → Type 0
-Seated told before after w number n x tally text s document seats = (busy : List (Option Busy)) × (map seat_of busy ≡ seats) × Made told before after w number n x tally text (world_of s document busy)
+abbrev pub Seated : Option ℕ → ℕ → ℕ → World → ℕ → ℕ → ℕ → CacheTally → List ℕ → State → List ℕ → List Seat → Type 0
+Seated told before after w number n x tally text s document seats = (busy : List (Option PendingRequest)) × (map seat_of busy ≡ seats) × Made told before after w number n x tally text (world_of s document busy)
 
 -- the seats after a call, and how the lines ended
 abbrev Ends : Option ℕ → ℕ → ℕ → World → ℕ → State → List ℕ → List Seat → MadeEnd → Type 0
-Ends told before after w number s document seats end = (busy : List (Option Busy)) × (map seat_of busy ≡ seats) × HasMade told (record { before = before; after = after }) w number (world_of s document busy) end
+Ends told before after w number s document seats end = (busy : List (Option PendingRequest)) × (map seat_of busy ≡ seats) × HasMade told (record { before = before; after = after }) w number (world_of s document busy) end
 
 abbrev pub made_start : (told : Option ℕ) (n : ℕ) (s : State) (document : List ℕ) (number : ℕ) → Made told n n (world_of s document free_seats) number 0 number (record { hits = 0; misses = 0; others = 0 }) [] (world_of s document free_seats)
 made_start told n s document number =
@@ -164,18 +164,18 @@ pub seated_start : (told : Option ℕ) (n : ℕ) (s : State) (document : List �
     → Seated told n n (world_of s document free_seats) number 0 number (record { hits = 0; misses = 0; others = 0 }) [] s document seats
 seated_start told n s document seats number e = (free_seats, free_same ACTORS ∙ sym e, made_start told n s document number)
 
-pub seated_done : (told : Option ℕ) (before after : ℕ) (w : World) (number n x : ℕ) (tally : Tally) (text : List ℕ) (s : State) (document : List ℕ) (seats : List Seat)
+pub seated_done : (told : Option ℕ) (before after : ℕ) (w : World) (number n x : ℕ) (tally : CacheTally) (text : List ℕ) (s : State) (document : List ℕ) (seats : List Seat)
     → Seated told before after w number n x tally text s document seats → n ≡ line_count → Ends told before after w number s document seats (made_end.Done tally (sha256 text))
 seated_done told before after w number n x tally text s document seats f e =
     let h = done_made told before after w number n x tally text (world_of s document f.0) f.2 in
     (f.0, f.1, subst (λ k. HasMadeAll k told (record { before = before; after = after }) w number (world_of s document f.0) tally (sha256 text)) e h)
 
-pub seated_short : (told : Option ℕ) (before after : ℕ) (w : World) (number n x : ℕ) (tally : Tally) (text : List ℕ) (s : State) (document : List ℕ) (seats : List Seat)
+pub seated_short : (told : Option ℕ) (before after : ℕ) (w : World) (number n x : ℕ) (tally : CacheTally) (text : List ℕ) (s : State) (document : List ℕ) (seats : List Seat)
     → Seated told before after w number n x tally text s document seats → n ≤ line_count → Ends told before after w number s document seats made_end.OutOfMemory
 seated_short told before after w number n x tally text s document seats f l =
     (f.0, f.1, (n, l, f.2.chances, all_drilled told before after w number n x tally text (world_of s document f.0) f.2))
 
-module _ (told via : Option ℕ) (before mid after : ℕ) (w : World) (number n x x' : ℕ) (tally : Tally) (text text' : List ℕ) (s t : State) (document : List ℕ) (seats later : List Seat)
+module _ (told via : Option ℕ) (before mid after : ℕ) (w : World) (number n x x' : ℕ) (tally : CacheTally) (text text' : List ℕ) (s t : State) (document : List ℕ) (seats later : List Seat)
     (f : Seated told before mid w number n x tally text s document seats) (same : via ≡ told) where
   abbrev one : Outside
   one = record { told = via; renders = record { before = mid; after = after }; writes = record { before = 0; after = 0 }; from = Some text; to = Some text' }

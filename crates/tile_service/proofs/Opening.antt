@@ -9,8 +9,8 @@ use Rattle.cache_core.specs.Begun.{Begins}
 use Rattle.cache_core.specs.Shown.{shown}
 use Rattle.cache_core.specs.Steps.{Stepped, began, advanced}
 use Rattle.matrix_geometry.specs.declared.address.Address.{Address}
-use Rattle.tile_service.specs.declared.request.Kind.{Kind}
-use Rattle.tile_service.specs.declared.request.Kind.TheVariants.{Gets, Asks, Forces}
+use Rattle.tile_service.specs.declared.request.Mode.{Mode}
+use Rattle.tile_service.specs.declared.request.Mode.TheVariants.{Gets, Asks, Forces}
 use Rattle.tile_service.specs.Events.{GoesFurther, Opens}
 use Rattle.tile_service.specs.Requests.{Chance, is_at_work, further}
 use Rattle.tile_service.proofs.Moving.{begun_moves, moves_further}
@@ -19,11 +19,11 @@ use Rattle.tile_service.proofs.Moving.{begun_moves, moves_further}
 abbrev at_chance : Bool → Bool → Option (ℕ → ℕ) → Chance
 at_chance ask work bytes = record { read = true; ask = ask; work = work; bytes = bytes; left = true }
 
-pub opens_asks : (told : Option ℕ) (n : ℕ) (s : State) (a : Address) (kind : Kind) (step : Step) (t : State) → kind ≡ Asks → Begins s a false step t → Opens told n n s a kind step t
-opens_asks told n s a kind step t e h = record { chance = at_chance h.left true None; made = rw e h.began; moves = begun_moves told n s a false step t h }
+pub opens_asks : (told : Option ℕ) (n : ℕ) (s : State) (a : Address) (mode : Mode) (step : Step) (t : State) → mode ≡ Asks → Begins s a false step t → Opens told n n s a mode step t
+opens_asks told n s a mode step t e h = record { chance = at_chance h.left true None; made = rw e h.began; moves = begun_moves told n s a false step t h }
 
-pub opens_forces : (told : Option ℕ) (n : ℕ) (s : State) (a : Address) (kind : Kind) (step : Step) (t : State) → kind ≡ Forces → Begins s a true step t → Opens told n n s a kind step t
-opens_forces told n s a kind step t e h = record { chance = at_chance h.left true None; made = rw e h.began; moves = begun_moves told n s a true step t h }
+pub opens_forces : (told : Option ℕ) (n : ℕ) (s : State) (a : Address) (mode : Mode) (step : Step) (t : State) → mode ≡ Forces → Begins s a true step t → Opens told n n s a mode step t
+opens_forces told n s a mode step t e h = record { chance = at_chance h.left true None; made = rw e h.began; moves = begun_moves told n s a true step t h }
 
 -- the actor has no render before it
 abbrev NoRender : Actor → Type 0
@@ -82,9 +82,9 @@ module _ (told : Option ℕ) (before mid after : ℕ) (s u v t : State) (a : Add
       again c (inl g) e none = let d : shown step t ≡ shown rendered v = rw (g.1, g.2) refl in rw (sym e) (d ∙ sym (further_stays c (shown rendered v) g.0))
       again c (inr g) e none = rw (sym e) (g.1.advanced ∙ no_chance v rendered.actor g.1.left c.work g.1.bytes c.bytes none g.0 ∙ sym (further_goes c (shown rendered v) g.0))
 
-pub opens_gets : (told via : Option ℕ) (before mid after : ℕ) (s u v t : State) (a : Address) (kind : Kind) (asked rendered step : Step) → kind ≡ Gets → Begins s a false asked u
-    → GoesFurther told before mid u asked rendered v → via ≡ told → GoesFurther via mid after v rendered step t → Opens told before after s a kind step t
-opens_gets told via before mid after s u v t a kind asked rendered step e h f same k =
+pub opens_gets : (told via : Option ℕ) (before mid after : ℕ) (s u v t : State) (a : Address) (mode : Mode) (asked rendered step : Step) → mode ≡ Gets → Begins s a false asked u
+    → GoesFurther told before mid u asked rendered v → via ≡ told → GoesFurther via mid after v rendered step t → Opens told before after s a mode step t
+opens_gets told via before mid after s u v t a mode asked rendered step e h f same k =
     let g : GoesFurther told mid after v rendered step t = rw (sym same) k in
     let w = twice told before mid after s u v t a h.left asked rendered step h.began f g in
     let first = begun_moves told before s a false asked u h in

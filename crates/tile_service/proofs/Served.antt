@@ -11,19 +11,19 @@ use Rattle.http_wire.specs.declared.message.Message.{Message}
 use Rattle.matrix_geometry.specs.declared.address.Address.{Address}
 use Rattle.tile_service.specs.declared.outcome.Outcome.{Outcome}
 use Rattle.tile_service.specs.declared.outcome.Outcome.TheVariants as outcome
-use Rattle.tile_service.specs.declared.request.Kind.TheVariants.{Gets}
+use Rattle.tile_service.specs.declared.request.Mode.TheVariants.{Gets}
 use Rattle.tile_service.specs.declared.request.Request.{Request}
 use Rattle.tile_service.specs.declared.request.Request.TheVariants as request
 use Rattle.tile_service.specs.declared.routes.Route.{Route}
 use Rattle.tile_service.specs.declared.routes.Route.TheVariants as route
-use Rattle.tile_service.specs.Dealing.{IsAtOnce, IsGot}
+use Rattle.tile_service.specs.Performing.{IsImmediate, IsGot}
 use Rattle.tile_service.specs.Events.{Opens}
 use Rattle.tile_service.specs.OneLine.{Keeps, world_of}
 use Rattle.tile_service.specs.Requests.{calm, events, outcome_of}
 use Rattle.tile_service.specs.Routes.{path_of, route_of, request_at}
-use Rattle.tile_service.specs.Run.{Busy, World, seat_after, answers_after, settled, started, sent, request_in}
+use Rattle.tile_service.specs.Run.{PendingRequest, World, seat_after, answers_after, settled, started, sent, request_in}
 use Rattle.tile_service.specs.Session.{IsAtRest, Serves, lone}
-use Rattle.tile_service.proofs.AtOnce.{at_once_told, read_asks, same_events, with_ends}
+use Rattle.tile_service.proofs.Immediately.{immediate_told, read_asks, same_events, with_ends}
 use Rattle.tile_service.proofs.AtRest.{IsDone, get_done}
 use Rattle.tile_service.proofs.Seating.{settled_keeps}
 use Rattle.tile_service.proofs.Telling.{same_stays, told_keeps}
@@ -66,9 +66,9 @@ module _ (told : Option ℕ) (document : List ℕ) (s : State) (m : Message) (re
         rests = rest;
       }
 
-  pub at_once_serves : (count : ℕ) (r : Request) (o : Outcome) (t : State) → r ≡ asks → IsAtOnce s document r o t → Serves told count count document s m o t
-  at_once_serves count r o t e k =
-      let d = at_once_told s document r o t k in
+  pub immediate_serves : (count : ℕ) (r : Request) (o : Outcome) (t : State) → r ≡ asks → IsImmediate s document r o t → Serves told count count document s m o t
+  immediate_serves count r o t e k =
+      let d = immediate_told s document r o t k in
       record {
         request = Some r;
         chance = λ left. with_ends d.chance true left;
@@ -78,10 +78,10 @@ module _ (told : Option ℕ) (document : List ℕ) (s : State) (m : Message) (re
       }
 
   module _ (before after : ℕ) (a : Address) (e : request.Tile a ≡ asks) (step : Step) (t : State) (h : Opens told before after s a Gets step t) where
-    abbrev busy : ℕ → Busy
+    abbrev busy : ℕ → PendingRequest
     busy i = started (lone s document) i m a
 
-    abbrev there_after : Busy → Option cached.Outcome → World
+    abbrev there_after : PendingRequest → Option cached.Outcome → World
     there_after b x = world_of t document (slice_set (None ∷ []) 0 (seat_after b step.actor x))
 
     made_with : (i : ℕ) (left : Bool) (x : Option cached.Outcome) → step.outcome ≡ x → sent (lone s document) i (with_ends h.chance true left) Gets 0 m ≡ (there_after (busy i) x, answers_after i 0 left (busy i) x)

@@ -16,21 +16,21 @@ use Rattle.schedule_text.specs.declared.verb.Verb.{Verb}
 use Rattle.schedule_text.specs.declared.verb.Verb.TheVariants.{Get, Ask, Force, Step, Truncate, Expire}
 use Rattle.schedule_text.specs.Line.{actor_of, digits_len, is_target, verb_of, word}
 use Rattle.tile_service.specs.Drill.{made}
-use Rattle.tile_service.specs.Lines.{deed_in, deed_with, is_idle}
+use Rattle.tile_service.specs.Lines.{action_in, action_with, says_nothing}
 use Rattle.tile_service.specs.Made.{Aimed, aimed_at, cols_at, cover_text, drawn, line_of_actor, made_idle, next_x, rows_at, said, target_of}
 use Rattle.tile_service.specs.Requests.{Chance}
-use Rattle.tile_service.specs.Run.{Answer, Busy, World, if_free, line_done, stepped}
+use Rattle.tile_service.specs.Run.{Answer, PendingRequest, World, if_free, line_done, stepped}
 use Rattle.tile_service.proofs.Plain.{plain_cover, plain_target}
 
 -- LINES
 
 -- the actor does something by the verb, with some rest
 abbrev Does : ℕ → Verb → List ℕ → Type 0
-Does actor verb line = (rest : List ℕ) × (deed_in line ≡ Some (deed_with actor verb rest))
+Does actor verb line = (rest : List ℕ) × (action_in line ≡ Some (action_with actor verb rest))
 
-does_by : (line text : List ℕ) (actor : ℕ) (verb : Verb) → length line ≤ LINE_LIMIT → is_idle line ≡ false → digits_len line ≡ 1 → actor_of (take 1 line) ≡ Some actor → slice_index line 1 ≡ 32 → drop 2 line ≡ text
+does_by : (line text : List ℕ) (actor : ℕ) (verb : Verb) → length line ≤ LINE_LIMIT → says_nothing line ≡ false → digits_len line ≡ 1 → actor_of (take 1 line) ≡ Some actor → slice_index line 1 ≡ 32 → drop 2 line ≡ text
     → verb_of text ≡ Some verb → Does actor verb line
-unfolding deed_in
+unfolding action_in
 does_by line text actor verb short busy count named space rest spelt =
     (drop (1 + 1 + length (word verb)) line, rw (le-ltb _ _ short, busy, count, named, space, rest, spelt) refl)
 
@@ -151,10 +151,10 @@ idle_does c a actor x l =
     let s = says a.aim a.layer a.style a.grid z row col (drawn_small _ _) (drawn_small _ _) (drawn_small _ _) (drawn 16 x) in
     (s.verb, s.sends, does_said actor (said a.aim (drawn 16 x) z row col) s.verb l s.short s.spelt)
 
-free_done : (o : Option (Option Busy)) (d : World × List Answer) → o ≡ Some None → if_free o d ≡ None → ⊥
+free_done : (o : Option (Option PendingRequest)) (d : World × List Answer) → o ≡ Some None → if_free o d ≡ None → ⊥
 free_done o d free e = none-some d (sym e ∙ ap (λ p. if_free p d) free)
 
-sends_done : (w : World) (n : ℕ) (c : Chance) (i : ℕ) (verb : Verb) (rest : List ℕ) → (verb ≡ Step → ⊥) → slice_get w.seats i ≡ Some None → line_done w n c (Some (deed_with i verb rest)) ≡ None → ⊥
+sends_done : (w : World) (n : ℕ) (c : Chance) (i : ℕ) (verb : Verb) (rest : List ℕ) → (verb ≡ Step → ⊥) → slice_get w.seats i ≡ Some None → line_done w n c (Some (action_with i verb rest)) ≡ None → ⊥
 sends_done w n c i Get rest k free e = free_done _ _ free e
 sends_done w n c i Ask rest k free e = free_done _ _ free e
 sends_done w n c i Force rest k free e = free_done _ _ free e
@@ -162,9 +162,9 @@ sends_done w n c i Step rest k free e = k refl
 sends_done w n c i Truncate rest k free e = free_done _ _ free e
 sends_done w n c i Expire rest k free e = free_done _ _ free e
 
-module _ (w : World) (n : ℕ) (c : Chance) (x : ℕ) (refused : line_done w n c (deed_in (made w x).line) ≡ None) where
-  refused_as : (line : List ℕ) (verb : Verb) (d : Does (drawn 4 x) verb line) → (made w x).line ≡ line → line_done w n c (Some (deed_with (drawn 4 x) verb d.0)) ≡ None
-  refused_as line verb d e = subst (λ o. line_done w n c o ≡ None) (ap deed_in e ∙ d.1) refused
+module _ (w : World) (n : ℕ) (c : Chance) (x : ℕ) (refused : line_done w n c (action_in (made w x).line) ≡ None) where
+  refused_as : (line : List ℕ) (verb : Verb) (d : Does (drawn 4 x) verb line) → (made w x).line ≡ line → line_done w n c (Some (action_with (drawn 4 x) verb d.0)) ≡ None
+  refused_as line verb d e = subst (λ o. line_done w n c o ≡ None) (ap action_in e ∙ d.1) refused
 
   idle_done : IsValid w.cabinet.catalogue → slice_get w.seats (drawn 4 x) ≡ Some None → ⊥
   idle_done v free =
@@ -173,18 +173,18 @@ module _ (w : World) (n : ℕ) (c : Chance) (x : ℕ) (refused : line_done w n c
       let line : (made w x).line ≡ (made_idle a.aim (drawn 4 x) (next_x x)).line = rw (free, a.aimed) refl in
       sends_done w n c (drawn 4 x) d.0 d.2.0 d.1 free (refused_as _ d.0 d.2 line)
 
-  busy_done : (b : Busy) → slice_get w.seats (drawn 4 x) ≡ Some (Some b) → ⊥
+  busy_done : (b : PendingRequest) → slice_get w.seats (drawn 4 x) ≡ Some (Some b) → ⊥
   busy_done b busy =
       let d = does_said (drawn 4 x) (codes "STEP") Step (drawn_actor x) (omega arith) refl in
       let line : (made w x).line ≡ line_of_actor (drawn 4 x) (codes "STEP") = rw busy refl in
       none-some _ (sym (refused_as _ Step d line) ∙ ap (λ o. stepped w n c (drawn 4 x) o) busy)
 
-none_refused : (w : World) (n : ℕ) (c : Chance) (x : ℕ) → IsValid w.cabinet.catalogue → (seat : Option Busy) → slice_get w.seats (drawn 4 x) ≡ Some seat → line_done w n c (deed_in (made w x).line) ≡ None → ⊥
+none_refused : (w : World) (n : ℕ) (c : Chance) (x : ℕ) → IsValid w.cabinet.catalogue → (seat : Option PendingRequest) → slice_get w.seats (drawn 4 x) ≡ Some seat → line_done w n c (action_in (made w x).line) ≡ None → ⊥
 none_refused w n c x v None at e = idle_done w n c x e v at
 none_refused w n c x v (Some b) at e = busy_done w n c x e b at
 
 -- in a valid catalogue a made line is never refused
-pub never_refused : (w : World) (n : ℕ) (c : Chance) (x : ℕ) → IsValid w.cabinet.catalogue → 4 ≤ length w.seats → line_done w n c (deed_in (made w x).line) ≡ None → ⊥
+pub never_refused : (w : World) (n : ℕ) (c : Chance) (x : ℕ) → IsValid w.cabinet.catalogue → 4 ≤ length w.seats → line_done w n c (action_in (made w x).line) ≡ None → ⊥
 never_refused w n c x v l e =
     let i = drawn_actor x in
     none_refused w n c x v (get_or w.seats (drawn 4 x) None) (slice_get-get_or w.seats (drawn 4 x) None (omega arith)) e

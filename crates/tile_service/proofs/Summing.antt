@@ -9,16 +9,16 @@ use Rattle.sha2.specs.Sha256.{sha256}
 use Rattle.tile_service.specs.declared.drill.DrillEnd.TheVariants.{Done, OutOfMemory, WriteFault}
 use Rattle.tile_service.specs.declared.drill_run.MadeEnd.TheVariants as made_end
 use Rattle.tile_service.specs.declared.seats.TheConstants.{ACTORS}
-use Rattle.tile_service.specs.declared.tally.CacheResult.{CacheResult}
-use Rattle.tile_service.specs.declared.tally.CacheResult.TheVariants.{Hit, Miss, Other}
-use Rattle.tile_service.specs.declared.tally.Tally.{Tally}
+use Rattle.tile_service.specs.declared.cache_tally.CacheResult.{CacheResult}
+use Rattle.tile_service.specs.declared.cache_tally.CacheResult.TheVariants.{Hit, Miss, Other}
+use Rattle.tile_service.specs.declared.cache_tally.CacheTally.{CacheTally}
 use Rattle.tile_service.specs.Drill.{Drills, counts_text, digest_text, drill_run, line_count, summary}
 use Rattle.tile_service.specs.Drilling.{HasMade}
 use Rattle.tile_service.specs.OneLine.{world_of}
-use Rattle.tile_service.specs.Outside.{Counts, Outside}
+use Rattle.tile_service.specs.Outside.{FaultCounts, Outside}
 use Rattle.tile_service.specs.Run.{Answer, Run, World, closed, free_seats, left_by, output_of}
 use Rattle.tile_service.specs.Sent.{AppendsFront}
-use Rattle.tile_service.specs.Tally.{is_hit, is_miss, is_other, result_of, tally_of, total}
+use Rattle.tile_service.specs.CacheTally.{is_hit, is_miss, is_other, result_of, tally_of, total}
 use Rattle.tile_service.proofs.Making.{all_drilled, made_start}
 
 -- EVERY ANSWER IS COUNTED ONCE
@@ -38,18 +38,18 @@ total_is (a ∷ answers) =
     let others = sum_by-cons (λ (b : Answer). cond (is_other (result_of b.outcome)) 1 0) a answers in
     omega arith
 
-summary_is : (number : ℕ) (r : Run) (tally : Tally) (digest : List ℕ) → tally ≡ tally_of r.answers → digest ≡ sha256 (output_of r) → counts_text number (total tally) tally ++ digest_text digest ≡ summary number r
+summary_is : (number : ℕ) (r : Run) (tally : CacheTally) (digest : List ℕ) → tally ≡ tally_of r.answers → digest ≡ sha256 (output_of r) → counts_text number (total tally) tally ++ digest_text digest ≡ summary number r
 summary_is number r tally digest e f = rw (e, f, total_is r.answers) refl
 
 -- ENDS
 
-abbrev outside : Option ℕ → Counts → Counts → Option (List ℕ) → Option (List ℕ) → Outside
+abbrev outside : Option ℕ → FaultCounts → FaultCounts → Option (List ℕ) → Option (List ℕ) → Outside
 outside told renders writes from to = record { told = told; renders = renders; writes = writes; from = from; to = to }
 
-abbrev no_faults : Counts
+abbrev no_faults : FaultCounts
 no_faults = record { before = 0; after = 0 }
 
-module _ (told : Option ℕ) (renders : Counts) (from to : Option (List ℕ)) (number : ℕ) (w last t : World) (tally : Tally) (digest : List ℕ)
+module _ (told : Option ℕ) (renders : FaultCounts) (from to : Option (List ℕ)) (number : ℕ) (w last t : World) (tally : CacheTally) (digest : List ℕ)
     (h : HasMade told renders w number last (made_end.Done tally digest)) (closes : t ≡ closed last) where
   its_text : counts_text number (total tally) tally ++ digest_text digest ≡ summary number (drill_run line_count w number h.0)
   its_text = summary_is number (drill_run line_count w number h.0) tally digest h.3 h.4

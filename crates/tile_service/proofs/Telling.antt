@@ -1,4 +1,4 @@
--- An answer at once: what it leaves of the cabinet, and what holds of it.
+-- An immediate answer: what it leaves of the cabinet, and what holds of it.
 use Rattle.std.proofs.Common.{◌≡◌, ℕ, ◌+◌, Bool, true, false, List, [], ◌∷◌, length, filter, Option, Some, None, refl, sym, arith, append-nil, if◌then◌else◌}
 use Rattle.std.specs.Prelude.{nat_lt}
 use Rattle.std.specs.List.{AllByRecursion}
@@ -19,7 +19,7 @@ use Rattle.tile_service.specs.declared.outcome.Outcome.TheVariants as outcome
 use Rattle.tile_service.specs.declared.request.Request.{Request}
 use Rattle.tile_service.specs.OneLine.{Keeps, world_of}
 use Rattle.tile_service.specs.Requests.{told_at, copied, told_usage, cut_by, cut, dropped, expired_in, expired, tile_of}
-use Rattle.tile_service.specs.Run.{Busy, Answer, is_failed, failures, unanswered, IsTrueFor, IsFreshFor}
+use Rattle.tile_service.specs.Run.{PendingRequest, Answer, is_failed, failures, unanswered, IsTrueFor, IsFreshFor}
 use Rattle.tile_service.specs.Texts.{dropped_text, usage_text}
 use Rattle.tile_service.proofs.Moving.{stay_covered, within_longer}
 use Rattle.tile_service.proofs.Seating.{seats_later}
@@ -91,11 +91,11 @@ told_fresh c h p (Some r) o e = rw e tt
 one_failed : (a : Answer) → is_failed a.outcome ≡ false → failures (a ∷ []) ≡ 0
 one_failed a e = rw e refl
 
--- an answer at once in line n, by the actor i
+-- an immediate answer in line n, by the actor i
 abbrev pub told_answer : State → ℕ → ℕ → Message → Option Request → Outcome → Bool → Answer
 told_answer s n i m r o left = record { line = n; actor = i; start = n; message = m; request = r; place = length s.history; outcome = told_at left o }
 
-pub told_keeps : (told : Option ℕ) (count : ℕ) (s t : State) (document : List ℕ) (busy : List (Option Busy)) (n i : ℕ) (m : Message) (r : Option Request) (o : Outcome) (left : Bool) → Stays s (t, o) → AsksNoTile r
+pub told_keeps : (told : Option ℕ) (count : ℕ) (s t : State) (document : List ℕ) (busy : List (Option PendingRequest)) (n i : ℕ) (m : Message) (r : Option Request) (o : Outcome) (left : Bool) → Stays s (t, o) → AsksNoTile r
     → Keeps told count count (world_of s document busy) (world_of t document busy) (told_answer s n i m r o left ∷ [])
 told_keeps told count s t document busy n i m r o left k other =
     let a = told_answer s n i m r o left in

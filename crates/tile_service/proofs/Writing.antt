@@ -3,21 +3,21 @@ use Rattle.std.proofs.Common.{◌≡◌, ℕ, Bool, true, false, List, [], ◌�
 use Rattle.std.specs.Io.KnownBytes.{Appends}
 use Rattle.causes.specs.Causes.{Rose}
 use Rattle.cabinet.specs.State.{State}
-use Rattle.tile_service.specs.declared.came.Came.TheVariants.{Refused, Silent, Answers}
-use Rattle.tile_service.specs.declared.came.Reply.{Reply}
+use Rattle.tile_service.specs.declared.action_end.ActionEnd.TheVariants.{Refused, Silent, Answers}
+use Rattle.tile_service.specs.declared.action_end.Answer as code
 use Rattle.tile_service.specs.declared.outcome.Outcome.{Outcome}
 use Rattle.tile_service.specs.declared.run_line.LineEnd.TheVariants as line_end
 use Rattle.tile_service.specs.declared.seats.Seat.{Seat}
-use Rattle.tile_service.specs.declared.tally.CacheResult.{CacheResult}
-use Rattle.tile_service.specs.declared.tally.CacheResult.TheVariants.{Hit, Miss, Other}
-use Rattle.tile_service.specs.Lines.{deed_in}
-use Rattle.tile_service.specs.OneLine.{MayTell, IsLine, Replies, Deals, answer_with}
+use Rattle.tile_service.specs.declared.cache_tally.CacheResult.{CacheResult}
+use Rattle.tile_service.specs.declared.cache_tally.CacheResult.TheVariants.{Hit, Miss, Other}
+use Rattle.tile_service.specs.Lines.{action_in}
+use Rattle.tile_service.specs.OneLine.{MayTell, IsLine, AnswersWith, Performs, answer_with}
 use Rattle.tile_service.specs.Outside.{Outside}
 use Rattle.tile_service.specs.Response.{framed, response_with}
 use Rattle.tile_service.specs.Requests.{told_at}
 use Rattle.tile_service.specs.Run.{World, Answer, answer_text}
 use Rattle.tile_service.specs.Sent.{AppendsFront}
-use Rattle.tile_service.specs.Tally.{one_of, result_of, tally_of}
+use Rattle.tile_service.specs.CacheTally.{one_of, result_of, tally_of}
 use Rattle.tile_service.specs.Written.{Writes}
 use Rattle.tile_service.proofs.Known.{appends_nothing}
 
@@ -26,7 +26,7 @@ counted_one a Hit e = rw (sym e) refl
 counted_one a Miss e = rw (sym e) refl
 counted_one a Other e = rw (sym e) refl
 
-module _ (told : Option ℕ) (before after : ℕ) (w : World) (n : ℕ) (line : List ℕ) (t : World) (r : Reply) (h : Replies told before after w n (deed_in line) t r) where
+module _ (told : Option ℕ) (before after : ℕ) (w : World) (n : ℕ) (line : List ℕ) (t : World) (r : code.Answer) (h : AnswersWith told before after w n (action_in line) t r) where
   abbrev the_answer : Bool → Answer
   the_answer left = answer_with r n h.message h.request h.place left
 
@@ -57,19 +57,19 @@ abbrev outside : Option ℕ → ℕ → ℕ → ℕ → ℕ → Option (List ℕ
 outside told before after sb sa from to = record { told = told; renders = record { before = before; after = after }; writes = record { before = sb; after = sa }; from = from; to = to }
 
 module _ (told : Option ℕ) (before after sb sa : ℕ) (from to : Option (List ℕ)) (s : State) (document : List ℕ) (seats : List Seat) (n : ℕ) (line : List ℕ) (t : State) (seats' : List Seat) where
-  pub writes_refused : to ≡ from → Deals told before after s document seats n (deed_in line) t seats' Refused → Writes (outside told before after sb sa from to) s document seats n line t seats' line_end.Refused
+  pub writes_refused : to ≡ from → Performs told before after s document seats n (action_in line) t seats' Refused → Writes (outside told before after sb sa from to) s document seats n line t seats' line_end.Refused
   writes_refused same f busy h = let d = f busy h in (d.0, d.1, (d.2.0, d.2.1, d.2.2, same))
 
-  pub writes_nothing : to ≡ from → Deals told before after s document seats n (deed_in line) t seats' Silent → Writes (outside told before after sb sa from to) s document seats n line t seats' (line_end.Done None)
+  pub writes_nothing : to ≡ from → Performs told before after s document seats n (action_in line) t seats' Silent → Writes (outside told before after sb sa from to) s document seats n line t seats' (line_end.Done None)
   writes_nothing same f busy h =
       let d = f busy h in
       let P : Option (List ℕ) → Type 0 = λ x. Appends from x [] in
       (d.0, d.1, ([], record { chance = d.2.0; made = d.2.1; keeps = d.2.2 }, subst P (sym same) (appends_nothing from), refl))
 
-  pub writes_answer : (r : Reply) (k : CacheResult) → MayTell r.outcome (λ o. (k ≡ result_of o) × Appends from to (framed n r.actor r.start (response_with false o))) → Deals told before after s document seats n (deed_in line) t seats' (Answers r)
+  pub writes_answer : (r : code.Answer) (k : CacheResult) → MayTell r.outcome (λ o. (k ≡ result_of o) × Appends from to (framed n r.actor r.start (response_with false o))) → Performs told before after s document seats n (action_in line) t seats' (Answers r)
       → Writes (outside told before after sb sa from to) s document seats n line t seats' (line_end.Done (Some k))
   writes_answer r k h f busy is = let d = f busy is in (d.0, d.1, line_counted told before after _ n line _ r d.2 (Appends from to) k h)
 
-  pub writes_front : (r : Reply) → MayTell r.outcome (λ o. AppendsFront from to (framed n r.actor r.start (response_with false o))) → Rose sb sa → Deals told before after s document seats n (deed_in line) t seats' (Answers r)
+  pub writes_front : (r : code.Answer) → MayTell r.outcome (λ o. AppendsFront from to (framed n r.actor r.start (response_with false o))) → Rose sb sa → Performs told before after s document seats n (action_in line) t seats' (Answers r)
       → Writes (outside told before after sb sa from to) s document seats n line t seats' line_end.WriteFault
   writes_front r k rose f busy h = let d = f busy h in let l = one_told told before after _ n line _ r d.2 (AppendsFront from to) k in (d.0, d.1, (l.0, l.1, l.2, rose))

@@ -6,19 +6,19 @@ use Rattle.hex.specs.Hex.{encode_lower}
 use Rattle.sha2.specs.Sha256.{sha256}
 use Rattle.tile_service.specs.declared.drill.DrillEnd.{DrillEnd}
 use Rattle.tile_service.specs.declared.drill.DrillEnd.TheVariants.{Done, WriteFault, OutOfMemory}
-use Rattle.tile_service.specs.declared.tally.Tally.{Tally}
-use Rattle.tile_service.specs.Lines.{deed_in}
+use Rattle.tile_service.specs.declared.cache_tally.CacheTally.{CacheTally}
+use Rattle.tile_service.specs.Lines.{action_in}
 use Rattle.tile_service.specs.Made.{Made, drawn, made_line}
-use Rattle.tile_service.specs.Outside.{Counts, Outside}
+use Rattle.tile_service.specs.Outside.{FaultCounts, Outside}
 use Rattle.tile_service.specs.Requests.{Chance}
-use Rattle.tile_service.specs.Run.{Answer, Busy, Run, World, closed, first_of, line_done, output_of, rest_of, run}
+use Rattle.tile_service.specs.Run.{Answer, PendingRequest, Run, World, closed, first_of, line_done, output_of, rest_of, run}
 use Rattle.tile_service.specs.Schedules.{IsUpheld}
 use Rattle.tile_service.specs.Sent.{AppendsFront}
-use Rattle.tile_service.specs.Tally.{tally_of}
+use Rattle.tile_service.specs.CacheTally.{tally_of}
 
 -- THE LINES
 
-abbrev pub is_busy : Option (Option Busy) → Bool
+abbrev pub is_busy : Option (Option PendingRequest) → Bool
 is_busy None = false
 is_busy (Some None) = false
 is_busy (Some (Some b)) = true
@@ -35,7 +35,7 @@ lines_behind (Some done) on = on done.0
 -- So many lines, of which the first has the number n: each is made in the world to which those before it came.
 unfoldable pub made_lines : ℕ → World → ℕ → ℕ → List Chance → List (List ℕ)
 made_lines zero w n x cs = []
-made_lines (suc count) w n x cs = (made w x).line ∷ lines_behind (line_done w n (first_of cs) (deed_in (made w x).line)) (λ t. made_lines count t (n + 1) (made w x).x (rest_of cs))
+made_lines (suc count) w n x cs = (made w x).line ∷ lines_behind (line_done w n (first_of cs) (action_in (made w x).line)) (λ t. made_lines count t (n + 1) (made w x).x (rest_of cs))
 
 -- THE RUN
 
@@ -52,14 +52,14 @@ abbrev pub drill_run : ℕ → World → ℕ → List Chance → Run
 drill_run count w number chances = run w 1 (drill_lines count w number chances) chances
 
 -- From w so many lines of the drill were run under these chances; none was refused, and what is promised of the answers holds.
-pub record IsDrilled (told : Option ℕ) (renders : Counts) (w : World) (number count : ℕ) (chances : List Chance) (t : World) : Type 0 where
+pub record IsDrilled (told : Option ℕ) (renders : FaultCounts) (w : World) (number count : ℕ) (chances : List Chance) (t : World) : Type 0 where
   pub ends : (drill_run count w number chances).refused ≡ None
   pub world : t ≡ (drill_run count w number chances).world
   pub upheld : IsUpheld told renders w (drill_run count w number chances)
 
 -- THE SUMMARY
 
-unfoldable pub counts_text : ℕ → ℕ → Tally → List ℕ
+unfoldable pub counts_text : ℕ → ℕ → CacheTally → List ℕ
 counts_text number answers t =
     codes "drill " ++ decimal number ++ codes " lines 4096 answers " ++ decimal answers ++ codes " hits " ++ decimal t.hits
     ++ codes " misses " ++ decimal t.misses ++ codes " other " ++ decimal t.others ++ codes "\n"

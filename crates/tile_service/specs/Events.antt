@@ -11,7 +11,7 @@ use Rattle.cache_core.specs.Fits.{IsFit, IsTrueActor, IsTrueOutcome, IsFreshActo
 use Rattle.cache_core.specs.Shown.{shown, IsIdle}
 use Rattle.causes.specs.Causes.{RoseBy}
 use Rattle.matrix_geometry.specs.declared.address.Address.{Address}
-use Rattle.tile_service.specs.declared.request.Kind.{Kind}
+use Rattle.tile_service.specs.declared.request.Mode.{Mode}
 use Rattle.tile_service.specs.Requests.{Chance, is_at_work, events}
 
 -- where so many failures, and others beside them, were no more than a count rose by, so many now are no more than it rose by
@@ -61,7 +61,7 @@ GoesFurther told before after s old step t =
     ((is_at_work old.actor ≡ false) × (step ≡ old) × (t ≡ s) × (before ≤ after)) ⊎ ((is_at_work old.actor ≡ true) × Advances told before after s old.actor step t)
 
 -- the events of the line that asks for the tile, under some chance
-pub record Opens (told : Option ℕ) (before after : ℕ) (s : State) (a : Address) (kind : Kind) (step : Step) (t : State) : Type 0 where
+pub record Opens (told : Option ℕ) (before after : ℕ) (s : State) (a : Address) (mode : Mode) (step : Step) (t : State) : Type 0 where
   pub chance : Chance
-  pub made : shown step t ≡ events kind s a chance
+  pub made : shown step t ≡ events mode s a chance
   pub moves : Moves told before after s actor.Idle a (length s.history) step t

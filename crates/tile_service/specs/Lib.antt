@@ -7,13 +7,13 @@ pub mod Events
 pub mod Run
 pub mod Alike
 pub mod Seats
-pub mod Dealing
+pub mod Performing
 pub mod OneLine
 pub mod Sent
 pub mod Outside
 pub mod Written
 pub mod Schedules
-pub mod Tally
+pub mod CacheTally
 pub mod Made
 pub mod Drill
 pub mod Drilling

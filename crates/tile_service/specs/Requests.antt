@@ -21,8 +21,8 @@ use Rattle.served_covers.specs.OfCatalogue.{IsCoverOf}
 use Rattle.truncation_list.specs.declared.cover.Cover.{Cover}
 use Rattle.tile_service.specs.declared.outcome.Outcome.{Outcome}
 use Rattle.tile_service.specs.declared.outcome.Outcome.TheVariants as outcome
-use Rattle.tile_service.specs.declared.request.Kind.{Kind}
-use Rattle.tile_service.specs.declared.request.Kind.TheVariants.{Gets, Asks, Forces}
+use Rattle.tile_service.specs.declared.request.Mode.{Mode}
+use Rattle.tile_service.specs.declared.request.Mode.TheVariants.{Gets, Asks, Forces}
 use Rattle.tile_service.specs.declared.request.Request.{Request}
 use Rattle.tile_service.specs.declared.request.Request.TheVariants as request
 use Rattle.tile_service.specs.Texts.{usage_text, dropped_text}
@@ -57,13 +57,13 @@ abbrev pub further : Chance → Stepped → Stepped
 further c r = if is_at_work r.actor then advanced r.cabinet r.actor c.work c.bytes else r
 
 -- the render and the finish follow in the same line
-abbrev pub at_once : Chance → Stepped → Stepped
-at_once c r = further c (further c r)
+abbrev pub carried_on : Chance → Stepped → Stepped
+carried_on c r = further c (further c r)
 
 -- the events of the line that asks for a tile: a GET goes on until it is answered or waits; an ask and a force stay the one
 -- event
-abbrev pub events : Kind → State → Address → Chance → Stepped
-events Gets s a c = at_once c (began s a false c.ask)
+abbrev pub events : Mode → State → Address → Chance → Stepped
+events Gets s a c = carried_on c (began s a false c.ask)
 events Asks s a c = began s a false c.ask
 events Forces s a c = began s a true c.ask
 

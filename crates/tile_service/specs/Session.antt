@@ -1,15 +1,15 @@
 -- The run of a session: the messages of one connection, in order, each answered before the next is looked at. No render runs
--- between them, so that a tile is asked for, rendered and finished at once.
+-- between them, so that a tile is asked for, rendered and finished before the next.
 use Rattle.std.specs.Prelude.{ℕ, ◌≡◌, ◌+◌, Bool, true, List, [], ◌∷◌, ◌++◌, length, map, flat_map, Option, Some, None}
 use Rattle.std.specs.List.{AllByRecursion}
 use Rattle.cabinet.specs.State.{State, IsSound, now}
 use Rattle.causes.specs.Causes.{RoseBy}
 use Rattle.http_wire.specs.declared.message.Message.{Message}
 use Rattle.tile_service.specs.declared.outcome.Outcome.{Outcome}
-use Rattle.tile_service.specs.declared.request.Kind.TheVariants.{Gets}
+use Rattle.tile_service.specs.declared.request.Mode.TheVariants.{Gets}
 use Rattle.tile_service.specs.declared.request.Request.{Request}
 use Rattle.tile_service.specs.OneLine.{Keeps}
-use Rattle.tile_service.specs.Outside.{Counts}
+use Rattle.tile_service.specs.Outside.{FaultCounts}
 use Rattle.tile_service.specs.Requests.{Chance, told_at}
 use Rattle.tile_service.specs.Response.{bare, response}
 use Rattle.tile_service.specs.Run.{World, Answer, sent, first_of, rest_of, failures, IsTrue, IsFresh}
@@ -47,7 +47,7 @@ bad_text status = bare true status
 -- From s these messages of a session came to t with these answers, under some chances: each message has one. No more answers
 -- say that the source failed than its count rose by. Where the source is modelled as the catalogue's, each tile is the
 -- picture of its number; and each tile is fresh at its ask.
-pub record IsServed (told : Option ℕ) (renders : Counts) (document : List ℕ) (s t : State) (messages : List Message) (answers : List Answer) : Type 0 where
+pub record IsServed (told : Option ℕ) (renders : FaultCounts) (document : List ℕ) (s t : State) (messages : List Message) (answers : List Answer) : Type 0 where
   pub chances : List Chance
   pub made : session (lone s document) 1 messages chances ≡ (lone t document, answers)
   pub each : map (λ a. a.message) answers ≡ messages

@@ -12,7 +12,7 @@ use Rattle.http_wire.specs.Messages.{HoldsMessage, StopsAs}
 use Rattle.http_wire.specs.Streams.{StandIn}
 use Rattle.tile_service.specs.declared.session.SessionEnd.{SessionEnd}
 use Rattle.tile_service.specs.declared.session.SessionEnd.TheVariants.{Closed, Truncated, Bad, ReadFault, WriteFault, TooMany, OutOfMemory}
-use Rattle.tile_service.specs.Outside.{Input, Outside}
+use Rattle.tile_service.specs.Outside.{InputChange, Outside}
 use Rattle.tile_service.specs.Run.{Answer}
 use Rattle.tile_service.specs.Sent.{AppendsPart}
 use Rattle.tile_service.specs.Session.{IsServed, reply_text, replies, bad_text}
@@ -55,7 +55,7 @@ IsCutOff messages answers held rest whole part =
 
 -- How a session ended after these messages, which have these answers. After them stand the bytes that are held, then those
 -- that are left: this rest of the stream. A read that failed kept no message waiting that had come whole.
-abbrev pub Ends : Input → Outside → List Message → List Answer → List ℕ → Option (List ℕ) → SessionEnd → Type 0
+abbrev pub Ends : InputChange → Outside → List Message → List Answer → List ℕ → Option (List ℕ) → SessionEnd → Type 0
 Ends i o messages answers held rest Closed = IsClosed messages held rest × Appends o.from o.to (replies answers)
 Ends i o messages answers held rest Truncated = GoOn messages × StopsThere rest stop.Truncated × Appends o.from o.to (replies answers)
 Ends i o messages answers held rest (Bad status) = GoOn messages × StopsThere rest (stop.Bad status) × Appends o.from o.to (replies answers ++ bad_text status)
@@ -66,7 +66,7 @@ Ends i o messages answers held rest WriteFault = (whole : List ℕ) × (part : L
 
 -- A session was held over a link, by a cabinet that came from s to t. Its messages stand at the front of the bytes that were
 -- left, where modelled; after them stand bytes that were taken from the link too early, and those that are left now.
-pub record HasSession (i : Input) (o : Outside) (document : List ℕ) (s t : State) (end : SessionEnd) : Type 0 where
+pub record HasSession (i : InputChange) (o : Outside) (document : List ℕ) (s t : State) (end : SessionEnd) : Type 0 where
   pub messages : List Message
   pub answers : List Answer
   pub held : List ℕ

@@ -19,12 +19,12 @@ quota_text None = codes "-"
 quota_text (Some bytes) = decimal bytes
 
 -- how many metatiles are kept, their bytes, and the quota
-abbrev pub counts_text : ℕ → ℕ → Option ℕ → List ℕ
-counts_text metatiles bytes quota = codes " " ++ decimal metatiles ++ codes " " ++ decimal bytes ++ codes " " ++ quota_text quota ++ codes "\n"
+abbrev pub kept_counts_text : ℕ → ℕ → Option ℕ → List ℕ
+kept_counts_text metatiles bytes quota = codes " " ++ decimal metatiles ++ codes " " ++ decimal bytes ++ codes " " ++ quota_text quota ++ codes "\n"
 
 -- the line of the layer of this number
 abbrev pub layer_line : State → ℕ → Layer → List ℕ
-layer_line s n l = codes "layer " ++ l.id ++ counts_text (kept_in s n) (used s n) l.quota
+layer_line s n l = codes "layer " ++ l.id ++ kept_counts_text (kept_in s n) (used s n) l.quota
 
 -- those of layers of which the first has this number
 abbrev pub layer_lines : State → ℕ → List Layer → List ℕ
@@ -33,7 +33,7 @@ layer_lines s n (l ∷ ls) = layer_line s n l ++ layer_lines s (n + 1) ls
 
 -- the line of all layers
 abbrev pub total_line : State → List ℕ
-total_line s = codes "total" ++ counts_text (length (now s).kept) (used_all s) s.catalogue.quota
+total_line s = codes "total" ++ kept_counts_text (length (now s).kept) (used_all s) s.catalogue.quota
 
 -- how many truncations are in force
 abbrev pub cuts_line : State → List ℕ

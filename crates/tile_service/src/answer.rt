@@ -6,11 +6,11 @@ ghost use Rattle.causes.specs.Causes.{HasCause};
 ghost use Rattle.tile_service.specs.OneLine.{MayTell};
 ghost use Rattle.tile_service.specs.Response.{answer_line, framed, response_with};
 ghost use Rattle.tile_service.specs.Sent.{AppendsFront};
-ghost use Rattle.tile_service.specs.Tally.{result_of};
+ghost use Rattle.tile_service.specs.CacheTally.{result_of};
 
-use crate::came::Reply;
+use crate::action_end::Answer;
 use crate::response::{no_memory, response_with};
-use crate::tally::{CacheResult, result_of};
+use crate::cache_tally::{CacheResult, result_of};
 use arrayvec::ArrayVec;
 use http_wire::sending::{Sent, send};
 use http_wire::streams::ByteSink;
@@ -93,26 +93,26 @@ fn send_answer<O: ByteSink>(
     send_both(output, head.as_slice(), response)
 }
 
-/// Writes a reply in line `line`, and closes no connection. Where memory runs out, the answer says so. Gives what the
+/// Writes an answer in line `line`, and closes no connection. Where memory runs out, the answer says so. Gives what the
 /// answer tells of the cache.
-pub fn answer<O: ByteSink>(
+pub fn write_answer<O: ByteSink>(
     alloc: Global,
     output: &mut O,
     line: u64,
-    reply: &Reply,
+    answer: &Answer,
 ) -> Result<CacheResult, Sent>
-    ensures ok { IfOk result (λ told. MayTell reply.now.outcome (λ o. (told ≡ result_of o) × Appends (O.taken output.old) (O.taken output.new) (framed line reply.now.actor reply.now.start (response_with false o)))) }
-    ensures err { OnErr result (MayTell reply.now.outcome (λ o. AppendsFront (O.taken output.old) (O.taken output.new) (framed line reply.now.actor reply.now.start (response_with false o)))) }
+    ensures ok { IfOk result (λ told. MayTell answer.now.outcome (λ o. (told ≡ result_of o) × Appends (O.taken output.old) (O.taken output.new) (framed line answer.now.actor answer.now.start (response_with false o)))) }
+    ensures err { OnErr result (MayTell answer.now.outcome (λ o. AppendsFront (O.taken output.old) (O.taken output.new) (framed line answer.now.actor answer.now.start (response_with false o)))) }
     ensures cause { HasCause (O.faults output.old) (O.faults output.new) result }
 {
-    match response_with(alloc, false, &reply.outcome) {
+    match response_with(alloc, false, &answer.outcome) {
         Ok(response) => {
-            match send_answer(output, line, reply.actor, reply.start, response.as_slice()) {
-                Ok(()) => Ok(result_of(&reply.outcome)),
+            match send_answer(output, line, answer.actor, answer.start, response.as_slice()) {
+                Ok(()) => Ok(result_of(&answer.outcome)),
                 Err(sent) => Err(sent),
             }
         }
-        Err(_) => match send_answer(output, line, reply.actor, reply.start, no_memory(false)) {
+        Err(_) => match send_answer(output, line, answer.actor, answer.start, no_memory(false)) {
             Ok(()) => Ok(CacheResult::Other),
             Err(sent) => Err(sent),
         },

@@ -1,4 +1,4 @@
-//! What is answered at once from the cabinet and the capabilities document.
+//! What is answered in one step from the cabinet and the capabilities document.
 ghost use Rattle.std.specs.Prelude.{◌≡◌, Bool};
 ghost use Rattle.catalog.specs.Valid.{IsValid};
 ghost use Rattle.served_covers.specs.OfCatalogue.{IsCoverOf};

@@ -3,7 +3,7 @@ ghost use Rattle.std.specs.Prelude.{◌≡◌, ◌<◌, ◌++◌, IfOk, OnOk, If
 ghost use Rattle.catalog.specs.Valid.{IsGrid, IsNamedGrid, IsValid};
 ghost use Rattle.tile_service.specs.Drilling.{shown_aim};
 ghost use Rattle.tile_service.specs.Made.{aimed_at, cols_at, cover_text, dimension_text, drawn, line_of_actor, made_idle, made_line, name_at, rows_at, said, target_of, value_of};
-ghost use Rattle.tile_service.specs.Seats.{desk_at};
+ghost use Rattle.tile_service.specs.Seats.{pending_at};
 
 use crate::draws::Draws;
 use crate::numbers::add_number;
@@ -239,7 +239,7 @@ pub fn made_line(
     draws: &mut Draws,
 ) -> Result<Vec<u8>, AllocError>
     requires { IsValid catalogue.now }
-    ensures { IfOk result (λ v. record { line = v.items; x = draws.new.x } ≡ made_line catalogue.now (is_some (desk_at (slice_get seats.now (drawn 4 draws.old.x)))) draws.old.x) }
+    ensures { IfOk result (λ v. record { line = v.items; x = draws.new.x } ≡ made_line catalogue.now (is_some (pending_at (slice_get seats.now (drawn 4 draws.old.x)))) draws.old.x) }
 {
     let actor = draws.draw(4);
     if is_busy(seats, actor) {

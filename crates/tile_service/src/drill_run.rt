@@ -3,7 +3,7 @@ ghost use Rattle.std.specs.Prelude.{◌≡◌, List, Option, Some, IfOk, OnErr, 
 ghost use Rattle.catalog.specs.Valid.{IsValid};
 ghost use Rattle.tile_service.specs.Drilling.{HasMade, Makes};
 ghost use Rattle.tile_service.specs.OneLine.{IsSeated, seat_of, world_of};
-ghost use Rattle.tile_service.specs.Run.{Busy, free_seats};
+ghost use Rattle.tile_service.specs.Run.{PendingRequest, free_seats};
 
 use crate::counter::Counter;
 use crate::digest_sink::DigestSink;
@@ -11,7 +11,7 @@ use crate::draws::Draws;
 use crate::drill_lines::made_line;
 use crate::run_line::{LineEnd, run_line};
 use crate::seats::{ACTORS, Seat};
-use crate::tally::Tally;
+use crate::cache_tally::CacheTally;
 use source_render::source::Source;
 use std::alloc::{AllocError, Global};
 
@@ -22,7 +22,7 @@ pub const DRILL_LINES: u64 = 4096;
 #[derive(Clone, Copy, Debug, PartialEq, Eq)]
 pub enum MadeEnd {
     /// All were run: what their answers tell of the cache, and the SHA-256 of what they write.
-    Done(Tally, [u8; 32]),
+    Done(CacheTally, [u8; 32]),
     /// Memory ran out for a line.
     OutOfMemory,
 }
@@ -38,7 +38,7 @@ fn run_made_line<S: Source>(
     n: u64,
 ) -> Result<LineEnd, AllocError>
     requires valid { IsValid counter.old.cabinet.catalogue }
-    requires seated { (busy : List (Option Busy)) × IsSeated counter.old.cabinet counter.old.capabilities seats.old busy }
+    requires seated { (busy : List (Option PendingRequest)) × IsSeated counter.old.cabinet counter.old.capabilities seats.old busy }
     ensures makes { IfOk result (λ end. Makes
         (record { told = S.told source.old; renders = record { before = S.faults source.old; after = S.faults source.new }; writes = record { before = 0; after = 0 }; from = Some output.old; to = Some output.new })
         counter.old.cabinet counter.old.capabilities seats.old n draws.old.x counter.new.cabinet seats.new draws.new.x end) }
@@ -61,7 +61,7 @@ pub fn run_made_lines<S: Source>(
 ) -> MadeEnd
     requires valid { IsValid counter.old.cabinet.catalogue }
     requires free { seats.old ≡ replicate ACTORS Seat.Free }
-    ensures made { (busy : List (Option Busy)) × (map seat_of busy ≡ seats.new) × HasMade (S.told source.old) (record { before = S.faults source.old; after = S.faults source.new })
+    ensures made { (busy : List (Option PendingRequest)) × (map seat_of busy ≡ seats.new) × HasMade (S.told source.old) (record { before = S.faults source.old; after = S.faults source.new })
         (world_of counter.old.cabinet counter.old.capabilities free_seats) number (world_of counter.new.cabinet counter.new.capabilities busy) result }
     ensures capabilities { counter.new.capabilities ≡ counter.old.capabilities }
 {
@@ -69,7 +69,7 @@ pub fn run_made_lines<S: Source>(
         x: u64::from(number),
     };
     let mut output = DigestSink::new();
-    let mut tally = Tally::NONE;
+    let mut tally = CacheTally::NONE;
     let mut lines = 0;
     'making: while lines < DRILL_LINES {
         lines += 1;

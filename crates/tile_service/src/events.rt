@@ -7,7 +7,7 @@ ghost use Rattle.matrix_geometry.specs.declared.address.Address.{Address};
 ghost use Rattle.tile_service.specs.Events.{GoesFurther, Opens};
 ghost use Rattle.tile_service.specs.Requests.{is_at_work};
 
-use crate::request::Kind;
+use crate::request::Mode;
 use cabinet::cabinet::Cabinet;
 use cache_core::actor::{Actor, Step};
 use cache_core::steps::{advance, begin};
@@ -45,16 +45,16 @@ pub fn events<S: Source>(
     cabinet: &mut Cabinet,
     source: &mut S,
     address: &Address,
-    kind: Kind,
+    mode: Mode,
 ) -> Step
     requires { IsTile cabinet.old.catalogue address.now }
-    ensures opens { Opens (S.told source.old) (S.faults source.old) (S.faults source.new) cabinet.old address.now kind result cabinet.new }
+    ensures opens { Opens (S.told source.old) (S.faults source.old) (S.faults source.new) cabinet.old address.now mode result cabinet.new }
     ensures told { S.told source.new ≡ S.told source.old }
 {
-    match kind {
-        Kind::Asks => begin(alloc, cabinet, address, false),
-        Kind::Forces => begin(alloc, cabinet, address, true),
-        Kind::Gets => {
+    match mode {
+        Mode::Asks => begin(alloc, cabinet, address, false),
+        Mode::Forces => begin(alloc, cabinet, address, true),
+        Mode::Gets => {
             let asked = begin(alloc, cabinet, address, false);
             let rendered = further(alloc, cabinet, source, asked);
             further(alloc, cabinet, source, rendered)

@@ -16,12 +16,12 @@
 #![tactic(auto)]
 
 mod answer;
-mod at_once;
-mod call;
-mod came;
+mod immediate;
+mod message_ref;
+mod action_end;
 mod commands;
 pub mod counter;
-mod deal;
+mod perform;
 mod digest_sink;
 mod draws;
 pub mod drill;
@@ -44,5 +44,5 @@ mod seats;
 mod serving;
 pub mod session;
 mod summary;
-mod tally;
+mod cache_tally;
 mod usage;

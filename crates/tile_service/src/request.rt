@@ -3,7 +3,7 @@ ghost use Rattle.std.specs.Prelude.{◌≡◌};
 ghost use Rattle.tile_service.specs.Requests.{outcome_of};
 
 use crate::outcome::Outcome;
-use cache_core::outcome::{Outcome as CoreOutcome, Tile};
+use cache_core::outcome::{Outcome as TileOutcome, Tile};
 use exception_report::code::{Code, Locator};
 use job_forms::fault::JobFault;
 use matrix_geometry::address::Address;
@@ -34,8 +34,8 @@ pub enum Request {
 
 /// How a tile is asked for.
 #[derive(Clone, Copy, Debug, PartialEq, Eq)]
-pub enum Kind {
-    /// The render and the finish follow at once, where no other render of the metatile runs.
+pub enum Mode {
+    /// The render and the finish follow in the same line, where no other render of the metatile runs.
     Gets,
     /// The ask alone.
     Asks,
@@ -44,13 +44,13 @@ pub enum Kind {
 }
 
 /// The outcome of a request for a tile as that of a request.
-pub fn outcome_of(outcome: CoreOutcome) -> Outcome
+pub fn outcome_of(outcome: TileOutcome) -> Outcome
     ensures { result ≡ outcome_of outcome }
 {
     match outcome {
-        CoreOutcome::Tile(Tile { hit, number, bytes }) => Outcome::Tile(hit, number, bytes),
-        CoreOutcome::SourceFailed => Outcome::SourceFailed,
-        CoreOutcome::Spent => Outcome::Spent,
-        CoreOutcome::NoMemory => Outcome::NoMemory,
+        TileOutcome::Tile(Tile { hit, number, bytes }) => Outcome::Tile(hit, number, bytes),
+        TileOutcome::SourceFailed => Outcome::SourceFailed,
+        TileOutcome::Spent => Outcome::Spent,
+        TileOutcome::NoMemory => Outcome::NoMemory,
     }
 }

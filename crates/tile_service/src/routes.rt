@@ -6,9 +6,9 @@ ghost use Rattle.catalog.specs.Valid.{IsValid};
 ghost use Rattle.wmts_kvp.specs.Reading.{IsOfCatalogue};
 ghost use Rattle.tile_service.specs.Requests.{IsOf};
 ghost use Rattle.job_forms.specs.Cover.{cover_of};
-ghost use Rattle.tile_service.specs.Routes.{path_of, query_of, message_of, by_get, by_post, route_of, request_of, request_or_none, truncation_of, request_at};
+ghost use Rattle.tile_service.specs.Routes.{path_of, query_of, shown_message, by_get, by_post, route_of, request_of, request_or_none, truncation_of, request_at};
 
-use crate::call::Call;
+use crate::message_ref::MessageRef;
 use crate::request::Request;
 use catalog::catalogue::Catalogue;
 use http_wire::message::Method;
@@ -155,24 +155,24 @@ pub fn request_at(
     alloc: Global,
     catalogue: &Catalogue,
     rest: &RestTable,
-    call: &Call<'_>,
+    message: &MessageRef<'_>,
     route: Route,
 ) -> Result<Request, AllocError>
     requires { IsValid catalogue.now }
-    ensures value { IfOk result (λ r. r ≡ request_at catalogue.now (message_of call.now) route) }
+    ensures value { IfOk result (λ r. r ≡ request_at catalogue.now (shown_message message.now) route) }
     ensures of { IfOk result (λ r. IsOf catalogue.now r) }
 {
     match route {
         Route::Query => {
-            let query = read_query(alloc, catalogue, query_of(call.target))?;
+            let query = read_query(alloc, catalogue, query_of(message.target))?;
             Ok(request_of(query))
         }
         Route::Path => {
-            let reading = rest.read_path(alloc, catalogue, path_of(call.target))?;
+            let reading = rest.read_path(alloc, catalogue, path_of(message.target))?;
             Ok(request_or_none(reading))
         }
         Route::Usage => Ok(Request::Usage),
-        Route::Truncate => truncation_of(alloc, catalogue, call.body),
+        Route::Truncate => truncation_of(alloc, catalogue, message.body),
         Route::Expire => Ok(Request::Expiry),
         Route::NotFound => Ok(Request::NotFound),
         Route::WrongMethod => Ok(Request::WrongMethod),

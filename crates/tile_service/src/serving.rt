@@ -1,16 +1,16 @@
-//! A message of a session, served at once, since no render runs beside it.
+//! A message of a session, served to its outcome, since no render runs beside it.
 ghost use Rattle.std.specs.Prelude.{◌≡◌};
 ghost use Rattle.catalog.specs.LookUp.{IsTile};
 ghost use Rattle.catalog.specs.Valid.{IsValid};
-ghost use Rattle.tile_service.specs.Dealing.{IsGot};
+ghost use Rattle.tile_service.specs.Performing.{IsGot};
 ghost use Rattle.tile_service.specs.Session.{IsAtRest, Serves};
 
-use crate::at_once::at_once;
-use crate::call::Call;
+use crate::immediate::immediate;
+use crate::message_ref::MessageRef;
 use crate::counter::Counter;
 use crate::events::events;
 use crate::outcome::Outcome;
-use crate::request::{Kind, Request, outcome_of};
+use crate::request::{Mode, Request, outcome_of};
 use crate::routes::{path_of, request_at, route_of};
 use cabinet::cabinet::Cabinet;
 use cache_core::actor::Step;
@@ -20,7 +20,7 @@ use matrix_geometry::address::Address;
 use source_render::source::Source;
 use std::alloc::Global;
 
-/// Serves a request for a tile, in a cabinet in which no render runs: it is asked for, rendered and finished at once.
+/// Serves a request for a tile, in a cabinet in which no render runs: it is asked for, rendered and finished.
 fn serve_tile<S: Source>(
     alloc: Global,
     cabinet: &mut Cabinet,
@@ -32,7 +32,7 @@ fn serve_tile<S: Source>(
     ensures got { IsGot (S.told source.old) (S.faults source.old) (S.faults source.new) cabinet.old address.now result cabinet.new }
     ensures told { S.told source.new ≡ S.told source.old }
 {
-    let Step { actor, outcome } = events(alloc, cabinet, source, address, Kind::Gets);
+    let Step { actor, outcome } = events(alloc, cabinet, source, address, Mode::Gets);
     match outcome {
         None => unreachable!(),
         Some(ended) => {
@@ -42,8 +42,7 @@ fn serve_tile<S: Source>(
     }
 }
 
-/// Serves a message of a session: a tile is asked for, rendered and finished at once. Where memory runs out, its outcome says
-/// so.
+/// Serves a message of a session: a tile is asked for, rendered and finished. Where memory runs out, its outcome says so.
 pub fn serve<S: Source>(
     alloc: Global,
     counter: &mut Counter,
@@ -57,18 +56,18 @@ pub fn serve<S: Source>(
     ensures capabilities { counter.new.capabilities ≡ counter.old.capabilities }
     ensures told { S.told source.new ≡ S.told source.old }
 {
-    let call = Call {
+    let borrowed = MessageRef {
         method: message.method,
         target: message.target.bytes(),
         body: message.body.bytes(),
     };
-    let route = route_of(call.method, path_of(call.target));
+    let route = route_of(borrowed.method, path_of(borrowed.target));
     let catalogue = counter.cabinet.catalogue();
-    let Ok(request) = request_at(alloc, catalogue, &counter.rest, &call, route) else {
+    let Ok(request) = request_at(alloc, catalogue, &counter.rest, &borrowed, route) else {
         return Outcome::NoMemory;
     };
     match request {
         Request::Tile(address) => serve_tile(alloc, &mut counter.cabinet, source, &address),
-        other => at_once(alloc, counter, other),
+        other => immediate(alloc, counter, other),
     }
 }

@@ -4,7 +4,7 @@ ghost use Rattle.std.specs.Io.KnownBytes.{Appends};
 ghost use Rattle.catalog.specs.Valid.{IsValid};
 ghost use Rattle.causes.specs.Causes.{HasCause};
 ghost use Rattle.tile_service.specs.OneLine.{MayTell};
-ghost use Rattle.tile_service.specs.Outside.{Input, Outside};
+ghost use Rattle.tile_service.specs.Outside.{InputChange, Outside};
 ghost use Rattle.tile_service.specs.Response.{closes, response};
 ghost use Rattle.tile_service.specs.Sent.{AppendsFront};
 ghost use Rattle.tile_service.specs.Session.{IsAtRest, Serves};

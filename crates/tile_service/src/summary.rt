@@ -5,10 +5,10 @@ ghost use Rattle.arrayvec.specs.ArrayVec.{array_vec_len};
 ghost use Rattle.causes.specs.Causes.{HasCause};
 ghost use Rattle.tile_service.specs.Drill.{counts_text, digest_text};
 ghost use Rattle.tile_service.specs.Sent.{AppendsFront};
-ghost use Rattle.tile_service.specs.Tally.{total};
+ghost use Rattle.tile_service.specs.CacheTally.{total};
 
 use crate::answer::{add, add_number, send_both};
-use crate::tally::Tally;
+use crate::cache_tally::CacheTally;
 use arrayvec::ArrayVec;
 use http_wire::sending::Sent;
 use http_wire::streams::ByteSink;
@@ -24,7 +24,7 @@ fn add_count(text: &mut ArrayVec<u8, 256>, label: &[u8], number: u64)
 }
 
 /// The line of the counts. It takes no memory.
-fn counts_text(number: u32, tally: &Tally) -> ArrayVec<u8, 256>
+fn counts_text(number: u32, tally: &CacheTally) -> ArrayVec<u8, 256>
     requires { total tally.now < 2 ^ 64 }
     ensures { result.items ≡ counts_text number (total tally.now) tally.now }
 {
@@ -58,7 +58,7 @@ fn digest_text(digest: &[u8; 32]) -> ArrayVec<u8, 256>
 pub fn send_summary<O: ByteSink>(
     output: &mut O,
     number: u32,
-    tally: &Tally,
+    tally: &CacheTally,
     digest: &[u8; 32],
 ) -> Result<(), Sent>
     requires { total tally.now < 2 ^ 64 }

@@ -1,7 +1,7 @@
 //! The text of what is kept.
 ghost use Rattle.std.specs.Prelude.{◌≡◌, ◌++◌, ◌<◌, IfOk, OnOk, length};
 ghost use Rattle.catalog.specs.Valid.{IsValid};
-ghost use Rattle.tile_service.specs.Texts.{counts_text, cuts_line, layer_line, layer_lines, quota_text, total_line, usage_text};
+ghost use Rattle.tile_service.specs.Texts.{kept_counts_text, cuts_line, layer_line, layer_lines, quota_text, total_line, usage_text};
 
 use crate::numbers::add_number;
 use cabinet::cabinet::Cabinet;
@@ -25,7 +25,7 @@ fn add_counts(
     bytes: u64,
     quota: Option<u64>,
 ) -> Result<(), AllocError>
-    ensures { OnOk result (text.new.items ≡ text.old.items ++ counts_text metatiles bytes quota) }
+    ensures { OnOk result (text.new.items ≡ text.old.items ++ kept_counts_text metatiles bytes quota) }
 {
     text.extend_from_slice(b" ")?;
     add_number(text, u64::from(metatiles))?;

@@ -2,7 +2,7 @@ use Rattle.std.proofs.Common.{◌≡◌, false, refl, sym, ◌∙◌}
 use Rattle.http_wire.specs.declared.message.Message.{Message}
 use Rattle.tile_service.specs.Run.{request_in}
 use Rattle.tile_service.specs.Session.{lone}
-use Rattle.tile_service.proofs.Served.{asks_the_same, unread_serves, at_once_serves, got_serves}
+use Rattle.tile_service.proofs.Served.{asks_the_same, unread_serves, immediate_serves, got_serves}
 use Rattle.tile_service.proofs.serving.serve.Goals as goal
 
 pub returns-in_default-clause-serves : goal.returns-in_default-clause-serves
@@ -26,4 +26,4 @@ returns-in_default-request-clause-serves g c =
     let n : Message = record { method = m.method; target = c.bytes.result.now; body = c.bytes-2.result.now; last = false } in
     let asks : c.in-Ok.request ≡ request_in (lone s document) m =
     asks_the_same s document c.catalogue-catalogue.result.now m n c.path_of.result.now c.route_of-route.result c.in-Ok.request c.catalogue-catalogue.ensures refl c.bytes.ensures c.bytes-2.ensures c.path_of.ensures c.route_of-route.ensures c.in-Ok.ensures.value in
-    at_once_serves _ document s m c.requires.rest _ c.in-Ok.request _ _ asks c.at_once.ensures.at_once
+    immediate_serves _ document s m c.requires.rest _ c.in-Ok.request _ _ asks c.immediate.ensures.immediate

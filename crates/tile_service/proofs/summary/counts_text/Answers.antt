@@ -1,6 +1,6 @@
 use Rattle.std.proofs.Common.{[], codes, decimal}
 use Rattle.tile_service.specs.Drill.{counts_text}
-use Rattle.tile_service.specs.Tally.{total}
+use Rattle.tile_service.specs.CacheTally.{total}
 use Rattle.tile_service.proofs.Gluing.{glued, glued_end, glued_first}
 use Rattle.tile_service.proofs.summary.counts_text.Goals as goal
 

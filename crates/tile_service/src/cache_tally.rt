@@ -1,6 +1,6 @@
 //! How many answers are hits, misses or neither.
 ghost use Rattle.std.specs.Prelude.{◌≡◌, ◌^◌, ◌<◌};
-ghost use Rattle.tile_service.specs.Tally.{both, one_of, result_of, total};
+ghost use Rattle.tile_service.specs.CacheTally.{both, one_of, result_of, total};
 
 use crate::outcome::Outcome;
 
@@ -17,7 +17,7 @@ pub enum CacheResult {
 
 /// How many answers tell what of the cache.
 #[derive(Clone, Copy, Debug, PartialEq, Eq)]
-pub struct Tally {
+pub struct CacheTally {
     pub hits: u64,
     pub misses: u64,
     pub others: u64,
@@ -34,9 +34,9 @@ pub fn result_of(outcome: &Outcome) -> CacheResult
     }
 }
 
-impl Tally {
+impl CacheTally {
     /// The counts of no answers.
-    pub const NONE: Tally = Tally {
+    pub const NONE: CacheTally = CacheTally {
         hits: 0,
         misses: 0,
         others: 0,

@@ -1,7 +1,7 @@
-//! Requests that aren't for a tile, each answered in one step.
+//! Requests that aren't for a tile: each has its outcome in one step.
 ghost use Rattle.std.specs.Prelude.{◌≡◌, None};
 ghost use Rattle.catalog.specs.Valid.{IsValid};
-ghost use Rattle.tile_service.specs.Dealing.{IsAtOnce};
+ghost use Rattle.tile_service.specs.Performing.{IsImmediate};
 ghost use Rattle.tile_service.specs.Requests.{IsOf, tile_of};
 
 use crate::commands::{cut, document, expire, usage};
@@ -11,11 +11,11 @@ use crate::request::Request;
 use std::alloc::Global;
 
 /// Answers a request that isn't for a tile. Where memory runs out, its outcome says so.
-pub fn at_once(alloc: Global, counter: &mut Counter, request: Request) -> Outcome
+pub fn immediate(alloc: Global, counter: &mut Counter, request: Request) -> Outcome
     requires valid { IsValid counter.old.cabinet.catalogue }
     requires of { IsOf counter.old.cabinet.catalogue request }
     requires other { tile_of request ≡ None }
-    ensures at_once { IsAtOnce counter.old.cabinet counter.old.capabilities request result counter.new.cabinet }
+    ensures immediate { IsImmediate counter.old.cabinet counter.old.capabilities request result counter.new.cabinet }
     ensures catalogue { counter.new.cabinet.catalogue ≡ counter.old.cabinet.catalogue }
     ensures capabilities { counter.new.capabilities ≡ counter.old.capabilities }
 {

@@ -1,21 +1,22 @@
-//! What a line comes to before its answer is written.
+//! How the action of a line ends, before its answer is written.
 use crate::outcome::Outcome;
 
 /// What a line answers.
 #[derive(Drop)]
-pub struct Reply {
+pub struct Answer {
     pub actor: u32,
     /// The line in which the request started, counted from 1.
     pub start: u64,
     pub outcome: Outcome,
 }
 
-/// How a line came out, before its answer is written.
+/// How the action of a line ended, before its answer is written.
 #[derive(Drop)]
-pub enum Came {
+pub enum ActionEnd {
     /// It is refused, and nothing happened.
     Refused,
-    /// It has no answer.
+    /// It was performed, and has no answer.
     Silent,
-    Answers(Reply),
+    /// It was performed, and this is its answer.
+    Answers(Answer),
 }

@@ -2,9 +2,9 @@
 use Rattle.std.specs.Prelude.{ℕ, ◌+◌, Bool, true, false, List, Option, Some, None, count_by}
 use Rattle.tile_service.specs.declared.outcome.Outcome.{Outcome}
 use Rattle.tile_service.specs.declared.outcome.Outcome.TheVariants.{Tile}
-use Rattle.tile_service.specs.declared.tally.CacheResult.{CacheResult}
-use Rattle.tile_service.specs.declared.tally.CacheResult.TheVariants.{Hit, Miss, Other}
-use Rattle.tile_service.specs.declared.tally.Tally.{Tally}
+use Rattle.tile_service.specs.declared.cache_tally.CacheResult.{CacheResult}
+use Rattle.tile_service.specs.declared.cache_tally.CacheResult.TheVariants.{Hit, Miss, Other}
+use Rattle.tile_service.specs.declared.cache_tally.CacheTally.{CacheTally}
 use Rattle.tile_service.specs.Run.{Answer}
 
 -- a tile tells whether a kept one gave it, and anything else tells nothing
@@ -29,7 +29,7 @@ is_other Miss = false
 is_other Other = true
 
 -- how many answers are hits, misses, and neither
-abbrev pub tally_of : List Answer → Tally
+abbrev pub tally_of : List Answer → CacheTally
 tally_of answers =
     record {
       hits = count_by (λ a. is_hit (result_of a.outcome)) answers;
@@ -38,15 +38,15 @@ tally_of answers =
     }
 
 -- the counts of one answer, or of none
-abbrev pub one_of : Option CacheResult → Tally
+abbrev pub one_of : Option CacheResult → CacheTally
 one_of None = record { hits = 0; misses = 0; others = 0 }
 one_of (Some Hit) = record { hits = 1; misses = 0; others = 0 }
 one_of (Some Miss) = record { hits = 0; misses = 1; others = 0 }
 one_of (Some Other) = record { hits = 0; misses = 0; others = 1 }
 
-abbrev pub both : Tally → Tally → Tally
+abbrev pub both : CacheTally → CacheTally → CacheTally
 both a b = record { hits = a.hits + b.hits; misses = a.misses + b.misses; others = a.others + b.others }
 
 -- of how many answers these are the counts
-abbrev pub total : Tally → ℕ
+abbrev pub total : CacheTally → ℕ
 total t = t.hits + t.misses + t.others
