@@ -12,7 +12,8 @@ use Rattle.tile_service.specs.declared.request.Request.TheVariants as request
 use Rattle.tile_service.specs.Performing.{IsImmediate}
 use Rattle.tile_service.specs.OneLine.{world_of}
 use Rattle.tile_service.specs.Requests.{Chance, calm, events, tile_of}
-use Rattle.tile_service.specs.Run.{PendingRequest, World, asked, sent, request_in}
+use Rattle.tile_service.specs.Routes.{request_for}
+use Rattle.tile_service.specs.Run.{PendingRequest, World, asked, sent}
 use Rattle.tile_service.specs.Session.{IsAtRest}
 use Rattle.tile_service.proofs.AtRest.{cut_rests, expired_rests}
 use Rattle.tile_service.proofs.Telling.{Stays, same_stays, copied_stays, usage_stays, cut_stays, expired_stays, told_answer}
@@ -33,7 +34,7 @@ same_events Asks s a c read left = refl
 same_events Forces s a c read left = refl
 
 -- a message that was read asks for this
-pub read_asks : (w : World) (n : ℕ) (c : Chance) (mode : Mode) (i : ℕ) (m : Message) (r : Request) (left : Bool) → r ≡ request_in w m → sent w n (with_ends c true left) mode i m ≡ asked w n (with_ends c true left) mode i m r
+pub read_asks : (w : World) (n : ℕ) (c : Chance) (mode : Mode) (i : ℕ) (m : Message) (r : Request) (left : Bool) → r ≡ request_for w.cabinet.catalogue m → sent w n (with_ends c true left) mode i m ≡ asked w n (with_ends c true left) mode i m r
 read_asks w n c mode i m r left e = let P : Request → Type 0 = λ x. sent w n (with_ends c true left) mode i m ≡ asked w n (with_ends c true left) mode i m x in subst P (sym e) refl
 
 -- ITS ANSWER

@@ -28,7 +28,7 @@ use Rattle.tile_service.specs.Events.{Moves, Opens, owed}
 use Rattle.tile_service.specs.Lines.{Action, Nothing, Sends, Steps}
 use Rattle.tile_service.specs.OneLine.{IsPending, IsSeat, IsTrueSeat, IsSeated, Keeps, ActionEnds, Performs, seat_of, world_of}
 use Rattle.tile_service.specs.Requests.{Chance, calm}
-use Rattle.tile_service.specs.Routes.{path_of, route_of, request_at}
+use Rattle.tile_service.specs.Routes.{request_for}
 use Rattle.tile_service.specs.Run.{PendingRequest, World, Answer, seat_after, answers_after, owed_at, settled, started, resumed, asked, sent, if_free, stepped, line_done, failures, unanswered}
 use Rattle.tile_service.specs.Seats.{is_free, pending_at, next_seat, action_end_of}
 use Rattle.tile_service.proofs.Immediately.{immediate_told, read_asks, same_events, with_ends}
@@ -136,7 +136,7 @@ module _ (told : Option ℕ) (s : State) (document : List ℕ) (seats : List Sea
   action = Some (Sends mode i m)
 
   abbrev asks : Request
-  asks = request_at s.catalogue m (route_of m.method (path_of m.target))
+  asks = request_for s.catalogue m
 
   module _ (busy : List (Option PendingRequest)) (h : IsSeated s document seats busy) where
     abbrev w : World

@@ -6,7 +6,6 @@ use Rattle.cache_core.specs.declared.actor.Step.{Step}
 use Rattle.cache_core.specs.declared.outcome.Outcome as cached
 use Rattle.cache_core.specs.Shown.{shown}
 use Rattle.cache_core.specs.Steps.{Stepped}
-use Rattle.catalog.specs.declared.catalogue.Catalogue.{Catalogue}
 use Rattle.http_wire.specs.declared.message.Message.{Message}
 use Rattle.matrix_geometry.specs.declared.address.Address.{Address}
 use Rattle.tile_service.specs.declared.outcome.Outcome.{Outcome}
@@ -14,37 +13,17 @@ use Rattle.tile_service.specs.declared.outcome.Outcome.TheVariants as outcome
 use Rattle.tile_service.specs.declared.request.Mode.TheVariants.{Gets}
 use Rattle.tile_service.specs.declared.request.Request.{Request}
 use Rattle.tile_service.specs.declared.request.Request.TheVariants as request
-use Rattle.tile_service.specs.declared.routes.Route.{Route}
-use Rattle.tile_service.specs.declared.routes.Route.TheVariants as route
 use Rattle.tile_service.specs.Performing.{IsImmediate, IsGot}
 use Rattle.tile_service.specs.Events.{Opens}
 use Rattle.tile_service.specs.OneLine.{Keeps, world_of}
 use Rattle.tile_service.specs.Requests.{calm, events, outcome_of}
-use Rattle.tile_service.specs.Routes.{path_of, route_of, request_at}
-use Rattle.tile_service.specs.Run.{PendingRequest, World, seat_after, answers_after, settled, started, sent, request_in}
+use Rattle.tile_service.specs.Routes.{request_for}
+use Rattle.tile_service.specs.Run.{PendingRequest, World, seat_after, answers_after, settled, started, sent}
 use Rattle.tile_service.specs.Session.{IsAtRest, Serves, lone}
 use Rattle.tile_service.proofs.Immediately.{immediate_told, read_asks, same_events, with_ends}
 use Rattle.tile_service.proofs.AtRest.{IsDone, get_done}
 use Rattle.tile_service.proofs.Seating.{settled_keeps}
 use Rattle.tile_service.proofs.Telling.{same_stays, told_keeps}
-
--- WHAT IS ASKED FOR
-
-same_request : (c : Catalogue) (m n : Message) (r : Route) → n.target ≡ m.target → n.body ≡ m.body → request_at c n r ≡ request_at c m r
-same_request c m n route.Query target body = rw target refl
-same_request c m n route.Path target body = rw target refl
-same_request c m n route.Usage target body = refl
-same_request c m n route.Truncate target body = rw body refl
-same_request c m n route.Expire target body = refl
-same_request c m n route.NotFound target body = refl
-same_request c m n route.WrongMethod target body = refl
-
--- whether it is the last of its connection or not, a message asks for the same
-pub asks_the_same : (s : State) (document : List ℕ) (c : Catalogue) (m n : Message) (path : List ℕ) (way : Route) (r : Request) → c ≡ s.catalogue → n.method ≡ m.method → n.target ≡ m.target → n.body ≡ m.body
-    → path ≡ path_of n.target → way ≡ route_of n.method path → r ≡ request_at c n way → r ≡ request_in (lone s document) m
-asks_the_same s document c m n path way r catalogue method target body leads goes asks =
-    let there : way ≡ route_of m.method (path_of m.target) = goes ∙ rw (leads, method, target) refl in
-    asks ∙ rw (catalogue, there) (same_request s.catalogue m n (route_of m.method (path_of m.target)) target body)
 
 -- A MESSAGE IS SERVED
 
@@ -54,7 +33,7 @@ got_done told before after s a step t rest h = let P : Stepped → Type 0 = IsDo
 
 module _ (told : Option ℕ) (document : List ℕ) (s : State) (m : Message) (rest : IsAtRest s) where
   abbrev asks : Request
-  asks = request_in (lone s document) m
+  asks = request_for s.catalogue m
 
   pub unread_serves : (count : ℕ) → Serves told count count document s m outcome.NoMemory s
   unread_serves count =

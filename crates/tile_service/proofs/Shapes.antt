@@ -33,7 +33,8 @@ use Rattle.tile_service.specs.declared.request.Request.{Request}
 use Rattle.tile_service.specs.declared.request.Request.TheVariants as request
 use Rattle.tile_service.specs.Lines.{Action, Nothing, Sends, Steps, action_in}
 use Rattle.tile_service.specs.Requests.{Chance, is_at_work, further, carried_on, events, cut, cut_by, dropped, expired_in}
-use Rattle.tile_service.specs.Run.{PendingRequest, World, Answer, Run, seat_after, settled, started, resumed, asked, sent, if_free, stepped, line_done, goes_on, first_of, rest_of, run, request_in}
+use Rattle.tile_service.specs.Routes.{request_for}
+use Rattle.tile_service.specs.Run.{PendingRequest, World, Answer, Run, seat_after, settled, started, resumed, asked, sent, if_free, stepped, line_done, goes_on, first_of, rest_of, run}
 use Rattle.tile_service.specs.Session.{session}
 use Rattle.tile_service.specs.Alike.{without_bytes, any_bytes}
 
@@ -246,7 +247,7 @@ either_like true d e f g h k = h
 either_like false d e f g h k = k
 
 sent_like : (w : World) (n : ℕ) (c : Chance) (mode : Mode) (i : ℕ) (m : Message) → world_in (sent w n c mode i m) ≡ world_in (sent (plain_world w) n (without_bytes c) mode i m)
-sent_like w n c mode i m = either_like c.read _ _ _ _ (asked_like w n c mode i m (request_in w m)) (same_seats w w.cabinet (plain w.cabinet) refl)
+sent_like w n c mode i m = either_like c.read _ _ _ _ (asked_like w n c mode i m (request_for w.cabinet.catalogue m)) (same_seats w w.cabinet (plain w.cabinet) refl)
 
 abbrev worlds : Option (World × List Answer) → Option World
 worlds d = option_map world_in d

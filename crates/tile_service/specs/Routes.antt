@@ -26,7 +26,7 @@ path_of target = take (prefix_len (λ b. not (b == 63)) target) target
 abbrev pub query_of : List ℕ → List ℕ
 query_of target = drop (prefix_len (λ b. not (b == 63)) target + 1) target
 
--- a message of the code as a message, which is not the last of its connection
+-- a message whose parts are borrowed; it counts as not the last of its connection
 abbrev pub shown_message : MessageRef → Message
 shown_message message = record { method = message.method; target = message.target.now; body = message.body.now; last = false }
 
@@ -73,12 +73,16 @@ abbrev pub truncation_of : Result Cover JobFault → Request
 truncation_of (Ok cover) = request.Truncation cover
 truncation_of (Err fault) = request.Unformed fault
 
--- what a message asks for where its path leads there
-abbrev pub request_at : Catalogue → Message → Route → Request
-request_at c m route.Query = request_of (query_reading c (query_of m.target))
-request_at c m route.Path = request_or_none (path_reading c (path_of m.target))
-request_at c m route.Usage = request.Usage
-request_at c m route.Truncate = truncation_of (cover_of c m.body)
-request_at c m route.Expire = request.Expiry
-request_at c m route.NotFound = request.NotFound
-request_at c m route.WrongMethod = request.WrongMethod
+-- what a target and a body ask for where the path leads there
+abbrev pub request_at : Catalogue → List ℕ → List ℕ → Route → Request
+request_at c target body route.Query = request_of (query_reading c (query_of target))
+request_at c target body route.Path = request_or_none (path_reading c (path_of target))
+request_at c target body route.Usage = request.Usage
+request_at c target body route.Truncate = truncation_of (cover_of c body)
+request_at c target body route.Expire = request.Expiry
+request_at c target body route.NotFound = request.NotFound
+request_at c target body route.WrongMethod = request.WrongMethod
+
+-- what a message asks for, whether it is the last of its connection or not
+abbrev pub request_for : Catalogue → Message → Request
+request_for c m = request_at c m.target m.body (route_of m.method (path_of m.target))

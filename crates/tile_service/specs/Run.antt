@@ -21,7 +21,7 @@ use Rattle.tile_service.specs.Events.{owed}
 use Rattle.tile_service.specs.Lines.{Action, Nothing, Sends, Steps, action_in}
 use Rattle.tile_service.specs.Requests.{Chance, calm, events, outcome_of, told_at, copied, told_usage, cut, expired, IsTrueAnswer, IsFreshAnswer}
 use Rattle.tile_service.specs.Response.{answered}
-use Rattle.tile_service.specs.Routes.{path_of, route_of, request_at}
+use Rattle.tile_service.specs.Routes.{request_for}
 
 -- WORLDS
 
@@ -111,13 +111,9 @@ asked w n c mode i m (request.Truncation cover) = told_in w n c i m (Some (reque
 asked w n c mode i m (request.Unformed fault) = told_in w n c i m (Some (request.Unformed fault)) (w.cabinet, Unformed fault)
 asked w n c mode i m request.Expiry = told_in w n c i m (Some request.Expiry) (expired w.cabinet c.work)
 
--- what a message asks for, by the table of paths
-abbrev pub request_in : World → Message → Request
-request_in w m = request_at w.cabinet.catalogue m (route_of m.method (path_of m.target))
-
 -- a message is answered; memory may run out before it is read
 abbrev pub sent : World → ℕ → Chance → Mode → ℕ → Message → World × List Answer
-sent w n c mode i m = if c.read then asked w n c mode i m (request_in w m) else told_in w n c i m None (w.cabinet, NoMemory)
+sent w n c mode i m = if c.read then asked w n c mode i m (request_for w.cabinet.catalogue m) else told_in w n c i m None (w.cabinet, NoMemory)
 
 -- there is the actor, and it is not busy
 abbrev pub if_free : Option (Option PendingRequest) → World × List Answer → Option (World × List Answer)

@@ -16,7 +16,7 @@ use crate::events::events;
 use crate::lines::{Action, action_in};
 use crate::outcome::Outcome;
 use crate::request::{Mode, Request};
-use crate::routes::{path_of, request_at, route_of};
+use crate::routes::read_request;
 use crate::seats::{Pending, Seat, pending_at, is_free, settle};
 use cache_core::steps::advance;
 use source_render::source::Source;
@@ -84,9 +84,8 @@ fn sent<S: Source>(
     if !is_free(seats, actor) {
         return ActionEnd::Refused;
     }
-    let route = route_of(message.method, path_of(message.target));
     let catalogue = counter.cabinet.catalogue();
-    let Ok(request) = request_at(alloc, catalogue, &counter.rest, message, route) else {
+    let Ok(request) = read_request(alloc, catalogue, &counter.rest, message) else {
         return answered(actor, n, Outcome::NoMemory);
     };
     asked(alloc, counter, seats, source, n, mode, actor, request)

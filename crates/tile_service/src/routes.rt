@@ -6,7 +6,7 @@ ghost use Rattle.catalog.specs.Valid.{IsValid};
 ghost use Rattle.wmts_kvp.specs.Reading.{IsOfCatalogue};
 ghost use Rattle.tile_service.specs.Requests.{IsOf};
 ghost use Rattle.job_forms.specs.Cover.{cover_of};
-ghost use Rattle.tile_service.specs.Routes.{path_of, query_of, shown_message, by_get, by_post, route_of, request_of, request_or_none, truncation_of, request_at};
+ghost use Rattle.tile_service.specs.Routes.{path_of, query_of, shown_message, by_get, by_post, route_of, request_of, request_or_none, truncation_of, request_at, request_for};
 
 use crate::message_ref::MessageRef;
 use crate::request::Request;
@@ -53,7 +53,7 @@ fn path_len(target: &[u8]) -> usize
 }
 
 /// The path of a target.
-pub fn path_of(target: &[u8]) -> &[u8]
+fn path_of(target: &[u8]) -> &[u8]
     ensures { result.now ≡ path_of target.now }
 {
     let (path, _) = target.split_at(path_len(target));
@@ -93,7 +93,7 @@ fn by_post(method: Method, found: Route) -> Route
 
 /// Where a path leads by a method.
 #[tactic(auto, unfolding(crate::specs::Routes::route_of))]
-pub fn route_of(method: Method, path: &[u8]) -> Route
+fn route_of(method: Method, path: &[u8]) -> Route
     ensures { result ≡ route_of method path.now }
 {
     if path == b"/wmts".as_slice() {
@@ -151,7 +151,7 @@ fn truncation_of(alloc: Global, catalogue: &Catalogue, text: &[u8]) -> Result<Re
 }
 
 /// What a message asks for where its path leads there. `AllocError` where memory runs out.
-pub fn request_at(
+fn request_at(
     alloc: Global,
     catalogue: &Catalogue,
     rest: &RestTable,
@@ -159,7 +159,7 @@ pub fn request_at(
     route: Route,
 ) -> Result<Request, AllocError>
     requires { IsValid catalogue.now }
-    ensures value { IfOk result (λ r. r ≡ request_at catalogue.now (shown_message message.now) route) }
+    ensures value { IfOk result (λ r. r ≡ request_at catalogue.now message.now.target.now message.now.body.now route) }
     ensures of { IfOk result (λ r. IsOf catalogue.now r) }
 {
     match route {
@@ -177,4 +177,19 @@ pub fn request_at(
         Route::NotFound => Ok(Request::NotFound),
         Route::WrongMethod => Ok(Request::WrongMethod),
     }
+}
+
+/// What a message asks for, by the table of paths. `AllocError` where memory runs out.
+pub fn read_request(
+    alloc: Global,
+    catalogue: &Catalogue,
+    rest: &RestTable,
+    message: &MessageRef<'_>,
+) -> Result<Request, AllocError>
+    requires { IsValid catalogue.now }
+    ensures value { IfOk result (λ r. r ≡ request_for catalogue.now (shown_message message.now)) }
+    ensures of { IfOk result (λ r. IsOf catalogue.now r) }
+{
+    let route = route_of(message.method, path_of(message.target));
+    request_at(alloc, catalogue, rest, message, route)
 }

@@ -11,7 +11,7 @@ use crate::counter::Counter;
 use crate::events::events;
 use crate::outcome::Outcome;
 use crate::request::{Mode, Request, outcome_of};
-use crate::routes::{path_of, request_at, route_of};
+use crate::routes::read_request;
 use cabinet::cabinet::Cabinet;
 use cache_core::actor::Step;
 use cache_core::steps::give_up;
@@ -56,14 +56,9 @@ pub fn serve<S: Source>(
     ensures capabilities { counter.new.capabilities ≡ counter.old.capabilities }
     ensures told { S.told source.new ≡ S.told source.old }
 {
-    let borrowed = MessageRef {
-        method: message.method,
-        target: message.target.bytes(),
-        body: message.body.bytes(),
-    };
-    let route = route_of(borrowed.method, path_of(borrowed.target));
     let catalogue = counter.cabinet.catalogue();
-    let Ok(request) = request_at(alloc, catalogue, &counter.rest, &borrowed, route) else {
+    let parts = MessageRef::of(message);
+    let Ok(request) = read_request(alloc, catalogue, &counter.rest, &parts) else {
         return Outcome::NoMemory;
     };
     match request {

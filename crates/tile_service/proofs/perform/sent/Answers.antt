@@ -1,5 +1,5 @@
 use Rattle.std.proofs.Common.{rules, refl, ap, ◌∙◌}
-use Rattle.tile_service.specs.Routes.{shown_message, route_of, request_at}
+use Rattle.tile_service.specs.Routes.{request_for, shown_message}
 use Rattle.tile_service.proofs.Performed.{unread_performs, asked_performs}
 use Rattle.tile_service.proofs.perform.sent.Goals as goal
 
@@ -10,4 +10,4 @@ returns-in_default-clause-performs g c =
 pub returns-clause-performs : goal.returns-clause-performs
 returns-clause-performs g c =
     asked_performs _ c.args.counter.now.cabinet c.args.counter.now.capabilities c.args.seats.now c.args.n c.args.mode c.args.actor (shown_message c.args.message.now) refl (search rules)
-    _ _ c.asked.new.counter.cabinet c.asked.new.seats c.asked.result c.in-Ok.request (c.in-Ok.ensures.value ∙ ap (λ k. request_at k (shown_message c.args.message.now) c.route_of-route.result) c.catalogue-catalogue.ensures ∙ ap (request_at c.args.counter.now.cabinet.catalogue (shown_message c.args.message.now)) (c.route_of-route.ensures ∙ ap (route_of c.args.message.now.method) c.path_of.ensures)) c.asked.ensures.asked
+    _ _ c.asked.new.counter.cabinet c.asked.new.seats c.asked.result c.in-Ok.request (c.in-Ok.ensures.value ∙ ap (λ k. request_for k (shown_message c.args.message.now)) c.catalogue-catalogue.ensures) c.asked.ensures.asked
