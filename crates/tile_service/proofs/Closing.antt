@@ -5,9 +5,9 @@ use Rattle.cabinet.specs.State.{State}
 use Rattle.tile_service.specs.declared.run_lines.RunEnd.{RunEnd}
 use Rattle.tile_service.specs.declared.run_lines.RunEnd.TheVariants.{Done, Line, WriteFault}
 use Rattle.tile_service.specs.declared.seats.Seat.{Seat}
-use Rattle.tile_service.specs.OneLine.{seat_of, world_of}
+use Rattle.tile_service.specs.OneLine.{seat_of}
 use Rattle.tile_service.specs.Outside.{InputChange, Outside}
-use Rattle.tile_service.specs.Run.{PendingRequest, World, left_by, closed, free_seats}
+use Rattle.tile_service.specs.Run.{PendingRequest, World, left_by, closed, free_seats, world_of}
 use Rattle.tile_service.specs.Schedules.{HasRunAll, Schedules, end_of}
 use Rattle.tile_service.specs.Seats.{left_at, all_left}
 

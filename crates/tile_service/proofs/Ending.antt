@@ -65,7 +65,7 @@ module _ (told : Option ℕ) (before now rb ra wb wa : ℕ) (document : List ℕ
   go_on = record { all_open = f.all_open; few = let e = f.served.many in omega arith }
 
   -- the session has ended so
-  ended : (end : SessionEnd) (held : List ℕ) → Keeps here (prepend_known held to) → Ends (input rb ra from to) (outside told before now wb wa empty out) f.messages f.answers held (prepend_known held to) end → HasEnded end
+  ended : (end : SessionEnd) (held : List ℕ) → Keeps here (prepend_known held to) → Ends (input rb ra from to) (outside told before now wb wa empty out) document f.messages f.answers held (prepend_known held to) end → HasEnded end
   ended end held k ends =
       record {
         messages = f.messages;
@@ -76,7 +76,7 @@ module _ (told : Option ℕ) (before now rb ra wb wa : ℕ) (document : List ℕ
         ends = ends;
       }
 
-  same_text : out ≡ written → Appends empty out (replies f.answers)
+  same_text : out ≡ written → Appends empty out (replies document f.answers)
   same_text e = rw e f.text
 
   -- the bytes that are left stop so
@@ -93,12 +93,12 @@ module _ (told : Option ℕ) (before now rb ra wb wa : ℕ) (document : List ℕ
     pub bad_there : (status : ℕ) → next ≡ nexts.Bad status → Appends written out (bad_text status) → HasEnded (Bad status)
     bad_there status is wrote =
         let k : StaysAt here (prepend_known held to) (stop.Bad status) = subst stays is leaves in
-        ended (Bad status) held k.0 (go_on, k.1, appends_more empty written out (replies f.answers) (bad_text status) f.text wrote)
+        ended (Bad status) held k.0 (go_on, k.1, appends_more empty written out (replies document f.answers) (bad_text status) f.text wrote)
 
     pub bad_cut_off : (status : ℕ) → next ≡ nexts.Bad status → AppendsFront written out (bad_text status) → Rose wb wa → HasEnded WriteFault
     bad_cut_off status is wrote rose =
         let k : StaysAt here (prepend_known held to) (stop.Bad status) = subst stays is leaves in
-        ended WriteFault held k.0 (replies f.answers, bad_text status, inr (status, go_on, k.1, refl, refl), rose, record { between = written; whole = f.text; part = wrote })
+        ended WriteFault held k.0 (replies document f.answers, bad_text status, inr (status, go_on, k.1, refl, refl), rose, record { between = written; whole = f.text; part = wrote })
 
   -- a read failed, before a message had come whole
   pub unread_there : (held : List ℕ) → Keeps here (prepend_known held to) → ¬ (HoldsMessage held) → Rose rb ra → out ≡ written → HasEnded ReadFault
@@ -119,7 +119,7 @@ module _ (told : Option ℕ) (before now rb ra wb wa : ℕ) (document : List ℕ
   go_before : (a : IsAnsweredHere) → GoBefore (a.earlier ++ m ∷ []) held m
   go_before a = record { before = a.earlier; whole = refl; go_on = record { all_open = a.all_open; few = let e = a.many in omega arith }; looks_no_further = part }
 
-  ended_behind : (a : IsAnsweredHere) (end : SessionEnd) → Ends (input rb ra from to) (outside told before now wb wa empty out) (a.earlier ++ m ∷ []) a.answers held (prepend_known held to) end → HasEndedBehind end
+  ended_behind : (a : IsAnsweredHere) (end : SessionEnd) → Ends (input rb ra from to) (outside told before now wb wa empty out) document (a.earlier ++ m ∷ []) a.answers held (prepend_known held to) end → HasEndedBehind end
   ended_behind a end ends =
       record {
         messages = a.earlier ++ m ∷ [];
@@ -130,12 +130,12 @@ module _ (told : Option ℕ) (before now rb ra wb wa : ℕ) (document : List ℕ
         ends = ends;
       }
 
-  pub closed_behind : m.last ≡ true → (a : IsAnsweredHere) × Appends empty out (replies a.answers) → HasEndedBehind Closed
+  pub closed_behind : m.last ≡ true → (a : IsAnsweredHere) × Appends empty out (replies document a.answers) → HasEndedBehind Closed
   closed_behind e a = ended_behind a.0 Closed (inl (m, go_before a.0, e), a.1)
 
-  pub cut_off_behind : Rose wb wa → (a : IsAnsweredHere) × AppendsPart empty out (replies a.before_it) (reply_text a.answer) → HasEndedBehind WriteFault
+  pub cut_off_behind : Rose wb wa → (a : IsAnsweredHere) × AppendsPart empty out (replies document a.before_it) (reply_text document a.answer) → HasEndedBehind WriteFault
   cut_off_behind rose a =
-      ended_behind a.0 WriteFault (replies a.0.before_it, reply_text a.0.answer, inl (m, go_before a.0, a.0.before_it, a.0.answer, a.0.split, refl, refl), rose, a.1)
+      ended_behind a.0 WriteFault (replies document a.0.before_it, reply_text document a.0.answer, inl (m, go_before a.0, a.0.before_it, a.0.answer, a.0.split, refl, refl), rose, a.1)
 
 -- AFTER THE 10,000TH
 

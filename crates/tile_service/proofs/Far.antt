@@ -17,9 +17,9 @@ use Rattle.tile_service.specs.declared.request.Request.{Request}
 use Rattle.tile_service.specs.declared.seats.Seat.TheVariants as seat
 use Rattle.tile_service.specs.declared.seats.TheConstants.{ACTORS}
 use Rattle.tile_service.specs.Lines.{action_in}
-use Rattle.tile_service.specs.OneLine.{IsLine, IsSeat, IsWorld, IsTrueSeat, IsTrueWorld, seat_of, world_of}
+use Rattle.tile_service.specs.OneLine.{IsLine, IsSeat, IsWorld, IsTrueSeat, IsTrueWorld, seat_of}
 use Rattle.tile_service.specs.Requests.{Chance, calm, tile_of, tile_in, IsFreshTile}
-use Rattle.tile_service.specs.Run.{PendingRequest, free_seats, owed_at, World, Answer, Run, run, behind, line_done, failures, unanswered, IsTrue, IsFresh, IsFreshFor}
+use Rattle.tile_service.specs.Run.{PendingRequest, free_seats, owed_at, World, Answer, Run, run, behind, line_done, failures, unanswered, IsTrue, IsFresh, IsFreshFor, world_of}
 use Rattle.tile_service.specs.Schedules.{IsUpheld}
 use Rattle.tile_service.proofs.Moving.{within_longer}
 
@@ -62,6 +62,7 @@ pub record Far (told : Option ℕ) (before after : ℕ) (w : World) (done : List
   pub truth : told ≡ Some w.cabinet.catalogue.source → IsTrueWorld w → AllByRecursion (IsTrue w.cabinet.catalogue) answers
   pub fresh : AllByRecursion (IsPlaced w.cabinet.catalogue t.cabinet.history) answers
   pub catalogue : t.cabinet.catalogue ≡ w.cabinet.catalogue
+  pub capabilities : t.capabilities ≡ w.capabilities
 
 far_start : (told : Option ℕ) (n : ℕ) (w : World) → IsWorld w → unanswered w.seats ≡ 0 → AllByRecursion (IsTrueSeat w.cabinet.catalogue) w.seats → Far told n n w [] [] [] 0 w
 far_start told n w world none free =
@@ -75,6 +76,7 @@ far_start told n w world none free =
       truth = λ told is. tt;
       fresh = tt;
       catalogue = refl;
+      capabilities = refl;
     }
 
 behind_behind : (news bs : List Answer) (r : Run) → behind news (behind bs r) ≡ behind (news ++ bs) r
@@ -127,6 +129,7 @@ module _ (told told' : Option ℕ) (before mid after : ℕ) (w : World) (done : 
         truth = more_truth;
         fresh = more_fresh;
         catalogue = l.keeps.catalogue ∙ f.catalogue;
+        capabilities = l.keeps.capabilities ∙ f.capabilities;
       }
 
 -- nothing happens while the source goes on
@@ -142,6 +145,7 @@ far_waits told before mid after w done made answers n t f later =
       truth = f.truth;
       fresh = f.fresh;
       catalogue = f.catalogue;
+      capabilities = f.capabilities;
     }
 
 -- ENDS

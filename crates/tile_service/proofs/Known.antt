@@ -1,6 +1,9 @@
 -- What is known of bytes after one more write.
-use Rattle.std.proofs.Common.{ℕ, ◌<◌, List, [], ◌++◌, length, take, drop, Option, Some, None, sym, ◌∙◌, append_assoc, append-nil, arith}
-use Rattle.std.proofs.lemmas.List.{length-append, length-drop, take-append-drop}
+use Rattle.std.proofs.Common.{ℕ, ◌<◌, List, [], ◌++◌, length, take, drop, Option, Some, None, Result, IfErr, OnErr, sym, ◌∙◌, append_assoc, append-nil, arith}
+use Rattle.std.specs.Bool.{⊤}
+use Rattle.std.proofs.lemmas.Result.{IfErr-weaker}
+use Rattle.http_wire.specs.declared.sending.Sent.{Sent}
+use Rattle.std.proofs.lemmas.List.{length-drop, take-append-drop}
 use Rattle.std.specs.Io.KnownBytes.{Appends}
 use Rattle.tile_service.specs.Sent.{AppendsFront}
 
@@ -18,9 +21,6 @@ appends_nothing (Some xs) = sym (append-nil xs)
 pub front_taken : (a b : Option (List ℕ)) (x : List ℕ) (n : ℕ) → n < length x → Appends a b (take n x) → AppendsFront a b x
 front_taken a b x n l h = record { front = take n x; rest = drop n x; whole = sym (take-append-drop n x); short = let e = length-drop n x in omega arith; grows = h }
 
--- a front of a first part, and a front after all of it
-pub front_first : (a b : Option (List ℕ)) (x y : List ℕ) → AppendsFront a b x → AppendsFront a b (x ++ y)
-front_first a b x y f = record { front = f.front; rest = f.rest ++ y; whole = rw f.whole (append_assoc f.front f.rest y); short = let e = length-append f.rest y in let s = f.short in omega arith; grows = f.grows }
-
-pub front_second : (a b c : Option (List ℕ)) (x y : List ℕ) → Appends a b x → AppendsFront b c y → AppendsFront a c (x ++ y)
-front_second a b c x y h f = record { front = x ++ f.front; rest = f.rest; whole = rw f.whole (sym (append_assoc x f.front f.rest)); short = f.short; grows = appends_more a b c x f.front h f.grows }
+-- what a write that failed leaves
+pub front_sent : (a b : Option (List ℕ)) (x : List ℕ) (r : Result ⊤ Sent) → IfErr r (λ sent. (sent.0 < length x) × Appends a b (take sent.0 x)) → OnErr r (AppendsFront a b x)
+front_sent a b x r h = IfErr-weaker r _ _ (λ sent k. front_taken a b x sent.0 k.0 k.1) h

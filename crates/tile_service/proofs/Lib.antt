@@ -20,7 +20,6 @@ pub mod Summing
 pub mod Gluing
 pub mod Leaving
 pub mod Closing
-pub mod BadText
 pub mod SoFar
 pub mod Replaying
 pub mod Ending

@@ -21,10 +21,10 @@ use Rattle.tile_service.specs.Drill.{IsDrilled, drill_lines, drill_run, is_busy,
 use Rattle.tile_service.specs.Drilling.{HasMade, HasMadeAll, Makes}
 use Rattle.tile_service.specs.Lines.{action_in}
 use Rattle.tile_service.specs.Made.{Made as Line, drawn, made_line}
-use Rattle.tile_service.specs.OneLine.{IsLine, IsSeated, seat_of, world_of}
+use Rattle.tile_service.specs.OneLine.{IsLine, IsSeated, seat_of}
 use Rattle.tile_service.specs.Outside.{Outside}
 use Rattle.tile_service.specs.Requests.{Chance, calm}
-use Rattle.tile_service.specs.Run.{Answer, PendingRequest, World, answer_text, free_seats, line_done, output_of, run}
+use Rattle.tile_service.specs.Run.{Answer, PendingRequest, World, answer_text, free_seats, line_done, output_of, run, world_of}
 use Rattle.tile_service.specs.Seats.{pending_at}
 use Rattle.tile_service.specs.CacheTally.{both, is_hit, is_miss, is_other, one_of, result_of, tally_of, total}
 use Rattle.tile_service.specs.Written.{LineEnds, Writes}
@@ -72,7 +72,7 @@ pub record Made (told : Option ℕ) (before after : ℕ) (w : World) (number n x
   pub long : length done ≡ n
   pub counted : tally ≡ tally_of answers
   pub few : total tally ≤ n
-  pub written : text ≡ flat_map answer_text answers
+  pub written : text ≡ flat_map (answer_text w.capabilities) answers
   pub far : Far told before after w done chances answers n t
 
 -- one line, and then others
@@ -99,7 +99,7 @@ module _ (told told' : Option ℕ) (before mid after : ℕ) (w : World) (number 
       rw (e, append_assoc f.chances (l.chance ∷ []) more, append_assoc f.done ((made t x).line ∷ []) (made_lines count u (n + 1 + 1) (made t x).x more))
       (f.lines (suc count) (l.chance ∷ more) ∙ ap (λ ls. f.done ++ ls) (one_made t u (n + 1) x l.chance news l.made count more))
 
-  made_next : (text' : List ℕ) → text' ≡ text ++ flat_map answer_text news → Made told before after w number (n + 1) (made t x).x (both tally (one_of answered)) text' u
+  made_next : (text' : List ℕ) → text' ≡ text ++ flat_map (answer_text t.capabilities) news → Made told before after w number (n + 1) (made t x).x (both tally (one_of answered)) text' u
   made_next text' write =
       record {
         done = f.done ++ (made t x).line ∷ [];
@@ -109,7 +109,7 @@ module _ (told told' : Option ℕ) (before mid after : ℕ) (w : World) (number 
         long = length-append f.done ((made t x).line ∷ []) ∙ let e = f.long in omega arith;
         counted = sym (tally_more f.answers news ∙ ap (both (tally_of f.answers)) counts ∙ ap (λ a. both a (one_of answered)) (sym f.counted));
         few = few_more tally answered n f.few;
-        written = write ∙ rw (f.written, flat_map-append answer_text f.answers news) refl;
+        written = write ∙ rw (f.far.capabilities, f.written, flat_map-append (answer_text w.capabilities) f.answers news) refl;
         far = far_next told told' before mid after w f.done f.chances f.answers n (made t x).line t u news f.far same l;
       }
 
@@ -133,7 +133,7 @@ module _ (told : Option ℕ) (before after : ℕ) (w : World) (number n x : ℕ)
     all_drilled,
     ap length all_lines ∙ f.long,
     f.counted ∙ sym (ap (λ r. tally_of r.answers) all_run),
-    ap sha256 (f.written ∙ sym (ap output_of all_run)),
+    ap sha256 (f.written ∙ sym (ap (output_of w.capabilities) all_run)),
     f.few,
   )
 

@@ -17,8 +17,8 @@ use Rattle.causes.specs.Causes.{Rose}
 use Rattle.matrix_geometry.specs.declared.address.Address.{Address}
 use Rattle.metatile_locks.specs.Running.{running_for}
 use Rattle.raster_field.specs.Blocks.{block_of}
-use Rattle.tile_service.specs.Events.{StayCovered, owed, failing, GoesOn, Moves, GoesFurther}
-use Rattle.tile_service.specs.Requests.{is_at_work}
+use Rattle.tile_service.specs.Events.{StayCovered, failing, GoesOn, Moves, GoesFurther}
+use Rattle.tile_service.specs.Requests.{owed, is_at_work}
 
 -- HISTORIES GO ON
 

@@ -24,12 +24,12 @@ use Rattle.tile_service.specs.declared.seats.Pending.{Pending}
 use Rattle.tile_service.specs.declared.seats.Seat.{Seat}
 use Rattle.tile_service.specs.declared.seats.Seat.TheVariants as seat
 use Rattle.tile_service.specs.Performing.{IsAsked, IsImmediate}
-use Rattle.tile_service.specs.Events.{Moves, Opens, owed}
+use Rattle.tile_service.specs.Events.{Moves, Opens}
 use Rattle.tile_service.specs.Lines.{Action, Nothing, Sends, Steps}
-use Rattle.tile_service.specs.OneLine.{IsPending, IsSeat, IsTrueSeat, IsSeated, Keeps, ActionEnds, Performs, seat_of, world_of}
-use Rattle.tile_service.specs.Requests.{Chance, calm}
+use Rattle.tile_service.specs.OneLine.{IsPending, IsSeat, IsTrueSeat, IsSeated, Keeps, ActionEnds, Performs, seat_of}
+use Rattle.tile_service.specs.Requests.{owed, Chance, calm}
 use Rattle.tile_service.specs.Routes.{request_for}
-use Rattle.tile_service.specs.Run.{PendingRequest, World, Answer, seat_after, answers_after, owed_at, settled, started, resumed, asked, sent, if_free, stepped, line_done, failures, unanswered}
+use Rattle.tile_service.specs.Run.{PendingRequest, World, Answer, seat_after, answers_after, owed_at, settled, started, resumed, asked, sent, if_free, stepped, line_done, failures, unanswered, world_of}
 use Rattle.tile_service.specs.Seats.{is_free, pending_at, next_seat, action_end_of}
 use Rattle.tile_service.proofs.Immediately.{immediate_told, read_asks, same_events, with_ends}
 use Rattle.tile_service.proofs.Moving.{advance_moves, stay_covered}
@@ -93,6 +93,7 @@ nothing_keeps told count w =
       fresh = λ is. tt;
       grows = ([], sym (append-nil w.cabinet.history));
       catalogue = refl;
+      capabilities = refl;
     }
 
 pub idle_performs : (told : Option ℕ) (count : ℕ) (s : State) (document : List ℕ) (seats : List Seat) (n : ℕ) → Performs told count count s document seats n (Some Nothing) s seats Silent
@@ -172,10 +173,10 @@ module _ (told : Option ℕ) (s : State) (document : List ℕ) (seats : List Sea
   pub unread_performs : (count : ℕ) → Performs told count count s document seats n action s seats (Answers (record { actor = i; start = n; outcome = outcome.NoMemory }))
   unread_performs count = told_performs count None (s, outcome.NoMemory) (λ left. with_ends calm false left) (same_stays s outcome.NoMemory refl) tt (λ busy h left. goes busy h (with_ends calm false left))
 
-  immediate_performs : (count : ℕ) (r : Request) (o : Outcome) (t : State) → r ≡ asks → IsImmediate s document r o t → Performs told count count s document seats n action t seats (Answers (record { actor = i; start = n; outcome = o }))
+  immediate_performs : (count : ℕ) (r : Request) (o : Outcome) (t : State) → r ≡ asks → IsImmediate s r o t → Performs told count count s document seats n action t seats (Answers (record { actor = i; start = n; outcome = o }))
   immediate_performs count r o t e k =
-      let d = immediate_told s document r o t k in
-      told_performs count (Some r) (t, o) (λ left. with_ends d.chance true left) d.stays d.other (λ busy h left. reads busy h d.chance r left e ∙ ap Some (d.made busy n mode i m left))
+      let d = immediate_told s r o t k in
+      told_performs count (Some r) (t, o) (λ left. with_ends d.chance true left) d.stays d.other (λ busy h left. reads busy h d.chance r left e ∙ ap Some (d.made document busy n mode i m left))
 
   tile_performs : (before after : ℕ) (a : Address) (step : Step) (t : State) → request.Tile a ≡ asks → Opens told before after s a mode step t
       → Performs told before after s document seats n action t (slice_set seats i (next_seat n a step.actor step.outcome)) (action_end_of i n step.outcome)
@@ -191,7 +192,7 @@ module _ (told : Option ℕ) (s : State) (document : List ℕ) (seats : List Sea
         settled_ends told before after s t actor.Idle b step o.moves document busy i None (at_seat busy h) refl (λ x. tt) n action open_after (λ l. with_ends o.chance true l) (λ l. refl) made step.outcome refl,
       )
 
-  pub asked_performs : (before after : ℕ) (t : State) (seats' : List Seat) (end : ActionEnd) (r : Request) → r ≡ asks → IsAsked told before after s document seats n mode i r t seats' end → Performs told before after s document seats n action t seats' end
+  pub asked_performs : (before after : ℕ) (t : State) (seats' : List Seat) (end : ActionEnd) (r : Request) → r ≡ asks → IsAsked told before after s seats n mode i r t seats' end → Performs told before after s document seats n action t seats' end
   asked_performs before after t seats' end r e (inl k) = rw (k.4, k.5) (tile_performs before after k.0 k.1 t (sym k.2 ∙ e) k.3)
   asked_performs before after t seats' end r e (inr k) = rw (k.2, k.3, k.4) (immediate_performs before r k.0 t e k.1)
 

@@ -1,5 +1,5 @@
 -- How far the run of a schedule's text has come, one more line, and its ends.
-use Rattle.std.proofs.Common.{◌≡◌, ℕ, map, replicate, ◌+◌, ◌≤◌, List, [], ◌∷◌, ◌++◌, Option, Some, None, length, flat_map, refl, sym, ap, ◌∙◌, arith, append_assoc, append-nil}
+use Rattle.std.proofs.Common.{◌≡◌, ℕ, map, replicate, ◌+◌, ◌≤◌, List, [], ◌∷◌, ◌++◌, Option, Some, None, length, flat_map, refl, sym, ap, subst, ◌∙◌, arith, append_assoc, append-nil}
 use Rattle.std.specs.Io.KnownBytes.{Appends}
 use Rattle.std.proofs.lemmas.Grind.{flat_map-append}
 use Rattle.cabinet.specs.State.{State}
@@ -12,10 +12,10 @@ use Rattle.tile_service.specs.declared.seats.TheConstants.{ACTORS}
 use Rattle.tile_service.specs.declared.cache_tally.CacheResult.{CacheResult}
 use Rattle.tile_service.specs.Written.{Writes}
 use Rattle.tile_service.specs.Lines.{lines_of, action_in}
-use Rattle.tile_service.specs.OneLine.{IsLine, IsSeated, seat_of, world_of}
+use Rattle.tile_service.specs.OneLine.{IsLine, IsSeated, seat_of}
 use Rattle.tile_service.specs.Outside.{Outside}
 use Rattle.tile_service.specs.Requests.{Chance, calm}
-use Rattle.tile_service.specs.Run.{PendingRequest, free_seats, World, Answer, line_done, answer_text}
+use Rattle.tile_service.specs.Run.{PendingRequest, free_seats, World, Answer, line_done, answer_text, world_of}
 use Rattle.tile_service.specs.Schedules.{HasRun}
 use Rattle.tile_service.specs.Sent.{AppendsFront}
 use Rattle.tile_service.proofs.Known.{appends_more, appends_nothing}
@@ -27,7 +27,7 @@ pub record Reads (told : Option ℕ) (before after : ℕ) (from to : Option (Lis
   pub made : List Chance
   pub answers : List Answer
   pub split : lines_of text ≡ done ++ lines_of rest
-  pub written : Appends from to (flat_map answer_text answers)
+  pub written : Appends from to (flat_map (answer_text w.capabilities) answers)
   pub far : Far told before after w done made answers n t
 
 module _ (told told' : Option ℕ) (before mid after : ℕ) (from via to : Option (List ℕ)) (w : World) (text : List ℕ) (n : ℕ) (rest line next : List ℕ) (t u : World) (news : List Answer)
@@ -38,14 +38,14 @@ module _ (told told' : Option ℕ) (before mid after : ℕ) (from via to : Optio
   further : Far told before after w (f.done ++ line ∷ []) (f.made ++ l.chance ∷ []) (f.answers ++ news) (n + 1) u
   further = far_next told told' before mid after w f.done f.made f.answers n line t u news f.far same l
 
-  reads_next : Appends via to (flat_map answer_text news) → Reads told before after from to w text (n + 1) next u
+  reads_next : Appends via to (flat_map (answer_text t.capabilities) news) → Reads told before after from to w text (n + 1) next u
   reads_next write =
       record {
         done = f.done ++ line ∷ [];
         made = f.made ++ l.chance ∷ [];
         answers = f.answers ++ news;
         split = split_more;
-        written = rw flat_map-append (appends_more from via to _ _ f.written write);
+        written = rw flat_map-append (appends_more from via to _ _ f.written (subst (λ d. Appends via to (flat_map (answer_text d) news)) f.far.capabilities write));
         far = further;
       }
 
@@ -53,7 +53,7 @@ module _ (told told' : Option ℕ) (before mid after : ℕ) (from via to : Optio
   outside_cut sb sa = record { told = told; renders = record { before = before; after = after }; writes = record { before = sb; after = sa }; from = from; to = to }
 
   -- a write failed at the line's answer
-  run_cut : (sb sa : ℕ) (answer : Answer) → news ≡ answer ∷ [] → AppendsFront via to (answer_text answer) → Rose sb sa → HasRun (outside_cut sb sa) w text u WriteFault
+  run_cut : (sb sa : ℕ) (answer : Answer) → news ≡ answer ∷ [] → AppendsFront via to (answer_text t.capabilities answer) → Rose sb sa → HasRun (outside_cut sb sa) w text u WriteFault
   run_cut sb sa answer one write rose =
       let e = ends_done told before after w (f.done ++ line ∷ []) (f.made ++ l.chance ∷ []) (f.answers ++ news) (n + 1) u further in
       let d = so_far_done told before mid w f.done f.made f.answers n t f.far (l.chance ∷ []) in
@@ -70,7 +70,7 @@ module _ (told told' : Option ℕ) (before mid after : ℕ) (from via to : Optio
             whole = refl;
             answer = answer;
             answers = rw (e, d, one) refl;
-            sent = record { between = via; whole = rw d f.written; part = write };
+            sent = record { between = via; whole = rw d f.written; part = subst (λ d. AppendsFront via to (answer_text d answer)) f.far.capabilities write };
           },
         );
         upheld = ends_upheld told before after w (f.done ++ line ∷ []) (f.made ++ l.chance ∷ []) (f.answers ++ news) (n + 1) u further _ None e;

@@ -14,9 +14,10 @@ use Rattle.cache_core.specs.Fits.{IsFreshActor, IsFreshOutcome, IsTrueActor, IsT
 use Rattle.cache_core.proofs.Endings.{extends_fresh}
 use Rattle.catalog.specs.declared.catalogue.Catalogue.{Catalogue}
 use Rattle.matrix_geometry.specs.declared.address.Address.{Address}
-use Rattle.tile_service.specs.Events.{StayCovered, owed, failing, GoesOn, Moves}
-use Rattle.tile_service.specs.OneLine.{IsSeat, IsTrueSeat, Keeps, world_of}
-use Rattle.tile_service.specs.Run.{PendingRequest, seat_after, answers_after, failures, owed_at, unanswered, IsTrue, IsFresh}
+use Rattle.tile_service.specs.Events.{StayCovered, failing, GoesOn, Moves}
+use Rattle.tile_service.specs.Requests.{owed}
+use Rattle.tile_service.specs.OneLine.{IsSeat, IsTrueSeat, Keeps}
+use Rattle.tile_service.specs.Run.{PendingRequest, seat_after, answers_after, failures, owed_at, unanswered, IsTrue, IsFresh, world_of}
 use Rattle.tile_service.proofs.Moving.{within_longer}
 
 -- LISTS
@@ -138,4 +139,5 @@ module _ (told : Option ℕ) (before after : ℕ) (s t : State) (first : Actor) 
           fresh = λ all. answers_fresh n i left step.outcome m.fresh;
           grows = m.grows;
           catalogue = m.catalogue;
+          capabilities = refl;
         }

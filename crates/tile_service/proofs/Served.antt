@@ -15,11 +15,12 @@ use Rattle.tile_service.specs.declared.request.Request.{Request}
 use Rattle.tile_service.specs.declared.request.Request.TheVariants as request
 use Rattle.tile_service.specs.Performing.{IsImmediate, IsGot}
 use Rattle.tile_service.specs.Events.{Opens}
-use Rattle.tile_service.specs.OneLine.{Keeps, world_of}
+use Rattle.tile_service.specs.OneLine.{Keeps}
 use Rattle.tile_service.specs.Requests.{calm, events, outcome_of}
 use Rattle.tile_service.specs.Routes.{request_for}
-use Rattle.tile_service.specs.Run.{PendingRequest, World, seat_after, answers_after, settled, started, sent}
-use Rattle.tile_service.specs.Session.{IsAtRest, Serves, lone}
+use Rattle.tile_service.specs.Run.{PendingRequest, World, seat_after, answers_after, settled, started, sent, world_of}
+use Rattle.tile_service.specs.Serving.{Serves}
+use Rattle.tile_service.specs.Session.{IsAtRest, lone}
 use Rattle.tile_service.proofs.Immediately.{immediate_told, read_asks, same_events, with_ends}
 use Rattle.tile_service.proofs.AtRest.{IsDone, get_done}
 use Rattle.tile_service.proofs.Seating.{settled_keeps}
@@ -45,13 +46,13 @@ module _ (told : Option ℕ) (document : List ℕ) (s : State) (m : Message) (re
         rests = rest;
       }
 
-  pub immediate_serves : (count : ℕ) (r : Request) (o : Outcome) (t : State) → r ≡ asks → IsImmediate s document r o t → Serves told count count document s m o t
+  pub immediate_serves : (count : ℕ) (r : Request) (o : Outcome) (t : State) → r ≡ asks → IsImmediate s r o t → Serves told count count document s m o t
   immediate_serves count r o t e k =
-      let d = immediate_told s document r o t k in
+      let d = immediate_told s r o t k in
       record {
         request = Some r;
         chance = λ left. with_ends d.chance true left;
-        made = λ i left. read_asks (lone s document) i d.chance Gets 0 m r left e ∙ d.made (None ∷ []) i Gets 0 m left;
+        made = λ i left. read_asks (lone s document) i d.chance Gets 0 m r left e ∙ d.made document (None ∷ []) i Gets 0 m left;
         keeps = λ i left. told_keeps told count s t document (None ∷ []) i 0 m (Some r) o left d.stays d.other;
         rests = d.rests rest;
       }

@@ -12,7 +12,8 @@ use Rattle.tile_service.specs.OneLine.{IsWorld}
 use Rattle.tile_service.specs.Outside.{FaultCounts}
 use Rattle.tile_service.specs.Requests.{Chance, told_at}
 use Rattle.tile_service.specs.Run.{World, Answer, sent, failures, IsTrue}
-use Rattle.tile_service.specs.Session.{lone, and_then, session, answer_to, IsServed, Serves}
+use Rattle.tile_service.specs.Serving.{answer_to, Serves}
+use Rattle.tile_service.specs.Session.{lone, and_then, session, IsServed}
 use Rattle.tile_service.proofs.Far.{IsPlaced, answers_later, all_fresh, all_append}
 
 -- n messages came to these answers

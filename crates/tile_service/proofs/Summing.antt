@@ -14,9 +14,8 @@ use Rattle.tile_service.specs.declared.cache_tally.CacheResult.TheVariants.{Hit,
 use Rattle.tile_service.specs.declared.cache_tally.CacheTally.{CacheTally}
 use Rattle.tile_service.specs.Drill.{Drills, counts_text, digest_text, drill_run, line_count, summary}
 use Rattle.tile_service.specs.Drilling.{HasMade}
-use Rattle.tile_service.specs.OneLine.{world_of}
 use Rattle.tile_service.specs.Outside.{FaultCounts, Outside}
-use Rattle.tile_service.specs.Run.{Answer, Run, World, closed, free_seats, left_by, output_of}
+use Rattle.tile_service.specs.Run.{Answer, Run, World, closed, free_seats, left_by, output_of, world_of}
 use Rattle.tile_service.specs.Sent.{AppendsFront}
 use Rattle.tile_service.specs.CacheTally.{is_hit, is_miss, is_other, result_of, tally_of, total}
 use Rattle.tile_service.proofs.Making.{all_drilled, made_start}
@@ -38,8 +37,8 @@ total_is (a ∷ answers) =
     let others = sum_by-cons (λ (b : Answer). cond (is_other (result_of b.outcome)) 1 0) a answers in
     omega arith
 
-summary_is : (number : ℕ) (r : Run) (tally : CacheTally) (digest : List ℕ) → tally ≡ tally_of r.answers → digest ≡ sha256 (output_of r) → counts_text number (total tally) tally ++ digest_text digest ≡ summary number r
-summary_is number r tally digest e f = rw (e, f, total_is r.answers) refl
+summary_is : (document : List ℕ) (number : ℕ) (r : Run) (tally : CacheTally) (digest : List ℕ) → tally ≡ tally_of r.answers → digest ≡ sha256 (output_of document r) → counts_text number (total tally) tally ++ digest_text digest ≡ summary document number r
+summary_is document number r tally digest e f = rw (e, f, total_is r.answers) refl
 
 -- ENDS
 
@@ -51,8 +50,8 @@ no_faults = record { before = 0; after = 0 }
 
 module _ (told : Option ℕ) (renders : FaultCounts) (from to : Option (List ℕ)) (number : ℕ) (w last t : World) (tally : CacheTally) (digest : List ℕ)
     (h : HasMade told renders w number last (made_end.Done tally digest)) (closes : t ≡ closed last) where
-  its_text : counts_text number (total tally) tally ++ digest_text digest ≡ summary number (drill_run line_count w number h.0)
-  its_text = summary_is number (drill_run line_count w number h.0) tally digest h.3 h.4
+  its_text : counts_text number (total tally) tally ++ digest_text digest ≡ summary w.capabilities number (drill_run line_count w number h.0)
+  its_text = summary_is w.capabilities number (drill_run line_count w number h.0) tally digest h.3 h.4
 
   pub drills_done : Appends from to (counts_text number (total tally) tally ++ digest_text digest) → Drills (outside told renders no_faults from to) ⊤ number w t Done
   drills_done sent = (h.0, last, h.1, closes, h.2, subst (Appends from to) its_text sent)

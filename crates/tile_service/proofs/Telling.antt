@@ -17,9 +17,9 @@ use Rattle.metatile_plan.specs.declared.metatile.MetaKey.{MetaKey}
 use Rattle.tile_service.specs.declared.outcome.Outcome.{Outcome}
 use Rattle.tile_service.specs.declared.outcome.Outcome.TheVariants as outcome
 use Rattle.tile_service.specs.declared.request.Request.{Request}
-use Rattle.tile_service.specs.OneLine.{Keeps, world_of}
-use Rattle.tile_service.specs.Requests.{told_at, copied, told_usage, cut_by, cut, dropped, expired_in, expired, tile_of}
-use Rattle.tile_service.specs.Run.{PendingRequest, Answer, is_failed, failures, unanswered, IsTrueFor, IsFreshFor}
+use Rattle.tile_service.specs.OneLine.{Keeps}
+use Rattle.tile_service.specs.Requests.{told_at, told_usage, cut_by, cut, dropped, expired_in, expired, tile_of}
+use Rattle.tile_service.specs.Run.{PendingRequest, Answer, is_failed, failures, unanswered, IsTrueFor, IsFreshFor, world_of}
 use Rattle.tile_service.specs.Texts.{dropped_text, usage_text}
 use Rattle.tile_service.proofs.Moving.{stay_covered, within_longer}
 use Rattle.tile_service.proofs.Seating.{seats_later}
@@ -45,9 +45,6 @@ same_stays s o e = (refl, ([], sym (append-nil s.history)), λ is. is, e)
 none_failed : (left : Bool) (o : Outcome) → is_failed o ≡ false → is_failed (told_at left o) ≡ false
 none_failed true o e = e
 none_failed false o e = refl
-
-pub copied_stays : (s : State) (document : List ℕ) (left : Bool) → Stays s (s, copied document left)
-copied_stays s document left = same_stays s (copied document left) (none_failed left (outcome.Document document) refl)
 
 pub usage_stays : (s : State) (left : Bool) → Stays s (s, told_usage s left)
 usage_stays s left = same_stays s (told_usage s left) (none_failed left (outcome.Usage (usage_text s)) refl)
@@ -109,4 +106,5 @@ told_keeps told count s t document busy n i m r o left k other =
       fresh = λ all. ((within_longer s.history t.history (length s.history) k.1 (omega arith), told_fresh s.catalogue t.history (length s.history) r a.outcome other), tt);
       grows = k.1;
       catalogue = k.0;
+      capabilities = refl;
     }

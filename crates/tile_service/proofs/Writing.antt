@@ -30,11 +30,11 @@ module _ (told : Option ℕ) (before after : ℕ) (w : World) (n : ℕ) (line : 
   abbrev the_answer : Bool → Answer
   the_answer left = answer_with r n h.message h.request h.place left
 
-  answer_is : (left : Bool) → framed n r.actor r.start (response_with false (told_at left r.outcome)) ≡ answer_text (the_answer left)
+  answer_is : (left : Bool) → framed n r.actor r.start (response_with w.capabilities false (told_at left r.outcome)) ≡ answer_text w.capabilities (the_answer left)
   answer_is left = rw h.open_after refl
 
-  its_text : (left : Bool) → framed n r.actor r.start (response_with false (told_at left r.outcome)) ≡ flat_map answer_text (the_answer left ∷ [])
-  its_text left = rw h.open_after (sym (append-nil (framed n r.actor r.start (response_with false (told_at left r.outcome)))))
+  its_text : (left : Bool) → framed n r.actor r.start (response_with w.capabilities false (told_at left r.outcome)) ≡ flat_map (answer_text w.capabilities) (the_answer left ∷ [])
+  its_text left = rw h.open_after (sym (append-nil (framed n r.actor r.start (response_with w.capabilities false (told_at left r.outcome)))))
 
   its_line : (left : Bool) → IsLine told before after w n line t (the_answer left ∷ [])
   its_line left = record { chance = h.chance left; made = h.made left; keeps = h.keeps left }
@@ -44,13 +44,13 @@ module _ (told : Option ℕ) (before after : ℕ) (w : World) (n : ℕ) (line : 
   which_told P (inl k) = (true, k)
   which_told P (inr k) = (false, k)
 
-  one_told : (P : List ℕ → Type 0) → MayTell r.outcome (λ o. P (framed n r.actor r.start (response_with false o))) → (answer : Answer) × IsLine told before after w n line t (answer ∷ []) × P (answer_text answer)
-  one_told P k = let m = which_told (λ o. P (framed n r.actor r.start (response_with false o))) k in (the_answer m.0, its_line m.0, subst P (answer_is m.0) m.1)
+  one_told : (P : List ℕ → Type 0) → MayTell r.outcome (λ o. P (framed n r.actor r.start (response_with w.capabilities false o))) → (answer : Answer) × IsLine told before after w n line t (answer ∷ []) × P (answer_text w.capabilities answer)
+  one_told P k = let m = which_told (λ o. P (framed n r.actor r.start (response_with w.capabilities false o))) k in (the_answer m.0, its_line m.0, subst P (answer_is m.0) m.1)
 
-  line_counted : (P : List ℕ → Type 0) (k : CacheResult) → MayTell r.outcome (λ o. (k ≡ result_of o) × P (framed n r.actor r.start (response_with false o)))
-      → (answers : List Answer) × IsLine told before after w n line t answers × P (flat_map answer_text answers) × (tally_of answers ≡ one_of (Some k))
+  line_counted : (P : List ℕ → Type 0) (k : CacheResult) → MayTell r.outcome (λ o. (k ≡ result_of o) × P (framed n r.actor r.start (response_with w.capabilities false o)))
+      → (answers : List Answer) × IsLine told before after w n line t answers × P (flat_map (answer_text w.capabilities) answers) × (tally_of answers ≡ one_of (Some k))
   line_counted P k h =
-      let m = which_told (λ o. (k ≡ result_of o) × P (framed n r.actor r.start (response_with false o))) h in
+      let m = which_told (λ o. (k ≡ result_of o) × P (framed n r.actor r.start (response_with w.capabilities false o))) h in
       (the_answer m.0 ∷ [], its_line m.0, subst P (its_text m.0) m.1.1, counted_one (the_answer m.0) k m.1.0)
 
 abbrev outside : Option ℕ → ℕ → ℕ → ℕ → ℕ → Option (List ℕ) → Option (List ℕ) → Outside
@@ -66,10 +66,17 @@ module _ (told : Option ℕ) (before after sb sa : ℕ) (from to : Option (List 
       let P : Option (List ℕ) → Type 0 = λ x. Appends from x [] in
       (d.0, d.1, ([], record { chance = d.2.0; made = d.2.1; keeps = d.2.2 }, subst P (sym same) (appends_nothing from), refl))
 
-  pub writes_answer : (r : code.Answer) (k : CacheResult) → MayTell r.outcome (λ o. (k ≡ result_of o) × Appends from to (framed n r.actor r.start (response_with false o))) → Performs told before after s document seats n (action_in line) t seats' (Answers r)
+  pub writes_answer : (words : List ℕ) → words ≡ document → (r : code.Answer) (k : CacheResult) → MayTell r.outcome (λ o. (k ≡ result_of o) × Appends from to (framed n r.actor r.start (response_with words false o))) → Performs told before after s document seats n (action_in line) t seats' (Answers r)
       → Writes (outside told before after sb sa from to) s document seats n line t seats' (line_end.Done (Some k))
-  writes_answer r k h f busy is = let d = f busy is in (d.0, d.1, line_counted told before after _ n line _ r d.2 (Appends from to) k h)
+  writes_answer words same r k h f busy is =
+      let d = f busy is in
+      let told_so = subst (λ x. MayTell r.outcome (λ o. (k ≡ result_of o) × Appends from to (framed n r.actor r.start (response_with x false o)))) same h in
+      (d.0, d.1, line_counted told before after _ n line _ r d.2 (Appends from to) k told_so)
 
-  pub writes_front : (r : code.Answer) → MayTell r.outcome (λ o. AppendsFront from to (framed n r.actor r.start (response_with false o))) → Rose sb sa → Performs told before after s document seats n (action_in line) t seats' (Answers r)
+  pub writes_front : (words : List ℕ) → words ≡ document → (r : code.Answer) → MayTell r.outcome (λ o. AppendsFront from to (framed n r.actor r.start (response_with words false o))) → Rose sb sa → Performs told before after s document seats n (action_in line) t seats' (Answers r)
       → Writes (outside told before after sb sa from to) s document seats n line t seats' line_end.WriteFault
-  writes_front r k rose f busy h = let d = f busy h in let l = one_told told before after _ n line _ r d.2 (AppendsFront from to) k in (d.0, d.1, (l.0, l.1, l.2, rose))
+  writes_front words same r k rose f busy h =
+      let d = f busy h in
+      let told_so = subst (λ x. MayTell r.outcome (λ o. AppendsFront from to (framed n r.actor r.start (response_with x false o)))) same k in
+      let l = one_told told before after _ n line _ r d.2 (AppendsFront from to) told_so in
+      (d.0, d.1, (l.0, l.1, l.2, rose))

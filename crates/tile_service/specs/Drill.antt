@@ -68,8 +68,8 @@ unfoldable pub digest_text : List ℕ → List ℕ
 digest_text digest = codes "sha256 " ++ encode_lower digest ++ codes "\n"
 
 -- how many answers there were, what they tell of the cache, and the digest of what the run wrote
-abbrev pub summary : ℕ → Run → List ℕ
-summary number r = counts_text number (length r.answers) (tally_of r.answers) ++ digest_text (sha256 (output_of r))
+abbrev pub summary : List ℕ → ℕ → Run → List ℕ
+summary document number r = counts_text number (length r.answers) (tally_of r.answers) ++ digest_text (sha256 (output_of document r))
 
 -- ENDS
 
@@ -77,9 +77,9 @@ summary number r = counts_text number (length r.answers) (tally_of r.answers) ++
 abbrev pub Drills : Outside → Type 0 → ℕ → World → World → DrillEnd → Type 0
 Drills o Stays number w t Done =
     (chances : List Chance) × (last : World) × IsDrilled o.told o.renders w number line_count chances last × (t ≡ closed last)
-    × (length (drill_lines line_count w number chances) ≡ line_count) × Appends o.from o.to (summary number (drill_run line_count w number chances))
+    × (length (drill_lines line_count w number chances) ≡ line_count) × Appends o.from o.to (summary w.capabilities number (drill_run line_count w number chances))
 Drills o Stays number w t WriteFault =
     (chances : List Chance) × (last : World) × IsDrilled o.told o.renders w number line_count chances last × (t ≡ closed last)
-    × AppendsFront o.from o.to (summary number (drill_run line_count w number chances)) × Rose o.writes.before o.writes.after
+    × AppendsFront o.from o.to (summary w.capabilities number (drill_run line_count w number chances)) × Rose o.writes.before o.writes.after
 Drills o Stays number w t OutOfMemory =
     (count : ℕ) × (count ≤ line_count) × (chances : List Chance) × (last : World) × IsDrilled o.told o.renders w number count chances last × (t ≡ closed last) × Stays

@@ -1,4 +1,5 @@
 -- What events of one request came to.
+-- A tie between the code and its definitions: the promise can be read without it.
 use Rattle.std.specs.Prelude.{ℕ, ◌≡◌, ◌≤◌, ◌+◌, true, false, length, Option, Some, None, ◌⊎◌}
 use Rattle.cabinet.specs.State.{State, IsSound}
 use Rattle.cache_core.specs.declared.actor.Actor.{Actor}
@@ -12,19 +13,11 @@ use Rattle.cache_core.specs.Shown.{shown, IsIdle}
 use Rattle.causes.specs.Causes.{RoseBy}
 use Rattle.matrix_geometry.specs.declared.address.Address.{Address}
 use Rattle.tile_service.specs.declared.request.Mode.{Mode}
-use Rattle.tile_service.specs.Requests.{Chance, is_at_work, events}
+use Rattle.tile_service.specs.Requests.{Chance, is_at_work, events, owed}
 
 -- where so many failures, and others beside them, were no more than a count rose by, so many now are no more than it rose by
 abbrev pub StayCovered : ℕ → ℕ → ℕ → ℕ → Type 0
 StayCovered before after old new = (from : ℕ) (others : ℕ) → RoseBy (others + old) from before → RoseBy (others + new) from after
-
--- 1 where the source failed at the render of this actor, and it is yet to be answered
-abbrev pub owed : Actor → ℕ
-owed actor.Idle = 0
-owed (actor.Waiting a force) = 0
-owed (actor.Holding t a) = 0
-owed (actor.Rendered t blob tile) = 0
-owed (actor.Failed t) = 1
 
 -- 1 where the request ends in a failure of the source
 abbrev pub failing : Option Outcome → ℕ

@@ -8,11 +8,8 @@ use Rattle.schedule_text.specs.declared.line.TheConstants.{LINE_LIMIT}
 use Rattle.schedule_text.specs.declared.verb.Verb.{Verb}
 use Rattle.schedule_text.specs.declared.verb.Verb.TheVariants.{Get, Ask, Force, Step, Truncate, Expire}
 use Rattle.schedule_text.specs.Line.{line_of}
-use Rattle.tile_service.specs.declared.lines.Action as code
-use Rattle.tile_service.specs.declared.lines.Action.TheVariants as said
 use Rattle.tile_service.specs.declared.request.Mode.{Mode}
 use Rattle.tile_service.specs.declared.request.Mode.TheVariants.{Gets, Asks, Forces}
-use Rattle.tile_service.specs.Routes.{shown_message}
 
 -- THE LINES OF A TEXT
 
@@ -55,12 +52,6 @@ truncation cover = post (codes "/truncate") cover
 -- the message that expires
 abbrev pub expiry : Message
 expiry = post (codes "/expire") []
-
--- an action of the code, which borrows its message
-abbrev pub shown_action : code.Action → Action
-shown_action said.Nothing = Nothing
-shown_action (said.Sends mode actor message) = Sends mode actor (shown_message message)
-shown_action (said.Steps actor) = Steps actor
 
 -- the action of an actor by a verb, with the rest of its line
 abbrev pub action_with : ℕ → Verb → List ℕ → Action

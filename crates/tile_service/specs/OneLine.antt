@@ -1,4 +1,5 @@
 -- What one line of a schedule came to.
+-- A tie between the code and its definitions: the promise can be read without it.
 use Rattle.std.specs.Prelude.{ℕ, ◌≡◌, ◌≤◌, ◌+◌, ◌⊎◌, Bool, false, List, [], ◌∷◌, map, length, Option, Some, None, ⊤}
 use Rattle.std.specs.List.{AllByRecursion}
 use Rattle.cabinet.specs.History.{History}
@@ -18,7 +19,7 @@ use Rattle.tile_service.specs.declared.seats.Seat.TheVariants as seat
 use Rattle.tile_service.specs.Events.{StayCovered}
 use Rattle.tile_service.specs.Lines.{Action, action_in}
 use Rattle.tile_service.specs.Requests.{Chance, calm, told_at}
-use Rattle.tile_service.specs.Run.{PendingRequest, World, Answer, line_done, failures, unanswered, IsTrue, IsFresh}
+use Rattle.tile_service.specs.Run.{PendingRequest, World, Answer, line_done, failures, unanswered, IsTrue, IsFresh, world_of}
 
 -- P holds of the outcome, or of that of no memory
 abbrev pub MayTell : Outcome → (Outcome → Type 0) → Type 0
@@ -55,7 +56,8 @@ IsTrueWorld w = IsSound w.cabinet × AllByRecursion (IsTrueSeat w.cabinet.catalo
 
 -- From w to t, with these answers, while the source went from one count of faults to another: no more failures are answered
 -- or yet to be answered than the count rose by; the world stays one; where the source is modelled as the catalogue's, what
--- is kept and held stays true and each tile is the picture of its number; each tile is fresh at its place; the history goes on.
+-- is kept and held stays true and each tile is the picture of its number; each tile is fresh at its place; the history goes on,
+-- and the capabilities document stays.
 pub record Keeps (told : Option ℕ) (before after : ℕ) (w t : World) (answers : List Answer) : Type 0 where
   pub later : before ≤ after
   pub failed : StayCovered before after (unanswered w.seats) (failures answers + unanswered t.seats)
@@ -65,6 +67,7 @@ pub record Keeps (told : Option ℕ) (before after : ℕ) (w t : World) (answers
   pub fresh : IsWorld w → AllByRecursion (λ a. (a.place ≤ length t.cabinet.history) × IsFresh w.cabinet.catalogue t.cabinet.history a) answers
   pub grows : Extends w.cabinet.history t.cabinet.history
   pub catalogue : t.cabinet.catalogue ≡ w.cabinet.catalogue
+  pub capabilities : t.capabilities ≡ w.capabilities
 
 -- from w line n came to t with these answers
 pub record IsLine (told : Option ℕ) (before after : ℕ) (w : World) (n : ℕ) (line : List ℕ) (t : World) (answers : List Answer) : Type 0 where
@@ -100,9 +103,6 @@ ActionEnds told before after w n action t (action_end.Answers r) = AnswersWith t
 abbrev pub seat_of : Option PendingRequest → Seat
 seat_of None = seat.Free
 seat_of (Some b) = seat.Busy (record { start = b.start; address = b.address; actor = b.actor })
-
-abbrev pub world_of : State → List ℕ → List (Option PendingRequest) → World
-world_of s document busy = record { cabinet = s; capabilities = document; seats = busy }
 
 -- the seats of the code are those of this world
 pub record IsSeated (s : State) (document : List ℕ) (seats : List Seat) (busy : List (Option PendingRequest)) : Type 0 where

@@ -1,4 +1,5 @@
 -- What a request comes to in the code: a tile goes through events, and all else has its outcome in one step.
+-- A tie between the code and its definitions: the promise can be read without it.
 use Rattle.std.specs.Prelude.{ℕ, ◌≡◌, ◌⊎◌, Bool, List, slice_set, Option, Some}
 use Rattle.cabinet.specs.State.{State}
 use Rattle.cache_core.specs.declared.actor.Step.{Step}
@@ -14,7 +15,7 @@ use Rattle.tile_service.specs.declared.request.Request.{Request}
 use Rattle.tile_service.specs.declared.request.Request.TheVariants as request
 use Rattle.tile_service.specs.declared.seats.Seat.{Seat}
 use Rattle.tile_service.specs.Events.{Opens}
-use Rattle.tile_service.specs.Requests.{outcome_of, copied, told_usage, cut, expired}
+use Rattle.tile_service.specs.Requests.{outcome_of, told_usage, cut, expired}
 use Rattle.tile_service.specs.Seats.{action_end_of, next_seat}
 
 -- WHERE ONE MESSAGE IS SERVED AT A TIME
@@ -28,22 +29,22 @@ abbrev pub IsBoth : State × Outcome → Outcome → State → Type 0
 IsBoth done o t = (t ≡ done.0) × (o ≡ done.1)
 
 -- what is no request for a tile has this outcome in one step
-abbrev pub IsImmediate : State → List ℕ → Request → Outcome → State → Type 0
-IsImmediate s document (request.Tile a) o t = ⊥
-IsImmediate s document request.Capabilities o t = (left : Bool) × IsBoth (s, copied document left) o t
-IsImmediate s document (request.Refused code locator) o t = IsBoth (s, outcome.Refused code locator) o t
-IsImmediate s document request.NotFound o t = IsBoth (s, outcome.NotFound) o t
-IsImmediate s document request.WrongMethod o t = IsBoth (s, outcome.WrongMethod) o t
-IsImmediate s document request.Usage o t = (left : Bool) × IsBoth (s, told_usage s left) o t
-IsImmediate s document (request.Truncation cover) o t = (left : Bool) × IsBoth (cut s cover left) o t
-IsImmediate s document (request.Unformed fault) o t = IsBoth (s, outcome.Unformed fault) o t
-IsImmediate s document request.Expiry o t = (left : Bool) × IsBoth (expired s left) o t
+abbrev pub IsImmediate : State → Request → Outcome → State → Type 0
+IsImmediate s (request.Tile a) o t = ⊥
+IsImmediate s request.Capabilities o t = IsBoth (s, outcome.Document) o t
+IsImmediate s (request.Refused code locator) o t = IsBoth (s, outcome.Refused code locator) o t
+IsImmediate s request.NotFound o t = IsBoth (s, outcome.NotFound) o t
+IsImmediate s request.WrongMethod o t = IsBoth (s, outcome.WrongMethod) o t
+IsImmediate s request.Usage o t = (left : Bool) × IsBoth (s, told_usage s left) o t
+IsImmediate s (request.Truncation cover) o t = (left : Bool) × IsBoth (cut s cover left) o t
+IsImmediate s (request.Unformed fault) o t = IsBoth (s, outcome.Unformed fault) o t
+IsImmediate s request.Expiry o t = (left : Bool) × IsBoth (expired s left) o t
 
 -- WHERE THE CODE'S SEATS ARE
 
 -- a request that an actor starts: a tile comes to its events and the seat after them, all else to its outcome, and nothing
 -- else happens
-abbrev pub IsAsked : Option ℕ → ℕ → ℕ → State → List ℕ → List Seat → ℕ → Mode → ℕ → Request → State → List Seat → ActionEnd → Type 0
-IsAsked told before after s document seats n mode i r t seats' end =
+abbrev pub IsAsked : Option ℕ → ℕ → ℕ → State → List Seat → ℕ → Mode → ℕ → Request → State → List Seat → ActionEnd → Type 0
+IsAsked told before after s seats n mode i r t seats' end =
     ((a : Address) × (step : Step) × (r ≡ request.Tile a) × Opens told before after s a mode step t × (end ≡ action_end_of i n step.outcome) × (seats' ≡ slice_set seats i (next_seat n a step.actor step.outcome)))
-    ⊎ ((o : Outcome) × IsImmediate s document r o t × (end ≡ Answers (record { actor = i; start = n; outcome = o })) × (seats' ≡ seats) × (after ≡ before))
+    ⊎ ((o : Outcome) × IsImmediate s r o t × (end ≡ Answers (record { actor = i; start = n; outcome = o })) × (seats' ≡ seats) × (after ≡ before))

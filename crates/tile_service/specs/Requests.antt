@@ -78,10 +78,6 @@ outcome_of core.NoMemory = outcome.NoMemory
 abbrev pub told_at : Bool → Outcome → Outcome
 told_at left o = if left then o else outcome.NoMemory
 
--- the capabilities document is copied
-abbrev pub copied : List ℕ → Bool → Outcome
-copied document left = told_at left (outcome.Document document)
-
 -- COMMANDS
 
 -- the text of what is kept
@@ -113,6 +109,14 @@ expired s left = expired_in s left (scope_exceeded s)
 
 -- WHAT IS SAID OF REQUESTS
 
+-- 1 where the source failed at the render of this actor, and it is yet to be answered
+abbrev pub owed : Actor → ℕ
+owed Idle = 0
+owed (Waiting a force) = 0
+owed (Holding t a) = 0
+owed (Rendered t blob tile) = 0
+owed (Failed t) = 1
+
 -- the tile that a request asks for
 abbrev pub tile_of : Request → Option Address
 tile_of (request.Tile a) = Some a
@@ -128,7 +132,7 @@ tile_of request.Expiry = None
 -- the number of a tile that is answered, and the encoded tile
 abbrev pub tile_in : Outcome → Option (ℕ × List ℕ)
 tile_in (outcome.Tile hit k text) = Some (k, text)
-tile_in (outcome.Document text) = None
+tile_in outcome.Document = None
 tile_in (outcome.Refused code locator) = None
 tile_in outcome.NotFound = None
 tile_in outcome.WrongMethod = None

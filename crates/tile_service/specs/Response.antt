@@ -13,6 +13,27 @@ use Rattle.tile_service.specs.declared.outcome.Outcome.{Outcome}
 use Rattle.tile_service.specs.declared.outcome.Outcome.TheVariants.{Tile, Document, Refused, NotFound, WrongMethod, SourceFailed, Spent, Usage, Cut, CutsFull, CutSpent, Unformed, Dropped, Within, NoMemory}
 use Rattle.tile_service.specs.Texts.{within_text}
 
+-- THE PARTS OF A RESPONSE
+
+-- its status, the type of its body, the headers beside those of every response, and its body
+pub record ResponseParts : Type 0 where
+  pub status : ℕ
+  pub media_type : List ℕ
+  pub headers : List ℕ
+  pub body : List ℕ
+
+-- a body of a type
+abbrev pub typed : ℕ → List ℕ → List ℕ → ResponseParts
+typed status media_type body = record { status = status; media_type = media_type; headers = []; body = body }
+
+-- a status alone
+abbrev pub bare : ℕ → ResponseParts
+bare status = typed status [] []
+
+-- a JSON text (RFC 8259)
+abbrev pub json : ℕ → List ℕ → ResponseParts
+json status body = typed status (codes "application/json") body
+
 -- THE HEAD
 
 -- a status and its phrase (RFC 9110, section 15)
@@ -31,8 +52,8 @@ status_text status =
 
 -- the header of the body's type, where there is a body
 abbrev pub type_header : List ℕ → List ℕ → List ℕ
-type_header kind [] = []
-type_header kind (b ∷ bs) = codes "Content-Type: " ++ kind ++ codes "\r\n"
+type_header media_type [] = []
+type_header media_type (b ∷ bs) = codes "Content-Type: " ++ media_type ++ codes "\r\n"
 
 abbrev pub cache_result : Bool → List ℕ
 cache_result hit = if hit then codes "HIT" else codes "MISS"
@@ -45,32 +66,30 @@ tile_headers hit number = codes "geowebcache-cache-result: " ++ cache_result hit
 abbrev pub close_header : Bool → List ℕ
 close_header closes = if closes then codes "Connection: close\r\n" else []
 
+-- the status line and the headers in order, up to the empty line
+unfoldable pub head_text : Bool → ResponseParts → List ℕ
+head_text closes p =
+    codes "HTTP/1.1 " ++ status_text p.status ++ codes "\r\n" ++ type_header p.media_type p.body ++ codes "Content-Length: " ++ decimal (length p.body) ++ codes "\r\n" ++ p.headers ++ close_header closes ++ codes "\r\n"
+
 -- THE RESPONSE
 
--- the status line, the headers in order, and the body
-abbrev pub response_text : ℕ → List ℕ → List ℕ → Bool → List ℕ → List ℕ
-response_text status kind more closes body =
-    codes "HTTP/1.1 " ++ status_text status ++ codes "\r\n" ++ type_header kind body ++ codes "Content-Length: " ++ decimal (length body) ++ codes "\r\n" ++ more ++ close_header closes ++ codes "\r\n" ++ body
+-- the head, and then the body
+abbrev pub response_text : Bool → ResponseParts → List ℕ
+response_text closes p = head_text closes p ++ p.body
 
--- a status alone
-abbrev pub bare : Bool → ℕ → List ℕ
-bare closes status = response_text status [] [] closes []
-
--- a JSON text (RFC 8259)
-abbrev pub json : Bool → ℕ → List ℕ → List ℕ
-json closes status body = response_text status (codes "application/json") [] closes body
+-- THE RESPONSE TO A REQUEST
 
 -- the number of a truncation
 abbrev pub cut_text : ℕ → List ℕ
 cut_text number = codes "{\"cut\":" ++ decimal number ++ codes "}\n"
 
 -- the kind of a fault of a cover's text; out of memory is never one, and is answered otherwise
-abbrev pub kind_of : JobFault → List ℕ
-kind_of NotJson = codes "not json"
-kind_of (Missing field) = codes "missing"
-kind_of (Bad field) = codes "bad"
-kind_of (Limit field) = codes "limit"
-kind_of OutOfMemory = codes "out of memory"
+abbrev pub fault_kind : JobFault → List ℕ
+fault_kind NotJson = codes "not json"
+fault_kind (Missing field) = codes "missing"
+fault_kind (Bad field) = codes "bad"
+fault_kind (Limit field) = codes "limit"
+fault_kind OutOfMemory = codes "out of memory"
 
 -- how a member is spelt
 abbrev pub spelt : JobField → List ℕ
@@ -97,31 +116,35 @@ field_of OutOfMemory = []
 abbrev pub fault_text : List ℕ → List ℕ → List ℕ
 fault_text kind field = codes "{\"fault\":\"" ++ kind ++ codes "\",\"field\":\"" ++ field ++ codes "\"}\n"
 
--- a response to a request with this outcome, which closes its connection or does not
-abbrev pub response_with : Bool → Outcome → List ℕ
-response_with closes (Tile hit number text) = response_text 200 (codes "image/x-portable-pixmap") (tile_headers hit number) closes text
-response_with closes (Document text) = response_text 200 (codes "text/xml") [] closes text
-response_with closes (Refused code locator) = response_text (status_of code) (codes "text/xml") [] closes (report_of code locator)
-response_with closes NotFound = bare closes 404
-response_with closes WrongMethod = bare closes 405
-response_with closes SourceFailed = response_text 500 (codes "text/xml") [] closes (report_of NoApplicableCode Nowhere)
-response_with closes Spent = response_text 500 (codes "text/plain") [] closes (codes "numbers spent\n")
-response_with closes (Usage text) = response_text 200 (codes "text/plain") [] closes text
-response_with closes (Cut number) = json closes 200 (cut_text number)
-response_with closes CutsFull = json closes 409 (codes "{\"fault\":\"cuts full\"}\n")
-response_with closes CutSpent = json closes 500 (codes "{\"fault\":\"numbers spent\"}\n")
-response_with closes (Unformed fault) = json closes 400 (fault_text (kind_of fault) (field_of fault))
-response_with closes (Dropped text) = json closes 200 text
-response_with closes Within = json closes 200 within_text
-response_with closes NoMemory = bare closes 503
+-- the parts of the response to a request with this outcome, where this is the capabilities document
+abbrev pub parts_of : List ℕ → Outcome → ResponseParts
+parts_of document (Tile hit number text) = record { status = 200; media_type = codes "image/x-portable-pixmap"; headers = tile_headers hit number; body = text }
+parts_of document Document = typed 200 (codes "text/xml") document
+parts_of document (Refused code locator) = typed (status_of code) (codes "text/xml") (report_of code locator)
+parts_of document NotFound = bare 404
+parts_of document WrongMethod = bare 405
+parts_of document SourceFailed = typed 500 (codes "text/xml") (report_of NoApplicableCode Nowhere)
+parts_of document Spent = typed 500 (codes "text/plain") (codes "numbers spent\n")
+parts_of document (Usage text) = typed 200 (codes "text/plain") text
+parts_of document (Cut number) = json 200 (cut_text number)
+parts_of document CutsFull = json 409 (codes "{\"fault\":\"cuts full\"}\n")
+parts_of document CutSpent = json 500 (codes "{\"fault\":\"numbers spent\"}\n")
+parts_of document (Unformed fault) = json 400 (fault_text (fault_kind fault) (field_of fault))
+parts_of document (Dropped text) = json 200 text
+parts_of document Within = json 200 within_text
+parts_of document NoMemory = bare 503
+
+-- the bytes of that response, which closes its connection or does not
+abbrev pub response_with : List ℕ → Bool → Outcome → List ℕ
+response_with document closes o = response_text closes (parts_of document o)
 
 -- a response closes its connection where its message is the last of it or the 10,000th of its session
 abbrev pub closes : Message → ℕ → Bool
 closes message i = message.last || i == 10000
 
 -- the response to the i-th message of a session, counted from 1, by the outcome
-abbrev pub response : Message → ℕ → Outcome → List ℕ
-response message i o = response_with (closes message i) o
+abbrev pub response : List ℕ → Message → ℕ → Outcome → List ℕ
+response document message i o = response_with document (closes message i) o
 
 -- ANSWERS OF A SCHEDULE
 
@@ -134,5 +157,5 @@ abbrev pub framed : ℕ → ℕ → ℕ → List ℕ → List ℕ
 framed line actor start text = answer_line line actor start (length text) ++ text
 
 -- an answer of a schedule: each message counts as the first of its session
-abbrev pub answered : ℕ → ℕ → ℕ → Message → Outcome → List ℕ
-answered line actor start message o = framed line actor start (response message 1 o)
+abbrev pub answered : List ℕ → ℕ → ℕ → ℕ → Message → Outcome → List ℕ
+answered document line actor start message o = framed line actor start (response document message 1 o)

@@ -8,7 +8,6 @@ use Rattle.http_wire.specs.declared.message.Method.{Method}
 use Rattle.http_wire.specs.declared.message.Method.TheVariants.{Get, Post, Delete, Other}
 use Rattle.job_forms.specs.declared.fault.JobFault.{JobFault}
 use Rattle.job_forms.specs.Cover.{cover_of}
-use Rattle.tile_service.specs.declared.message_ref.MessageRef.{MessageRef}
 use Rattle.tile_service.specs.declared.request.Request.{Request}
 use Rattle.tile_service.specs.declared.request.Request.TheVariants as request
 use Rattle.tile_service.specs.declared.routes.Route.{Route}
@@ -25,10 +24,6 @@ path_of target = take (prefix_len (λ b. not (b == 63)) target) target
 
 abbrev pub query_of : List ℕ → List ℕ
 query_of target = drop (prefix_len (λ b. not (b == 63)) target + 1) target
-
--- a message whose parts are borrowed; it counts as not the last of its connection
-abbrev pub shown_message : MessageRef → Message
-shown_message message = record { method = message.method; target = message.target.now; body = message.body.now; last = false }
 
 -- THE TABLE
 

@@ -17,9 +17,8 @@ use Rattle.tile_service.specs.declared.request.Mode.{Mode}
 use Rattle.tile_service.specs.declared.request.Request.{Request}
 use Rattle.tile_service.specs.declared.request.Request.TheVariants as request
 use Rattle.tile_service.specs.declared.seats.TheConstants.{ACTORS}
-use Rattle.tile_service.specs.Events.{owed}
 use Rattle.tile_service.specs.Lines.{Action, Nothing, Sends, Steps, action_in}
-use Rattle.tile_service.specs.Requests.{Chance, calm, events, outcome_of, told_at, copied, told_usage, cut, expired, IsTrueAnswer, IsFreshAnswer}
+use Rattle.tile_service.specs.Requests.{owed, Chance, calm, events, outcome_of, told_at, told_usage, cut, expired, IsTrueAnswer, IsFreshAnswer}
 use Rattle.tile_service.specs.Response.{answered}
 use Rattle.tile_service.specs.Routes.{request_for}
 
@@ -40,6 +39,10 @@ pub record World : Type 0 where
   pub cabinet : State
   pub capabilities : List ℕ
   pub seats : List (Option PendingRequest)
+
+-- the world of these
+abbrev pub world_of : State → List ℕ → List (Option PendingRequest) → World
+world_of s document busy = record { cabinet = s; capabilities = document; seats = busy }
 
 -- no actor is busy
 abbrev pub free_seats : List (Option PendingRequest)
@@ -102,7 +105,7 @@ resumed w b = record { start = b.start; message = b.message; address = b.address
 -- a tile is asked for; anything else is answered immediately
 abbrev pub asked : World → ℕ → Chance → Mode → ℕ → Message → Request → World × List Answer
 asked w n c mode i m (request.Tile a) = settled w n c i (started w n m a) (events mode w.cabinet a c)
-asked w n c mode i m request.Capabilities = told_in w n c i m (Some request.Capabilities) (w.cabinet, copied w.capabilities c.work)
+asked w n c mode i m request.Capabilities = told_in w n c i m (Some request.Capabilities) (w.cabinet, Document)
 asked w n c mode i m (request.Refused code locator) = told_in w n c i m (Some (request.Refused code locator)) (w.cabinet, Refused code locator)
 asked w n c mode i m request.NotFound = told_in w n c i m (Some request.NotFound) (w.cabinet, NotFound)
 asked w n c mode i m request.WrongMethod = told_in w n c i m (Some request.WrongMethod) (w.cabinet, WrongMethod)
@@ -162,16 +165,17 @@ run w n (line ∷ lines) cs = goes_on w n (line_done w n (first_of cs) (action_i
 
 -- WHAT IS SAID OF A RUN
 
-abbrev pub answer_text : Answer → List ℕ
-answer_text a = answered a.line a.actor a.start a.message a.outcome
+-- the bytes of an answer, where this is the capabilities document
+abbrev pub answer_text : List ℕ → Answer → List ℕ
+answer_text document a = answered document a.line a.actor a.start a.message a.outcome
 
 -- what a run writes
-abbrev pub output_of : Run → List ℕ
-output_of r = flat_map answer_text r.answers
+abbrev pub output_of : List ℕ → Run → List ℕ
+output_of document r = flat_map (answer_text document) r.answers
 
 abbrev pub is_failed : Outcome → Bool
 is_failed (Tile hit number text) = false
-is_failed (Document text) = false
+is_failed Document = false
 is_failed (Refused code locator) = false
 is_failed NotFound = false
 is_failed WrongMethod = false

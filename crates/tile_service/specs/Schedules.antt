@@ -24,8 +24,8 @@ GoesThrough all (run_end.Line n) lines = lines ≡ all
 GoesThrough all run_end.WriteFault lines = (rest : List (List ℕ)) × (all ≡ lines ++ rest)
 
 -- a run came to t, with this line refused or none, and all that it writes went out
-abbrev pub IsWhole : Outside → Run → World → Option ℕ → Type 0
-IsWhole o r t refused = (r.refused ≡ refused) × (t ≡ r.world) × Appends o.from o.to (output_of r)
+abbrev pub IsWhole : Outside → List ℕ → Run → World → Option ℕ → Type 0
+IsWhole o document r t refused = (r.refused ≡ refused) × (t ≡ r.world) × Appends o.from o.to (output_of document r)
 
 -- The last of these lines has an answer of which only a front went out, and not all of it; all that the lines before it write
 -- went out.
@@ -35,12 +35,12 @@ pub record IsCutInLast (o : Outside) (w : World) (lines : List (List ℕ)) (chan
   pub whole : lines ≡ before ++ line ∷ []
   pub answer : Answer
   pub answers : (run w 1 lines chances).answers ≡ (run w 1 before chances).answers ++ answer ∷ []
-  pub sent : AppendsPart o.from o.to (output_of (run w 1 before chances)) (answer_text answer)
+  pub sent : AppendsPart o.from o.to (output_of w.capabilities (run w 1 before chances)) (answer_text w.capabilities answer)
 
 -- how the run of these lines ends, and what went out of what they write; after a write that failed nothing is done
 abbrev pub Ends : Outside → World → List (List ℕ) → List Chance → World → RunEnd → Type 0
-Ends o w lines chances t run_end.Done = IsWhole o (run w 1 lines chances) t None
-Ends o w lines chances t (run_end.Line n) = IsWhole o (run w 1 lines chances) t (Some n)
+Ends o w lines chances t run_end.Done = IsWhole o w.capabilities (run w 1 lines chances) t None
+Ends o w lines chances t (run_end.Line n) = IsWhole o w.capabilities (run w 1 lines chances) t (Some n)
 Ends o w lines chances t run_end.WriteFault = (t ≡ (run w 1 lines chances).world) × Rose o.writes.before o.writes.after × IsCutInLast o w lines chances
 
 -- What is promised of the answers of a run from w. No more of them say that the source failed, and no more failures are yet

@@ -1,4 +1,5 @@
 -- The seats of the actors in the code.
+-- A tie between the code and its definitions: the promise can be read without it.
 use Rattle.std.specs.Prelude.{ℕ, Bool, true, false, List, fold, Option, Some, None}
 use Rattle.cabinet.specs.State.{State}
 use Rattle.cache_core.specs.declared.actor.Actor.{Actor}

@@ -1,4 +1,4 @@
--- what was sent
+-- What an output has gained, where its bytes are modelled.
 use Rattle.std.specs.Prelude.{ℕ, ◌≡◌, ◌<◌, List, ◌++◌, length, Option}
 use Rattle.std.specs.Io.KnownBytes.{Appends}
 

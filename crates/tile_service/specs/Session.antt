@@ -5,13 +5,10 @@ use Rattle.std.specs.List.{AllByRecursion}
 use Rattle.cabinet.specs.State.{State, IsSound, now}
 use Rattle.causes.specs.Causes.{RoseBy}
 use Rattle.http_wire.specs.declared.message.Message.{Message}
-use Rattle.tile_service.specs.declared.outcome.Outcome.{Outcome}
 use Rattle.tile_service.specs.declared.request.Mode.TheVariants.{Gets}
-use Rattle.tile_service.specs.declared.request.Request.{Request}
-use Rattle.tile_service.specs.OneLine.{Keeps}
 use Rattle.tile_service.specs.Outside.{FaultCounts}
-use Rattle.tile_service.specs.Requests.{Chance, told_at}
-use Rattle.tile_service.specs.Response.{bare, response}
+use Rattle.tile_service.specs.Requests.{Chance}
+use Rattle.tile_service.specs.Response.{bare, response, response_text}
 use Rattle.tile_service.specs.Run.{World, Answer, sent, first_of, rest_of, failures, IsTrue, IsFresh}
 
 -- no render runs
@@ -31,16 +28,16 @@ session w i [] cs = (w, [])
 session w i (m ∷ ms) cs = and_then (sent w i (first_of cs) Gets 0 m) (λ t. session t (i + 1) ms (rest_of cs))
 
 -- an answer's response: the answered line is the place of its message in the session
-abbrev pub reply_text : Answer → List ℕ
-reply_text a = response a.message a.line a.outcome
+abbrev pub reply_text : List ℕ → Answer → List ℕ
+reply_text document a = response document a.message a.line a.outcome
 
 -- what a session writes
-abbrev pub replies : List Answer → List ℕ
-replies answers = flat_map reply_text answers
+abbrev pub replies : List ℕ → List Answer → List ℕ
+replies document answers = flat_map (reply_text document) answers
 
 -- the answer to bytes that are no message: the status alone, and the connection is closed
 abbrev pub bad_text : ℕ → List ℕ
-bad_text status = bare true status
+bad_text status = response_text true (bare status)
 
 -- WHAT IS PROMISED OF IT
 
@@ -54,17 +51,3 @@ pub record IsServed (told : Option ℕ) (renders : FaultCounts) (document : List
   pub failed : RoseBy (failures answers) renders.before renders.after
   pub truth : told ≡ Some s.catalogue.source → IsSound s → AllByRecursion (IsTrue s.catalogue) answers
   pub fresh : AllByRecursion (IsFresh s.catalogue t.history) answers
-
--- ONE MESSAGE
-
--- the answer to the i-th message of a session
-abbrev pub answer_to : ℕ → Message → Option Request → ℕ → Outcome → Answer
-answer_to i m request place o = record { line = i; actor = 0; start = i; message = m; request = request; place = place; outcome = o }
-
--- From s a message came to t, and this is its outcome, unless no memory is left to answer it. No render runs after it.
-pub record Serves (told : Option ℕ) (before after : ℕ) (document : List ℕ) (s : State) (m : Message) (o : Outcome) (t : State) : Type 0 where
-  pub request : Option Request
-  pub chance : Bool → Chance
-  pub made : (i : ℕ) (left : Bool) → sent (lone s document) i (chance left) Gets 0 m ≡ (lone t document, answer_to i m request (length s.history) (told_at left o) ∷ [])
-  pub keeps : (i : ℕ) (left : Bool) → Keeps told before after (lone s document) (lone t document) (answer_to i m request (length s.history) (told_at left o) ∷ [])
-  pub rests : IsAtRest t

@@ -1,4 +1,5 @@
 -- What one line of a schedule came to, with what it wrote.
+-- A tie between the code and its definitions: the promise can be read without it.
 use Rattle.std.specs.Prelude.{ℕ, ◌≡◌, ◌≤◌, List, [], ◌∷◌, map, Option, None, flat_map}
 use Rattle.std.specs.Io.KnownBytes.{Appends}
 use Rattle.cabinet.specs.State.{State}
@@ -7,10 +8,10 @@ use Rattle.tile_service.specs.declared.run_line.LineEnd.{LineEnd}
 use Rattle.tile_service.specs.declared.run_line.LineEnd.TheVariants as line_end
 use Rattle.tile_service.specs.declared.seats.Seat.{Seat}
 use Rattle.tile_service.specs.Lines.{action_in}
-use Rattle.tile_service.specs.OneLine.{IsLine, IsSeated, seat_of, world_of}
+use Rattle.tile_service.specs.OneLine.{IsLine, IsSeated, seat_of}
 use Rattle.tile_service.specs.Outside.{Outside}
 use Rattle.tile_service.specs.Requests.{calm}
-use Rattle.tile_service.specs.Run.{PendingRequest, World, Answer, line_done, answer_text}
+use Rattle.tile_service.specs.Run.{PendingRequest, World, Answer, line_done, answer_text, world_of}
 use Rattle.tile_service.specs.Sent.{AppendsFront}
 use Rattle.tile_service.specs.CacheTally.{one_of, tally_of}
 
@@ -18,9 +19,9 @@ use Rattle.tile_service.specs.CacheTally.{one_of, tally_of}
 abbrev pub LineEnds : Outside → World → ℕ → List ℕ → World → LineEnd → Type 0
 LineEnds o w n line t line_end.Refused = (line_done w n calm (action_in line) ≡ None) × (t ≡ w) × (o.renders.before ≤ o.renders.after) × (o.to ≡ o.from)
 LineEnds o w n line t (line_end.Done told) =
-    (answers : List Answer) × IsLine o.told o.renders.before o.renders.after w n line t answers × Appends o.from o.to (flat_map answer_text answers) × (tally_of answers ≡ one_of told)
+    (answers : List Answer) × IsLine o.told o.renders.before o.renders.after w n line t answers × Appends o.from o.to (flat_map (answer_text w.capabilities) answers) × (tally_of answers ≡ one_of told)
 LineEnds o w n line t line_end.WriteFault =
-    (answer : Answer) × IsLine o.told o.renders.before o.renders.after w n line t (answer ∷ []) × AppendsFront o.from o.to (answer_text answer) × Rose o.writes.before o.writes.after
+    (answer : Answer) × IsLine o.told o.renders.before o.renders.after w n line t (answer ∷ []) × AppendsFront o.from o.to (answer_text w.capabilities answer) × Rose o.writes.before o.writes.after
 
 -- whatever the actors were busy with before, they are busy with these now, and the line ended so
 abbrev pub Writes : Outside → State → List ℕ → List Seat → ℕ → List ℕ → State → List Seat → LineEnd → Type 0

@@ -1,27 +1,16 @@
-//! What is answered in one step from the cabinet and the capabilities document.
+//! What is answered in one step from the cabinet.
 ghost use Rattle.std.specs.Prelude.{◌≡◌, Bool};
 ghost use Rattle.catalog.specs.Valid.{IsValid};
 ghost use Rattle.served_covers.specs.OfCatalogue.{IsCoverOf};
-ghost use Rattle.tile_service.specs.Requests.{copied, cut, expired, told_usage};
+ghost use Rattle.tile_service.specs.Requests.{cut, expired, told_usage};
 
 use crate::dropped::dropped_text;
 use crate::outcome::Outcome;
 use crate::usage::usage_text;
 use cabinet::cabinet::Cabinet;
 use cabinet::replies::{CutReply, Expired};
-use exact_ratio::words::Words;
 use std::alloc::Global;
 use truncation_list::cover::Cover;
-
-/// The capabilities document.
-pub fn document(alloc: Global, text: &[u8]) -> Outcome
-    ensures { (left : Bool) × (result ≡ copied text.now left) }
-{
-    match Words::new(alloc, text) {
-        Ok(copy) => Outcome::Document(copy),
-        Err(_) => Outcome::NoMemory,
-    }
-}
 
 /// What is kept, as text.
 pub fn usage(alloc: Global, cabinet: &Cabinet) -> Outcome

@@ -2,8 +2,7 @@
 ghost use Rattle.std.specs.Prelude.{◌≡◌};
 ghost use Rattle.catalog.specs.Valid.{IsValid};
 ghost use Rattle.tile_service.specs.Drill.{Drills};
-ghost use Rattle.tile_service.specs.OneLine.{world_of};
-ghost use Rattle.tile_service.specs.Run.{free_seats};
+ghost use Rattle.tile_service.specs.Run.{free_seats, world_of};
 
 use crate::counter::Counter;
 use crate::drill_run::{MadeEnd, run_made_lines};

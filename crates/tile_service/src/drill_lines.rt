@@ -1,7 +1,7 @@
 //! The lines that a drill makes by draws.
 ghost use Rattle.std.specs.Prelude.{◌≡◌, ◌<◌, ◌++◌, IfOk, OnOk, IfSome, IsSome, codes, decimal, flat_map, option_map, slice_get, is_some};
 ghost use Rattle.catalog.specs.Valid.{IsGrid, IsNamedGrid, IsValid};
-ghost use Rattle.tile_service.specs.Drilling.{shown_aim};
+ghost use Rattle.tile_service.specs.Shown.{shown_aim};
 ghost use Rattle.tile_service.specs.Made.{aimed_at, cols_at, cover_text, dimension_text, drawn, line_of_actor, made_idle, made_line, name_at, rows_at, said, target_of, value_of};
 ghost use Rattle.tile_service.specs.Seats.{pending_at};
 

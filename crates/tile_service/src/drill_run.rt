@@ -2,8 +2,8 @@
 ghost use Rattle.std.specs.Prelude.{◌≡◌, List, Option, Some, IfOk, OnErr, map, replicate};
 ghost use Rattle.catalog.specs.Valid.{IsValid};
 ghost use Rattle.tile_service.specs.Drilling.{HasMade, Makes};
-ghost use Rattle.tile_service.specs.OneLine.{IsSeated, seat_of, world_of};
-ghost use Rattle.tile_service.specs.Run.{PendingRequest, free_seats};
+ghost use Rattle.tile_service.specs.OneLine.{IsSeated, seat_of};
+ghost use Rattle.tile_service.specs.Run.{PendingRequest, free_seats, world_of};
 
 use crate::counter::Counter;
 use crate::digest_sink::DigestSink;

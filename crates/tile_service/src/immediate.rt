@@ -4,7 +4,7 @@ ghost use Rattle.catalog.specs.Valid.{IsValid};
 ghost use Rattle.tile_service.specs.Performing.{IsImmediate};
 ghost use Rattle.tile_service.specs.Requests.{IsOf, tile_of};
 
-use crate::commands::{cut, document, expire, usage};
+use crate::commands::{cut, expire, usage};
 use crate::counter::Counter;
 use crate::outcome::Outcome;
 use crate::request::Request;
@@ -15,13 +15,13 @@ pub fn immediate(alloc: Global, counter: &mut Counter, request: Request) -> Outc
     requires valid { IsValid counter.old.cabinet.catalogue }
     requires of { IsOf counter.old.cabinet.catalogue request }
     requires other { tile_of request ≡ None }
-    ensures immediate { IsImmediate counter.old.cabinet counter.old.capabilities request result counter.new.cabinet }
+    ensures immediate { IsImmediate counter.old.cabinet request result counter.new.cabinet }
     ensures catalogue { counter.new.cabinet.catalogue ≡ counter.old.cabinet.catalogue }
     ensures capabilities { counter.new.capabilities ≡ counter.old.capabilities }
 {
     match request {
         Request::Tile(_) => unreachable!(),
-        Request::Capabilities => document(alloc, counter.capabilities.bytes()),
+        Request::Capabilities => Outcome::Document,
         Request::Refused(code, locator) => Outcome::Refused(code, locator),
         Request::NotFound => Outcome::NotFound,
         Request::WrongMethod => Outcome::WrongMethod,

@@ -1,8 +1,8 @@
 //! The lines of a schedule: where each ends, and the action that it says.
 ghost use Rattle.std.specs.Prelude.{◌≡◌, ◌<◌, ◌≤◌, ◌∷◌, length};
 ghost use Rattle.std.specs.Option.{option_map};
-ghost use Rattle.tile_service.specs.Lines.{lines_of, line_length, get, post, shown_action, action_with, says_nothing, action_in};
-ghost use Rattle.tile_service.specs.Routes.{shown_message};
+ghost use Rattle.tile_service.specs.Lines.{lines_of, line_length, get, post, action_with, says_nothing, action_in};
+ghost use Rattle.tile_service.specs.Shown.{shown_action, shown_message};
 
 use crate::message_ref::MessageRef;
 use crate::request::Mode;

@@ -8,8 +8,8 @@ use job_forms::fault::JobFault;
 pub enum Outcome {
     /// The tile: whether a kept one gave it, the number of its render, and the encoded tile.
     Tile(bool, u64, Words),
-    /// The capabilities document, as the operator wrote it.
-    Document(Words),
+    /// The capabilities document, as the operator wrote it. It is borrowed where the response is made.
+    Document,
     /// The request is refused.
     Refused(Code, Locator),
     /// Nothing stands at the request's path.

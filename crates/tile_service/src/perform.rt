@@ -5,7 +5,7 @@ ghost use Rattle.tile_service.specs.Performing.{IsAsked};
 ghost use Rattle.tile_service.specs.Lines.{Sends, Steps, action_in};
 ghost use Rattle.tile_service.specs.OneLine.{Performs, IsSeated};
 ghost use Rattle.tile_service.specs.Requests.{IsOf};
-ghost use Rattle.tile_service.specs.Routes.{shown_message};
+ghost use Rattle.tile_service.specs.Shown.{shown_message};
 ghost use Rattle.tile_service.specs.Run.{PendingRequest};
 
 use crate::immediate::immediate;
@@ -47,7 +47,7 @@ fn asked<S: Source>(
     requires valid { IsValid counter.old.cabinet.catalogue }
     requires of { IsOf counter.old.cabinet.catalogue request }
     requires free { slice_get seats.old actor ≡ Some Seat.Free }
-    ensures asked { IsAsked (S.told source.old) (S.faults source.old) (S.faults source.new) counter.old.cabinet counter.old.capabilities seats.old n mode actor request counter.new.cabinet seats.new result }
+    ensures asked { IsAsked (S.told source.old) (S.faults source.old) (S.faults source.new) counter.old.cabinet seats.old n mode actor request counter.new.cabinet seats.new result }
     ensures catalogue { counter.new.cabinet.catalogue ≡ counter.old.cabinet.catalogue }
     ensures capabilities { counter.new.capabilities ≡ counter.old.capabilities }
     ensures told { S.told source.new ≡ S.told source.old }

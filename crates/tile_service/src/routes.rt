@@ -6,7 +6,8 @@ ghost use Rattle.catalog.specs.Valid.{IsValid};
 ghost use Rattle.wmts_kvp.specs.Reading.{IsOfCatalogue};
 ghost use Rattle.tile_service.specs.Requests.{IsOf};
 ghost use Rattle.job_forms.specs.Cover.{cover_of};
-ghost use Rattle.tile_service.specs.Routes.{path_of, query_of, shown_message, by_get, by_post, route_of, request_of, request_or_none, truncation_of, request_at, request_for};
+ghost use Rattle.tile_service.specs.Shown.{shown_message};
+ghost use Rattle.tile_service.specs.Routes.{path_of, query_of, by_get, by_post, route_of, request_of, request_or_none, truncation_of, request_at, request_for};
 
 use crate::message_ref::MessageRef;
 use crate::request::Request;

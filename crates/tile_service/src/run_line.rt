@@ -50,9 +50,12 @@ pub fn run_line<S: Source, O: ByteSink>(
     match perform(alloc, counter, seats, source, n, line) {
         ActionEnd::Refused => LineEnd::Refused,
         ActionEnd::Silent => LineEnd::Done(None),
-        ActionEnd::Answers(answer) => match write_answer(alloc, output, n, &answer) {
-            Ok(told) => LineEnd::Done(Some(told)),
-            Err(_) => LineEnd::WriteFault,
-        },
+        ActionEnd::Answers(answer) => {
+            let document = counter.capabilities.bytes();
+            match write_answer(alloc, document, output, n, &answer) {
+                Ok(told) => LineEnd::Done(Some(told)),
+                Err(_) => LineEnd::WriteFault,
+            }
+        }
     }
 }

@@ -1,8 +1,8 @@
 //! The lines of a schedule, run one after the other up to the first that is refused or whose answer can't be written.
 ghost use Rattle.std.specs.Prelude.{◌≡◌, ◌<◌, ◌^◌, List, Option, length, map, replicate};
 ghost use Rattle.catalog.specs.Valid.{IsValid};
-ghost use Rattle.tile_service.specs.OneLine.{seat_of, world_of};
-ghost use Rattle.tile_service.specs.Run.{PendingRequest, free_seats};
+ghost use Rattle.tile_service.specs.OneLine.{seat_of};
+ghost use Rattle.tile_service.specs.Run.{PendingRequest, free_seats, world_of};
 ghost use Rattle.tile_service.specs.Schedules.{HasRun};
 
 use crate::counter::Counter;

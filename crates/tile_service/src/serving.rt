@@ -3,7 +3,8 @@ ghost use Rattle.std.specs.Prelude.{◌≡◌};
 ghost use Rattle.catalog.specs.LookUp.{IsTile};
 ghost use Rattle.catalog.specs.Valid.{IsValid};
 ghost use Rattle.tile_service.specs.Performing.{IsGot};
-ghost use Rattle.tile_service.specs.Session.{IsAtRest, Serves};
+ghost use Rattle.tile_service.specs.Serving.{Serves};
+ghost use Rattle.tile_service.specs.Session.{IsAtRest};
 
 use crate::immediate::immediate;
 use crate::message_ref::MessageRef;

@@ -7,15 +7,15 @@ ghost use Rattle.tile_service.specs.Drill.{counts_text, digest_text};
 ghost use Rattle.tile_service.specs.Sent.{AppendsFront};
 ghost use Rattle.tile_service.specs.CacheTally.{total};
 
-use crate::answer::{add, add_number, send_both};
+use crate::small_text::{add, add_number, send_behind};
 use crate::cache_tally::CacheTally;
 use arrayvec::ArrayVec;
 use http_wire::sending::Sent;
 use http_wire::streams::ByteSink;
 
 /// Adds a label and the number after it.
-fn add_count(text: &mut ArrayVec<u8, 256>, label: &[u8], number: u64)
-    requires { array_vec_len text.old + length label.now + 20 ≤ 256 }
+fn add_count(text: &mut ArrayVec<u8, 1024>, label: &[u8], number: u64)
+    requires { array_vec_len text.old + length label.now + 20 ≤ 1024 }
     ensures items { text.new.items ≡ text.old.items ++ label.now ++ decimal number }
     ensures len { array_vec_len text.new ≤ array_vec_len text.old + length label.now + 20 }
 {
@@ -24,9 +24,10 @@ fn add_count(text: &mut ArrayVec<u8, 256>, label: &[u8], number: u64)
 }
 
 /// The line of the counts. It takes no memory.
-fn counts_text(number: u32, tally: &CacheTally) -> ArrayVec<u8, 256>
+fn counts_text(number: u32, tally: &CacheTally) -> ArrayVec<u8, 1024>
     requires { total tally.now < 2 ^ 64 }
-    ensures { result.items ≡ counts_text number (total tally.now) tally.now }
+    ensures items { result.items ≡ counts_text number (total tally.now) tally.now }
+    ensures short { array_vec_len result ≤ 256 }
 {
     let mut text = ArrayVec::new();
     add_count(&mut text, b"drill ", u64::from(number));
@@ -40,7 +41,7 @@ fn counts_text(number: u32, tally: &CacheTally) -> ArrayVec<u8, 256>
 
 /// The line of the digest. It takes no memory.
 #[tactic(auto, unfolding(crate::specs::Drill::digest_text))]
-fn digest_text(digest: &[u8; 32]) -> ArrayVec<u8, 256>
+fn digest_text(digest: &[u8; 32]) -> ArrayVec<u8, 1024>
     ensures { result.items ≡ digest_text digest.now }
 {
     let mut hex = [0; 64];
@@ -68,5 +69,5 @@ pub fn send_summary<O: ByteSink>(
 {
     let counts = counts_text(number, tally);
     let digest_line = digest_text(digest);
-    send_both(output, counts.as_slice(), digest_line.as_slice())
+    send_behind(output, counts, digest_line.as_slice())
 }

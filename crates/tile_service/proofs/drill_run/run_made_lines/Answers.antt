@@ -4,8 +4,7 @@ use Rattle.catalog.specs.Valid.{IsValid}
 use Rattle.tile_service.specs.declared.seats.Seat.TheVariants as seat
 use Rattle.tile_service.specs.declared.seats.TheConstants.{ACTORS}
 use Rattle.tile_service.specs.Drill.{line_count}
-use Rattle.tile_service.specs.OneLine.{world_of}
-use Rattle.tile_service.specs.Run.{free_seats}
+use Rattle.tile_service.specs.Run.{free_seats, world_of}
 use Rattle.tile_service.proofs.Making.{seated_start, seated_next, seated_accepted, seated_short, seated_done}
 use Rattle.tile_service.proofs.drill_run.run_made_lines.Goals as goal
 

@@ -1,8 +1,7 @@
 use Rattle.std.proofs.Common.{◌≡◌, ◌-◌, ◌≤◌, length}
 use Rattle.tile_service.specs.declared.seats.TheConstants.{ACTORS}
 use Rattle.tile_service.specs.Drill.{line_count}
-use Rattle.tile_service.specs.OneLine.{world_of}
-use Rattle.tile_service.specs.Run.{free_seats}
+use Rattle.tile_service.specs.Run.{free_seats, world_of}
 use Rattle.tile_service.proofs.Making.{Seated}
 use Rattle.tile_service.proofs.drill_run.run_made_lines.Given as goal
 

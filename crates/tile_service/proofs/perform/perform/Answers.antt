@@ -1,6 +1,6 @@
 use Rattle.std.proofs.Common.{Some, sym, ap, ◌∙◌}
 use Rattle.std.specs.Option.{option_map}
-use Rattle.tile_service.specs.Lines.{shown_action}
+use Rattle.tile_service.specs.Shown.{shown_action}
 use Rattle.tile_service.proofs.Performed.{idle_performs}
 use Rattle.tile_service.proofs.perform.perform.Goals as goal
 

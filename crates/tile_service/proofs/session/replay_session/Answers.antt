@@ -33,16 +33,16 @@ returns-in-Ok-Truncated-clause-session g c =
     let i = c.serving.invariant in
     truncated_there _ _ _ _ _ _ _ _ _ _ _ _ _ _ _ _ _ i.under_way (omega arith) c.next.new.self.held _ (c.in-Ok-Truncated.ensures.leaves i.going) c.in-Ok-Truncated.field-0-is c.next.ensures.taken
 
-pub returns-in-Ok-refuse-clause-session : goal.returns-in-Ok-refuse-clause-session
-returns-in-Ok-refuse-clause-session g c =
+pub returns-in-Ok-write_refusal-clause-session : goal.returns-in-Ok-write_refusal-clause-session
+returns-in-Ok-write_refusal-clause-session g c =
     let i = c.serving.invariant in
-    let still : g.L.ByteSource.left c.refuse.new.sink ≡ g.L.ByteSource.left c.next.new.link = search rules in
-    bad_there _ _ _ _ _ _ _ _ _ _ _ _ _ _ _ _ _ i.under_way (omega arith) c.next.new.self.held _ (rw still (c.in-Ok-Bad.ensures.leaves i.going)) c.in-Ok-Bad.status c.in-Ok-Bad.field-0-is (rw c.next.ensures.taken at c.in-Ok-refuse.ensures.ok)
+    let still : g.L.ByteSource.left c.write_refusal.new.sink ≡ g.L.ByteSource.left c.next.new.link = search rules in
+    bad_there _ _ _ _ _ _ _ _ _ _ _ _ _ _ _ _ _ i.under_way (omega arith) c.next.new.self.held _ (rw still (c.in-Ok-Bad.ensures.leaves i.going)) c.in-Ok-Bad.status c.in-Ok-Bad.field-0-is (rw c.next.ensures.taken at c.in-Ok-write_refusal.ensures.ok)
 
 pub returns-in-Err-clause-session : goal.returns-in-Err-clause-session
 returns-in-Err-clause-session g c =
     let i = c.serving.invariant in
-    let still : g.L.ByteSource.left c.refuse.new.sink ≡ g.L.ByteSource.left c.next.new.link = search rules in
+    let still : g.L.ByteSource.left c.write_refusal.new.sink ≡ g.L.ByteSource.left c.next.new.link = search rules in
     let rose = c.in-Err.ensures.cause.failed in
     let same = c.next.ensures.put_faults in
     bad_cut_off _ _ _ _ _ _ _ _ _ _ _ _ _ _ _ _ _ i.under_way (omega arith) c.next.new.self.held _ (rw still (c.in-Ok-Bad.ensures.leaves i.going)) c.in-Ok-Bad.status c.in-Ok-Bad.field-0-is (rw c.next.ensures.taken at c.in-Err.ensures.err) (omega (arith, rose, same, i.writes))

@@ -4,9 +4,9 @@ use Rattle.tile_service.specs.CacheTally.{total}
 use Rattle.tile_service.proofs.Gluing.{glued, glued_end, glued_first}
 use Rattle.tile_service.proofs.summary.counts_text.Goals as goal
 
-pub returns : goal.returns
+pub returns-clause-items : goal.returns-clause-items
 unfolding counts_text
-returns c =
+returns-clause-items c =
     let t = c.args.tally.now in
     let first = glued_first [] _ [] (codes "drill ") (decimal c.args.number) (rw (c.new-text.ensures, c.from.ensures) at c.add_count.ensures.items) in
     let answers = glued [] _ _ (codes " lines 4096 answers ") (decimal (total t)) _ first (rw c.total.ensures at c.add_count-2.ensures.items) in
