@@ -10,11 +10,11 @@ use Rattle.http_wire.specs.declared.inputs.InputEnd.{InputEnd}
 use Rattle.http_wire.specs.declared.inputs.InputEnd.TheVariants as input_end
 use Rattle.tile_service.specs.declared.schedule.ScheduleEnd.{ScheduleEnd}
 use Rattle.tile_service.specs.declared.schedule.ScheduleEnd.TheVariants as end
-use Rattle.tile_service.specs.declared.drill.DrillEnd.{DrillEnd}
-use Rattle.tile_service.specs.declared.drill.DrillEnd.TheVariants as drill_end
+use Rattle.tile_drill.specs.declared.drill.DrillEnd.{DrillEnd}
+use Rattle.tile_drill.specs.declared.drill.DrillEnd.TheVariants as drill_end
 use Rattle.tile_service.specs.declared.session.SessionEnd.{SessionEnd}
 use Rattle.tile_service.specs.declared.session.SessionEnd.TheVariants as session_end
-use Rattle.tile_service.specs.Drill.{Drills}
+use Rattle.tile_drill.specs.Drill.{Drills}
 use Rattle.tile_service.specs.Outside.{InputChange, Outside}
 use Rattle.tile_service.specs.Run.{World, free_seats}
 use Rattle.tile_service.specs.Schedules.{IsTooLong, Schedules}

@@ -19,7 +19,7 @@ use http_wire::streams::{ByteSink, ByteSource};
 use source_render::source::Source;
 use std::alloc::{AllocError, Global};
 use tile_service::counter::Counter;
-use tile_service::drill::{DrillEnd, run_drill};
+use tile_drill::drill::{DrillEnd, run_drill};
 use tile_service::schedule::{ScheduleEnd, run_schedule};
 use tile_service::session::SessionEnd;
 use wmts_rest::table::RestTable;

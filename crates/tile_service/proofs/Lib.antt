@@ -13,14 +13,10 @@ pub mod Served
 pub mod Writing
 pub mod Far
 pub mod Scheduling
-pub mod Plain
-pub mod Speaking
-pub mod Making
-pub mod Summing
-pub mod Gluing
 pub mod Leaving
 pub mod Closing
 pub mod SoFar
 pub mod Replaying
 pub mod Ending
 pub mod Shapes
+pub mod Gluing

@@ -11,8 +11,6 @@ pub mod Session
 pub mod SessionEnds
 pub mod Alike
 pub mod CacheTally
-pub mod Made
-pub mod Drill
 pub mod Shown
 pub mod Events
 pub mod Seats
@@ -20,4 +18,3 @@ pub mod Performing
 pub mod OneLine
 pub mod Written
 pub mod Serving
-pub mod Drilling

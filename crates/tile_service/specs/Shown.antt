@@ -2,7 +2,6 @@
 -- A tie between the code and its definitions: the promise can be read without it.
 use Rattle.std.specs.Prelude.{ℕ, false, List, [], Option, Some, None, codes}
 use Rattle.http_wire.specs.declared.message.Message.{Message}
-use Rattle.tile_service.specs.declared.drill_lines.Aim.{Aim}
 use Rattle.tile_service.specs.declared.lines.Action as code
 use Rattle.tile_service.specs.declared.lines.Action.TheVariants as said
 use Rattle.tile_service.specs.declared.message_ref.MessageRef.{MessageRef}
@@ -13,7 +12,6 @@ use Rattle.tile_service.specs.declared.parts.MediaType.TheVariants.{Ppm, Xml, Js
 use Rattle.tile_service.specs.declared.parts.Parts.{Parts}
 use Rattle.tile_service.specs.declared.parts.TileHeaders.{TileHeaders}
 use Rattle.tile_service.specs.Lines.{Action, Nothing, Sends, Steps}
-use Rattle.tile_service.specs.Made.{Aimed}
 use Rattle.tile_service.specs.Response.{ResponseParts, tile_headers}
 
 -- LINES
@@ -54,9 +52,3 @@ body_text (Made bytes) = bytes.items
 -- the parts of a response
 abbrev pub shown_parts : Parts → ResponseParts
 shown_parts p = record { status = p.status; media_type = media_type_text p.media_type; headers = headers_text p.tile; body = body_text p.body }
-
--- DRILLS
-
--- what an aim of the code shows
-abbrev pub shown_aim : Aim → Aimed
-shown_aim a = record { layer = a.layer.now; style = a.style.now; grid = a.grid.now }
