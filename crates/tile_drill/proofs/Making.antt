@@ -23,7 +23,7 @@ use Rattle.tile_service.specs.Lines.{action_in}
 use Rattle.tile_drill.specs.Made.{Made as Line, drawn, made_line}
 use Rattle.tile_service.specs.OneLine.{IsLine, IsSeated, seat_of}
 use Rattle.tile_service.specs.Outside.{Outside}
-use Rattle.tile_service.specs.Requests.{Chance, calm}
+use Rattle.tile_requests.specs.Requests.{Chance, calm}
 use Rattle.tile_service.specs.Run.{Answer, PendingRequest, World, answer_text, free_seats, line_done, output_of, run, world_of}
 use Rattle.tile_service.specs.Seats.{pending_at}
 use Rattle.tile_service.specs.CacheTally.{both, is_hit, is_miss, is_other, one_of, result_of, tally_of, total}

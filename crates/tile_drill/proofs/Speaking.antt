@@ -18,7 +18,7 @@ use Rattle.schedule_text.specs.Line.{actor_of, digits_len, is_target, verb_of, w
 use Rattle.tile_drill.specs.Drill.{made}
 use Rattle.tile_service.specs.Lines.{action_in, action_with, says_nothing}
 use Rattle.tile_drill.specs.Made.{Aimed, aimed_at, cols_at, cover_text, drawn, line_of_actor, made_idle, next_x, rows_at, said, target_of}
-use Rattle.tile_service.specs.Requests.{Chance}
+use Rattle.tile_requests.specs.Requests.{Chance}
 use Rattle.tile_service.specs.Run.{Answer, PendingRequest, World, if_free, line_done, stepped}
 use Rattle.tile_drill.proofs.Plain.{plain_cover, plain_target}
 

@@ -16,7 +16,7 @@ use Rattle.tile_drill.specs.Drill.{Drills, counts_text, digest_text, drill_run, 
 use Rattle.tile_drill.specs.Drilling.{HasMade}
 use Rattle.tile_service.specs.Outside.{FaultCounts, Outside}
 use Rattle.tile_service.specs.Run.{Answer, Run, World, closed, free_seats, left_by, output_of, world_of}
-use Rattle.tile_service.specs.Sent.{AppendsFront}
+use Rattle.tile_requests.specs.Sent.{AppendsFront}
 use Rattle.tile_service.specs.CacheTally.{is_hit, is_miss, is_other, result_of, tally_of, total}
 use Rattle.tile_drill.proofs.Making.{all_drilled, made_start}
 

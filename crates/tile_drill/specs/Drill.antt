@@ -10,10 +10,10 @@ use Rattle.tile_service.specs.declared.cache_tally.CacheTally.{CacheTally}
 use Rattle.tile_service.specs.Lines.{action_in}
 use Rattle.tile_drill.specs.Made.{Made, drawn, made_line}
 use Rattle.tile_service.specs.Outside.{FaultCounts, Outside}
-use Rattle.tile_service.specs.Requests.{Chance}
+use Rattle.tile_requests.specs.Requests.{Chance}
 use Rattle.tile_service.specs.Run.{Answer, PendingRequest, Run, World, closed, first_of, line_done, output_of, rest_of, run}
 use Rattle.tile_service.specs.Schedules.{IsUpheld}
-use Rattle.tile_service.specs.Sent.{AppendsFront}
+use Rattle.tile_requests.specs.Sent.{AppendsFront}
 use Rattle.tile_service.specs.CacheTally.{tally_of}
 
 -- THE LINES

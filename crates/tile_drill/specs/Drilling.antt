@@ -13,7 +13,7 @@ use Rattle.tile_drill.specs.Drill.{IsDrilled, drill_lines, drill_run, line_count
 use Rattle.tile_drill.specs.Made.{Aimed}
 use Rattle.tile_service.specs.OneLine.{IsSeated, seat_of}
 use Rattle.tile_service.specs.Outside.{FaultCounts, Outside}
-use Rattle.tile_service.specs.Requests.{Chance}
+use Rattle.tile_requests.specs.Requests.{Chance}
 use Rattle.tile_service.specs.Run.{PendingRequest, World, output_of, world_of}
 use Rattle.tile_service.specs.CacheTally.{tally_of, total}
 use Rattle.tile_service.specs.Written.{LineEnds}

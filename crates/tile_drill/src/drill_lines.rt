@@ -6,7 +6,7 @@ ghost use Rattle.tile_drill.specs.Made.{aimed_at, cols_at, cover_text, dimension
 ghost use Rattle.tile_service.specs.Seats.{pending_at};
 
 use crate::draws::Draws;
-use tile_service::numbers::add_number;
+use tile_requests::numbers::add_number;
 use tile_service::seats::{Seat, is_busy};
 use catalog::catalogue::Catalogue;
 use catalog::grid::Grid;

@@ -4,10 +4,10 @@ ghost use Rattle.std.specs.Io.KnownBytes.{Appends};
 ghost use Rattle.arrayvec.specs.ArrayVec.{array_vec_len};
 ghost use Rattle.causes.specs.Causes.{HasCause};
 ghost use Rattle.tile_drill.specs.Drill.{counts_text, digest_text};
-ghost use Rattle.tile_service.specs.Sent.{AppendsFront};
+ghost use Rattle.tile_requests.specs.Sent.{AppendsFront};
 ghost use Rattle.tile_service.specs.CacheTally.{total};
 
-use tile_service::small_text::{add, add_number, send_behind};
+use tile_requests::small_text::{add, add_number, send_behind};
 use tile_service::cache_tally::CacheTally;
 use arrayvec::ArrayVec;
 use http_wire::sending::Sent;

@@ -22,10 +22,10 @@ use Rattle.metatile_locks.specs.Tickets.{Ticketed}
 use Rattle.metatile_plan.specs.declared.metatile.MetaKey.{MetaKey}
 use Rattle.metatile_plan.proofs.Same.{same_meta_self}
 use Rattle.raster_field.specs.Blocks.{block_of}
-use Rattle.tile_service.specs.declared.outcome.Outcome.{Outcome}
-use Rattle.tile_service.specs.declared.outcome.Outcome.TheVariants as outcome
-use Rattle.tile_service.specs.declared.request.Mode.TheVariants.{Gets}
-use Rattle.tile_service.specs.Requests.{Chance, further, carried_on, events, cut_by, cut, dropped, expired_in, expired}
+use Rattle.tile_requests.specs.declared.outcome.Outcome.{Outcome}
+use Rattle.tile_requests.specs.declared.outcome.Outcome.TheVariants as outcome
+use Rattle.tile_requests.specs.declared.request.Mode.TheVariants.{Gets}
+use Rattle.tile_requests.specs.Requests.{Chance, further, carried_on, events, cut_by, cut, dropped, expired_in, expired}
 use Rattle.tile_service.specs.Session.{IsAtRest}
 use Rattle.truncation_list.specs.declared.cover.Cover.{Cover}
 

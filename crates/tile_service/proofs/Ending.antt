@@ -16,10 +16,10 @@ use Rattle.http_wire.specs.declared.message.WireFault.TheVariants as faults
 use Rattle.tile_service.specs.declared.session.SessionEnd.{SessionEnd}
 use Rattle.tile_service.specs.declared.session.SessionEnd.TheVariants.{Closed, Truncated, Bad, ReadFault, WriteFault, TooMany, OutOfMemory}
 use Rattle.tile_service.specs.Outside.{InputChange, Outside}
-use Rattle.tile_service.specs.Sent.{AppendsFront, AppendsPart}
+use Rattle.tile_requests.specs.Sent.{AppendsFront, AppendsPart}
 use Rattle.tile_service.specs.Session.{reply_text, replies, bad_text}
 use Rattle.tile_service.specs.SessionEnds.{AreOpen, GoOn, GoBefore, Ends, HasSession}
-use Rattle.tile_service.proofs.Known.{appends_more, appends_nothing}
+use Rattle.tile_requests.proofs.Known.{appends_more, appends_nothing}
 use Rattle.tile_service.proofs.Replaying.{IsUnderWay, IsAnswered, stand_none}
 use Rattle.tile_service.proofs.SoFar.{is_served, served_start}
 

@@ -12,16 +12,16 @@ use Rattle.cache_core.proofs.Endings.{extends_fresh}
 use Rattle.catalog.specs.declared.catalogue.Catalogue.{Catalogue}
 use Rattle.causes.specs.Causes.{RoseBy}
 use Rattle.matrix_geometry.specs.declared.address.Address.{Address}
-use Rattle.tile_service.specs.declared.outcome.Outcome.{Outcome}
-use Rattle.tile_service.specs.declared.request.Request.{Request}
+use Rattle.tile_requests.specs.declared.outcome.Outcome.{Outcome}
+use Rattle.tile_requests.specs.declared.request.Request.{Request}
 use Rattle.tile_service.specs.declared.seats.Seat.TheVariants as seat
 use Rattle.tile_service.specs.declared.seats.TheConstants.{ACTORS}
 use Rattle.tile_service.specs.Lines.{action_in}
 use Rattle.tile_service.specs.OneLine.{IsLine, IsSeat, IsWorld, IsTrueSeat, IsTrueWorld, seat_of}
-use Rattle.tile_service.specs.Requests.{Chance, calm, tile_of, tile_in, IsFreshTile}
+use Rattle.tile_requests.specs.Requests.{Chance, calm, tile_of, tile_in, IsFreshTile}
 use Rattle.tile_service.specs.Run.{PendingRequest, free_seats, owed_at, World, Answer, Run, run, behind, line_done, failures, unanswered, IsTrue, IsFresh, IsFreshFor, world_of}
 use Rattle.tile_service.specs.Schedules.{IsUpheld}
-use Rattle.tile_service.proofs.Moving.{within_longer}
+use Rattle.tile_requests.proofs.Moving.{within_longer}
 
 -- FRESH LATER
 

@@ -3,15 +3,15 @@ use Rattle.std.proofs.Common.{◌≡◌, ℕ, Bool, true, List, [], ◌∷◌, O
 use Rattle.cabinet.specs.State.{State}
 use Rattle.http_wire.specs.declared.message.Message.{Message}
 use Rattle.matrix_geometry.specs.declared.address.Address.{Address}
-use Rattle.tile_service.specs.declared.outcome.Outcome.{Outcome}
-use Rattle.tile_service.specs.declared.outcome.Outcome.TheVariants as outcome
-use Rattle.tile_service.specs.declared.request.Mode.{Mode}
-use Rattle.tile_service.specs.declared.request.Mode.TheVariants.{Gets, Asks, Forces}
-use Rattle.tile_service.specs.declared.request.Request.{Request}
-use Rattle.tile_service.specs.declared.request.Request.TheVariants as request
+use Rattle.tile_requests.specs.declared.outcome.Outcome.{Outcome}
+use Rattle.tile_requests.specs.declared.outcome.Outcome.TheVariants as outcome
+use Rattle.tile_requests.specs.declared.request.Mode.{Mode}
+use Rattle.tile_requests.specs.declared.request.Mode.TheVariants.{Gets, Asks, Forces}
+use Rattle.tile_requests.specs.declared.request.Request.{Request}
+use Rattle.tile_requests.specs.declared.request.Request.TheVariants as request
 use Rattle.tile_service.specs.Performing.{IsImmediate}
-use Rattle.tile_service.specs.Requests.{Chance, calm, events, tile_of}
-use Rattle.tile_service.specs.Routes.{request_for}
+use Rattle.tile_requests.specs.Requests.{Chance, calm, events, tile_of}
+use Rattle.tile_requests.specs.Routes.{request_for}
 use Rattle.tile_service.specs.Run.{PendingRequest, World, asked, sent, world_of}
 use Rattle.tile_service.specs.Session.{IsAtRest}
 use Rattle.tile_service.proofs.AtRest.{cut_rests, expired_rests}

@@ -1,10 +1,5 @@
-pub mod Headers
 pub mod FirstLine
-pub mod Known
-pub mod Moving
-pub mod Opening
 pub mod Seating
-pub mod Joined
 pub mod Telling
 pub mod AtRest
 pub mod Immediately
@@ -19,4 +14,3 @@ pub mod SoFar
 pub mod Replaying
 pub mod Ending
 pub mod Shapes
-pub mod Gluing

@@ -15,24 +15,24 @@ use Rattle.http_wire.specs.declared.message.Message.{Message}
 use Rattle.matrix_geometry.specs.declared.address.Address.{Address}
 use Rattle.tile_service.specs.declared.action_end.ActionEnd.{ActionEnd}
 use Rattle.tile_service.specs.declared.action_end.ActionEnd.TheVariants.{Refused, Silent, Answers}
-use Rattle.tile_service.specs.declared.outcome.Outcome.{Outcome}
-use Rattle.tile_service.specs.declared.outcome.Outcome.TheVariants as outcome
-use Rattle.tile_service.specs.declared.request.Mode.{Mode}
-use Rattle.tile_service.specs.declared.request.Request.{Request}
-use Rattle.tile_service.specs.declared.request.Request.TheVariants as request
+use Rattle.tile_requests.specs.declared.outcome.Outcome.{Outcome}
+use Rattle.tile_requests.specs.declared.outcome.Outcome.TheVariants as outcome
+use Rattle.tile_requests.specs.declared.request.Mode.{Mode}
+use Rattle.tile_requests.specs.declared.request.Request.{Request}
+use Rattle.tile_requests.specs.declared.request.Request.TheVariants as request
 use Rattle.tile_service.specs.declared.seats.Pending.{Pending}
 use Rattle.tile_service.specs.declared.seats.Seat.{Seat}
 use Rattle.tile_service.specs.declared.seats.Seat.TheVariants as seat
 use Rattle.tile_service.specs.Performing.{IsAsked, IsImmediate}
-use Rattle.tile_service.specs.Events.{Moves, Opens}
+use Rattle.tile_requests.specs.Events.{Moves, Opens}
 use Rattle.tile_service.specs.Lines.{Action, Nothing, Sends, Steps}
 use Rattle.tile_service.specs.OneLine.{IsPending, IsSeat, IsTrueSeat, IsSeated, Keeps, ActionEnds, Performs, seat_of}
-use Rattle.tile_service.specs.Requests.{owed, Chance, calm}
-use Rattle.tile_service.specs.Routes.{request_for}
+use Rattle.tile_requests.specs.Requests.{owed, Chance, calm}
+use Rattle.tile_requests.specs.Routes.{request_for}
 use Rattle.tile_service.specs.Run.{PendingRequest, World, Answer, seat_after, answers_after, owed_at, settled, started, resumed, asked, sent, if_free, stepped, line_done, failures, unanswered, world_of}
 use Rattle.tile_service.specs.Seats.{is_free, pending_at, next_seat, action_end_of}
 use Rattle.tile_service.proofs.Immediately.{immediate_told, read_asks, same_events, with_ends}
-use Rattle.tile_service.proofs.Moving.{advance_moves, stay_covered}
+use Rattle.tile_requests.proofs.Moving.{advance_moves, stay_covered}
 use Rattle.tile_service.proofs.Seating.{one_of_all, settled_keeps}
 use Rattle.tile_service.proofs.Telling.{Stays, same_stays, AsksNoTile, told_answer, told_keeps}
 

@@ -10,16 +10,16 @@ use Rattle.http_wire.specs.declared.message.Message.{Message}
 use Rattle.http_wire.specs.declared.message.Next.{Next}
 use Rattle.http_wire.specs.declared.message.Next.TheVariants as nexts
 use Rattle.http_wire.proofs.StreamGrows.{stand_in_more}
-use Rattle.tile_service.specs.declared.outcome.Outcome.{Outcome}
+use Rattle.tile_requests.specs.declared.outcome.Outcome.{Outcome}
 use Rattle.tile_service.specs.OneLine.{MayTell}
-use Rattle.tile_service.specs.Requests.{told_at}
-use Rattle.tile_service.specs.Response.{response}
+use Rattle.tile_requests.specs.Requests.{told_at}
+use Rattle.tile_requests.specs.Response.{response}
 use Rattle.tile_service.specs.Run.{Answer}
-use Rattle.tile_service.specs.Sent.{AppendsFront, AppendsPart}
+use Rattle.tile_requests.specs.Sent.{AppendsFront, AppendsPart}
 use Rattle.tile_service.specs.Serving.{Serves}
 use Rattle.tile_service.specs.Session.{reply_text, replies}
 use Rattle.tile_service.specs.SessionEnds.{AreOpen}
-use Rattle.tile_service.proofs.Known.{appends_more, appends_nothing}
+use Rattle.tile_requests.proofs.Known.{appends_more, appends_nothing}
 use Rattle.tile_service.proofs.SoFar.{HasServed, served_start, served_next, the_answer}
 
 -- n messages were answered, none of them the last of its connection; this is left of the bytes, and that was written

@@ -14,11 +14,11 @@ use Rattle.tile_service.specs.Written.{Writes}
 use Rattle.tile_service.specs.Lines.{lines_of, action_in}
 use Rattle.tile_service.specs.OneLine.{IsLine, IsSeated, seat_of}
 use Rattle.tile_service.specs.Outside.{Outside}
-use Rattle.tile_service.specs.Requests.{Chance, calm}
+use Rattle.tile_requests.specs.Requests.{Chance, calm}
 use Rattle.tile_service.specs.Run.{PendingRequest, free_seats, World, Answer, line_done, answer_text, world_of}
 use Rattle.tile_service.specs.Schedules.{HasRun}
-use Rattle.tile_service.specs.Sent.{AppendsFront}
-use Rattle.tile_service.proofs.Known.{appends_more, appends_nothing}
+use Rattle.tile_requests.specs.Sent.{AppendsFront}
+use Rattle.tile_requests.proofs.Known.{appends_more, appends_nothing}
 use Rattle.tile_service.proofs.Far.{Far, far_next, far_start_free, far_waits, so_far_done, ends_done, ends_refused, ends_upheld, free_same}
 
 -- n lines of the text are done, and the rest is not

@@ -14,11 +14,11 @@ use Rattle.cache_core.specs.Fits.{IsFreshActor, IsFreshOutcome, IsTrueActor, IsT
 use Rattle.cache_core.proofs.Endings.{extends_fresh}
 use Rattle.catalog.specs.declared.catalogue.Catalogue.{Catalogue}
 use Rattle.matrix_geometry.specs.declared.address.Address.{Address}
-use Rattle.tile_service.specs.Events.{StayCovered, failing, GoesOn, Moves}
-use Rattle.tile_service.specs.Requests.{owed}
+use Rattle.tile_requests.specs.Events.{StayCovered, failing, GoesOn, Moves}
+use Rattle.tile_requests.specs.Requests.{owed}
 use Rattle.tile_service.specs.OneLine.{IsSeat, IsTrueSeat, Keeps}
 use Rattle.tile_service.specs.Run.{PendingRequest, seat_after, answers_after, failures, owed_at, unanswered, IsTrue, IsFresh, world_of}
-use Rattle.tile_service.proofs.Moving.{within_longer}
+use Rattle.tile_requests.proofs.Moving.{within_longer}
 
 -- LISTS
 

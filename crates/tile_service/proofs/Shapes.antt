@@ -27,13 +27,13 @@ use Rattle.metatile_locks.specs.Tickets.{Ticketed}
 use Rattle.metatile_plan.specs.declared.metatile.MetaKey.{MetaKey}
 use Rattle.raster_field.specs.Blocks.{block_of}
 use Rattle.truncation_list.specs.declared.cover.Cover.{Cover}
-use Rattle.tile_service.specs.declared.request.Mode.{Mode}
-use Rattle.tile_service.specs.declared.request.Mode.TheVariants.{Gets, Asks, Forces}
-use Rattle.tile_service.specs.declared.request.Request.{Request}
-use Rattle.tile_service.specs.declared.request.Request.TheVariants as request
+use Rattle.tile_requests.specs.declared.request.Mode.{Mode}
+use Rattle.tile_requests.specs.declared.request.Mode.TheVariants.{Gets, Asks, Forces}
+use Rattle.tile_requests.specs.declared.request.Request.{Request}
+use Rattle.tile_requests.specs.declared.request.Request.TheVariants as request
 use Rattle.tile_service.specs.Lines.{Action, Nothing, Sends, Steps, action_in}
-use Rattle.tile_service.specs.Requests.{Chance, is_at_work, further, carried_on, events, cut, cut_by, dropped, expired_in}
-use Rattle.tile_service.specs.Routes.{request_for}
+use Rattle.tile_requests.specs.Requests.{Chance, is_at_work, further, carried_on, events, cut, cut_by, dropped, expired_in}
+use Rattle.tile_requests.specs.Routes.{request_for}
 use Rattle.tile_service.specs.Run.{PendingRequest, World, Answer, Run, seat_after, settled, started, resumed, asked, sent, if_free, stepped, line_done, goes_on, first_of, rest_of, run}
 use Rattle.tile_service.specs.Session.{session}
 use Rattle.tile_service.specs.Alike.{without_bytes, any_bytes}

@@ -6,11 +6,11 @@ use Rattle.std.proofs.lemmas.List.Sums.{sum_by-append}
 use Rattle.cabinet.specs.State.{State, IsSound}
 use Rattle.causes.specs.Causes.{RoseBy}
 use Rattle.http_wire.specs.declared.message.Message.{Message}
-use Rattle.tile_service.specs.declared.outcome.Outcome.{Outcome}
-use Rattle.tile_service.specs.declared.request.Mode.TheVariants.{Gets}
+use Rattle.tile_requests.specs.declared.outcome.Outcome.{Outcome}
+use Rattle.tile_requests.specs.declared.request.Mode.TheVariants.{Gets}
 use Rattle.tile_service.specs.OneLine.{IsWorld}
 use Rattle.tile_service.specs.Outside.{FaultCounts}
-use Rattle.tile_service.specs.Requests.{Chance, told_at}
+use Rattle.tile_requests.specs.Requests.{Chance, told_at}
 use Rattle.tile_service.specs.Run.{World, Answer, sent, failures, IsTrue}
 use Rattle.tile_service.specs.Serving.{answer_to, Serves}
 use Rattle.tile_service.specs.Session.{lone, and_then, session, IsServed}

@@ -14,14 +14,14 @@ use Rattle.catalog.specs.declared.catalogue.Catalogue.{Catalogue}
 use Rattle.catalog.specs.declared.catalogue.Scope.{Scope}
 use Rattle.http_wire.specs.declared.message.Message.{Message}
 use Rattle.metatile_plan.specs.declared.metatile.MetaKey.{MetaKey}
-use Rattle.tile_service.specs.declared.outcome.Outcome.{Outcome}
-use Rattle.tile_service.specs.declared.outcome.Outcome.TheVariants as outcome
-use Rattle.tile_service.specs.declared.request.Request.{Request}
+use Rattle.tile_requests.specs.declared.outcome.Outcome.{Outcome}
+use Rattle.tile_requests.specs.declared.outcome.Outcome.TheVariants as outcome
+use Rattle.tile_requests.specs.declared.request.Request.{Request}
 use Rattle.tile_service.specs.OneLine.{Keeps}
-use Rattle.tile_service.specs.Requests.{told_at, told_usage, cut_by, cut, dropped, expired_in, expired, tile_of}
+use Rattle.tile_requests.specs.Requests.{told_at, told_usage, cut_by, cut, dropped, expired_in, expired, tile_of}
 use Rattle.tile_service.specs.Run.{PendingRequest, Answer, is_failed, failures, unanswered, IsTrueFor, IsFreshFor, world_of}
-use Rattle.tile_service.specs.Texts.{dropped_text, usage_text}
-use Rattle.tile_service.proofs.Moving.{stay_covered, within_longer}
+use Rattle.tile_requests.specs.Texts.{dropped_text, usage_text}
+use Rattle.tile_requests.proofs.Moving.{stay_covered, within_longer}
 use Rattle.tile_service.proofs.Seating.{seats_later}
 use Rattle.truncation_list.specs.declared.cover.Cover.{Cover}
 

@@ -5,7 +5,7 @@ use Rattle.causes.specs.Causes.{Rose}
 use Rattle.cabinet.specs.State.{State}
 use Rattle.tile_service.specs.declared.action_end.ActionEnd.TheVariants.{Refused, Silent, Answers}
 use Rattle.tile_service.specs.declared.action_end.Answer as code
-use Rattle.tile_service.specs.declared.outcome.Outcome.{Outcome}
+use Rattle.tile_requests.specs.declared.outcome.Outcome.{Outcome}
 use Rattle.tile_service.specs.declared.run_line.LineEnd.TheVariants as line_end
 use Rattle.tile_service.specs.declared.seats.Seat.{Seat}
 use Rattle.tile_service.specs.declared.cache_tally.CacheResult.{CacheResult}
@@ -13,13 +13,13 @@ use Rattle.tile_service.specs.declared.cache_tally.CacheResult.TheVariants.{Hit,
 use Rattle.tile_service.specs.Lines.{action_in}
 use Rattle.tile_service.specs.OneLine.{MayTell, IsLine, AnswersWith, Performs, answer_with}
 use Rattle.tile_service.specs.Outside.{Outside}
-use Rattle.tile_service.specs.Response.{framed, response_with}
-use Rattle.tile_service.specs.Requests.{told_at}
+use Rattle.tile_requests.specs.Response.{framed, response_with}
+use Rattle.tile_requests.specs.Requests.{told_at}
 use Rattle.tile_service.specs.Run.{World, Answer, answer_text}
-use Rattle.tile_service.specs.Sent.{AppendsFront}
+use Rattle.tile_requests.specs.Sent.{AppendsFront}
 use Rattle.tile_service.specs.CacheTally.{one_of, result_of, tally_of}
 use Rattle.tile_service.specs.Written.{Writes}
-use Rattle.tile_service.proofs.Known.{appends_nothing}
+use Rattle.tile_requests.proofs.Known.{appends_nothing}
 
 counted_one : (a : Answer) (k : CacheResult) → k ≡ result_of a.outcome → tally_of (a ∷ []) ≡ one_of (Some k)
 counted_one a Hit e = rw (sym e) refl

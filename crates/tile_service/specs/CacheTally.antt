@@ -1,7 +1,7 @@
 -- What answers tell of the cache.
 use Rattle.std.specs.Prelude.{ℕ, ◌+◌, Bool, true, false, List, Option, Some, None, count_by}
-use Rattle.tile_service.specs.declared.outcome.Outcome.{Outcome}
-use Rattle.tile_service.specs.declared.outcome.Outcome.TheVariants.{Tile}
+use Rattle.tile_requests.specs.declared.outcome.Outcome.{Outcome}
+use Rattle.tile_requests.specs.declared.outcome.Outcome.TheVariants.{Tile}
 use Rattle.tile_service.specs.declared.cache_tally.CacheResult.{CacheResult}
 use Rattle.tile_service.specs.declared.cache_tally.CacheResult.TheVariants.{Hit, Miss, Other}
 use Rattle.tile_service.specs.declared.cache_tally.CacheTally.{CacheTally}

@@ -1,10 +1,5 @@
 pub mod Outside
-pub mod Sent
 pub mod Lines
-pub mod Routes
-pub mod Texts
-pub mod Requests
-pub mod Response
 pub mod Run
 pub mod Schedules
 pub mod Session
@@ -12,7 +7,6 @@ pub mod SessionEnds
 pub mod Alike
 pub mod CacheTally
 pub mod Shown
-pub mod Events
 pub mod Seats
 pub mod Performing
 pub mod OneLine

@@ -8,8 +8,8 @@ use Rattle.schedule_text.specs.declared.line.TheConstants.{LINE_LIMIT}
 use Rattle.schedule_text.specs.declared.verb.Verb.{Verb}
 use Rattle.schedule_text.specs.declared.verb.Verb.TheVariants.{Get, Ask, Force, Step, Truncate, Expire}
 use Rattle.schedule_text.specs.Line.{line_of}
-use Rattle.tile_service.specs.declared.request.Mode.{Mode}
-use Rattle.tile_service.specs.declared.request.Mode.TheVariants.{Gets, Asks, Forces}
+use Rattle.tile_requests.specs.declared.request.Mode.{Mode}
+use Rattle.tile_requests.specs.declared.request.Mode.TheVariants.{Gets, Asks, Forces}
 
 -- THE LINES OF A TEXT
 

@@ -11,14 +11,14 @@ use Rattle.http_wire.specs.declared.message.Message.{Message}
 use Rattle.tile_service.specs.declared.action_end.ActionEnd.{ActionEnd}
 use Rattle.tile_service.specs.declared.action_end.ActionEnd.TheVariants as action_end
 use Rattle.tile_service.specs.declared.action_end.Answer as code
-use Rattle.tile_service.specs.declared.outcome.Outcome.{Outcome}
-use Rattle.tile_service.specs.declared.outcome.Outcome.TheVariants.{NoMemory}
-use Rattle.tile_service.specs.declared.request.Request.{Request}
+use Rattle.tile_requests.specs.declared.outcome.Outcome.{Outcome}
+use Rattle.tile_requests.specs.declared.outcome.Outcome.TheVariants.{NoMemory}
+use Rattle.tile_requests.specs.declared.request.Request.{Request}
 use Rattle.tile_service.specs.declared.seats.Seat.{Seat}
 use Rattle.tile_service.specs.declared.seats.Seat.TheVariants as seat
-use Rattle.tile_service.specs.Events.{StayCovered}
+use Rattle.tile_requests.specs.Events.{StayCovered}
 use Rattle.tile_service.specs.Lines.{Action, action_in}
-use Rattle.tile_service.specs.Requests.{Chance, calm, told_at}
+use Rattle.tile_requests.specs.Requests.{Chance, calm, told_at}
 use Rattle.tile_service.specs.Run.{PendingRequest, World, Answer, line_done, failures, unanswered, IsTrue, IsFresh, world_of}
 
 -- P holds of the outcome, or of that of no memory

@@ -7,15 +7,15 @@ use Rattle.cache_core.specs.declared.outcome.Outcome as cached
 use Rattle.matrix_geometry.specs.declared.address.Address.{Address}
 use Rattle.tile_service.specs.declared.action_end.ActionEnd.{ActionEnd}
 use Rattle.tile_service.specs.declared.action_end.ActionEnd.TheVariants.{Answers}
-use Rattle.tile_service.specs.declared.outcome.Outcome.{Outcome}
-use Rattle.tile_service.specs.declared.outcome.Outcome.TheVariants as outcome
-use Rattle.tile_service.specs.declared.request.Mode.{Mode}
-use Rattle.tile_service.specs.declared.request.Mode.TheVariants.{Gets}
-use Rattle.tile_service.specs.declared.request.Request.{Request}
-use Rattle.tile_service.specs.declared.request.Request.TheVariants as request
+use Rattle.tile_requests.specs.declared.outcome.Outcome.{Outcome}
+use Rattle.tile_requests.specs.declared.outcome.Outcome.TheVariants as outcome
+use Rattle.tile_requests.specs.declared.request.Mode.{Mode}
+use Rattle.tile_requests.specs.declared.request.Mode.TheVariants.{Gets}
+use Rattle.tile_requests.specs.declared.request.Request.{Request}
+use Rattle.tile_requests.specs.declared.request.Request.TheVariants as request
 use Rattle.tile_service.specs.declared.seats.Seat.{Seat}
-use Rattle.tile_service.specs.Events.{Opens}
-use Rattle.tile_service.specs.Requests.{outcome_of, told_usage, cut, expired}
+use Rattle.tile_requests.specs.Events.{Opens}
+use Rattle.tile_requests.specs.Requests.{outcome_of, told_usage, cut, expired}
 use Rattle.tile_service.specs.Seats.{action_end_of, next_seat}
 
 -- WHERE ONE MESSAGE IS SERVED AT A TIME

@@ -11,16 +11,16 @@ use Rattle.cache_core.specs.Steps.{Stepped, advanced, given_up}
 use Rattle.catalog.specs.declared.catalogue.Catalogue.{Catalogue}
 use Rattle.http_wire.specs.declared.message.Message.{Message}
 use Rattle.matrix_geometry.specs.declared.address.Address.{Address}
-use Rattle.tile_service.specs.declared.outcome.Outcome.{Outcome}
-use Rattle.tile_service.specs.declared.outcome.Outcome.TheVariants.{Tile, Document, Refused, NotFound, WrongMethod, SourceFailed, Spent, Usage, Cut, CutsFull, CutSpent, Unformed, Dropped, Within, NoMemory}
-use Rattle.tile_service.specs.declared.request.Mode.{Mode}
-use Rattle.tile_service.specs.declared.request.Request.{Request}
-use Rattle.tile_service.specs.declared.request.Request.TheVariants as request
+use Rattle.tile_requests.specs.declared.outcome.Outcome.{Outcome}
+use Rattle.tile_requests.specs.declared.outcome.Outcome.TheVariants.{Tile, Document, Refused, NotFound, WrongMethod, SourceFailed, Spent, Usage, Cut, CutsFull, CutSpent, Unformed, Dropped, Within, NoMemory}
+use Rattle.tile_requests.specs.declared.request.Mode.{Mode}
+use Rattle.tile_requests.specs.declared.request.Request.{Request}
+use Rattle.tile_requests.specs.declared.request.Request.TheVariants as request
 use Rattle.tile_service.specs.declared.seats.TheConstants.{ACTORS}
 use Rattle.tile_service.specs.Lines.{Action, Nothing, Sends, Steps, action_in}
-use Rattle.tile_service.specs.Requests.{owed, Chance, calm, events, outcome_of, told_at, told_usage, cut, expired, IsTrueAnswer, IsFreshAnswer}
-use Rattle.tile_service.specs.Response.{answered}
-use Rattle.tile_service.specs.Routes.{request_for}
+use Rattle.tile_requests.specs.Requests.{owed, Chance, calm, events, outcome_of, told_at, told_usage, cut, expired, IsTrueAnswer, IsFreshAnswer}
+use Rattle.tile_requests.specs.Response.{answered}
+use Rattle.tile_requests.specs.Routes.{request_for}
 
 -- WORLDS
 

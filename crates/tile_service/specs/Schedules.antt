@@ -11,9 +11,9 @@ use Rattle.tile_service.specs.declared.schedule.ScheduleEnd.TheVariants.{Done, L
 use Rattle.tile_service.specs.declared.schedule.TheConstants.{SCHEDULE_LIMIT}
 use Rattle.tile_service.specs.Lines.{lines_of}
 use Rattle.tile_service.specs.Outside.{FaultCounts, Outside, InputChange}
-use Rattle.tile_service.specs.Requests.{Chance}
+use Rattle.tile_requests.specs.Requests.{Chance}
 use Rattle.tile_service.specs.Run.{World, Answer, Run, run, answer_text, output_of, failures, unanswered, closed, IsTrue, IsFresh}
-use Rattle.tile_service.specs.Sent.{AppendsPart}
+use Rattle.tile_requests.specs.Sent.{AppendsPart}
 
 -- THE LINES OF A TEXT WERE RUN
 

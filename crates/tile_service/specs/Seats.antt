@@ -11,7 +11,7 @@ use Rattle.tile_service.specs.declared.action_end.ActionEnd.TheVariants.{Silent,
 use Rattle.tile_service.specs.declared.seats.Pending.{Pending}
 use Rattle.tile_service.specs.declared.seats.Seat.{Seat}
 use Rattle.tile_service.specs.declared.seats.Seat.TheVariants.{Free, Busy}
-use Rattle.tile_service.specs.Requests.{outcome_of}
+use Rattle.tile_requests.specs.Requests.{outcome_of}
 
 -- there is the seat, and no actor sits there
 abbrev pub is_free : Option Seat → Bool

@@ -3,11 +3,11 @@
 use Rattle.std.specs.Prelude.{ℕ, ◌≡◌, Bool, List, [], ◌∷◌, length, Option}
 use Rattle.cabinet.specs.State.{State}
 use Rattle.http_wire.specs.declared.message.Message.{Message}
-use Rattle.tile_service.specs.declared.outcome.Outcome.{Outcome}
-use Rattle.tile_service.specs.declared.request.Mode.TheVariants.{Gets}
-use Rattle.tile_service.specs.declared.request.Request.{Request}
+use Rattle.tile_requests.specs.declared.outcome.Outcome.{Outcome}
+use Rattle.tile_requests.specs.declared.request.Mode.TheVariants.{Gets}
+use Rattle.tile_requests.specs.declared.request.Request.{Request}
 use Rattle.tile_service.specs.OneLine.{Keeps}
-use Rattle.tile_service.specs.Requests.{Chance, told_at}
+use Rattle.tile_requests.specs.Requests.{Chance, told_at}
 use Rattle.tile_service.specs.Run.{Answer, sent}
 use Rattle.tile_service.specs.Session.{IsAtRest, lone}
 

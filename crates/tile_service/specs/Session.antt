@@ -5,10 +5,10 @@ use Rattle.std.specs.List.{AllByRecursion}
 use Rattle.cabinet.specs.State.{State, IsSound, now}
 use Rattle.causes.specs.Causes.{RoseBy}
 use Rattle.http_wire.specs.declared.message.Message.{Message}
-use Rattle.tile_service.specs.declared.request.Mode.TheVariants.{Gets}
+use Rattle.tile_requests.specs.declared.request.Mode.TheVariants.{Gets}
 use Rattle.tile_service.specs.Outside.{FaultCounts}
-use Rattle.tile_service.specs.Requests.{Chance}
-use Rattle.tile_service.specs.Response.{bare, response, response_text}
+use Rattle.tile_requests.specs.Requests.{Chance}
+use Rattle.tile_requests.specs.Response.{bare, response, response_text}
 use Rattle.tile_service.specs.Run.{World, Answer, sent, first_of, rest_of, failures, IsTrue, IsFresh}
 
 -- no render runs

@@ -14,7 +14,7 @@ use Rattle.tile_service.specs.declared.session.SessionEnd.{SessionEnd}
 use Rattle.tile_service.specs.declared.session.SessionEnd.TheVariants.{Closed, Truncated, Bad, ReadFault, WriteFault, TooMany, OutOfMemory}
 use Rattle.tile_service.specs.Outside.{InputChange, Outside}
 use Rattle.tile_service.specs.Run.{Answer}
-use Rattle.tile_service.specs.Sent.{AppendsPart}
+use Rattle.tile_requests.specs.Sent.{AppendsPart}
 use Rattle.tile_service.specs.Session.{IsServed, reply_text, replies, bad_text}
 
 -- THE MESSAGES OF A SESSION

@@ -10,9 +10,9 @@ use Rattle.tile_service.specs.declared.seats.Seat.{Seat}
 use Rattle.tile_service.specs.Lines.{action_in}
 use Rattle.tile_service.specs.OneLine.{IsLine, IsSeated, seat_of}
 use Rattle.tile_service.specs.Outside.{Outside}
-use Rattle.tile_service.specs.Requests.{calm}
+use Rattle.tile_requests.specs.Requests.{calm}
 use Rattle.tile_service.specs.Run.{PendingRequest, World, Answer, line_done, answer_text, world_of}
-use Rattle.tile_service.specs.Sent.{AppendsFront}
+use Rattle.tile_requests.specs.Sent.{AppendsFront}
 use Rattle.tile_service.specs.CacheTally.{one_of, tally_of}
 
 -- how a line ends in a world, what went out of its answers, and what they tell of the cache

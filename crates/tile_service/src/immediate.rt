@@ -2,12 +2,12 @@
 ghost use Rattle.std.specs.Prelude.{◌≡◌, None};
 ghost use Rattle.catalog.specs.Valid.{IsValid};
 ghost use Rattle.tile_service.specs.Performing.{IsImmediate};
-ghost use Rattle.tile_service.specs.Requests.{IsOf, tile_of};
+ghost use Rattle.tile_requests.specs.Requests.{IsOf, tile_of};
 
-use crate::commands::{cut, expire, usage};
+use tile_requests::commands::{cut, expire, usage};
 use crate::counter::Counter;
-use crate::outcome::Outcome;
-use crate::request::Request;
+use tile_requests::outcome::Outcome;
+use tile_requests::request::Request;
 use std::alloc::Global;
 
 /// Answers a request that isn't for a tile. Where memory runs out, its outcome says so.

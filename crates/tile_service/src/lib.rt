@@ -4,38 +4,25 @@
 //! capabilities document or for what is kept, truncate, or expire.
 //!
 //! Promises: the answers of a schedule are those of its run (`specs/Run.antt`), in order, each message led by the table of
-//! paths (`specs/Routes.antt`) and answered by its response (`specs/Response.antt`); each tile is the picture of its number
+//! paths and answered by its response, as `tile_requests` has them; each tile is the picture of its number
 //! and fresh at its last ask or force (`specs/Schedules.antt`). No more answers of the run say that the source failed, and no
 //! more failures are yet to be answered, than the source's count of faults rose by (`failed` there). A session over a link
 //! answers its messages in order (`specs/Session.antt`), and ends as its stream does, after its last message or at a fault
 //! (`specs/SessionEnds.antt`); of the bytes after the last message it takes less than one take may bring.
-//! Stands on cabinet, cache_core, source_render, job_forms, wmts_kvp, wmts_rest, schedule_text and http_wire.
+//! Stands on tile_requests, cabinet, cache_core, source_render, schedule_text and http_wire.
 #![tactic(auto)]
 
 mod action_end;
 mod answer;
 pub mod cache_tally;
-mod commands;
 pub mod counter;
-mod dropped;
-mod events;
-mod head;
 mod immediate;
 pub mod laws;
 mod lines;
-mod message_ref;
-pub mod numbers;
-pub mod outcome;
-mod parts;
 mod perform;
-pub mod request;
-mod response;
-mod routes;
 pub mod run_line;
 mod run_lines;
 pub mod schedule;
 pub mod seats;
 mod serving;
 pub mod session;
-pub mod small_text;
-mod usage;

@@ -1,11 +1,11 @@
 //! The seats of the actors, and the pending request of each busy one.
 ghost use Rattle.std.specs.Prelude.{◌≡◌, IfOk, IsSome, None, ◌<◌, is_some, length, replicate, slice_get, slice_set};
 ghost use Rattle.cache_core.specs.Steps.{given_up};
-ghost use Rattle.tile_service.specs.Events.{GoesOn};
+ghost use Rattle.tile_requests.specs.Events.{GoesOn};
 ghost use Rattle.tile_service.specs.Seats.{all_left, action_end_of, pending_at, is_free, next_seat};
 
 use crate::action_end::{ActionEnd, Answer};
-use crate::request::outcome_of;
+use tile_requests::request::outcome_of;
 use cabinet::cabinet::Cabinet;
 use cache_core::actor::{Actor, Step};
 use cache_core::steps::give_up;

@@ -7,12 +7,12 @@ ghost use Rattle.tile_service.specs.Serving.{Serves};
 ghost use Rattle.tile_service.specs.Session.{IsAtRest};
 
 use crate::immediate::immediate;
-use crate::message_ref::MessageRef;
+use tile_requests::message_ref::MessageRef;
 use crate::counter::Counter;
-use crate::events::events;
-use crate::outcome::Outcome;
-use crate::request::{Mode, Request, outcome_of};
-use crate::routes::read_request;
+use tile_requests::events::events;
+use tile_requests::outcome::Outcome;
+use tile_requests::request::{Mode, Request, outcome_of};
+use tile_requests::routes::read_request;
 use cabinet::cabinet::Cabinet;
 use cache_core::actor::Step;
 use cache_core::steps::give_up;

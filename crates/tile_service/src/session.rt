@@ -5,15 +5,15 @@ ghost use Rattle.catalog.specs.Valid.{IsValid};
 ghost use Rattle.causes.specs.Causes.{HasCause};
 ghost use Rattle.tile_service.specs.OneLine.{MayTell};
 ghost use Rattle.tile_service.specs.Outside.{InputChange, Outside};
-ghost use Rattle.tile_service.specs.Response.{closes, response};
-ghost use Rattle.tile_service.specs.Sent.{AppendsFront};
+ghost use Rattle.tile_requests.specs.Response.{closes, response};
+ghost use Rattle.tile_requests.specs.Sent.{AppendsFront};
 ghost use Rattle.tile_service.specs.Serving.{Serves};
 ghost use Rattle.tile_service.specs.Session.{IsAtRest};
 ghost use Rattle.tile_service.specs.SessionEnds.{HasSession};
 
 use crate::answer::{write_refusal, write_response};
 use crate::counter::Counter;
-use crate::outcome::Outcome;
+use tile_requests::outcome::Outcome;
 use crate::serving::serve;
 use http_wire::links::Link;
 use http_wire::message::{Message, Next, WireFault};

@@ -1,6 +1,6 @@
 use Rattle.std.proofs.Common.{[], codes, decimal}
 use Rattle.tile_drill.specs.Made.{cover_text}
-use Rattle.tile_service.proofs.Gluing.{glued, glued_end, glued_first}
+use Rattle.tile_requests.proofs.Gluing.{glued, glued_end, glued_first}
 use Rattle.tile_drill.proofs.drill_lines.add_cover.Goals as goal
 
 pub returns : goal.returns

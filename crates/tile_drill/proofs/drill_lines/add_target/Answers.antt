@@ -1,7 +1,7 @@
 use Rattle.std.proofs.Common.{[], codes, decimal}
 use Rattle.std.proofs.lemmas.Result.{on_ok_weaker}
 use Rattle.tile_drill.specs.Made.{name_at, target_of}
-use Rattle.tile_service.proofs.Gluing.{glued, glued_end, glued_first}
+use Rattle.tile_requests.proofs.Gluing.{glued, glued_end, glued_first}
 use Rattle.tile_drill.proofs.drill_lines.add_target.Goals as goal
 
 pub returns : goal.returns

@@ -1,7 +1,7 @@
 use Rattle.std.proofs.Common.{[], codes, decimal}
 use Rattle.tile_drill.specs.Drill.{counts_text}
 use Rattle.tile_service.specs.CacheTally.{total}
-use Rattle.tile_service.proofs.Gluing.{glued, glued_end, glued_first}
+use Rattle.tile_requests.proofs.Gluing.{glued, glued_end, glued_first}
 use Rattle.tile_drill.proofs.summary.counts_text.Goals as goal
 
 pub returns-clause-items : goal.returns-clause-items

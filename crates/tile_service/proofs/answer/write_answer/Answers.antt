@@ -1,7 +1,7 @@
 use Rattle.std.proofs.Common.{false, inr, refl, subst}
 use Rattle.std.specs.Io.KnownBytes.{Appends}
-use Rattle.tile_service.specs.Response.{framed, response_text}
-use Rattle.tile_service.specs.Sent.{AppendsFront}
+use Rattle.tile_requests.specs.Response.{framed, response_text}
+use Rattle.tile_requests.specs.Sent.{AppendsFront}
 use Rattle.tile_service.proofs.answer.write_answer.Goals as goal
 
 pub returns-in-Ok-send_answer-2-clause-ok : goal.returns-in-Ok-send_answer-2-clause-ok

@@ -1,6 +1,6 @@
 use Rattle.std.proofs.Common.{rules, refl, ap, ◌∙◌}
-use Rattle.tile_service.specs.Routes.{request_for}
-use Rattle.tile_service.specs.Shown.{shown_message}
+use Rattle.tile_requests.specs.Routes.{request_for}
+use Rattle.tile_requests.specs.Shown.{shown_message}
 use Rattle.tile_service.proofs.Performed.{unread_performs, asked_performs}
 use Rattle.tile_service.proofs.perform.sent.Goals as goal
 

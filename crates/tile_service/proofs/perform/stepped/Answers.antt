@@ -3,7 +3,7 @@ use Rattle.std.proofs.lemmas.List.{set-set}
 use Rattle.tile_service.specs.declared.seats.Pending.{Pending}
 use Rattle.tile_service.specs.declared.seats.Seat.TheVariants.{Free}
 use Rattle.tile_service.proofs.Performed.{stepped_performs, pending_fits, pending_within, set_there}
-use Rattle.tile_service.proofs.Moving.{advance_goes}
+use Rattle.tile_requests.proofs.Moving.{advance_goes}
 use Rattle.tile_service.proofs.perform.stepped.Goals as goal
 
 pub advance-step-requires-clause-busy : goal.advance-step-requires-clause-busy

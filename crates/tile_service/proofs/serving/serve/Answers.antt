@@ -1,5 +1,5 @@
 use Rattle.std.proofs.Common.{◌≡◌, refl, sym, ◌∙◌}
-use Rattle.tile_service.specs.Routes.{request_for}
+use Rattle.tile_requests.specs.Routes.{request_for}
 use Rattle.tile_service.proofs.Served.{unread_serves, immediate_serves, got_serves}
 use Rattle.tile_service.proofs.serving.serve.Goals as goal
 
