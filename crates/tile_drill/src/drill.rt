@@ -4,13 +4,13 @@ ghost use Rattle.catalog.specs.Valid.{IsValid};
 ghost use Rattle.tile_drill.specs.Drill.{Drills};
 ghost use Rattle.tile_service.specs.Run.{free_seats, world_of};
 
-use tile_service::counter::Counter;
 use crate::drill_run::{MadeEnd, run_made_lines};
-use tile_service::seats::{close, free_seats};
 use crate::summary::send_summary;
 use http_wire::streams::ByteSink;
 use source_render::source::Source;
 use std::alloc::Global;
+use tile_service::counter::Counter;
+use tile_service::seats::{close, free_seats};
 
 /// How a drill ended.
 #[derive(Clone, Copy, Debug, PartialEq, Eq)]

@@ -6,12 +6,12 @@ ghost use Rattle.tile_drill.specs.Made.{aimed_at, cols_at, cover_text, dimension
 ghost use Rattle.tile_service.specs.Seats.{pending_at};
 
 use crate::draws::Draws;
-use tile_requests::numbers::add_number;
-use tile_service::seats::{Seat, is_busy};
 use catalog::catalogue::Catalogue;
 use catalog::grid::Grid;
 use catalog::layer::{Dimension, Layer, Style};
 use std::alloc::{AllocError, Global};
+use tile_requests::numbers::add_number;
+use tile_service::seats::{Seat, is_busy};
 
 /// What a drill asks for: the first layer, its first style, and the first of its grids.
 #[derive(Clone, Copy)]

@@ -5,15 +5,15 @@ ghost use Rattle.tile_drill.specs.Drilling.{HasMade, Makes};
 ghost use Rattle.tile_service.specs.OneLine.{IsSeated, seat_of};
 ghost use Rattle.tile_service.specs.Run.{PendingRequest, free_seats, world_of};
 
-use tile_service::counter::Counter;
 use crate::digest_sink::DigestSink;
 use crate::draws::Draws;
 use crate::drill_lines::made_line;
-use tile_service::run_line::{LineEnd, run_line};
-use tile_service::seats::{ACTORS, Seat};
-use tile_service::cache_tally::CacheTally;
 use source_render::source::Source;
 use std::alloc::{AllocError, Global};
+use tile_service::cache_tally::CacheTally;
+use tile_service::counter::Counter;
+use tile_service::run_line::{LineEnd, run_line};
+use tile_service::seats::{ACTORS, Seat};
 
 /// How many lines a drill has.
 pub const DRILL_LINES: u64 = 4096;

@@ -7,11 +7,11 @@ ghost use Rattle.tile_drill.specs.Drill.{counts_text, digest_text};
 ghost use Rattle.tile_requests.specs.Sent.{AppendsFront};
 ghost use Rattle.tile_service.specs.CacheTally.{total};
 
-use tile_requests::small_text::{add, add_number, send_behind};
-use tile_service::cache_tally::CacheTally;
 use arrayvec::ArrayVec;
 use http_wire::sending::Sent;
 use http_wire::streams::ByteSink;
+use tile_requests::small_text::{add, add_number, send_behind};
+use tile_service::cache_tally::CacheTally;
 
 /// Adds a label and the number after it.
 fn add_count(text: &mut ArrayVec<u8, 1024>, label: &[u8], number: u64)

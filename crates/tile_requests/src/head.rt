@@ -58,11 +58,7 @@ fn cache_result(hit: bool) -> &'static [u8]
     ensures text { result.now ≡ cache_result hit }
     ensures short { length result.now ≤ 4 }
 {
-    if hit {
-        b"HIT"
-    } else {
-        b"MISS"
-    }
+    if hit { b"HIT" } else { b"MISS" }
 }
 
 /// Adds the headers of a tile.

@@ -12,15 +12,15 @@ ghost use Rattle.tile_service.specs.Session.{bad_text};
 
 use crate::action_end::Answer;
 use crate::cache_tally::{CacheResult, result_of};
+use arrayvec::ArrayVec;
+use http_wire::sending::Sent;
+use http_wire::streams::ByteSink;
+use std::alloc::Global;
 use tile_requests::head::head;
 use tile_requests::outcome::Outcome;
 use tile_requests::parts::Parts;
 use tile_requests::response::{bare, parts_of};
 use tile_requests::small_text::{add, add_number, send_behind};
-use arrayvec::ArrayVec;
-use http_wire::sending::Sent;
-use http_wire::streams::ByteSink;
-use std::alloc::Global;
 
 /// The line that stands before a response. It takes no memory.
 fn answer_line(line: u64, actor: u32, start: u64, bytes: u64) -> ArrayVec<u8, 1024>

@@ -4,11 +4,11 @@ ghost use Rattle.catalog.specs.Valid.{IsValid};
 ghost use Rattle.tile_service.specs.Performing.{IsImmediate};
 ghost use Rattle.tile_requests.specs.Requests.{IsOf, tile_of};
 
-use tile_requests::commands::{cut, expire, usage};
 use crate::counter::Counter;
+use std::alloc::Global;
+use tile_requests::commands::{cut, expire, usage};
 use tile_requests::outcome::Outcome;
 use tile_requests::request::Request;
-use std::alloc::Global;
 
 /// Answers a request that isn't for a tile. Where memory runs out, its outcome says so.
 pub fn immediate(alloc: Global, counter: &mut Counter, request: Request) -> Outcome

@@ -5,11 +5,11 @@ ghost use Rattle.tile_service.specs.Lines.{lines_of, line_length, get, post, act
 ghost use Rattle.tile_requests.specs.Shown.{shown_message};
 ghost use Rattle.tile_service.specs.Shown.{shown_action};
 
-use tile_requests::message_ref::MessageRef;
-use tile_requests::request::Mode;
 use http_wire::message::Method;
 use schedule_text::line::{LINE_LIMIT, read_line};
 use schedule_text::verb::Verb;
+use tile_requests::message_ref::MessageRef;
+use tile_requests::request::Mode;
 
 /// What a line says.
 #[derive(Clone, Copy, Debug)]

@@ -8,19 +8,19 @@ ghost use Rattle.tile_requests.specs.Requests.{IsOf};
 ghost use Rattle.tile_requests.specs.Shown.{shown_message};
 ghost use Rattle.tile_service.specs.Run.{PendingRequest};
 
-use crate::immediate::immediate;
-use tile_requests::message_ref::MessageRef;
 use crate::action_end::{ActionEnd, Answer};
 use crate::counter::Counter;
-use tile_requests::events::events;
+use crate::immediate::immediate;
 use crate::lines::{Action, action_in};
-use tile_requests::outcome::Outcome;
-use tile_requests::request::{Mode, Request};
-use tile_requests::routes::read_request;
-use crate::seats::{Pending, Seat, pending_at, is_free, settle};
+use crate::seats::{Pending, Seat, is_free, pending_at, settle};
 use cache_core::steps::advance;
 use source_render::source::Source;
 use std::alloc::Global;
+use tile_requests::events::events;
+use tile_requests::message_ref::MessageRef;
+use tile_requests::outcome::Outcome;
+use tile_requests::request::{Mode, Request};
+use tile_requests::routes::read_request;
 
 /// An answer in the line in which the request starts.
 fn answered(actor: u32, line: u64, outcome: Outcome) -> ActionEnd

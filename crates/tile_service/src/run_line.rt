@@ -6,12 +6,12 @@ ghost use Rattle.tile_service.specs.OneLine.{IsSeated};
 ghost use Rattle.tile_service.specs.Written.{Writes};
 ghost use Rattle.tile_service.specs.Run.{PendingRequest};
 
-use crate::answer::write_answer;
 use crate::action_end::ActionEnd;
+use crate::answer::write_answer;
+use crate::cache_tally::CacheResult;
 use crate::counter::Counter;
 use crate::perform::perform;
 use crate::seats::Seat;
-use crate::cache_tally::CacheResult;
 use http_wire::streams::ByteSink;
 use source_render::source::Source;
 use std::alloc::Global;

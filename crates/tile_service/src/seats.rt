@@ -5,13 +5,13 @@ ghost use Rattle.tile_requests.specs.Events.{GoesOn};
 ghost use Rattle.tile_service.specs.Seats.{all_left, action_end_of, pending_at, is_free, next_seat};
 
 use crate::action_end::{ActionEnd, Answer};
-use tile_requests::request::outcome_of;
 use cabinet::cabinet::Cabinet;
 use cache_core::actor::{Actor, Step};
 use cache_core::steps::give_up;
 use matrix_geometry::address::Address;
 use std::alloc::{AllocError, Global};
 use std::mem;
+use tile_requests::request::outcome_of;
 
 /// How many actors a schedule has.
 pub const ACTORS: usize = 64;

@@ -6,13 +6,8 @@ ghost use Rattle.tile_service.specs.Performing.{IsGot};
 ghost use Rattle.tile_service.specs.Serving.{Serves};
 ghost use Rattle.tile_service.specs.Session.{IsAtRest};
 
-use crate::immediate::immediate;
-use tile_requests::message_ref::MessageRef;
 use crate::counter::Counter;
-use tile_requests::events::events;
-use tile_requests::outcome::Outcome;
-use tile_requests::request::{Mode, Request, outcome_of};
-use tile_requests::routes::read_request;
+use crate::immediate::immediate;
 use cabinet::cabinet::Cabinet;
 use cache_core::actor::Step;
 use cache_core::steps::give_up;
@@ -20,6 +15,11 @@ use http_wire::message::Message;
 use matrix_geometry::address::Address;
 use source_render::source::Source;
 use std::alloc::Global;
+use tile_requests::events::events;
+use tile_requests::message_ref::MessageRef;
+use tile_requests::outcome::Outcome;
+use tile_requests::request::{Mode, Request, outcome_of};
+use tile_requests::routes::read_request;
 
 /// Serves a request for a tile, in a cabinet in which no render runs: it is asked for, rendered and finished.
 fn serve_tile<S: Source>(

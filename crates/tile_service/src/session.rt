@@ -13,7 +13,6 @@ ghost use Rattle.tile_service.specs.SessionEnds.{HasSession};
 
 use crate::answer::{write_refusal, write_response};
 use crate::counter::Counter;
-use tile_requests::outcome::Outcome;
 use crate::serving::serve;
 use http_wire::links::Link;
 use http_wire::message::{Message, Next, WireFault};
@@ -21,6 +20,7 @@ use http_wire::reader::MessageReader;
 use http_wire::sending::Sent;
 use source_render::source::Source;
 use std::alloc::Global;
+use tile_requests::outcome::Outcome;
 
 /// How many messages a session answers at most.
 const SESSION_LIMIT: u64 = 10_000;
