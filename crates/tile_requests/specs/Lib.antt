@@ -5,3 +5,4 @@ pub mod Requests
 pub mod Response
 pub mod Shown
 pub mod Events
+pub mod Immediate

@@ -10,6 +10,7 @@ pub mod commands;
 mod dropped;
 pub mod events;
 pub mod head;
+pub mod immediate;
 pub mod message_ref;
 pub mod numbers;
 pub mod outcome;

@@ -9,7 +9,7 @@ use Rattle.tile_requests.specs.declared.request.Mode.{Mode}
 use Rattle.tile_requests.specs.declared.request.Mode.TheVariants.{Gets, Asks, Forces}
 use Rattle.tile_requests.specs.declared.request.Request.{Request}
 use Rattle.tile_requests.specs.declared.request.Request.TheVariants as request
-use Rattle.tile_service.specs.Performing.{IsImmediate}
+use Rattle.tile_requests.specs.Immediate.{IsImmediate}
 use Rattle.tile_requests.specs.Requests.{Chance, calm, events, tile_of}
 use Rattle.tile_requests.specs.Routes.{request_for}
 use Rattle.tile_service.specs.Run.{PendingRequest, World, asked, sent, world_of}

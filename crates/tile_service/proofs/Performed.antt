@@ -23,7 +23,8 @@ use Rattle.tile_requests.specs.declared.request.Request.TheVariants as request
 use Rattle.tile_service.specs.declared.seats.Pending.{Pending}
 use Rattle.tile_service.specs.declared.seats.Seat.{Seat}
 use Rattle.tile_service.specs.declared.seats.Seat.TheVariants as seat
-use Rattle.tile_service.specs.Performing.{IsAsked, IsImmediate}
+use Rattle.tile_requests.specs.Immediate.{IsImmediate}
+use Rattle.tile_service.specs.Performing.{IsAsked}
 use Rattle.tile_requests.specs.Events.{Moves, Opens}
 use Rattle.tile_service.specs.Lines.{Action, Nothing, Sends, Steps}
 use Rattle.tile_service.specs.OneLine.{IsPending, IsSeat, IsTrueSeat, IsSeated, Keeps, ActionEnds, Performs, seat_of}

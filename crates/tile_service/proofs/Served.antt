@@ -13,7 +13,8 @@ use Rattle.tile_requests.specs.declared.outcome.Outcome.TheVariants as outcome
 use Rattle.tile_requests.specs.declared.request.Mode.TheVariants.{Gets}
 use Rattle.tile_requests.specs.declared.request.Request.{Request}
 use Rattle.tile_requests.specs.declared.request.Request.TheVariants as request
-use Rattle.tile_service.specs.Performing.{IsImmediate, IsGot}
+use Rattle.tile_requests.specs.Immediate.{IsImmediate}
+use Rattle.tile_service.specs.Performing.{IsGot}
 use Rattle.tile_requests.specs.Events.{Opens}
 use Rattle.tile_service.specs.OneLine.{Keeps}
 use Rattle.tile_requests.specs.Requests.{calm, events, outcome_of}

@@ -1,6 +1,6 @@
 -- What a request comes to in the code: a tile goes through events, and all else has its outcome in one step.
 -- A tie between the code and its definitions: the promise can be read without it.
-use Rattle.std.specs.Prelude.{ℕ, ◌≡◌, ◌⊎◌, Bool, List, slice_set, Option, Some}
+use Rattle.std.specs.Prelude.{ℕ, ◌≡◌, ◌⊎◌, List, slice_set, Option, Some}
 use Rattle.cabinet.specs.State.{State}
 use Rattle.cache_core.specs.declared.actor.Step.{Step}
 use Rattle.cache_core.specs.declared.outcome.Outcome as cached
@@ -8,14 +8,14 @@ use Rattle.matrix_geometry.specs.declared.address.Address.{Address}
 use Rattle.tile_service.specs.declared.action_end.ActionEnd.{ActionEnd}
 use Rattle.tile_service.specs.declared.action_end.ActionEnd.TheVariants.{Answers}
 use Rattle.tile_requests.specs.declared.outcome.Outcome.{Outcome}
-use Rattle.tile_requests.specs.declared.outcome.Outcome.TheVariants as outcome
 use Rattle.tile_requests.specs.declared.request.Mode.{Mode}
 use Rattle.tile_requests.specs.declared.request.Mode.TheVariants.{Gets}
 use Rattle.tile_requests.specs.declared.request.Request.{Request}
 use Rattle.tile_requests.specs.declared.request.Request.TheVariants as request
 use Rattle.tile_service.specs.declared.seats.Seat.{Seat}
 use Rattle.tile_requests.specs.Events.{Opens}
-use Rattle.tile_requests.specs.Requests.{outcome_of, told_usage, cut, expired}
+use Rattle.tile_requests.specs.Immediate.{IsImmediate}
+use Rattle.tile_requests.specs.Requests.{outcome_of}
 use Rattle.tile_service.specs.Seats.{action_end_of, next_seat}
 
 -- WHERE ONE MESSAGE IS SERVED AT A TIME
@@ -23,22 +23,6 @@ use Rattle.tile_service.specs.Seats.{action_end_of, next_seat}
 -- the tile was asked for, rendered and finished one after the other, and this is its outcome
 abbrev pub IsGot : Option ℕ → ℕ → ℕ → State → Address → Outcome → State → Type 0
 IsGot told before after s a o t = (step : Step) × (ended : cached.Outcome) × Opens told before after s a Gets step t × (step.outcome ≡ Some ended) × (o ≡ outcome_of ended)
-
--- this is what the cabinet came to, and the outcome
-abbrev pub IsBoth : State × Outcome → Outcome → State → Type 0
-IsBoth done o t = (t ≡ done.0) × (o ≡ done.1)
-
--- what is no request for a tile has this outcome in one step
-abbrev pub IsImmediate : State → Request → Outcome → State → Type 0
-IsImmediate s (request.Tile a) o t = ⊥
-IsImmediate s request.Capabilities o t = IsBoth (s, outcome.Document) o t
-IsImmediate s (request.Refused code locator) o t = IsBoth (s, outcome.Refused code locator) o t
-IsImmediate s request.NotFound o t = IsBoth (s, outcome.NotFound) o t
-IsImmediate s request.WrongMethod o t = IsBoth (s, outcome.WrongMethod) o t
-IsImmediate s request.Usage o t = (left : Bool) × IsBoth (s, told_usage s left) o t
-IsImmediate s (request.Truncation cover) o t = (left : Bool) × IsBoth (cut s cover left) o t
-IsImmediate s (request.Unformed fault) o t = IsBoth (s, outcome.Unformed fault) o t
-IsImmediate s request.Expiry o t = (left : Bool) × IsBoth (expired s left) o t
 
 -- WHERE THE CODE'S SEATS ARE
 

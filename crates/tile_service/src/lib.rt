@@ -16,7 +16,6 @@ mod action_end;
 mod answer;
 pub mod cache_tally;
 pub mod counter;
-mod immediate;
 pub mod laws;
 mod lines;
 mod perform;

@@ -10,13 +10,13 @@ ghost use Rattle.tile_service.specs.Run.{PendingRequest};
 
 use crate::action_end::{ActionEnd, Answer};
 use crate::counter::Counter;
-use crate::immediate::immediate;
 use crate::lines::{Action, action_in};
 use crate::seats::{Pending, Seat, is_free, pending_at, settle};
 use cache_core::steps::advance;
 use source_render::source::Source;
 use std::alloc::Global;
 use tile_requests::events::events;
+use tile_requests::immediate::immediate;
 use tile_requests::message_ref::MessageRef;
 use tile_requests::outcome::Outcome;
 use tile_requests::request::{Mode, Request};
@@ -58,7 +58,7 @@ fn asked<S: Source>(
             settle(&mut counter.cabinet, seats, actor, n, &address, step)
         }
         other => {
-            let outcome = immediate(alloc, counter, other);
+            let outcome = immediate(alloc, &mut counter.cabinet, other);
             answered(actor, n, outcome)
         }
     }

@@ -7,7 +7,6 @@ ghost use Rattle.tile_service.specs.Serving.{Serves};
 ghost use Rattle.tile_service.specs.Session.{IsAtRest};
 
 use crate::counter::Counter;
-use crate::immediate::immediate;
 use cabinet::cabinet::Cabinet;
 use cache_core::actor::Step;
 use cache_core::steps::give_up;
@@ -16,6 +15,7 @@ use matrix_geometry::address::Address;
 use source_render::source::Source;
 use std::alloc::Global;
 use tile_requests::events::events;
+use tile_requests::immediate::immediate;
 use tile_requests::message_ref::MessageRef;
 use tile_requests::outcome::Outcome;
 use tile_requests::request::{Mode, Request, outcome_of};
@@ -64,6 +64,6 @@ pub fn serve<S: Source>(
     };
     match request {
         Request::Tile(address) => serve_tile(alloc, &mut counter.cabinet, source, &address),
-        other => immediate(alloc, counter, other),
+        other => immediate(alloc, &mut counter.cabinet, other),
     }
 }
