@@ -1,5 +1,5 @@
 -- The table of paths: what a message asks for, by its method, its target and its body.
-use Rattle.std.specs.Prelude.{ℕ, ◌+◌, ◌==◌, not, nat_eq, if◌then◌else◌, false, List, take, drop, Option, Some, None, Result, Ok, Err, codes}
+use Rattle.std.specs.Prelude.{ℕ, ◌+◌, ◌==◌, not, nat_eq, if◌then◌else◌, List, take, drop, Option, Some, None, Result, Ok, Err, codes}
 use Rattle.std.specs.List.{prefix_len, starts_with}
 use Rattle.std.specs.Str.{bytes_eq}
 use Rattle.catalog.specs.declared.catalogue.Catalogue.{Catalogue}

@@ -1,6 +1,6 @@
 -- The run of a session: the messages of one connection, in order, each answered before the next is looked at. No render runs
 -- between them, so that a tile is asked for, rendered and finished before the next.
-use Rattle.std.specs.Prelude.{ℕ, ◌≡◌, ◌+◌, Bool, true, List, [], ◌∷◌, ◌++◌, length, map, flat_map, Option, Some, None}
+use Rattle.std.specs.Prelude.{ℕ, ◌≡◌, ◌+◌, true, List, [], ◌∷◌, ◌++◌, map, flat_map, Option, Some, None}
 use Rattle.std.specs.List.{AllByRecursion}
 use Rattle.cabinet.specs.State.{State, IsSound, now}
 use Rattle.causes.specs.Causes.{RoseBy}

@@ -1,4 +1,3 @@
-use Rattle.std.proofs.lemmas.Result.{IfErr-weaker}
 use Rattle.tile_requests.proofs.Known.{front_sent}
 use Rattle.tile_requests.proofs.small_text.send_behind.Goals as goal
 
