@@ -2,13 +2,13 @@
 use Rattle.std.proofs.Common.{ℕ, List, Ok, inr}
 use Rattle.cabinet.specs.State.{State, IsKnown, fresh_state}
 use Rattle.catalog.specs.declared.catalogue.Catalogue.{Catalogue}
-use Rattle.tile_service.specs.declared.drill.DrillEnd.{DrillEnd}
-use Rattle.tile_service.specs.declared.drill.DrillEnd.TheVariants as drill_end
+use Rattle.tile_drill.specs.declared.drill.DrillEnd.{DrillEnd}
+use Rattle.tile_drill.specs.declared.drill.DrillEnd.TheVariants as drill_end
 use Rattle.tile_service.specs.declared.schedule.ScheduleEnd.{ScheduleEnd}
 use Rattle.tile_service.specs.declared.schedule.ScheduleEnd.TheVariants as end
 use Rattle.tile_service.specs.declared.session.SessionEnd.{SessionEnd}
 use Rattle.tile_service.specs.declared.session.SessionEnd.TheVariants as session_end
-use Rattle.tile_service.specs.Drill.{Drills}
+use Rattle.tile_drill.specs.Drill.{Drills}
 use Rattle.tile_service.specs.Outside.{Outside}
 use Rattle.tile_service.specs.Run.{World}
 use Rattle.tile_service.specs.Schedules.{Schedules}

@@ -10,12 +10,12 @@ use Rattle.http_wire.specs.declared.inputs.InputEnd.{InputEnd}
 use Rattle.http_wire.specs.declared.inputs.InputEnd.TheVariants as input_end
 use Rattle.tile_service.specs.declared.schedule.ScheduleEnd.{ScheduleEnd}
 use Rattle.tile_service.specs.declared.schedule.ScheduleEnd.TheVariants as end
-use Rattle.tile_service.specs.declared.drill.DrillEnd.{DrillEnd}
-use Rattle.tile_service.specs.declared.drill.DrillEnd.TheVariants as drill_end
+use Rattle.tile_drill.specs.declared.drill.DrillEnd.{DrillEnd}
+use Rattle.tile_drill.specs.declared.drill.DrillEnd.TheVariants as drill_end
 use Rattle.tile_service.specs.declared.session.SessionEnd.{SessionEnd}
 use Rattle.tile_service.specs.declared.session.SessionEnd.TheVariants as session_end
-use Rattle.tile_service.specs.Drill.{Drills}
-use Rattle.tile_service.specs.Outside.{Input, Outside}
+use Rattle.tile_drill.specs.Drill.{Drills}
+use Rattle.tile_service.specs.Outside.{InputChange, Outside}
 use Rattle.tile_service.specs.Run.{World, free_seats}
 use Rattle.tile_service.specs.Schedules.{IsTooLong, Schedules}
 use Rattle.tile_service.specs.SessionEnds.{HasSession}
@@ -29,7 +29,7 @@ use Rattle.tile_command.specs.declared.words.Word.TheVariants as word
 use Rattle.tile_command.specs.declared.described.TheConstants.{CAPABILITIES_LIMIT}
 
 -- a read of an input failed
-abbrev pub HasRisen : Input → Type 0
+abbrev pub HasRisen : InputChange → Type 0
 HasRisen i = Rose i.reads.before i.reads.after
 
 -- THE CATALOGUE
@@ -43,7 +43,7 @@ Comes (Err (unconfigured.Fault fault)) r = r ≡ Err fault
 Comes (Err unconfigured.OutOfMemory) r = ⊤
 
 -- the input was read to its end, and its text comes to this
-pub record IsRead (i : Input) (r : Result Catalogue CatalogueFault) : Type 0 where
+pub record IsRead (i : InputChange) (r : Result Catalogue CatalogueFault) : Type 0 where
   pub text : List ℕ
   pub read : Consumes i.from i.to text
   pub at_end : IsAtEnd i.to
@@ -51,10 +51,10 @@ pub record IsRead (i : Input) (r : Result Catalogue CatalogueFault) : Type 0 whe
   pub comes : catalogue_of text ≡ r
 
 -- one byte more than a catalogue may have was taken
-abbrev pub IsTooLongText : Input → Type 0
+abbrev pub IsTooLongText : InputChange → Type 0
 IsTooLongText i = (text : List ℕ) × Consumes i.from i.to text × (length text ≡ CATALOGUE_LIMIT + 1)
 
-abbrev pub Configures : Input → Result Catalogue Unconfigured → Type 0
+abbrev pub Configures : InputChange → Result Catalogue Unconfigured → Type 0
 Configures i (Ok c) = IsRead i (Ok c)
 Configures i (Err unconfigured.ReadFault) = HasRisen i
 Configures i (Err unconfigured.TooLong) = IsTooLongText i
@@ -64,16 +64,16 @@ Configures i (Err unconfigured.OutOfMemory) = ⊤
 -- THE CAPABILITIES
 
 -- the input was read to its end, and this is its text, the capabilities document
-pub record IsDocument (i : Input) (text : List ℕ) : Type 0 where
+pub record IsDocument (i : InputChange) (text : List ℕ) : Type 0 where
   pub read : Consumes i.from i.to text
   pub at_end : IsAtEnd i.to
   pub short : length text ≤ CAPABILITIES_LIMIT
 
 -- one byte more than the document may have was taken
-abbrev pub IsTooLongDocument : Input → Type 0
+abbrev pub IsTooLongDocument : InputChange → Type 0
 IsTooLongDocument i = (text : List ℕ) × Consumes i.from i.to text × (length text ≡ CAPABILITIES_LIMIT + 1)
 
-abbrev pub Describes : Input → Result (List ℕ) InputEnd → Type 0
+abbrev pub Describes : InputChange → Result (List ℕ) InputEnd → Type 0
 Describes i (Ok text) = IsDocument i text
 Describes i (Err input_end.ReadFault) = HasRisen i
 Describes i (Err input_end.TooLong) = IsTooLongDocument i
@@ -88,9 +88,9 @@ fresh_world c text = record { cabinet = fresh_state c; capabilities = text; seat
 -- the inputs of a command: the catalogue's, the capabilities', and the one that the words speak of, which has the lines of a
 -- schedule or the bytes of a connection
 pub record Inputs : Type 0 where
-  pub catalogue : Input
-  pub capabilities : Input
-  pub lines : Input
+  pub catalogue : InputChange
+  pub capabilities : InputChange
+  pub lines : InputChange
 
 -- the status of a schedule's end, of a drill's and of a session's
 abbrev pub status_of_schedule : ScheduleEnd → Status

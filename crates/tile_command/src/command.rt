@@ -2,7 +2,7 @@
 ghost use Rattle.std.specs.Prelude.{◌≡◌, ◌↔◌, IfOk};
 ghost use Rattle.cabinet.specs.State.{fresh_state};
 ghost use Rattle.catalog.specs.Valid.{IsValid};
-ghost use Rattle.tile_service.specs.Outside.{Input, Outside};
+ghost use Rattle.tile_service.specs.Outside.{InputChange, Outside};
 ghost use Rattle.tile_command.specs.Command.{HasServed, status_of_drill, status_of_schedule, status_of_session};
 ghost use Rattle.tile_command.specs.Words.{word_of};
 
@@ -18,8 +18,8 @@ use http_wire::inputs::InputEnd;
 use http_wire::streams::{ByteSink, ByteSource};
 use source_render::source::Source;
 use std::alloc::{AllocError, Global};
+use tile_drill::drill::{DrillEnd, run_drill};
 use tile_service::counter::Counter;
-use tile_service::drill::{DrillEnd, run_drill};
 use tile_service::schedule::{ScheduleEnd, run_schedule};
 use tile_service::session::SessionEnd;
 use wmts_rest::table::RestTable;

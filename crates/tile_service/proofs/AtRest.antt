@@ -1,4 +1,4 @@
--- A cabinet in which no render runs: a GET of a tile has its outcome there at once, and no command of it leaves a render running.
+-- A cabinet in which no render runs: a GET of a tile has its outcome there in one line, and no command of it leaves a render running.
 use Rattle.std.proofs.Common.{◌≡◌, ℕ, Bool, true, false, List, [], ◌∷◌, ◌++◌, length, Option, Some, None, refl, sym, ap, ◌∙◌, subst, if◌then◌else◌}
 use Rattle.std.specs.Prelude.{nat_le, nat_lt}
 use Rattle.std.proofs.lemmas.Bool.{eq-eqb}
@@ -22,10 +22,10 @@ use Rattle.metatile_locks.specs.Tickets.{Ticketed}
 use Rattle.metatile_plan.specs.declared.metatile.MetaKey.{MetaKey}
 use Rattle.metatile_plan.proofs.Same.{same_meta_self}
 use Rattle.raster_field.specs.Blocks.{block_of}
-use Rattle.tile_service.specs.declared.outcome.Outcome.{Outcome}
-use Rattle.tile_service.specs.declared.outcome.Outcome.TheVariants as outcome
-use Rattle.tile_service.specs.declared.request.Kind.TheVariants.{Gets}
-use Rattle.tile_service.specs.Requests.{Chance, further, at_once, events, cut_by, cut, dropped, expired_in, expired}
+use Rattle.tile_requests.specs.declared.outcome.Outcome.{Outcome}
+use Rattle.tile_requests.specs.declared.outcome.Outcome.TheVariants as outcome
+use Rattle.tile_requests.specs.declared.request.Mode.TheVariants.{Gets}
+use Rattle.tile_requests.specs.Requests.{Chance, further, carried_on, events, cut_by, cut, dropped, expired_in, expired}
 use Rattle.tile_service.specs.Session.{IsAtRest}
 use Rattle.truncation_list.specs.declared.cover.Cover.{Cover}
 
@@ -95,22 +95,22 @@ module _ (a : Address) (c : Chance) where
   rendered_done s k one true None = done_at _ core.SourceFailed (abandoned_rests s k (block_of s.catalogue a) one)
   rendered_done s k one true (Some bytes) = done_at _ _ (finished_rests s k (block_of s.catalogue a) one (blob_of s.catalogue (block_of s.catalogue a) bytes))
 
-  given_done : (s : State) (n : Option ℕ) → IsAtRest s → IsDone (at_once c (given s a n))
+  given_done : (s : State) (n : Option ℕ) → IsAtRest s → IsDone (carried_on c (given s a n))
   given_done s None rest = done_at s core.Spent rest
   given_done s (Some k) rest = rendered_done (with_entry s (entry.Started k (block_of s.catalogue a))) k (started_runs s k (block_of s.catalogue a) rest) c.work c.bytes
 
-  wanted_done : (s : State) → IsAtRest s → IsDone (at_once c (render_wanted s a false))
-  wanted_done s rest = subst (λ n. IsDone (at_once c (unless_busy s a false n))) (sym (ap (running_for (block_of s.catalogue a)) rest)) (given_done s (next s.opening (now s)) rest)
+  wanted_done : (s : State) → IsAtRest s → IsDone (carried_on c (render_wanted s a false))
+  wanted_done s rest = subst (λ n. IsDone (carried_on c (unless_busy s a false n))) (sym (ap (running_for (block_of s.catalogue a)) rest)) (given_done s (next s.opening (now s)) rest)
 
-  kept_done : (s : State) (t : Option Kept) → IsAtRest s → IsDone (at_once c (unless_kept s a t))
+  kept_done : (s : State) (t : Option Kept) → IsAtRest s → IsDone (carried_on c (unless_kept s a t))
   kept_done s (Some t) rest = done_at _ _ (used_rests s (block_of s.catalogue a) rest)
   kept_done s None rest = wanted_done s rest
 
-  began_done : (s : State) (left : Bool) → IsAtRest s → IsDone (at_once c (began s a false left))
+  began_done : (s : State) (left : Bool) → IsAtRest s → IsDone (carried_on c (began s a false left))
   began_done s false rest = done_at s core.NoMemory rest
   began_done s true rest = kept_done s (kept_of (block_of s.catalogue a) (now s)) rest
 
-  -- where no render runs, a GET has its outcome at once
+  -- where no render runs, a GET has its outcome in one line
   pub get_done : (s : State) → IsAtRest s → IsDone (events Gets s a c)
   get_done s rest = began_done s c.ask rest
 

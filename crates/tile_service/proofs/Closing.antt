@@ -5,17 +5,17 @@ use Rattle.cabinet.specs.State.{State}
 use Rattle.tile_service.specs.declared.run_lines.RunEnd.{RunEnd}
 use Rattle.tile_service.specs.declared.run_lines.RunEnd.TheVariants.{Done, Line, WriteFault}
 use Rattle.tile_service.specs.declared.seats.Seat.{Seat}
-use Rattle.tile_service.specs.OneLine.{seat_of, world_of}
-use Rattle.tile_service.specs.Outside.{Input, Outside}
-use Rattle.tile_service.specs.Run.{Busy, World, left_by, closed, free_seats}
+use Rattle.tile_service.specs.OneLine.{seat_of}
+use Rattle.tile_service.specs.Outside.{InputChange, Outside}
+use Rattle.tile_service.specs.Run.{PendingRequest, World, left_by, closed, free_seats, world_of}
 use Rattle.tile_service.specs.Schedules.{HasRunAll, Schedules, end_of}
 use Rattle.tile_service.specs.Seats.{left_at, all_left}
 
-left_same : (s : State) (b : Option Busy) → left_at s (seat_of b) ≡ left_by s b
+left_same : (s : State) (b : Option PendingRequest) → left_at s (seat_of b) ≡ left_by s b
 left_same s None = refl
 left_same s (Some b) = refl
 
-all_left_same : (s : State) (busy : List (Option Busy)) → all_left s (map seat_of busy) ≡ fold left_by s busy
+all_left_same : (s : State) (busy : List (Option PendingRequest)) → all_left s (map seat_of busy) ≡ fold left_by s busy
 all_left_same s [] = refl
 all_left_same s (b ∷ busy) = all_left_same (left_at s (seat_of b)) busy ∙ ap (λ u. fold left_by u busy) (left_same s b)
 
@@ -23,11 +23,11 @@ whole_front : (n : ℕ) (front rest : List Seat) → length front ≡ n → take
 whole_front n front rest e = rw (sym e) (take-append_seam front rest)
 
 -- the actors of a vector's front give up, which is all of it
-pub closes_at : (s t : State) (document : List ℕ) (busy : List (Option Busy)) (seats : List Seat) → map seat_of busy ≡ seats → (n : ℕ) (rest : List Seat) → length seats ≡ n → t ≡ all_left s (take n (seats ++ rest))
+pub closes_at : (s t : State) (document : List ℕ) (busy : List (Option PendingRequest)) (seats : List Seat) → map seat_of busy ≡ seats → (n : ℕ) (rest : List Seat) → length seats ≡ n → t ≡ all_left s (take n (seats ++ rest))
     → world_of t document free_seats ≡ closed (world_of s document busy)
 closes_at s t document busy seats same n rest all e = ap (λ u. world_of u document free_seats) (e ∙ rw (whole_front n seats rest all, sym same) (all_left_same s busy))
 
-pub schedules_to : (i : Input) (o : Outside) (Untouched : Type 0) (w t : World) (end : RunEnd) → HasRunAll i o w t end → Schedules i o Untouched w t (end_of end)
+pub schedules_to : (i : InputChange) (o : Outside) (Untouched : Type 0) (w t : World) (end : RunEnd) → HasRunAll i o w t end → Schedules i o Untouched w t (end_of end)
 schedules_to i o U w t Done h = h
 schedules_to i o U w t (Line n) h = h
 schedules_to i o U w t WriteFault h = h

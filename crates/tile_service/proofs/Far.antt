@@ -12,16 +12,16 @@ use Rattle.cache_core.proofs.Endings.{extends_fresh}
 use Rattle.catalog.specs.declared.catalogue.Catalogue.{Catalogue}
 use Rattle.causes.specs.Causes.{RoseBy}
 use Rattle.matrix_geometry.specs.declared.address.Address.{Address}
-use Rattle.tile_service.specs.declared.outcome.Outcome.{Outcome}
-use Rattle.tile_service.specs.declared.request.Request.{Request}
+use Rattle.tile_requests.specs.declared.outcome.Outcome.{Outcome}
+use Rattle.tile_requests.specs.declared.request.Request.{Request}
 use Rattle.tile_service.specs.declared.seats.Seat.TheVariants as seat
 use Rattle.tile_service.specs.declared.seats.TheConstants.{ACTORS}
-use Rattle.tile_service.specs.Lines.{deed_in}
-use Rattle.tile_service.specs.OneLine.{IsLine, IsSeat, IsWorld, IsTrueSeat, IsTrueWorld, seat_of, world_of}
-use Rattle.tile_service.specs.Requests.{Chance, calm, tile_of, tile_in, IsFreshTile}
-use Rattle.tile_service.specs.Run.{Busy, free_seats, owed_at, World, Answer, Run, run, behind, line_done, failures, unanswered, IsTrue, IsFresh, IsFreshFor}
+use Rattle.tile_service.specs.Lines.{action_in}
+use Rattle.tile_service.specs.OneLine.{IsLine, IsSeat, IsWorld, IsTrueSeat, IsTrueWorld, seat_of}
+use Rattle.tile_requests.specs.Requests.{Chance, calm, tile_of, tile_in, IsFreshTile}
+use Rattle.tile_service.specs.Run.{PendingRequest, free_seats, owed_at, World, Answer, Run, run, behind, line_done, failures, unanswered, IsTrue, IsFresh, IsFreshFor, world_of}
 use Rattle.tile_service.specs.Schedules.{IsUpheld}
-use Rattle.tile_service.proofs.Moving.{within_longer}
+use Rattle.tile_requests.proofs.Moving.{within_longer}
 
 -- FRESH LATER
 
@@ -62,6 +62,7 @@ pub record Far (told : Option ℕ) (before after : ℕ) (w : World) (done : List
   pub truth : told ≡ Some w.cabinet.catalogue.source → IsTrueWorld w → AllByRecursion (IsTrue w.cabinet.catalogue) answers
   pub fresh : AllByRecursion (IsPlaced w.cabinet.catalogue t.cabinet.history) answers
   pub catalogue : t.cabinet.catalogue ≡ w.cabinet.catalogue
+  pub capabilities : t.capabilities ≡ w.capabilities
 
 far_start : (told : Option ℕ) (n : ℕ) (w : World) → IsWorld w → unanswered w.seats ≡ 0 → AllByRecursion (IsTrueSeat w.cabinet.catalogue) w.seats → Far told n n w [] [] [] 0 w
 far_start told n w world none free =
@@ -75,6 +76,7 @@ far_start told n w world none free =
       truth = λ told is. tt;
       fresh = tt;
       catalogue = refl;
+      capabilities = refl;
     }
 
 behind_behind : (news bs : List Answer) (r : Run) → behind news (behind bs r) ≡ behind (news ++ bs) r
@@ -85,7 +87,7 @@ all_append P [] bs h k = k
 all_append P (a ∷ news) bs h k = (h.0, all_append P news bs h.1 k)
 
 -- one line, and then others
-one_line : (t u : World) (n : ℕ) (line : List ℕ) (c : Chance) (news : List Answer) → line_done t n c (deed_in line) ≡ Some (u, news)
+one_line : (t u : World) (n : ℕ) (line : List ℕ) (c : Chance) (news : List Answer) → line_done t n c (action_in line) ≡ Some (u, news)
     → (tail : List (List ℕ)) (more : List Chance) → run t n (line ∷ tail) (c ∷ more) ≡ behind news (run u (n + 1) tail more)
 one_line t u n line c news e tail more = rw e refl
 
@@ -127,6 +129,7 @@ module _ (told told' : Option ℕ) (before mid after : ℕ) (w : World) (done : 
         truth = more_truth;
         fresh = more_fresh;
         catalogue = l.keeps.catalogue ∙ f.catalogue;
+        capabilities = l.keeps.capabilities ∙ f.capabilities;
       }
 
 -- nothing happens while the source goes on
@@ -142,6 +145,7 @@ far_waits told before mid after w done made answers n t f later =
       truth = f.truth;
       fresh = f.fresh;
       catalogue = f.catalogue;
+      capabilities = f.capabilities;
     }
 
 -- ENDS
@@ -159,7 +163,7 @@ module _ (told : Option ℕ) (before after : ℕ) (w : World) (done : List (List
   ends_done = rw (append-nil done, append-nil made, append-nil answers) at (f.goes [] [])
 
   -- the next line is refused
-  pub ends_refused : (line : List ℕ) (tail : List (List ℕ)) → line_done t (n + 1) calm (deed_in line) ≡ None → run w 1 (done ++ line ∷ tail) made ≡ came_to (Some (n + 1))
+  pub ends_refused : (line : List ℕ) (tail : List (List ℕ)) → line_done t (n + 1) calm (action_in line) ≡ None → run w 1 (done ++ line ∷ tail) made ≡ came_to (Some (n + 1))
   ends_refused line tail none =
       let last : run t (n + 1) (line ∷ tail) [] ≡ record { answers = []; world = t; refused = Some (n + 1) } = rw none refl in
       rw (append-nil made, append-nil answers) at (f.goes (line ∷ tail) [] ∙ ap (behind answers) last)
@@ -176,7 +180,7 @@ module _ (told : Option ℕ) (before after : ℕ) (w : World) (done : List (List
 
 -- SEATS OF WHICH NONE IS BUSY
 
-all_free : (P : Option Busy → Type 0) → P None → (n : ℕ) → AllByRecursion P (replicate n None)
+all_free : (P : Option PendingRequest → Type 0) → P None → (n : ℕ) → AllByRecursion P (replicate n None)
 all_free P none zero = tt
 all_free P none (suc n) = (none, all_free P none n)
 

@@ -10,15 +10,16 @@ use Rattle.http_wire.specs.declared.message.Message.{Message}
 use Rattle.http_wire.specs.declared.message.Next.{Next}
 use Rattle.http_wire.specs.declared.message.Next.TheVariants as nexts
 use Rattle.http_wire.proofs.StreamGrows.{stand_in_more}
-use Rattle.tile_service.specs.declared.outcome.Outcome.{Outcome}
+use Rattle.tile_requests.specs.declared.outcome.Outcome.{Outcome}
 use Rattle.tile_service.specs.OneLine.{MayTell}
-use Rattle.tile_service.specs.Requests.{told_at}
-use Rattle.tile_service.specs.Response.{response}
+use Rattle.tile_requests.specs.Requests.{told_at}
+use Rattle.tile_requests.specs.Response.{response}
 use Rattle.tile_service.specs.Run.{Answer}
-use Rattle.tile_service.specs.Sent.{AppendsFront, AppendsPart}
-use Rattle.tile_service.specs.Session.{Serves, reply_text, replies}
+use Rattle.tile_requests.specs.Sent.{AppendsFront, AppendsPart}
+use Rattle.tile_service.specs.Serving.{Serves}
+use Rattle.tile_service.specs.Session.{reply_text, replies}
 use Rattle.tile_service.specs.SessionEnds.{AreOpen}
-use Rattle.tile_service.proofs.Known.{appends_more, appends_nothing}
+use Rattle.tile_requests.proofs.Known.{appends_more, appends_nothing}
 use Rattle.tile_service.proofs.SoFar.{HasServed, served_start, served_next, the_answer}
 
 -- n messages were answered, none of them the last of its connection; this is left of the bytes, and that was written
@@ -28,7 +29,7 @@ pub record IsUnderWay (told : Option ℕ) (before now : ℕ) (document : List �
   pub all_open : AreOpen messages
   pub stand : StandIn from messages left
   pub served : HasServed told before now document s t messages answers n
-  pub text : Appends empty written (replies answers)
+  pub text : Appends empty written (replies document answers)
 
 -- before the first message
 pub stand_none : (bytes : Option (List ℕ)) → StandIn bytes [] (prepend_known [] bytes)
@@ -79,8 +80,8 @@ module _ (told via : Option ℕ) (before mid after : ℕ) (document words : List
   abbrev its_answer : Bool → Answer
   its_answer memory = the_answer told via before mid after document s t u f.messages f.answers n m o f.served same h memory
 
-  its_text : (memory : Bool) → response m (n + 1) (told_at memory o) ≡ replies (its_answer memory ∷ [])
-  its_text memory = sym (append-nil (reply_text (its_answer memory)))
+  its_text : (memory : Bool) → response document m (n + 1) (told_at memory o) ≡ replies document (its_answer memory ∷ [])
+  its_text memory = sym (append-nil (reply_text document (its_answer memory)))
 
   abbrev answered : Bool → IsAnswered told before after document s u from (prepend_known held left) n m
   answered memory =
@@ -97,17 +98,17 @@ module _ (told via : Option ℕ) (before mid after : ℕ) (document words : List
       }
 
   -- its answer was written
-  pub answered_whole : MayTell o (λ x. Appends sent written (response m (n + 1) x)) → (a : IsAnswered told before after document s u from (prepend_known held left) n m) × Appends empty written (replies a.answers)
+  pub answered_whole : MayTell o (λ x. Appends sent written (response words m (n + 1) x)) → (a : IsAnswered told before after document s u from (prepend_known held left) n m) × Appends empty written (replies document a.answers)
   answered_whole tells =
-      let k = which_told o (λ x. Appends sent written (response m (n + 1) x)) tells in
-      let one : Appends middle written (replies (its_answer k.0 ∷ [])) = subst (λ x. Appends x written (replies (its_answer k.0 ∷ []))) unsent (subst (Appends sent written) (its_text k.0) k.1) in
-      (answered k.0, rw (flat_map-append reply_text f.answers (its_answer k.0 ∷ [])) (appends_more empty middle written _ _ f.text one))
+      let k = which_told o (λ x. Appends sent written (response document m (n + 1) x)) (subst (λ d. MayTell o (λ x. Appends sent written (response d m (n + 1) x))) same_words tells) in
+      let one : Appends middle written (replies document (its_answer k.0 ∷ [])) = subst (λ x. Appends x written (replies document (its_answer k.0 ∷ []))) unsent (subst (Appends sent written) (its_text k.0) k.1) in
+      (answered k.0, rw (flat_map-append (reply_text document) f.answers (its_answer k.0 ∷ [])) (appends_more empty middle written _ _ f.text one))
 
   -- a front of it was written
-  pub answered_front : MayTell o (λ x. AppendsFront sent written (response m (n + 1) x)) → (a : IsAnswered told before after document s u from (prepend_known held left) n m) × AppendsPart empty written (replies a.before_it) (reply_text a.answer)
+  pub answered_front : MayTell o (λ x. AppendsFront sent written (response words m (n + 1) x)) → (a : IsAnswered told before after document s u from (prepend_known held left) n m) × AppendsPart empty written (replies document a.before_it) (reply_text document a.answer)
   answered_front tells =
-      let k = which_told o (λ x. AppendsFront sent written (response m (n + 1) x)) tells in
-      (answered k.0, record { between = middle; whole = f.text; part = subst (λ x. AppendsFront x written (reply_text (its_answer k.0))) unsent k.1 })
+      let k = which_told o (λ x. AppendsFront sent written (response document m (n + 1) x)) (subst (λ d. MayTell o (λ x. AppendsFront sent written (response d m (n + 1) x))) same_words tells) in
+      (answered k.0, record { between = middle; whole = f.text; part = subst (λ x. AppendsFront x written (reply_text document (its_answer k.0))) unsent k.1 })
 
 open_more : (messages : List Message) (m : Message) → AreOpen messages → m.last ≡ false → AreOpen (messages ++ m ∷ [])
 open_more [] m all e = (e, tt)
@@ -115,7 +116,7 @@ open_more (x ∷ messages) m all e = (all.0, open_more messages m all.1 e)
 
 -- and the session goes on
 pub under_way_next : (told : Option ℕ) (before now : ℕ) (document : List ℕ) (s t : State) (from left empty written : Option (List ℕ)) (n : ℕ) (m : Message) → m.last ≡ false
-    → (a : IsAnswered told before now document s t from left n m) × Appends empty written (replies a.answers) → IsUnderWay told before now document s t from left empty written (n + 1)
+    → (a : IsAnswered told before now document s t from left n m) × Appends empty written (replies document a.answers) → IsUnderWay told before now document s t from left empty written (n + 1)
 under_way_next told before now document s t from left empty written n m e a =
     record {
       messages = a.0.earlier ++ m ∷ [];

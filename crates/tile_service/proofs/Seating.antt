@@ -14,10 +14,11 @@ use Rattle.cache_core.specs.Fits.{IsFreshActor, IsFreshOutcome, IsTrueActor, IsT
 use Rattle.cache_core.proofs.Endings.{extends_fresh}
 use Rattle.catalog.specs.declared.catalogue.Catalogue.{Catalogue}
 use Rattle.matrix_geometry.specs.declared.address.Address.{Address}
-use Rattle.tile_service.specs.Events.{StayCovered, owed, failing, GoesOn, Moves}
-use Rattle.tile_service.specs.OneLine.{IsSeat, IsTrueSeat, Keeps, world_of}
-use Rattle.tile_service.specs.Run.{Busy, seat_after, answers_after, failures, owed_at, unanswered, IsTrue, IsFresh}
-use Rattle.tile_service.proofs.Moving.{within_longer}
+use Rattle.tile_requests.specs.Events.{StayCovered, failing, GoesOn, Moves}
+use Rattle.tile_requests.specs.Requests.{owed}
+use Rattle.tile_service.specs.OneLine.{IsSeat, IsTrueSeat, Keeps}
+use Rattle.tile_service.specs.Run.{PendingRequest, seat_after, answers_after, failures, owed_at, unanswered, IsTrue, IsFresh, world_of}
+use Rattle.tile_requests.proofs.Moving.{within_longer}
 
 -- LISTS
 
@@ -64,17 +65,17 @@ actor_later c h g p a (actor.Holding t b) more l f = extends_fresh c h g p a t.n
 actor_later c h g p a (actor.Rendered t blob tile) more l f = extends_fresh c h g p a tile.number more l f
 actor_later c h g p a (actor.Failed t) more l f = tt
 
-seat_later : (c : Catalogue) (h g : History) → Extends h g → (seat : Option Busy) → IsSeat c h seat → IsSeat c g seat
+seat_later : (c : Catalogue) (h g : History) → Extends h g → (seat : Option PendingRequest) → IsSeat c h seat → IsSeat c g seat
 seat_later c h g more None is = tt
 seat_later c h g more (Some b) is =
     record { fits = is.fits; busy = is.busy; open_after = is.open_after; within = within_longer h g b.place more is.within; fresh = actor_later c h g b.place b.address b.actor more is.within is.fresh }
 
-pub seats_later : (c : Catalogue) (h g : History) → Extends h g → (seats : List (Option Busy)) → AllByRecursion (IsSeat c h) seats → AllByRecursion (IsSeat c g) seats
+pub seats_later : (c : Catalogue) (h g : History) → Extends h g → (seats : List (Option PendingRequest)) → AllByRecursion (IsSeat c h) seats → AllByRecursion (IsSeat c g) seats
 seats_later c h g more seats all = all_mapped (IsSeat c h) (IsSeat c g) (seat_later c h g more) seats all
 
 -- AFTER EVENTS OF ONE ACTOR
 
-module _ (told : Option ℕ) (before after : ℕ) (s t : State) (first : Actor) (b : Busy) (step : Step) (m : Moves told before after s first b.address b.place step t) (open_after : step.outcome ≡ None → b.message.last ≡ false) where
+module _ (told : Option ℕ) (before after : ℕ) (s t : State) (first : Actor) (b : PendingRequest) (step : Step) (m : Moves told before after s first b.address b.place step t) (open_after : step.outcome ≡ None → b.message.last ≡ false) where
   seat_kept : (o : Option cached.Outcome) → step.outcome ≡ o → IsSeat s.catalogue t.history (seat_after b step.actor o)
   seat_kept (Some o) e = tt
   seat_kept None e = let P : Option cached.Outcome → Type 0 = GoesOn step.actor in record { fits = m.fits; busy = subst P e m.goes_on; open_after = open_after e; within = m.within; fresh = m.held_fresh }
@@ -111,7 +112,7 @@ module _ (told : Option ℕ) (before after : ℕ) (s t : State) (first : Actor) 
   answers_fresh n i true (Some core.NoMemory) h = ((m.within, tt), tt)
   answers_fresh n i false (Some o) h = ((m.within, tt), tt)
 
-  module _ (document : List ℕ) (busy : List (Option Busy)) (i : ℕ) (old : Option Busy) (at : slice_get busy i ≡ Some old) (same : owed_at old ≡ owed first) (was : IsTrueSeat s.catalogue old → IsTrueActor s.catalogue first) where
+  module _ (document : List ℕ) (busy : List (Option PendingRequest)) (i : ℕ) (old : Option PendingRequest) (at : slice_get busy i ≡ Some old) (same : owed_at old ≡ owed first) (was : IsTrueSeat s.catalogue old → IsTrueActor s.catalogue first) where
     all_covered : (n : ℕ) (left : Bool) → StayCovered before after (unanswered busy) (failures (answers_after n i left b step.outcome) + unanswered (slice_set busy i (seat_after b step.actor step.outcome)))
     all_covered n left from others h =
         let r = sum_set owed_at busy i (seat_after b step.actor step.outcome) old at in
@@ -138,4 +139,5 @@ module _ (told : Option ℕ) (before after : ℕ) (s t : State) (first : Actor) 
           fresh = λ all. answers_fresh n i left step.outcome m.fresh;
           grows = m.grows;
           catalogue = m.catalogue;
+          capabilities = refl;
         }

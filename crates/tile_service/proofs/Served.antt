@@ -6,45 +6,26 @@ use Rattle.cache_core.specs.declared.actor.Step.{Step}
 use Rattle.cache_core.specs.declared.outcome.Outcome as cached
 use Rattle.cache_core.specs.Shown.{shown}
 use Rattle.cache_core.specs.Steps.{Stepped}
-use Rattle.catalog.specs.declared.catalogue.Catalogue.{Catalogue}
 use Rattle.http_wire.specs.declared.message.Message.{Message}
 use Rattle.matrix_geometry.specs.declared.address.Address.{Address}
-use Rattle.tile_service.specs.declared.outcome.Outcome.{Outcome}
-use Rattle.tile_service.specs.declared.outcome.Outcome.TheVariants as outcome
-use Rattle.tile_service.specs.declared.request.Kind.TheVariants.{Gets}
-use Rattle.tile_service.specs.declared.request.Request.{Request}
-use Rattle.tile_service.specs.declared.request.Request.TheVariants as request
-use Rattle.tile_service.specs.declared.routes.Route.{Route}
-use Rattle.tile_service.specs.declared.routes.Route.TheVariants as route
-use Rattle.tile_service.specs.Dealing.{IsAtOnce, IsGot}
-use Rattle.tile_service.specs.Events.{Opens}
-use Rattle.tile_service.specs.OneLine.{Keeps, world_of}
-use Rattle.tile_service.specs.Requests.{calm, events, outcome_of}
-use Rattle.tile_service.specs.Routes.{path_of, route_of, request_at}
-use Rattle.tile_service.specs.Run.{Busy, World, seat_after, answers_after, settled, started, sent, request_in}
-use Rattle.tile_service.specs.Session.{IsAtRest, Serves, lone}
-use Rattle.tile_service.proofs.AtOnce.{at_once_told, read_asks, same_events, with_ends}
+use Rattle.tile_requests.specs.declared.outcome.Outcome.{Outcome}
+use Rattle.tile_requests.specs.declared.outcome.Outcome.TheVariants as outcome
+use Rattle.tile_requests.specs.declared.request.Mode.TheVariants.{Gets}
+use Rattle.tile_requests.specs.declared.request.Request.{Request}
+use Rattle.tile_requests.specs.declared.request.Request.TheVariants as request
+use Rattle.tile_requests.specs.Immediate.{IsImmediate}
+use Rattle.tile_service.specs.Performing.{IsGot}
+use Rattle.tile_requests.specs.Events.{Opens}
+use Rattle.tile_service.specs.OneLine.{Keeps}
+use Rattle.tile_requests.specs.Requests.{calm, events, outcome_of}
+use Rattle.tile_requests.specs.Routes.{request_for}
+use Rattle.tile_service.specs.Run.{PendingRequest, World, seat_after, answers_after, settled, started, sent, world_of}
+use Rattle.tile_service.specs.Serving.{Serves}
+use Rattle.tile_service.specs.Session.{IsAtRest, lone}
+use Rattle.tile_service.proofs.Immediately.{immediate_told, read_asks, same_events, with_ends}
 use Rattle.tile_service.proofs.AtRest.{IsDone, get_done}
 use Rattle.tile_service.proofs.Seating.{settled_keeps}
 use Rattle.tile_service.proofs.Telling.{same_stays, told_keeps}
-
--- WHAT IS ASKED FOR
-
-same_request : (c : Catalogue) (m n : Message) (r : Route) → n.target ≡ m.target → n.body ≡ m.body → request_at c n r ≡ request_at c m r
-same_request c m n route.Query target body = rw target refl
-same_request c m n route.Path target body = rw target refl
-same_request c m n route.Usage target body = refl
-same_request c m n route.Truncate target body = rw body refl
-same_request c m n route.Expire target body = refl
-same_request c m n route.NotFound target body = refl
-same_request c m n route.WrongMethod target body = refl
-
--- whether it is the last of its connection or not, a message asks for the same
-pub asks_the_same : (s : State) (document : List ℕ) (c : Catalogue) (m n : Message) (path : List ℕ) (way : Route) (r : Request) → c ≡ s.catalogue → n.method ≡ m.method → n.target ≡ m.target → n.body ≡ m.body
-    → path ≡ path_of n.target → way ≡ route_of n.method path → r ≡ request_at c n way → r ≡ request_in (lone s document) m
-asks_the_same s document c m n path way r catalogue method target body leads goes asks =
-    let there : way ≡ route_of m.method (path_of m.target) = goes ∙ rw (leads, method, target) refl in
-    asks ∙ rw (catalogue, there) (same_request s.catalogue m n (route_of m.method (path_of m.target)) target body)
 
 -- A MESSAGE IS SERVED
 
@@ -54,7 +35,7 @@ got_done told before after s a step t rest h = let P : Stepped → Type 0 = IsDo
 
 module _ (told : Option ℕ) (document : List ℕ) (s : State) (m : Message) (rest : IsAtRest s) where
   abbrev asks : Request
-  asks = request_in (lone s document) m
+  asks = request_for s.catalogue m
 
   pub unread_serves : (count : ℕ) → Serves told count count document s m outcome.NoMemory s
   unread_serves count =
@@ -66,22 +47,22 @@ module _ (told : Option ℕ) (document : List ℕ) (s : State) (m : Message) (re
         rests = rest;
       }
 
-  pub at_once_serves : (count : ℕ) (r : Request) (o : Outcome) (t : State) → r ≡ asks → IsAtOnce s document r o t → Serves told count count document s m o t
-  at_once_serves count r o t e k =
-      let d = at_once_told s document r o t k in
+  pub immediate_serves : (count : ℕ) (r : Request) (o : Outcome) (t : State) → r ≡ asks → IsImmediate s r o t → Serves told count count document s m o t
+  immediate_serves count r o t e k =
+      let d = immediate_told s r o t k in
       record {
         request = Some r;
         chance = λ left. with_ends d.chance true left;
-        made = λ i left. read_asks (lone s document) i d.chance Gets 0 m r left e ∙ d.made (None ∷ []) i Gets 0 m left;
+        made = λ i left. read_asks (lone s document) i d.chance Gets 0 m r left e ∙ d.made document (None ∷ []) i Gets 0 m left;
         keeps = λ i left. told_keeps told count s t document (None ∷ []) i 0 m (Some r) o left d.stays d.other;
         rests = d.rests rest;
       }
 
   module _ (before after : ℕ) (a : Address) (e : request.Tile a ≡ asks) (step : Step) (t : State) (h : Opens told before after s a Gets step t) where
-    abbrev busy : ℕ → Busy
+    abbrev busy : ℕ → PendingRequest
     busy i = started (lone s document) i m a
 
-    abbrev there_after : Busy → Option cached.Outcome → World
+    abbrev there_after : PendingRequest → Option cached.Outcome → World
     there_after b x = world_of t document (slice_set (None ∷ []) 0 (seat_after b step.actor x))
 
     made_with : (i : ℕ) (left : Bool) (x : Option cached.Outcome) → step.outcome ≡ x → sent (lone s document) i (with_ends h.chance true left) Gets 0 m ≡ (there_after (busy i) x, answers_after i 0 left (busy i) x)

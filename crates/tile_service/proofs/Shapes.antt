@@ -27,13 +27,14 @@ use Rattle.metatile_locks.specs.Tickets.{Ticketed}
 use Rattle.metatile_plan.specs.declared.metatile.MetaKey.{MetaKey}
 use Rattle.raster_field.specs.Blocks.{block_of}
 use Rattle.truncation_list.specs.declared.cover.Cover.{Cover}
-use Rattle.tile_service.specs.declared.request.Kind.{Kind}
-use Rattle.tile_service.specs.declared.request.Kind.TheVariants.{Gets, Asks, Forces}
-use Rattle.tile_service.specs.declared.request.Request.{Request}
-use Rattle.tile_service.specs.declared.request.Request.TheVariants as request
-use Rattle.tile_service.specs.Lines.{Deed, Idle, Sends, Steps, deed_in}
-use Rattle.tile_service.specs.Requests.{Chance, is_at_work, further, at_once, events, cut, cut_by, dropped, expired_in}
-use Rattle.tile_service.specs.Run.{Busy, World, Answer, Run, seat_after, settled, started, resumed, asked, sent, if_free, stepped, line_done, goes_on, first_of, rest_of, run, request_in}
+use Rattle.tile_requests.specs.declared.request.Mode.{Mode}
+use Rattle.tile_requests.specs.declared.request.Mode.TheVariants.{Gets, Asks, Forces}
+use Rattle.tile_requests.specs.declared.request.Request.{Request}
+use Rattle.tile_requests.specs.declared.request.Request.TheVariants as request
+use Rattle.tile_service.specs.Lines.{Action, Nothing, Sends, Steps, action_in}
+use Rattle.tile_requests.specs.Requests.{Chance, is_at_work, further, carried_on, events, cut, cut_by, dropped, expired_in}
+use Rattle.tile_requests.specs.Routes.{request_for}
+use Rattle.tile_service.specs.Run.{PendingRequest, World, Answer, Run, seat_after, settled, started, resumed, asked, sent, if_free, stepped, line_done, goes_on, first_of, rest_of, run}
 use Rattle.tile_service.specs.Session.{session}
 use Rattle.tile_service.specs.Alike.{without_bytes, any_bytes}
 
@@ -157,44 +158,44 @@ without_twice c = ap (λ (x : Option (ℕ → ℕ)). let d : Chance = record { r
 further_same : (c : Chance) (r : Stepped) → shape (further (without_bytes c) r) ≡ shape (further (without_bytes c) (shape r))
 further_same c r = further_like (without_bytes c) r ∙ ap (λ (d : Chance). shape (further d (shape r))) (without_twice c)
 
-once_like : (c : Chance) (r q : Stepped) → shape r ≡ shape q → shape (at_once c r) ≡ shape (at_once (without_bytes c) q)
+once_like : (c : Chance) (r q : Stepped) → shape r ≡ shape q → shape (carried_on c r) ≡ shape (carried_on (without_bytes c) q)
 once_like c r q e =
     let d = without_bytes c in
-    let first : shape (at_once c r) ≡ shape (further d (shape (further d (shape r)))) = further_like c (further c r) ∙ ap (λ x. shape (further d x)) (further_like c r) in
-    let second : shape (at_once d q) ≡ shape (further d (shape (further d (shape q)))) = further_same c (further d q) ∙ ap (λ x. shape (further d x)) (further_same c q) in
+    let first : shape (carried_on c r) ≡ shape (further d (shape (further d (shape r)))) = further_like c (further c r) ∙ ap (λ x. shape (further d x)) (further_like c r) in
+    let second : shape (carried_on d q) ≡ shape (further d (shape (further d (shape q)))) = further_same c (further d q) ∙ ap (λ x. shape (further d x)) (further_same c q) in
     first ∙ ap (λ x. shape (further d (shape (further d x)))) e ∙ sym second
 
-events_like : (kind : Kind) (s : State) (a : Address) (c : Chance) → shape (events kind s a c) ≡ shape (events kind (plain s) a (without_bytes c))
+events_like : (mode : Mode) (s : State) (a : Address) (c : Chance) → shape (events mode s a c) ≡ shape (events mode (plain s) a (without_bytes c))
 events_like Gets s a c = once_like c (began s a false c.ask) (began (plain s) a false c.ask) (began_like s a false c.ask)
 events_like Asks s a c = began_like s a false c.ask
 events_like Forces s a c = began_like s a true c.ask
 
 -- WORLDS
 
-abbrev plain_seat : Option Busy → Option Busy
+abbrev plain_seat : Option PendingRequest → Option PendingRequest
 plain_seat None = None
 plain_seat (Some b) = Some (record { start = b.start; message = b.message; address = b.address; place = b.place; actor = plain_actor b.actor })
 
 abbrev plain_world : World → World
 plain_world w = record { cabinet = plain w.cabinet; capabilities = w.capabilities; seats = map plain_seat w.seats }
 
-seats_twice : (seats : List (Option Busy)) → map plain_seat (map plain_seat seats) ≡ map plain_seat seats
+seats_twice : (seats : List (Option PendingRequest)) → map plain_seat (map plain_seat seats) ≡ map plain_seat seats
 seats_twice [] = refl
 seats_twice (None ∷ seats) = ap (λ xs. None ∷ xs) (seats_twice seats)
 seats_twice (Some b ∷ seats) = rw (plain_twice b.actor, seats_twice seats) refl
 
-abbrev world_with : World → State → List (Option Busy) → World
+abbrev world_with : World → State → List (Option PendingRequest) → World
 world_with w s seats = record { cabinet = s; capabilities = w.capabilities; seats = seats }
 
 -- a cabinet of the same shape, and the seats as they were
 same_seats : (w : World) (s t : State) → plain s ≡ plain t → plain_world (world_with w s w.seats) ≡ plain_world (world_with w t (map plain_seat w.seats))
 same_seats w s t e = ap (λ u. world_with w u (map plain_seat w.seats)) e ∙ ap (world_with w (plain t)) (sym (seats_twice w.seats))
 
-seat_like : (b : Busy) (x : Actor) (o : Option cached.Outcome) → plain_seat (seat_after b x o) ≡ seat_after b (plain_actor x) (marked o)
+seat_like : (b : PendingRequest) (x : Actor) (o : Option cached.Outcome) → plain_seat (seat_after b x o) ≡ seat_after b (plain_actor x) (marked o)
 seat_like b x None = refl
 seat_like b x (Some o) = refl
 
-settled_like : (w : World) (n i : ℕ) (c : Chance) (b d : Busy) (r q : Stepped) → shape r ≡ shape q → ((x : Actor) (o : Option cached.Outcome) → seat_after b x o ≡ seat_after d x o)
+settled_like : (w : World) (n i : ℕ) (c : Chance) (b d : PendingRequest) (r q : Stepped) → shape r ≡ shape q → ((x : Actor) (o : Option cached.Outcome) → seat_after b x o ≡ seat_after d x o)
     → plain_world (settled w n c i b r).0 ≡ plain_world (settled (plain_world w) n (without_bytes c) i d q).0
 settled_like w n i c b d r q e same =
     let one : map plain_seat (slice_set w.seats i (seat_after b r.actor r.outcome)) ≡ slice_set (map plain_seat w.seats) i (seat_after b (plain_actor r.actor) (marked r.outcome)) =
@@ -230,28 +231,28 @@ expired_like s left (Some scope) = dropped_like s left (victim_in s scope)
 abbrev world_in : World × List Answer → World
 world_in d = plain_world d.0
 
-asked_like : (w : World) (n : ℕ) (c : Chance) (kind : Kind) (i : ℕ) (m : Message) (r : Request) → world_in (asked w n c kind i m r) ≡ world_in (asked (plain_world w) n (without_bytes c) kind i m r)
-asked_like w n c kind i m (request.Tile a) = settled_like w n i c (started w n m a) (started (plain_world w) n m a) (events kind w.cabinet a c) (events kind (plain w.cabinet) a (without_bytes c)) (events_like kind w.cabinet a c) (λ x o. refl)
-asked_like w n c kind i m request.Capabilities = same_seats w w.cabinet (plain w.cabinet) refl
-asked_like w n c kind i m (request.Refused code locator) = same_seats w w.cabinet (plain w.cabinet) refl
-asked_like w n c kind i m request.NotFound = same_seats w w.cabinet (plain w.cabinet) refl
-asked_like w n c kind i m request.WrongMethod = same_seats w w.cabinet (plain w.cabinet) refl
-asked_like w n c kind i m request.Usage = same_seats w w.cabinet (plain w.cabinet) refl
-asked_like w n c kind i m (request.Truncation cover) = same_seats w (cut w.cabinet cover c.ask).0 (cut (plain w.cabinet) cover c.ask).0 (cut_like w.cabinet cover c.ask)
-asked_like w n c kind i m (request.Unformed fault) = same_seats w w.cabinet (plain w.cabinet) refl
-asked_like w n c kind i m request.Expiry = same_seats w (expired_in w.cabinet c.work (scope_exceeded w.cabinet)).0 (expired_in (plain w.cabinet) c.work (scope_exceeded w.cabinet)).0 (expired_like w.cabinet c.work (scope_exceeded w.cabinet))
+asked_like : (w : World) (n : ℕ) (c : Chance) (mode : Mode) (i : ℕ) (m : Message) (r : Request) → world_in (asked w n c mode i m r) ≡ world_in (asked (plain_world w) n (without_bytes c) mode i m r)
+asked_like w n c mode i m (request.Tile a) = settled_like w n i c (started w n m a) (started (plain_world w) n m a) (events mode w.cabinet a c) (events mode (plain w.cabinet) a (without_bytes c)) (events_like mode w.cabinet a c) (λ x o. refl)
+asked_like w n c mode i m request.Capabilities = same_seats w w.cabinet (plain w.cabinet) refl
+asked_like w n c mode i m (request.Refused code locator) = same_seats w w.cabinet (plain w.cabinet) refl
+asked_like w n c mode i m request.NotFound = same_seats w w.cabinet (plain w.cabinet) refl
+asked_like w n c mode i m request.WrongMethod = same_seats w w.cabinet (plain w.cabinet) refl
+asked_like w n c mode i m request.Usage = same_seats w w.cabinet (plain w.cabinet) refl
+asked_like w n c mode i m (request.Truncation cover) = same_seats w (cut w.cabinet cover c.ask).0 (cut (plain w.cabinet) cover c.ask).0 (cut_like w.cabinet cover c.ask)
+asked_like w n c mode i m (request.Unformed fault) = same_seats w w.cabinet (plain w.cabinet) refl
+asked_like w n c mode i m request.Expiry = same_seats w (expired_in w.cabinet c.work (scope_exceeded w.cabinet)).0 (expired_in (plain w.cabinet) c.work (scope_exceeded w.cabinet)).0 (expired_like w.cabinet c.work (scope_exceeded w.cabinet))
 
 either_like : (b : Bool) (d e f g : World × List Answer) → world_in d ≡ world_in f → world_in e ≡ world_in g → world_in (if b then d else e) ≡ world_in (if b then f else g)
 either_like true d e f g h k = h
 either_like false d e f g h k = k
 
-sent_like : (w : World) (n : ℕ) (c : Chance) (kind : Kind) (i : ℕ) (m : Message) → world_in (sent w n c kind i m) ≡ world_in (sent (plain_world w) n (without_bytes c) kind i m)
-sent_like w n c kind i m = either_like c.read _ _ _ _ (asked_like w n c kind i m (request_in w m)) (same_seats w w.cabinet (plain w.cabinet) refl)
+sent_like : (w : World) (n : ℕ) (c : Chance) (mode : Mode) (i : ℕ) (m : Message) → world_in (sent w n c mode i m) ≡ world_in (sent (plain_world w) n (without_bytes c) mode i m)
+sent_like w n c mode i m = either_like c.read _ _ _ _ (asked_like w n c mode i m (request_for w.cabinet.catalogue m)) (same_seats w w.cabinet (plain w.cabinet) refl)
 
 abbrev worlds : Option (World × List Answer) → Option World
 worlds d = option_map world_in d
 
-free_like : (x : Option (Option Busy)) (d e : World × List Answer) → world_in d ≡ world_in e → worlds (if_free x d) ≡ worlds (if_free (option_map plain_seat x) e)
+free_like : (x : Option (Option PendingRequest)) (d e : World × List Answer) → world_in d ≡ world_in e → worlds (if_free x d) ≡ worlds (if_free (option_map plain_seat x) e)
 free_like None d e same = refl
 free_like (Some None) d e same = ap (λ t. Some t) same
 free_like (Some (Some b)) d e same = refl
@@ -263,21 +264,21 @@ place_like (actor.Holding t a) here place = refl
 place_like (actor.Rendered t blob tile) here place = refl
 place_like (actor.Failed t) here place = refl
 
-resumed_like : (w : World) (b d : Busy) → plain_seat (Some b) ≡ Some d → (x : Actor) (o : Option cached.Outcome) → seat_after (resumed w b) x o ≡ seat_after (resumed (plain_world w) (record b { actor = plain_actor b.actor })) x o
+resumed_like : (w : World) (b d : PendingRequest) → plain_seat (Some b) ≡ Some d → (x : Actor) (o : Option cached.Outcome) → seat_after (resumed w b) x o ≡ seat_after (resumed (plain_world w) (record b { actor = plain_actor b.actor })) x o
 resumed_like w b d is x None = rw (place_like b.actor (length w.cabinet.history) b.place) refl
 resumed_like w b d is x (Some o) = refl
 
-stepped_like : (w : World) (n : ℕ) (c : Chance) (i : ℕ) (x : Option (Option Busy)) → worlds (stepped w n c i x) ≡ worlds (stepped (plain_world w) n (without_bytes c) i (option_map plain_seat x))
+stepped_like : (w : World) (n : ℕ) (c : Chance) (i : ℕ) (x : Option (Option PendingRequest)) → worlds (stepped w n c i x) ≡ worlds (stepped (plain_world w) n (without_bytes c) i (option_map plain_seat x))
 stepped_like w n c i None = refl
 stepped_like w n c i (Some None) = refl
 stepped_like w n c i (Some (Some b)) =
-    let d : Busy = record { start = b.start; message = b.message; address = b.address; place = b.place; actor = plain_actor b.actor } in
+    let d : PendingRequest = record { start = b.start; message = b.message; address = b.address; place = b.place; actor = plain_actor b.actor } in
     ap (λ t. Some t) (settled_like w n i c (resumed w b) (resumed (plain_world w) d) (advanced w.cabinet b.actor c.work c.bytes) (advanced (plain w.cabinet) (plain_actor b.actor) c.work (any_bytes c.bytes)) (advanced_like w.cabinet b.actor c.work c.bytes) (resumed_like w b d refl))
 
-done_like : (w : World) (n : ℕ) (c : Chance) (d : Option Deed) → worlds (line_done w n c d) ≡ worlds (line_done (plain_world w) n (without_bytes c) d)
+done_like : (w : World) (n : ℕ) (c : Chance) (d : Option Action) → worlds (line_done w n c d) ≡ worlds (line_done (plain_world w) n (without_bytes c) d)
 done_like w n c None = refl
-done_like w n c (Some Idle) = ap (λ t. Some t) (same_seats w w.cabinet (plain w.cabinet) refl)
-done_like w n c (Some (Sends kind i m)) = rw (slice_get-map plain_seat w.seats i) (free_like (slice_get w.seats i) (sent w n c kind i m) (sent (plain_world w) n (without_bytes c) kind i m) (sent_like w n c kind i m))
+done_like w n c (Some Nothing) = ap (λ t. Some t) (same_seats w w.cabinet (plain w.cabinet) refl)
+done_like w n c (Some (Sends mode i m)) = rw (slice_get-map plain_seat w.seats i) (free_like (slice_get w.seats i) (sent w n c mode i m) (sent (plain_world w) n (without_bytes c) mode i m) (sent_like w n c mode i m))
 done_like w n c (Some (Steps i)) = rw (slice_get-map plain_seat w.seats i) (stepped_like w n c i (slice_get w.seats i))
 
 -- RUNS
@@ -308,7 +309,7 @@ goes_like w v n on off (Some d) (Some f) e same h = let k : plain_world d.0 ≡ 
 pub run_like : (lines : List (List ℕ)) (w v : World) (n : ℕ) (cs ds : List Chance) → plain_world w ≡ plain_world v → map without_bytes cs ≡ map without_bytes ds → told_of (run w n lines cs) ≡ told_of (run v n lines ds)
 run_like [] w v n cs ds e k = ap (λ (t : World). let p : World × Option ℕ = (t, None) in p) e
 run_like (line ∷ lines) w v n cs ds e k =
-    let d = deed_in line in
+    let d = action_in line in
     let first : without_bytes (first_of cs) ≡ without_bytes (first_of ds) = first_like cs ∙ ap first_of k ∙ sym (first_like ds) in
     let rest : map without_bytes (rest_of cs) ≡ map without_bytes (rest_of ds) = rest_like cs ∙ ap rest_of k ∙ sym (rest_like ds) in
     let same : worlds (line_done w n (first_of cs) d) ≡ worlds (line_done v n (first_of ds) d) = done_like w n (first_of cs) d ∙ (rw (e, first) refl) ∙ sym (done_like v n (first_of ds) d) in

@@ -6,13 +6,14 @@ use Rattle.std.proofs.lemmas.List.Sums.{sum_by-append}
 use Rattle.cabinet.specs.State.{State, IsSound}
 use Rattle.causes.specs.Causes.{RoseBy}
 use Rattle.http_wire.specs.declared.message.Message.{Message}
-use Rattle.tile_service.specs.declared.outcome.Outcome.{Outcome}
-use Rattle.tile_service.specs.declared.request.Kind.TheVariants.{Gets}
+use Rattle.tile_requests.specs.declared.outcome.Outcome.{Outcome}
+use Rattle.tile_requests.specs.declared.request.Mode.TheVariants.{Gets}
 use Rattle.tile_service.specs.OneLine.{IsWorld}
-use Rattle.tile_service.specs.Outside.{Counts}
-use Rattle.tile_service.specs.Requests.{Chance, told_at}
+use Rattle.tile_service.specs.Outside.{FaultCounts}
+use Rattle.tile_requests.specs.Requests.{Chance, told_at}
 use Rattle.tile_service.specs.Run.{World, Answer, sent, failures, IsTrue}
-use Rattle.tile_service.specs.Session.{lone, and_then, session, answer_to, IsServed, Serves}
+use Rattle.tile_service.specs.Serving.{answer_to, Serves}
+use Rattle.tile_service.specs.Session.{lone, and_then, session, IsServed}
 use Rattle.tile_service.proofs.Far.{IsPlaced, answers_later, all_fresh, all_append}
 
 -- n messages came to these answers
@@ -106,7 +107,7 @@ module _ (told told' : Option ℕ) (before mid after : ℕ) (document : List ℕ
       }
 
 -- that is what is promised
-pub is_served : (told : Option ℕ) (renders : Counts) (document : List ℕ) (s t : State) (messages : List Message) (answers : List Answer) (n : ℕ)
+pub is_served : (told : Option ℕ) (renders : FaultCounts) (document : List ℕ) (s t : State) (messages : List Message) (answers : List Answer) (n : ℕ)
     → HasServed told renders.before renders.after document s t messages answers n → IsServed told renders document s t messages answers
 is_served told renders document s t messages answers n f =
     record {

@@ -1,4 +1,4 @@
--- An answer at once: what it leaves of the cabinet, and what holds of it.
+-- An immediate answer: what it leaves of the cabinet, and what holds of it.
 use Rattle.std.proofs.Common.{◌≡◌, ℕ, ◌+◌, Bool, true, false, List, [], ◌∷◌, length, filter, Option, Some, None, refl, sym, arith, append-nil, if◌then◌else◌}
 use Rattle.std.specs.Prelude.{nat_lt}
 use Rattle.std.specs.List.{AllByRecursion}
@@ -14,14 +14,14 @@ use Rattle.catalog.specs.declared.catalogue.Catalogue.{Catalogue}
 use Rattle.catalog.specs.declared.catalogue.Scope.{Scope}
 use Rattle.http_wire.specs.declared.message.Message.{Message}
 use Rattle.metatile_plan.specs.declared.metatile.MetaKey.{MetaKey}
-use Rattle.tile_service.specs.declared.outcome.Outcome.{Outcome}
-use Rattle.tile_service.specs.declared.outcome.Outcome.TheVariants as outcome
-use Rattle.tile_service.specs.declared.request.Request.{Request}
-use Rattle.tile_service.specs.OneLine.{Keeps, world_of}
-use Rattle.tile_service.specs.Requests.{told_at, copied, told_usage, cut_by, cut, dropped, expired_in, expired, tile_of}
-use Rattle.tile_service.specs.Run.{Busy, Answer, is_failed, failures, unanswered, IsTrueFor, IsFreshFor}
-use Rattle.tile_service.specs.Texts.{dropped_text, usage_text}
-use Rattle.tile_service.proofs.Moving.{stay_covered, within_longer}
+use Rattle.tile_requests.specs.declared.outcome.Outcome.{Outcome}
+use Rattle.tile_requests.specs.declared.outcome.Outcome.TheVariants as outcome
+use Rattle.tile_requests.specs.declared.request.Request.{Request}
+use Rattle.tile_service.specs.OneLine.{Keeps}
+use Rattle.tile_requests.specs.Requests.{told_at, told_usage, cut_by, cut, dropped, expired_in, expired, tile_of}
+use Rattle.tile_service.specs.Run.{PendingRequest, Answer, is_failed, failures, unanswered, IsTrueFor, IsFreshFor, world_of}
+use Rattle.tile_requests.specs.Texts.{dropped_text, usage_text}
+use Rattle.tile_requests.proofs.Moving.{stay_covered, within_longer}
 use Rattle.tile_service.proofs.Seating.{seats_later}
 use Rattle.truncation_list.specs.declared.cover.Cover.{Cover}
 
@@ -45,9 +45,6 @@ same_stays s o e = (refl, ([], sym (append-nil s.history)), λ is. is, e)
 none_failed : (left : Bool) (o : Outcome) → is_failed o ≡ false → is_failed (told_at left o) ≡ false
 none_failed true o e = e
 none_failed false o e = refl
-
-pub copied_stays : (s : State) (document : List ℕ) (left : Bool) → Stays s (s, copied document left)
-copied_stays s document left = same_stays s (copied document left) (none_failed left (outcome.Document document) refl)
 
 pub usage_stays : (s : State) (left : Bool) → Stays s (s, told_usage s left)
 usage_stays s left = same_stays s (told_usage s left) (none_failed left (outcome.Usage (usage_text s)) refl)
@@ -91,11 +88,11 @@ told_fresh c h p (Some r) o e = rw e tt
 one_failed : (a : Answer) → is_failed a.outcome ≡ false → failures (a ∷ []) ≡ 0
 one_failed a e = rw e refl
 
--- an answer at once in line n, by the actor i
+-- an immediate answer in line n, by the actor i
 abbrev pub told_answer : State → ℕ → ℕ → Message → Option Request → Outcome → Bool → Answer
 told_answer s n i m r o left = record { line = n; actor = i; start = n; message = m; request = r; place = length s.history; outcome = told_at left o }
 
-pub told_keeps : (told : Option ℕ) (count : ℕ) (s t : State) (document : List ℕ) (busy : List (Option Busy)) (n i : ℕ) (m : Message) (r : Option Request) (o : Outcome) (left : Bool) → Stays s (t, o) → AsksNoTile r
+pub told_keeps : (told : Option ℕ) (count : ℕ) (s t : State) (document : List ℕ) (busy : List (Option PendingRequest)) (n i : ℕ) (m : Message) (r : Option Request) (o : Outcome) (left : Bool) → Stays s (t, o) → AsksNoTile r
     → Keeps told count count (world_of s document busy) (world_of t document busy) (told_answer s n i m r o left ∷ [])
 told_keeps told count s t document busy n i m r o left k other =
     let a = told_answer s n i m r o left in
@@ -109,4 +106,5 @@ told_keeps told count s t document busy n i m r o left k other =
       fresh = λ all. ((within_longer s.history t.history (length s.history) k.1 (omega arith), told_fresh s.catalogue t.history (length s.history) r a.outcome other), tt);
       grows = k.1;
       catalogue = k.0;
+      capabilities = refl;
     }

@@ -1,6 +1,6 @@
 -- Chances that differ only in which bytes renderings gave.
 use Rattle.std.specs.Prelude.{ℕ, Option, Some, None}
-use Rattle.tile_service.specs.Requests.{Chance}
+use Rattle.tile_requests.specs.Requests.{Chance}
 
 -- that a rendering gave bytes, without which
 abbrev pub any_bytes : Option (ℕ → ℕ) → Option (ℕ → ℕ)

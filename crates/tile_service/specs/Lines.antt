@@ -1,4 +1,4 @@
--- The lines of a schedule, and what each of them does.
+-- The lines of a schedule, and the action that each of them says.
 use Rattle.std.specs.Prelude.{ℕ, ◌+◌, ◌==◌, ◌||◌, nat_lt, if◌then◌else◌, List, [], ◌∷◌, length, drop, slice_index, Bool, false, Option, Some, None, Result, Ok, Err, codes}
 use Rattle.http_wire.specs.declared.message.Message.{Message}
 use Rattle.http_wire.specs.declared.message.Method.TheVariants as method
@@ -8,11 +8,8 @@ use Rattle.schedule_text.specs.declared.line.TheConstants.{LINE_LIMIT}
 use Rattle.schedule_text.specs.declared.verb.Verb.{Verb}
 use Rattle.schedule_text.specs.declared.verb.Verb.TheVariants.{Get, Ask, Force, Step, Truncate, Expire}
 use Rattle.schedule_text.specs.Line.{line_of}
-use Rattle.tile_service.specs.declared.lines.Act.{Act}
-use Rattle.tile_service.specs.declared.lines.Act.TheVariants as act
-use Rattle.tile_service.specs.declared.request.Kind.{Kind}
-use Rattle.tile_service.specs.declared.request.Kind.TheVariants.{Gets, Asks, Forces}
-use Rattle.tile_service.specs.Routes.{message_of}
+use Rattle.tile_requests.specs.declared.request.Mode.{Mode}
+use Rattle.tile_requests.specs.declared.request.Mode.TheVariants.{Gets, Asks, Forces}
 
 -- THE LINES OF A TEXT
 
@@ -31,14 +28,14 @@ abbrev pub line_length : List ℕ → ℕ
 line_length [] = 0
 line_length (b ∷ bs) = if b == 10 then 0 else line_length bs + 1
 
--- WHAT A LINE DOES
+-- ACTIONS
 
--- nothing; or an actor sends a message, by which a tile is asked for in one of three ways; or an actor makes the next event
--- of what it is busy with
-pub data Deed : Type 0 where
-  Idle : Deed
-  Sends : Kind → ℕ → Message → Deed
-  Steps : ℕ → Deed
+-- What a line says: nothing; or that an actor sends a message, where the mode is that in which a tile is asked for; or that an
+-- actor makes the next event of its pending request.
+pub data Action : Type 0 where
+  Nothing : Action
+  Sends : Mode → ℕ → Message → Action
+  Steps : ℕ → Action
 
 -- the message of method GET for a target
 abbrev pub get : List ℕ → Message
@@ -56,29 +53,23 @@ truncation cover = post (codes "/truncate") cover
 abbrev pub expiry : Message
 expiry = post (codes "/expire") []
 
--- an act of the code as a deed
-abbrev pub deed_of : Act → Deed
-deed_of act.Nothing = Idle
-deed_of (act.Sends kind actor call) = Sends kind actor (message_of call)
-deed_of (act.Steps actor) = Steps actor
+-- the action of an actor by a verb, with the rest of its line
+abbrev pub action_with : ℕ → Verb → List ℕ → Action
+action_with actor Get rest = Sends Gets actor (get rest)
+action_with actor Ask rest = Sends Asks actor (get rest)
+action_with actor Force rest = Sends Forces actor (get rest)
+action_with actor Step rest = Steps actor
+action_with actor Truncate rest = Sends Gets actor (truncation rest)
+action_with actor Expire rest = Sends Gets actor expiry
 
--- what an actor does by a verb, with the rest of its line
-abbrev pub deed_with : ℕ → Verb → List ℕ → Deed
-deed_with actor Get rest = Sends Gets actor (get rest)
-deed_with actor Ask rest = Sends Asks actor (get rest)
-deed_with actor Force rest = Sends Forces actor (get rest)
-deed_with actor Step rest = Steps actor
-deed_with actor Truncate rest = Sends Gets actor (truncation rest)
-deed_with actor Expire rest = Sends Gets actor expiry
-
-abbrev pub deed_for : List ℕ → Result Line LineFault → Option Deed
-deed_for line (Err fault) = None
-deed_for line (Ok l) = Some (deed_with l.actor l.verb (drop l.rest.start line))
+abbrev pub action_for : List ℕ → Result Line LineFault → Option Action
+action_for line (Err fault) = None
+action_for line (Ok l) = Some (action_with l.actor l.verb (drop l.rest.start line))
 
 -- empty, or a comment, which begins with # (35 in ASCII)
-abbrev pub is_idle : List ℕ → Bool
-is_idle line = length line == 0 || slice_index line 0 == 35
+abbrev pub says_nothing : List ℕ → Bool
+says_nothing line = length line == 0 || slice_index line 0 == 35
 
--- what a line does; none where it is no line of a schedule
-unfoldable pub deed_in : List ℕ → Option Deed
-deed_in line = if nat_lt LINE_LIMIT (length line) then None else if is_idle line then Some Idle else deed_for line (line_of line)
+-- the action that a line says; none where it is no line of a schedule
+unfoldable pub action_in : List ℕ → Option Action
+action_in line = if nat_lt LINE_LIMIT (length line) then None else if says_nothing line then Some Nothing else action_for line (line_of line)

@@ -2,7 +2,7 @@
 use Rattle.std.specs.Prelude.{ℕ, List, Option}
 
 -- a count of faults before a call and after it
-pub record Counts : Type 0 where
+pub record FaultCounts : Type 0 where
   pub before : ℕ
   pub after : ℕ
 
@@ -10,13 +10,13 @@ pub record Counts : Type 0 where
 -- and what the output has taken, where it is modelled
 pub record Outside : Type 0 where
   pub told : Option ℕ
-  pub renders : Counts
-  pub writes : Counts
+  pub renders : FaultCounts
+  pub writes : FaultCounts
   pub from : Option (List ℕ)
   pub to : Option (List ℕ)
 
 -- what a call saw of its input: its faults, and the bytes that are left, where they are modelled
-pub record Input : Type 0 where
-  pub reads : Counts
+pub record InputChange : Type 0 where
+  pub reads : FaultCounts
   pub from : Option (List ℕ)
   pub to : Option (List ℕ)

@@ -11,23 +11,22 @@ use Rattle.cache_core.specs.Steps.{Stepped, advanced, given_up}
 use Rattle.catalog.specs.declared.catalogue.Catalogue.{Catalogue}
 use Rattle.http_wire.specs.declared.message.Message.{Message}
 use Rattle.matrix_geometry.specs.declared.address.Address.{Address}
-use Rattle.tile_service.specs.declared.outcome.Outcome.{Outcome}
-use Rattle.tile_service.specs.declared.outcome.Outcome.TheVariants.{Tile, Document, Refused, NotFound, WrongMethod, SourceFailed, Spent, Usage, Cut, CutsFull, CutSpent, Unformed, Dropped, Within, NoMemory}
-use Rattle.tile_service.specs.declared.request.Kind.{Kind}
-use Rattle.tile_service.specs.declared.request.Request.{Request}
-use Rattle.tile_service.specs.declared.request.Request.TheVariants as request
+use Rattle.tile_requests.specs.declared.outcome.Outcome.{Outcome}
+use Rattle.tile_requests.specs.declared.outcome.Outcome.TheVariants.{Tile, Document, Refused, NotFound, WrongMethod, SourceFailed, Spent, Usage, Cut, CutsFull, CutSpent, Unformed, Dropped, Within, NoMemory}
+use Rattle.tile_requests.specs.declared.request.Mode.{Mode}
+use Rattle.tile_requests.specs.declared.request.Request.{Request}
+use Rattle.tile_requests.specs.declared.request.Request.TheVariants as request
 use Rattle.tile_service.specs.declared.seats.TheConstants.{ACTORS}
-use Rattle.tile_service.specs.Events.{owed}
-use Rattle.tile_service.specs.Lines.{Deed, Idle, Sends, Steps, deed_in}
-use Rattle.tile_service.specs.Requests.{Chance, calm, events, outcome_of, told_at, copied, told_usage, cut, expired, IsTrueAnswer, IsFreshAnswer}
-use Rattle.tile_service.specs.Response.{answered}
-use Rattle.tile_service.specs.Routes.{path_of, route_of, request_at}
+use Rattle.tile_service.specs.Lines.{Action, Nothing, Sends, Steps, action_in}
+use Rattle.tile_requests.specs.Requests.{owed, Chance, calm, events, outcome_of, told_at, told_usage, cut, expired, IsTrueAnswer, IsFreshAnswer}
+use Rattle.tile_requests.specs.Response.{answered}
+use Rattle.tile_requests.specs.Routes.{request_for}
 
 -- WORLDS
 
 -- what an actor is busy with: the line of its start and the message there, the tile, how many entries the history had at
 -- the last ask or force, and how far it has come
-pub record Busy : Type 0 where
+pub record PendingRequest : Type 0 where
   pub start : ℕ
   pub message : Message
   pub address : Address
@@ -39,14 +38,18 @@ pub record Busy : Type 0 where
 pub record World : Type 0 where
   pub cabinet : State
   pub capabilities : List ℕ
-  pub seats : List (Option Busy)
+  pub seats : List (Option PendingRequest)
+
+-- the world of these
+abbrev pub world_of : State → List ℕ → List (Option PendingRequest) → World
+world_of s document busy = record { cabinet = s; capabilities = document; seats = busy }
 
 -- no actor is busy
-abbrev pub free_seats : List (Option Busy)
+abbrev pub free_seats : List (Option PendingRequest)
 free_seats = replicate ACTORS None
 
 -- an actor that is busy gives up
-abbrev pub left_by : State → Option Busy → State
+abbrev pub left_by : State → Option PendingRequest → State
 left_by s None = s
 left_by s (Some b) = given_up s b.actor
 
@@ -57,7 +60,7 @@ closed w = record { cabinet = fold left_by w.cabinet w.seats; capabilities = w.c
 -- ANSWERS
 
 -- an answer: the answered line, its actor, the line of its start and the message there, what was asked for, where it was
--- read, how many entries the history had at its last ask or force, or before an answer at once, and the outcome
+-- read, how many entries the history had at its last ask or force, or before an immediate answer, and the outcome
 pub record Answer : Type 0 where
   pub line : ℕ
   pub actor : ℕ
@@ -67,7 +70,7 @@ pub record Answer : Type 0 where
   pub place : ℕ
   pub outcome : Outcome
 
--- an answer at once, by the cabinet that it leaves and its outcome
+-- an immediate answer, by the cabinet that it leaves and its outcome
 abbrev pub told_in : World → ℕ → Chance → ℕ → Message → Option Request → State × Outcome → World × List Answer
 told_in w n c i m r done =
     let answer : Answer = record { line = n; actor = i; start = n; message = m; request = r; place = length w.cabinet.history; outcome = told_at c.left done.1 } in
@@ -76,66 +79,62 @@ told_in w n c i m r done =
 -- EVENTS
 
 -- the actor stays busy unless its request has an outcome
-abbrev pub seat_after : Busy → Actor → Option cached.Outcome → Option Busy
+abbrev pub seat_after : PendingRequest → Actor → Option cached.Outcome → Option PendingRequest
 seat_after b actor None = Some (record { start = b.start; message = b.message; address = b.address; place = b.place; actor = actor })
 seat_after b actor (Some o) = None
 
 -- the outcome is answered, by the actor i in line n
-abbrev pub answers_after : ℕ → ℕ → Bool → Busy → Option cached.Outcome → List Answer
+abbrev pub answers_after : ℕ → ℕ → Bool → PendingRequest → Option cached.Outcome → List Answer
 answers_after n i left b None = []
 answers_after n i left b (Some o) = record { line = n; actor = i; start = b.start; message = b.message; request = Some (request.Tile b.address); place = b.place; outcome = told_at left (outcome_of o) } ∷ []
 
 -- what events of what the actor i is busy with come to
-abbrev pub settled : World → ℕ → Chance → ℕ → Busy → Stepped → World × List Answer
+abbrev pub settled : World → ℕ → Chance → ℕ → PendingRequest → Stepped → World × List Answer
 settled w n c i b r = (record { cabinet = r.cabinet; capabilities = w.capabilities; seats = slice_set w.seats i (seat_after b r.actor r.outcome) }, answers_after n i c.left b r.outcome)
 
 -- what an actor that starts in line n is busy with
-abbrev pub started : World → ℕ → Message → Address → Busy
+abbrev pub started : World → ℕ → Message → Address → PendingRequest
 started w n m a = record { start = n; message = m; address = a; place = length w.cabinet.history; actor = actor.Idle }
 
 -- what it is busy with at its next event: an actor that waits asks or forces anew
-abbrev pub resumed : World → Busy → Busy
+abbrev pub resumed : World → PendingRequest → PendingRequest
 resumed w b = record { start = b.start; message = b.message; address = b.address; place = place_of b.actor (length w.cabinet.history) b.place; actor = b.actor }
 
 -- LINES
 
--- a tile is asked for; anything else is answered at once
-abbrev pub asked : World → ℕ → Chance → Kind → ℕ → Message → Request → World × List Answer
-asked w n c kind i m (request.Tile a) = settled w n c i (started w n m a) (events kind w.cabinet a c)
-asked w n c kind i m request.Capabilities = told_in w n c i m (Some request.Capabilities) (w.cabinet, copied w.capabilities c.work)
-asked w n c kind i m (request.Refused code locator) = told_in w n c i m (Some (request.Refused code locator)) (w.cabinet, Refused code locator)
-asked w n c kind i m request.NotFound = told_in w n c i m (Some request.NotFound) (w.cabinet, NotFound)
-asked w n c kind i m request.WrongMethod = told_in w n c i m (Some request.WrongMethod) (w.cabinet, WrongMethod)
-asked w n c kind i m request.Usage = told_in w n c i m (Some request.Usage) (w.cabinet, told_usage w.cabinet c.work)
-asked w n c kind i m (request.Truncation cover) = told_in w n c i m (Some (request.Truncation cover)) (cut w.cabinet cover c.ask)
-asked w n c kind i m (request.Unformed fault) = told_in w n c i m (Some (request.Unformed fault)) (w.cabinet, Unformed fault)
-asked w n c kind i m request.Expiry = told_in w n c i m (Some request.Expiry) (expired w.cabinet c.work)
-
--- what a message asks for, by the table of paths
-abbrev pub request_in : World → Message → Request
-request_in w m = request_at w.cabinet.catalogue m (route_of m.method (path_of m.target))
+-- a tile is asked for; anything else is answered immediately
+abbrev pub asked : World → ℕ → Chance → Mode → ℕ → Message → Request → World × List Answer
+asked w n c mode i m (request.Tile a) = settled w n c i (started w n m a) (events mode w.cabinet a c)
+asked w n c mode i m request.Capabilities = told_in w n c i m (Some request.Capabilities) (w.cabinet, Document)
+asked w n c mode i m (request.Refused code locator) = told_in w n c i m (Some (request.Refused code locator)) (w.cabinet, Refused code locator)
+asked w n c mode i m request.NotFound = told_in w n c i m (Some request.NotFound) (w.cabinet, NotFound)
+asked w n c mode i m request.WrongMethod = told_in w n c i m (Some request.WrongMethod) (w.cabinet, WrongMethod)
+asked w n c mode i m request.Usage = told_in w n c i m (Some request.Usage) (w.cabinet, told_usage w.cabinet c.work)
+asked w n c mode i m (request.Truncation cover) = told_in w n c i m (Some (request.Truncation cover)) (cut w.cabinet cover c.ask)
+asked w n c mode i m (request.Unformed fault) = told_in w n c i m (Some (request.Unformed fault)) (w.cabinet, Unformed fault)
+asked w n c mode i m request.Expiry = told_in w n c i m (Some request.Expiry) (expired w.cabinet c.work)
 
 -- a message is answered; memory may run out before it is read
-abbrev pub sent : World → ℕ → Chance → Kind → ℕ → Message → World × List Answer
-sent w n c kind i m = if c.read then asked w n c kind i m (request_in w m) else told_in w n c i m None (w.cabinet, NoMemory)
+abbrev pub sent : World → ℕ → Chance → Mode → ℕ → Message → World × List Answer
+sent w n c mode i m = if c.read then asked w n c mode i m (request_for w.cabinet.catalogue m) else told_in w n c i m None (w.cabinet, NoMemory)
 
 -- there is the actor, and it is not busy
-abbrev pub if_free : Option (Option Busy) → World × List Answer → Option (World × List Answer)
+abbrev pub if_free : Option (Option PendingRequest) → World × List Answer → Option (World × List Answer)
 if_free None d = None
 if_free (Some None) d = Some d
 if_free (Some (Some b)) d = None
 
 -- there is the actor, and it is busy
-abbrev pub stepped : World → ℕ → Chance → ℕ → Option (Option Busy) → Option (World × List Answer)
+abbrev pub stepped : World → ℕ → Chance → ℕ → Option (Option PendingRequest) → Option (World × List Answer)
 stepped w n c i None = None
 stepped w n c i (Some None) = None
 stepped w n c i (Some (Some b)) = Some (settled w n c i (resumed w b) (advanced w.cabinet b.actor c.work c.bytes))
 
 -- what one line does: the world after it and its answers, unless it is refused
-abbrev pub line_done : World → ℕ → Chance → Option Deed → Option (World × List Answer)
+abbrev pub line_done : World → ℕ → Chance → Option Action → Option (World × List Answer)
 line_done w n c None = None
-line_done w n c (Some Idle) = Some (w, [])
-line_done w n c (Some (Sends kind i m)) = if_free (slice_get w.seats i) (sent w n c kind i m)
+line_done w n c (Some Nothing) = Some (w, [])
+line_done w n c (Some (Sends mode i m)) = if_free (slice_get w.seats i) (sent w n c mode i m)
 line_done w n c (Some (Steps i)) = stepped w n c i (slice_get w.seats i)
 
 -- what a run has come to: its answers, the world, and the number of the line that was refused
@@ -162,20 +161,21 @@ rest_of (c ∷ cs) = cs
 -- the run of these lines, of which the first has the number n, with a chance for each
 abbrev pub run : World → ℕ → List (List ℕ) → List Chance → Run
 run w n [] cs = record { answers = []; world = w; refused = None }
-run w n (line ∷ lines) cs = goes_on w n (line_done w n (first_of cs) (deed_in line)) (λ t. run t (n + 1) lines (rest_of cs))
+run w n (line ∷ lines) cs = goes_on w n (line_done w n (first_of cs) (action_in line)) (λ t. run t (n + 1) lines (rest_of cs))
 
 -- WHAT IS SAID OF A RUN
 
-abbrev pub answer_text : Answer → List ℕ
-answer_text a = answered a.line a.actor a.start a.message a.outcome
+-- the bytes of an answer, where this is the capabilities document
+abbrev pub answer_text : List ℕ → Answer → List ℕ
+answer_text document a = answered document a.line a.actor a.start a.message a.outcome
 
 -- what a run writes
-abbrev pub output_of : Run → List ℕ
-output_of r = flat_map answer_text r.answers
+abbrev pub output_of : List ℕ → Run → List ℕ
+output_of document r = flat_map (answer_text document) r.answers
 
 abbrev pub is_failed : Outcome → Bool
 is_failed (Tile hit number text) = false
-is_failed (Document text) = false
+is_failed Document = false
 is_failed (Refused code locator) = false
 is_failed NotFound = false
 is_failed WrongMethod = false
@@ -195,11 +195,11 @@ abbrev pub failures : List Answer → ℕ
 failures answers = count_by (λ a. is_failed a.outcome) answers
 
 -- how many failures of the source are yet to be answered
-abbrev pub owed_at : Option Busy → ℕ
+abbrev pub owed_at : Option PendingRequest → ℕ
 owed_at None = 0
 owed_at (Some b) = owed b.actor
 
-abbrev pub unanswered : List (Option Busy) → ℕ
+abbrev pub unanswered : List (Option PendingRequest) → ℕ
 unanswered seats = sum_by owed_at seats
 
 -- a tile that is answered is the picture of its number

@@ -10,10 +10,10 @@ use Rattle.tile_service.specs.declared.schedule.ScheduleEnd.{ScheduleEnd}
 use Rattle.tile_service.specs.declared.schedule.ScheduleEnd.TheVariants.{Done, Line, ReadFault, WriteFault, TooLong, OutOfMemory}
 use Rattle.tile_service.specs.declared.schedule.TheConstants.{SCHEDULE_LIMIT}
 use Rattle.tile_service.specs.Lines.{lines_of}
-use Rattle.tile_service.specs.Outside.{Counts, Outside, Input}
-use Rattle.tile_service.specs.Requests.{Chance}
+use Rattle.tile_service.specs.Outside.{FaultCounts, Outside, InputChange}
+use Rattle.tile_requests.specs.Requests.{Chance}
 use Rattle.tile_service.specs.Run.{World, Answer, Run, run, answer_text, output_of, failures, unanswered, closed, IsTrue, IsFresh}
-use Rattle.tile_service.specs.Sent.{AppendsPart}
+use Rattle.tile_requests.specs.Sent.{AppendsPart}
 
 -- THE LINES OF A TEXT WERE RUN
 
@@ -24,8 +24,8 @@ GoesThrough all (run_end.Line n) lines = lines ≡ all
 GoesThrough all run_end.WriteFault lines = (rest : List (List ℕ)) × (all ≡ lines ++ rest)
 
 -- a run came to t, with this line refused or none, and all that it writes went out
-abbrev pub IsWhole : Outside → Run → World → Option ℕ → Type 0
-IsWhole o r t refused = (r.refused ≡ refused) × (t ≡ r.world) × Appends o.from o.to (output_of r)
+abbrev pub IsWhole : Outside → List ℕ → Run → World → Option ℕ → Type 0
+IsWhole o document r t refused = (r.refused ≡ refused) × (t ≡ r.world) × Appends o.from o.to (output_of document r)
 
 -- The last of these lines has an answer of which only a front went out, and not all of it; all that the lines before it write
 -- went out.
@@ -35,18 +35,18 @@ pub record IsCutInLast (o : Outside) (w : World) (lines : List (List ℕ)) (chan
   pub whole : lines ≡ before ++ line ∷ []
   pub answer : Answer
   pub answers : (run w 1 lines chances).answers ≡ (run w 1 before chances).answers ++ answer ∷ []
-  pub sent : AppendsPart o.from o.to (output_of (run w 1 before chances)) (answer_text answer)
+  pub sent : AppendsPart o.from o.to (output_of w.capabilities (run w 1 before chances)) (answer_text w.capabilities answer)
 
 -- how the run of these lines ends, and what went out of what they write; after a write that failed nothing is done
 abbrev pub Ends : Outside → World → List (List ℕ) → List Chance → World → RunEnd → Type 0
-Ends o w lines chances t run_end.Done = IsWhole o (run w 1 lines chances) t None
-Ends o w lines chances t (run_end.Line n) = IsWhole o (run w 1 lines chances) t (Some n)
+Ends o w lines chances t run_end.Done = IsWhole o w.capabilities (run w 1 lines chances) t None
+Ends o w lines chances t (run_end.Line n) = IsWhole o w.capabilities (run w 1 lines chances) t (Some n)
 Ends o w lines chances t run_end.WriteFault = (t ≡ (run w 1 lines chances).world) × Rose o.writes.before o.writes.after × IsCutInLast o w lines chances
 
 -- What is promised of the answers of a run from w. No more of them say that the source failed, and no more failures are yet
 -- to be answered, than its count rose by. Where the source is modelled as the catalogue's, each tile is the picture of its
 -- number; and each tile is fresh at its last ask or force.
-pub record IsUpheld (told : Option ℕ) (renders : Counts) (w : World) (r : Run) : Type 0 where
+pub record IsUpheld (told : Option ℕ) (renders : FaultCounts) (w : World) (r : Run) : Type 0 where
   pub failed : RoseBy (failures r.answers + unanswered r.world.seats) renders.before renders.after
   pub truth : told ≡ Some w.cabinet.catalogue.source → IsSound w.cabinet → AllByRecursion (IsTrue w.cabinet.catalogue) r.answers
   pub fresh : AllByRecursion (IsFresh w.cabinet.catalogue r.world.cabinet.history) r.answers
@@ -62,7 +62,7 @@ pub record HasRun (o : Outside) (w : World) (text : List ℕ) (t : World) (end :
 -- A SCHEDULE WAS READ AND RUN
 
 -- the input was read to its end, the lines of its text were run, and then the actors that were busy gave up
-pub record HasRunAll (i : Input) (o : Outside) (w t : World) (end : RunEnd) : Type 0 where
+pub record HasRunAll (i : InputChange) (o : Outside) (w t : World) (end : RunEnd) : Type 0 where
   pub text : List ℕ
   pub read : Consumes i.from i.to text
   pub at_end : IsAtEnd i.to
@@ -72,7 +72,7 @@ pub record HasRunAll (i : Input) (o : Outside) (w t : World) (end : RunEnd) : Ty
   pub closes : t ≡ closed last
 
 -- one byte more than a schedule may have was taken
-abbrev pub IsTooLong : Input → Type 0
+abbrev pub IsTooLong : InputChange → Type 0
 IsTooLong i = (text : List ℕ) × Consumes i.from i.to text × (length text ≡ SCHEDULE_LIMIT + 1)
 
 -- the end of a schedule that was read, by that of its lines
@@ -82,7 +82,7 @@ end_of (run_end.Line n) = Line n
 end_of run_end.WriteFault = WriteFault
 
 -- what each end says; before the lines are run, all but the input is as it was
-abbrev pub Schedules : Input → Outside → Type 0 → World → World → ScheduleEnd → Type 0
+abbrev pub Schedules : InputChange → Outside → Type 0 → World → World → ScheduleEnd → Type 0
 Schedules i o Untouched w t Done = HasRunAll i o w t run_end.Done
 Schedules i o Untouched w t (Line n) = HasRunAll i o w t (run_end.Line n)
 Schedules i o Untouched w t WriteFault = HasRunAll i o w t run_end.WriteFault

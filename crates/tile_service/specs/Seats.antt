@@ -1,42 +1,43 @@
 -- The seats of the actors in the code.
+-- A tie between the code and its definitions: the promise can be read without it.
 use Rattle.std.specs.Prelude.{ℕ, Bool, true, false, List, fold, Option, Some, None}
 use Rattle.cabinet.specs.State.{State}
 use Rattle.cache_core.specs.declared.actor.Actor.{Actor}
 use Rattle.cache_core.specs.declared.outcome.Outcome as core
 use Rattle.cache_core.specs.Steps.{given_up}
 use Rattle.matrix_geometry.specs.declared.address.Address.{Address}
-use Rattle.tile_service.specs.declared.came.Came.{Came}
-use Rattle.tile_service.specs.declared.came.Came.TheVariants.{Silent, Answers}
-use Rattle.tile_service.specs.declared.seats.Desk.{Desk}
+use Rattle.tile_service.specs.declared.action_end.ActionEnd.{ActionEnd}
+use Rattle.tile_service.specs.declared.action_end.ActionEnd.TheVariants.{Silent, Answers}
+use Rattle.tile_service.specs.declared.seats.Pending.{Pending}
 use Rattle.tile_service.specs.declared.seats.Seat.{Seat}
 use Rattle.tile_service.specs.declared.seats.Seat.TheVariants.{Free, Busy}
-use Rattle.tile_service.specs.Requests.{outcome_of}
+use Rattle.tile_requests.specs.Requests.{outcome_of}
 
 -- there is the seat, and no actor sits there
 abbrev pub is_free : Option Seat → Bool
 is_free None = false
 is_free (Some Free) = true
-is_free (Some (Busy desk)) = false
+is_free (Some (Busy pending)) = false
 
--- the desk at a seat, where there is one
-abbrev pub desk_at : Option Seat → Option Desk
-desk_at None = None
-desk_at (Some Free) = None
-desk_at (Some (Busy desk)) = Some desk
+-- the pending request at a seat, where there is one
+abbrev pub pending_at : Option Seat → Option Pending
+pending_at None = None
+pending_at (Some Free) = None
+pending_at (Some (Busy pending)) = Some pending
 
--- the seat after events of a request, and what they answer
+-- the seat after events of a request, and how the action ends
 abbrev pub next_seat : ℕ → Address → Actor → Option core.Outcome → Seat
 next_seat start a actor None = Busy (record { start = start; address = a; actor = actor })
 next_seat start a actor (Some o) = Free
 
-abbrev pub came_of : ℕ → ℕ → Option core.Outcome → Came
-came_of i start None = Silent
-came_of i start (Some o) = Answers (record { actor = i; start = start; outcome = outcome_of o })
+abbrev pub action_end_of : ℕ → ℕ → Option core.Outcome → ActionEnd
+action_end_of i start None = Silent
+action_end_of i start (Some o) = Answers (record { actor = i; start = start; outcome = outcome_of o })
 
 -- the actor of a seat gives up
 abbrev pub left_at : State → Seat → State
 left_at s Free = s
-left_at s (Busy desk) = given_up s desk.actor
+left_at s (Busy pending) = given_up s pending.actor
 
 -- the actors of all seats give up, in order
 abbrev pub all_left : State → List Seat → State

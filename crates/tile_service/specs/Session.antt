@@ -1,17 +1,14 @@
 -- The run of a session: the messages of one connection, in order, each answered before the next is looked at. No render runs
--- between them, so that a tile is asked for, rendered and finished at once.
-use Rattle.std.specs.Prelude.{ℕ, ◌≡◌, ◌+◌, Bool, true, List, [], ◌∷◌, ◌++◌, length, map, flat_map, Option, Some, None}
+-- between them, so that a tile is asked for, rendered and finished before the next.
+use Rattle.std.specs.Prelude.{ℕ, ◌≡◌, ◌+◌, true, List, [], ◌∷◌, ◌++◌, map, flat_map, Option, Some, None}
 use Rattle.std.specs.List.{AllByRecursion}
 use Rattle.cabinet.specs.State.{State, IsSound, now}
 use Rattle.causes.specs.Causes.{RoseBy}
 use Rattle.http_wire.specs.declared.message.Message.{Message}
-use Rattle.tile_service.specs.declared.outcome.Outcome.{Outcome}
-use Rattle.tile_service.specs.declared.request.Kind.TheVariants.{Gets}
-use Rattle.tile_service.specs.declared.request.Request.{Request}
-use Rattle.tile_service.specs.OneLine.{Keeps}
-use Rattle.tile_service.specs.Outside.{Counts}
-use Rattle.tile_service.specs.Requests.{Chance, told_at}
-use Rattle.tile_service.specs.Response.{bare, response}
+use Rattle.tile_requests.specs.declared.request.Mode.TheVariants.{Gets}
+use Rattle.tile_service.specs.Outside.{FaultCounts}
+use Rattle.tile_requests.specs.Requests.{Chance}
+use Rattle.tile_requests.specs.Response.{bare, response, response_text}
 use Rattle.tile_service.specs.Run.{World, Answer, sent, first_of, rest_of, failures, IsTrue, IsFresh}
 
 -- no render runs
@@ -31,40 +28,26 @@ session w i [] cs = (w, [])
 session w i (m ∷ ms) cs = and_then (sent w i (first_of cs) Gets 0 m) (λ t. session t (i + 1) ms (rest_of cs))
 
 -- an answer's response: the answered line is the place of its message in the session
-abbrev pub reply_text : Answer → List ℕ
-reply_text a = response a.message a.line a.outcome
+abbrev pub reply_text : List ℕ → Answer → List ℕ
+reply_text document a = response document a.message a.line a.outcome
 
 -- what a session writes
-abbrev pub replies : List Answer → List ℕ
-replies answers = flat_map reply_text answers
+abbrev pub replies : List ℕ → List Answer → List ℕ
+replies document answers = flat_map (reply_text document) answers
 
 -- the answer to bytes that are no message: the status alone, and the connection is closed
 abbrev pub bad_text : ℕ → List ℕ
-bad_text status = bare true status
+bad_text status = response_text true (bare status)
 
 -- WHAT IS PROMISED OF IT
 
 -- From s these messages of a session came to t with these answers, under some chances: each message has one. No more answers
 -- say that the source failed than its count rose by. Where the source is modelled as the catalogue's, each tile is the
 -- picture of its number; and each tile is fresh at its ask.
-pub record IsServed (told : Option ℕ) (renders : Counts) (document : List ℕ) (s t : State) (messages : List Message) (answers : List Answer) : Type 0 where
+pub record IsServed (told : Option ℕ) (renders : FaultCounts) (document : List ℕ) (s t : State) (messages : List Message) (answers : List Answer) : Type 0 where
   pub chances : List Chance
   pub made : session (lone s document) 1 messages chances ≡ (lone t document, answers)
   pub each : map (λ a. a.message) answers ≡ messages
   pub failed : RoseBy (failures answers) renders.before renders.after
   pub truth : told ≡ Some s.catalogue.source → IsSound s → AllByRecursion (IsTrue s.catalogue) answers
   pub fresh : AllByRecursion (IsFresh s.catalogue t.history) answers
-
--- ONE MESSAGE
-
--- the answer to the i-th message of a session
-abbrev pub answer_to : ℕ → Message → Option Request → ℕ → Outcome → Answer
-answer_to i m request place o = record { line = i; actor = 0; start = i; message = m; request = request; place = place; outcome = o }
-
--- From s a message came to t, and this is its outcome, unless no memory is left to answer it. No render runs after it.
-pub record Serves (told : Option ℕ) (before after : ℕ) (document : List ℕ) (s : State) (m : Message) (o : Outcome) (t : State) : Type 0 where
-  pub request : Option Request
-  pub chance : Bool → Chance
-  pub made : (i : ℕ) (left : Bool) → sent (lone s document) i (chance left) Gets 0 m ≡ (lone t document, answer_to i m request (length s.history) (told_at left o) ∷ [])
-  pub keeps : (i : ℕ) (left : Bool) → Keeps told before after (lone s document) (lone t document) (answer_to i m request (length s.history) (told_at left o) ∷ [])
-  pub rests : IsAtRest t

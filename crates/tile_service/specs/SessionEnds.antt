@@ -12,9 +12,9 @@ use Rattle.http_wire.specs.Messages.{HoldsMessage, StopsAs}
 use Rattle.http_wire.specs.Streams.{StandIn}
 use Rattle.tile_service.specs.declared.session.SessionEnd.{SessionEnd}
 use Rattle.tile_service.specs.declared.session.SessionEnd.TheVariants.{Closed, Truncated, Bad, ReadFault, WriteFault, TooMany, OutOfMemory}
-use Rattle.tile_service.specs.Outside.{Input, Outside}
+use Rattle.tile_service.specs.Outside.{InputChange, Outside}
 use Rattle.tile_service.specs.Run.{Answer}
-use Rattle.tile_service.specs.Sent.{AppendsPart}
+use Rattle.tile_requests.specs.Sent.{AppendsPart}
 use Rattle.tile_service.specs.Session.{IsServed, reply_text, replies, bad_text}
 
 -- THE MESSAGES OF A SESSION
@@ -48,28 +48,28 @@ IsClosed messages held rest = ((m : Message) × GoBefore messages held m × (m.l
 
 -- What went out whole, and the response of which only a part did: that to the last message after those to all before it, or that
 -- to bytes that are no message after those to all messages.
-abbrev pub IsCutOff : List Message → List Answer → List ℕ → Option (List ℕ) → List ℕ → List ℕ → Type 0
-IsCutOff messages answers held rest whole part =
-    ((m : Message) × GoBefore messages held m × (before : List Answer) × (answer : Answer) × (answers ≡ before ++ answer ∷ []) × (whole ≡ replies before) × (part ≡ reply_text answer))
-    ⊎ ((status : ℕ) × GoOn messages × StopsThere rest (stop.Bad status) × (whole ≡ replies answers) × (part ≡ bad_text status))
+abbrev pub IsCutOff : List ℕ → List Message → List Answer → List ℕ → Option (List ℕ) → List ℕ → List ℕ → Type 0
+IsCutOff document messages answers held rest whole part =
+    ((m : Message) × GoBefore messages held m × (before : List Answer) × (answer : Answer) × (answers ≡ before ++ answer ∷ []) × (whole ≡ replies document before) × (part ≡ reply_text document answer))
+    ⊎ ((status : ℕ) × GoOn messages × StopsThere rest (stop.Bad status) × (whole ≡ replies document answers) × (part ≡ bad_text status))
 
 -- How a session ended after these messages, which have these answers. After them stand the bytes that are held, then those
 -- that are left: this rest of the stream. A read that failed kept no message waiting that had come whole.
-abbrev pub Ends : Input → Outside → List Message → List Answer → List ℕ → Option (List ℕ) → SessionEnd → Type 0
-Ends i o messages answers held rest Closed = IsClosed messages held rest × Appends o.from o.to (replies answers)
-Ends i o messages answers held rest Truncated = GoOn messages × StopsThere rest stop.Truncated × Appends o.from o.to (replies answers)
-Ends i o messages answers held rest (Bad status) = GoOn messages × StopsThere rest (stop.Bad status) × Appends o.from o.to (replies answers ++ bad_text status)
-Ends i o messages answers held rest TooMany = (m : Message) × GoBefore messages held m × (m.last ≡ false) × (length messages ≡ 10000) × Appends o.from o.to (replies answers)
-Ends i o messages answers held rest ReadFault = GoOn messages × ¬ (HoldsMessage held) × Rose i.reads.before i.reads.after × Appends o.from o.to (replies answers)
-Ends i o messages answers held rest OutOfMemory = GoOn messages × Appends o.from o.to (replies answers)
-Ends i o messages answers held rest WriteFault = (whole : List ℕ) × (part : List ℕ) × IsCutOff messages answers held rest whole part × Rose o.writes.before o.writes.after × AppendsPart o.from o.to whole part
+abbrev pub Ends : InputChange → Outside → List ℕ → List Message → List Answer → List ℕ → Option (List ℕ) → SessionEnd → Type 0
+Ends i o document messages answers held rest Closed = IsClosed messages held rest × Appends o.from o.to (replies document answers)
+Ends i o document messages answers held rest Truncated = GoOn messages × StopsThere rest stop.Truncated × Appends o.from o.to (replies document answers)
+Ends i o document messages answers held rest (Bad status) = GoOn messages × StopsThere rest (stop.Bad status) × Appends o.from o.to (replies document answers ++ bad_text status)
+Ends i o document messages answers held rest TooMany = (m : Message) × GoBefore messages held m × (m.last ≡ false) × (length messages ≡ 10000) × Appends o.from o.to (replies document answers)
+Ends i o document messages answers held rest ReadFault = GoOn messages × ¬ (HoldsMessage held) × Rose i.reads.before i.reads.after × Appends o.from o.to (replies document answers)
+Ends i o document messages answers held rest OutOfMemory = GoOn messages × Appends o.from o.to (replies document answers)
+Ends i o document messages answers held rest WriteFault = (whole : List ℕ) × (part : List ℕ) × IsCutOff document messages answers held rest whole part × Rose o.writes.before o.writes.after × AppendsPart o.from o.to whole part
 
 -- A session was held over a link, by a cabinet that came from s to t. Its messages stand at the front of the bytes that were
 -- left, where modelled; after them stand bytes that were taken from the link too early, and those that are left now.
-pub record HasSession (i : Input) (o : Outside) (document : List ℕ) (s t : State) (end : SessionEnd) : Type 0 where
+pub record HasSession (i : InputChange) (o : Outside) (document : List ℕ) (s t : State) (end : SessionEnd) : Type 0 where
   pub messages : List Message
   pub answers : List Answer
   pub held : List ℕ
   pub stand : StandIn i.from messages (prepend_known held i.to)
   pub served : IsServed o.told o.renders document s t messages answers
-  pub ends : Ends i o messages answers held (prepend_known held i.to) end
+  pub ends : Ends i o document messages answers held (prepend_known held i.to) end

@@ -1,46 +1,31 @@
-//! How the answer of a line is written: a line that names its actor and tells its length, and the response.
-ghost use Rattle.std.specs.Prelude.{◌≡◌, ◌+◌, ◌≤◌, ◌++◌, false, length, IfOk, OnOk, OnErr, decimal};
+//! How an answer is written: the answer of a line after a line of its own, that of a message as its response alone.
+ghost use Rattle.std.specs.Prelude.{◌≡◌, ◌≤◌, ◌++◌, false, true, IfOk, OnErr, OnOk};
 ghost use Rattle.std.specs.Io.KnownBytes.{Appends};
 ghost use Rattle.arrayvec.specs.ArrayVec.{array_vec_len};
 ghost use Rattle.causes.specs.Causes.{HasCause};
+ghost use Rattle.tile_service.specs.CacheTally.{result_of};
 ghost use Rattle.tile_service.specs.OneLine.{MayTell};
-ghost use Rattle.tile_service.specs.Response.{answer_line, framed, response_with};
-ghost use Rattle.tile_service.specs.Sent.{AppendsFront};
-ghost use Rattle.tile_service.specs.Tally.{result_of};
+ghost use Rattle.tile_requests.specs.Shown.{shown_parts};
+ghost use Rattle.tile_requests.specs.Response.{answer_line, framed, response_text, response_with};
+ghost use Rattle.tile_requests.specs.Sent.{AppendsFront};
+ghost use Rattle.tile_service.specs.Session.{bad_text};
 
-use crate::came::Reply;
-use crate::response::{no_memory, response_with};
-use crate::tally::{CacheResult, result_of};
+use crate::action_end::Answer;
+use crate::cache_tally::{CacheResult, result_of};
 use arrayvec::ArrayVec;
-use http_wire::sending::{Sent, send};
+use http_wire::sending::Sent;
 use http_wire::streams::ByteSink;
-use itoa::Buffer;
 use std::alloc::Global;
-
-/// Adds bytes for which there is room.
-pub fn add(text: &mut ArrayVec<u8, 256>, bytes: &[u8])
-    requires { array_vec_len text.old + length bytes.now ≤ 256 }
-    ensures items { text.new.items ≡ text.old.items ++ bytes.now }
-    ensures len { array_vec_len text.new ≡ array_vec_len text.old + length bytes.now }
-{
-    if text.try_extend_from_slice(bytes).is_err() {
-        unreachable!()
-    }
-}
-
-/// Adds a number in decimal digits.
-pub fn add_number(text: &mut ArrayVec<u8, 256>, number: u64)
-    requires { array_vec_len text.old + 20 ≤ 256 }
-    ensures items { text.new.items ≡ text.old.items ++ decimal number }
-    ensures len { array_vec_len text.new ≤ array_vec_len text.old + 20 }
-{
-    let mut buffer = Buffer::new();
-    add(text, buffer.format(number).as_bytes());
-}
+use tile_requests::head::head;
+use tile_requests::outcome::Outcome;
+use tile_requests::parts::Parts;
+use tile_requests::response::{bare, parts_of};
+use tile_requests::small_text::{add, add_number, send_behind};
 
 /// The line that stands before a response. It takes no memory.
-fn answer_line(line: u64, actor: u32, start: u64, bytes: usize) -> ArrayVec<u8, 256>
-    ensures { result.items ≡ answer_line line actor start bytes }
+fn answer_line(line: u64, actor: u32, start: u64, bytes: u64) -> ArrayVec<u8, 1024>
+    ensures items { result.items ≡ answer_line line actor start bytes }
+    ensures short { array_vec_len result ≤ 100 }
 {
     let mut text = ArrayVec::new();
     add(&mut text, b"answer ");
@@ -50,71 +35,93 @@ fn answer_line(line: u64, actor: u32, start: u64, bytes: usize) -> ArrayVec<u8, 
     add(&mut text, b" ");
     add_number(&mut text, start);
     add(&mut text, b" ");
-    add_number(&mut text, bytes as u64);
+    add_number(&mut text, bytes);
     add(&mut text, b"\n");
     text
 }
 
-/// Sends all of the bytes, or a front of them.
-pub fn send_part<O: ByteSink>(sink: &mut O, bytes: &[u8]) -> Result<(), Sent>
-    ensures ok { OnOk result (Appends (O.taken sink.old) (O.taken sink.new) bytes.now) }
-    ensures err { OnErr result (AppendsFront (O.taken sink.old) (O.taken sink.new) bytes.now) }
-    ensures cause { HasCause (O.faults sink.old) (O.faults sink.new) result }
-    ensures apart { O.apart sink.new ≡ O.apart sink.old }
-{
-    match send(sink, bytes) {
-        Ok(()) => Ok(()),
-        Err(sent) => Err(sent),
-    }
-}
-
-/// Sends two parts, or a front of them.
-pub fn send_both<O: ByteSink>(sink: &mut O, first: &[u8], second: &[u8]) -> Result<(), Sent>
-    ensures ok { OnOk result (Appends (O.taken sink.old) (O.taken sink.new) (first.now ++ second.now)) }
-    ensures err { OnErr result (AppendsFront (O.taken sink.old) (O.taken sink.new) (first.now ++ second.now)) }
-    ensures cause { HasCause (O.faults sink.old) (O.faults sink.new) result }
-{
-    send_part(sink, first)?;
-    send_part(sink, second)
-}
-
+/// Sends the response of an answer, after its line.
 fn send_answer<O: ByteSink>(
     output: &mut O,
     line: u64,
     actor: u32,
     start: u64,
-    response: &[u8],
+    parts: &Parts<'_>,
 ) -> Result<(), Sent>
-    ensures ok { OnOk result (Appends (O.taken output.old) (O.taken output.new) (framed line actor start response.now)) }
-    ensures err { OnErr result (AppendsFront (O.taken output.old) (O.taken output.new) (framed line actor start response.now)) }
+    ensures ok { OnOk result (Appends (O.taken output.old) (O.taken output.new) (framed line actor start (response_text false (shown_parts parts.now)))) }
+    ensures err { OnErr result (AppendsFront (O.taken output.old) (O.taken output.new) (framed line actor start (response_text false (shown_parts parts.now)))) }
     ensures cause { HasCause (O.faults output.old) (O.faults output.new) result }
 {
-    let head = answer_line(line, actor, start, response.len());
-    send_both(output, head.as_slice(), response)
+    let body = parts.body.bytes();
+    let head = head(false, parts);
+    let bytes = head.len() as u64 + body.len() as u64;
+    let mut front = answer_line(line, actor, start, bytes);
+    add(&mut front, head.as_slice());
+    send_behind(output, front, body)
 }
 
-/// Writes a reply in line `line`, and closes no connection. Where memory runs out, the answer says so. Gives what the
-/// answer tells of the cache.
-pub fn answer<O: ByteSink>(
+/// Sends a response, which closes its connection or does not.
+fn send_response<O: ByteSink>(sink: &mut O, closes: bool, parts: &Parts<'_>) -> Result<(), Sent>
+    ensures ok { OnOk result (Appends (O.taken sink.old) (O.taken sink.new) (response_text closes (shown_parts parts.now))) }
+    ensures err { OnErr result (AppendsFront (O.taken sink.old) (O.taken sink.new) (response_text closes (shown_parts parts.now))) }
+    ensures cause { HasCause (O.faults sink.old) (O.faults sink.new) result }
+    ensures apart { O.apart sink.new ≡ O.apart sink.old }
+{
+    send_behind(sink, head(closes, parts), parts.body.bytes())
+}
+
+/// Writes an answer in line `line`, and closes no connection; `document` is the capabilities document. Where memory runs
+/// out, the answer says so. Gives what the answer tells of the cache. `Sent` where a write failed.
+pub fn write_answer<O: ByteSink>(
     alloc: Global,
+    document: &[u8],
     output: &mut O,
     line: u64,
-    reply: &Reply,
+    answer: &Answer,
 ) -> Result<CacheResult, Sent>
-    ensures ok { IfOk result (λ told. MayTell reply.now.outcome (λ o. (told ≡ result_of o) × Appends (O.taken output.old) (O.taken output.new) (framed line reply.now.actor reply.now.start (response_with false o)))) }
-    ensures err { OnErr result (MayTell reply.now.outcome (λ o. AppendsFront (O.taken output.old) (O.taken output.new) (framed line reply.now.actor reply.now.start (response_with false o)))) }
+    ensures ok { IfOk result (λ told. MayTell answer.now.outcome (λ o. (told ≡ result_of o) × Appends (O.taken output.old) (O.taken output.new) (framed line answer.now.actor answer.now.start (response_with document.now false o)))) }
+    ensures err { OnErr result (MayTell answer.now.outcome (λ o. AppendsFront (O.taken output.old) (O.taken output.new) (framed line answer.now.actor answer.now.start (response_with document.now false o)))) }
     ensures cause { HasCause (O.faults output.old) (O.faults output.new) result }
 {
-    match response_with(alloc, false, &reply.outcome) {
-        Ok(response) => {
-            match send_answer(output, line, reply.actor, reply.start, response.as_slice()) {
-                Ok(()) => Ok(result_of(&reply.outcome)),
-                Err(sent) => Err(sent),
-            }
-        }
-        Err(_) => match send_answer(output, line, reply.actor, reply.start, no_memory(false)) {
+    match parts_of(alloc, document, &answer.outcome) {
+        Ok(parts) => match send_answer(output, line, answer.actor, answer.start, &parts) {
+            Ok(()) => Ok(result_of(&answer.outcome)),
+            Err(sent) => Err(sent),
+        },
+        Err(_) => match send_answer(output, line, answer.actor, answer.start, &bare(503)) {
             Ok(()) => Ok(CacheResult::Other),
             Err(sent) => Err(sent),
         },
     }
+}
+
+/// Writes the response to a message with this outcome; `closes` says whether it closes the connection, and `document` is the
+/// capabilities document. Where memory runs out, the response says so. `Sent` where a write failed.
+pub fn write_response<O: ByteSink>(
+    alloc: Global,
+    document: &[u8],
+    sink: &mut O,
+    closes: bool,
+    outcome: &Outcome,
+) -> Result<(), Sent>
+    ensures ok { OnOk result (MayTell outcome.now (λ o. Appends (O.taken sink.old) (O.taken sink.new) (response_with document.now closes o))) }
+    ensures err { OnErr result (MayTell outcome.now (λ o. AppendsFront (O.taken sink.old) (O.taken sink.new) (response_with document.now closes o))) }
+    ensures cause { HasCause (O.faults sink.old) (O.faults sink.new) result }
+    ensures apart { O.apart sink.new ≡ O.apart sink.old }
+{
+    match parts_of(alloc, document, outcome) {
+        Ok(parts) => send_response(sink, closes, &parts),
+        Err(_) => send_response(sink, closes, &bare(503)),
+    }
+}
+
+/// Writes the response to bytes that are no message, for the reason that the status gives. It takes no memory. `Sent` where
+/// a write failed.
+pub fn write_refusal<O: ByteSink>(sink: &mut O, status: u16) -> Result<(), Sent>
+    ensures ok { OnOk result (Appends (O.taken sink.old) (O.taken sink.new) (bad_text status)) }
+    ensures err { OnErr result (AppendsFront (O.taken sink.old) (O.taken sink.new) (bad_text status)) }
+    ensures cause { HasCause (O.faults sink.old) (O.faults sink.new) result }
+    ensures apart { O.apart sink.new ≡ O.apart sink.old }
+{
+    send_response(sink, true, &bare(status))
 }

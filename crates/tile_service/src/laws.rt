@@ -2,7 +2,7 @@
 ghost use Rattle.std.specs.Prelude.{List, ℕ, map, ◌≡◌};
 ghost use Rattle.http_wire.specs.declared.message.Message.{Message};
 ghost use Rattle.tile_service.specs.Alike.{without_bytes};
-ghost use Rattle.tile_service.specs.Requests.{Chance};
+ghost use Rattle.tile_requests.specs.Requests.{Chance};
 ghost use Rattle.tile_service.specs.Run.{World, run};
 ghost use Rattle.tile_service.specs.Session.{session};
 

@@ -1,22 +1,23 @@
-//! The lines of a schedule: where each ends, and what it has its actor do.
+//! The lines of a schedule: where each ends, and the action that it says.
 ghost use Rattle.std.specs.Prelude.{◌≡◌, ◌<◌, ◌≤◌, ◌∷◌, length};
 ghost use Rattle.std.specs.Option.{option_map};
-ghost use Rattle.tile_service.specs.Lines.{lines_of, line_length, get, post, deed_of, deed_with, is_idle, deed_in};
-ghost use Rattle.tile_service.specs.Routes.{message_of};
+ghost use Rattle.tile_service.specs.Lines.{lines_of, line_length, get, post, action_with, says_nothing, action_in};
+ghost use Rattle.tile_requests.specs.Shown.{shown_message};
+ghost use Rattle.tile_service.specs.Shown.{shown_action};
 
-use crate::call::Call;
-use crate::request::Kind;
 use http_wire::message::Method;
 use schedule_text::line::{LINE_LIMIT, read_line};
 use schedule_text::verb::Verb;
+use tile_requests::message_ref::MessageRef;
+use tile_requests::request::Mode;
 
-/// What a line does.
+/// What a line says.
 #[derive(Clone, Copy, Debug)]
-pub enum Act<'a> {
+pub enum Action<'a> {
     Nothing,
     /// This actor sends this message.
-    Sends(Kind, u32, Call<'a>),
-    /// This actor makes the next event of what it is busy with.
+    Sends(Mode, u32, MessageRef<'a>),
+    /// This actor makes the next event of its pending request.
     Steps(u32),
 }
 
@@ -49,8 +50,9 @@ pub fn split_line(text: &[u8]) -> (&[u8], &[u8])
     (line, next)
 }
 
-fn is_idle(line: &[u8]) -> bool
-    ensures { result ≡ is_idle line.now }
+/// Whether a line is empty or a comment.
+fn says_nothing(line: &[u8]) -> bool
+    ensures { result ≡ says_nothing line.now }
 {
     match line {
         [] => true,
@@ -59,10 +61,10 @@ fn is_idle(line: &[u8]) -> bool
 }
 
 /// The message of method GET for a target.
-fn get(target: &[u8]) -> Call<'_>
-    ensures { message_of result ≡ get target.now }
+fn get(target: &[u8]) -> MessageRef<'_>
+    ensures { shown_message result ≡ get target.now }
 {
-    Call {
+    MessageRef {
         method: Method::Get,
         target,
         body: b"",
@@ -70,44 +72,44 @@ fn get(target: &[u8]) -> Call<'_>
 }
 
 /// The message of method POST for a target, with a body.
-fn post<'a>(target: &'a [u8], body: &'a [u8]) -> Call<'a>
-    ensures { message_of result ≡ post target.now body.now }
+fn post<'a>(target: &'a [u8], body: &'a [u8]) -> MessageRef<'a>
+    ensures { shown_message result ≡ post target.now body.now }
 {
-    Call {
+    MessageRef {
         method: Method::Post,
         target,
         body,
     }
 }
 
-/// What an actor does by a verb, with the rest of its line.
-fn act_with(actor: u32, verb: Verb, rest: &[u8]) -> Act<'_>
-    ensures { deed_of result ≡ deed_with actor verb rest.now }
+/// The action of an actor by a verb, with the rest of its line.
+fn action_with(actor: u32, verb: Verb, rest: &[u8]) -> Action<'_>
+    ensures { shown_action result ≡ action_with actor verb rest.now }
 {
     match verb {
-        Verb::Get => Act::Sends(Kind::Gets, actor, get(rest)),
-        Verb::Ask => Act::Sends(Kind::Asks, actor, get(rest)),
-        Verb::Force => Act::Sends(Kind::Forces, actor, get(rest)),
-        Verb::Step => Act::Steps(actor),
-        Verb::Truncate => Act::Sends(Kind::Gets, actor, post(b"/truncate", rest)),
-        Verb::Expire => Act::Sends(Kind::Gets, actor, post(b"/expire", b"")),
+        Verb::Get => Action::Sends(Mode::Gets, actor, get(rest)),
+        Verb::Ask => Action::Sends(Mode::Asks, actor, get(rest)),
+        Verb::Force => Action::Sends(Mode::Forces, actor, get(rest)),
+        Verb::Step => Action::Steps(actor),
+        Verb::Truncate => Action::Sends(Mode::Gets, actor, post(b"/truncate", rest)),
+        Verb::Expire => Action::Sends(Mode::Gets, actor, post(b"/expire", b"")),
     }
 }
 
-/// What a line does; `None` where it is refused.
-#[tactic(auto, unfolding(crate::specs::Lines::deed_in))]
-pub fn act_of(line: &[u8]) -> Option<Act<'_>>
-    ensures { option_map deed_of result ≡ deed_in line.now }
+/// The action that a line says; `None` where it is refused.
+#[tactic(auto, unfolding(crate::specs::Lines::action_in))]
+pub fn action_in(line: &[u8]) -> Option<Action<'_>>
+    ensures { option_map shown_action result ≡ action_in line.now }
 {
     if line.len() > LINE_LIMIT {
         return None;
     }
-    if is_idle(line) {
-        return Some(Act::Nothing);
+    if says_nothing(line) {
+        return Some(Action::Nothing);
     }
     let Ok(read) = read_line(line) else {
         return None;
     };
     let (_, rest) = line.split_at(read.rest.start as usize);
-    Some(act_with(read.actor, read.verb, rest))
+    Some(action_with(read.actor, read.verb, rest))
 }

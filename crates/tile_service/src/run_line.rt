@@ -4,14 +4,14 @@ ghost use Rattle.std.specs.Io.KnownBytes.{Appends};
 ghost use Rattle.catalog.specs.Valid.{IsValid};
 ghost use Rattle.tile_service.specs.OneLine.{IsSeated};
 ghost use Rattle.tile_service.specs.Written.{Writes};
-ghost use Rattle.tile_service.specs.Run.{Busy};
+ghost use Rattle.tile_service.specs.Run.{PendingRequest};
 
-use crate::answer::answer;
-use crate::came::Came;
+use crate::action_end::ActionEnd;
+use crate::answer::write_answer;
+use crate::cache_tally::CacheResult;
 use crate::counter::Counter;
-use crate::deal::deal;
+use crate::perform::perform;
 use crate::seats::Seat;
-use crate::tally::CacheResult;
 use http_wire::streams::ByteSink;
 use source_render::source::Source;
 use std::alloc::Global;
@@ -38,7 +38,7 @@ pub fn run_line<S: Source, O: ByteSink>(
     line: &[u8],
 ) -> LineEnd
     requires valid { IsValid counter.old.cabinet.catalogue }
-    requires seated { (busy : List (Option Busy)) × IsSeated counter.old.cabinet counter.old.capabilities seats.old busy }
+    requires seated { (busy : List (Option PendingRequest)) × IsSeated counter.old.cabinet counter.old.capabilities seats.old busy }
     ensures writes { Writes
         (record { told = S.told source.old; renders = record { before = S.faults source.old; after = S.faults source.new }; writes = record { before = O.faults output.old; after = O.faults output.new }; from = O.taken output.old; to = O.taken output.new })
         counter.old.cabinet counter.old.capabilities seats.old n line.now counter.new.cabinet seats.new result }
@@ -47,12 +47,15 @@ pub fn run_line<S: Source, O: ByteSink>(
     ensures later { O.faults output.old ≤ O.faults output.new }
     ensures told { S.told source.new ≡ S.told source.old }
 {
-    match deal(alloc, counter, seats, source, n, line) {
-        Came::Refused => LineEnd::Refused,
-        Came::Silent => LineEnd::Done(None),
-        Came::Answers(reply) => match answer(alloc, output, n, &reply) {
-            Ok(told) => LineEnd::Done(Some(told)),
-            Err(_) => LineEnd::WriteFault,
-        },
+    match perform(alloc, counter, seats, source, n, line) {
+        ActionEnd::Refused => LineEnd::Refused,
+        ActionEnd::Silent => LineEnd::Done(None),
+        ActionEnd::Answers(answer) => {
+            let document = counter.capabilities.bytes();
+            match write_answer(alloc, document, output, n, &answer) {
+                Ok(told) => LineEnd::Done(Some(told)),
+                Err(_) => LineEnd::WriteFault,
+            }
+        }
     }
 }

@@ -1,8 +1,8 @@
 //! The lines of a schedule, run one after the other up to the first that is refused or whose answer can't be written.
 ghost use Rattle.std.specs.Prelude.{◌≡◌, ◌<◌, ◌^◌, List, Option, length, map, replicate};
 ghost use Rattle.catalog.specs.Valid.{IsValid};
-ghost use Rattle.tile_service.specs.OneLine.{seat_of, world_of};
-ghost use Rattle.tile_service.specs.Run.{Busy, free_seats};
+ghost use Rattle.tile_service.specs.OneLine.{seat_of};
+ghost use Rattle.tile_service.specs.Run.{PendingRequest, free_seats, world_of};
 ghost use Rattle.tile_service.specs.Schedules.{HasRun};
 
 use crate::counter::Counter;
@@ -34,7 +34,7 @@ pub fn run_lines<S: Source, O: ByteSink>(
     requires valid { IsValid counter.old.cabinet.catalogue }
     requires short { length text.now < 2 ^ 32 }
     requires free { seats.old ≡ replicate ACTORS Seat.Free }
-    ensures run { (busy : List (Option Busy)) × (map seat_of busy ≡ seats.new) × HasRun
+    ensures run { (busy : List (Option PendingRequest)) × (map seat_of busy ≡ seats.new) × HasRun
         (record { told = S.told source.old; renders = record { before = S.faults source.old; after = S.faults source.new }; writes = record { before = O.faults output.old; after = O.faults output.new }; from = O.taken output.old; to = O.taken output.new })
         (world_of counter.old.cabinet counter.old.capabilities free_seats) text.now (world_of counter.new.cabinet counter.new.capabilities busy) result }
     ensures capabilities { counter.new.capabilities ≡ counter.old.capabilities }

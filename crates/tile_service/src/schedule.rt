@@ -1,8 +1,7 @@
 //! A schedule as a whole: it is read, its lines are run, and the actors that are still busy give up.
 ghost use Rattle.std.specs.Prelude.{◌≡◌};
 ghost use Rattle.catalog.specs.Valid.{IsValid};
-ghost use Rattle.tile_service.specs.OneLine.{world_of};
-ghost use Rattle.tile_service.specs.Run.{free_seats};
+ghost use Rattle.tile_service.specs.Run.{free_seats, world_of};
 ghost use Rattle.tile_service.specs.Schedules.{Schedules, end_of};
 
 use crate::counter::Counter;

@@ -1,23 +1,23 @@
-//! The seats of the actors, and what each busy one has under way.
+//! The seats of the actors, and the pending request of each busy one.
 ghost use Rattle.std.specs.Prelude.{◌≡◌, IfOk, IsSome, None, ◌<◌, is_some, length, replicate, slice_get, slice_set};
 ghost use Rattle.cache_core.specs.Steps.{given_up};
-ghost use Rattle.tile_service.specs.Events.{GoesOn};
-ghost use Rattle.tile_service.specs.Seats.{all_left, came_of, desk_at, is_free, next_seat};
+ghost use Rattle.tile_requests.specs.Events.{GoesOn};
+ghost use Rattle.tile_service.specs.Seats.{all_left, action_end_of, pending_at, is_free, next_seat};
 
-use crate::came::{Came, Reply};
-use crate::request::outcome_of;
+use crate::action_end::{ActionEnd, Answer};
 use cabinet::cabinet::Cabinet;
 use cache_core::actor::{Actor, Step};
 use cache_core::steps::give_up;
 use matrix_geometry::address::Address;
 use std::alloc::{AllocError, Global};
 use std::mem;
+use tile_requests::request::outcome_of;
 
 /// How many actors a schedule has.
 pub const ACTORS: usize = 64;
 
-/// A request for a tile that is under way.
-pub struct Desk {
+/// A pending request for a tile: it was asked for, and is not answered yet.
+pub struct Pending {
     /// The line in which it started, counted from 1.
     pub start: u64,
     pub address: Address,
@@ -27,7 +27,7 @@ pub struct Desk {
 /// What an actor is busy with.
 pub enum Seat {
     Free,
-    Busy(Desk),
+    Busy(Pending),
 }
 
 /// Seats at which no actor is busy. `AllocError` where memory runs out.
@@ -54,7 +54,7 @@ pub fn is_free(seats: &[Seat], actor: u32) -> bool
 
 /// Whether this actor is busy.
 pub fn is_busy(seats: &[Seat], actor: u32) -> bool
-    ensures { result ≡ is_some (desk_at (slice_get seats.now actor)) }
+    ensures { result ≡ is_some (pending_at (slice_get seats.now actor)) }
 {
     match seats.get(actor as usize) {
         None => false,
@@ -63,9 +63,9 @@ pub fn is_busy(seats: &[Seat], actor: u32) -> bool
     }
 }
 
-/// Takes the desk of a seat, where an actor is busy.
-pub fn desk_at(seats: &mut [Seat], actor: u32) -> Option<Desk>
-    ensures desk { result ≡ desk_at (slice_get seats.old actor) }
+/// Takes the pending request of a seat, where an actor is busy.
+pub fn pending_at(seats: &mut [Seat], actor: u32) -> Option<Pending>
+    ensures pending { result ≡ pending_at (slice_get seats.old actor) }
     ensures some { IsSome result → seats.new ≡ slice_set seats.old actor Seat.Free }
     ensures none { result ≡ None → seats.new ≡ seats.old }
 {
@@ -74,7 +74,7 @@ pub fn desk_at(seats: &mut [Seat], actor: u32) -> Option<Desk>
     }
     match mem::replace(&mut seats[actor as usize], Seat::Free) {
         Seat::Free => unreachable!(),
-        Seat::Busy(desk) => Some(desk),
+        Seat::Busy(pending) => Some(pending),
     }
 }
 
@@ -86,7 +86,7 @@ fn put(cabinet: &mut Cabinet, seats: &mut [Seat], actor: u32, seat: Seat)
 {
     match mem::replace(&mut seats[actor as usize], seat) {
         Seat::Free => {}
-        Seat::Busy(desk) => leave(cabinet, desk),
+        Seat::Busy(pending) => leave(cabinet, pending),
     }
 }
 
@@ -98,10 +98,10 @@ pub fn settle(
     start: u64,
     address: &Address,
     step: Step,
-) -> Came
+) -> ActionEnd
     requires free { slice_get seats.old actor ≡ Some Seat.Free }
     requires goes_on { GoesOn step.actor step.outcome }
-    ensures came { result ≡ came_of actor start step.outcome }
+    ensures end { result ≡ action_end_of actor start step.outcome }
     ensures seats { seats.new ≡ slice_set seats.old actor (next_seat start address.now step.actor step.outcome) }
     ensures cabinet { cabinet.new ≡ cabinet.old }
 {
@@ -111,18 +111,18 @@ pub fn settle(
     } = step;
     match outcome {
         None => {
-            let desk = Desk {
+            let pending = Pending {
                 start,
                 address: *address,
                 actor: state,
             };
-            put(cabinet, seats, actor, Seat::Busy(desk));
-            Came::Silent
+            put(cabinet, seats, actor, Seat::Busy(pending));
+            ActionEnd::Silent
         }
         Some(outcome) => {
             give_up(cabinet, state);
             put(cabinet, seats, actor, Seat::Free);
-            Came::Answers(Reply {
+            ActionEnd::Answers(Answer {
                 actor,
                 start,
                 outcome: outcome_of(outcome),
@@ -131,19 +131,19 @@ pub fn settle(
     }
 }
 
-/// The request of a desk ends without an outcome.
-fn leave(cabinet: &mut Cabinet, desk: Desk)
-    ensures { cabinet.new ≡ given_up cabinet.old desk.actor }
+/// A pending request ends without an outcome.
+fn leave(cabinet: &mut Cabinet, pending: Pending)
+    ensures { cabinet.new ≡ given_up cabinet.old pending.actor }
 {
-    let Desk {
+    let Pending {
         start: _,
         address: _,
         actor,
-    } = desk;
+    } = pending;
     give_up(cabinet, actor);
 }
 
-/// Gives up all requests that are under way, in the order of their actors.
+/// Gives up all pending requests, in the order of their actors.
 pub fn close(cabinet: &mut Cabinet, mut seats: Vec<Seat>)
     ensures { cabinet.new ≡ all_left cabinet.old seats.items }
 {
@@ -151,7 +151,7 @@ pub fn close(cabinet: &mut Cabinet, mut seats: Vec<Seat>)
     while !seats.is_empty() {
         match seats.take_last() {
             Seat::Free => {}
-            Seat::Busy(desk) => leave(cabinet, desk),
+            Seat::Busy(pending) => leave(cabinet, pending),
         }
     }
     seats.destroy_empty();

@@ -1,17 +1,12 @@
-//! A message of a session, served at once, since no render runs beside it.
+//! A message of a session, served to its outcome, since no render runs beside it.
 ghost use Rattle.std.specs.Prelude.{◌≡◌};
 ghost use Rattle.catalog.specs.LookUp.{IsTile};
 ghost use Rattle.catalog.specs.Valid.{IsValid};
-ghost use Rattle.tile_service.specs.Dealing.{IsGot};
-ghost use Rattle.tile_service.specs.Session.{IsAtRest, Serves};
+ghost use Rattle.tile_service.specs.Performing.{IsGot};
+ghost use Rattle.tile_service.specs.Serving.{Serves};
+ghost use Rattle.tile_service.specs.Session.{IsAtRest};
 
-use crate::at_once::at_once;
-use crate::call::Call;
 use crate::counter::Counter;
-use crate::events::events;
-use crate::outcome::Outcome;
-use crate::request::{Kind, Request, outcome_of};
-use crate::routes::{path_of, request_at, route_of};
 use cabinet::cabinet::Cabinet;
 use cache_core::actor::Step;
 use cache_core::steps::give_up;
@@ -19,8 +14,14 @@ use http_wire::message::Message;
 use matrix_geometry::address::Address;
 use source_render::source::Source;
 use std::alloc::Global;
+use tile_requests::events::events;
+use tile_requests::immediate::immediate;
+use tile_requests::message_ref::MessageRef;
+use tile_requests::outcome::Outcome;
+use tile_requests::request::{Mode, Request, outcome_of};
+use tile_requests::routes::read_request;
 
-/// Serves a request for a tile, in a cabinet in which no render runs: it is asked for, rendered and finished at once.
+/// Serves a request for a tile, in a cabinet in which no render runs: it is asked for, rendered and finished.
 fn serve_tile<S: Source>(
     alloc: Global,
     cabinet: &mut Cabinet,
@@ -32,7 +33,7 @@ fn serve_tile<S: Source>(
     ensures got { IsGot (S.told source.old) (S.faults source.old) (S.faults source.new) cabinet.old address.now result cabinet.new }
     ensures told { S.told source.new ≡ S.told source.old }
 {
-    let Step { actor, outcome } = events(alloc, cabinet, source, address, Kind::Gets);
+    let Step { actor, outcome } = events(alloc, cabinet, source, address, Mode::Gets);
     match outcome {
         None => unreachable!(),
         Some(ended) => {
@@ -42,8 +43,7 @@ fn serve_tile<S: Source>(
     }
 }
 
-/// Serves a message of a session: a tile is asked for, rendered and finished at once. Where memory runs out, its outcome says
-/// so.
+/// Serves a message of a session: a tile is asked for, rendered and finished. Where memory runs out, its outcome says so.
 pub fn serve<S: Source>(
     alloc: Global,
     counter: &mut Counter,
@@ -57,18 +57,13 @@ pub fn serve<S: Source>(
     ensures capabilities { counter.new.capabilities ≡ counter.old.capabilities }
     ensures told { S.told source.new ≡ S.told source.old }
 {
-    let call = Call {
-        method: message.method,
-        target: message.target.bytes(),
-        body: message.body.bytes(),
-    };
-    let route = route_of(call.method, path_of(call.target));
     let catalogue = counter.cabinet.catalogue();
-    let Ok(request) = request_at(alloc, catalogue, &counter.rest, &call, route) else {
+    let parts = MessageRef::of(message);
+    let Ok(request) = read_request(alloc, catalogue, &counter.rest, &parts) else {
         return Outcome::NoMemory;
     };
     match request {
         Request::Tile(address) => serve_tile(alloc, &mut counter.cabinet, source, &address),
-        other => at_once(alloc, counter, other),
+        other => immediate(alloc, &mut counter.cabinet, other),
     }
 }

@@ -4,15 +4,15 @@ ghost use Rattle.std.specs.Io.KnownBytes.{Appends};
 ghost use Rattle.catalog.specs.Valid.{IsValid};
 ghost use Rattle.causes.specs.Causes.{HasCause};
 ghost use Rattle.tile_service.specs.OneLine.{MayTell};
-ghost use Rattle.tile_service.specs.Outside.{Input, Outside};
-ghost use Rattle.tile_service.specs.Response.{closes, response};
-ghost use Rattle.tile_service.specs.Sent.{AppendsFront};
-ghost use Rattle.tile_service.specs.Session.{IsAtRest, Serves};
+ghost use Rattle.tile_service.specs.Outside.{InputChange, Outside};
+ghost use Rattle.tile_requests.specs.Response.{closes, response};
+ghost use Rattle.tile_requests.specs.Sent.{AppendsFront};
+ghost use Rattle.tile_service.specs.Serving.{Serves};
+ghost use Rattle.tile_service.specs.Session.{IsAtRest};
 ghost use Rattle.tile_service.specs.SessionEnds.{HasSession};
 
+use crate::answer::{write_refusal, write_response};
 use crate::counter::Counter;
-use crate::outcome::Outcome;
-use crate::replying::{refuse, reply};
 use crate::serving::serve;
 use http_wire::links::Link;
 use http_wire::message::{Message, Next, WireFault};
@@ -20,6 +20,7 @@ use http_wire::reader::MessageReader;
 use http_wire::sending::Sent;
 use source_render::source::Source;
 use std::alloc::Global;
+use tile_requests::outcome::Outcome;
 
 /// How many messages a session answers at most.
 const SESSION_LIMIT: u64 = 10_000;
@@ -62,8 +63,8 @@ fn respond<S: Source, L: Link>(
     requires valid { IsValid counter.old.cabinet.catalogue }
     requires rest { IsAtRest counter.old.cabinet }
     ensures responds { (o : Outcome) × Serves (S.told source.old) (S.faults source.old) (S.faults source.new) counter.old.capabilities counter.old.cabinet message.now o counter.new.cabinet
-        × OnOk result (MayTell o (λ x. Appends (L.taken link.old) (L.taken link.new) (response message.now place x)))
-        × OnErr result (MayTell o (λ x. AppendsFront (L.taken link.old) (L.taken link.new) (response message.now place x))) }
+        × OnOk result (MayTell o (λ x. Appends (L.taken link.old) (L.taken link.new) (response counter.old.capabilities message.now place x)))
+        × OnErr result (MayTell o (λ x. AppendsFront (L.taken link.old) (L.taken link.new) (response counter.old.capabilities message.now place x))) }
     ensures cause { HasCause (L.ByteSink.faults link.old) (L.ByteSink.faults link.new) result }
     ensures left { L.left link.new ≡ L.left link.old }
     ensures read_faults { L.ByteSource.faults link.new ≡ L.ByteSource.faults link.old }
@@ -73,7 +74,8 @@ fn respond<S: Source, L: Link>(
     ensures told { S.told source.new ≡ S.told source.old }
 {
     let outcome = serve(alloc, counter, source, message);
-    reply(alloc, link, closes(message, place), &outcome)
+    let document = counter.capabilities.bytes();
+    write_response(alloc, document, link, closes(message, place), &outcome)
 }
 
 /// Serves the messages of one connection (RFC 9112), in order, each before the next is looked for, at most 10,000 of them. No
@@ -102,7 +104,7 @@ pub fn replay_session<S: Source, L: Link>(
             Ok(Next::Message(message)) => message,
             Ok(Next::End) => return SessionEnd::Closed,
             Ok(Next::Truncated) => return SessionEnd::Truncated,
-            Ok(Next::Bad(status)) => match refuse(link, status) {
+            Ok(Next::Bad(status)) => match write_refusal(link, status) {
                 Ok(()) => return SessionEnd::Bad(status),
                 Err(_) => return SessionEnd::WriteFault,
             },

@@ -1,5 +1,5 @@
 use Rattle.std.proofs.Common.{Some, refl, sym, ap, ◌∙◌}
-use Rattle.tile_service.specs.Outside.{Input}
+use Rattle.tile_service.specs.Outside.{InputChange}
 use Rattle.tile_command.proofs.Serving.{served_drill, served_replay, served_schedule}
 use Rattle.tile_command.proofs.command.run_command.Goals as goal
 
@@ -22,6 +22,6 @@ returns-clause-served g c =
     let word = sym c.word_of.ensures ∙ c.in-Some.is ∙ ap (λ w. Some w) c.in-Drill.is in
     let world = c.in-Ok-counter_of.ensures in
     let faults = g.I.ByteSource.faults c.args.input.now in
-    let lines : Input = record { reads = record { before = faults; after = faults }; from = g.I.ByteSource.left c.args.input.now; to = g.I.ByteSource.left c.args.input.now } in
+    let lines : InputChange = record { reads = record { before = faults; after = faults }; from = g.I.ByteSource.left c.args.input.now; to = g.I.ByteSource.left c.args.input.now } in
     rw (word, c.status_of_drill.ensures)
     (served_drill (record { catalogue = _; capabilities = _; lines = lines }) _ _ _ _ _ c.in-Ok.catalogue c.in-Ok-described.capabilities c.in-Ok.ensures.configures c.in-Ok-described.ensures _ c.known-in-Drill.ensures c.in-Drill.number refl c.run_drill-end.result (rw (world.0, world.1) at c.run_drill-end.ensures))

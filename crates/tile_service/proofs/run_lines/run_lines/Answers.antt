@@ -1,6 +1,5 @@
 use Rattle.std.proofs.Common.{rules, arith, refl, ◌∙◌}
-use Rattle.tile_service.specs.OneLine.{world_of}
-use Rattle.tile_service.specs.Run.{free_seats}
+use Rattle.tile_service.specs.Run.{free_seats, world_of}
 use Rattle.tile_service.proofs.Scheduling.{seated_start, seated_next, seated_cut, seated_refused, seated_done}
 use Rattle.tile_service.proofs.run_lines.run_lines.Goals as goal
 

@@ -1,6 +1,5 @@
 use Rattle.std.proofs.Common.{◌≡◌, ◌+◌, ◌≤◌, length}
-use Rattle.tile_service.specs.OneLine.{world_of}
-use Rattle.tile_service.specs.Run.{free_seats}
+use Rattle.tile_service.specs.Run.{free_seats, world_of}
 use Rattle.tile_service.proofs.Scheduling.{Seated}
 use Rattle.tile_service.proofs.run_lines.run_lines.Given as goal
 

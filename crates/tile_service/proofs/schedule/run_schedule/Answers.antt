@@ -1,5 +1,5 @@
 use Rattle.std.proofs.Common.{◌∙◌}
-use Rattle.tile_service.specs.OneLine.{world_of}
+use Rattle.tile_service.specs.Run.{world_of}
 use Rattle.tile_service.proofs.Closing.{closes_at, schedules_to}
 use Rattle.tile_service.proofs.schedule.run_schedule.Goals as goal
 

@@ -26,38 +26,38 @@ serving-init g c =
 pub returns-in-Ok-End-clause-session : goal.returns-in-Ok-End-clause-session
 returns-in-Ok-End-clause-session g c =
     let i = c.serving.invariant in
-    closed_there _ _ _ _ _ _ _ _ _ _ _ _ _ _ _ _ _ i.under_way (omega arith) c.next.new.self.held _ (c.in-Ok-End.ensures.leaves i.going) c.in-Ok-End.field-0-is c.next.ensures.taken
+    closed_there _ _ _ _ _ _ _ _ i.under_way (omega arith) c.next.new.self.held _ (c.in-Ok-End.ensures.leaves i.going) c.in-Ok-End.field-0-is c.next.ensures.taken
 
 pub returns-in-Ok-Truncated-clause-session : goal.returns-in-Ok-Truncated-clause-session
 returns-in-Ok-Truncated-clause-session g c =
     let i = c.serving.invariant in
-    truncated_there _ _ _ _ _ _ _ _ _ _ _ _ _ _ _ _ _ i.under_way (omega arith) c.next.new.self.held _ (c.in-Ok-Truncated.ensures.leaves i.going) c.in-Ok-Truncated.field-0-is c.next.ensures.taken
+    truncated_there _ _ _ _ _ _ _ _ i.under_way (omega arith) c.next.new.self.held _ (c.in-Ok-Truncated.ensures.leaves i.going) c.in-Ok-Truncated.field-0-is c.next.ensures.taken
 
-pub returns-in-Ok-refuse-clause-session : goal.returns-in-Ok-refuse-clause-session
-returns-in-Ok-refuse-clause-session g c =
+pub returns-in-Ok-write_refusal-clause-session : goal.returns-in-Ok-write_refusal-clause-session
+returns-in-Ok-write_refusal-clause-session g c =
     let i = c.serving.invariant in
-    let still : g.L.ByteSource.left c.refuse.new.sink ≡ g.L.ByteSource.left c.next.new.link = search rules in
-    bad_there _ _ _ _ _ _ _ _ _ _ _ _ _ _ _ _ _ i.under_way (omega arith) c.next.new.self.held _ (rw still (c.in-Ok-Bad.ensures.leaves i.going)) c.in-Ok-Bad.status c.in-Ok-Bad.field-0-is (rw c.next.ensures.taken at c.in-Ok-refuse.ensures.ok)
+    let still : g.L.ByteSource.left c.write_refusal.new.sink ≡ g.L.ByteSource.left c.next.new.link = search rules in
+    bad_there _ _ _ _ _ _ _ _ i.under_way (omega arith) c.next.new.self.held _ (rw still (c.in-Ok-Bad.ensures.leaves i.going)) c.in-Ok-Bad.status c.in-Ok-Bad.field-0-is (rw c.next.ensures.taken at c.in-Ok-write_refusal.ensures.ok)
 
 pub returns-in-Err-clause-session : goal.returns-in-Err-clause-session
 returns-in-Err-clause-session g c =
     let i = c.serving.invariant in
-    let still : g.L.ByteSource.left c.refuse.new.sink ≡ g.L.ByteSource.left c.next.new.link = search rules in
+    let still : g.L.ByteSource.left c.write_refusal.new.sink ≡ g.L.ByteSource.left c.next.new.link = search rules in
     let rose = c.in-Err.ensures.cause.failed in
     let same = c.next.ensures.put_faults in
-    bad_cut_off _ _ _ _ _ _ _ _ _ _ _ _ _ _ _ _ _ i.under_way (omega arith) c.next.new.self.held _ (rw still (c.in-Ok-Bad.ensures.leaves i.going)) c.in-Ok-Bad.status c.in-Ok-Bad.field-0-is (rw c.next.ensures.taken at c.in-Err.ensures.err) (omega (arith, rose, same, i.writes))
+    bad_cut_off _ _ _ _ _ _ _ _ i.under_way (omega arith) c.next.new.self.held _ (rw still (c.in-Ok-Bad.ensures.leaves i.going)) c.in-Ok-Bad.status c.in-Ok-Bad.field-0-is (rw c.next.ensures.taken at c.in-Err.ensures.err) (omega (arith, rose, same, i.writes))
 
 pub returns-in-Err-ReadFault-clause-session : goal.returns-in-Err-ReadFault-clause-session
 returns-in-Err-ReadFault-clause-session g c =
     let i = c.serving.invariant in
     let rose = (c.in-Err-ReadFault.ensures.cause i.going).fault (ap Err c.in-Err-ReadFault.field-0-is) in
     let failed = ap Err c.in-Err-ReadFault.field-0-is in
-    unread_there _ _ _ _ _ _ _ _ _ _ _ _ _ _ _ _ _ i.under_way (omega arith) c.next.new.self.held (stays_there _ _ _ _ c.in-Err-ReadFault.field-0-is (c.in-Err-ReadFault.ensures.leaves i.going)) (c.in-Err-ReadFault.ensures.waits i.going failed) (omega (arith, rose, i.reads)) c.next.ensures.taken
+    unread_there _ _ _ _ _ _ _ _ i.under_way (omega arith) c.next.new.self.held (stays_there _ _ _ _ c.in-Err-ReadFault.field-0-is (c.in-Err-ReadFault.ensures.leaves i.going)) (c.in-Err-ReadFault.ensures.waits i.going failed) (omega (arith, rose, i.reads)) c.next.ensures.taken
 
 pub returns-in-Err-OutOfMemory-clause-session : goal.returns-in-Err-OutOfMemory-clause-session
 returns-in-Err-OutOfMemory-clause-session g c =
     let i = c.serving.invariant in
-    short_there _ _ _ _ _ _ _ _ _ _ _ _ _ _ _ _ _ i.under_way (omega arith) (remain_there _ _ _ _ c.in-Err-OutOfMemory.field-0-is (c.in-Err-OutOfMemory.ensures.leaves i.going)) c.next.ensures.taken
+    short_there _ _ _ _ _ _ _ _ i.under_way (omega arith) (remain_there _ _ _ _ c.in-Err-OutOfMemory.field-0-is (c.in-Err-OutOfMemory.ensures.leaves i.going)) c.next.ensures.taken
 
 -- AFTER A MESSAGE
 
@@ -68,7 +68,7 @@ returns-in-Err-respond-clause-session g c =
     let r = c.in-Err-respond.ensures.responds in
     let rose = c.in-Err-respond.ensures.cause.failed in
     let same = c.next.ensures.put_faults in
-    cut_off_behind _ _ _ _ _ _ _ _ _ _ _ _ _ _ c.next.new.self.held c.serving.answered m (omega arith) (c.in-Ok-Message.ensures.surplus i.going (m, ap Ok c.in-Ok-Message.field-0-is) i.surplus) (omega (arith, rose, same, i.writes))
+    cut_off_behind _ _ _ _ _ c.next.new.self.held c.serving.answered m (omega arith) (c.in-Ok-Message.ensures.surplus i.going (m, ap Ok c.in-Ok-Message.field-0-is) i.surplus) (omega (arith, rose, same, i.writes))
     (answered_front _ _ _ _ _ _ _ _ _ _ _ _ _ _ _ _ _ _ c.next.new.self.held _ c.serving.answered m r.0 i.under_way (c.in-Ok-Message.ensures.answers i.going) c.in-Ok-Message.field-0-is c.next.ensures.taken i.told i.capabilities r.1 c.respond.ensures.left r.3)
 
 pub returns-then-message-clause-session : goal.returns-then-message-clause-session
@@ -76,7 +76,7 @@ returns-then-message-clause-session g c =
     let i = c.serving.invariant in
     let m = c.in-Ok-Message.message in
     let r = c.in-Ok-respond.ensures.responds in
-    closed_behind _ _ _ _ _ _ _ _ _ _ _ _ _ _ c.next.new.self.held c.serving.answered m (omega arith) (c.in-Ok-Message.ensures.surplus i.going (m, ap Ok c.in-Ok-Message.field-0-is) i.surplus) c.if-message.true
+    closed_behind _ _ _ _ _ c.next.new.self.held c.serving.answered m (omega arith) (c.in-Ok-Message.ensures.surplus i.going (m, ap Ok c.in-Ok-Message.field-0-is) i.surplus) c.if-message.true
     (answered_whole _ _ _ _ _ _ _ _ _ _ _ _ _ _ _ _ _ _ c.next.new.self.held _ c.serving.answered m r.0 i.under_way (c.in-Ok-Message.ensures.answers i.going) c.in-Ok-Message.field-0-is c.next.ensures.taken i.told i.capabilities r.1 c.respond.ensures.left r.2)
 
 pub serving-preserved : goal.serving-preserved
@@ -102,4 +102,4 @@ serving-preserved g c =
 pub returns-clause-session : goal.returns-clause-session
 returns-clause-session g c =
     let i = c.serving.invariant in
-    too_many _ _ _ _ _ _ _ _ _ _ _ _ _ _ c.serving.reader.held c.serving.answered (omega arith) i.surplus i.under_way
+    too_many _ _ _ _ _ c.serving.reader.held c.serving.answered (omega arith) i.surplus i.under_way

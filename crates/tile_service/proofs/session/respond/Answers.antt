@@ -1,4 +1,7 @@
+use Rattle.std.proofs.Common.{◌∙◌}
 use Rattle.tile_service.proofs.session.respond.Goals as goal
 
 pub returns-clause-responds : goal.returns-clause-responds
-returns-clause-responds g c = (c.serve-outcome.result, c.serve-outcome.ensures.serves, rw c.closes.ensures at c.reply.ensures.ok, rw c.closes.ensures at c.reply.ensures.err)
+returns-clause-responds g c =
+    let same = c.bytes-document.ensures ∙ c.serve-outcome.ensures.capabilities in
+    (c.serve-outcome.result, c.serve-outcome.ensures.serves, rw (c.closes.ensures, same) at c.write_response.ensures.ok, rw (c.closes.ensures, same) at c.write_response.ensures.err)

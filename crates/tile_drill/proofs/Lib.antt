@@ -1,0 +1,4 @@
+pub mod Plain
+pub mod Speaking
+pub mod Making
+pub mod Summing

@@ -1,0 +1,60 @@
+-- What events of one request came to.
+-- A tie between the code and its definitions: the promise can be read without it.
+use Rattle.std.specs.Prelude.{ℕ, ◌≡◌, ◌≤◌, ◌+◌, true, false, length, Option, Some, None, ◌⊎◌}
+use Rattle.cabinet.specs.State.{State, IsSound}
+use Rattle.cache_core.specs.declared.actor.Actor.{Actor}
+use Rattle.cache_core.specs.declared.actor.Actor.TheVariants as actor
+use Rattle.cache_core.specs.declared.actor.Step.{Step}
+use Rattle.cache_core.specs.declared.outcome.Outcome.{Outcome}
+use Rattle.cache_core.specs.declared.outcome.Outcome.TheVariants as outcome
+use Rattle.cache_core.specs.Advanced.{Advances}
+use Rattle.cache_core.specs.Fits.{IsFit, IsTrueActor, IsTrueOutcome, IsFreshActor, IsFreshOutcome, Extends}
+use Rattle.cache_core.specs.Shown.{shown, IsIdle}
+use Rattle.causes.specs.Causes.{RoseBy}
+use Rattle.matrix_geometry.specs.declared.address.Address.{Address}
+use Rattle.tile_requests.specs.declared.request.Mode.{Mode}
+use Rattle.tile_requests.specs.Requests.{Chance, is_at_work, events, owed}
+
+-- where so many failures, and others beside them, were no more than a count rose by, so many now are no more than it rose by
+abbrev pub StayCovered : ℕ → ℕ → ℕ → ℕ → Type 0
+StayCovered before after old new = (from : ℕ) (others : ℕ) → RoseBy (others + old) from before → RoseBy (others + new) from after
+
+-- 1 where the request ends in a failure of the source
+abbrev pub failing : Option Outcome → ℕ
+failing None = 0
+failing (Some (outcome.Tile tile)) = 0
+failing (Some outcome.SourceFailed) = 1
+failing (Some outcome.Spent) = 0
+failing (Some outcome.NoMemory) = 0
+
+-- a request goes on until it has an outcome
+abbrev pub GoesOn : Actor → Option Outcome → Type 0
+GoesOn a None = IsIdle a → ⊥
+GoesOn a (Some o) = a ≡ actor.Idle
+
+-- From s to t, while the source went from one count of faults to another, an actor that held what `first` holds came to this
+-- step of a request for the tile, whose last ask or force was made when the history had p entries.
+pub record Moves (told : Option ℕ) (before after : ℕ) (s : State) (first : Actor) (a : Address) (p : ℕ) (step : Step) (t : State) : Type 0 where
+  pub fits : IsFit s.catalogue a step.actor
+  pub goes_on : GoesOn step.actor step.outcome
+  pub later : before ≤ after
+  pub failed : StayCovered before after (owed first) (failing step.outcome + owed step.actor)
+  pub sound : told ≡ Some s.catalogue.source → IsSound s → IsTrueActor s.catalogue first → IsSound t
+  pub held : told ≡ Some s.catalogue.source → IsSound s → IsTrueActor s.catalogue first → IsTrueActor s.catalogue step.actor
+  pub truth : told ≡ Some s.catalogue.source → IsSound s → IsTrueActor s.catalogue first → IsTrueOutcome s.catalogue a step.outcome
+  pub within : p ≤ length t.history
+  pub held_fresh : IsFreshActor s.catalogue t.history p a step.actor
+  pub fresh : IsFreshOutcome s.catalogue t.history p a step.outcome
+  pub grows : Extends s.history t.history
+  pub catalogue : t.catalogue ≡ s.catalogue
+
+-- one more event of an actor that has work
+abbrev pub GoesFurther : Option ℕ → ℕ → ℕ → State → Step → Step → State → Type 0
+GoesFurther told before after s old step t =
+    ((is_at_work old.actor ≡ false) × (step ≡ old) × (t ≡ s) × (before ≤ after)) ⊎ ((is_at_work old.actor ≡ true) × Advances told before after s old.actor step t)
+
+-- the events of the line that asks for the tile, under some chance
+pub record Opens (told : Option ℕ) (before after : ℕ) (s : State) (a : Address) (mode : Mode) (step : Step) (t : State) : Type 0 where
+  pub chance : Chance
+  pub made : shown step t ≡ events mode s a chance
+  pub moves : Moves told before after s actor.Idle a (length s.history) step t

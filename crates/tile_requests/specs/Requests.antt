@@ -1,0 +1,174 @@
+-- A request and its events in a line, as a function of the cabinet. What happens by chance in a line, that memory runs out,
+-- and which bytes a rendering gives or that it fails, is taken as it happened; all else is fixed.
+use Rattle.std.specs.Prelude.{length, nat_lt, ℕ, ◌≡◌, Bool, true, false, if◌then◌else◌, List, Option, Some, None, IfSome, ⊤}
+use Rattle.cabinet.specs.Fresh.{IsFresh}
+use Rattle.cabinet.specs.Commands.{book_before}
+use Rattle.cabinet.specs.Counted.{scope_exceeded, victim_in}
+use Rattle.cabinet.specs.History.{History, next}
+use Rattle.cabinet.specs.State.{State, now, with_cut, with_dropped}
+use Rattle.cache_core.specs.declared.actor.Actor.{Actor}
+use Rattle.cache_core.specs.declared.actor.Actor.TheVariants.{Idle, Waiting, Holding, Rendered, Failed}
+use Rattle.cache_core.specs.declared.outcome.Outcome.TheVariants as core
+use Rattle.cache_core.specs.declared.outcome.Outcome as cached
+use Rattle.cache_core.specs.Steps.{Stepped, began, advanced}
+use Rattle.catalog.specs.declared.catalogue.Catalogue.{Catalogue}
+use Rattle.catalog.specs.declared.catalogue.Scope.{Scope}
+use Rattle.catalog.specs.LookUp.{IsTile}
+use Rattle.matrix_geometry.specs.declared.address.Address.{Address}
+use Rattle.metatile_plan.specs.declared.metatile.MetaKey.{MetaKey}
+use Rattle.raster_field.specs.TileText.{tile_text}
+use Rattle.served_covers.specs.OfCatalogue.{IsCoverOf}
+use Rattle.truncation_list.specs.declared.cover.Cover.{Cover}
+use Rattle.tile_requests.specs.declared.outcome.Outcome.{Outcome}
+use Rattle.tile_requests.specs.declared.outcome.Outcome.TheVariants as outcome
+use Rattle.tile_requests.specs.declared.request.Mode.{Mode}
+use Rattle.tile_requests.specs.declared.request.Mode.TheVariants.{Gets, Asks, Forces}
+use Rattle.tile_requests.specs.declared.request.Request.{Request}
+use Rattle.tile_requests.specs.declared.request.Request.TheVariants as request
+use Rattle.tile_requests.specs.Texts.{usage_text, dropped_text}
+
+-- CHANCES
+
+-- what happened by chance in a line: whether memory was left to read its request, for its first ask or force or its
+-- truncation, for what follows or the text that it tells, and for the answer, and the bytes that the rendering gave, by their
+-- places in the blob, or nothing where it failed
+pub record Chance : Type 0 where
+  pub read : Bool
+  pub ask : Bool
+  pub work : Bool
+  pub bytes : Option (ℕ → ℕ)
+  pub left : Bool
+
+-- nothing happened by chance
+abbrev pub calm : Chance
+calm = record { read = true; ask = true; work = true; bytes = None; left = true }
+
+-- THE EVENTS OF A LINE
+
+-- the actor has work that waits for no other
+abbrev pub is_at_work : Actor → Bool
+is_at_work Idle = false
+is_at_work (Waiting a force) = false
+is_at_work (Holding t a) = true
+is_at_work (Rendered t blob tile) = true
+is_at_work (Failed t) = true
+
+abbrev pub further : Chance → Stepped → Stepped
+further c r = if is_at_work r.actor then advanced r.cabinet r.actor c.work c.bytes else r
+
+-- the render and the finish follow in the same line
+abbrev pub carried_on : Chance → Stepped → Stepped
+carried_on c r = further c (further c r)
+
+-- the events of the line that asks for a tile: a GET goes on until it is answered or waits; an ask and a force stay the one
+-- event
+abbrev pub events : Mode → State → Address → Chance → Stepped
+events Gets s a c = carried_on c (began s a false c.ask)
+events Asks s a c = began s a false c.ask
+events Forces s a c = began s a true c.ask
+
+-- the outcome of a request for a tile as that of a request
+abbrev pub outcome_of : cached.Outcome → Outcome
+outcome_of (core.Tile tile) = outcome.Tile tile.hit tile.number tile.bytes
+outcome_of core.SourceFailed = outcome.SourceFailed
+outcome_of core.Spent = outcome.Spent
+outcome_of core.NoMemory = outcome.NoMemory
+
+-- where no memory is left, the outcome says so
+abbrev pub told_at : Bool → Outcome → Outcome
+told_at left o = if left then o else outcome.NoMemory
+
+-- COMMANDS
+
+-- the text of what is kept
+abbrev pub told_usage : State → Bool → Outcome
+told_usage s left = told_at left (outcome.Usage (usage_text s))
+
+-- the cover is cut, unless as many cuts would stay in force as may be, or no number is left
+abbrev pub cut_by : State → Cover → Option ℕ → State × Outcome
+cut_by s cover None = (s, outcome.CutSpent)
+cut_by s cover (Some t) = if nat_lt (length (book_before s cover).cuts) s.catalogue.cut_limit then (with_cut s t cover, outcome.Cut t) else (s, outcome.CutsFull)
+
+-- a truncation, while memory is left
+abbrev pub cut : State → Cover → Bool → State × Outcome
+cut s cover left = if left then cut_by s cover (next s.opening (now s)) else (s, outcome.NoMemory)
+
+-- a metatile is dropped, whether memory is left to tell it or not
+abbrev pub dropped : State → Bool → Option MetaKey → State × Outcome
+dropped s left None = (s, outcome.Within)
+dropped s left (Some m) = (with_dropped s m, told_at left (outcome.Dropped (dropped_text s.catalogue m)))
+
+-- that of the scope whose quota is exceeded
+abbrev pub expired_in : State → Bool → Option Scope → State × Outcome
+expired_in s left None = (s, outcome.Within)
+expired_in s left (Some scope) = dropped s left (victim_in s scope)
+
+-- an expiry
+abbrev pub expired : State → Bool → State × Outcome
+expired s left = expired_in s left (scope_exceeded s)
+
+-- WHAT IS SAID OF REQUESTS
+
+-- 1 where the source failed at the render of this actor, and it is yet to be answered
+abbrev pub owed : Actor → ℕ
+owed Idle = 0
+owed (Waiting a force) = 0
+owed (Holding t a) = 0
+owed (Rendered t blob tile) = 0
+owed (Failed t) = 1
+
+-- the tile that a request asks for
+abbrev pub tile_of : Request → Option Address
+tile_of (request.Tile a) = Some a
+tile_of request.Capabilities = None
+tile_of (request.Refused code locator) = None
+tile_of request.NotFound = None
+tile_of request.WrongMethod = None
+tile_of request.Usage = None
+tile_of (request.Truncation cover) = None
+tile_of (request.Unformed fault) = None
+tile_of request.Expiry = None
+
+-- the number of a tile that is answered, and the encoded tile
+abbrev pub tile_in : Outcome → Option (ℕ × List ℕ)
+tile_in (outcome.Tile hit k text) = Some (k, text)
+tile_in outcome.Document = None
+tile_in (outcome.Refused code locator) = None
+tile_in outcome.NotFound = None
+tile_in outcome.WrongMethod = None
+tile_in outcome.SourceFailed = None
+tile_in outcome.Spent = None
+tile_in (outcome.Usage text) = None
+tile_in (outcome.Cut number) = None
+tile_in outcome.CutsFull = None
+tile_in outcome.CutSpent = None
+tile_in (outcome.Unformed fault) = None
+tile_in (outcome.Dropped text) = None
+tile_in outcome.Within = None
+tile_in outcome.NoMemory = None
+
+-- a tile that is asked for is of the catalogue, and the cover of a truncation
+abbrev pub IsOf : Catalogue → Request → Type 0
+IsOf c (request.Tile a) = IsTile c a
+IsOf c request.Capabilities = ⊤
+IsOf c (request.Refused code locator) = ⊤
+IsOf c request.NotFound = ⊤
+IsOf c request.WrongMethod = ⊤
+IsOf c request.Usage = ⊤
+IsOf c (request.Truncation cover) = IsCoverOf c cover
+IsOf c (request.Unformed fault) = ⊤
+IsOf c request.Expiry = ⊤
+
+-- the bytes of a tile that is answered are the encoded tile of its number
+abbrev pub IsTrueTile : Catalogue → Address → Outcome → Type 0
+IsTrueTile c a o = IfSome (tile_in o) (λ t. t.1 ≡ tile_text c t.0 a)
+
+abbrev pub IsTrueAnswer : Catalogue → Request → Outcome → Type 0
+IsTrueAnswer c r o = IfSome (tile_of r) (λ a. IsTrueTile c a o)
+
+-- a tile that is answered is fresh at an ask that was made when the history had p entries
+abbrev pub IsFreshTile : Catalogue → History → ℕ → Address → Outcome → Type 0
+IsFreshTile c h p a o = IfSome (tile_in o) (λ t. IsFresh c h p a t.0)
+
+abbrev pub IsFreshAnswer : Catalogue → History → ℕ → Request → Outcome → Type 0
+IsFreshAnswer c h p r o = IfSome (tile_of r) (λ a. IsFreshTile c h p a o)

@@ -1,0 +1,63 @@
+//! Which events of a request for a tile are made in the line that starts it.
+ghost use Rattle.std.specs.Prelude.{◌≡◌, true};
+ghost use Rattle.cache_core.specs.Shown.{IsIdle};
+ghost use Rattle.cache_core.specs.Fits.{IsFit};
+ghost use Rattle.catalog.specs.LookUp.{IsTile};
+ghost use Rattle.matrix_geometry.specs.declared.address.Address.{Address};
+ghost use Rattle.tile_requests.specs.Events.{GoesFurther, Opens};
+ghost use Rattle.tile_requests.specs.Requests.{is_at_work};
+
+use crate::request::Mode;
+use cabinet::cabinet::Cabinet;
+use cache_core::actor::{Actor, Step};
+use cache_core::steps::{advance, begin};
+use matrix_geometry::address::Address;
+use source_render::source::Source;
+use std::alloc::Global;
+
+/// Whether an actor has work that waits for no other.
+fn is_at_work(actor: &Actor) -> bool
+    ensures at_work { result ≡ is_at_work actor.now }
+    ensures busy { result ≡ true → IsIdle actor.now → ⊥ }
+{
+    match actor {
+        Actor::Idle | Actor::Waiting(_, _) => false,
+        Actor::Holding(_, _) | Actor::Rendered(_, _, _) | Actor::Failed(_) => true,
+    }
+}
+
+/// The next event of an actor that has work.
+fn further<S: Source>(alloc: Global, cabinet: &mut Cabinet, source: &mut S, step: Step) -> Step
+    requires { (a : Address) × IsFit cabinet.old.catalogue a step.actor }
+    ensures goes { GoesFurther (S.told source.old) (S.faults source.old) (S.faults source.new) cabinet.old step result cabinet.new }
+    ensures told { S.told source.new ≡ S.told source.old }
+{
+    if !is_at_work(&step.actor) {
+        return step;
+    }
+    let Step { actor, outcome: _ } = step;
+    advance(alloc, cabinet, source, actor)
+}
+
+/// The events of the line that asks for a tile.
+pub fn events<S: Source>(
+    alloc: Global,
+    cabinet: &mut Cabinet,
+    source: &mut S,
+    address: &Address,
+    mode: Mode,
+) -> Step
+    requires { IsTile cabinet.old.catalogue address.now }
+    ensures opens { Opens (S.told source.old) (S.faults source.old) (S.faults source.new) cabinet.old address.now mode result cabinet.new }
+    ensures told { S.told source.new ≡ S.told source.old }
+{
+    match mode {
+        Mode::Asks => begin(alloc, cabinet, address, false),
+        Mode::Forces => begin(alloc, cabinet, address, true),
+        Mode::Gets => {
+            let asked = begin(alloc, cabinet, address, false);
+            let rendered = further(alloc, cabinet, source, asked);
+            further(alloc, cabinet, source, rendered)
+        }
+    }
+}

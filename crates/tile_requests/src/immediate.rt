@@ -1,0 +1,32 @@
+//! Requests that aren't for a tile: each has its outcome in one step.
+ghost use Rattle.std.specs.Prelude.{◌≡◌, None};
+ghost use Rattle.catalog.specs.Valid.{IsValid};
+ghost use Rattle.tile_requests.specs.Immediate.{IsImmediate};
+ghost use Rattle.tile_requests.specs.Requests.{IsOf, tile_of};
+
+use crate::commands::{cut, expire, usage};
+use crate::outcome::Outcome;
+use crate::request::Request;
+use cabinet::cabinet::Cabinet;
+use std::alloc::Global;
+
+/// Answers a request that isn't for a tile. Where memory runs out, its outcome says so.
+pub fn immediate(alloc: Global, cabinet: &mut Cabinet, request: Request) -> Outcome
+    requires valid { IsValid cabinet.old.catalogue }
+    requires of { IsOf cabinet.old.catalogue request }
+    requires other { tile_of request ≡ None }
+    ensures immediate { IsImmediate cabinet.old request result cabinet.new }
+    ensures catalogue { cabinet.new.catalogue ≡ cabinet.old.catalogue }
+{
+    match request {
+        Request::Tile(_) => unreachable!(),
+        Request::Capabilities => Outcome::Document,
+        Request::Refused(code, locator) => Outcome::Refused(code, locator),
+        Request::NotFound => Outcome::NotFound,
+        Request::WrongMethod => Outcome::WrongMethod,
+        Request::Usage => usage(alloc, cabinet),
+        Request::Truncation(cover) => cut(alloc, cabinet, &cover),
+        Request::Unformed(fault) => Outcome::Unformed(fault),
+        Request::Expiry => expire(alloc, cabinet),
+    }
+}

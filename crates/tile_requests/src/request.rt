@@ -1,0 +1,56 @@
+//! What messages ask for, and the ways in which a tile is asked for.
+ghost use Rattle.std.specs.Prelude.{◌≡◌};
+ghost use Rattle.tile_requests.specs.Requests.{outcome_of};
+
+use crate::outcome::Outcome;
+use cache_core::outcome::{Outcome as TileOutcome, Tile};
+use exception_report::code::{Code, Locator};
+use job_forms::fault::JobFault;
+use matrix_geometry::address::Address;
+use truncation_list::cover::Cover;
+
+/// What is asked for.
+#[derive(Drop)]
+pub enum Request {
+    /// A tile of the catalogue.
+    Tile(Address),
+    /// The capabilities document.
+    Capabilities,
+    /// What the reading of the request refuses.
+    Refused(Code, Locator),
+    /// Its path leads nowhere.
+    NotFound,
+    /// Its path takes another method.
+    WrongMethod,
+    /// What is kept, and how many truncations are in force.
+    Usage,
+    /// A truncation by a cover of the catalogue.
+    Truncation(Cover),
+    /// A truncation by a text that is no cover.
+    Unformed(JobFault),
+    /// An expiry.
+    Expiry,
+}
+
+/// How a tile is asked for.
+#[derive(Clone, Copy, Debug, PartialEq, Eq)]
+pub enum Mode {
+    /// The render and the finish follow in the same line, where no other render of the metatile runs.
+    Gets,
+    /// The ask alone.
+    Asks,
+    /// A force of a render alone.
+    Forces,
+}
+
+/// The outcome of a request for a tile as that of a request.
+pub fn outcome_of(outcome: TileOutcome) -> Outcome
+    ensures { result ≡ outcome_of outcome }
+{
+    match outcome {
+        TileOutcome::Tile(Tile { hit, number, bytes }) => Outcome::Tile(hit, number, bytes),
+        TileOutcome::SourceFailed => Outcome::SourceFailed,
+        TileOutcome::Spent => Outcome::Spent,
+        TileOutcome::NoMemory => Outcome::NoMemory,
+    }
+}

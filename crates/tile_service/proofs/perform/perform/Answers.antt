@@ -1,0 +1,10 @@
+use Rattle.std.proofs.Common.{Some, sym, ap, ◌∙◌}
+use Rattle.std.specs.Option.{option_map}
+use Rattle.tile_service.specs.Shown.{shown_action}
+use Rattle.tile_service.proofs.Performed.{idle_performs}
+use Rattle.tile_service.proofs.perform.perform.Goals as goal
+
+pub returns-in-Some-Nothing-clause-performs : goal.returns-in-Some-Nothing-clause-performs
+returns-in-Some-Nothing-clause-performs g c =
+    let e = sym c.action_in.ensures ∙ ap (option_map shown_action) (c.in-Some-Nothing.is ∙ ap Some c.in-Some-Nothing.field-0-is) in
+    rw e (idle_performs _ _ c.args.counter.now.cabinet c.args.counter.now.capabilities c.args.seats.now c.args.n)

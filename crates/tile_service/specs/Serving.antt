@@ -1,0 +1,24 @@
+-- What one message of a session came to.
+-- A tie between the code and its definitions: the promise can be read without it.
+use Rattle.std.specs.Prelude.{ℕ, ◌≡◌, Bool, List, [], ◌∷◌, length, Option}
+use Rattle.cabinet.specs.State.{State}
+use Rattle.http_wire.specs.declared.message.Message.{Message}
+use Rattle.tile_requests.specs.declared.outcome.Outcome.{Outcome}
+use Rattle.tile_requests.specs.declared.request.Mode.TheVariants.{Gets}
+use Rattle.tile_requests.specs.declared.request.Request.{Request}
+use Rattle.tile_service.specs.OneLine.{Keeps}
+use Rattle.tile_requests.specs.Requests.{Chance, told_at}
+use Rattle.tile_service.specs.Run.{Answer, sent}
+use Rattle.tile_service.specs.Session.{IsAtRest, lone}
+
+-- the answer to the i-th message of a session
+abbrev pub answer_to : ℕ → Message → Option Request → ℕ → Outcome → Answer
+answer_to i m request place o = record { line = i; actor = 0; start = i; message = m; request = request; place = place; outcome = o }
+
+-- From s a message came to t, and this is its outcome, unless no memory is left to answer it. No render runs after it.
+pub record Serves (told : Option ℕ) (before after : ℕ) (document : List ℕ) (s : State) (m : Message) (o : Outcome) (t : State) : Type 0 where
+  pub request : Option Request
+  pub chance : Bool → Chance
+  pub made : (i : ℕ) (left : Bool) → sent (lone s document) i (chance left) Gets 0 m ≡ (lone t document, answer_to i m request (length s.history) (told_at left o) ∷ [])
+  pub keeps : (i : ℕ) (left : Bool) → Keeps told before after (lone s document) (lone t document) (answer_to i m request (length s.history) (told_at left o) ∷ [])
+  pub rests : IsAtRest t

@@ -1,0 +1,148 @@
+//! The action of a line is performed: its actor sends a message, or makes the next event of its pending request.
+ghost use Rattle.std.specs.Prelude.{◌≡◌, List, Option, Some, slice_get};
+ghost use Rattle.catalog.specs.Valid.{IsValid};
+ghost use Rattle.tile_service.specs.Performing.{IsAsked};
+ghost use Rattle.tile_service.specs.Lines.{Sends, Steps, action_in};
+ghost use Rattle.tile_service.specs.OneLine.{Performs, IsSeated};
+ghost use Rattle.tile_requests.specs.Requests.{IsOf};
+ghost use Rattle.tile_requests.specs.Shown.{shown_message};
+ghost use Rattle.tile_service.specs.Run.{PendingRequest};
+
+use crate::action_end::{ActionEnd, Answer};
+use crate::counter::Counter;
+use crate::lines::{Action, action_in};
+use crate::seats::{Pending, Seat, is_free, pending_at, settle};
+use cache_core::steps::advance;
+use source_render::source::Source;
+use std::alloc::Global;
+use tile_requests::events::events;
+use tile_requests::immediate::immediate;
+use tile_requests::message_ref::MessageRef;
+use tile_requests::outcome::Outcome;
+use tile_requests::request::{Mode, Request};
+use tile_requests::routes::read_request;
+
+/// An answer in the line in which the request starts.
+fn answered(actor: u32, line: u64, outcome: Outcome) -> ActionEnd
+    ensures { result ≡ ActionEnd.Answers (record { actor = actor; start = line; outcome = outcome }) }
+{
+    ActionEnd::Answers(Answer {
+        actor,
+        start: line,
+        outcome,
+    })
+}
+
+/// Serves a request that an actor starts in line `n`.
+fn asked<S: Source>(
+    alloc: Global,
+    counter: &mut Counter,
+    seats: &mut [Seat],
+    source: &mut S,
+    n: u64,
+    mode: Mode,
+    actor: u32,
+    request: Request,
+) -> ActionEnd
+    requires valid { IsValid counter.old.cabinet.catalogue }
+    requires of { IsOf counter.old.cabinet.catalogue request }
+    requires free { slice_get seats.old actor ≡ Some Seat.Free }
+    ensures asked { IsAsked (S.told source.old) (S.faults source.old) (S.faults source.new) counter.old.cabinet seats.old n mode actor request counter.new.cabinet seats.new result }
+    ensures catalogue { counter.new.cabinet.catalogue ≡ counter.old.cabinet.catalogue }
+    ensures capabilities { counter.new.capabilities ≡ counter.old.capabilities }
+    ensures told { S.told source.new ≡ S.told source.old }
+{
+    match request {
+        Request::Tile(address) => {
+            let step = events(alloc, &mut counter.cabinet, source, &address, mode);
+            settle(&mut counter.cabinet, seats, actor, n, &address, step)
+        }
+        other => {
+            let outcome = immediate(alloc, &mut counter.cabinet, other);
+            answered(actor, n, outcome)
+        }
+    }
+}
+
+/// An actor sends a message in line `n`.
+fn sent<S: Source>(
+    alloc: Global,
+    counter: &mut Counter,
+    seats: &mut [Seat],
+    source: &mut S,
+    n: u64,
+    mode: Mode,
+    actor: u32,
+    message: &MessageRef<'_>,
+) -> ActionEnd
+    requires { IsValid counter.old.cabinet.catalogue }
+    ensures performs { Performs (S.told source.old) (S.faults source.old) (S.faults source.new) counter.old.cabinet counter.old.capabilities seats.old n (Some (Sends mode actor (shown_message message.now))) counter.new.cabinet seats.new result }
+    ensures catalogue { counter.new.cabinet.catalogue ≡ counter.old.cabinet.catalogue }
+    ensures capabilities { counter.new.capabilities ≡ counter.old.capabilities }
+    ensures told { S.told source.new ≡ S.told source.old }
+{
+    if !is_free(seats, actor) {
+        return ActionEnd::Refused;
+    }
+    let catalogue = counter.cabinet.catalogue();
+    let Ok(request) = read_request(alloc, catalogue, &counter.rest, message) else {
+        return answered(actor, n, Outcome::NoMemory);
+    };
+    asked(alloc, counter, seats, source, n, mode, actor, request)
+}
+
+/// An actor makes the next event of its pending request.
+fn stepped<S: Source>(
+    alloc: Global,
+    counter: &mut Counter,
+    seats: &mut [Seat],
+    source: &mut S,
+    n: u64,
+    actor: u32,
+) -> ActionEnd
+    requires { (busy : List (Option PendingRequest)) × IsSeated counter.old.cabinet counter.old.capabilities seats.old busy }
+    ensures performs { Performs (S.told source.old) (S.faults source.old) (S.faults source.new) counter.old.cabinet counter.old.capabilities seats.old n (Some (Steps actor)) counter.new.cabinet seats.new result }
+    ensures catalogue { counter.new.cabinet.catalogue ≡ counter.old.cabinet.catalogue }
+    ensures capabilities { counter.new.capabilities ≡ counter.old.capabilities }
+    ensures told { S.told source.new ≡ S.told source.old }
+{
+    match pending_at(seats, actor) {
+        None => ActionEnd::Refused,
+        Some(
+            Pending {
+                start,
+                address,
+                actor: state,
+            },
+        ) => {
+            let step = advance(alloc, &mut counter.cabinet, source, state);
+            settle(&mut counter.cabinet, seats, actor, start, &address, step)
+        }
+    }
+}
+
+/// Performs the action that line `n` says.
+pub fn perform<S: Source>(
+    alloc: Global,
+    counter: &mut Counter,
+    seats: &mut [Seat],
+    source: &mut S,
+    n: u64,
+    line: &[u8],
+) -> ActionEnd
+    requires valid { IsValid counter.old.cabinet.catalogue }
+    requires seated { (busy : List (Option PendingRequest)) × IsSeated counter.old.cabinet counter.old.capabilities seats.old busy }
+    ensures performs { Performs (S.told source.old) (S.faults source.old) (S.faults source.new) counter.old.cabinet counter.old.capabilities seats.old n (action_in line.now) counter.new.cabinet seats.new result }
+    ensures catalogue { counter.new.cabinet.catalogue ≡ counter.old.cabinet.catalogue }
+    ensures capabilities { counter.new.capabilities ≡ counter.old.capabilities }
+    ensures told { S.told source.new ≡ S.told source.old }
+{
+    match action_in(line) {
+        None => ActionEnd::Refused,
+        Some(Action::Nothing) => ActionEnd::Silent,
+        Some(Action::Sends(mode, actor, message)) => {
+            sent(alloc, counter, seats, source, n, mode, actor, &message)
+        }
+        Some(Action::Steps(actor)) => stepped(alloc, counter, seats, source, n, actor),
+    }
+}
