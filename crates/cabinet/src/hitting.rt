@@ -9,37 +9,25 @@ ghost use Rattle.served_covers.specs.OfCatalogue.{IsCoverOf};
 
 use catalog::catalogue::Catalogue;
 use catalog::grid::Grid;
-use catalog::layer::Layer;
 use metatile_locks::hitting::hits_in;
 use metatile_locks::locks::Locks;
 use metatile_plan::metatile::{Factors, MetaKey};
+use raster_field::layout;
 use truncation_list::cover::Cover;
 
 /// The grid of a cover.
+#[tactic(auto, using(catalog::proofs::Found::some_told, catalog::proofs::Found::some_before))]
 fn grid_of<'a>(catalogue: &'a Catalogue, cover: &Cover) -> &'a Grid
     requires valid { IsValid catalogue.now }
     requires cover { IsCoverOf catalogue.now cover.now }
     ensures grid { slice_get catalogue.now.grids cover.now.grid ≡ Some result.now }
     ensures valid { IsGrid result.now }
 {
-    let Some(grid) = catalogue.grids.get(cover.grid as usize) else {
-        unreachable!()
-    };
-    grid
-}
-
-/// The layer of a cover.
-fn layer_of<'a>(catalogue: &'a Catalogue, cover: &Cover) -> &'a Layer
-    requires { IsCoverOf catalogue.now cover.now }
-    ensures { slice_get catalogue.now.layers cover.now.layer ≡ Some result.now }
-{
-    let Some(layer) = catalogue.layers.get(cover.layer as usize) else {
-        unreachable!()
-    };
-    layer
+    catalogue.grid(cover.grid)
 }
 
 /// How the metatiles of a cover's layer are gathered.
+#[tactic(auto, using(catalog::proofs::Found::some_told))]
 fn factors_of(catalogue: &Catalogue, cover: &Cover, grid: &Grid) -> Factors
     requires valid { IsValid catalogue.now }
     requires cover { IsCoverOf catalogue.now cover.now }
@@ -47,12 +35,7 @@ fn factors_of(catalogue: &Catalogue, cover: &Cover, grid: &Grid) -> Factors
     ensures plan { IsPlanOn result grid.now }
     ensures hits { (m : MetaKey) → hits_in result grid.now cover.now m ≡ hits_of catalogue.now cover.now m }
 {
-    let layer = layer_of(catalogue, cover);
-    Factors {
-        x: layer.meta_x,
-        y: layer.meta_y,
-        gutter: layer.gutter,
-    }
+    layout::factors_of(catalogue.layer(cover.layer))
 }
 
 /// Whether a cover is for some tile of a metatile.
