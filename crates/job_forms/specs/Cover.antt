@@ -4,6 +4,7 @@ use Rattle.serde_json.specs.Data.{Data}
 use Rattle.serde_json.specs.Find.{get}
 use Rattle.json_forms.specs.Forms.{object_of}
 use Rattle.catalog.specs.declared.catalogue.Catalogue.{Catalogue}
+use Rattle.matrix_geometry.specs.declared.theme.Filter.{Filter}
 use Rattle.truncation_list.specs.declared.cover.Cover.{Cover}
 use Rattle.job_forms.specs.declared.fault.JobField.TheVariants as field
 use Rattle.job_forms.specs.declared.fault.JobFault.TheVariants.{NotJson}
@@ -13,6 +14,15 @@ use Rattle.job_forms.specs.Members.{required, if_any, matrices_of}
 use Rattle.job_forms.specs.Outcome.{Outcome, ◌>>=◌}
 use Rattle.job_forms.specs.Values.{values_or_any}
 
+-- the filter that the last rows are for
+unfoldable pub filter_in : Catalogue → ℕ → Data → Outcome Filter
+filter_in c layer d = do
+  format ← if_any forms.format field.Format (get (codes "format") d)
+  style ← if_any (forms.style c layer) field.Style (get (codes "style") d)
+  dims ← values_or_any c layer (get (codes "dimensions") d)
+  Ok (record { style = style; dims = dims })
+
+-- all rows: a member a line
 unfoldable pub cover_in : Catalogue → Data → Outcome Cover
 cover_in c d = do
   layer ← required (forms.layer c) field.Layer (get (codes "layer") d)
@@ -20,10 +30,8 @@ cover_in c d = do
   z_start ← required (forms.zoom 0 (matrices_of c grid)) field.ZoomStart (get (codes "zoomStart") d)
   z_stop ← required (forms.zoom z_start (matrices_of c grid)) field.ZoomStop (get (codes "zoomStop") d)
   bounds ← box_if_any (get (codes "bounds") d)
-  format ← if_any forms.format field.Format (get (codes "format") d)
-  style ← if_any (forms.style c layer) field.Style (get (codes "style") d)
-  dims ← values_or_any c layer (get (codes "dimensions") d)
-  Ok (record { layer = layer; grid = grid; z_start = z_start; z_stop = z_stop; bounds = bounds; filter = record { style = style; dims = dims } })
+  filter ← filter_in c layer d
+  Ok (record { layer = layer; grid = grid; z_start = z_start; z_stop = z_stop; bounds = bounds; filter = filter })
 
 -- the cover of a text
 unfoldable pub cover_of : Catalogue → List ℕ → Outcome Cover

@@ -1,15 +1,16 @@
 //! The reading of a whole cover.
-ghost use Rattle.std.specs.Prelude.{◌≡◌, ◌≤◌, IfOk};
+ghost use Rattle.std.specs.Prelude.{◌≡◌, ◌<◌, ◌≤◌, ℕ, Some, IfOk, IfSome, IsSomeAnd, length, slice_get};
 ghost use Rattle.serde_json.specs.View.{view};
+ghost use Rattle.catalog.specs.LookUp.{dimension_at};
 ghost use Rattle.catalog.specs.Valid.{IsValid};
-ghost use Rattle.job_forms.specs.Cover.{cover_in, cover_of};
+ghost use Rattle.job_forms.specs.Cover.{cover_in, cover_of, filter_in};
 ghost use Rattle.served_covers.specs.OfCatalogue.{IsCoverOf};
 ghost use Rattle.job_forms.specs.Outcome.{Gives};
 
 use crate::bounds::box_if_any;
-use crate::fault::{JobFault, JobField};
+use crate::fault::JobFault;
 use crate::member::{
-    format_if_any, matrices_of, required_grid, required_layer, required_zoom, style_if_any,
+    format_if_any, required_grid, required_layer, style_if_any, zoom_start, zoom_stop,
 };
 use crate::values::values_or_any;
 use catalog::catalogue::Catalogue;
@@ -19,6 +20,31 @@ use serde_json::Value;
 use std::alloc::Global;
 use truncation_list::cover::Cover;
 
+// What a member gives, or else its fault: `?` less its conversion of the error, which each member's proof would pay for.
+macro_rules! member {
+    ($member:expr) => {
+        match $member {
+            Ok(given) => given,
+            Err(fault) => return Err(fault),
+        }
+    };
+}
+
+/// The filter of an object's members.
+#[tactic(auto, unfolding(crate::specs::Cover::filter_in))]
+fn filter_in(catalogue: &Catalogue, layer: u32, object: &Value) -> Result<Filter, JobFault>
+    requires valid { IsValid catalogue.now }
+    requires layer { layer < length catalogue.now.layers }
+    ensures value { result ≡ filter_in catalogue.now layer (view object.now) }
+    ensures style { IfOk result (λ filter. IfSome filter.style (λ style. IsSomeAnd (slice_get catalogue.now.layers layer) (λ l. style < length l.styles))) }
+    ensures values { IfOk result (λ filter. (dim number : ℕ) → slice_get filter.dims dim ≡ Some (Some number) → IsSomeAnd (dimension_at catalogue.now layer dim) (λ d. number < length d.values)) }
+{
+    member!(format_if_any(object));
+    let style = member!(style_if_any(catalogue, layer, object));
+    let dims = member!(values_or_any(catalogue, layer, object));
+    Ok(Filter { style, dims })
+}
+
 /// The cover of an object's members.
 #[tactic(auto, unfolding(crate::specs::Cover::cover_in))]
 fn cover_in(catalogue: &Catalogue, object: &Value) -> Result<Cover, JobFault>
@@ -27,22 +53,19 @@ fn cover_in(catalogue: &Catalogue, object: &Value) -> Result<Cover, JobFault>
     ensures of { IfOk result (IsCoverOf catalogue.now) }
     ensures zoom { IfOk result (λ cover. cover.z_start ≤ cover.z_stop) }
 {
-    let layer = required_layer(catalogue, object)?;
-    let grid = required_grid(catalogue, layer, object)?;
-    let matrices = matrices_of(catalogue, grid);
-    let z_start = required_zoom(object, "zoomStart", JobField::ZoomStart, 0, matrices)?;
-    let z_stop = required_zoom(object, "zoomStop", JobField::ZoomStop, z_start, matrices)?;
-    let bounds = box_if_any(object)?;
-    format_if_any(object)?;
-    let style = style_if_any(catalogue, layer, object)?;
-    let dims = values_or_any(catalogue, layer, object)?;
+    let layer = member!(required_layer(catalogue, object));
+    let grid = member!(required_grid(catalogue, layer, object));
+    let z_start = member!(zoom_start(catalogue, grid, object));
+    let z_stop = member!(zoom_stop(catalogue, grid, z_start, object));
+    let bounds = member!(box_if_any(object));
+    let filter = member!(filter_in(catalogue, layer, object));
     Ok(Cover {
         layer,
         grid,
         z_start,
         z_stop,
         bounds,
-        filter: Filter { style, dims },
+        filter,
     })
 }
 
