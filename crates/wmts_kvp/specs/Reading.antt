@@ -23,12 +23,17 @@ address_in c pairs layer theme = do
   col ← some_or TileOutOfRange (codes "TileCol") (below (cols_of c grid z) col_number)
   Ok (record { theme = theme; grid = grid; z = z; row = row; col = col })
 
+-- the rows that say what is asked of the service, read on where it is a tile
+unfoldable pub tile_asked : List (List ℕ × List ℕ) → Row (Unit {0})
+tile_asked pairs = do
+  service ← parameter pairs (codes "service") MissingParameterValue InvalidParameterValue (equal (codes "WMTS"))
+  request ← requested pairs (codes "request") MissingParameterValue
+  parameter pairs (codes "version") MissingParameterValue InvalidParameterValue (equal (codes "1.0.0"))
+
 -- all rows
 unfoldable pub address_of : Catalogue → List (List ℕ × List ℕ) → Row Address
 address_of c pairs = do
-  service ← parameter pairs (codes "service") MissingParameterValue InvalidParameterValue (equal (codes "WMTS"))
-  request ← requested pairs (codes "request") MissingParameterValue
-  version ← parameter pairs (codes "version") MissingParameterValue InvalidParameterValue (equal (codes "1.0.0"))
+  tile ← tile_asked pairs
   layer ← parameter pairs (codes "layer") MissingParameterValue InvalidParameterValue (layer_named c)
   style ← parameter pairs (codes "style") MissingParameterValue InvalidParameterValue (style_or_first c layer)
   format ← parameter pairs (codes "format") MissingParameterValue InvalidParameterValue (equal (codes "image/x-portable-pixmap"))

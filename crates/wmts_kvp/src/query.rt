@@ -4,7 +4,7 @@ ghost use Rattle.catalog.specs.LookUp.{HasValues, IsTile};
 ghost use Rattle.catalog.specs.Valid.{IsValid};
 ghost use Rattle.dimension_key.specs.Draft.{draft_of};
 ghost use Rattle.wmts_kvp.specs.Ends.{row_of};
-ghost use Rattle.wmts_kvp.specs.Reading.{address_in, address_of, reading, query_reading, IsOfCatalogue};
+ghost use Rattle.wmts_kvp.specs.Reading.{address_in, address_of, reading, query_reading, tile_asked, IsOfCatalogue};
 
 use crate::end::End;
 use crate::pairs::pairs_of;
@@ -68,6 +68,16 @@ fn address_in<'a>(
     })
 }
 
+/// The rows that say what is asked of the service: `Ok` where it is a tile.
+#[tactic(auto, unfolding(crate::specs::Reading::tile_asked, crate::specs::Pairs::value_of))]
+fn tile_asked<'a>(pairs: &'a [(Words, Words)]) -> Result<(), End<'a>>
+    ensures { row_of result ≡ tile_asked pairs.now }
+{
+    row!(rows::fixed(pairs, b"service", b"WMTS"));
+    row!(rows::operation(pairs, b"request"));
+    rows::fixed(pairs, b"version", b"1.0.0")
+}
+
 /// All rows of the table in order.
 #[tactic(auto, unfolding(crate::specs::Reading::address_of, crate::specs::Pairs::value_of))]
 fn address_of<'a>(catalogue: &'a Catalogue, pairs: &'a [(Words, Words)]) -> Result<Address, End<'a>>
@@ -75,9 +85,7 @@ fn address_of<'a>(catalogue: &'a Catalogue, pairs: &'a [(Words, Words)]) -> Resu
     ensures value { row_of result ≡ address_of catalogue.now pairs.now }
     ensures tile { IfOk result (IsTile catalogue.now) }
 {
-    row!(rows::fixed(pairs, b"service", b"WMTS"));
-    row!(rows::operation(pairs, b"request"));
-    row!(rows::fixed(pairs, b"version", b"1.0.0"));
+    row!(tile_asked(pairs));
     let layer = row!(rows::layer(catalogue, pairs, b"layer"));
     let style = row!(rows::style(catalogue, layer, pairs, b"style"));
     row!(rows::fixed(pairs, b"format", b"image/x-portable-pixmap"));
