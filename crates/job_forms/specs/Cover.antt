@@ -14,6 +14,13 @@ use Rattle.job_forms.specs.Members.{required, if_any, matrices_of}
 use Rattle.job_forms.specs.Outcome.{Outcome, ◌>>=◌}
 use Rattle.job_forms.specs.Values.{values_or_any}
 
+-- the first and the last matrix
+unfoldable pub zooms_in : Catalogue → ℕ → Data → Outcome (ℕ × ℕ)
+zooms_in c grid d = do
+  start ← required (forms.zoom 0 (matrices_of c grid)) field.ZoomStart (get (codes "zoomStart") d)
+  stop ← required (forms.zoom start (matrices_of c grid)) field.ZoomStop (get (codes "zoomStop") d)
+  Ok (start, stop)
+
 -- the filter that the last rows are for
 unfoldable pub filter_in : Catalogue → ℕ → Data → Outcome Filter
 filter_in c layer d = do
@@ -27,11 +34,10 @@ unfoldable pub cover_in : Catalogue → Data → Outcome Cover
 cover_in c d = do
   layer ← required (forms.layer c) field.Layer (get (codes "layer") d)
   grid ← required (forms.grid c layer) field.Grid (get (codes "grid") d)
-  z_start ← required (forms.zoom 0 (matrices_of c grid)) field.ZoomStart (get (codes "zoomStart") d)
-  z_stop ← required (forms.zoom z_start (matrices_of c grid)) field.ZoomStop (get (codes "zoomStop") d)
+  zooms ← zooms_in c grid d
   bounds ← box_if_any (get (codes "bounds") d)
   filter ← filter_in c layer d
-  Ok (record { layer = layer; grid = grid; z_start = z_start; z_stop = z_stop; bounds = bounds; filter = filter })
+  Ok (record { layer = layer; grid = grid; z_start = zooms.0; z_stop = zooms.1; bounds = bounds; filter = filter })
 
 -- the cover of a text
 unfoldable pub cover_of : Catalogue → List ℕ → Outcome Cover

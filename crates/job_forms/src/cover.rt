@@ -1,16 +1,16 @@
 //! The reading of a whole cover.
-ghost use Rattle.std.specs.Prelude.{◌≡◌, ◌<◌, ◌≤◌, ℕ, Some, IfOk, IfSome, IsSomeAnd, length, slice_get};
+ghost use Rattle.std.specs.Prelude.{◌≡◌, ◌<◌, ◌≤◌, ℕ, Some, IfOk, IfSome, IsSome, IsSomeAnd, length, slice_get};
 ghost use Rattle.serde_json.specs.View.{view};
-ghost use Rattle.catalog.specs.LookUp.{dimension_at};
+ghost use Rattle.catalog.specs.LookUp.{dimension_at, matrix_in};
 ghost use Rattle.catalog.specs.Valid.{IsValid};
-ghost use Rattle.job_forms.specs.Cover.{cover_in, cover_of, filter_in};
+ghost use Rattle.job_forms.specs.Cover.{cover_in, cover_of, filter_in, zooms_in};
 ghost use Rattle.served_covers.specs.OfCatalogue.{IsCoverOf};
 ghost use Rattle.job_forms.specs.Outcome.{Gives};
 
 use crate::bounds::box_if_any;
-use crate::fault::JobFault;
+use crate::fault::{JobFault, JobField};
 use crate::member::{
-    format_if_any, required_grid, required_layer, style_if_any, zoom_start, zoom_stop,
+    format_if_any, matrices_of, required_grid, required_layer, required_zoom, style_if_any,
 };
 use crate::values::values_or_any;
 use catalog::catalogue::Catalogue;
@@ -28,6 +28,22 @@ macro_rules! member {
             Err(fault) => return Err(fault),
         }
     };
+}
+
+/// The numbers of the first and the last matrix of an object's members.
+#[tactic(auto, unfolding(crate::specs::Cover::zooms_in))]
+fn zooms_in(catalogue: &Catalogue, grid: u32, object: &Value) -> Result<(u32, u32), JobFault>
+    requires valid { IsValid catalogue.now }
+    requires grid { grid < length catalogue.now.grids }
+    ensures value { result ≡ zooms_in catalogue.now grid (view object.now) }
+    ensures start { IfOk result (λ zooms. IsSome (matrix_in catalogue.now grid zooms.0)) }
+    ensures stop { IfOk result (λ zooms. IsSome (matrix_in catalogue.now grid zooms.1)) }
+    ensures order { IfOk result (λ zooms. zooms.0 ≤ zooms.1) }
+{
+    let matrices = matrices_of(catalogue, grid);
+    let start = member!(required_zoom(object, "zoomStart", JobField::ZoomStart, 0, matrices));
+    let stop = member!(required_zoom(object, "zoomStop", JobField::ZoomStop, start, matrices));
+    Ok((start, stop))
 }
 
 /// The filter of an object's members.
@@ -55,8 +71,7 @@ fn cover_in(catalogue: &Catalogue, object: &Value) -> Result<Cover, JobFault>
 {
     let layer = member!(required_layer(catalogue, object));
     let grid = member!(required_grid(catalogue, layer, object));
-    let z_start = member!(zoom_start(catalogue, grid, object));
-    let z_stop = member!(zoom_stop(catalogue, grid, z_start, object));
+    let (z_start, z_stop) = member!(zooms_in(catalogue, grid, object));
     let bounds = member!(box_if_any(object));
     let filter = member!(filter_in(catalogue, layer, object));
     Ok(Cover {

@@ -1,8 +1,7 @@
 //! The members of a cover that are a single name or number: layer, grid, matrices, format and style.
-ghost use Rattle.std.specs.Prelude.{◌≡◌, ◌<◌, ◌≤◌, codes, Contains, IfOk, IfSome, IsSome, IsSomeAnd, length, slice_get};
+ghost use Rattle.std.specs.Prelude.{◌≡◌, ◌<◌, ◌≤◌, codes, Contains, IfOk, IfSome, IsSomeAnd, length, slice_get};
 ghost use Rattle.serde_json.specs.Find.{get};
 ghost use Rattle.serde_json.specs.View.{view};
-ghost use Rattle.catalog.specs.LookUp.{matrix_in};
 ghost use Rattle.catalog.specs.Valid.{IsValid};
 ghost use Rattle.job_forms.specs.Members as forms;
 ghost use Rattle.job_forms.specs.Members.{required, if_any, matrices_of};
@@ -61,7 +60,7 @@ pub fn required_grid(catalogue: &Catalogue, layer: u32, object: &Value) -> Resul
 
 /// How many matrices a grid has.
 #[tactic(auto, using(catalog::proofs::Found::some_within))]
-fn matrices_of(catalogue: &Catalogue, grid: u32) -> usize
+pub fn matrices_of(catalogue: &Catalogue, grid: u32) -> usize
     requires valid { IsValid catalogue.now }
     requires grid { grid < length catalogue.now.grids }
     ensures { result ≡ matrices_of catalogue.now grid }
@@ -84,7 +83,7 @@ fn zoom(first: u32, matrices: usize, value: &Value) -> Option<u32>
 }
 
 /// The number of a matrix that has to be given, from `first` on and below `matrices`.
-fn required_zoom(
+pub fn required_zoom(
     object: &Value,
     name: &str,
     field: JobField,
@@ -100,34 +99,6 @@ fn required_zoom(
         None => Err(JobFault::Missing(field)),
         Some(value) => zoom(first, matrices, value).ok_or(JobFault::Bad(field)),
     }
-}
-
-/// The number of the first matrix of a grid that a cover is for.
-pub fn zoom_start(catalogue: &Catalogue, grid: u32, object: &Value) -> Result<u32, JobFault>
-    requires valid { IsValid catalogue.now }
-    requires grid { grid < length catalogue.now.grids }
-    ensures value { result ≡ required (forms.zoom 0 (matrices_of catalogue.now grid)) JobField.ZoomStart (get (codes "zoomStart") (view object.now)) }
-    ensures there { IfOk result (λ z. IsSome (matrix_in catalogue.now grid z)) }
-{
-    let matrices = matrices_of(catalogue, grid);
-    required_zoom(object, "zoomStart", JobField::ZoomStart, 0, matrices)
-}
-
-/// The number of the last matrix of a grid that a cover is for, at or after its first one.
-pub fn zoom_stop(
-    catalogue: &Catalogue,
-    grid: u32,
-    z_start: u32,
-    object: &Value,
-) -> Result<u32, JobFault>
-    requires valid { IsValid catalogue.now }
-    requires grid { grid < length catalogue.now.grids }
-    ensures value { result ≡ required (forms.zoom z_start (matrices_of catalogue.now grid)) JobField.ZoomStop (get (codes "zoomStop") (view object.now)) }
-    ensures first { IfOk result (λ z. z_start ≤ z) }
-    ensures there { IfOk result (λ z. IsSome (matrix_in catalogue.now grid z)) }
-{
-    let matrices = matrices_of(catalogue, grid);
-    required_zoom(object, "zoomStop", JobField::ZoomStop, z_start, matrices)
 }
 
 fn format(value: &Value) -> Option<()>
