@@ -4,10 +4,11 @@ ghost use Rattle.disk_model.specs.Content.{Same};
 ghost use Rattle.disk_model.specs.Images.{Only, ChangesBy};
 ghost use Rattle.gate_journal.specs.Layout.{journal_length};
 ghost use Rattle.gate_journal.specs.Reading.{HasChosen, HasOpenCause, OpensAs};
-ghost use Rattle.gate_journal.specs.Sound.{IsSettled, IsSound, digest_of, room_of, slots_of};
+ghost use Rattle.gate_journal.specs.Sound.{IsSettled, IsSound, digest_of, room_of, slots_of, version_of};
 
 use crate::fault::OpenFault;
 use crate::half::Half;
+use crate::header::Header;
 use crate::journal::Journal;
 use crate::opened::Opened;
 use crate::reading::{half_of_headers, read_header, read_records};
@@ -15,8 +16,8 @@ use crate::standing::Standing;
 use disk_model::disk::Disk;
 use std::alloc::Global;
 
-/// The half in force with its generation, under the digest that is asked for.
-fn choose<D: Disk>(disk: &mut D, digest: &[u8; 32]) -> Result<(Half, u64), OpenFault>
+/// The half in force with its header, under the digest that is asked for.
+fn choose<D: Disk>(disk: &mut D, digest: &[u8; 32]) -> Result<(Half, Header), OpenFault>
     ensures { HasChosen digest.now (D.told disk.old) (D.told disk.new) (D.state disk.old) (D.state disk.new)
         (D.faults disk.old) (D.faults disk.new) result }
 {
@@ -28,7 +29,7 @@ fn choose<D: Disk>(disk: &mut D, digest: &[u8; 32]) -> Result<(Half, u64), OpenF
     if header.digest != *digest {
         return Err(OpenFault::CatalogueDiffers(header.digest, *digest));
     }
-    Ok((half, header.generation))
+    Ok((half, header))
 }
 
 impl Journal {
@@ -45,7 +46,7 @@ impl Journal {
         requires limit { slots ≤ 2 ^ 40 }
         requires clean { IsTrue (D.told disk.old) → Only (D.state disk.old).seen (D.state disk.old).may_leave }
         ensures told { D.told disk.new ≡ D.told disk.old }
-        ensures journal { IfOk result (λ o. IsSettled o.journal × (slots_of o.journal ≡ slots) × (digest_of o.journal ≡ digest.now)
+        ensures journal { IfOk result (λ o. IsSettled o.journal × (slots_of o.journal ≡ slots) × (digest_of o.journal ≡ digest.now) × (version_of o.journal ≡ o.version)
             × (room_of o.journal + length o.bodies.items ≡ slots)) }
         ensures opens { IsTrue (D.told disk.old) → OpensAs digest.now slots (D.state disk.old).seen result }
         // On a disk that holds the journal whole, as `make` left it, the journal agrees with it.
@@ -54,7 +55,7 @@ impl Journal {
         ensures quiet { IsTrue (D.told disk.old) → ChangesBy Same (D.state disk.old) (D.state disk.new) }
         ensures cause { HasOpenCause (D.faults disk.old) (D.faults disk.new) result }
     {
-        let (half, generation) = match choose(disk, digest) {
+        let (half, header) = match choose(disk, digest) {
             Ok(chosen) => chosen,
             Err(fault) => return Err(fault),
         };
@@ -67,11 +68,16 @@ impl Journal {
             slots,
             half,
             count: bodies.len() as u64,
-            generation,
+            version: header.version,
+            generation: header.generation,
             digest: *digest,
             standing: Standing::Settled,
             gate: 0,
         };
-        Ok(Opened { journal, bodies })
+        Ok(Opened {
+            journal,
+            bodies,
+            version: header.version,
+        })
     }
 }

@@ -4,13 +4,28 @@ ghost use Rattle.causes.specs.Causes.{HasCause};
 ghost use Rattle.disk_model.specs.Content.{Content, bytes_at, Same};
 ghost use Rattle.disk_model.specs.Images.{ChangesBy};
 ghost use Rattle.gate_journal.specs.Opened.{half_in_force, in_order};
-ghost use Rattle.gate_journal.specs.Reading.{Says, SaysForce, HasRead, IsDisordered, HasReadCause};
+ghost use Rattle.gate_journal.specs.Reading.{NamesVersion, Says, SaysForce, HasRead, IsDisordered, HasReadCause};
 
 use crate::fault::OpenFault;
 use crate::half::Half;
-use crate::header::{Header, MAGIC};
+use crate::header::{Header, MAGIC_OF_1, MAGIC_OF_2};
 use disk_model::disk::{Disk, Failed};
 use std::alloc::{AllocError, Global};
+
+/// The version whose magic these bytes are.
+fn version_named(bytes: &[u8]) -> Option<u8>
+    ensures { NamesVersion result bytes.now }
+{
+    let first = bytes == MAGIC_OF_1.as_slice();
+    if first {
+        return Some(1);
+    }
+    let second = bytes == MAGIC_OF_2.as_slice();
+    if second {
+        return Some(2);
+    }
+    None
+}
 
 /// The header in a slot, where it counts.
 fn header_of(slot: &[u8; 64]) -> Option<Header>
@@ -19,10 +34,9 @@ fn header_of(slot: &[u8; 64]) -> Option<Header>
     if slot[63] != 1 {
         return None;
     }
-    let begins = &slot[..8] == MAGIC.as_slice();
-    if !begins {
+    let Some(version) = version_named(&slot[..8]) else {
         return None;
-    }
+    };
     let ends = &slot[48..63] == [0; 15].as_slice();
     if !ends {
         return None;
@@ -32,6 +46,7 @@ fn header_of(slot: &[u8; 64]) -> Option<Header>
     let mut digest = [0; 32];
     digest.copy_from_slice(&slot[16..48]);
     Some(Header {
+        version,
         generation: u64::from_be_bytes(number),
         digest,
     })

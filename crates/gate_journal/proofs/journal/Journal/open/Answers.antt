@@ -36,8 +36,8 @@ returns-clause-opens g c told =
     let has = subst (λ (p : ℕ). HasRead seen p slots bodies) c.start.ensures (subst (λ (d : Content). HasRead d c.start.result slots bodies) same
     (subst (λ o. MatchOption o (in_order read c.start.result slots ≡ false) (λ b. HasRead read c.start.result slots b.items)) c.in-Ok-Some.field-0-is (c.in-Ok-Some.ensures.records told1))) in
     let count : c.len.result ≡ length bodies = omega arith in
-    let out = laid_out_of slots c.in-Ok.chosen.0 c.in-Ok.chosen.1 digest seen bodies chosen.0 chosen.1 chosen.2 has in (
-      laid_out_opens (record { slots = slots; half = c.in-Ok.chosen.0; count = length bodies; generation = c.in-Ok.chosen.1; digest = digest }) seen has.fits out ∙ ap records has.bodies_are,
+    let out = laid_out_of slots c.in-Ok.chosen.0 c.in-Ok.chosen.1.version c.in-Ok.chosen.1.generation digest seen bodies chosen.0 chosen.3 chosen.1 chosen.2 has in (
+      laid_out_opens (record { slots = slots; half = c.in-Ok.chosen.0; count = length bodies; version = c.in-Ok.chosen.1.version; generation = c.in-Ok.chosen.1.generation; digest = digest }) seen has.fits out ∙ ap (records c.in-Ok.chosen.1.version) has.bodies_are,
       ap (bodies_at seen (half_at slots c.in-Ok.chosen.0)) count ∙ has.bodies_are,
     )
 
@@ -78,7 +78,7 @@ returns-clause-sound g c told whole =
     let has = subst (λ (p : ℕ). HasRead seen p slots bodies) c.start.ensures (subst (λ (d : Content). HasRead d c.start.result slots bodies) (c.choose.ensures.quiet told).reads
     (subst (λ o. MatchOption o (in_order mid.seen c.start.result slots ≡ false) (λ b. HasRead mid.seen c.start.result slots b.items)) c.in-Ok-Some.field-0-is (c.in-Ok-Some.ensures.records told1))) in
     let count : c.len.result ≡ length bodies = omega arith in
-    let out = subst (λ (n : ℕ). IsLaidOut (record { slots = slots; half = c.in-Ok.chosen.0; count = n; generation = c.in-Ok.chosen.1; digest = c.args.digest.now }) seen) (sym count)
-    (laid_out_of slots c.in-Ok.chosen.0 c.in-Ok.chosen.1 c.args.digest.now seen bodies chosen.0 chosen.1 chosen.2 has) in
-    sound_as_read (record { slots = slots; half = c.in-Ok.chosen.0; count = c.len.result; generation = c.in-Ok.chosen.1; digest = c.args.digest.now }) old (g.D.Disk.state c.read_records.new.disk) (c.requires.clean told)
+    let out = subst (λ (n : ℕ). IsLaidOut (record { slots = slots; half = c.in-Ok.chosen.0; count = n; version = c.in-Ok.chosen.1.version; generation = c.in-Ok.chosen.1.generation; digest = c.args.digest.now }) seen) (sym count)
+    (laid_out_of slots c.in-Ok.chosen.0 c.in-Ok.chosen.1.version c.in-Ok.chosen.1.generation c.args.digest.now seen bodies chosen.0 chosen.3 chosen.1 chosen.2 has) in
+    sound_as_read (record { slots = slots; half = c.in-Ok.chosen.0; count = c.len.result; version = c.in-Ok.chosen.1.version; generation = c.in-Ok.chosen.1.generation; digest = c.args.digest.now }) old (g.D.Disk.state c.read_records.new.disk) (c.requires.clean told)
     (quiet_then old mid (g.D.Disk.state c.read_records.new.disk) (c.choose.ensures.quiet told) (c.read_records.ensures.quiet told1)) whole out
