@@ -7,12 +7,10 @@ use Rattle.std.specs.Cmp.Lexicographic.{pointwise}
 use Rattle.std.specs.Int.{w64, from_be_bytes}
 use Rattle.disk_model.specs.Content.{Content, byte_at, bytes_at}
 use Rattle.disk_model.proofs.Reading.{length-bytes_at, byte-bytes_at}
-use Rattle.gate_journal.specs.declared.fault.OpenFault.{OpenFault}
-use Rattle.gate_journal.specs.declared.fault.OpenFault.TheVariants.{NotACache, CatalogueDiffers, BadRecord, Spent, DiskFault, OutOfMemory}
 use Rattle.gate_journal.specs.declared.half.Half.{Half}
 use Rattle.gate_journal.specs.Layout.{header_at, half_at}
 use Rattle.gate_journal.specs.Opened.{counts, names, version_at, generation_at, digest_at, half_in_force, in_order, records_at, opened, opened_half, records, no_cache, differs}
-use Rattle.gate_journal.specs.Reading.{Chooses, HasRead, OpensAs}
+use Rattle.gate_journal.specs.Reading.{HasRead}
 use Rattle.gate_journal.specs.Sound.{IsLaidOut}
 use Rattle.gate_journal.proofs.Gates.{same_list}
 use Rattle.gate_journal.proofs.Headers.{split_bytes}
@@ -103,12 +101,3 @@ laid_out_of slots half version generation digest c bodies is named number names 
   opens = has.opens;
   shut = has.shut;
 }
-
--- The disk opens to what was found in place of a half.
-pub opens_instead : (digest : List ℕ) (slots : ℕ) (c : Content) (fault : OpenFault) → Chooses digest c (Err fault) → OpensAs digest slots c (Err fault)
-opens_instead digest slots c NotACache is = is slots
-opens_instead digest slots c (CatalogueDiffers found asked) is = (is.0 slots, is.1)
-opens_instead digest slots c (BadRecord slot) is = is
-opens_instead digest slots c Spent is = is
-opens_instead digest slots c DiskFault is = is
-opens_instead digest slots c OutOfMemory is = is

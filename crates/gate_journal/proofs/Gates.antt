@@ -36,10 +36,10 @@ none_behind c at n shut k lo hi is = shut (suc k) (omega arith) (omega arith) (n
 first_shut : (c : Content) (at n : ℕ) → Shut c at 0 (suc n) → (byte_at c (at + 63) == 1) ≡ false
 first_shut c at n shut = not_one (byte_at c (at + 63)) (λ is. shut 0 (omega arith) (omega arith) (first_gate c at ∙ is))
 
-first_open : (c : Content) (at n : ℕ) → Open c at (suc n) → (byte_at c (at + 63) == 1) ≡ true
+pub first_open : (c : Content) (at n : ℕ) → Open c at (suc n) → (byte_at c (at + 63) == 1) ≡ true
 first_open c at n opens = is_one (byte_at c (at + 63)) (sym (first_gate c at) ∙ opens 0 (omega arith))
 
-open_behind : (c : Content) (at n : ℕ) → Open c at (suc n) → Open c (at + 64) n
+pub open_behind : (c : Content) (at n : ℕ) → Open c at (suc n) → Open c (at + 64) n
 open_behind c at n opens k lt = sym (next_gate c at k) ∙ opens (suc k) (omega arith)
 
 closed_all : (c : Content) (at n : ℕ) → Shut c at 0 n → all_closed c at n ≡ true

@@ -40,40 +40,25 @@ pub record IsDisordered (c : Content) (start slots : ℕ) : Type 0 where
   pub shut : byte_at c (start + 64 * closed + 63) ≢ 1
   pub opens : byte_at c (start + 64 * behind + 63) ≡ 1
 
--- the answer to an opening is what the disk opens to, but for a fault of the disk and where memory runs out
+-- the disk opens to what opening answers in place of a journal, but for a fault of the disk and where memory runs out
+abbrev pub RefusesAs : List ℕ → ℕ → Content → OpenFault → Type 0
+RefusesAs digest slots c NotACache = opened digest slots c ≡ no_cache
+RefusesAs digest slots c (CatalogueDiffers found asked) = (opened digest slots c ≡ differs found) × (asked ≡ digest)
+RefusesAs digest slots c (BadRecord slot) = ⊥
+RefusesAs digest slots c Spent = ⊥
+RefusesAs digest slots c DiskFault = ⊤
+RefusesAs digest slots c OutOfMemory = ⊤
+
+-- the answer to an opening is what the disk opens to
 abbrev pub OpensAs : List ℕ → ℕ → Content → Result Opened OpenFault → Type 0
 OpensAs digest slots c (Ok o) = (opened digest slots c ≡ records o.version o.bodies.items) × (kept o.journal c ≡ o.bodies.items)
-OpensAs digest slots c (Err NotACache) = opened digest slots c ≡ no_cache
-OpensAs digest slots c (Err (CatalogueDiffers found asked)) = (opened digest slots c ≡ differs found) × (asked ≡ digest)
-OpensAs digest slots c (Err (BadRecord slot)) = ⊥
-OpensAs digest slots c (Err Spent) = ⊥
-OpensAs digest slots c (Err DiskFault) = ⊤
-OpensAs digest slots c (Err OutOfMemory) = ⊤
-
--- A fault of the disk is told only where its count rose.
-abbrev pub IsReadCause : ℕ → ℕ → OpenFault → Type 0
-IsReadCause before now NotACache = ⊥
-IsReadCause before now (CatalogueDiffers found asked) = ⊥
-IsReadCause before now (BadRecord slot) = ⊥
-IsReadCause before now Spent = ⊥
-IsReadCause before now DiskFault = Rose before now
-IsReadCause before now OutOfMemory = ⊤
+OpensAs digest slots c (Err fault) = RefusesAs digest slots c fault
 
 -- The choice of a half: the one in force with its header, under the asked digest; or what the disk opens to instead, whatever
 -- the number of slots.
 abbrev pub Chooses : List ℕ → Content → Result (Half × Header) OpenFault → Type 0
 Chooses digest c (Ok found) = (half_in_force c ≡ Some found.0) × (found.1.generation ≡ generation_at c (header_at found.0)) × (digest ≡ digest_at c (header_at found.0)) × (found.1.version ≡ version_at c (header_at found.0))
-Chooses digest c (Err NotACache) = (slots : ℕ) → opened digest slots c ≡ no_cache
-Chooses digest c (Err (CatalogueDiffers found asked)) = ((slots : ℕ) → opened digest slots c ≡ differs found) × (asked ≡ digest)
-Chooses digest c (Err (BadRecord slot)) = ⊥
-Chooses digest c (Err Spent) = ⊥
-Chooses digest c (Err DiskFault) = ⊤
-Chooses digest c (Err OutOfMemory) = ⊤
-
--- reading fails only by the disk or where memory runs out
-pub record HasReadCause {T : Type 0} (before now : ℕ) (result : Result T OpenFault) : Type 0 where
-  pub later : before ≤ now
-  pub failed : IfErr result (IsReadCause before now)
+Chooses digest c (Err fault) = (slots : ℕ) → RefusesAs digest slots c fault
 
 -- A fault of the disk is told only where its count rose, and no fault that comes of what the records say.
 abbrev pub IsOpenCause : ℕ → ℕ → OpenFault → Type 0

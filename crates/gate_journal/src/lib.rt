@@ -8,6 +8,7 @@
 #![tactic(auto)]
 
 mod append;
+mod collecting;
 mod compact;
 pub mod fault;
 mod half;
@@ -21,4 +22,6 @@ mod queries;
 mod reading;
 mod settle;
 mod standing;
+pub mod visit;
+mod visiting;
 mod writes;
