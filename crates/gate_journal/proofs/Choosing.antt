@@ -1,5 +1,5 @@
 -- What a slot that is read says of a header, and what opening makes of it.
-use Rattle.std.proofs.Common.{◌≡◌, ℕ, ◌+◌, ◌==◌, ◌&&◌, ◌||◌, nat_eq, List, drop, take, length, get_or, replicate, if◌then◌else◌, not, Bool, true, false, Some, None, Err, refl, sym, ◌∙◌, ap, arith}
+use Rattle.std.proofs.Common.{◌≡◌, ℕ, ◌+◌, ◌==◌, ◌&&◌, ◌||◌, nat_eq, List, drop, take, length, get_or, replicate, if◌then◌else◌, not, Bool, true, false, Some, None, refl, sym, ◌∙◌, ap, arith}
 use Rattle.std.proofs.lemmas.Bool.Decides.{Decides-eqb}
 use Rattle.std.proofs.lemmas.List.{take_at, drop_at}
 use Rattle.std.proofs.lemmas.Slice.Eq.{slice_eq-Decides}

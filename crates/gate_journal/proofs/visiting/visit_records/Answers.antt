@@ -1,7 +1,6 @@
-use Rattle.std.proofs.Common.{rules, ◌≡◌, ◌+◌, ◌*◌, ◌<◌, ◌≤◌, ℕ, List, length, refl, sym, ◌∙◌, ap, subst, arith, IsTrue}
+use Rattle.std.proofs.Common.{rules, ◌≡◌, ◌+◌, ◌*◌, ℕ, List, length, refl, sym, ◌∙◌, ap, subst, arith, IsTrue}
 use Rattle.std.proofs.lemmas.Result.{err_from_is_err_and}
 use Rattle.disk_model.specs.Content.{Content, bytes_at}
-use Rattle.gate_journal.specs.declared.fault.OpenFault.TheVariants.{DiskFault, OutOfMemory}
 use Rattle.gate_journal.specs.Visiting.{VisitsFirst, IsStopped}
 use Rattle.gate_journal.proofs.Causing.{disk_cause, visit_cause}
 use Rattle.gate_journal.proofs.Leading.{half_none, half_stops, half_more, half_stopped, stops_as, read_bytes}

@@ -1,4 +1,4 @@
-use Rattle.std.proofs.Common.{◌≡◌, ◌+◌, List, ℕ, [], ◌∷◌, ◌++◌, length, refl, sym, ◌∙◌, ap, subst, IsTrue}
+use Rattle.std.proofs.Common.{◌≡◌, ◌+◌, List, ℕ, ◌++◌, length, refl, sym, ◌∙◌, ap}
 use Rattle.gate_journal.specs.Opened.{records}
 use Rattle.gate_journal.specs.Sound.{room_of}
 use Rattle.gate_journal.proofs.Leading.{collected}

@@ -1,4 +1,4 @@
-use Rattle.std.proofs.Common.{◌≡◌, ◌+◌, ◌-◌, ◌≤◌, List, ℕ, length, refl, sym, ◌∙◌, ap, subst, arith, IsTrue}
+use Rattle.std.proofs.Common.{◌≡◌, List, ℕ, refl, sym, ◌∙◌, ap, subst, arith, IsTrue}
 use Rattle.disk_model.specs.Content.{Content}
 use Rattle.gate_journal.specs.Layout.{Layout, half_at}
 use Rattle.gate_journal.specs.Opened.{bodies_at, records}
