@@ -84,20 +84,20 @@ module _ (l : Layout) (room : l.count < l.slots) (at : ℕ) (is_at : at ≡ slot
     stands_mid : Stands l old.seen mid.seen
     stands_mid = stands mid.seen (old.seen, lawful.reads_as, first.reads)
 
-    moments_mid : Leaves old mid (OpensToEither l before after)
-    moments_mid = leaves_as old mid (After (TornWrite at 63) old.may_leave) (OpensToEither l before after) first.any_moment (λ c torn.
-        let stood = stands c torn in inl (laid_out_opens l c (omega arith) stood.laid_out ∙ ap records stood.same_records))
+    moments_mid : Leaves old mid (OpensToEither l before l.version after)
+    moments_mid = leaves_as old mid (After (TornWrite at 63) old.may_leave) (OpensToEither l before l.version after) first.any_moment (λ c torn.
+        let stood = stands c torn in inl (laid_out_opens l c (omega arith) stood.laid_out ∙ ap (records l.version) stood.same_records))
 
     past_mid : ChangesBy (SameFrom end) old mid
     past_mid = past_write at 63 end old mid (omega (arith, within)) lawful.reads_as (λ d was. (sound d was).0.whole) first
 
     -- the first write failed
-    pub body_failed : {T E : Type 0} (result : Result T E) (fault : E) → result ≡ Err fault → MovesAs result after (records after) l l Pending gate old mid
+    pub body_failed : {T E : Type 0} (result : Result T E) (fault : E) → result ≡ Err fault → MovesAs result after (records l.version after) l l Pending gate old mid
     body_failed result fault is = record {
       sound = λ c now. let stood = stands c (first.crash c now) in record { whole = stood.whole; laid_out = stood.laid_out; same_records = stood.same_records ∙ sym stands_mid.same_records };
       done = err_only _ result fault is;
       failed = on_err result stands_mid.same_records;
-      undecided = on_err result (inl (ap records stands_mid.same_records));
+      undecided = on_err result (inl (ap (records l.version) stands_mid.same_records));
       any_moment = moments_mid;
       past = past_mid;
     }
@@ -116,15 +116,15 @@ module _ (l : Layout) (room : l.count < l.slots) (at : ℕ) (is_at : at ≡ slot
       near_out : (c : Content) → SameOutside (at + 63) 1 mid.seen c → byte_at c (at + 63) ≡ 1 → IsLaidOut more c
       near_out c same held = gate_open mid.seen c same held stands_mid.laid_out
 
-      near_open : (c : Content) → SameOutside (at + 63) 1 mid.seen c → byte_at c (at + 63) ≡ 1 → opens_by l c ≡ records after
-      near_open c same held = laid_out_opens more c (omega arith) (near_out c same held) ∙ ap records (near_more c same)
+      near_open : (c : Content) → SameOutside (at + 63) 1 mid.seen c → byte_at c (at + 63) ≡ 1 → opens_by l c ≡ records l.version after
+      near_open c same held = laid_out_opens more c (omega arith) (near_out c same held) ∙ ap (records l.version) (near_more c same)
 
       -- the second write failed
-      pub gate_failed : {T E : Type 0} (result : Result T E) (fault : E) → result ≡ Err fault → MovesAs result after (records after) l l Undecided (at + 63) old new
-      gate_failed result fault is = undecided l (omega arith) (at + 63) (omega (arith, within)) after old mid new moments_mid past_mid only_mid lawful_mid second stands_mid.whole near_kept near_shut near_open result fault is
+      pub gate_failed : {T E : Type 0} (result : Result T E) (fault : E) → result ≡ Err fault → MovesAs result after (records l.version after) l l Undecided (at + 63) old new
+      gate_failed result fault is = undecided l (omega arith) (at + 63) (omega (arith, within)) l.version after old mid new moments_mid past_mid only_mid lawful_mid second stands_mid.whole near_kept near_shut near_open result fault is
 
       -- the gate is on the disk
-      pub appended : {T E : Type 0} (value : T) → new.seen ≡ written (at + 63) (1 ∷ []) mid.seen → Only new.seen new.may_leave → MovesAs {T = T} {E = E} (Ok value) after (records after) l more Settled (at + 63) old new
+      pub appended : {T E : Type 0} (value : T) → new.seen ≡ written (at + 63) (1 ∷ []) mid.seen → Only new.seen new.may_leave → MovesAs {T = T} {E = E} (Ok value) after (records l.version after) l more Settled (at + 63) old new
       appended value opened only =
           let same : SameOutside (at + 63) 1 mid.seen new.seen = torn_same (at + 63) 1 mid.seen new.seen (let whole = stands_mid.whole in omega (arith, within)) second.reads in
-          decided l (omega arith) (at + 63) (omega (arith, within)) after old mid new moments_mid past_mid only_mid lawful_mid second stands_mid.whole near_kept near_shut near_open value more refl near_out (near_more new.seen same) opened only
+          decided l (omega arith) (at + 63) (omega (arith, within)) l.version after old mid new moments_mid past_mid only_mid lawful_mid second stands_mid.whole near_kept near_shut near_open value more refl near_out (near_more new.seen same) opened only

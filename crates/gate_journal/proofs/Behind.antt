@@ -11,7 +11,7 @@ use Rattle.gate_journal.specs.declared.standing.Standing.{Standing}
 use Rattle.gate_journal.specs.declared.standing.Standing.TheVariants.{Settled, Pending, Undecided}
 use Rattle.gate_journal.specs.Layout.{Layout, half_at, gate_at, journal_length}
 use Rattle.gate_journal.specs.Opened.{bodies_at, opened, records}
-use Rattle.gate_journal.specs.Sound.{IsSoundAs, IsSound, Stands, Wavers, SameBefore, SameFrom, IsSettled, layout_of, kept, kept_by, opens_by, room_of, slots_of, digest_of, other, other_as}
+use Rattle.gate_journal.specs.Sound.{IsSoundAs, IsSound, Stands, Wavers, SameBefore, SameFrom, IsSettled, layout_of, kept, kept_by, opens_by, room_of, slots_of, digest_of, version_of, other, other_as}
 use Rattle.gate_journal.proofs.Gates.{laid_out_opens}
 use Rattle.gate_journal.proofs.Places.{half_high, same_here}
 use Rattle.gate_journal.proofs.Same.{same_bodies, same_laid_out}
@@ -25,25 +25,25 @@ pub fills_half : (j : Journal) (c : Content) → room_of j + length (kept j c) �
 fills_half j c = let within = j.within in omega (arith, length-bodies_at c (half_at j.slots j.half) j.count)
 
 -- each image of the disk of a settled journal opens to its records
-pub settled_opens : (j : Journal) (disk : DiskState) → IsSettled j → IsSound j disk → Every disk.may_leave (λ c. opened (digest_of j) (slots_of j) c ≡ records (kept j disk.seen))
+pub settled_opens : (j : Journal) (disk : DiskState) → IsSettled j → IsSound j disk → Every disk.may_leave (λ c. opened (digest_of j) (slots_of j) c ≡ records (version_of j) (kept j disk.seen))
 settled_opens j disk settled sound c now =
     let stood = (subst (λ s. IsSoundAs s j.gate (layout_of j) disk) settled sound c now).0 in
-    laid_out_opens (layout_of j) c j.within stood.laid_out ∙ ap records stood.same_records
+    laid_out_opens (layout_of j) c j.within stood.laid_out ∙ ap (records j.version) stood.same_records
 
 -- Each image of the disk of any journal opens to its records, or to what is undecided.
 sound_opens_as : (standing : Standing) (gate : ℕ) (l : Layout) (disk : DiskState) → l.count ≤ l.slots → IsSoundAs standing gate l disk
-    → Every disk.may_leave (λ c. (opens_by l c ≡ records (kept_by l disk.seen)) ⊎ (opens_by l c ≡ other_as standing gate l disk.seen))
-sound_opens_as Settled gate l disk fits sound c now = let stood = (sound c now).0 in inl (laid_out_opens l c fits stood.laid_out ∙ ap records stood.same_records)
-sound_opens_as Pending gate l disk fits sound c now = let stood = sound c now in inl (laid_out_opens l c fits stood.laid_out ∙ ap records stood.same_records)
+    → Every disk.may_leave (λ c. (opens_by l c ≡ records l.version (kept_by l disk.seen)) ⊎ (opens_by l c ≡ other_as standing gate l disk.seen))
+sound_opens_as Settled gate l disk fits sound c now = let stood = (sound c now).0 in inl (laid_out_opens l c fits stood.laid_out ∙ ap (records l.version) stood.same_records)
+sound_opens_as Pending gate l disk fits sound c now = let stood = sound c now in inl (laid_out_opens l c fits stood.laid_out ∙ ap (records l.version) stood.same_records)
 sound_opens_as Undecided gate l disk fits sound c now =
     let wavering = sound c now c (same_here gate 1 c) in
     elim (cases_eq (byte_at c gate) 1) [
       | inl held ↦ inr (wavering.opens held)
-      | inr not ↦ inl (laid_out_opens l c fits (wavering.shut not) ∙ ap records wavering.same_records)
+      | inr not ↦ inl (laid_out_opens l c fits (wavering.shut not) ∙ ap (records l.version) wavering.same_records)
     ]
 
 pub sound_opens : (j : Journal) (disk : DiskState) → IsSound j disk
-    → Every disk.may_leave (λ c. (opened (digest_of j) (slots_of j) c ≡ records (kept j disk.seen)) ⊎ (opened (digest_of j) (slots_of j) c ≡ other j disk.seen))
+    → Every disk.may_leave (λ c. (opened (digest_of j) (slots_of j) c ≡ records (version_of j) (kept j disk.seen)) ⊎ (opened (digest_of j) (slots_of j) c ≡ other j disk.seen))
 sound_opens j disk sound = sound_opens_as j.standing j.gate (layout_of j) disk j.within sound
 
 -- in an image that holds the whole journal, with the bytes of it as they were
@@ -75,13 +75,13 @@ module _ (l : Layout) (fits : l.count ≤ l.slots) (at n : ℕ) (behind : journa
         λ place lt. front from.0 c from.1 from.2 place lt ∙ (sound from.0 from.1).1 place lt ∙ sym (front old.seen new.seen reads change.reads place lt),
       )
 
-  pub moments_new : Leaves old new (λ c. opens_by l c ≡ records (kept_by l old.seen))
-  moments_new = leaves_as old new (After (TornWrite at n) old.may_leave) (λ c. opens_by l c ≡ records (kept_by l old.seen)) change.any_moment (λ c after.
-      let stood = stands c after in laid_out_opens l c fits stood.laid_out ∙ ap records stood.same_records)
+  pub moments_new : Leaves old new (λ c. opens_by l c ≡ records l.version (kept_by l old.seen))
+  moments_new = leaves_as old new (After (TornWrite at n) old.may_leave) (λ c. opens_by l c ≡ records l.version (kept_by l old.seen)) change.any_moment (λ c after.
+      let stood = stands c after in laid_out_opens l c fits stood.laid_out ∙ ap (records l.version) stood.same_records)
 
 -- Calls that write past the journal alone leave a settled one as it is, and at each moment an image opens to its records.
 pub stays_behind : (j : Journal) (at n : ℕ) (old new : DiskState) → IsSettled j → IsSound j old → old.may_leave old.seen → journal_length (slots_of j) ≤ at → ChangesBy (TornWrite at n) old new
-    → IsSound j new × (kept j new.seen ≡ kept j old.seen) × Leaves old new (λ c. opened (digest_of j) (slots_of j) c ≡ records (kept j old.seen))
+    → IsSound j new × (kept j new.seen ≡ kept j old.seen) × Leaves old new (λ c. opened (digest_of j) (slots_of j) c ≡ records (version_of j) (kept j old.seen))
 stays_behind j at n old new settled sound reads behind change =
     let settled_sound = subst (λ s. IsSoundAs s j.gate (layout_of j) old) settled sound in (
       subst (λ s. IsSoundAs s j.gate (layout_of j) new) (sym settled) (sound_new (layout_of j) j.within at n behind old new settled_sound reads change),

@@ -36,12 +36,12 @@ module _ (l : Layout) (fits : l.count ≤ l.slots) (gate : ℕ) (low : gate < jo
     same_gate = (sound old.seen lawful.reads_as (set new.seen gate 1) (same_then gate 1 old.seen new.seen (set new.seen gate 1) same_new (set_same gate 1 new.seen))).opens
         (set_here gate 1 new.seen (let whole = wavers_new.whole in omega arith))
 
-    moments : Leaves old new (λ c. (opens_by l c ≡ records (kept_by l old.seen)) ⊎ (opens_by l c ≡ with_gate l gate old.seen))
-    moments = leaves_as old new (After (TornWrite gate 1) old.may_leave) (λ c. (opens_by l c ≡ records (kept_by l old.seen)) ⊎ (opens_by l c ≡ with_gate l gate old.seen)) change.any_moment (λ c torn.
+    moments : Leaves old new (λ c. (opens_by l c ≡ records l.version (kept_by l old.seen)) ⊎ (opens_by l c ≡ with_gate l gate old.seen))
+    moments = leaves_as old new (After (TornWrite gate 1) old.may_leave) (λ c. (opens_by l c ≡ records l.version (kept_by l old.seen)) ⊎ (opens_by l c ≡ with_gate l gate old.seen)) change.any_moment (λ c torn.
         let wavering = wavers c torn in
         elim (cases_eq (byte_at c gate) 1) [
           | inl held ↦ inr (wavering.opens held)
-          | inr not ↦ inl (laid_out_opens l c fits (wavering.shut not) ∙ ap records wavering.same_records)
+          | inr not ↦ inl (laid_out_opens l c fits (wavering.shut not) ∙ ap (records l.version) wavering.same_records)
         ])
 
     past : ChangesBy (SameFrom end) old new
@@ -86,7 +86,7 @@ module _ (l : Layout) (fits : l.count ≤ l.slots) (gate : ℕ) (low : gate < jo
     stands_by Pending not all = all
     stands_by Undecided not all = absurd (not refl)
 
-    pub quiet_other : (s : Standing) → s ≢ Undecided → (c : Content) → other_as s gate l c ≡ records (kept_by l c)
+    pub quiet_other : (s : Standing) → s ≢ Undecided → (c : Content) → other_as s gate l c ≡ records l.version (kept_by l c)
     quiet_other Settled not c = refl
     quiet_other Pending not c = refl
     quiet_other Undecided not c = absurd (not refl)
@@ -97,19 +97,19 @@ module _ (l : Layout) (fits : l.count ≤ l.slots) (gate : ℕ) (low : gate < jo
     stands : (c : Content) → After Same old.may_leave c → Stands l old.seen c
     stands c (d, was, is) = subst (Stands l old.seen) (sym is) (stands_by standing quiet sound d was)
 
-    other_records : records (kept_by l old.seen) ≡ other_as standing gate l old.seen
+    other_records : records l.version (kept_by l old.seen) ≡ other_as standing gate l old.seen
     other_records = sym (quiet_other standing quiet old.seen)
 
-    still_moments : Leaves old new (λ c. (opens_by l c ≡ records (kept_by l old.seen)) ⊎ (opens_by l c ≡ other_as standing gate l old.seen))
-    still_moments = leaves_as old new (After Same old.may_leave) (λ c. (opens_by l c ≡ records (kept_by l old.seen)) ⊎ (opens_by l c ≡ other_as standing gate l old.seen)) (changes_at Same old new steps).any_moment (λ c after.
-        let stood = stands c after in inl (laid_out_opens l c fits stood.laid_out ∙ ap records stood.same_records))
+    still_moments : Leaves old new (λ c. (opens_by l c ≡ records l.version (kept_by l old.seen)) ⊎ (opens_by l c ≡ other_as standing gate l old.seen))
+    still_moments = leaves_as old new (After Same old.may_leave) (λ c. (opens_by l c ≡ records l.version (kept_by l old.seen)) ⊎ (opens_by l c ≡ other_as standing gate l old.seen)) (changes_at Same old new steps).any_moment (λ c after.
+        let stood = stands c after in inl (laid_out_opens l c fits stood.laid_out ∙ ap (records l.version) stood.same_records))
 
     pub sync_failed : {T E : Type 0} (result : Result T E) (fault : E) → result ≡ Err fault → MovesAs result (kept_by l old.seen) (other_as standing gate l old.seen) l l Pending gate old new
     sync_failed result fault is = record {
       sound = λ c now. let stood = stands c (steps.crash c now) in record { whole = stood.whole; laid_out = stood.laid_out; same_records = stood.same_records ∙ sym same_kept };
       done = err_only _ result fault is;
       failed = on_err result same_kept;
-      undecided = on_err result (inl (ap records same_kept));
+      undecided = on_err result (inl (ap (records l.version) same_kept));
       any_moment = still_moments;
       past = past_same end old new lawful.reads_as (changes_at Same old new steps);
     }

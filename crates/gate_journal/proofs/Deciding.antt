@@ -14,17 +14,17 @@ use Rattle.gate_journal.proofs.Places.{same_then, torn_same, written_bytes, set_
 use Rattle.gate_journal.proofs.Steps.{err_only, on_err, from_only, past_write, past_then}
 
 -- a content opens to the records, or to those after
-abbrev pub OpensToEither : Layout → List (List ℕ) → List (List ℕ) → Content → Type 0
-OpensToEither l before after c = (opens_by l c ≡ records before) ⊎ (opens_by l c ≡ records after)
+abbrev pub OpensToEither : Layout → List (List ℕ) → ℕ → List (List ℕ) → Content → Type 0
+OpensToEither l before version after c = (opens_by l c ≡ records l.version before) ⊎ (opens_by l c ≡ records version after)
 
 -- The first calls led from old to mid, on which nothing is pending, and then the gate is written.
-module _ (l : Layout) (fits : l.count ≤ l.slots) (gate : ℕ) (low : gate + 1 ≤ journal_length l.slots) (after : List (List ℕ)) (old mid new : DiskState)
-    (first_moments : Leaves old mid (OpensToEither l (kept_by l old.seen) after)) (first_past : ChangesBy (SameFrom (journal_length l.slots)) old mid)
+module _ (l : Layout) (fits : l.count ≤ l.slots) (gate : ℕ) (low : gate + 1 ≤ journal_length l.slots) (version : ℕ) (after : List (List ℕ)) (old mid new : DiskState)
+    (first_moments : Leaves old mid (OpensToEither l (kept_by l old.seen) version after)) (first_past : ChangesBy (SameFrom (journal_length l.slots)) old mid)
     (only_mid : Only mid.seen mid.may_leave) (lawful_mid : IsLawful mid) (second : ChangesBy (TornWrite gate 1) mid new)
     (whole : journal_length l.slots ≤ length mid.seen)
     (same_records : (c : Content) → SameOutside gate 1 mid.seen c → kept_by l c ≡ kept_by l old.seen)
     (shut : (c : Content) → SameOutside gate 1 mid.seen c → byte_at c gate ≢ 1 → IsLaidOut l c)
-    (opens : (c : Content) → SameOutside gate 1 mid.seen c → byte_at c gate ≡ 1 → opens_by l c ≡ records after) where
+    (opens : (c : Content) → SameOutside gate 1 mid.seen c → byte_at c gate ≡ 1 → opens_by l c ≡ records version after) where
   near : (c : Content) → After (TornWrite gate 1) mid.may_leave c → SameOutside gate 1 mid.seen c
   near c torn = torn_same gate 1 mid.seen c (omega (arith, low, whole)) (from_only (TornWrite gate 1) mid c only_mid torn)
 
@@ -34,15 +34,15 @@ module _ (l : Layout) (fits : l.count ≤ l.slots) (gate : ℕ) (low : gate + 1 
   near_whole : (c : Content) → SameOutside gate 1 mid.seen c → journal_length l.slots ≤ length c
   near_whole c same = let long = same.same_length in omega (arith, whole)
 
-  with_open : with_gate l gate new.seen ≡ records after
+  with_open : with_gate l gate new.seen ≡ records version after
   with_open = opens (set new.seen gate 1) (same_then gate 1 mid.seen new.seen (set new.seen gate 1) near_new (set_same gate 1 new.seen)) (set_here gate 1 new.seen (omega (arith, low, near_whole new.seen near_new)))
 
-  moments : Leaves old new (OpensToEither l (kept_by l old.seen) after)
-  moments = leaves_then old mid new (OpensToEither l (kept_by l old.seen) after) first_moments
-      (leaves_as mid new (After (TornWrite gate 1) mid.may_leave) (OpensToEither l (kept_by l old.seen) after) second.any_moment (λ c torn.
+  moments : Leaves old new (OpensToEither l (kept_by l old.seen) version after)
+  moments = leaves_then old mid new (OpensToEither l (kept_by l old.seen) version after) first_moments
+      (leaves_as mid new (After (TornWrite gate 1) mid.may_leave) (OpensToEither l (kept_by l old.seen) version after) second.any_moment (λ c torn.
       elim (cases_eq (byte_at c gate) 1) [
         | inl held ↦ inr (opens c (near c torn) held)
-        | inr not ↦ inl (laid_out_opens l c fits (shut c (near c torn) not) ∙ ap records (same_records c (near c torn)))
+        | inr not ↦ inl (laid_out_opens l c fits (shut c (near c torn) not) ∙ ap (records l.version) (same_records c (near c torn)))
       ]))
 
   past : ChangesBy (SameFrom (journal_length l.slots)) old new
@@ -50,7 +50,7 @@ module _ (l : Layout) (fits : l.count ≤ l.slots) (gate : ℕ) (low : gate + 1 
       (past_write gate 1 (journal_length l.slots) mid new low lawful_mid.reads_as (λ d was. subst (λ (e : Content). journal_length l.slots ≤ length e) (sym (only_mid d was)) whole) second)
 
   -- the write failed
-  pub undecided : {T E : Type 0} (result : Result T E) (fault : E) → result ≡ Err fault → MovesAs result after (records after) l l Undecided gate old new
+  pub undecided : {T E : Type 0} (result : Result T E) (fault : E) → result ≡ Err fault → MovesAs result after (records version after) l l Undecided gate old new
   undecided result fault is = record {
     sound = λ d now c step.
         let same = same_then gate 1 mid.seen d c (near d (second.crash d now)) step in
@@ -69,7 +69,7 @@ module _ (l : Layout) (fits : l.count ≤ l.slots) (gate : ℕ) (low : gate + 1 
 
   -- the gate is open on the disk
   pub decided : {T E : Type 0} (value : T) (l' : Layout) → l'.slots ≡ l.slots → ((c : Content) → SameOutside gate 1 mid.seen c → byte_at c gate ≡ 1 → IsLaidOut l' c) → kept_by l' new.seen ≡ after
-      → new.seen ≡ written gate (1 ∷ []) mid.seen → Only new.seen new.may_leave → MovesAs {T = T} {E = E} (Ok value) after (records after) l l' Settled gate old new
+      → new.seen ≡ written gate (1 ∷ []) mid.seen → Only new.seen new.may_leave → MovesAs {T = T} {E = E} (Ok value) after (records version after) l l' Settled gate old new
   decided value l' same_slots laid_out done put only = record {
     sound = λ c now. subst (λ (e : Content). Stands l' new.seen e × SameBefore (journal_length l'.slots) new.seen e) (sym (only c now)) (
       record {

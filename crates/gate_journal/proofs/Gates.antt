@@ -3,8 +3,8 @@ use Rattle.std.proofs.Common.{◌≡◌, ◌≢◌, ℕ, zero, suc, ◌+◌, ◌
 use Rattle.std.proofs.lemmas.Bool.Decides.{nat_tests}
 use Rattle.std.specs.Cmp.Lexicographic.{pointwise}
 use Rattle.disk_model.specs.Content.{Content, byte_at, bytes_at}
-use Rattle.gate_journal.specs.Layout.{Layout, half_at}
-use Rattle.gate_journal.specs.Opened.{bodies_at, records_at, all_closed, in_order, opened, opened_half, records, no_cache, differs}
+use Rattle.gate_journal.specs.Layout.{Layout, header_at, half_at}
+use Rattle.gate_journal.specs.Opened.{bodies_at, records_at, all_closed, in_order, version_at, opened, opened_half, records, no_cache, differs}
 use Rattle.gate_journal.specs.Sound.{IsLaidOut, kept_by, opens_by}
 
 pub is_one : (n : ℕ) → n ≡ 1 → (n == 1) ≡ true
@@ -36,10 +36,10 @@ none_behind c at n shut k lo hi is = shut (suc k) (omega arith) (omega arith) (n
 first_shut : (c : Content) (at n : ℕ) → Shut c at 0 (suc n) → (byte_at c (at + 63) == 1) ≡ false
 first_shut c at n shut = not_one (byte_at c (at + 63)) (λ is. shut 0 (omega arith) (omega arith) (first_gate c at ∙ is))
 
-first_open : (c : Content) (at n : ℕ) → Open c at (suc n) → (byte_at c (at + 63) == 1) ≡ true
+pub first_open : (c : Content) (at n : ℕ) → Open c at (suc n) → (byte_at c (at + 63) == 1) ≡ true
 first_open c at n opens = is_one (byte_at c (at + 63)) (sym (first_gate c at) ∙ opens 0 (omega arith))
 
-open_behind : (c : Content) (at n : ℕ) → Open c at (suc n) → Open c (at + 64) n
+pub open_behind : (c : Content) (at n : ℕ) → Open c at (suc n) → Open c (at + 64) n
 open_behind c at n opens k lt = sym (next_gate c at k) ∙ opens (suc k) (omega arith)
 
 closed_all : (c : Content) (at n : ℕ) → Shut c at 0 n → all_closed c at n ≡ true
@@ -73,11 +73,11 @@ same_list [] = refl
 same_list (x ∷ xs) = let first : nat_eq x x ≡ true = grind (arith, nat_tests) in rw first (same_list xs)
 
 -- what is laid out opens to its records
-pub laid_out_opens : (l : Layout) (c : Content) → l.count ≤ l.slots → IsLaidOut l c → opens_by l c ≡ records (kept_by l c)
+pub laid_out_opens : (l : Layout) (c : Content) → l.count ≤ l.slots → IsLaidOut l c → opens_by l c ≡ records l.version (kept_by l c)
 unfolding opened
 laid_out_opens l c le out =
     ap (opened_half l.digest l.slots c) out.in_force
     ∙ ap (λ (d : List ℕ). if pointwise nat_eq d l.digest
-    then (if in_order c (half_at l.slots l.half) l.slots then records (records_at c (half_at l.slots l.half) l.slots) else no_cache)
+    then (if in_order c (half_at l.slots l.half) l.slots then records (version_at c (header_at l.half)) (records_at c (half_at l.slots l.half) l.slots) else no_cache)
     else differs d) out.same_digest
-    ∙ rw (same_list l.digest, first_in_order c (half_at l.slots l.half) l.slots l.count le out.opens out.shut, first_records c (half_at l.slots l.half) l.slots l.count le out.opens out.shut) refl
+    ∙ rw (same_list l.digest, first_in_order c (half_at l.slots l.half) l.slots l.count le out.opens out.shut, first_records c (half_at l.slots l.half) l.slots l.count le out.opens out.shut, out.same_version) refl

@@ -1,5 +1,5 @@
 -- What a header says once it is written, and which half is in force.
-use Rattle.std.proofs.Common.{◌≡◌, ◌≢◌, ℕ, zero, suc, ◌+◌, ◌%◌, ◌^◌, ◌<◌, List, [], ◌∷◌, ◌++◌, replicate, length, Bool, true, false, ◌&&◌, ◌==◌, nat_eq, Some, None, refl, sym, ◌∙◌, ap, arith, length-append}
+use Rattle.std.proofs.Common.{◌≡◌, ◌≢◌, ℕ, zero, suc, ◌+◌, ◌%◌, ◌^◌, ◌<◌, List, [], ◌∷◌, ◌++◌, replicate, length, Bool, true, false, ◌&&◌, ◌||◌, if◌then◌else◌, ◌==◌, nat_eq, Some, None, refl, sym, ◌∙◌, ap, arith, length-append}
 use Rattle.std.proofs.lemmas.Nat.{from_be_bytes-to_be_bytes_8}
 use Rattle.std.proofs.lemmas.Bool.Decides.{nat_tests}
 use Rattle.std.specs.Cmp.Lexicographic.{pointwise}
@@ -9,7 +9,7 @@ use Rattle.disk_model.proofs.Reading.{length-bytes_at}
 use Rattle.gate_journal.specs.declared.half.Half.{Half}
 use Rattle.gate_journal.specs.declared.half.Half.TheVariants.{First, Second}
 use Rattle.gate_journal.specs.Layout.{header_at, other_half}
-use Rattle.gate_journal.specs.Opened.{counts, generation_at, half_of, half_in_force, magic}
+use Rattle.gate_journal.specs.Opened.{counts, version_at, names, generation_at, half_of, half_in_force, magic}
 use Rattle.gate_journal.proofs.Gates.{not_one}
 
 pub split_bytes : (c : Content) (at m n : ℕ) → bytes_at c at (m + n) ≡ bytes_at c at m ++ bytes_at c (at + m) n
@@ -34,23 +34,27 @@ pub two_parts : (c : Content) (at m n : ℕ) (xs ys : List ℕ) → length xs �
 two_parts c at m n xs ys size same = cancel (bytes_at c at m) xs (bytes_at c (at + m) n) ys (length-bytes_at c at m ∙ sym size) (sym (split_bytes c at m n) ∙ same)
 
 pub record IsHeader (at generation : ℕ) (digest : List ℕ) (c : Content) : Type 0 where
-  pub begins : bytes_at c at 8 ≡ magic
+  pub begins : bytes_at c at 8 ≡ magic 2
   pub numbered : bytes_at c (at + 8) 8 ≡ to_be_bytes w64 generation
   pub digests : bytes_at c (at + 16) 32 ≡ digest
   pub ends : bytes_at c (at + 48) 15 ≡ replicate 15 0
 
-pub is_header : (at generation : ℕ) (digest : List ℕ) (c : Content) → length digest ≡ 32 → bytes_at c at 63 ≡ magic ++ to_be_bytes w64 generation ++ digest ++ replicate 15 0 → IsHeader at generation digest c
+pub is_header : (at generation : ℕ) (digest : List ℕ) (c : Content) → length digest ≡ 32 → bytes_at c at 63 ≡ magic 2 ++ to_be_bytes w64 generation ++ digest ++ replicate 15 0 → IsHeader at generation digest c
 is_header at generation digest c size same =
-    let front : length (magic ++ to_be_bytes w64 generation) ≡ 16 = refl in
-    let one = two_parts c at 48 15 (magic ++ to_be_bytes w64 generation ++ digest) (replicate 15 0) (length-append (magic ++ to_be_bytes w64 generation) digest ∙ omega (arith, front, size)) same in
-    let two = two_parts c at 16 32 (magic ++ to_be_bytes w64 generation) digest front one.0 in
-    let three = two_parts c at 8 8 magic (to_be_bytes w64 generation) refl two.0 in
+    let front : length (magic 2 ++ to_be_bytes w64 generation) ≡ 16 = refl in
+    let one = two_parts c at 48 15 (magic 2 ++ to_be_bytes w64 generation ++ digest) (replicate 15 0) (length-append (magic 2 ++ to_be_bytes w64 generation) digest ∙ omega (arith, front, size)) same in
+    let two = two_parts c at 16 32 (magic 2 ++ to_be_bytes w64 generation) digest front one.0 in
+    let three = two_parts c at 8 8 (magic 2) (to_be_bytes w64 generation) refl two.0 in
     record { begins = three.0; numbered = three.1; digests = two.1; ends = one.1 }
 
 pub header_counts : (at generation : ℕ) (digest : List ℕ) (c : Content) → IsHeader at generation digest c → byte_at c (at + 63) ≡ 1 → counts c at ≡ true
 unfolding counts
 header_counts at generation digest c header gate =
-    λ k. (gate k == 1) && pointwise nat_eq (header.begins k) magic && pointwise nat_eq (header.ends k) (replicate 15 0)
+    λ k. (gate k == 1) && (names (header.begins k) 1 || names (header.begins k) 2) && pointwise nat_eq (header.ends k) (replicate 15 0)
+
+pub header_version : (at generation : ℕ) (digest : List ℕ) (c : Content) → IsHeader at generation digest c → version_at c at ≡ 2
+unfolding version_at
+header_version at generation digest c header = λ k. if names (header.begins k) 1 then 1 else 2
 
 pub header_generation : (at generation : ℕ) (digest : List ℕ) (c : Content) → generation < 2 ^ 64 → IsHeader at generation digest c → generation_at c at ≡ generation
 unfolding generation_at
@@ -59,7 +63,7 @@ header_generation at generation digest c fits header = ap (from_be_bytes w64) he
 -- a header behind a closed gate doesn't count
 pub shut_counts : (c : Content) (at : ℕ) → byte_at c (at + 63) ≢ 1 → counts c at ≡ false
 unfolding counts
-shut_counts c at shut = ap (λ (b : Bool). b && pointwise nat_eq (bytes_at c at 8) magic && pointwise nat_eq (bytes_at c (at + 48) 15) (replicate 15 0)) (not_one (byte_at c (at + 63)) shut)
+shut_counts c at shut = ap (λ (b : Bool). b && (names (bytes_at c at 8) 1 || names (bytes_at c at 8) 2) && pointwise nat_eq (bytes_at c (at + 48) 15) (replicate 15 0)) (not_one (byte_at c (at + 63)) shut)
 
 -- one half alone counts
 pub alone : (c : Content) (half : Half) → counts c (header_at half) ≡ true → counts c (header_at (other_half half)) ≡ false → half_in_force c ≡ Some half

@@ -8,6 +8,7 @@ pub mod Filling
 pub mod Gates
 pub mod Gathering
 pub mod Headers
+pub mod Leading
 pub mod Made
 pub mod Places
 pub mod Same

@@ -9,7 +9,7 @@ use Rattle.gate_journal.specs.declared.half.Half.TheVariants.{First}
 use Rattle.gate_journal.specs.Layout.{new_layout}
 use Rattle.gate_journal.specs.Opened.{magic}
 use Rattle.gate_journal.specs.Sound.{IsLaidOut}
-use Rattle.gate_journal.proofs.Headers.{is_header, header_counts, header_generation, shut_counts, alone}
+use Rattle.gate_journal.proofs.Headers.{is_header, header_counts, header_version, header_generation, shut_counts, alone}
 use Rattle.gate_journal.proofs.Places.{written_bytes}
 use Rattle.gate_journal.proofs.Same.{same_bytes}
 
@@ -26,7 +26,7 @@ all_zeros n c place =
     let front : length (take n (resized 0 c)) ≡ 0 = omega (arith, length-take n (resized 0 c)) in
     get_or-append_right (take n (resized 0 c)) (replicate (n - length (resized 0 c)) 0) 0 place 0 front (omega arith) ∙ zero_bytes (n - length (resized 0 c)) (place - 0)
 
-pub laid_out : (slots : ℕ) (digest title : List ℕ) (zeros staged c : Content) → length digest ≡ 32 → ((place : ℕ) → byte_at zeros place ≡ 0) → length title ≡ 63 → title ≡ magic ++ to_be_bytes w64 1 ++ digest ++ replicate 15 0
+pub laid_out : (slots : ℕ) (digest title : List ℕ) (zeros staged c : Content) → length digest ≡ 32 → ((place : ℕ) → byte_at zeros place ≡ 0) → length title ≡ 63 → title ≡ magic 2 ++ to_be_bytes w64 1 ++ digest ++ replicate 15 0
     → staged ≡ written 0 title zeros → c ≡ written 63 (1 ∷ []) staged → IsLaidOut (new_layout digest slots) c
 laid_out slots digest title zeros staged c size none long is body gate =
     let held : byte_at c 63 ≡ 1 = ap (λ (d : Content). byte_at d 63) gate ∙ written_within 63 (1 ∷ []) staged 0 (omega arith) in
@@ -37,6 +37,7 @@ laid_out slots digest title zeros staged c size none long is body gate =
     let shut : byte_at c 127 ≢ 1 = λ is_one. let zero_there : byte_at c 127 ≡ 0 = behind 127 (omega arith) in absurd (omega arith) in
     record {
       in_force = alone c First (header_counts 0 1 digest c header held) (shut_counts c 64 shut);
+      same_version = header_version 0 1 digest c header;
       same_generation = header_generation 0 1 digest c (omega arith) header;
       same_digest = header.digests;
       opens = λ k lt. absurd (omega arith);

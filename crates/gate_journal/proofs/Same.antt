@@ -1,12 +1,12 @@
 -- What a content opens to rests on the bytes of the journal's parts alone.
-use Rattle.std.proofs.Common.{◌≡◌, ℕ, zero, suc, ◌+◌, ◌*◌, ◌%◌, ◌^◌, ◌<◌, ◌≤◌, List, [], ◌∷◌, ◌++◌, replicate, false, ◌&&◌, ◌==◌, nat_eq, if◌then◌else◌, Option, Some, None, refl, sym, ◌∙◌, ap, arith}
+use Rattle.std.proofs.Common.{◌≡◌, ℕ, zero, suc, ◌+◌, ◌*◌, ◌%◌, ◌^◌, ◌<◌, ◌≤◌, List, [], ◌∷◌, ◌++◌, replicate, false, ◌&&◌, ◌||◌, ◌==◌, nat_eq, if◌then◌else◌, Option, Some, None, refl, sym, ◌∙◌, ap, arith}
 use Rattle.std.specs.Cmp.Lexicographic.{pointwise}
 use Rattle.std.specs.Int.{w64, from_be_bytes}
 use Rattle.disk_model.specs.Content.{Content, byte_at, bytes_at}
 use Rattle.disk_model.proofs.Reading.{bytes_at-same}
 use Rattle.gate_journal.specs.declared.half.Half.{Half}
 use Rattle.gate_journal.specs.Layout.{Layout, header_at, half_at, gate_at, journal_length}
-use Rattle.gate_journal.specs.Opened.{bodies_at, records_at, all_closed, in_order, counts, generation_at, digest_at, half_of, half_in_force, opened, opened_half, records, no_cache, differs, magic}
+use Rattle.gate_journal.specs.Opened.{bodies_at, records_at, all_closed, in_order, counts, names, version_at, generation_at, digest_at, half_of, half_in_force, opened, opened_half, records, no_cache, differs}
 use Rattle.gate_journal.specs.Sound.{IsLaidOut, SameBefore}
 use Rattle.gate_journal.proofs.Places.{Agree, half_high, header_low}
 
@@ -19,7 +19,13 @@ same_counts c d at same =
     let gate : byte_at d (at + 63) ≡ byte_at c (at + 63) = same (at + 63) (omega arith) (omega arith) in
     let begins : bytes_at d at 8 ≡ bytes_at c at 8 = same_bytes c d at 8 (λ i lo hi. same i lo (omega arith)) in
     let ends : bytes_at d (at + 48) 15 ≡ bytes_at c (at + 48) 15 = same_bytes c d (at + 48) 15 (λ i lo hi. same i (omega arith) (omega arith)) in
-    λ k. (gate k == 1) && pointwise nat_eq (begins k) magic && pointwise nat_eq (ends k) (replicate 15 0)
+    λ k. (gate k == 1) && (names (begins k) 1 || names (begins k) 2) && pointwise nat_eq (ends k) (replicate 15 0)
+
+pub same_version : (c d : Content) (at : ℕ) → Agree at (at + 64) c d → version_at d at ≡ version_at c at
+unfolding version_at
+same_version c d at same =
+    let begins : bytes_at d at 8 ≡ bytes_at c at 8 = same_bytes c d at 8 (λ i lo hi. same i lo (omega arith)) in
+    λ k. if names (begins k) 1 then 1 else 2
 
 pub same_generation : (c d : Content) (at : ℕ) → Agree at (at + 64) c d → generation_at d at ≡ generation_at c at
 unfolding generation_at
@@ -56,6 +62,7 @@ laid_out_by l count c d headers opens shut out =
     let own : Agree (header_at l.half) (header_at l.half + 64) c d = λ i lo hi. headers i (omega arith) (omega (arith, header_low l.half)) in
     record {
       in_force = same_force c d headers ∙ out.in_force;
+      same_version = same_version c d (header_at l.half) own ∙ out.same_version;
       same_generation = same_generation c d (header_at l.half) own ∙ out.same_generation;
       same_digest = same_digest c d (header_at l.half) own ∙ out.same_digest;
       opens = opens;
@@ -95,10 +102,11 @@ same_half : (digest : List ℕ) (slots : ℕ) (c d : Content) → SameBefore (jo
 same_half digest slots c d same None = refl
 same_half digest slots c d same (Some half) =
     let kept : digest_at d (header_at half) ≡ digest_at c (header_at half) = same_digest c d (header_at half) (λ i lo hi. same i (omega (arith, header_low half))) in
+    let version : version_at d (header_at half) ≡ version_at c (header_at half) = same_version c d (header_at half) (λ i lo hi. same i (omega (arith, header_low half))) in
     let range : Agree (half_at slots half) (half_at slots half + 64 * slots) c d = λ i lo hi. same i (omega (arith, half_high slots half)) in
     let order : in_order d (half_at slots half) slots ≡ in_order c (half_at slots half) slots = same_order c d (half_at slots half) slots range in
     let all : records_at d (half_at slots half) slots ≡ records_at c (half_at slots half) slots = same_records c d (half_at slots half) slots range in
-    λ k. if pointwise nat_eq (kept k) digest then (if order k then records (all k) else no_cache) else differs (kept k)
+    λ k. if pointwise nat_eq (kept k) digest then (if order k then records (version k) (all k) else no_cache) else differs (kept k)
 
 -- what a content opens to rests on the bytes below the journal's length
 pub same_opened : (digest : List ℕ) (slots : ℕ) (c d : Content) → SameBefore (journal_length slots) c d → opened digest slots d ≡ opened digest slots c

@@ -15,9 +15,9 @@ use Rattle.gate_journal.specs.Sound.{IsLaidOut, IsSoundAs, Stands, SameOutside, 
 use Rattle.gate_journal.proofs.Deciding.{OpensToEither, undecided, decided}
 use Rattle.gate_journal.proofs.Filling.{filled_open, filled_shut, filled_bodies}
 use Rattle.gate_journal.proofs.Gates.{laid_out_opens}
-use Rattle.gate_journal.proofs.Headers.{IsHeader, is_header, header_counts, header_generation, shut_counts, alone, force_counts, next_in_force}
+use Rattle.gate_journal.proofs.Headers.{IsHeader, is_header, header_counts, header_version, header_generation, shut_counts, alone, force_counts, next_in_force}
 use Rattle.gate_journal.proofs.Places.{Agree, half_low, half_high, header_low, headers_apart, halves_apart, torn_same, written_bytes}
-use Rattle.gate_journal.proofs.Same.{same_bytes, same_counts, same_generation, same_digest, same_bodies, same_laid_out}
+use Rattle.gate_journal.proofs.Same.{same_bytes, same_counts, same_version, same_generation, same_digest, same_bodies, same_laid_out}
 use Rattle.gate_journal.proofs.Steps.{err_only, on_err, from_only, past_write, past_same, past_then}
 
 -- a gate that was closed, and is on the disk
@@ -45,6 +45,7 @@ module _ (l : Layout) (fits : l.count ≤ l.slots) where
   stays : (c d : Content) → Agree (header_at l.half) (header_at l.half + 64) c d → Agree (half_at l.slots l.half) (half_at l.slots l.half + 64 * l.slots) c d → byte_at d gate ≢ 1 → IsLaidOut l c → IsLaidOut l d
   stays c d headers slots shut out = record {
     in_force = alone d l.half (same_counts c d (header_at l.half) headers ∙ force_counts c l.half out.in_force) (shut_counts d header shut);
+    same_version = same_version c d (header_at l.half) headers ∙ out.same_version;
     same_generation = same_generation c d (header_at l.half) headers ∙ out.same_generation;
     same_digest = same_digest c d (header_at l.half) headers ∙ out.same_digest;
     opens = λ k lt. slots (gate_at l.slots l.half k) (omega arith) (omega arith) ∙ out.opens k lt;
@@ -88,10 +89,10 @@ module _ (l : Layout) (fits : l.count ≤ l.slots) where
     read_stands : (c : Content) → mid.may_leave c → Stands l old.seen c × SameBefore end old.seen c
     read_stands c now = let from = read.crash c now in subst (λ (e : Content). Stands l old.seen e × SameBefore end old.seen e) (sym from.2) (sound from.0 from.1)
 
-    read_moments : Leaves old mid (λ c. opens_by l c ≡ records (kept_by l old.seen))
-    read_moments = leaves_as old mid (After Same old.may_leave) (λ c. opens_by l c ≡ records (kept_by l old.seen)) (changes_at Same old mid read).any_moment (λ c after.
+    read_moments : Leaves old mid (λ c. opens_by l c ≡ records l.version (kept_by l old.seen))
+    read_moments = leaves_as old mid (After Same old.may_leave) (λ c. opens_by l c ≡ records l.version (kept_by l old.seen)) (changes_at Same old mid read).any_moment (λ c after.
         let stood = (sound after.0 after.1).0 in
-        ap (opens_by l) after.2 ∙ laid_out_opens l after.0 fits stood.laid_out ∙ ap records stood.same_records)
+        ap (opens_by l) after.2 ∙ laid_out_opens l after.0 fits stood.laid_out ∙ ap (records l.version) stood.same_records)
 
     read_past : ChangesBy (SameFrom end) old mid
     read_past = past_same end old mid lawful.reads_as (changes_at Same old mid read)
@@ -126,9 +127,9 @@ module _ (l : Layout) (fits : l.count ≤ l.slots) where
       closing_other = record {
         stands = λ c now. let stood = closed_stands c (change.crash c now) in record { whole = stood.whole; laid_out = stood.laid_out; same_records = stood.same_records ∙ sym closed_new.same_records };
         same_records = closed_new.same_records;
-        any_moment = leaves_then old mid new (λ c. opens_by l c ≡ records (kept_by l old.seen)) read_moments
-            (leaves_as mid new (After (TornWrite gate 1) mid.may_leave) (λ c. opens_by l c ≡ records (kept_by l old.seen)) change.any_moment (λ c after.
-            let stood = closed_stands c after in laid_out_opens l c fits stood.laid_out ∙ ap records stood.same_records));
+        any_moment = leaves_then old mid new (λ c. opens_by l c ≡ records l.version (kept_by l old.seen)) read_moments
+            (leaves_as mid new (After (TornWrite gate 1) mid.may_leave) (λ c. opens_by l c ≡ records l.version (kept_by l old.seen)) change.any_moment (λ c after.
+            let stood = closed_stands c after in laid_out_opens l c fits stood.laid_out ∙ ap (records l.version) stood.same_records));
         past = past_then end old mid new read_past (past_write gate 1 end mid new low lawful_mid.reads_as (λ d was. (read_stands d was).0.whole) change);
       }
 
@@ -167,9 +168,9 @@ module _ (l : Layout) (fits : l.count ≤ l.slots) where
     filling = record {
       stands = λ c now. let stood = fill_stands c (change.crash c now) in record { whole = stood.whole; laid_out = stood.laid_out; same_records = stood.same_records ∙ sym fill_new.same_records };
       same_records = fill_new.same_records;
-      any_moment = leaves_then old mid new (λ c. opens_by l c ≡ records (kept_by l old.seen)) keeps.any_moment
-          (leaves_as mid new (After (TornWrite start (64 * l.slots)) mid.may_leave) (λ c. opens_by l c ≡ records (kept_by l old.seen)) change.any_moment (λ c after.
-          let stood = fill_stands c after in laid_out_opens l c fits stood.laid_out ∙ ap records stood.same_records));
+      any_moment = leaves_then old mid new (λ c. opens_by l c ≡ records l.version (kept_by l old.seen)) keeps.any_moment
+          (leaves_as mid new (After (TornWrite start (64 * l.slots)) mid.may_leave) (λ c. opens_by l c ≡ records l.version (kept_by l old.seen)) change.any_moment (λ c after.
+          let stood = fill_stands c after in laid_out_opens l c fits stood.laid_out ∙ ap (records l.version) stood.same_records));
       past = past_then end old mid new keeps.past (past_write start (64 * l.slots) end mid new high lawful_mid.reads_as (λ d was. (keeps.stands d was).whole) change);
     }
 
@@ -184,28 +185,28 @@ module _ (l : Layout) (fits : l.count ≤ l.slots) where
     }
 
 -- Some calls that kept the records, and that failed.
-pub kept_failed : {T E : Type 0} (l : Layout) (own_gate : ℕ) (after : List (List ℕ)) (old new : DiskState) (result : Result T E) (fault : E) → result ≡ Err fault → KeepsRecords l old new → MovesAs result after (records after) l l Pending own_gate old new
+pub kept_failed : {T E : Type 0} (l : Layout) (own_gate : ℕ) (after : List (List ℕ)) (old new : DiskState) (result : Result T E) (fault : E) → result ≡ Err fault → KeepsRecords l old new → MovesAs result after (records 2 after) l l Pending own_gate old new
 kept_failed l own_gate after old new result fault is keeps = record {
   sound = keeps.stands;
   done = err_only _ result fault is;
   failed = on_err result keeps.same_records;
-  undecided = on_err result (inl (ap records keeps.same_records));
-  any_moment = leaves_as old new (λ c. opens_by l c ≡ records (kept_by l old.seen)) (OpensToEither l (kept_by l old.seen) after) keeps.any_moment (λ c is. inl is);
+  undecided = on_err result (inl (ap (records l.version) keeps.same_records));
+  any_moment = leaves_as old new (λ c. opens_by l c ≡ records l.version (kept_by l old.seen)) (OpensToEither l (kept_by l old.seen) 2 after) keeps.any_moment (λ c is. inl is);
   past = keeps.past;
 }
 
 -- and then a call of the journal
-pub kept_then : {T E : Type 0} (result : Result T E) (l l' : Layout) (standing : Standing) (last : ℕ) (after : List (List ℕ)) (old mid new : DiskState) → KeepsRecords l old mid → MovesAs result after (records after) l l' standing last mid new
-    → MovesAs result after (records after) l l' standing last old new
+pub kept_then : {T E : Type 0} (result : Result T E) (l l' : Layout) (standing : Standing) (last : ℕ) (after : List (List ℕ)) (old mid new : DiskState) → KeepsRecords l old mid → MovesAs result after (records 2 after) l l' standing last mid new
+    → MovesAs result after (records 2 after) l l' standing last old new
 kept_then result l l' standing last after old mid new keeps moves = record {
   sound = moves.sound;
   done = moves.done;
   failed = on_err_weaker result (λ same. same ∙ keeps.same_records) moves.failed;
-  undecided = on_err_weaker result (λ either. elim either [ inl was ↦ inl (was ∙ ap records keeps.same_records) | inr now ↦ inr now ]) moves.undecided;
-  any_moment = leaves_then old mid new (OpensToEither l (kept_by l old.seen) after)
-      (leaves_as old mid (λ c. opens_by l c ≡ records (kept_by l old.seen)) (OpensToEither l (kept_by l old.seen) after) keeps.any_moment (λ c is. inl is))
-      (leaves_as mid new (OpensToEither l (kept_by l mid.seen) after) (OpensToEither l (kept_by l old.seen) after) moves.any_moment (λ c either.
-      elim either [ inl was ↦ inl (was ∙ ap records keeps.same_records) | inr now ↦ inr now ]));
+  undecided = on_err_weaker result (λ either. elim either [ inl was ↦ inl (was ∙ ap (records l.version) keeps.same_records) | inr now ↦ inr now ]) moves.undecided;
+  any_moment = leaves_then old mid new (OpensToEither l (kept_by l old.seen) 2 after)
+      (leaves_as old mid (λ c. opens_by l c ≡ records l.version (kept_by l old.seen)) (OpensToEither l (kept_by l old.seen) 2 after) keeps.any_moment (λ c is. inl is))
+      (leaves_as mid new (OpensToEither l (kept_by l mid.seen) 2 after) (OpensToEither l (kept_by l old.seen) 2 after) moves.any_moment (λ c either.
+      elim either [ inl was ↦ inl (was ∙ ap (records l.version) keeps.same_records) | inr now ↦ inr now ]));
   past = past_then (journal_length l.slots) old mid new keeps.past moves.past;
 }
 
@@ -217,7 +218,7 @@ module _ (l : Layout) (fits : l.count ≤ l.slots) (small : l.generation < 2 ^ 6
   number = (l.generation + 1) % 2 ^ 64
 
   abbrev switched : Layout
-  switched = record { slots = l.slots; half = other_half l.half; count = length bodies; generation = number; digest = l.digest }
+  switched = record { slots = l.slots; half = other_half l.half; count = length bodies; version = 2; generation = number; digest = l.digest }
 
   in_journal : header_at (other_half l.half) + 64 ≤ journal_length l.slots
   in_journal = omega (arith, header_low (other_half l.half))
@@ -247,16 +248,16 @@ module _ (l : Layout) (fits : l.count ≤ l.slots) (small : l.generation < 2 ^ 6
   titling = record {
     stands = λ c now. let stood = title_stands c (first.crash c now) in record { whole = stood.whole; laid_out = stood.laid_out; same_records = stood.same_records ∙ sym mid_stands.same_records };
     same_records = mid_stands.same_records;
-    any_moment = leaves_as old mid (After (TornWrite (header_at (other_half l.half)) 63) old.may_leave) (λ c. opens_by l c ≡ records (kept_by l old.seen)) first.any_moment (λ c after.
-        let stood = title_stands c after in laid_out_opens l c fits stood.laid_out ∙ ap records stood.same_records);
+    any_moment = leaves_as old mid (After (TornWrite (header_at (other_half l.half)) 63) old.may_leave) (λ c. opens_by l c ≡ records l.version (kept_by l old.seen)) first.any_moment (λ c after.
+        let stood = title_stands c after in laid_out_opens l c fits stood.laid_out ∙ ap (records l.version) stood.same_records);
     past = past_write (header_at (other_half l.half)) 63 (journal_length l.slots) old mid (omega (arith, in_journal)) lawful.reads_as (λ d was. subst (λ (e : Content). journal_length l.slots ≤ length e) (sym (filled.durable d was)) filled.whole) first;
   }
 
-  pub title_failed : {T E : Type 0} (result : Result T E) (fault : E) → result ≡ Err fault → MovesAs result bodies (records bodies) l l Pending own_gate old mid
+  pub title_failed : {T E : Type 0} (result : Result T E) (fault : E) → result ≡ Err fault → MovesAs result bodies (records 2 bodies) l l Pending own_gate old mid
   title_failed result fault is = kept_failed l own_gate bodies old mid result fault is titling
 
   -- the header's body is on the disk, and its gate is written
-  module _ (is_title : title ≡ magic ++ to_be_bytes w64 number ++ l.digest ++ replicate 15 0) (put : bytes_at mid.seen (header_at (other_half l.half)) 63 ≡ title) (only_mid : Only mid.seen mid.may_leave)
+  module _ (is_title : title ≡ magic 2 ++ to_be_bytes w64 number ++ l.digest ++ replicate 15 0) (put : bytes_at mid.seen (header_at (other_half l.half)) 63 ≡ title) (only_mid : Only mid.seen mid.may_leave)
       (lawful_mid : IsLawful mid) (new : DiskState) (second : ChangesBy (TornWrite (header_at (other_half l.half) + 63) 1) mid new) where
     abbrev mark : ℕ
     mark = header_at (other_half l.half) + 63
@@ -287,6 +288,7 @@ module _ (l : Layout) (fits : l.count ≤ l.slots) (small : l.generation < 2 ^ 6
         record {
           in_force = next_in_force c l.half l.generation small (same_counts mid.seen c (header_at l.half) own ∙ force_counts mid.seen l.half base.in_force) (header_counts (header_at (other_half l.half)) number l.digest c header held)
               (same_generation mid.seen c (header_at l.half) own ∙ base.same_generation) (header_generation (header_at (other_half l.half)) number l.digest c (omega arith) header);
+          same_version = header_version (header_at (other_half l.half)) number l.digest c header;
           same_generation = header_generation (header_at (other_half l.half)) number l.digest c (omega arith) header;
           same_digest = header.digests;
           opens = filled_open c (half_at l.slots (other_half l.half)) l.slots bodies few long (near_filled c same);
@@ -296,16 +298,16 @@ module _ (l : Layout) (fits : l.count ≤ l.slots) (small : l.generation < 2 ^ 6
     near_bodies : (c : Content) → SameOutside mark 1 mid.seen c → kept_by switched c ≡ bodies
     near_bodies c same = filled_bodies c (half_at l.slots (other_half l.half)) l.slots bodies few long (near_filled c same)
 
-    near_open : (c : Content) → SameOutside mark 1 mid.seen c → byte_at c mark ≡ 1 → opens_by l c ≡ records bodies
-    near_open c same held = laid_out_opens switched c few (near_out c same held) ∙ ap records (near_bodies c same)
+    near_open : (c : Content) → SameOutside mark 1 mid.seen c → byte_at c mark ≡ 1 → opens_by l c ≡ records 2 bodies
+    near_open c same held = laid_out_opens switched c few (near_out c same held) ∙ ap (records 2) (near_bodies c same)
 
-    either_mid : Leaves old mid (OpensToEither l (kept_by l old.seen) bodies)
-    either_mid = leaves_as old mid (λ c. opens_by l c ≡ records (kept_by l old.seen)) (OpensToEither l (kept_by l old.seen) bodies) titling.any_moment (λ c is. inl is)
+    either_mid : Leaves old mid (OpensToEither l (kept_by l old.seen) 2 bodies)
+    either_mid = leaves_as old mid (λ c. opens_by l c ≡ records l.version (kept_by l old.seen)) (OpensToEither l (kept_by l old.seen) 2 bodies) titling.any_moment (λ c is. inl is)
 
-    pub mark_failed : {T E : Type 0} (result : Result T E) (fault : E) → result ≡ Err fault → MovesAs result bodies (records bodies) l l Undecided mark old new
-    mark_failed result fault is = undecided l fits mark (omega (arith, in_journal)) bodies old mid new either_mid titling.past only_mid lawful_mid second mid_stands.whole near_kept near_shut near_open result fault is
+    pub mark_failed : {T E : Type 0} (result : Result T E) (fault : E) → result ≡ Err fault → MovesAs result bodies (records 2 bodies) l l Undecided mark old new
+    mark_failed result fault is = undecided l fits mark (omega (arith, in_journal)) 2 bodies old mid new either_mid titling.past only_mid lawful_mid second mid_stands.whole near_kept near_shut near_open result fault is
 
-    pub is_switched : {T E : Type 0} (value : T) → new.seen ≡ written mark (1 ∷ []) mid.seen → Only new.seen new.may_leave → MovesAs {T = T} {E = E} (Ok value) bodies (records bodies) l switched Settled mark old new
+    pub is_switched : {T E : Type 0} (value : T) → new.seen ≡ written mark (1 ∷ []) mid.seen → Only new.seen new.may_leave → MovesAs {T = T} {E = E} (Ok value) bodies (records 2 bodies) l switched Settled mark old new
     is_switched value opened only =
         let same : SameOutside mark 1 mid.seen new.seen = torn_same mark 1 mid.seen new.seen (let whole = mid_stands.whole in omega (arith, in_journal)) second.reads in
-        decided l fits mark (omega (arith, in_journal)) bodies old mid new either_mid titling.past only_mid lawful_mid second mid_stands.whole near_kept near_shut near_open value switched refl near_out (near_bodies new.seen same) opened only
+        decided l fits mark (omega (arith, in_journal)) 2 bodies old mid new either_mid titling.past only_mid lawful_mid second mid_stands.whole near_kept near_shut near_open value switched refl near_out (near_bodies new.seen same) opened only

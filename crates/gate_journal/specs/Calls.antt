@@ -14,9 +14,9 @@ pub record MovesAs {T E : Type 0} (result : Result T E) (after : List (List ℕ)
   pub done : OnOk result (kept_by l' new.seen ≡ after)
   -- where it failed the records are as before
   pub failed : OnErr result (kept_by l' new.seen ≡ kept_by l old.seen)
-  pub undecided : OnErr result ((other_as standing gate l' new.seen ≡ records (kept_by l old.seen)) ⊎ (other_as standing gate l' new.seen ≡ second))
+  pub undecided : OnErr result ((other_as standing gate l' new.seen ≡ records l.version (kept_by l old.seen)) ⊎ (other_as standing gate l' new.seen ≡ second))
   -- a crash at any moment leaves the records from before it, or the second
-  pub any_moment : Leaves old new (λ c. (opens_by l c ≡ records (kept_by l old.seen)) ⊎ (opens_by l c ≡ second))
+  pub any_moment : Leaves old new (λ c. (opens_by l c ≡ records l.version (kept_by l old.seen)) ⊎ (opens_by l c ≡ second))
   -- and nothing past the journal changes, in what a read gives and in each image
   pub past : ChangesBy (SameFrom (journal_length l.slots)) old new
 
@@ -27,7 +27,7 @@ Moves result after second old new before now = MovesAs result after second (layo
 pub record KeepsRecords (l : Layout) (old new : DiskState) : Type 0 where
   pub stands : Every new.may_leave (Stands l new.seen)
   pub same_records : kept_by l new.seen ≡ kept_by l old.seen
-  pub any_moment : Leaves old new (λ c. opens_by l c ≡ records (kept_by l old.seen))
+  pub any_moment : Leaves old new (λ c. opens_by l c ≡ records l.version (kept_by l old.seen))
   pub past : ChangesBy (SameFrom (journal_length l.slots)) old new
 
 -- The other half holds these bodies behind a header whose gate is closed, and all of it is on the disk.

@@ -39,12 +39,13 @@ pub record Layout : Type 0 where
   pub slots : ℕ
   pub half : Half
   pub count : ℕ
+  pub version : ℕ
   pub generation : ℕ
   pub digest : List ℕ
 
--- a new journal: the first half is in force under generation 1, and has no records
+-- a new journal: the first half is in force under version 2 and generation 1, and has no records
 abbrev pub new_layout : List ℕ → ℕ → Layout
-new_layout digest slots = record { slots = slots; half = First; count = 0; generation = 1; digest = digest }
+new_layout digest slots = record { slots = slots; half = First; count = 0; version = 2; generation = 1; digest = digest }
 
 -- the generation after this one; the last is followed by 0
 abbrev pub next_generation : ℕ → ℕ

@@ -3,3 +3,4 @@ pub mod Layout
 pub mod Opened
 pub mod Reading
 pub mod Sound
+pub mod Visiting

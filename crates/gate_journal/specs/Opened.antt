@@ -1,5 +1,5 @@
 -- What an image of a disk opens to.
-use Rattle.std.specs.Prelude.{ℕ, zero, suc, ◌+◌, ◌%◌, ◌^◌, List, [], ◌∷◌, replicate, Bool, true, false, ◌&&◌, ◌==◌, nat_eq, if◌then◌else◌, Option, Some, None}
+use Rattle.std.specs.Prelude.{ℕ, zero, suc, ◌+◌, ◌%◌, ◌^◌, List, [], ◌∷◌, replicate, Bool, true, false, ◌&&◌, ◌||◌, ◌==◌, nat_eq, if◌then◌else◌, Option, Some, None}
 use Rattle.std.specs.Cmp.Lexicographic.{pointwise}
 use Rattle.std.specs.Int.{w64, from_be_bytes}
 use Rattle.disk_model.specs.Content.{Content, byte_at, bytes_at}
@@ -7,13 +7,21 @@ use Rattle.gate_journal.specs.declared.half.Half.{Half}
 use Rattle.gate_journal.specs.declared.half.Half.TheVariants.{First, Second}
 use Rattle.gate_journal.specs.Layout.{header_at, half_at}
 
--- "WMTSJNL1"
-abbrev pub magic : List ℕ
-magic = 87 ∷ 77 ∷ 84 ∷ 83 ∷ 74 ∷ 78 ∷ 76 ∷ 49 ∷ []
+-- "WMTSJNL1" for version 1 and "WMTSJNL2" for version 2
+abbrev pub magic : ℕ → List ℕ
+magic version = 87 ∷ 77 ∷ 84 ∷ 83 ∷ 74 ∷ 78 ∷ 76 ∷ (48 + version) ∷ []
 
--- a header counts: its gate is open, and its body begins with the magic and ends in zeros
+-- these bytes are the magic of a version
+abbrev pub names : List ℕ → ℕ → Bool
+names bytes version = pointwise nat_eq bytes (magic version)
+
+-- a header counts: its gate is open, and its body begins with the magic of a version and ends in zeros
 unfoldable pub counts : Content → ℕ → Bool
-counts c at = (byte_at c (at + 63) == 1) && pointwise nat_eq (bytes_at c at 8) magic && pointwise nat_eq (bytes_at c (at + 48) 15) (replicate 15 0)
+counts c at = (byte_at c (at + 63) == 1) && (names (bytes_at c at 8) 1 || names (bytes_at c at 8) 2) && pointwise nat_eq (bytes_at c (at + 48) 15) (replicate 15 0)
+
+-- the version of a header that counts
+unfoldable pub version_at : Content → ℕ → ℕ
+version_at c at = if names (bytes_at c at 8) 1 then 1 else 2
 
 -- the generation in a header
 unfoldable pub generation_at : Content → ℕ → ℕ
@@ -54,18 +62,18 @@ abbrev pub in_order : Content → ℕ → ℕ → Bool
 in_order c at zero = true
 in_order c at (suc n) = if byte_at c (at + 63) == 1 then in_order c (at + 64) n else all_closed c (at + 64) n
 
--- no cache, one with another digest, or the bodies of its records
+-- no cache, one with another digest, or the version and the bodies of its records
 pub data Opening : Type 0 where
   no_cache : Opening
   differs : List ℕ → Opening
-  records : List (List ℕ) → Opening
+  records : ℕ → List (List ℕ) → Opening
 
 -- by the half in force
 abbrev pub opened_half : List ℕ → ℕ → Content → Option Half → Opening
 opened_half digest slots c None = no_cache
 opened_half digest slots c (Some half) =
     if pointwise nat_eq (digest_at c (header_at half)) digest
-    then (if in_order c (half_at slots half) slots then records (records_at c (half_at slots half) slots) else no_cache)
+    then (if in_order c (half_at slots half) slots then records (version_at c (header_at half)) (records_at c (half_at slots half) slots) else no_cache)
     else differs (digest_at c (header_at half))
 
 -- what a content opens to, under the asked digest and with halves of so many slots

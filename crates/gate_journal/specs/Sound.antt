@@ -6,14 +6,15 @@ use Rattle.gate_journal.specs.declared.standing.Standing.{Standing}
 use Rattle.gate_journal.specs.declared.standing.Standing.TheVariants.{Settled, Pending, Undecided}
 use Rattle.gate_journal.specs.declared.journal.Journal.{Journal}
 use Rattle.gate_journal.specs.Layout.{Layout, header_at, half_at, gate_at, journal_length}
-use Rattle.gate_journal.specs.Opened.{bodies_at, digest_at, generation_at, half_in_force, Opening, opened, records}
+use Rattle.gate_journal.specs.Opened.{bodies_at, digest_at, generation_at, version_at, half_in_force, Opening, opened, records}
 
 abbrev pub layout_of : Journal → Layout
-layout_of j = record { slots = j.slots; half = j.half; count = j.count; generation = j.generation; digest = j.digest }
+layout_of j = record { slots = j.slots; half = j.half; count = j.count; version = j.version; generation = j.generation; digest = j.digest }
 
 -- the half is in force under this header, and exactly the first gates of it are open
 pub record IsLaidOut (l : Layout) (c : Content) : Type 0 where
   pub in_force : half_in_force c ≡ Some l.half
+  pub same_version : version_at c (header_at l.half) ≡ l.version
   pub same_generation : generation_at c (header_at l.half) ≡ l.generation
   pub same_digest : digest_at c (header_at l.half) ≡ l.digest
   pub opens : (k : ℕ) → k < l.count → byte_at c (gate_at l.slots l.half k) ≡ 1
@@ -67,8 +68,8 @@ IsSoundAs Undecided gate l disk = Every disk.may_leave (λ d. (c : Content) → 
 
 -- what an image may also open to
 abbrev pub other_as : Standing → ℕ → Layout → Content → Opening
-other_as Settled gate l seen = records (kept_by l seen)
-other_as Pending gate l seen = records (kept_by l seen)
+other_as Settled gate l seen = records l.version (kept_by l seen)
+other_as Pending gate l seen = records l.version (kept_by l seen)
 other_as Undecided gate l seen = with_gate l gate seen
 
 -- The words for callers.
@@ -97,6 +98,10 @@ other j seen = other_as j.standing j.gate (layout_of j) seen
 pub record IsAlike (old new : Journal) : Type 0 where
   pub same_slots : new.slots ≡ old.slots
   pub same_digest : new.digest ≡ old.digest
+
+-- the version of its header and of its records
+abbrev pub version_of : Journal → ℕ
+version_of j = j.version
 
 -- the generation in its header
 abbrev pub generation_of : Journal → ℕ

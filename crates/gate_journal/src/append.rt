@@ -4,7 +4,7 @@ ghost use Rattle.causes.specs.Causes.{HasCause};
 ghost use Rattle.gate_journal.specs.Calls.{Moves};
 ghost use Rattle.gate_journal.specs.Layout.{slot_at};
 ghost use Rattle.gate_journal.specs.Opened.{records};
-ghost use Rattle.gate_journal.specs.Sound.{IsAlike, IsSettled, IsSound, generation_of, kept, room_of};
+ghost use Rattle.gate_journal.specs.Sound.{IsAlike, IsSettled, IsSound, generation_of, kept, room_of, version_of};
 
 use crate::journal::Journal;
 use crate::standing::Standing;
@@ -29,11 +29,12 @@ impl Journal {
         ensures told { D.told disk.new ≡ D.told disk.old }
         ensures alike { IsAlike self.old self.new }
         ensures generation { generation_of self.new ≡ generation_of self.old }
+        ensures version { version_of self.new ≡ version_of self.old }
         ensures ok { OnOk result (IsSettled self.new × (room_of self.new + 1 ≡ room_of self.old)) }
         ensures err { OnErr result (¬ IsSettled self.new × (room_of self.new ≡ room_of self.old)) }
         ensures moves { IsTrue (D.told disk.old)
             → let after = kept self.old (D.state disk.old).seen ++ body.now ∷ [] in
-            Moves result after (records after) self.old self.new (D.state disk.old) (D.state disk.new) }
+            Moves result after (records (version_of self.old) after) self.old self.new (D.state disk.old) (D.state disk.new) }
         ensures cause { HasCause (D.faults disk.old) (D.faults disk.new) result }
     {
         let at = self.next_slot();

@@ -6,7 +6,7 @@ ghost use Rattle.disk_model.specs.Images.{Every, Only, ChangesBy};
 ghost use Rattle.gate_journal.specs.Calls.{Moves, KeepsRecords, IsFilled};
 ghost use Rattle.gate_journal.specs.Layout.{half_at, header_gate, next_generation, other_half};
 ghost use Rattle.gate_journal.specs.Opened.{records};
-ghost use Rattle.gate_journal.specs.Sound.{IsAlike, IsSettled, IsSound, IsSoundAs, generation_of, kept, layout_of, room_of, slot_of};
+ghost use Rattle.gate_journal.specs.Sound.{IsAlike, IsSettled, IsSound, IsSoundAs, generation_of, kept, layout_of, room_of, slot_of, version_of};
 ghost use Rattle.gate_journal.specs.declared.standing.Standing.TheVariants.{Settled, Pending};
 
 use crate::header::header_body;
@@ -71,12 +71,14 @@ impl Journal {
         requires filled { IsTrue (D.told disk.old) → IsFilled (layout_of self.old) bodies.now (D.state disk.old) }
         ensures told { D.told disk.new ≡ D.told disk.old }
         ensures alike { IsAlike self.old self.new }
+        ensures version { OnOk result (version_of self.new ≡ 2) }
+        ensures same_version { OnErr result (version_of self.new ≡ version_of self.old) }
         ensures next { OnOk result (generation_of self.new ≡ next_generation (generation_of self.old)) }
         ensures same { OnErr result (generation_of self.new ≡ generation_of self.old) }
         ensures ok { OnOk result (IsSettled self.new × (room_of self.new ≡ self.old.slots - length bodies.now)) }
         ensures err { OnErr result ((IsSettled self.new → ⊥) × (room_of self.new ≡ room_of self.old)) }
         ensures moves { IsTrue (D.told disk.old)
-            → Moves result bodies.now (records bodies.now) self.old self.new (D.state disk.old) (D.state disk.new) }
+            → Moves result bodies.now (records 2 bodies.now) self.old self.new (D.state disk.old) (D.state disk.new) }
         ensures cause { HasCause (D.faults disk.old) (D.faults disk.new) result }
     {
         let half = self.half.other();
@@ -89,13 +91,14 @@ impl Journal {
         open_gate(disk, header + 63)?;
         self.half = half;
         self.count = bodies.len() as u64;
+        self.version = 2;
         self.generation = generation;
         self.standing = Standing::Settled;
         Ok(())
     }
 
-    /// Writes these records to the other half and puts it in force under the next generation. After `Ok` they are the
-    /// records; at each moment an image has the records from before, or these. `Failed` only where the disk's count of
+    /// Writes these records to the other half and puts it in force under version 2 and the next generation. After `Ok` they are the
+    /// records; at each moment an image has the records from before, of their version, or these, of version 2. `Failed` only where the disk's count of
     /// faults rose; the records are then as before, and the journal is unsettled.
     pub fn compact<D: Disk>(&mut self, disk: &mut D, bodies: &[[u8; 63]]) -> Result<(), Failed>
         requires settled { IsSettled self.old }
@@ -103,12 +106,14 @@ impl Journal {
         requires sound { IsTrue (D.told disk.old) → IsSound self.old (D.state disk.old) }
         ensures told { D.told disk.new ≡ D.told disk.old }
         ensures alike { IsAlike self.old self.new }
+        ensures version { OnOk result (version_of self.new ≡ 2) }
+        ensures same_version { OnErr result (version_of self.new ≡ version_of self.old) }
         ensures next { OnOk result (generation_of self.new ≡ next_generation (generation_of self.old)) }
         ensures same { OnErr result (generation_of self.new ≡ generation_of self.old) }
         ensures ok { OnOk result (IsSettled self.new × (room_of self.new ≡ self.old.slots - length bodies.now)) }
         ensures err { OnErr result ((IsSettled self.new → ⊥) × (room_of self.new ≡ room_of self.old)) }
         ensures moves { IsTrue (D.told disk.old)
-            → Moves result bodies.now (records bodies.now) self.old self.new (D.state disk.old) (D.state disk.new) }
+            → Moves result bodies.now (records 2 bodies.now) self.old self.new (D.state disk.old) (D.state disk.new) }
         ensures cause { HasCause (D.faults disk.old) (D.faults disk.new) result }
     {
         self.standing = Standing::Pending;

@@ -13,6 +13,8 @@ pub struct Journal {
     pub(crate) half: Half,
     /// How many records it has.
     pub(crate) count: u64,
+    /// The version of its header and of its records: 1 or 2.
+    pub(crate) version: u8,
     pub(crate) generation: u64,
     pub(crate) digest: [u8; 32],
     pub(crate) standing: Standing,

@@ -1,6 +1,7 @@
 //! A journal of records behind gate bytes, in two halves.
 //!
-//! Promises: `Journal::open` gives the records that a disk opens to, or says what it is instead (`specs/Opened.antt`). At every
+//! Promises: `Journal::open` gives the records that a disk opens to and their version, 1 or 2, or says what it is instead
+//! (`specs/Opened.antt`), and `Journal::open_in_pieces` shows them to a visitor, once and in order (`specs/Visiting.antt`). At every
 //! moment within `append` and `compact` each image opens to the records from before the call or to those that it is to lead
 //! to, and within `settle` to the records or to what the undecided gate gives; nothing past the journal changes
 //! (`specs/Calls.antt`). After `Ok` of one of them each image of the disk opens to the journal's records (`laws_of_journals`).
@@ -8,6 +9,7 @@
 #![tactic(auto)]
 
 mod append;
+mod collecting;
 mod compact;
 pub mod fault;
 mod half;
@@ -21,4 +23,6 @@ mod queries;
 mod reading;
 mod settle;
 mod standing;
+pub mod visit;
+mod visiting;
 mod writes;

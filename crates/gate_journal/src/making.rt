@@ -10,8 +10,8 @@ use crate::header::header_body;
 use crate::writes::open_gate;
 use disk_model::disk::{Disk, Failed};
 
-/// Makes a journal with no records, in place of what the disk holds. A half has so many slots, 1 to 2^40. After `Ok` each
-/// image opens to no records under the digest, by the first half and generation 1, nothing is pending, and the disk ends
+/// Makes a journal of version 2 with no records, in place of what the disk holds. A half has so many slots, 1 to 2^40. After `Ok` each
+/// image opens to no records under the digest, of version 2, by the first half and generation 1, nothing is pending, and the disk ends
 /// where the journal does. `Failed` only where the disk's count of faults rose; nothing is said of what the disk then
 /// holds, and `make` is to be called again.
 pub fn make<D: Disk>(disk: &mut D, digest: &[u8; 32], slots: u64) -> Result<(), Failed>
@@ -19,7 +19,7 @@ pub fn make<D: Disk>(disk: &mut D, digest: &[u8; 32], slots: u64) -> Result<(), 
     requires limit { slots ≤ 2 ^ 40 }
     ensures told { D.told disk.new ≡ D.told disk.old }
     ensures made { IsTrue (D.told disk.old) → OnOk result
-        (Every (D.state disk.new).may_leave (λ c. opened digest.now slots c ≡ records [])) }
+        (Every (D.state disk.new).may_leave (λ c. opened digest.now slots c ≡ records 2 [])) }
     ensures first { IsTrue (D.told disk.old) → OnOk result
         (Every (D.state disk.new).may_leave (IsLaidOut (new_layout digest.now slots))) }
     ensures durable { IsTrue (D.told disk.old) → OnOk result (Only (D.state disk.new).seen (D.state disk.new).may_leave) }

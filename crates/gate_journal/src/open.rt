@@ -1,22 +1,26 @@
 //! How the journal of a disk is opened. The disk is only read.
-ghost use Rattle.std.specs.Prelude.{◌≡◌, ◌+◌, ◌≤◌, ◌^◌, IfOk, IsTrue, length};
+ghost use Rattle.std.specs.Prelude.{◌≡◌, ◌+◌, ◌≤◌, ◌^◌, IfErr, IfOk, IsTrue, length};
 ghost use Rattle.disk_model.specs.Content.{Same};
 ghost use Rattle.disk_model.specs.Images.{Only, ChangesBy};
 ghost use Rattle.gate_journal.specs.Layout.{journal_length};
 ghost use Rattle.gate_journal.specs.Reading.{HasChosen, HasOpenCause, OpensAs};
-ghost use Rattle.gate_journal.specs.Sound.{IsSettled, IsSound, digest_of, room_of, slots_of};
+ghost use Rattle.gate_journal.specs.Sound.{IsSettled, IsSound, digest_of, room_of, slots_of, version_of};
+ghost use Rattle.gate_journal.specs.Visiting.{OnlyReads, VisitsAll, VisitsSome};
 
 use crate::fault::OpenFault;
 use crate::half::Half;
+use crate::header::Header;
 use crate::journal::Journal;
 use crate::opened::Opened;
-use crate::reading::{half_of_headers, read_header, read_records};
+use crate::reading::{half_of_headers, read_header};
 use crate::standing::Standing;
+use crate::visit::Visit;
+use crate::visiting::visit_records;
 use disk_model::disk::Disk;
 use std::alloc::Global;
 
-/// The half in force with its generation, under the digest that is asked for.
-fn choose<D: Disk>(disk: &mut D, digest: &[u8; 32]) -> Result<(Half, u64), OpenFault>
+/// The half in force with its header, under the digest that is asked for.
+fn choose<D: Disk>(disk: &mut D, digest: &[u8; 32]) -> Result<(Half, Header), OpenFault>
     ensures { HasChosen digest.now (D.told disk.old) (D.told disk.new) (D.state disk.old) (D.state disk.new)
         (D.faults disk.old) (D.faults disk.new) result }
 {
@@ -28,13 +32,52 @@ fn choose<D: Disk>(disk: &mut D, digest: &[u8; 32]) -> Result<(Half, u64), OpenF
     if header.digest != *digest {
         return Err(OpenFault::CatalogueDiffers(header.digest, *digest));
     }
-    Ok((half, header.generation))
+    Ok((half, header))
 }
 
 impl Journal {
-    /// Opens the journal of a disk on which nothing is pending, as after a sync. A half has so many slots, 1 to 2^40. It is
-    /// settled. `NotACache` and `CatalogueDiffers` come exactly where the disk opens so, `DiskFault` only where its count of
-    /// faults rose, and no other fault but `OutOfMemory`. The disk is only read.
+    /// Opens the journal of a disk on which nothing is pending, as after a sync, and shows each of its records to a visitor,
+    /// once and in order. A half has so many slots, 1 to 2^40; at most 1,024 are read at once. The journal is settled.
+    /// `NotACache` and `CatalogueDiffers` come exactly where the disk opens so, `DiskFault` only where its count of faults
+    /// rose, and no other fault but `OutOfMemory`, which may be the visitor's. The visitor was then shown a prefix of the
+    /// records up to the first closed gate. The disk is only read.
+    pub fn open_in_pieces<D: Disk, V: Visit>(
+        alloc: Global,
+        disk: &mut D,
+        digest: &[u8; 32],
+        slots: u64,
+        visit: &mut V,
+    ) -> Result<Journal, OpenFault>
+        requires some { 1 ≤ slots }
+        requires limit { slots ≤ 2 ^ 40 }
+        requires clean { IsTrue (D.told disk.old) → Only (D.state disk.old).seen (D.state disk.old).may_leave }
+        ensures reads { OnlyReads (D.told disk.old) (D.told disk.new) (D.state disk.old) (D.state disk.new)
+            (D.faults disk.old) (D.faults disk.new) result }
+        ensures opened { IfOk result (VisitsAll V.visits (D.told disk.old) digest.now slots
+            (D.state disk.old) (D.state disk.new) visit.old visit.new) }
+        ensures refused { IfErr result (VisitsSome V.visits V.leaves (D.told disk.old) digest.now slots
+            (D.state disk.old).seen visit.old visit.new) }
+    {
+        let (half, header) = match choose(disk, digest) {
+            Ok(chosen) => chosen,
+            Err(fault) => return Err(fault),
+        };
+        match visit_records(alloc, disk, half.start(slots), slots, visit) {
+            Ok(count) => Ok(Journal {
+                slots,
+                half,
+                count,
+                version: header.version,
+                generation: header.generation,
+                digest: *digest,
+                standing: Standing::Settled,
+                gate: 0,
+            }),
+            Err(fault) => Err(fault),
+        }
+    }
+
+    /// Opens a journal as `open_in_pieces` does, and gives its records with it.
     pub fn open<D: Disk>(
         alloc: Global,
         disk: &mut D,
@@ -46,7 +89,7 @@ impl Journal {
         requires clean { IsTrue (D.told disk.old) → Only (D.state disk.old).seen (D.state disk.old).may_leave }
         ensures told { D.told disk.new ≡ D.told disk.old }
         ensures journal { IfOk result (λ o. IsSettled o.journal × (slots_of o.journal ≡ slots) × (digest_of o.journal ≡ digest.now)
-            × (room_of o.journal + length o.bodies.items ≡ slots)) }
+            × (version_of o.journal ≡ o.version) × (room_of o.journal + length o.bodies.items ≡ slots)) }
         ensures opens { IsTrue (D.told disk.old) → OpensAs digest.now slots (D.state disk.old).seen result }
         // On a disk that holds the journal whole, as `make` left it, the journal agrees with it.
         ensures sound { IsTrue (D.told disk.old) → journal_length slots ≤ length (D.state disk.old).seen
@@ -54,24 +97,17 @@ impl Journal {
         ensures quiet { IsTrue (D.told disk.old) → ChangesBy Same (D.state disk.old) (D.state disk.new) }
         ensures cause { HasOpenCause (D.faults disk.old) (D.faults disk.new) result }
     {
-        let (half, generation) = match choose(disk, digest) {
-            Ok(chosen) => chosen,
-            Err(fault) => return Err(fault),
-        };
-        let bodies = match read_records(alloc, disk, half.start(slots), slots) {
-            Ok(Some(bodies)) => bodies,
-            Ok(None) => return Err(OpenFault::NotACache),
-            Err(fault) => return Err(fault),
-        };
-        let journal = Journal {
-            slots,
-            half,
-            count: bodies.len() as u64,
-            generation,
-            digest: *digest,
-            standing: Standing::Settled,
-            gate: 0,
-        };
-        Ok(Opened { journal, bodies })
+        let mut bodies: Vec<[u8; 63]> = Vec::new(alloc);
+        match Journal::open_in_pieces(alloc, disk, digest, slots, &mut bodies) {
+            Ok(journal) => {
+                let version = journal.version;
+                Ok(Opened {
+                    journal,
+                    bodies,
+                    version,
+                })
+            }
+            Err(fault) => Err(fault),
+        }
     }
 }

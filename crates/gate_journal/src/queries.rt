@@ -1,7 +1,7 @@
 //! What a journal tells without its disk.
 ghost use Rattle.std.specs.Prelude.{◌≡◌, ◌+◌, ◌↔◌, IsTrue, length};
 ghost use Rattle.disk_model.specs.Content.{Content};
-ghost use Rattle.gate_journal.specs.Sound.{IsSettled, kept, room_of, slots_of};
+ghost use Rattle.gate_journal.specs.Sound.{IsSettled, kept, room_of, slots_of, version_of};
 
 use crate::journal::Journal;
 use crate::standing::Standing;
@@ -12,6 +12,13 @@ impl Journal {
         ensures { IsTrue result ↔ IsSettled self.now }
     {
         self.standing == Standing::Settled
+    }
+
+    /// The version of its records, 1 or 2.
+    pub fn version(&self) -> u8
+        ensures { result ≡ version_of self.now }
+    {
+        self.version
     }
 
     /// How many slots of the half in force stand after its records.

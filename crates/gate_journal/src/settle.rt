@@ -2,7 +2,7 @@
 ghost use Rattle.std.specs.Prelude.{◌≡◌, IsTrue, OnOk, OnErr};
 ghost use Rattle.causes.specs.Causes.{HasCause};
 ghost use Rattle.gate_journal.specs.Calls.{Moves};
-ghost use Rattle.gate_journal.specs.Sound.{IsAlike, IsSettled, IsSound, generation_of, kept, other, room_of};
+ghost use Rattle.gate_journal.specs.Sound.{IsAlike, IsSettled, IsSound, generation_of, kept, other, room_of, version_of};
 
 use crate::journal::Journal;
 use crate::standing::Standing;
@@ -17,6 +17,7 @@ impl Journal {
         ensures told { D.told disk.new ≡ D.told disk.old }
         ensures alike { IsAlike self.old self.new }
         ensures generation { generation_of self.new ≡ generation_of self.old }
+        ensures version { version_of self.new ≡ version_of self.old }
         ensures room { room_of self.new ≡ room_of self.old }
         ensures ok { OnOk result (IsSettled self.new) }
         ensures err { OnErr result (¬ IsSettled self.new) }

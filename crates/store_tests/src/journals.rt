@@ -39,7 +39,7 @@ fn records(alloc: Global, disk: &mut MemoryDisk) -> Result<Vec<[u8; 63]>, Fail> 
 
 /// A file with one record of fives in halves of 224 slots, under the digest of sevens.
 fn laid_out(alloc: Global) -> Result<Vec<u8>, AllocError> {
-    let mut file = b"WMTSJNL1".to_vec(alloc)?;
+    let mut file = b"WMTSJNL2".to_vec(alloc)?;
     file.extend_from_slice(&[0, 0, 0, 0, 0, 0, 0, 1])?;
     file.extend_from_slice(&DIGEST)?;
     file.extend_from_slice(&[0; 15])?;

@@ -43,7 +43,7 @@ returns-in_err-open_gate-clause-moves g c told =
     let second = subst (λ (p : ℕ). ChangesBy (TornWrite p 1) mid new) mark (c.open_gate.ensures.changes told1) in
     let put = subst (λ (p : ℕ). bytes_at mid.seen p 63 ≡ title) here (c.in_ok-write_body.ensures.body told) in
     let fault = err_from_is_err_and c.from_residual-in_err-open_gate.result c.from_residual-in_err-open_gate.ensures.1 in
-    subst (λ (p : ℕ). MovesAs c.from_residual-in_err-open_gate.result c.args.bodies.now (records c.args.bodies.now) l l Undecided p old new) (sym mark)
+    subst (λ (p : ℕ). MovesAs c.from_residual-in_err-open_gate.result c.args.bodies.now (records 2 c.args.bodies.now) l l Undecided p old new) (sym mark)
     (mark_failed l j.within small names c.args.bodies.now c.requires.fits (λ i lt. omega (arith, c.told-bodies i)) old mid (g.met.D.Disk.lawful c.args.disk.now told) (c.requires.filled told) j.gate title first
     c.header_body.ensures put (c.in_ok-write_body.ensures.durable told) (g.met.D.Disk.lawful c.write_body.new.disk told1) new second c.from_residual-in_err-open_gate.result fault.0 fault.1)
 
@@ -65,8 +65,8 @@ returns-clause-moves g c told =
     let second = subst (λ (p : ℕ). ChangesBy (TornWrite p 1) mid new) mark (c.open_gate.ensures.changes told1) in
     let put = subst (λ (p : ℕ). bytes_at mid.seen p 63 ≡ title) here (c.in_ok-write_body.ensures.body told) in
     let opened = subst (λ (p : ℕ). new.seen ≡ written p (1 ∷ []) mid.seen) mark (c.in_ok-open_gate.ensures.written told1) in
-    let switched : Half → Layout = λ half. record { slots = j.slots; half = half; count = length c.args.bodies.now; generation = (j.generation + 1) % 2 ^ 64; digest = j.digest } in
-    subst (λ (half : Half). MovesAs {T = Unit {0}} {E = Failed} (Ok tt) c.args.bodies.now (records c.args.bodies.now) l (switched half) Settled (c.header-header.result + 63) old new) (sym c.other-half.ensures)
-    (subst (λ (p : ℕ). MovesAs {T = Unit {0}} {E = Failed} (Ok tt) c.args.bodies.now (records c.args.bodies.now) l (switched (other_half j.half)) Settled p old new) (sym mark)
+    let switched : Half → Layout = λ half. record { slots = j.slots; half = half; count = length c.args.bodies.now; version = 2; generation = (j.generation + 1) % 2 ^ 64; digest = j.digest } in
+    subst (λ (half : Half). MovesAs {T = Unit {0}} {E = Failed} (Ok tt) c.args.bodies.now (records 2 c.args.bodies.now) l (switched half) Settled (c.header-header.result + 63) old new) (sym c.other-half.ensures)
+    (subst (λ (p : ℕ). MovesAs {T = Unit {0}} {E = Failed} (Ok tt) c.args.bodies.now (records 2 c.args.bodies.now) l (switched (other_half j.half)) Settled p old new) (sym mark)
     (is_switched l j.within small names c.args.bodies.now c.requires.fits (λ i lt. omega (arith, c.told-bodies i)) old mid (g.met.D.Disk.lawful c.args.disk.now told) (c.requires.filled told) j.gate title first
     c.header_body.ensures put (c.in_ok-write_body.ensures.durable told) (g.met.D.Disk.lawful c.write_body.new.disk told1) new second tt opened (c.in_ok-open_gate.ensures.durable told1)))

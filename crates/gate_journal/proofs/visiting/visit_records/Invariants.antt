@@ -1,8 +1,8 @@
-use Rattle.std.proofs.Common.{◌≡◌, ◌-◌, ◌≤◌, IsTrue, vec_len}
+use Rattle.std.proofs.Common.{◌≡◌, ◌-◌, ◌≤◌, vec_len, IsTrue}
 use Rattle.disk_model.specs.Content.{Same}
 use Rattle.disk_model.specs.Images.{ChangesBy}
-use Rattle.gate_journal.specs.Reading.{HasRead}
-use Rattle.gate_journal.proofs.reading.read_records.Given as goal
+use Rattle.gate_journal.specs.Visiting.{VisitsFirst}
+use Rattle.gate_journal.proofs.visiting.visit_records.Given as goal
 
 abbrev pub invariant-loop-done : goal.invariant-loop-done
 invariant-loop-done g l = record {
@@ -11,8 +11,7 @@ invariant-loop-done g l = record {
   faults : g.D.Disk.faults l.fn.disk ≤ g.D.Disk.faults l.disk;
   size : vec_len l.buffer ≡ 65536;
   within : l.done ≤ l.slots;
-  few : vec_len l.bodies ≤ l.done;
-  read : IsTrue (g.D.Disk.told l.fn.disk) → HasRead (g.D.Disk.state l.fn.disk).seen l.start l.done l.bodies.items;
+  first : VisitsFirst g.V.Visit.visits (g.D.Disk.told l.fn.disk) (g.D.Disk.state l.fn.disk).seen l.start l.done l.fn.visit l.visit l.found;
 }
 
 abbrev pub decreases-loop-done : goal.decreases-loop-done
