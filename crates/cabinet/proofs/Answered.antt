@@ -2,7 +2,7 @@
 use Rattle.std.proofs.Common.{ℕ, ◌≡◌, ◌+◌, ◌<◌, ◌≤◌, Bool, true, false, cond, not, List, [], ◌∷◌, ◌==◌, length, map, filter, find, fold, Option, Some, None, IsSome, inl, inr, refl, sym, ap, subst, ◌∙◌, arith}
 use Rattle.std.specs.Prelude.{nat_lt}
 use Rattle.std.specs.List.{AllByRecursion}
-use Rattle.std.specs.Option.{option_map, option_map_or}
+use Rattle.std.specs.Option.{option_map}
 use Rattle.std.proofs.lemmas.Bool.{cases_lt}
 use Rattle.std.proofs.lemmas.Bool.Decides.{nat_tests}
 use Rattle.std.proofs.lemmas.Grind.{fold-append}
@@ -14,7 +14,7 @@ use Rattle.matrix_geometry.specs.declared.address.Address.{Address}
 use Rattle.metatile_plan.specs.declared.metatile.MetaKey.{MetaKey}
 use Rattle.metatile_plan.proofs.Same.{same_meta_is}
 use Rattle.quota_ledger.specs.Accounts.{accounts, exceeded}
-use Rattle.raster_field.specs.Blocks.{block_of, block_text, tile_part}
+use Rattle.raster_field.specs.Blocks.{blob_size, block_of, block_text, tile_part}
 use Rattle.truncation_list.specs.declared.book.Book.{Book}
 use Rattle.truncation_list.specs.declared.cover.Cover.{Cover}
 use Rattle.truncation_list.specs.Purge.{purged}
@@ -38,9 +38,10 @@ use Rattle.cabinet.specs.Counted.{kept_in, part_of, scope_exceeded, use_of, uses
 use Rattle.cabinet.specs.Gaps.{gap_for}
 use Rattle.cabinet.specs.History.{History, Standing, but, is_of, kept_of, least_of, lesser, next, numbers, last_number, whole}
 use Rattle.cabinet.specs.Shelved.{Drops, Reads, Shelved, Shelves, listed, scope_above}
-use Rattle.cabinet.specs.State.{IsSound, State, now, with_blob, with_cut, with_dropped, with_entry}
+use Rattle.cabinet.specs.State.{IsLong, IsPictured, IsSound, State, blobs_with, blobs_without, now, with_blob, with_cut, with_dropped, with_entry}
 use Rattle.cabinet.proofs.Holding.{least_has, least_most}
 use Rattle.cabinet.proofs.Lists.{all_of_map, all_push, find_map}
+use Rattle.cabinet.proofs.Modelled.{some_and_made}
 use Rattle.cabinet.proofs.OnShelf.{listed_filter}
 use Rattle.cabinet.proofs.Rows.{goes_kept}
 use Rattle.raster_field.specs.TileText.{tile_text}
@@ -101,12 +102,21 @@ module _ (p : Parts) (h : History) (k : IsConsistent p h) where
       let f = found (λ (x : KeptBlob). is_of m x.kept) (λ x. x.text ≡ block_text p.shelf.catalogue x.kept.number x.kept.meta) p.shelf.blobs b sound e in
       f.1 ∙ ap (block_text p.shelf.catalogue b.kept.number) (same_meta_is b.kept.meta m f.0)
 
+  -- and has its length
+  long_text : (m : MetaKey) (b : KeptBlob) → find (λ b. is_of m b.kept) p.shelf.blobs ≡ Some b → length b.text ≡ blob_size p.shelf.catalogue m
+  long_text m b e =
+      let f = found (λ (x : KeptBlob). is_of m x.kept) (IsLong p.shelf.catalogue) p.shelf.blobs b k.known.lengths e in
+      f.1.0 ∙ f.1.1 ∙ ap (blob_size p.shelf.catalogue) (same_meta_is b.kept.meta m f.0)
+
   pub hit_row : (a : Address) (f : Found) (new : State) → Reads p.shelf.catalogue p.shelf.blobs a (Some f) → new ≡ with_entry here (entry.Used (block_of p.shelf.catalogue a)) → IsHit here a f.number f.text.items new
   hit_row a f new r is = record {
     kept = r.0.kept;
     is_kept = listed_of (block_of p.shelf.catalogue a) (Some r.0) r.1;
     number = r.2;
-    part = r.3 ∙ ap (λ (o : Option KeptBlob). tile_part p.shelf.catalogue a (option_map_or (λ x. x.text) o [])) (sym r.1);
+    blob = r.0.text;
+    long = long_text (block_of p.shelf.catalogue a) r.0 r.1;
+    told = rw r.1 refl;
+    part = r.3;
     state = is;
   }
 
@@ -200,8 +210,8 @@ below_limit count limit told off on = elim (cases_lt count limit) [
 
 pub sound_stored : (s : State) (t : Kept) (blob : List ℕ) (new : State) → IsSound s → blob ≡ block_text s.catalogue t.number t.meta → new ≡ with_blob s t blob → IsSound new
 sound_stored s t blob new sound text is =
-    rw is (all_push (λ (b : KeptBlob). b.text ≡ block_text s.catalogue b.kept.number b.kept.meta) (filter (λ b. not (is_of t.meta b.kept)) s.blobs) (record { kept = t; text = blob })
-    (all_filter (λ (b : KeptBlob). b.text ≡ block_text s.catalogue b.kept.number b.kept.meta) (λ b. not (is_of t.meta b.kept)) s.blobs sound) text)
+    rw is (some_and_made _ _ (blobs_with t blob)
+    (λ bs are. all_push (IsPictured s.catalogue) (blobs_without t.meta bs) (record { kept = t; text = blob }) (all_filter (IsPictured s.catalogue) (λ b. not (is_of t.meta b.kept)) bs are) text) s.blobs sound)
 
 pub sound_dropped : (s : State) (m : MetaKey) (new : State) → IsSound s → new ≡ with_dropped s m → IsSound new
-sound_dropped s m new sound is = rw is (all_filter (λ (b : KeptBlob). b.text ≡ block_text s.catalogue b.kept.number b.kept.meta) (λ b. not (is_of m b.kept)) s.blobs sound)
+sound_dropped s m new sound is = rw is (some_and_made _ _ (blobs_without m) (λ bs are. all_filter (IsPictured s.catalogue) (λ b. not (is_of m b.kept)) bs are) s.blobs sound)

@@ -10,7 +10,7 @@ use Rattle.expiry_policy.specs.Victims as victims
 use Rattle.metatile_plan.specs.declared.metatile.MetaKey.{MetaKey}
 use Rattle.raster_field.specs.Blocks.{IsMeta, blob_size}
 use Rattle.truncation_list.specs.declared.cover.Cover.{Cover}
-use Rattle.truncation_list.specs.Purge.{IsAbove, added, empty_book}
+use Rattle.truncation_list.specs.Purge.{IsAbove, added, empty_book, purged}
 use Rattle.metatile_locks.specs.declared.render.Render.{Render}
 use Rattle.metatile_locks.specs.Running.{IsAboveAll, begun, has_number, is_render_of, marked, overtaken, render_of, running_for, unmarked, without}
 use Rattle.metatile_locks.specs.Tickets.{Ticketed}
@@ -26,8 +26,8 @@ use Rattle.cabinet.specs.Hits.{hits_of}
 use Rattle.served_covers.specs.OfCatalogue.{IsCoverOf}
 use Rattle.cabinet.specs.History.{History, Standing, after, but, is_of, least_of, numbers, spared, first_entries, last_number, whole, bare_opening}
 use Rattle.cabinet.specs.Fresh.{Holds, HoldsOfRender, May, cuts_of}
-use Rattle.cabinet.specs.Shelved.{IsLong, dropping, keeping, listed, sifted, touched_on, with_room, bare, Shelved}
-use Rattle.cabinet.specs.State.{IsKnown, now, grown}
+use Rattle.cabinet.specs.Shelved.{dropping, keeping, listed, sifted, touched_on, with_room, bare, Shelved}
+use Rattle.cabinet.specs.State.{IsKnown, IsLong, now, grown}
 use Rattle.cabinet.proofs.Holding.{above_listed, holds_of, bare_opens}
 use Rattle.cabinet.proofs.Lists.{all_push, map_filter}
 use Rattle.cabinet.proofs.OnShelf.{listed_filter, listed_put}
@@ -69,12 +69,12 @@ module _ (p : Parts) (h : History) (k : IsConsistent p h) where
   one_entry e g q is opens same may gives long left count uses room =
       let gone : after p.shelf.catalogue (now (seen p h)) e ≡ stood q = ap (λ (x : Standing). after p.shelf.catalogue x e) k.stands ∙ gives in
       let past : whole q.opening g ≡ whole p.opening h ++ e ∷ [] = (λ i. whole (opens i) (is i)) ∙ sym (append_assoc (first_entries p.opening) h (e ∷ [])) in
-      let there : seen q g ≡ grown (seen p h) e q.shelf.blobs = (λ i. record { catalogue = same i; opening = opens i; history = past i; since = is i; blobs = q.shelf.blobs }) in
+      let there : seen q g ≡ grown (seen p h) e (Some q.shelf.blobs) = (λ i. record { catalogue = same i; opening = opens i; history = past i; since = is i; blobs = Some q.shelf.blobs }) in
       record {
         known = subst IsKnown (sym there)
-            (one_more_known (seen p h) e q.shelf.blobs k.known (subst (λ (x : Standing). May p.shelf.catalogue x e) (sym k.stands) may) (sym (ap (λ (x : Standing). x.kept) gone)) long
+            (one_more_known (seen p h) e (Some q.shelf.blobs) k.known (subst (λ (x : Standing). May p.shelf.catalogue x e) (sym k.stands) may) (sym (ap (λ (x : Standing). x.kept) gone)) long
             (subst (λ (x : Standing). x.front ≤ last_number p.opening) (sym gone) left));
-        stands = ap now there ∙ now_more (seen p h) e q.shelf.blobs ∙ gone;
+        stands = ap now there ∙ now_more (seen p h) e (Some q.shelf.blobs) ∙ gone;
         clock_is = count ∙ sym (clock_more (whole p.opening h) e) ∙ ap clock (sym past);
         uses = uses ∙ ap (λ (x : History). map (λ t. use_of x t.meta) (listed q.shelf.blobs)) (sym past);
         room = room;
@@ -124,13 +124,14 @@ module _ (p : Parts) (h : History) (k : IsConsistent p h) where
   pub after_stored : (t : Kept) (text : List ℕ) (room' : ℕ) (g : History) (q : Parts) → g ≡ h ++ entry.Stored t.number t.meta t.place t.length ∷ []
       → q ≡ record { opening = p.opening; shelf = keeping t text room' p.shelf; last = p.last; renders = without t.number p.renders; book = p.book }
       → render_of (record { number = t.number; meta = t.meta }) p.renders ≡ Some (unmarked t.number t.meta) → length text ≡ t.length → t.length ≡ blob_size p.shelf.catalogue t.meta
-      → gap_for p.shelf.catalogue (listed p.shelf.blobs) t.length ≡ Some t.place → p.shelf.room ≤ room' + 1 → IsConsistent q g
-  after_stored t text room' g q is e runs long size gap room =
+      → gap_for p.shelf.catalogue (listed p.shelf.blobs) t.length ≡ Some t.place → length (but t.meta (listed p.shelf.blobs)) < p.shelf.catalogue.kept_limit
+      → p.shelf.room ≤ room' + 1 → IsConsistent q g
+  after_stored t text room' g q is e runs long size gap few room =
       let l = one_less (record { number = t.number; meta = t.meta }) (unmarked t.number t.meta) runs in
       let x = k.room in
       let list = listed_put t text p.shelf.blobs in
       subst (λ (x : Parts). IsConsistent x g) (sym e)
-      (one_entry (entry.Stored t.number t.meta t.place t.length) g (record { opening = p.opening; shelf = keeping t text room' p.shelf; last = p.last; renders = without t.number p.renders; book = p.book }) is refl refl (runs, size, gap)
+      (one_entry (entry.Stored t.number t.meta t.place t.length) g (record { opening = p.opening; shelf = keeping t text room' p.shelf; last = p.last; renders = without t.number p.renders; book = p.book }) is refl refl (runs, size, gap, few)
       (λ i. record { front = p.last; kept = sym list i; out = without t.number p.renders; book = p.book })
       (all_push (IsLong p.shelf.catalogue) (filter (λ b. not (is_of t.meta b.kept)) p.shelf.blobs) (record { kept = t; text = text })
       (all_filter (IsLong p.shelf.catalogue) (λ b. not (is_of t.meta b.kept)) p.shelf.blobs k.known.lengths) (long, size))
@@ -155,15 +156,17 @@ module _ (p : Parts) (h : History) (k : IsConsistent p h) where
 
   pub after_cut : (cover : Cover) (least : Option ℕ) (room' : ℕ) (g : History) (q : Parts) → g ≡ h ++ entry.Cut (p.last + 1) cover ∷ []
       → q ≡ record { opening = p.opening; shelf = sifted cover room' p.shelf; last = p.last + 1; renders = overtaken (hits_of p.shelf.catalogue cover) (p.last + 1) p.renders; book = added (p.last + 1) cover least p.book }
-      → IsCoverOf p.shelf.catalogue cover → p.last < last_number p.opening → least ≡ least_of (numbers p.renders (listed p.shelf.blobs)) → p.shelf.room ≤ room' → IsConsistent q g
-  after_cut cover least room' g q is e of left low room =
+      → IsCoverOf p.shelf.catalogue cover → p.last < last_number p.opening → least ≡ least_of (numbers p.renders (listed p.shelf.blobs)) → length (purged (Some cover) least p.book).cuts < p.shelf.catalogue.cut_limit
+      → p.shelf.room ≤ room' → IsConsistent q g
+  after_cut cover least room' g q is e of left low few room =
       let higher : max p.last (p.last + 1) ≡ p.last + 1 = omega arith in
       let x = k.room in
       let list = listed_filter (λ t. not (hits_of p.shelf.catalogue cover t.meta)) p.shelf.blobs in
       let same = length-map p.renders (marked (hits_of p.shelf.catalogue cover) (p.last + 1)) in
       subst (λ (x : Parts). IsConsistent x g) (sym e)
       (one_entry (entry.Cut (p.last + 1) cover) g
-      (record { opening = p.opening; shelf = sifted cover room' p.shelf; last = p.last + 1; renders = overtaken (hits_of p.shelf.catalogue cover) (p.last + 1) p.renders; book = added (p.last + 1) cover least p.book }) is refl refl (refl, of)
+      (record { opening = p.opening; shelf = sifted cover room' p.shelf; last = p.last + 1; renders = overtaken (hits_of p.shelf.catalogue cover) (p.last + 1) p.renders; book = added (p.last + 1) cover least p.book }) is refl refl
+      (refl, of, subst (λ (x : Option ℕ). length (purged (Some cover) x p.book).cuts < p.shelf.catalogue.cut_limit) low few)
       (λ i. record { front = higher i; kept = sym list i; out = overtaken (hits_of p.shelf.catalogue cover) (p.last + 1) p.renders; book = added (p.last + 1) cover (sym low i) p.book })
       (all_filter (IsLong p.shelf.catalogue) (λ b. not (hits_of p.shelf.catalogue cover b.kept.meta)) p.shelf.blobs k.known.lengths) (omega arith) k.clock_is
       (ap (filter (λ (u : Use). not (hits_of p.shelf.catalogue cover u.meta))) k.uses ∙ sym (map_filter (λ (t : Kept). use_of (whole p.opening h) t.meta) (λ u. not (hits_of p.shelf.catalogue cover u.meta)) (listed p.shelf.blobs))

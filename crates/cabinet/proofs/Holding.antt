@@ -229,7 +229,7 @@ dropped c cuts s m h = record { given = h.given; floor_given = h.floor_given; li
 -- AN OPENING WITH NOTHING IN IT
 
 pub bare_opens : (c : Catalogue) (e : ℕ) → Opens c (bare_opening e)
-bare_opens c e = record { holds = holds_bare c e; numbers = tt; once = tt; metas = tt; regions = record { some = tt; within = tt; disjoint = tt } }
+bare_opens c e = record { holds = holds_bare c e; numbers = tt; once = tt; metas = tt; regions = record { some = tt; within = tt; disjoint = tt }; lengths = tt; covers = tt; few = omega arith; few_cuts = omega arith }
 
 -- HISTORIES
 

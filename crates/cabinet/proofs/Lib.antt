@@ -1,4 +1,5 @@
 pub mod Lists
+pub mod Modelled
 pub mod Hits
 pub mod Holding
 pub mod Rooted
@@ -20,3 +21,4 @@ pub mod Bytes
 pub mod Forgets
 pub mod OnShelf
 pub mod Sifts
+pub mod Limits

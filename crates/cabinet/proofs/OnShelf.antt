@@ -28,7 +28,8 @@ use Rattle.cabinet.specs.declared.kept.KeptBlob.{KeptBlob}
 use Rattle.cabinet.specs.Counted.{part_of}
 use Rattle.cabinet.specs.Gaps.{gap_for, lowest_gap, regions, region}
 use Rattle.cabinet.specs.History.{but, is_of}
-use Rattle.cabinet.specs.Shelved.{IsLong, IsCountedIn, IsShelved, entering, holding, listed, without}
+use Rattle.cabinet.specs.Shelved.{IsCountedIn, IsShelved, entering, holding, listed, without}
+use Rattle.cabinet.specs.State.{IsLong}
 use Rattle.cabinet.proofs.Bytes.{bytes_filter, bytes_within, older_counted, older_out}
 use Rattle.cabinet.proofs.Lists.{all_of, all_push, any_found, any_map, find_map, map_filter, map_twice}
 use Rattle.cabinet.proofs.Numbers.{apart_filter, apart_push}

@@ -1,6 +1,6 @@
 -- Each row of a command leaves a cabinet of which all that is said of cabinets holds, and what it hands out is fresh.
 use Rattle.std.proofs.Common.{ℕ, ◌≡◌, ◌+◌, ◌<◌, ◌≤◌, Bool, true, false, cond, not, List, [], ◌∷◌, ◌++◌, length, map, filter, Option, Some, None, refl, sym, ap, subst, ◌∙◌, inl, inr, arith, append_assoc}
-use Rattle.std.specs.Prelude.{IsSome, nat_lt}
+use Rattle.std.specs.Prelude.{IfSome, IsSome, nat_lt}
 use Rattle.std.specs.List.{AllByRecursion}
 use Rattle.std.specs.Option.{option_map}
 use Rattle.std.proofs.lemmas.Bool.Decides.{nat_tests}
@@ -40,13 +40,14 @@ use Rattle.cabinet.specs.Hits.{hits_of}
 use Rattle.served_covers.specs.OfCatalogue.{IsCoverOf}
 use Rattle.cabinet.specs.History.{History, Opening, Standing, after, but, first, first_entries, is_of, kept_of, last_number, next, render, spared, standing, whole}
 use Rattle.cabinet.specs.Fresh.{Follows, IsFresh, May, cuts_of}
-use Rattle.cabinet.specs.State.{IsKnown, IsKnownAs, State, fronted, grown, now, with_entry}
+use Rattle.cabinet.specs.State.{IsKnown, IsKnownAs, IsLong, State, blobs_spared, blobs_with, blobs_without, fronted, grown, now, with_entry}
 use Rattle.cabinet.specs.Commands.{Asks, Forces, Finishes, Abandons, Cuts, Expires, IsBusy, IsGiven, IsFreshReply, IsFreshForced, kept_at}
 use Rattle.cabinet.proofs.Fronts.{fronted_after}
 use Rattle.cabinet.proofs.Holding.{holds_of}
 use Rattle.cabinet.proofs.Fresher.{begun_fresh, kept_fresh, still_fresh}
 use Rattle.cabinet.specs.Counted.{use_of, uses_of, victim_in}
 use Rattle.cabinet.proofs.Lists.{all_push, find_map, map_filter}
+use Rattle.cabinet.proofs.Modelled.{if_some_made, if_some_so}
 use Rattle.cabinet.proofs.Numbers.{runs_is}
 
 follows_more : (c : Catalogue) (s : Standing) (h : History) (e : Entry) → Follows c s h → May c (standing c s h) e → Follows c s (h ++ e ∷ [])
@@ -57,7 +58,7 @@ pub stood_more : (c : Catalogue) (s : Standing) (h : History) (e : Entry) → st
 stood_more c s h e = rw fold-append refl
 
 -- what stands in a cabinet after one more entry
-pub now_more : (s : State) (e : Entry) (blobs : List KeptBlob) → now (grown s e blobs) ≡ after s.catalogue (now s) e
+pub now_more : (s : State) (e : Entry) (blobs : Option (List KeptBlob)) → now (grown s e blobs) ≡ after s.catalogue (now s) e
 now_more s e blobs = stood_more s.catalogue (first s.opening) s.since e
 
 -- NUMBERS
@@ -78,14 +79,14 @@ next_is o s k h = next_at s.front (last_number o) k (nat_lt s.front (last_number
 the_same : (s t : State) → IsKnown s → t ≡ s → IsKnownAs s t
 the_same s t k is = rw is (record { known = k; same_catalogue = refl; same_opening = refl; answers = fronted_itself (fronted (now s)) })
 
-answers_more : (s : State) (e : Entry) (blobs : List KeptBlob) → IsKnown s → May s.catalogue (now s) e → AnswersForFronted (fronted (now (grown s e blobs))) (fronted (now s))
+answers_more : (s : State) (e : Entry) (blobs : Option (List KeptBlob)) → IsKnown s → May s.catalogue (now s) e → AnswersForFronted (fronted (now (grown s e blobs))) (fronted (now s))
 answers_more s e blobs k may =
     subst (λ (x : Standing). AnswersForFronted (fronted x) (fronted (now s))) (sym (now_more s e blobs))
     (fronted_after s.catalogue (cuts_of (whole s.opening s.since)) (now s) e (holds_of s.catalogue s.opening s.since k.possible) may)
 
 -- one entry more, and what is kept then
-pub one_more_known : (s : State) (e : Entry) (blobs : List KeptBlob) → IsKnown s → May s.catalogue (now s) e → map (λ b. b.kept) blobs ≡ (after s.catalogue (now s) e).kept
-    → AllByRecursion (λ b. (length b.text ≡ b.kept.length) × (b.kept.length ≡ blob_size s.catalogue b.kept.meta)) blobs → (after s.catalogue (now s) e).front ≤ last_number s.opening → IsKnown (grown s e blobs)
+pub one_more_known : (s : State) (e : Entry) (blobs : Option (List KeptBlob)) → IsKnown s → May s.catalogue (now s) e → IfSome blobs (λ blobs. map (λ b. b.kept) blobs ≡ (after s.catalogue (now s) e).kept)
+    → IfSome blobs (λ blobs. AllByRecursion (IsLong s.catalogue) blobs) → (after s.catalogue (now s) e).front ≤ last_number s.opening → IsKnown (grown s e blobs)
 one_more_known s e blobs k may kept long left =
     let stood = now_more s e blobs in
     record {
@@ -93,19 +94,19 @@ one_more_known s e blobs k may kept long left =
       number = k.number;
       whole = ap (λ (h : History). h ++ e ∷ []) k.whole ∙ append_assoc (first_entries s.opening) s.since (e ∷ []);
       possible = record { opens = k.possible.opens; follows = follows_more s.catalogue (first s.opening) s.since e k.possible.follows may };
-      blobs = kept ∙ ap (λ (x : Standing). x.kept) (sym stood);
+      blobs = if_some_so (λ (bs : List KeptBlob) is. is ∙ ap (λ (x : Standing). x.kept) (sym stood)) blobs kept;
       lengths = long;
       left = subst (λ (x : Standing). x.front ≤ last_number s.opening) (sym stood) left;
     }
 
-known_more : (s t : State) (e : Entry) (blobs : List KeptBlob) → IsKnown s → May s.catalogue (now s) e → map (λ b. b.kept) blobs ≡ (after s.catalogue (now s) e).kept
-    → AllByRecursion (λ b. (length b.text ≡ b.kept.length) × (b.kept.length ≡ blob_size s.catalogue b.kept.meta)) blobs → (after s.catalogue (now s) e).front ≤ last_number s.opening → t ≡ grown s e blobs → IsKnownAs s t
+known_more : (s t : State) (e : Entry) (blobs : Option (List KeptBlob)) → IsKnown s → May s.catalogue (now s) e → IfSome blobs (λ blobs. map (λ b. b.kept) blobs ≡ (after s.catalogue (now s) e).kept)
+    → IfSome blobs (λ blobs. AllByRecursion (IsLong s.catalogue) blobs) → (after s.catalogue (now s) e).front ≤ last_number s.opening → t ≡ grown s e blobs → IsKnownAs s t
 known_more s t e blobs k may kept long left is =
     rw is (record { known = one_more_known s e blobs k may kept long left; same_catalogue = refl; same_opening = refl; answers = answers_more s e blobs k may })
 
 -- an entry that keeps and drops nothing
 entered : (s t : State) (e : Entry) → IsKnown s → May s.catalogue (now s) e → (after s.catalogue (now s) e).kept ≡ (now s).kept → (after s.catalogue (now s) e).front ≤ last_number s.opening → t ≡ with_entry s e → IsKnownAs s t
-entered s t e k may kept left is = known_more s t e s.blobs k may (k.blobs ∙ sym kept) k.lengths left is
+entered s t e k may kept left is = known_more s t e s.blobs k may (if_some_so (λ (bs : List KeptBlob) is. is ∙ sym kept) s.blobs k.blobs) k.lengths left is
 
 ended : (s t : State) (n : ℕ) → IsKnown s → t ≡ with_entry s (entry.Ended n) → IsKnownAs s t
 ended s t n k is = entered s t (entry.Ended n) k tt refl k.left is
@@ -136,10 +137,10 @@ map_stored t text blobs kept e =
 stored : (s t : State) (ticket : Ticketed) (blob : List ℕ) → IsKnown s → length blob ≡ blob_size s.catalogue ticket.meta → Finishes s ticket blob finished.Kept t → IsKnownAs s t
 stored s t ticket blob k long r =
     let new = kept_at ticket r.2.0 (length blob) in
-    known_more s t (entry.Stored ticket.number ticket.meta r.2.0 (length blob)) (filter (λ b. not (is_of ticket.meta b.kept)) s.blobs ++ record { kept = kept_at ticket r.2.0 (length blob); text = blob } ∷ []) k
-    (r.0, long, r.2.1) (map_stored new blob s.blobs (now s).kept k.blobs)
-    (all_push (λ (b : KeptBlob). (length b.text ≡ b.kept.length) × (b.kept.length ≡ blob_size s.catalogue b.kept.meta)) (filter (λ b. not (is_of ticket.meta b.kept)) s.blobs) (record { kept = new; text = blob })
-    (all_filter (λ (b : KeptBlob). (length b.text ≡ b.kept.length) × (b.kept.length ≡ blob_size s.catalogue b.kept.meta)) (λ b. not (is_of ticket.meta b.kept)) s.blobs k.lengths) (refl, long)) k.left r.2.2
+    known_more s t (entry.Stored ticket.number ticket.meta r.2.0 (length blob)) (option_map (blobs_with new blob) s.blobs) k (r.0, long, r.2.1, r.1)
+    (if_some_made _ _ (blobs_with new blob) (λ bs is. map_stored new blob bs (now s).kept is) s.blobs k.blobs)
+    (if_some_made _ _ (blobs_with new blob)
+    (λ bs are. all_push (IsLong s.catalogue) (blobs_without new.meta bs) (record { kept = new; text = blob }) (all_filter (IsLong s.catalogue) (λ b. not (is_of new.meta b.kept)) bs are) (refl, long)) s.blobs k.lengths) k.left r.2.2
 
 pub finishes_known : (s t : State) (ticket : Ticketed) (blob : List ℕ) (r : Finished) → IsKnown s → length blob ≡ blob_size s.catalogue ticket.meta → Finishes s ticket blob r t → IsKnownAs s t
 finishes_known s t ticket blob finished.Stranger k long r = the_same s t k r.1
@@ -159,8 +160,8 @@ done : (s t : State) (cover : Cover) (n : ℕ) → IsKnown s → IsCoverOf s.cat
 done s t cover n k of r =
     let x = next_is s.opening (now s) n r.0 in
     let l = x.left in let f = k.left in
-    known_more s t (entry.Cut n cover) (filter (λ b. not (hits_of s.catalogue cover b.kept.meta)) s.blobs) k (x.number, of) (map_spared s.catalogue cover s.blobs (now s).kept k.blobs)
-    (all_filter (λ (b : KeptBlob). (length b.text ≡ b.kept.length) × (b.kept.length ≡ blob_size s.catalogue b.kept.meta)) (λ b. not (hits_of s.catalogue cover b.kept.meta)) s.blobs k.lengths) (omega arith) r.2
+    known_more s t (entry.Cut n cover) (option_map (blobs_spared s.catalogue cover) s.blobs) k (x.number, of, r.1) (if_some_made _ _ (blobs_spared s.catalogue cover) (λ bs is. map_spared s.catalogue cover bs (now s).kept is) s.blobs k.blobs)
+    (if_some_made _ _ (blobs_spared s.catalogue cover) (λ bs are. all_filter (IsLong s.catalogue) (λ b. not (hits_of s.catalogue cover b.kept.meta)) bs are) s.blobs k.lengths) (omega arith) r.2
 
 pub cuts_known : (s t : State) (cover : Cover) (r : CutReply) → IsKnown s → IsCoverOf s.catalogue cover → Cuts s cover r t → IsKnownAs s t
 cuts_known s t cover reply.Spent k of r = the_same s t k r.1
@@ -183,8 +184,8 @@ goes_kept s scope m goes =
 
 gone : (s t : State) (m : MetaKey) → IsKnown s → Expires s (expired.Dropped m) t → IsKnownAs s t
 gone s t m k r =
-    known_more s t (entry.Dropped m) (filter (λ b. not (is_of m b.kept)) s.blobs) k (goes_kept s r.0 m r.2) (map_others m s.blobs (now s).kept k.blobs)
-    (all_filter (λ (b : KeptBlob). (length b.text ≡ b.kept.length) × (b.kept.length ≡ blob_size s.catalogue b.kept.meta)) (λ b. not (is_of m b.kept)) s.blobs k.lengths) k.left r.3
+    known_more s t (entry.Dropped m) (option_map (blobs_without m) s.blobs) k (goes_kept s r.0 m r.2) (if_some_made _ _ (blobs_without m) (λ bs is. map_others m bs (now s).kept is) s.blobs k.blobs)
+    (if_some_made _ _ (blobs_without m) (λ bs are. all_filter (IsLong s.catalogue) (λ b. not (is_of m b.kept)) bs are) s.blobs k.lengths) k.left r.3
 
 pub expires_known : (s t : State) (r : Expired) → IsKnown s → Expires s r t → IsKnownAs s t
 expires_known s t expired.Within k r = the_same s t k r.1

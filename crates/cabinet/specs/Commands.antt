@@ -1,12 +1,12 @@
 -- The commands of a cabinet, a row for each reply: where it comes, and the cabinet after it.
-use Rattle.std.specs.Prelude.{ℕ, ◌≡◌, ◌≤◌, ◌<◌, ◌⊎◌, List, length, Option, Some, None, IsSome, ⊤}
+use Rattle.std.specs.Prelude.{ℕ, ◌≡◌, ◌≤◌, ◌<◌, ◌⊎◌, List, length, Option, Some, None, IsSome, IfSome, ⊤}
 use Rattle.catalog.specs.declared.catalogue.Catalogue.{Catalogue}
 use Rattle.catalog.specs.declared.catalogue.Scope.{Scope}
 use Rattle.matrix_geometry.specs.declared.address.Address.{Address}
 use Rattle.metatile_locks.specs.Running.{running_for, render_of}
 use Rattle.metatile_locks.specs.Tickets.{Ticketed}
 use Rattle.metatile_plan.specs.declared.metatile.MetaKey.{MetaKey}
-use Rattle.raster_field.specs.Blocks.{block_of, tile_part}
+use Rattle.raster_field.specs.Blocks.{block_of, blob_size, tile_part}
 use Rattle.raster_field.specs.TileText.{tile_text}
 use Rattle.truncation_list.specs.declared.book.Book.{Book}
 use Rattle.truncation_list.specs.declared.cover.Cover.{Cover}
@@ -46,12 +46,16 @@ IsBusy s m k new = (running_for m (now s).out ≡ Some k) × (new ≡ s)
 abbrev pub IsSpent : State → MetaKey → State → Type 0
 IsSpent s m new = (running_for m (now s).out ≡ None) × (next s.opening (now s) ≡ None) × (new ≡ s)
 
--- the metatile is kept under this number, and these bytes are the tile's part of its blob
+-- the metatile is kept under this number, and these bytes are the tile's part of its blob, which is the one that is kept where blobs are
+-- modelled, and has the metatile's length in any case
 pub record IsHit (s : State) (a : Address) (k : ℕ) (bytes : List ℕ) (new : State) : Type 0 where
   pub kept : Kept
   pub is_kept : kept_of (block_of s.catalogue a) (now s) ≡ Some kept
   pub number : k ≡ kept.number
-  pub part : bytes ≡ tile_part s.catalogue a (kept_text s (block_of s.catalogue a))
+  pub blob : List ℕ
+  pub long : length blob ≡ blob_size s.catalogue (block_of s.catalogue a)
+  pub told : IfSome (kept_text s (block_of s.catalogue a)) (λ text. blob ≡ text)
+  pub part : bytes ≡ tile_part s.catalogue a blob
   pub state : new ≡ with_entry s (entry.Used (block_of s.catalogue a))
 
 abbrev pub IsUnkept : State → Address → Type 0

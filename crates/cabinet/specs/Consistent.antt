@@ -1,5 +1,5 @@
 -- How the parts of a cabinet are tied to its history.
-use Rattle.std.specs.Prelude.{ℕ, ◌≡◌, ◌≤◌, List, length, map}
+use Rattle.std.specs.Prelude.{ℕ, ◌≡◌, ◌≤◌, List, Some, length, map}
 use Rattle.metatile_locks.specs.declared.render.Render.{Render}
 use Rattle.truncation_list.specs.declared.book.Book.{Book}
 use Rattle.cabinet.specs.Counted.{clock, use_of}
@@ -17,7 +17,7 @@ pub record Parts : Type 0 where
 
 -- the cabinet of these parts and these entries since its opening
 abbrev pub seen : Parts → History → State
-seen p later = record { catalogue = p.shelf.catalogue; opening = p.opening; history = whole p.opening later; since = later; blobs = p.shelf.blobs }
+seen p later = record { catalogue = p.shelf.catalogue; opening = p.opening; history = whole p.opening later; since = later; blobs = Some p.shelf.blobs }
 
 -- what stands, of the parts
 abbrev pub stood : Parts → Standing

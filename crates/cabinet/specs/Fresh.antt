@@ -1,5 +1,5 @@
 -- Which histories are possible, what each of them keeps, and when a render is fresh.
-use Rattle.std.specs.Prelude.{ℕ, ◌≡◌, ◌≢◌, ◌+◌, ◌<◌, ◌≤◌, List, [], ◌∷◌, ◌++◌, take, fold, Some, None, ◌⊎◌, IsSome, IsTrue, Contains, ⊤}
+use Rattle.std.specs.Prelude.{ℕ, ◌≡◌, ◌≢◌, ◌+◌, ◌<◌, ◌≤◌, List, [], ◌∷◌, ◌++◌, length, take, fold, Some, None, ◌⊎◌, IsSome, IsTrue, Contains, ⊤}
 use Rattle.std.specs.List.{AllByRecursion}
 use Rattle.catalog.specs.declared.catalogue.Catalogue.{Catalogue}
 use Rattle.matrix_geometry.specs.declared.address.Address.{Address}
@@ -9,12 +9,12 @@ use Rattle.metatile_plan.specs.declared.metatile.MetaKey.{MetaKey}
 use Rattle.raster_field.specs.Blocks.{block_of, blob_size, IsMeta}
 use Rattle.truncation_list.specs.declared.book.Cut.{Cut}
 use Rattle.truncation_list.specs.Books.{AnswersFor}
-use Rattle.truncation_list.specs.Purge.{IsInOrder}
+use Rattle.truncation_list.specs.Purge.{IsInOrder, purged}
 use Rattle.cabinet.specs.declared.entry.Entry.{Entry}
 use Rattle.cabinet.specs.declared.entry.Entry.TheVariants as entry
 use Rattle.cabinet.specs.declared.kept.Kept.{Kept}
 use Rattle.cabinet.specs.Gaps.{HaveRegions, gap_for}
-use Rattle.cabinet.specs.History.{History, Opening, Standing, after, first, kept_of}
+use Rattle.cabinet.specs.History.{History, Opening, Standing, after, but, first, kept_of, least_of, numbers}
 use Rattle.cabinet.specs.Hits.{hits_of, covers_in}
 use Rattle.served_covers.specs.OfCatalogue.{IsCoverOf}
 
@@ -23,10 +23,11 @@ use Rattle.served_covers.specs.OfCatalogue.{IsCoverOf}
 -- the entry comes where the commands let it
 abbrev pub May : Catalogue → Standing → Entry → Type 0
 May c s (entry.Started k m) = (k ≡ s.front + 1) × (running_for m s.out ≡ None) × IsMeta c m
-May c s (entry.Cut t cover) = (t ≡ s.front + 1) × IsCoverOf c cover
+May c s (entry.Cut t cover) = (t ≡ s.front + 1) × IsCoverOf c cover × (length (purged (Some cover) (least_of (numbers s.out s.kept)) s.book).cuts < c.cut_limit)
 May c s (entry.Missed t) = t ≡ s.front + 1
-May c s (entry.Stored k m place length) =
-    (render_of (record { number = k; meta = m }) s.out ≡ Some (unmarked k m)) × (length ≡ blob_size c m) × (gap_for c s.kept length ≡ Some place)
+May c s (entry.Stored k m place size) =
+    (render_of (record { number = k; meta = m }) s.out ≡ Some (unmarked k m)) × (size ≡ blob_size c m) × (gap_for c s.kept size ≡ Some place)
+    × (length (but m s.kept) < c.kept_limit)
 May c s (entry.Ended k) = ⊤
 May c s (entry.Used m) = IsSome (kept_of m s)
 May c s (entry.Dropped m) = IsSome (kept_of m s)
@@ -91,14 +92,23 @@ pub record Differ (s : Standing) : Type 0 where
 
 -- THE POSSIBLE HISTORIES
 
+-- the region of a kept metatile has the length of its blob
+abbrev pub IsOfLength : Catalogue → Kept → Type 0
+IsOfLength c t = t.length ≡ blob_size c t.meta
+
 -- what a cabinet may begin with: its kept list and its book keep to what each history keeps to, each metatile is kept once, under
--- a number and in a region of its own, and is of the catalogue
+-- a number and in a region of its own, of its blob's length, and is of the catalogue, as each cover of the book is, and no more are kept or
+-- listed than may be
 pub record Opens (c : Catalogue) (o : Opening) : Type 0 where
   pub holds : Holds c o.book.cuts (first o)
   pub numbers : ApartBy (λ t. t.number) o.kept
   pub once : ApartBy (λ t. t.meta) o.kept
   pub metas : AllByRecursion (λ t. IsMeta c t.meta) o.kept
   pub regions : HaveRegions c.blob_bytes o.kept
+  pub lengths : AllByRecursion (IsOfLength c) o.kept
+  pub covers : AllByRecursion (λ k. IsCoverOf c k.cover) o.book.cuts
+  pub few : length o.kept ≤ c.kept_limit
+  pub few_cuts : length o.book.cuts ≤ c.cut_limit
 
 -- the history of an opening and these later entries: the first entries are the opening's, and each later one comes where the
 -- commands let it

@@ -27,6 +27,7 @@ use Rattle.cabinet.specs.Gaps.{gap_for, regions}
 use Rattle.cabinet.specs.History.{but, is_of}
 use Rattle.cabinet.specs.Hits.{hits_of}
 use Rattle.cabinet.specs.Counted.{part_of}
+use Rattle.cabinet.specs.State.{IsLong}
 
 -- what is kept, in the order in which it was kept, and how many more there is room for
 pub record Stored : Type 0 where
@@ -45,10 +46,6 @@ pub record Shelved : Type 0 where
 -- what is kept, without the blobs
 abbrev pub listed : List KeptBlob → List Kept
 listed blobs = map (λ b. b.kept) blobs
-
--- a blob has its length, which is that of its metatile
-abbrev pub IsLong : Catalogue → KeptBlob → Type 0
-IsLong c b = (length b.text ≡ b.kept.length) × (b.kept.length ≡ blob_size c b.kept.meta)
 
 -- THE PARTS OF A SHELF
 

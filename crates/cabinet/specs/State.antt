@@ -1,7 +1,7 @@
 -- What contracts see of a cabinet.
-use Rattle.std.specs.Prelude.{ℕ, ◌≡◌, ◌^◌, ◌<◌, ◌≤◌, List, [], ◌∷◌, ◌++◌, length, map, filter, find, not}
+use Rattle.std.specs.Prelude.{ℕ, ◌≡◌, ◌^◌, ◌<◌, ◌≤◌, List, [], ◌∷◌, ◌++◌, length, map, filter, find, not, Option, Some, IfSome, IsSomeAnd}
 use Rattle.std.specs.List.{AllByRecursion}
-use Rattle.std.specs.Option.{option_map_or}
+use Rattle.std.specs.Option.{option_and_then, option_map}
 use Rattle.catalog.specs.declared.catalogue.Catalogue.{Catalogue}
 use Rattle.catalog.specs.Valid.{IsValid}
 use Rattle.metatile_plan.specs.declared.metatile.MetaKey.{MetaKey}
@@ -18,13 +18,14 @@ use Rattle.cabinet.specs.History.{History, Opening, Standing, bare_opening, firs
 use Rattle.cabinet.specs.History as histories
 use Rattle.cabinet.specs.Hits.{hits_of}
 
--- a cabinet: its catalogue, its opening, its history, of that the entries since the opening, and the blobs that it keeps
+-- a cabinet: its catalogue, its opening, its history, of that the entries since the opening, and the blobs that it keeps, where
+-- these are modelled
 pub record State : Type 0 where
   pub catalogue : Catalogue
   pub opening : Opening
   pub history : History
   pub since : History
-  pub blobs : List KeptBlob
+  pub blobs : Option (List KeptBlob)
 
 -- what stands now: what stood at the opening, and what happened since
 abbrev pub now : State → Standing
@@ -36,10 +37,30 @@ fronted s = record { book = s.book; front = s.front }
 
 -- a cabinet in memory in which nothing has happened
 abbrev pub fresh_state : Catalogue → State
-fresh_state c = record { catalogue = c; opening = bare_opening 0; history = []; since = []; blobs = [] }
+fresh_state c = record { catalogue = c; opening = bare_opening 0; history = []; since = []; blobs = Some [] }
+
+-- a blob has its length, which is that of its metatile
+abbrev pub IsLong : Catalogue → KeptBlob → Type 0
+IsLong c b = (length b.text ≡ b.kept.length) × (b.kept.length ≡ blob_size c b.kept.meta)
+
+-- WHAT BECOMES OF THE BLOBS
+
+-- all but that of a metatile
+abbrev pub blobs_without : MetaKey → List KeptBlob → List KeptBlob
+blobs_without m blobs = filter (λ b. not (is_of m b.kept)) blobs
+
+-- one more, in the place of its metatile's older one
+abbrev pub blobs_with : Kept → List ℕ → List KeptBlob → List KeptBlob
+blobs_with t text blobs = blobs_without t.meta blobs ++ record { kept = t; text = text } ∷ []
+
+-- those that the cover does not hit
+abbrev pub blobs_spared : Catalogue → Cover → List KeptBlob → List KeptBlob
+blobs_spared c cover blobs = filter (λ b. not (hits_of c cover b.kept.meta)) blobs
+
+-- WHAT BECOMES OF THE CABINET
 
 -- the cabinet after one more entry, with these blobs
-abbrev pub grown : State → Entry → List KeptBlob → State
+abbrev pub grown : State → Entry → Option (List KeptBlob) → State
 grown s e blobs = record { catalogue = s.catalogue; opening = s.opening; history = s.history ++ e ∷ []; since = s.since ++ e ∷ []; blobs = blobs }
 
 -- the cabinet after an entry that keeps and drops no blob
@@ -48,31 +69,31 @@ with_entry s e = grown s e s.blobs
 
 -- the cabinet after a blob is kept
 abbrev pub with_blob : State → Kept → List ℕ → State
-with_blob s t text = grown s (entry.Stored t.number t.meta t.place t.length) (filter (λ b. not (is_of t.meta b.kept)) s.blobs ++ record { kept = t; text = text } ∷ [])
+with_blob s t text = grown s (entry.Stored t.number t.meta t.place t.length) (option_map (blobs_with t text) s.blobs)
 
 -- the cabinet after a truncation
 abbrev pub with_cut : State → ℕ → Cover → State
-with_cut s t cover = grown s (entry.Cut t cover) (filter (λ b. not (hits_of s.catalogue cover b.kept.meta)) s.blobs)
+with_cut s t cover = grown s (entry.Cut t cover) (option_map (blobs_spared s.catalogue cover) s.blobs)
 
 -- the cabinet after an expiry
 abbrev pub with_dropped : State → MetaKey → State
-with_dropped s m = grown s (entry.Dropped m) (filter (λ b. not (is_of m b.kept)) s.blobs)
+with_dropped s m = grown s (entry.Dropped m) (option_map (blobs_without m) s.blobs)
 
--- the blob that is kept of a metatile
-abbrev pub kept_text : State → MetaKey → List ℕ
-kept_text s m = option_map_or (λ b. b.text) (find (λ b. is_of m b.kept) s.blobs) []
+-- the blob that is kept of a metatile, where blobs are modelled
+abbrev pub kept_text : State → MetaKey → Option (List ℕ)
+kept_text s m = option_and_then (λ blobs. option_map (λ b. b.text) (find (λ b. is_of m b.kept) blobs)) s.blobs
 
 -- WHAT HOLDS OF EACH CABINET
 
--- its catalogue is valid, its history is one that an opening and commands can make, its blobs are those that the history keeps,
--- each of its metatile's length, and its numbers are those of its opening, which fit 64 bits
+-- its catalogue is valid, its history is one that an opening and commands can make, its blobs are those that the history keeps, where
+-- they are modelled, each of its metatile's length, and its numbers are those of its opening, which fit 64 bits
 pub record IsKnown (s : State) : Type 0 where
   pub valid : IsValid s.catalogue
   pub number : s.opening.number < 2 ^ 24
   pub whole : s.history ≡ histories.whole s.opening s.since
   pub possible : Possible s.catalogue s.opening s.since
-  pub blobs : map (λ b. b.kept) s.blobs ≡ (now s).kept
-  pub lengths : AllByRecursion (λ b. (length b.text ≡ b.kept.length) × (b.kept.length ≡ blob_size s.catalogue b.kept.meta)) s.blobs
+  pub blobs : IfSome s.blobs (λ blobs. map (λ b. b.kept) blobs ≡ (now s).kept)
+  pub lengths : IfSome s.blobs (λ blobs. AllByRecursion (IsLong s.catalogue) blobs)
   pub left : (now s).front ≤ last_number s.opening
 
 -- the cabinet is known, it has the catalogue and the opening of the one before, and its book answers for the book before it,
@@ -83,6 +104,10 @@ pub record IsKnownAs (s new : State) : Type 0 where
   pub same_opening : new.opening ≡ s.opening
   pub answers : AnswersForFronted (fronted (now new)) (fronted (now s))
 
--- SOUND: each blob that is kept is that of its metatile in the picture of its number
+-- a blob is that of its metatile in the picture of its number
+abbrev pub IsPictured : Catalogue → KeptBlob → Type 0
+IsPictured c b = b.text ≡ block_text c b.kept.number b.kept.meta
+
+-- SOUND: the blobs are modelled, and each is that of its metatile in the picture of its number
 abbrev pub IsSound : State → Type 0
-IsSound s = AllByRecursion (λ b. b.text ≡ block_text s.catalogue b.kept.number b.kept.meta) s.blobs
+IsSound s = IsSomeAnd s.blobs (λ blobs. AllByRecursion (IsPictured s.catalogue) blobs)

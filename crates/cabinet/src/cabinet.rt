@@ -37,7 +37,7 @@ fn last_number(opening: u32) -> u64
 }
 
 /// Keeps metatiles, gives the numbers of renders, and drops what truncations hit. Contracts see its catalogue, its opening
-/// number, its history and the blobs that it keeps.
+/// number, its history and the blobs that it keeps, which are modelled in a cabinet in memory.
 #[derive(Drop)]
 pub struct Cabinet {
     shelf: Shelf,
@@ -49,13 +49,14 @@ pub struct Cabinet {
 }
 
 impl Model for Cabinet {
+    ghost use Rattle.std.specs.Prelude.{Some};
     ghost use Rattle.cabinet.specs.Consistent.{IsConsistent};
     ghost use Rattle.cabinet.specs.History.{bare_opening};
     ghost use Rattle.cabinet.specs.State.{State};
 
     ghost Value = { State };
 
-    ghost view = { λ a. record { catalogue = a.shelf.catalogue; opening = bare_opening a.opening; history = a.past.entries; since = a.past.entries; blobs = a.shelf.blobs } };
+    ghost view = { λ a. record { catalogue = a.shelf.catalogue; opening = bare_opening a.opening; history = a.past.entries; since = a.past.entries; blobs = Some a.shelf.blobs } };
 
     ghost invariant = { λ a. IsConsistent (record { opening = bare_opening a.opening; shelf = a.shelf; last = a.last; renders = a.locks.renders; book = a.cuts.book }) a.past.entries };
 }

@@ -18,7 +18,8 @@ ghost use Rattle.cabinet.specs.declared.replies.Expired.{Expired};
 ghost use Rattle.cabinet.specs.declared.replies.Finished.{Finished};
 ghost use Rattle.cabinet.specs.declared.replies.Forced.{Forced};
 ghost use Rattle.cabinet.specs.Commands.{Abandons, Asks, Cuts, Expires, Finishes, Forces, IsBusy, IsFreshForced, IsFreshReply};
-ghost use Rattle.cabinet.specs.Fresh.{ApartBy, Differ, Holds, IsFresh, Opens, Possible, cuts_of};
+ghost use Rattle.std.specs.List.{AllByRecursion};
+ghost use Rattle.cabinet.specs.Fresh.{ApartBy, Differ, Holds, IsFresh, IsOfLength, Opens, Possible, cuts_of};
 ghost use Rattle.cabinet.specs.Gaps.{HaveRegions};
 ghost use Rattle.served_covers.specs.OfCatalogue.{IsCoverOf};
 ghost use Rattle.cabinet.specs.History.{History, Opening, bare_opening, first, kept, kept_of, render, standing, ticket_render, whole};
@@ -27,7 +28,8 @@ ghost use Rattle.cabinet.specs.State.{IsKnown, IsKnownAs, State};
 /// In what follows `o` is an opening, `h` what happened since, and `whole o h` the history that they make. An opening with
 /// nothing in it is one. What stands after a history agrees with the sentence on each metatile, each number and each ticket. What is kept for a
 /// tile is fresh at each place of the history, and stays so. Kept and running numbers keep to the cuts, the book answers for
-/// every cut that there was, and numbers differ. Each metatile is kept once, in a region of its own of the blobs' bytes.
+/// every cut that there was, and numbers differ. Each metatile is kept once, in a region of its own of the blobs' bytes, which has
+/// its blob's length; no more are kept, and no more cuts listed, than may be, and each listed cover is of the catalogue.
 pub fn laws_of_histories()
     ensures bare { (c : Catalogue) (e : ℕ) → Opens c (bare_opening e) }
     ensures kept_is { (c : Catalogue) (o : Opening) (h : History) (m : MetaKey) → Opens c o → kept_of m (standing c (first o) h) ≡ kept c (whole o h) m }
@@ -41,6 +43,10 @@ pub fn laws_of_histories()
     ensures answers { (c : Catalogue) (o : Opening) (h : History) (cut : Cut) → Possible c o h → Contains (cuts_of (whole o h)) cut → AnswersFor (standing c (first o) h).book cut }
     ensures differ { (c : Catalogue) (o : Opening) (h : History) → Possible c o h → Differ (standing c (first o) h) }
     ensures once { (c : Catalogue) (o : Opening) (h : History) → Opens c o → ApartBy (λ t. t.meta) (standing c (first o) h).kept }
+    ensures lengths { (c : Catalogue) (o : Opening) (h : History) → Possible c o h → AllByRecursion (IsOfLength c) (standing c (first o) h).kept }
+    ensures few { (c : Catalogue) (o : Opening) (h : History) → Possible c o h → length (standing c (first o) h).kept ≤ c.kept_limit }
+    ensures covers { (c : Catalogue) (o : Opening) (h : History) → Possible c o h → AllByRecursion (λ k. IsCoverOf c k.cover) (standing c (first o) h).book.cuts }
+    ensures few_cuts { (c : Catalogue) (o : Opening) (h : History) → Possible c o h → length (standing c (first o) h).book.cuts ≤ c.cut_limit }
     ensures regions { (c : Catalogue) (o : Opening) (h : History) → IsValid c → Possible c o h → HaveRegions c.blob_bytes (standing c (first o) h).kept }
 {}
 

@@ -35,7 +35,8 @@ impl Model for Store {
 }
 
 impl Store {
-    ghost use Rattle.cabinet.specs.Shelved.{IsLong, Reads};
+    ghost use Rattle.cabinet.specs.Shelved.{Reads};
+    ghost use Rattle.cabinet.specs.State.{IsLong};
 
     /// A store that keeps nothing.
     pub fn new(alloc: Global) -> Store

@@ -1,14 +1,17 @@
 -- The first event of a request: a ticket that is given, and a hit.
 use Rattle.std.proofs.Common.{◌≡◌, ℕ, Bool, true, false, List, [], ◌∷◌, length, Option, Some, None, refl, sym, ◌∙◌, ap, subst}
+use Rattle.std.specs.Prelude.{IfSome}
+use Rattle.std.specs.Option.{option_map_or}
 use Rattle.cabinet.specs.Commands.{IsGiven, IsHit, IsUnkept}
 use Rattle.cabinet.specs.declared.entry.Entry.{Entry}
 use Rattle.cabinet.specs.declared.entry.Entry.TheVariants as entry
 use Rattle.cabinet.specs.Fresh.{IsFresh}
-use Rattle.cabinet.specs.State.{State, with_entry, IsSound}
+use Rattle.cabinet.specs.State.{State, kept_text, with_entry, IsSound}
 use Rattle.catalog.specs.LookUp.{IsTile}
 use Rattle.matrix_geometry.specs.declared.address.Address.{Address}
 use Rattle.metatile_locks.specs.Tickets.{Ticketed}
-use Rattle.raster_field.specs.Blocks.{block_of}
+use Rattle.metatile_plan.specs.declared.metatile.MetaKey.{MetaKey}
+use Rattle.raster_field.specs.Blocks.{blob_size, block_of, tile_part}
 use Rattle.raster_field.specs.TileText.{tile_text}
 use Rattle.cache_core.specs.declared.actor.Actor.{Actor}
 use Rattle.cache_core.specs.declared.actor.Actor.TheVariants.{Idle, Holding}
@@ -18,7 +21,8 @@ use Rattle.cache_core.specs.declared.outcome.Outcome.TheVariants as outcome
 use Rattle.cache_core.specs.Begun.{Begins}
 use Rattle.cache_core.specs.Fits.{IsFit, IsAtWork, IsTrueActor, IsTrueOutcome, IsFreshActor, IsFreshOutcome, Extends}
 use Rattle.cache_core.specs.Shown.{shown, IsFailed}
-use Rattle.cache_core.specs.Steps.{began, unless_kept, render_wanted, unless_busy, given, goes_on, ends, hit, ticket_for, tile_at}
+use Rattle.cache_core.specs.Steps.{began, blob_of, unless_kept, render_wanted, unless_busy, given, goes_on, ends, hit, ticket_for, tile_at}
+use Rattle.cache_core.proofs.Endings.{byte_of, bytes_of_blob}
 
 shown_as : (step : Step) (t : State) (actor : Actor) (o : Option Outcome) → step.actor ≡ actor → step.outcome ≡ o → shown step t ≡ record { cabinet = t; actor = actor; outcome = o }
 shown_as step t actor o e f = rw e (rw f refl)
@@ -62,10 +66,11 @@ module _ (s t : State) (a : Address) (k : Ticketed) (step : Step) (tile : IsTile
   goes_well : IsFailed step.actor → ⊥
   goes_well f = let P : Actor → Type 0 = IsFailed in subst P actor f
 
-  module _ (force : Bool) (is_step : shown step t ≡ began s a force true) where
+  module _ (force : Bool) (is_step : shown step t ≡ began s a force true None) where
     pub begins_with : Begins s a force step t
     begins_with = record {
       left = true;
+      bytes = None;
       began = is_step;
       fits = fits;
       actor = is_true;
@@ -82,9 +87,15 @@ module _ (s t : State) (a : Address) (k : Ticketed) (step : Step) (tile : IsTile
   ticket_forced = begins_with true (step_is true)
 
   pub ticket_asked : IsUnkept s a → Begins s a false step t
-  ticket_asked unkept = begins_with false (step_is false ∙ sym (ap (unless_kept s a) unkept))
+  ticket_asked unkept = begins_with false (step_is false ∙ sym (ap (unless_kept s a None) unkept))
 
 -- A HIT
+
+-- the blob that was read is the kept one where this is modelled, and that of its bytes in any case
+blob_is : (s : State) (m : MetaKey) (blob : List ℕ) → length blob ≡ blob_size s.catalogue m → (told : Option (List ℕ)) → IfSome told (λ text. blob ≡ text)
+    → blob ≡ option_map_or (λ text. text) told (blob_of s.catalogue m (byte_of blob))
+blob_is s m blob long None is = sym (bytes_of_blob s.catalogue m blob long)
+blob_is s m blob long (Some text) is = is
 
 pub hit_asked : (s t : State) (a : Address) (k : ℕ) (bytes : List ℕ) (step : Step) → IsTile s.catalogue a → IsHit s a k bytes t → step.actor ≡ Idle
     → step.outcome ≡ Some (outcome.Tile (tile_at true k bytes)) → (IsSound s → bytes ≡ tile_text s.catalogue k a)
@@ -97,10 +108,13 @@ hit_asked s t a k bytes step tile is_hit idle ended true_bytes is_fresh =
     let Held : Actor → Type 0 = IsFreshActor s.catalogue t.history (length s.history) a in
     let Answered : Option Outcome → Type 0 = IsFreshOutcome s.catalogue t.history (length s.history) a in
     let m = block_of s.catalogue a in
-    let same : ends t (outcome.Tile (tile_at true k bytes)) ≡ hit s a is_hit.kept = rw is_hit.state (rw is_hit.number (rw is_hit.part refl)) in
+    let blob = Some (byte_of is_hit.blob) in
+    let whole = blob_is s m is_hit.blob is_hit.long (kept_text s m) is_hit.told in
+    let same : ends t (outcome.Tile (tile_at true k bytes)) ≡ hit s a blob is_hit.kept = rw is_hit.state (rw is_hit.number (rw (is_hit.part ∙ ap (tile_part s.catalogue a) whole) refl)) in
     record {
       left = true;
-      began = shown_as step t Idle (Some (outcome.Tile (tile_at true k bytes))) idle ended ∙ same ∙ sym (ap (unless_kept s a) is_hit.is_kept);
+      bytes = blob;
+      began = shown_as step t Idle (Some (outcome.Tile (tile_at true k bytes))) idle ended ∙ same ∙ sym (ap (unless_kept s a blob) is_hit.is_kept);
       fits = record { tile = tile; work = subst P (sym idle) tt };
       actor = subst Q (sym idle) tt;
       not_failed = λ f. subst R idle f;

@@ -92,11 +92,11 @@ ending told before after later s t actor step o left bytes idle ended is_step gr
 -- THE RENDER
 
 -- the byte at a place
-abbrev byte_of : List ℕ → ℕ → ℕ
+abbrev pub byte_of : List ℕ → ℕ → ℕ
 byte_of blob i = get_or blob i 0
 
 -- a blob of the metatile's length is that of its bytes
-bytes_of_blob : (c : Catalogue) (m : MetaKey) (blob : List ℕ) → length blob ≡ blob_size c m → blob_of c m (byte_of blob) ≡ blob
+pub bytes_of_blob : (c : Catalogue) (m : MetaKey) (blob : List ℕ) → length blob ≡ blob_size c m → blob_of c m (byte_of blob) ≡ blob
 bytes_of_blob c m blob size =
     let many : length (blob_of c m (byte_of blob)) ≡ blob_size c m = length-map-range_with_len (byte_of blob) 0 (blob_size c m) in
     ext_get_or 0 (blob_of c m (byte_of blob)) blob (many ∙ sym size) (λ i l. get_or-map-range_with_len (byte_of blob) 0 (blob_size c m) i i 0 (omega arith) (omega arith))

@@ -1,8 +1,9 @@
 -- A request for a tile as single events: an ask or a force, the render, and the finish. What happens by chance in an
--- event, that memory runs out, and which bytes a rendering gives or that it fails, is taken as it happened; all else is
--- fixed, and so is how many bytes the blob has.
+-- event, that memory runs out, and which bytes a rendering gives or that it fails, is taken as it happened, and so are the bytes of
+-- a kept blob where blobs are not modelled; all else is fixed, and so is how many bytes the blob has.
 use Rattle.std.specs.Prelude.{ℕ, Bool, true, false, nat_le, List, length, map, Option, Some, None}
 use Rattle.std.specs.List.{range_with_len}
+use Rattle.std.specs.Option.{option_map_or}
 use Rattle.cabinet.specs.declared.entry.Entry.TheVariants as entry
 use Rattle.cabinet.specs.declared.kept.Kept.{Kept}
 use Rattle.cabinet.specs.Commands.{others, place_for, kept_at}
@@ -38,9 +39,22 @@ ends s o = record { cabinet = s; actor = Idle; outcome = Some o }
 abbrev pub tile_at : Bool → ℕ → List ℕ → Tile
 tile_at hit k bytes = record { hit = hit; number = k; bytes = bytes }
 
+-- the blob of a metatile that has these bytes, by their places
+abbrev pub blob_of : Catalogue → MetaKey → (ℕ → ℕ) → List ℕ
+blob_of c m bytes = map bytes (range_with_len 0 (blob_size c m))
+
+-- bytes that came by chance, 0 at each place where none did
+abbrev pub bytes_in : Option (ℕ → ℕ) → ℕ → ℕ
+bytes_in None = λ i. 0
+bytes_in (Some bytes) = bytes
+
+-- the blob that is kept of the metatile; where blobs are not modelled it has these bytes
+abbrev pub kept_blob : State → MetaKey → Option (ℕ → ℕ) → List ℕ
+kept_blob s m bytes = option_map_or (λ text. text) (kept_text s m) (blob_of s.catalogue m (bytes_in bytes))
+
 -- the metatile is kept: the tile is its part of the blob
-abbrev pub hit : State → Address → Kept → Stepped
-hit s a t = ends (with_entry s (entry.Used (block_of s.catalogue a))) (outcome.Tile (tile_at true t.number (tile_part s.catalogue a (kept_text s (block_of s.catalogue a)))))
+abbrev pub hit : State → Address → Option (ℕ → ℕ) → Kept → Stepped
+hit s a bytes t = ends (with_entry s (entry.Used (block_of s.catalogue a))) (outcome.Tile (tile_at true t.number (tile_part s.catalogue a (kept_blob s (block_of s.catalogue a) bytes))))
 
 abbrev pub ticket_for : State → Address → ℕ → Ticketed
 ticket_for s a k = record { number = k; meta = block_of s.catalogue a }
@@ -58,18 +72,18 @@ unless_busy s a force None = given s a (next s.opening (now s))
 abbrev pub render_wanted : State → Address → Bool → Stepped
 render_wanted s a force = unless_busy s a force (running_for (block_of s.catalogue a) (now s).out)
 
-abbrev pub unless_kept : State → Address → Option Kept → Stepped
-unless_kept s a (Some t) = hit s a t
-unless_kept s a None = render_wanted s a false
+abbrev pub unless_kept : State → Address → Option (ℕ → ℕ) → Option Kept → Stepped
+unless_kept s a bytes (Some t) = hit s a bytes t
+unless_kept s a bytes None = render_wanted s a false
 
-abbrev pub asked : State → Address → Bool → Stepped
-asked s a true = render_wanted s a true
-asked s a false = unless_kept s a (kept_of (block_of s.catalogue a) (now s))
+abbrev pub asked : State → Address → Bool → Option (ℕ → ℕ) → Stepped
+asked s a true bytes = render_wanted s a true
+asked s a false bytes = unless_kept s a bytes (kept_of (block_of s.catalogue a) (now s))
 
 -- with a force no kept tile is an answer; memory is left, or runs out
-abbrev pub began : State → Address → Bool → Bool → Stepped
-began s a force false = ends s outcome.NoMemory
-began s a force true = asked s a force
+abbrev pub began : State → Address → Bool → Bool → Option (ℕ → ℕ) → Stepped
+began s a force false bytes = ends s outcome.NoMemory
+began s a force true bytes = asked s a force bytes
 
 -- THE END OF A RENDER
 
@@ -103,10 +117,6 @@ finished s t blob = ended s t blob (render_of t (now s).out)
 
 -- THE RENDER
 
--- the blob of a metatile that has these bytes, by their places
-abbrev pub blob_of : Catalogue → MetaKey → (ℕ → ℕ) → List ℕ
-blob_of c m bytes = map bytes (range_with_len 0 (blob_size c m))
-
 abbrev pub holds : State → Ticketed → Address → List ℕ → Stepped
 holds s t a blob = goes_on s (Rendered t blob (tile_at false t.number (tile_part s.catalogue a blob)))
 
@@ -119,10 +129,10 @@ abbrev pub rendered : State → Ticketed → Address → Bool → Option (ℕ �
 rendered s t a false bytes = ends (abandoned s t) outcome.NoMemory
 rendered s t a true bytes = painted s t a bytes
 
--- THE NEXT EVENT of an actor: memory is left or runs out, and a rendering gives these bytes or fails
+-- THE NEXT EVENT of an actor: memory is left or runs out, and a rendering gives these bytes or fails, or a kept blob has them
 abbrev pub advanced : State → Actor → Bool → Option (ℕ → ℕ) → Stepped
 advanced s Idle left bytes = goes_on s Idle
-advanced s (Waiting a force) left bytes = began s a force left
+advanced s (Waiting a force) left bytes = began s a force left bytes
 advanced s (Holding t a) left bytes = rendered s t a left bytes
 advanced s (Rendered t text tile) left bytes = ends (finished s t text) (outcome.Tile tile)
 advanced s (Failed t) left bytes = ends (abandoned s t) outcome.SourceFailed

@@ -49,19 +49,19 @@ plain_busy : (s : State) (a : Address) (force : Bool) (n : Option ℕ) → Plain
 plain_busy s a force (Some k) = (λ idle. idle, refl)
 plain_busy s a force None = plain_given s a (next s.opening (now s))
 
-plain_kept : (s : State) (a : Address) (t : Option Kept) → Plain (unless_kept s a t)
-plain_kept s a (Some t) = (refl, refl)
-plain_kept s a None = plain_busy s a false (running_for (block_of s.catalogue a) (now s).out)
+plain_kept : (s : State) (a : Address) (bytes : Option (ℕ → ℕ)) (t : Option Kept) → Plain (unless_kept s a bytes t)
+plain_kept s a bytes (Some t) = (refl, refl)
+plain_kept s a bytes None = plain_busy s a false (running_for (block_of s.catalogue a) (now s).out)
 
-plain_began : (s : State) (a : Address) (force left : Bool) → Plain (began s a force left)
-plain_began s a force false = (refl, refl)
-plain_began s a true true = plain_busy s a true (running_for (block_of s.catalogue a) (now s).out)
-plain_began s a false true = plain_kept s a (kept_of (block_of s.catalogue a) (now s))
+plain_began : (s : State) (a : Address) (force left : Bool) (bytes : Option (ℕ → ℕ)) → Plain (began s a force left bytes)
+plain_began s a force false bytes = (refl, refl)
+plain_began s a true true bytes = plain_busy s a true (running_for (block_of s.catalogue a) (now s).out)
+plain_began s a false true bytes = plain_kept s a bytes (kept_of (block_of s.catalogue a) (now s))
 
 pub begun_moves : (told : Option ℕ) (n : ℕ) (s : State) (a : Address) (force : Bool) (step : Step) (t : State) → Begins s a force step t → Moves told n n s actor.Idle a (length s.history) step t
 begun_moves told n s a force step t h =
     let P : Stepped → Type 0 = Plain in
-    let plain : Plain (shown step t) = subst P (sym h.began) (plain_began s a force h.left) in
+    let plain : Plain (shown step t) = subst P (sym h.began) (plain_began s a force h.left h.bytes) in
     let none = plain.1 in
     record {
       fits = h.fits;
@@ -85,7 +85,7 @@ Further x r = GoesOn r.actor r.outcome × ((failing r.outcome + owed r.actor ≤
 
 further_after : (s : State) (x : Actor) (left : Bool) (bytes : Option (ℕ → ℕ)) → (IsIdle x → ⊥) → Further x (advanced s x left bytes)
 further_after s actor.Idle left bytes busy = absurd (busy tt)
-further_after s (actor.Waiting a force) left bytes busy = let p = plain_began s a force left in let none = p.1 in (p.0, inl (omega arith))
+further_after s (actor.Waiting a force) left bytes busy = let p = plain_began s a force left bytes in let none = p.1 in (p.0, inl (omega arith))
 further_after s (actor.Holding t a) false bytes busy = (refl, inl (omega arith))
 further_after s (actor.Holding t a) true None busy = (λ idle. idle, inr (tt, omega arith))
 further_after s (actor.Holding t a) true (Some bytes) busy = (λ idle. idle, inl (omega arith))

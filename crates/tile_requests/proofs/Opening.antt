@@ -1,14 +1,17 @@
 -- The events of the line that asks for a tile.
 use Rattle.std.proofs.Common.{◌≡◌, ℕ, Bool, true, false, Option, Some, None, inl, inr, refl, sym, ◌∙◌, subst, length}
 use Rattle.std.specs.Prelude.{⊤}
-use Rattle.cabinet.specs.State.{State}
+use Rattle.cabinet.specs.declared.kept.Kept.{Kept}
+use Rattle.cabinet.specs.History.{kept_of}
+use Rattle.cabinet.specs.State.{State, now}
 use Rattle.cache_core.specs.declared.actor.Actor.{Actor}
 use Rattle.cache_core.specs.declared.actor.Actor.TheVariants as actor
 use Rattle.cache_core.specs.declared.actor.Step.{Step}
 use Rattle.cache_core.specs.Begun.{Begins}
 use Rattle.cache_core.specs.Shown.{shown}
-use Rattle.cache_core.specs.Steps.{Stepped, began, advanced}
+use Rattle.cache_core.specs.Steps.{Stepped, began, advanced, unless_kept}
 use Rattle.matrix_geometry.specs.declared.address.Address.{Address}
+use Rattle.raster_field.specs.Blocks.{block_of}
 use Rattle.tile_requests.specs.declared.request.Mode.{Mode}
 use Rattle.tile_requests.specs.declared.request.Mode.TheVariants.{Gets, Asks, Forces}
 use Rattle.tile_requests.specs.Events.{GoesFurther, Opens}
@@ -20,10 +23,10 @@ abbrev at_chance : Bool → Bool → Option (ℕ → ℕ) → Chance
 at_chance ask work bytes = record { read = true; ask = ask; work = work; bytes = bytes; left = true }
 
 pub opens_asks : (told : Option ℕ) (n : ℕ) (s : State) (a : Address) (mode : Mode) (step : Step) (t : State) → mode ≡ Asks → Begins s a false step t → Opens told n n s a mode step t
-opens_asks told n s a mode step t e h = record { chance = at_chance h.left true None; made = rw e h.began; moves = begun_moves told n s a false step t h }
+opens_asks told n s a mode step t e h = record { chance = at_chance h.left true h.bytes; made = rw e h.began; moves = begun_moves told n s a false step t h }
 
 pub opens_forces : (told : Option ℕ) (n : ℕ) (s : State) (a : Address) (mode : Mode) (step : Step) (t : State) → mode ≡ Forces → Begins s a true step t → Opens told n n s a mode step t
-opens_forces told n s a mode step t e h = record { chance = at_chance h.left true None; made = rw e h.began; moves = begun_moves told n s a true step t h }
+opens_forces told n s a mode step t e h = record { chance = at_chance h.left true h.bytes; made = rw e h.began; moves = begun_moves told n s a true step t h }
 
 -- the actor has no render before it
 abbrev NoRender : Actor → Type 0
@@ -57,28 +60,37 @@ further_stays c r e = rw e refl
 further_goes : (c : Chance) (r : Stepped) → is_at_work r.actor ≡ true → further c r ≡ advanced r.cabinet r.actor c.work c.bytes
 further_goes c r e = rw e refl
 
-abbrev Twice : State → Address → Bool → Step → State → Type 0
-Twice s a ask step t = (work : Bool) × (bytes : Option (ℕ → ℕ)) × (shown step t ≡ further (at_chance ask work bytes) (further (at_chance ask work bytes) (began s a false ask)))
+-- where an ask leaves work to do, no kept blob was read
+no_hit : (s : State) (a : Address) (left : Bool) (bytes others : Option (ℕ → ℕ)) → is_at_work (began s a false left bytes).actor ≡ true → began s a false left bytes ≡ began s a false left others
+no_hit s a false bytes others e = refl
+no_hit s a true bytes others e = no_kept (kept_of (block_of s.catalogue a) (now s)) e
+  where
+    no_kept : (o : Option Kept) → is_at_work (unless_kept s a bytes o).actor ≡ true → unless_kept s a bytes o ≡ unless_kept s a others o
+    no_kept None is = refl
+    no_kept (Some t) is = let f : false ≡ true = is in cc
 
-module _ (told : Option ℕ) (before mid after : ℕ) (s u v t : State) (a : Address) (ask : Bool) (asked rendered step : Step) (h : shown asked u ≡ began s a false ask) where
+abbrev Twice : State → Address → Bool → Step → State → Type 0
+Twice s a ask step t = (work : Bool) × (bytes : Option (ℕ → ℕ)) × (shown step t ≡ further (at_chance ask work bytes) (further (at_chance ask work bytes) (began s a false ask bytes)))
+
+module _ (told : Option ℕ) (before mid after : ℕ) (s u v t : State) (a : Address) (ask : Bool) (read : Option (ℕ → ℕ)) (asked rendered step : Step) (h : shown asked u ≡ began s a false ask read) where
   twice : GoesFurther told before mid u asked rendered v → GoesFurther told mid after v rendered step t → Twice s a ask step t
   twice (inl f) k =
-      let c = at_chance ask true None in
-      let e : shown asked u ≡ further c (began s a false ask) = rw (sym h) (sym (further_stays c (shown asked u) f.0)) in
-      let P : Step → State → Type 0 = λ x y. shown x y ≡ further c (began s a false ask) in
+      let c = at_chance ask true read in
+      let e : shown asked u ≡ further c (began s a false ask read) = rw (sym h) (sym (further_stays c (shown asked u) f.0)) in
       let d : shown rendered v ≡ shown asked u = rw (f.1, f.2) refl in
-      (true, None, still c k (d ∙ e) (rw f.1 f.0))
+      (true, read, still c k (d ∙ e) (rw f.1 f.0))
     where
-      still : (c : Chance) → GoesFurther told mid after v rendered step t → shown rendered v ≡ further c (began s a false ask) → is_at_work rendered.actor ≡ false → shown step t ≡ further c (further c (began s a false ask))
+      still : (c : Chance) → GoesFurther told mid after v rendered step t → shown rendered v ≡ further c (began s a false ask read) → is_at_work rendered.actor ≡ false → shown step t ≡ further c (further c (began s a false ask read))
       still c (inl g) e n = let d : shown step t ≡ shown rendered v = rw (g.1, g.2) refl in rw (sym e) (d ∙ sym (further_stays c (shown rendered v) n))
       still c (inr g) e n = let f : false ≡ true = sym n ∙ g.0 in cc
   twice (inr f) k =
       let c = at_chance ask f.1.left f.1.bytes in
-      let e : shown rendered v ≡ further c (began s a false ask) = rw (sym h) (f.1.advanced ∙ sym (further_goes c (shown asked u) f.0)) in
+      let same = h ∙ no_hit s a ask read f.1.bytes (subst (λ (r : Stepped). is_at_work r.actor ≡ true) h f.0) in
+      let e : shown rendered v ≡ further c (began s a false ask f.1.bytes) = rw (sym same) (f.1.advanced ∙ sym (further_goes c (shown asked u) f.0)) in
       let P : Stepped → Type 0 = λ r. NoRender r.actor in
       (f.1.left, f.1.bytes, again c k e (subst P (sym f.1.advanced) (one_render u asked.actor f.1.left f.1.bytes f.0)))
     where
-      again : (c : Chance) → GoesFurther told mid after v rendered step t → shown rendered v ≡ further c (began s a false ask) → NoRender rendered.actor → shown step t ≡ further c (further c (began s a false ask))
+      again : (c : Chance) → GoesFurther told mid after v rendered step t → shown rendered v ≡ further c (began s a false ask c.bytes) → NoRender rendered.actor → shown step t ≡ further c (further c (began s a false ask c.bytes))
       again c (inl g) e none = let d : shown step t ≡ shown rendered v = rw (g.1, g.2) refl in rw (sym e) (d ∙ sym (further_stays c (shown rendered v) g.0))
       again c (inr g) e none = rw (sym e) (g.1.advanced ∙ no_chance v rendered.actor g.1.left c.work g.1.bytes c.bytes none g.0 ∙ sym (further_goes c (shown rendered v) g.0))
 
@@ -86,7 +98,7 @@ pub opens_gets : (told via : Option ℕ) (before mid after : ℕ) (s u v t : Sta
     → GoesFurther told before mid u asked rendered v → via ≡ told → GoesFurther via mid after v rendered step t → Opens told before after s a mode step t
 opens_gets told via before mid after s u v t a mode asked rendered step e h f same k =
     let g : GoesFurther told mid after v rendered step t = rw (sym same) k in
-    let w = twice told before mid after s u v t a h.left asked rendered step h.began f g in
+    let w = twice told before mid after s u v t a h.left h.bytes asked rendered step h.began f g in
     let first = begun_moves told before s a false asked u h in
     let second = moves_further told before before mid s u v actor.Idle a (length s.history) asked rendered first first.within f in
     record {

@@ -1,5 +1,6 @@
 -- A request and its events in a line, as a function of the cabinet. What happens by chance in a line, that memory runs out,
--- and which bytes a rendering gives or that it fails, is taken as it happened; all else is fixed.
+-- and which bytes a rendering gives or that it fails, is taken as it happened, and so are the bytes of a kept blob where blobs are not
+-- modelled; all else is fixed.
 use Rattle.std.specs.Prelude.{length, nat_lt, ℕ, ◌≡◌, Bool, true, false, if◌then◌else◌, List, Option, Some, None, IfSome, ⊤}
 use Rattle.cabinet.specs.Fresh.{IsFresh}
 use Rattle.cabinet.specs.Commands.{book_before}
@@ -30,8 +31,8 @@ use Rattle.tile_requests.specs.Texts.{usage_text, dropped_text}
 -- CHANCES
 
 -- what happened by chance in a line: whether memory was left to read its request, for its first ask or force or its
--- truncation, for what follows or the text that it tells, and for the answer, and the bytes that the rendering gave, by their
--- places in the blob, or nothing where it failed
+-- truncation, for what follows or the text that it tells, and for the body of its answer, where one is made, and the bytes that the rendering gave, by their
+-- places in the blob, or nothing where it failed; where blobs are not modelled they are those of the kept blob that was read
 pub record Chance : Type 0 where
   pub read : Bool
   pub ask : Bool
@@ -63,9 +64,9 @@ carried_on c r = further c (further c r)
 -- the events of the line that asks for a tile: a GET goes on until it is answered or waits; an ask and a force stay the one
 -- event
 abbrev pub events : Mode → State → Address → Chance → Stepped
-events Gets s a c = carried_on c (began s a false c.ask)
-events Asks s a c = began s a false c.ask
-events Forces s a c = began s a true c.ask
+events Gets s a c = carried_on c (began s a false c.ask c.bytes)
+events Asks s a c = began s a false c.ask c.bytes
+events Forces s a c = began s a true c.ask c.bytes
 
 -- the outcome of a request for a tile as that of a request
 abbrev pub outcome_of : cached.Outcome → Outcome
@@ -77,6 +78,29 @@ outcome_of core.NoMemory = outcome.NoMemory
 -- where no memory is left, the outcome says so
 abbrev pub told_at : Bool → Outcome → Outcome
 told_at left o = if left then o else outcome.NoMemory
+
+-- the body of the response is a text that is made for it, which takes memory; a tile, the document and what was told already lie ready
+abbrev pub is_made : Outcome → Bool
+is_made (outcome.Tile hit k text) = false
+is_made outcome.Document = false
+is_made (outcome.Refused code locator) = true
+is_made outcome.NotFound = false
+is_made outcome.WrongMethod = false
+is_made outcome.SourceFailed = true
+is_made outcome.Spent = false
+is_made (outcome.Usage text) = false
+is_made (outcome.Cut number) = true
+is_made outcome.CutsFull = false
+is_made outcome.CutSpent = false
+is_made (outcome.Unformed fault) = true
+is_made (outcome.Dropped text) = false
+is_made outcome.Within = false
+is_made outcome.NoMemory = false
+
+-- what is answered: where no memory is left for the text that is to be made, that
+abbrev pub answered_at : Bool → Outcome → Outcome
+answered_at true o = o
+answered_at false o = if is_made o then outcome.NoMemory else o
 
 -- COMMANDS
 

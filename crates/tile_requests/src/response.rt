@@ -1,8 +1,9 @@
 //! The response to a request, by its outcome.
-ghost use Rattle.std.specs.Prelude.{◌≡◌, ◌++◌, IfOk, []};
+ghost use Rattle.std.specs.Prelude.{◌≡◌, ◌++◌, IfOk, OnErr, [], true};
 ghost use Rattle.exception_report.specs.Report.{report_of};
 ghost use Rattle.exception_report.specs.Status.{status_of};
 ghost use Rattle.tile_requests.specs.Shown.{media_type_name, shown_parts};
+ghost use Rattle.tile_requests.specs.Requests.{is_made};
 ghost use Rattle.tile_requests.specs.Response.{bare, cut_text, fault_kind, fault_text, field_of, parts_of, spelt, typed};
 
 use crate::numbers::add_number;
@@ -143,7 +144,8 @@ pub fn parts_of<'a>(
     document: &'a [u8],
     outcome: &'a Outcome,
 ) -> Result<Parts<'a>, AllocError>
-    ensures { IfOk result (λ p. shown_parts p ≡ parts_of document.now outcome.now) }
+    ensures parts { IfOk result (λ p. shown_parts p ≡ parts_of document.now outcome.now) }
+    ensures made { OnErr result (is_made outcome.now ≡ true) }
 {
     match outcome {
         Outcome::Tile(hit, number, text) => Ok(tile(*hit, *number, text.bytes())),

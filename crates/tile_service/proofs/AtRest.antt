@@ -102,17 +102,17 @@ module _ (a : Address) (c : Chance) where
   wanted_done : (s : State) → IsAtRest s → IsDone (carried_on c (render_wanted s a false))
   wanted_done s rest = subst (λ n. IsDone (carried_on c (unless_busy s a false n))) (sym (ap (running_for (block_of s.catalogue a)) rest)) (given_done s (next s.opening (now s)) rest)
 
-  kept_done : (s : State) (t : Option Kept) → IsAtRest s → IsDone (carried_on c (unless_kept s a t))
-  kept_done s (Some t) rest = done_at _ _ (used_rests s (block_of s.catalogue a) rest)
-  kept_done s None rest = wanted_done s rest
+  kept_done : (s : State) (bytes : Option (ℕ → ℕ)) (t : Option Kept) → IsAtRest s → IsDone (carried_on c (unless_kept s a bytes t))
+  kept_done s bytes (Some t) rest = done_at _ _ (used_rests s (block_of s.catalogue a) rest)
+  kept_done s bytes None rest = wanted_done s rest
 
-  began_done : (s : State) (left : Bool) → IsAtRest s → IsDone (carried_on c (began s a false left))
-  began_done s false rest = done_at s core.NoMemory rest
-  began_done s true rest = kept_done s (kept_of (block_of s.catalogue a) (now s)) rest
+  began_done : (s : State) (left : Bool) (bytes : Option (ℕ → ℕ)) → IsAtRest s → IsDone (carried_on c (began s a false left bytes))
+  began_done s false bytes rest = done_at s core.NoMemory rest
+  began_done s true bytes rest = kept_done s bytes (kept_of (block_of s.catalogue a) (now s)) rest
 
   -- where no render runs, a GET has its outcome in one line
   pub get_done : (s : State) → IsAtRest s → IsDone (events Gets s a c)
-  get_done s rest = began_done s c.ask rest
+  get_done s rest = began_done s c.ask c.bytes rest
 
 -- COMMANDS
 

@@ -12,7 +12,7 @@ use Rattle.http_wire.specs.declared.message.Next.TheVariants as nexts
 use Rattle.http_wire.proofs.StreamGrows.{stand_in_more}
 use Rattle.tile_requests.specs.declared.outcome.Outcome.{Outcome}
 use Rattle.tile_service.specs.OneLine.{MayTell}
-use Rattle.tile_requests.specs.Requests.{told_at}
+use Rattle.tile_requests.specs.Requests.{answered_at}
 use Rattle.tile_requests.specs.Response.{response}
 use Rattle.tile_service.specs.Run.{Answer}
 use Rattle.tile_requests.specs.Sent.{AppendsFront, AppendsPart}
@@ -63,9 +63,9 @@ pub record IsAnswered (told : Option ℕ) (before now : ℕ) (document : List �
   pub served : HasServed told before now document s t (earlier ++ m ∷ []) answers (n + 1)
 
 -- what is told is told of the answer's outcome
-which_told : (o : Outcome) (P : Outcome → Type 0) → MayTell o P → (left : Bool) × P (told_at left o)
+which_told : (o : Outcome) (P : Outcome → Type 0) → MayTell o P → (left : Bool) × P (answered_at left o)
 which_told o P (inl k) = (true, k)
-which_told o P (inr k) = (false, k)
+which_told o P (inr k) = (false, rw k.0 k.1)
 
 -- the message was read, served, and its answer written, whole or in part
 module _ (told via : Option ℕ) (before mid after : ℕ) (document words : List ℕ) (s t u : State) (from here rest left empty middle sent written : Option (List ℕ)) (held : List ℕ) (next : Next) (n : ℕ) (m : Message) (o : Outcome)
@@ -80,7 +80,7 @@ module _ (told via : Option ℕ) (before mid after : ℕ) (document words : List
   abbrev its_answer : Bool → Answer
   its_answer memory = the_answer told via before mid after document s t u f.messages f.answers n m o f.served same h memory
 
-  its_text : (memory : Bool) → response document m (n + 1) (told_at memory o) ≡ replies document (its_answer memory ∷ [])
+  its_text : (memory : Bool) → response document m (n + 1) (answered_at memory o) ≡ replies document (its_answer memory ∷ [])
   its_text memory = sym (append-nil (reply_text document (its_answer memory)))
 
   abbrev answered : Bool → IsAnswered told before after document s u from (prepend_known held left) n m

@@ -102,7 +102,10 @@ module _ (told : Option ℕ) (before after : ℕ) (s t : State) (first : Actor) 
   answers_true n i true (Some core.SourceFailed) h = (tt, tt)
   answers_true n i true (Some core.Spent) h = (tt, tt)
   answers_true n i true (Some core.NoMemory) h = (tt, tt)
-  answers_true n i false (Some o) h = (tt, tt)
+  answers_true n i false (Some (core.Tile tile)) h = (h, tt)
+  answers_true n i false (Some core.SourceFailed) h = (tt, tt)
+  answers_true n i false (Some core.Spent) h = (tt, tt)
+  answers_true n i false (Some core.NoMemory) h = (tt, tt)
 
   answers_fresh : (n i : ℕ) (left : Bool) (o : Option cached.Outcome) → IsFreshOutcome s.catalogue t.history b.place b.address o → AllByRecursion (λ a. (a.place ≤ length t.history) × IsFresh s.catalogue t.history a) (answers_after n i left b o)
   answers_fresh n i left None h = tt
@@ -110,7 +113,10 @@ module _ (told : Option ℕ) (before after : ℕ) (s t : State) (first : Actor) 
   answers_fresh n i true (Some core.SourceFailed) h = ((m.within, tt), tt)
   answers_fresh n i true (Some core.Spent) h = ((m.within, tt), tt)
   answers_fresh n i true (Some core.NoMemory) h = ((m.within, tt), tt)
-  answers_fresh n i false (Some o) h = ((m.within, tt), tt)
+  answers_fresh n i false (Some (core.Tile tile)) h = ((m.within, h), tt)
+  answers_fresh n i false (Some core.SourceFailed) h = ((m.within, tt), tt)
+  answers_fresh n i false (Some core.Spent) h = ((m.within, tt), tt)
+  answers_fresh n i false (Some core.NoMemory) h = ((m.within, tt), tt)
 
   module _ (document : List ℕ) (busy : List (Option PendingRequest)) (i : ℕ) (old : Option PendingRequest) (at : slice_get busy i ≡ Some old) (same : owed_at old ≡ owed first) (was : IsTrueSeat s.catalogue old → IsTrueActor s.catalogue first) where
     all_covered : (n : ℕ) (left : Bool) → StayCovered before after (unanswered busy) (failures (answers_after n i left b step.outcome) + unanswered (slice_set busy i (seat_after b step.actor step.outcome)))

@@ -1,4 +1,4 @@
--- What a run comes to without the bytes that renderings gave: its world but for the texts of blobs and tiles.
+-- What a run comes to without the bytes that came by chance: its world but for the texts of blobs and tiles.
 use Rattle.std.proofs.Common.{◌≡◌, ℕ, ◌+◌, Bool, true, false, List, [], ◌∷◌, ◌++◌, length, map, replicate, slice_get, slice_set, Option, Some, None, refl, sym, ap, ◌∙◌}
 use Rattle.std.specs.Prelude.{if◌then◌else◌, nat_le, nat_lt}
 use Rattle.std.specs.Option.{option_map}
@@ -41,7 +41,7 @@ use Rattle.tile_service.specs.Alike.{without_bytes, any_bytes}
 -- CABINETS
 
 abbrev plain : State → State
-plain s = record s { blobs = [] }
+plain s = record s { blobs = None }
 
 abbrev plain_tile : Tile → Tile
 plain_tile t = record { hit = t.hit; number = t.number; bytes = [] }
@@ -85,14 +85,14 @@ busy_like : (s : State) (a : Address) (force : Bool) (x : Option ℕ) → shape 
 busy_like s a force (Some j) = refl
 busy_like s a force None = given_like s a (next s.opening (now s))
 
-kept_like : (s : State) (a : Address) (x : Option Kept) → shape (unless_kept s a x) ≡ shape (unless_kept (plain s) a x)
-kept_like s a (Some t) = refl
-kept_like s a None = busy_like s a false (running_for (block_of s.catalogue a) (now s).out)
+kept_like : (s : State) (a : Address) (bytes others : Option (ℕ → ℕ)) (x : Option Kept) → shape (unless_kept s a bytes x) ≡ shape (unless_kept (plain s) a others x)
+kept_like s a bytes others (Some t) = refl
+kept_like s a bytes others None = busy_like s a false (running_for (block_of s.catalogue a) (now s).out)
 
-began_like : (s : State) (a : Address) (force left : Bool) → shape (began s a force left) ≡ shape (began (plain s) a force left)
-began_like s a force false = refl
-began_like s a true true = busy_like s a true (running_for (block_of s.catalogue a) (now s).out)
-began_like s a false true = kept_like s a (kept_of (block_of s.catalogue a) (now s))
+began_like : (s : State) (a : Address) (force left : Bool) (bytes others : Option (ℕ → ℕ)) → shape (began s a force left bytes) ≡ shape (began (plain s) a force left others)
+began_like s a force false bytes others = refl
+began_like s a true true bytes others = busy_like s a true (running_for (block_of s.catalogue a) (now s).out)
+began_like s a false true bytes others = kept_like s a bytes others (kept_of (block_of s.catalogue a) (now s))
 
 -- THE END
 
@@ -125,7 +125,7 @@ holding s t n = record { cabinet = plain s; actor = actor.Rendered t (replicate 
 
 advanced_like : (s : State) (x : Actor) (left : Bool) (bytes : Option (ℕ → ℕ)) → shape (advanced s x left bytes) ≡ shape (advanced (plain s) (plain_actor x) left (any_bytes bytes))
 advanced_like s actor.Idle left bytes = refl
-advanced_like s (actor.Waiting a force) left bytes = began_like s a force left
+advanced_like s (actor.Waiting a force) left bytes = began_like s a force left bytes (any_bytes bytes)
 advanced_like s (actor.Holding t a) false bytes = ap (λ u. shape (record { cabinet = u; actor = actor.Idle; outcome = Some core.NoMemory })) (off_like s t (render_of t (now s).out))
 advanced_like s (actor.Holding t a) true None = refl
 advanced_like s (actor.Holding t a) true (Some bytes) =
@@ -166,9 +166,9 @@ once_like c r q e =
     first ∙ ap (λ x. shape (further d (shape (further d x)))) e ∙ sym second
 
 events_like : (mode : Mode) (s : State) (a : Address) (c : Chance) → shape (events mode s a c) ≡ shape (events mode (plain s) a (without_bytes c))
-events_like Gets s a c = once_like c (began s a false c.ask) (began (plain s) a false c.ask) (began_like s a false c.ask)
-events_like Asks s a c = began_like s a false c.ask
-events_like Forces s a c = began_like s a true c.ask
+events_like Gets s a c = once_like c (began s a false c.ask c.bytes) (began (plain s) a false c.ask (any_bytes c.bytes)) (began_like s a false c.ask c.bytes (any_bytes c.bytes))
+events_like Asks s a c = began_like s a false c.ask c.bytes (any_bytes c.bytes)
+events_like Forces s a c = began_like s a true c.ask c.bytes (any_bytes c.bytes)
 
 -- WORLDS
 

@@ -10,7 +10,7 @@ use Rattle.tile_requests.specs.declared.outcome.Outcome.{Outcome}
 use Rattle.tile_requests.specs.declared.request.Mode.TheVariants.{Gets}
 use Rattle.tile_service.specs.OneLine.{IsWorld}
 use Rattle.tile_service.specs.Outside.{FaultCounts}
-use Rattle.tile_requests.specs.Requests.{Chance, told_at}
+use Rattle.tile_requests.specs.Requests.{Chance, answered_at}
 use Rattle.tile_service.specs.Run.{World, Answer, sent, failures, IsTrue}
 use Rattle.tile_service.specs.Serving.{answer_to, Serves}
 use Rattle.tile_service.specs.Session.{lone, and_then, session, IsServed}
@@ -63,7 +63,7 @@ behind_both answers news r = ap (λ (xs : List Answer). let p : World × List An
 module _ (told told' : Option ℕ) (before mid after : ℕ) (document : List ℕ) (s t u : State) (messages : List Message) (answers : List Answer) (n : ℕ) (m : Message) (o : Outcome)
     (f : HasServed told before mid document s t messages answers n) (same : told' ≡ told) (h : Serves told' mid after document t m o u) (left : Bool) where
   abbrev pub the_answer : Answer
-  the_answer = answer_to (n + 1) m h.request (length t.history) (told_at left o)
+  the_answer = answer_to (n + 1) m h.request (length t.history) (answered_at left o)
 
   goes_more : (tail : List Message) (more : List Chance) → session (lone s document) 1 ((messages ++ m ∷ []) ++ tail) ((f.made ++ h.chance left ∷ []) ++ more) ≡ and_then (lone u document, answers ++ the_answer ∷ []) (λ w. session w (n + 1 + 1) tail more)
   goes_more tail more =

@@ -1,24 +1,25 @@
 -- An immediate answer: what it leaves of the cabinet, and what holds of it.
-use Rattle.std.proofs.Common.{◌≡◌, ℕ, ◌+◌, Bool, true, false, List, [], ◌∷◌, length, filter, Option, Some, None, refl, sym, arith, append-nil, if◌then◌else◌}
+use Rattle.std.proofs.Common.{◌≡◌, ℕ, ◌+◌, Bool, true, false, List, [], ◌∷◌, length, not, Option, Some, None, refl, sym, arith, append-nil, if◌then◌else◌}
 use Rattle.std.specs.Prelude.{nat_lt}
-use Rattle.std.specs.List.{AllByRecursion}
 use Rattle.std.specs.Option.{IfSome}
 use Rattle.cabinet.specs.Commands.{book_before}
 use Rattle.cabinet.specs.Counted.{scope_exceeded, victim_in}
 use Rattle.cabinet.specs.declared.entry.Entry.TheVariants as entry
-use Rattle.cabinet.specs.declared.kept.KeptBlob.{KeptBlob}
-use Rattle.cabinet.specs.History.{History, next}
-use Rattle.cabinet.specs.State.{State, IsSound, now, with_cut}
+use Rattle.cabinet.specs.Hits.{hits_of}
+use Rattle.cabinet.specs.History.{History, is_of, next}
+use Rattle.cabinet.specs.State.{State, IsPictured, IsSound, blobs_spared, blobs_without, now, with_cut}
+use Rattle.cabinet.proofs.Modelled.{some_and_made}
 use Rattle.cache_core.specs.Fits.{Extends}
 use Rattle.catalog.specs.declared.catalogue.Catalogue.{Catalogue}
 use Rattle.catalog.specs.declared.catalogue.Scope.{Scope}
 use Rattle.http_wire.specs.declared.message.Message.{Message}
+use Rattle.metatile_locks.proofs.Lists.{all_filter}
 use Rattle.metatile_plan.specs.declared.metatile.MetaKey.{MetaKey}
 use Rattle.tile_requests.specs.declared.outcome.Outcome.{Outcome}
 use Rattle.tile_requests.specs.declared.outcome.Outcome.TheVariants as outcome
 use Rattle.tile_requests.specs.declared.request.Request.{Request}
 use Rattle.tile_service.specs.OneLine.{Keeps}
-use Rattle.tile_requests.specs.Requests.{told_at, told_usage, cut_by, cut, dropped, expired_in, expired, tile_of}
+use Rattle.tile_requests.specs.Requests.{answered_at, is_made, told_at, told_usage, cut_by, cut, dropped, expired_in, expired, tile_of}
 use Rattle.tile_service.specs.Run.{PendingRequest, Answer, is_failed, failures, unanswered, IsTrueFor, IsFreshFor, world_of}
 use Rattle.tile_requests.specs.Texts.{dropped_text, usage_text}
 use Rattle.tile_requests.proofs.Moving.{stay_covered, within_longer}
@@ -26,14 +27,6 @@ use Rattle.tile_service.proofs.Seating.{seats_later}
 use Rattle.truncation_list.specs.declared.cover.Cover.{Cover}
 
 -- WHAT STAYS
-
-all_filtered : (P : KeptBlob → Type 0) (f : KeptBlob → Bool) (xs : List KeptBlob) → AllByRecursion P xs → AllByRecursion P (filter f xs)
-all_filtered P f [] all = tt
-all_filtered P f (x ∷ xs) all = chosen (f x) (all_filtered P f xs all.1)
-  where
-    chosen : (b : Bool) → AllByRecursion P (filter f xs) → AllByRecursion P (if b then x ∷ filter f xs else filter f xs)
-    chosen true rest = (all.0, rest)
-    chosen false rest = rest
 
 -- the catalogue stays, the history goes on, what is kept stays true, and no failure is told
 abbrev pub Stays : State → State × Outcome → Type 0
@@ -46,6 +39,14 @@ none_failed : (left : Bool) (o : Outcome) → is_failed o ≡ false → is_faile
 none_failed true o e = e
 none_failed false o e = refl
 
+answer_succeeds : (left : Bool) (o : Outcome) → is_failed o ≡ false → is_failed (answered_at left o) ≡ false
+answer_succeeds true o e = e
+answer_succeeds false o e = chosen (is_made o)
+  where
+    chosen : (b : Bool) → is_failed (if b then outcome.NoMemory else o) ≡ false
+    chosen true = refl
+    chosen false = e
+
 pub usage_stays : (s : State) (left : Bool) → Stays s (s, told_usage s left)
 usage_stays s left = same_stays s (told_usage s left) (none_failed left (outcome.Usage (usage_text s)) refl)
 
@@ -54,7 +55,7 @@ cover_stays s cover None = same_stays s outcome.CutSpent refl
 cover_stays s cover (Some t) = chosen (nat_lt (length (book_before s cover).cuts) s.catalogue.cut_limit)
   where
     chosen : (b : Bool) → Stays s (if b then (with_cut s t cover, outcome.Cut t) else (s, outcome.CutsFull))
-    chosen true = (refl, (entry.Cut t cover ∷ [], refl), λ is. all_filtered _ _ s.blobs is, refl)
+    chosen true = (refl, (entry.Cut t cover ∷ [], refl), λ is. some_and_made _ _ (blobs_spared s.catalogue cover) (λ bs are. all_filter (IsPictured s.catalogue) (λ b. not (hits_of s.catalogue cover b.kept.meta)) bs are) s.blobs is, refl)
     chosen false = same_stays s outcome.CutsFull refl
 
 pub cut_stays : (s : State) (cover : Cover) (left : Bool) → Stays s (cut s cover left)
@@ -63,7 +64,7 @@ cut_stays s cover false = same_stays s outcome.NoMemory refl
 
 dropped_stays : (s : State) (left : Bool) (o : Option MetaKey) → Stays s (dropped s left o)
 dropped_stays s left None = same_stays s outcome.Within refl
-dropped_stays s left (Some m) = (refl, (entry.Dropped m ∷ [], refl), λ is. all_filtered _ _ s.blobs is, none_failed left (outcome.Dropped (dropped_text s.catalogue m)) refl)
+dropped_stays s left (Some m) = (refl, (entry.Dropped m ∷ [], refl), λ is. some_and_made _ _ (blobs_without m) (λ bs are. all_filter (IsPictured s.catalogue) (λ b. not (is_of m b.kept)) bs are) s.blobs is, none_failed left (outcome.Dropped (dropped_text s.catalogue m)) refl)
 
 scope_stays : (s : State) (left : Bool) (o : Option Scope) → Stays s (expired_in s left o)
 scope_stays s left None = same_stays s outcome.Within refl
@@ -90,13 +91,13 @@ one_failed a e = rw e refl
 
 -- an immediate answer in line n, by the actor i
 abbrev pub told_answer : State → ℕ → ℕ → Message → Option Request → Outcome → Bool → Answer
-told_answer s n i m r o left = record { line = n; actor = i; start = n; message = m; request = r; place = length s.history; outcome = told_at left o }
+told_answer s n i m r o left = record { line = n; actor = i; start = n; message = m; request = r; place = length s.history; outcome = answered_at left o }
 
 pub told_keeps : (told : Option ℕ) (count : ℕ) (s t : State) (document : List ℕ) (busy : List (Option PendingRequest)) (n i : ℕ) (m : Message) (r : Option Request) (o : Outcome) (left : Bool) → Stays s (t, o) → AsksNoTile r
     → Keeps told count count (world_of s document busy) (world_of t document busy) (told_answer s n i m r o left ∷ [])
 told_keeps told count s t document busy n i m r o left k other =
     let a = told_answer s n i m r o left in
-    let none : failures (a ∷ []) ≡ 0 = one_failed a (none_failed left o k.3) in
+    let none : failures (a ∷ []) ≡ 0 = one_failed a (answer_succeeds left o k.3) in
     record {
       later = omega arith;
       failed = stay_covered count count (unanswered busy) (failures (a ∷ []) + unanswered busy) (omega arith) (omega arith);

@@ -14,7 +14,7 @@ use Rattle.tile_service.specs.Lines.{action_in}
 use Rattle.tile_service.specs.OneLine.{MayTell, IsLine, AnswersWith, Performs, answer_with}
 use Rattle.tile_service.specs.Outside.{Outside}
 use Rattle.tile_requests.specs.Response.{framed, response_with}
-use Rattle.tile_requests.specs.Requests.{told_at}
+use Rattle.tile_requests.specs.Requests.{answered_at}
 use Rattle.tile_service.specs.Run.{World, Answer, answer_text}
 use Rattle.tile_requests.specs.Sent.{AppendsFront}
 use Rattle.tile_service.specs.CacheTally.{one_of, result_of, tally_of}
@@ -30,19 +30,19 @@ module _ (told : Option ℕ) (before after : ℕ) (w : World) (n : ℕ) (line : 
   abbrev the_answer : Bool → Answer
   the_answer left = answer_with r n h.message h.request h.place left
 
-  answer_is : (left : Bool) → framed n r.actor r.start (response_with w.capabilities false (told_at left r.outcome)) ≡ answer_text w.capabilities (the_answer left)
+  answer_is : (left : Bool) → framed n r.actor r.start (response_with w.capabilities false (answered_at left r.outcome)) ≡ answer_text w.capabilities (the_answer left)
   answer_is left = rw h.open_after refl
 
-  its_text : (left : Bool) → framed n r.actor r.start (response_with w.capabilities false (told_at left r.outcome)) ≡ flat_map (answer_text w.capabilities) (the_answer left ∷ [])
-  its_text left = rw h.open_after (sym (append-nil (framed n r.actor r.start (response_with w.capabilities false (told_at left r.outcome)))))
+  its_text : (left : Bool) → framed n r.actor r.start (response_with w.capabilities false (answered_at left r.outcome)) ≡ flat_map (answer_text w.capabilities) (the_answer left ∷ [])
+  its_text left = rw h.open_after (sym (append-nil (framed n r.actor r.start (response_with w.capabilities false (answered_at left r.outcome)))))
 
   its_line : (left : Bool) → IsLine told before after w n line t (the_answer left ∷ [])
   its_line left = record { chance = h.chance left; made = h.made left; keeps = h.keeps left }
 
   -- what is told is told of the answer's outcome
-  which_told : (P : Outcome → Type 0) → MayTell r.outcome P → (left : Bool) × P (told_at left r.outcome)
+  which_told : (P : Outcome → Type 0) → MayTell r.outcome P → (left : Bool) × P (answered_at left r.outcome)
   which_told P (inl k) = (true, k)
-  which_told P (inr k) = (false, k)
+  which_told P (inr k) = (false, rw k.0 k.1)
 
   one_told : (P : List ℕ → Type 0) → MayTell r.outcome (λ o. P (framed n r.actor r.start (response_with w.capabilities false o))) → (answer : Answer) × IsLine told before after w n line t (answer ∷ []) × P (answer_text w.capabilities answer)
   one_told P k = let m = which_told (λ o. P (framed n r.actor r.start (response_with w.capabilities false o))) k in (the_answer m.0, its_line m.0, subst P (answer_is m.0) m.1)

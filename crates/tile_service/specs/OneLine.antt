@@ -1,6 +1,6 @@
 -- What one line of a schedule came to.
 -- A tie between the code and its definitions: the promise can be read without it.
-use Rattle.std.specs.Prelude.{ℕ, ◌≡◌, ◌≤◌, ◌+◌, ◌⊎◌, Bool, false, List, [], ◌∷◌, map, length, Option, Some, None, ⊤}
+use Rattle.std.specs.Prelude.{ℕ, ◌≡◌, ◌≤◌, ◌+◌, ◌⊎◌, Bool, true, false, List, [], ◌∷◌, map, length, Option, Some, None, ⊤}
 use Rattle.std.specs.List.{AllByRecursion}
 use Rattle.cabinet.specs.History.{History}
 use Rattle.cabinet.specs.State.{State, IsSound}
@@ -18,12 +18,12 @@ use Rattle.tile_service.specs.declared.seats.Seat.{Seat}
 use Rattle.tile_service.specs.declared.seats.Seat.TheVariants as seat
 use Rattle.tile_requests.specs.Events.{StayCovered}
 use Rattle.tile_service.specs.Lines.{Action, action_in}
-use Rattle.tile_requests.specs.Requests.{Chance, calm, told_at}
+use Rattle.tile_requests.specs.Requests.{Chance, answered_at, calm, is_made}
 use Rattle.tile_service.specs.Run.{PendingRequest, World, Answer, line_done, failures, unanswered, IsTrue, IsFresh, world_of}
 
--- P holds of the outcome, or of that of no memory
+-- P holds of the outcome, or of that of no memory, where a text would have to be made for the answer
 abbrev pub MayTell : Outcome → (Outcome → Type 0) → Type 0
-MayTell o P = P o ⊎ P NoMemory
+MayTell o P = P o ⊎ ((is_made o ≡ true) × P NoMemory)
 
 -- WHAT HOLDS OF WORLDS
 
@@ -79,9 +79,9 @@ pub record IsLine (told : Option ℕ) (before after : ℕ) (w : World) (n : ℕ)
 
 -- an answer to a message that is not the last of its connection
 abbrev pub answer_with : code.Answer → ℕ → Message → Option Request → ℕ → Bool → Answer
-answer_with r n m request place left = record { line = n; actor = r.actor; start = r.start; message = m; request = request; place = place; outcome = told_at left r.outcome }
+answer_with r n m request place left = record { line = n; actor = r.actor; start = r.start; message = m; request = request; place = place; outcome = answered_at left r.outcome }
 
--- the line's one answer is that of the code, or says that memory ran out
+-- the line's one answer is that of the code, or says that memory ran out for its text
 pub record AnswersWith (told : Option ℕ) (before after : ℕ) (w : World) (n : ℕ) (action : Option Action) (t : World) (r : code.Answer) : Type 0 where
   pub message : Message
   pub request : Option Request

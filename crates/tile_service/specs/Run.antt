@@ -18,7 +18,7 @@ use Rattle.tile_requests.specs.declared.request.Request.{Request}
 use Rattle.tile_requests.specs.declared.request.Request.TheVariants as request
 use Rattle.tile_service.specs.declared.seats.TheConstants.{ACTORS}
 use Rattle.tile_service.specs.Lines.{Action, Nothing, Sends, Steps, action_in}
-use Rattle.tile_requests.specs.Requests.{owed, Chance, calm, events, outcome_of, told_at, told_usage, cut, expired, IsTrueAnswer, IsFreshAnswer}
+use Rattle.tile_requests.specs.Requests.{owed, Chance, calm, events, outcome_of, answered_at, told_usage, cut, expired, IsTrueAnswer, IsFreshAnswer}
 use Rattle.tile_requests.specs.Response.{answered}
 use Rattle.tile_requests.specs.Routes.{request_for}
 
@@ -73,7 +73,7 @@ pub record Answer : Type 0 where
 -- an immediate answer, by the cabinet that it leaves and its outcome
 abbrev pub told_in : World → ℕ → Chance → ℕ → Message → Option Request → State × Outcome → World × List Answer
 told_in w n c i m r done =
-    let answer : Answer = record { line = n; actor = i; start = n; message = m; request = r; place = length w.cabinet.history; outcome = told_at c.left done.1 } in
+    let answer : Answer = record { line = n; actor = i; start = n; message = m; request = r; place = length w.cabinet.history; outcome = answered_at c.left done.1 } in
     (record { cabinet = done.0; capabilities = w.capabilities; seats = w.seats }, answer ∷ [])
 
 -- EVENTS
@@ -86,7 +86,7 @@ seat_after b actor (Some o) = None
 -- the outcome is answered, by the actor i in line n
 abbrev pub answers_after : ℕ → ℕ → Bool → PendingRequest → Option cached.Outcome → List Answer
 answers_after n i left b None = []
-answers_after n i left b (Some o) = record { line = n; actor = i; start = b.start; message = b.message; request = Some (request.Tile b.address); place = b.place; outcome = told_at left (outcome_of o) } ∷ []
+answers_after n i left b (Some o) = record { line = n; actor = i; start = b.start; message = b.message; request = Some (request.Tile b.address); place = b.place; outcome = answered_at left (outcome_of o) } ∷ []
 
 -- what events of what the actor i is busy with come to
 abbrev pub settled : World → ℕ → Chance → ℕ → PendingRequest → Stepped → World × List Answer

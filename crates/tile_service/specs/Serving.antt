@@ -7,7 +7,7 @@ use Rattle.tile_requests.specs.declared.outcome.Outcome.{Outcome}
 use Rattle.tile_requests.specs.declared.request.Mode.TheVariants.{Gets}
 use Rattle.tile_requests.specs.declared.request.Request.{Request}
 use Rattle.tile_service.specs.OneLine.{Keeps}
-use Rattle.tile_requests.specs.Requests.{Chance, told_at}
+use Rattle.tile_requests.specs.Requests.{Chance, answered_at}
 use Rattle.tile_service.specs.Run.{Answer, sent}
 use Rattle.tile_service.specs.Session.{IsAtRest, lone}
 
@@ -19,6 +19,6 @@ answer_to i m request place o = record { line = i; actor = 0; start = i; message
 pub record Serves (told : Option ℕ) (before after : ℕ) (document : List ℕ) (s : State) (m : Message) (o : Outcome) (t : State) : Type 0 where
   pub request : Option Request
   pub chance : Bool → Chance
-  pub made : (i : ℕ) (left : Bool) → sent (lone s document) i (chance left) Gets 0 m ≡ (lone t document, answer_to i m request (length s.history) (told_at left o) ∷ [])
-  pub keeps : (i : ℕ) (left : Bool) → Keeps told before after (lone s document) (lone t document) (answer_to i m request (length s.history) (told_at left o) ∷ [])
+  pub made : (i : ℕ) (left : Bool) → sent (lone s document) i (chance left) Gets 0 m ≡ (lone t document, answer_to i m request (length s.history) (answered_at left o) ∷ [])
+  pub keeps : (i : ℕ) (left : Bool) → Keeps told before after (lone s document) (lone t document) (answer_to i m request (length s.history) (answered_at left o) ∷ [])
   pub rests : IsAtRest t

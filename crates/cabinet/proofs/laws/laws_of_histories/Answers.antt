@@ -8,6 +8,7 @@ use Rattle.cabinet.proofs.Numbers.{differ_is, render_is, running_is, runs_is, ti
 use Rattle.cabinet.proofs.Disjoint.{regions_are}
 use Rattle.cabinet.proofs.Once.{once}
 use Rattle.cabinet.proofs.Sentences.{kept_is}
+use Rattle.cabinet.proofs.Limits.{covers_are, few_cuts, few_kept, lengths_are}
 use Rattle.cabinet.proofs.laws.laws_of_histories.Goals as goal
 
 pub returns : goal.returns
@@ -24,5 +25,9 @@ returns c = record {
   answers = λ c o h cut may has. all_contained (AnswersFor (standing c (first o) h).book) (cuts_of (whole o h)) cut (holds_of c o h may).answers has;
   differ = differ_is;
   once = once;
+  lengths = lengths_are;
+  few = few_kept;
+  covers = covers_are;
+  few_cuts = few_cuts;
   regions = regions_are;
 }

@@ -38,8 +38,8 @@ returns-in-Some-clause-asked c =
     let reads = subst (Reads i.shelf.catalogue i.shelf.blobs c.args.address.now) c.in-Some.is c.in_ok-found.ensures in
     let is = c.block_of-meta.ensures.meta ∙ ap (λ (x : Catalogue). block_of x c.args.address.now) c.catalogue.ensures.catalogue in
     let told = c.and-self-inside.ensures ∙ ap (λ (m : MetaKey). i.past.entries ++ entry.Used m ∷ []) is in
-    let new : State = record { catalogue = c.touch.new.self.catalogue; opening = bare_opening i.opening; history = c.and-self-inside.result.entries; since = c.and-self-inside.result.entries; blobs = c.touch.new.self.blobs } in
-    let hit = hit_row p h c.self.invariant c.args.address.now c.in-Some.found new reads (λ j. record { catalogue = (c.touch.ensures j).catalogue; opening = bare_opening i.opening; history = told j; since = told j; blobs = (c.touch.ensures j).blobs }) in
+    let new : State = record { catalogue = c.touch.new.self.catalogue; opening = bare_opening i.opening; history = c.and-self-inside.result.entries; since = c.and-self-inside.result.entries; blobs = Some c.touch.new.self.blobs } in
+    let hit = hit_row p h c.self.invariant c.args.address.now c.in-Some.found new reads (λ j. record { catalogue = (c.touch.ensures j).catalogue; opening = bare_opening i.opening; history = told j; since = told j; blobs = Some (c.touch.ensures j).blobs }) in
     subst (λ (v : State). IsHit v c.args.address.now c.in-Some.found.number c.in-Some.found.text.items new) c.self.view_is hit
 
 pub returns-in-Some-clause-sound : goal.returns-in-Some-clause-sound
@@ -59,8 +59,8 @@ returns-in-Some-clause-fresh c =
     let reads = subst (Reads i.shelf.catalogue i.shelf.blobs c.args.address.now) c.in-Some.is c.in_ok-found.ensures in
     let is = c.block_of-meta.ensures.meta ∙ ap (λ (x : Catalogue). block_of x c.args.address.now) c.catalogue.ensures.catalogue in
     let told = c.and-self-inside.ensures ∙ ap (λ (m : MetaKey). i.past.entries ++ entry.Used m ∷ []) is in
-    let new : State = record { catalogue = c.touch.new.self.catalogue; opening = bare_opening i.opening; history = c.and-self-inside.result.entries; since = c.and-self-inside.result.entries; blobs = c.touch.new.self.blobs } in
-    let hit = hit_row p h c.self.invariant c.args.address.now c.in-Some.found new reads (λ j. record { catalogue = (c.touch.ensures j).catalogue; opening = bare_opening i.opening; history = told j; since = told j; blobs = (c.touch.ensures j).blobs }) in
+    let new : State = record { catalogue = c.touch.new.self.catalogue; opening = bare_opening i.opening; history = c.and-self-inside.result.entries; since = c.and-self-inside.result.entries; blobs = Some c.touch.new.self.blobs } in
+    let hit = hit_row p h c.self.invariant c.args.address.now c.in-Some.found new reads (λ j. record { catalogue = (c.touch.ensures j).catalogue; opening = bare_opening i.opening; history = told j; since = told j; blobs = Some (c.touch.ensures j).blobs }) in
     let tile = subst (λ (v : State). IsTile v.catalogue c.args.address.now) (sym c.self.view_is) c.requires in
     subst (λ (v : State). IsFresh v.catalogue c.and-self-inside.result.entries (length v.history) c.args.address.now c.in-Some.found.number) c.self.view_is
     (asks_fresh (seen p h) new c.args.address.now (asked.Hit c.in-Some.found.number c.in-Some.found.text) c.self.invariant.known tile hit)

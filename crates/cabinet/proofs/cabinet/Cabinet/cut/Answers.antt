@@ -41,8 +41,11 @@ invariant_of-self-2 c =
     let same = c.catalogue-2.ensures.catalogue ∙ ap (λ (x : Shelved). x.catalogue) c.drop_hit.ensures.sifted in
     let runs = c.overtake.ensures ∙ ap (λ (x : Catalogue). overtaken (hits_of x c.args.cover.now) (i.last + 1) i.locks.renders) same in
     let book = c.add.ensures.book ∙ ap (added (i.last + 1) c.args.cover.now c.least_with-least.result) c.reserve.ensures.book in
+    let few = subst (λ (x : Catalogue). length (purged (Some c.args.cover.now) c.least_with-least.result c.reserve.new.self.book).cuts < x.cut_limit) c.catalogue.ensures.catalogue
+    (below_limit (length (purged (Some c.args.cover.now) c.least_with-least.result c.reserve.new.self.book).cuts) c.catalogue.result.now.cut_limit c.full.result c.if-full.false c.full.ensures.1) in
+    let below = subst (λ (b : Book). length (purged (Some c.args.cover.now) c.least_with-least.result b).cuts < i.shelf.catalogue.cut_limit) c.reserve.ensures.book few in
     after_cut p h c.self.invariant c.args.cover.now c.least_with-least.result c.drop_hit.new.self.room c.and-self-inside.result.entries _ c.and-self-inside.ensures
-    (λ j. record { opening = bare_opening i.opening; shelf = c.drop_hit.ensures.sifted j; last = i.last + 1; renders = runs j; book = book j }) of (omega arith) least c.drop_hit.ensures.room
+    (λ j. record { opening = bare_opening i.opening; shelf = c.drop_hit.ensures.sifted j; last = i.last + 1; renders = runs j; book = book j }) of (omega arith) least below c.drop_hit.ensures.room
 
 pub returns-clause-cuts : goal.returns-clause-cuts
 returns-clause-cuts c =
@@ -50,9 +53,9 @@ returns-clause-cuts c =
     let p : Parts = record { opening = bare_opening i.opening; shelf = i.shelf; last = i.last; renders = i.locks.renders; book = i.cuts.book } in
     let h = i.past.entries in
     let least = least_is c.least_with-least.result c.least.result i.locks.renders i.shelf.blobs i.shelf.blobs c.least.ensures c.least_with-least.ensures refl in
-    let new : State = record { catalogue = c.drop_hit.new.self.catalogue; opening = bare_opening i.opening; history = c.and-self-inside.result.entries; since = c.and-self-inside.result.entries; blobs = c.drop_hit.new.self.blobs } in
+    let new : State = record { catalogue = c.drop_hit.new.self.catalogue; opening = bare_opening i.opening; history = c.and-self-inside.result.entries; since = c.and-self-inside.result.entries; blobs = Some c.drop_hit.new.self.blobs } in
     let below = subst (λ (x : Catalogue). length (purged (Some c.args.cover.now) c.least_with-least.result c.reserve.new.self.book).cuts < x.cut_limit) c.catalogue.ensures.catalogue
     (below_limit (length (purged (Some c.args.cover.now) c.least_with-least.result c.reserve.new.self.book).cuts) c.catalogue.result.now.cut_limit c.full.result c.if-full.false c.full.ensures.1) in
     subst (λ (v : State). Cuts v c.args.cover.now (reply.Done (i.last + 1)) new) c.self.view_is
     (cut_done_row p h c.self.invariant c.args.cover.now c.least_with-least.result c.reserve.new.self.book (omega arith) least c.reserve.ensures.book new below
-    (λ j. record { catalogue = (c.drop_hit.ensures.sifted j).catalogue; opening = bare_opening i.opening; history = c.and-self-inside.ensures j; since = c.and-self-inside.ensures j; blobs = (c.drop_hit.ensures.sifted j).blobs }))
+    (λ j. record { catalogue = (c.drop_hit.ensures.sifted j).catalogue; opening = bare_opening i.opening; history = c.and-self-inside.ensures j; since = c.and-self-inside.ensures j; blobs = Some (c.drop_hit.ensures.sifted j).blobs }))

@@ -1,4 +1,4 @@
-use Rattle.std.proofs.Common.{sym, subst}
+use Rattle.std.proofs.Common.{Some, sym, subst}
 use Rattle.cabinet.specs.Consistent.{Parts, seen}
 use Rattle.cabinet.specs.State.{IsSound, State}
 use Rattle.cabinet.proofs.Answered.{goes_listed, sound_dropped}
@@ -22,4 +22,4 @@ returns-in-Some-clause-sound c = λ sound.
     let h = i.past.entries in
     let drops = c.in-Some.ensures.drops in
     sound_dropped (seen p h) c.in-Some.meta _ (subst (λ (v : State). IsSound v) (sym c.self.view_is) sound)
-    (λ j. record { catalogue = (drops.3 j).catalogue; opening = bare_opening i.opening; history = c.and-self-inside.ensures j; since = c.and-self-inside.ensures j; blobs = (drops.3 j).blobs })
+    (λ j. record { catalogue = (drops.3 j).catalogue; opening = bare_opening i.opening; history = c.and-self-inside.ensures j; since = c.and-self-inside.ensures j; blobs = Some (drops.3 j).blobs })
