@@ -2,7 +2,7 @@
 use exact_ratio::words::Words;
 use std::alloc::Global;
 use std::test::Fail;
-use tile_command::serve_words::{ServeFault, ServeWords, serve_words};
+use command_words::serve_words::{ServeFault, ServeWords, serve_words};
 
 /// What these words, parted by blanks, ask for.
 fn asked(alloc: Global, text: &str) -> Result<Result<ServeWords, ServeFault>, Fail> {

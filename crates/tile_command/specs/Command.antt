@@ -24,8 +24,8 @@ use Rattle.tile_command.specs.declared.status.Status.TheVariants as status
 use Rattle.tile_command.specs.declared.configured.Unconfigured.{Unconfigured}
 use Rattle.tile_command.specs.declared.configured.Unconfigured.TheVariants as unconfigured
 use Rattle.tile_command.specs.declared.configured.TheConstants.{CATALOGUE_LIMIT}
-use Rattle.tile_command.specs.declared.words.Word.{Word}
-use Rattle.tile_command.specs.declared.words.Word.TheVariants as word
+use Rattle.command_words.specs.declared.words.Word.{Word}
+use Rattle.command_words.specs.declared.words.Word.TheVariants as word
 use Rattle.tile_command.specs.declared.described.TheConstants.{CAPABILITIES_LIMIT}
 
 -- a read of an input failed

@@ -1,4 +1,1 @@
-pub mod Words
 pub mod Command
-pub mod ServeOptions
-pub mod ServeWords

@@ -4,15 +4,15 @@ ghost use Rattle.cabinet.specs.State.{fresh_state};
 ghost use Rattle.catalog.specs.Valid.{IsValid};
 ghost use Rattle.tile_service.specs.Outside.{InputChange, Outside};
 ghost use Rattle.tile_command.specs.Command.{HasServed, status_of_drill, status_of_schedule, status_of_session};
-ghost use Rattle.tile_command.specs.Words.{word_of};
+ghost use Rattle.command_words.specs.Words.{word_of};
 
 use crate::configured::{Unconfigured, configured};
 use crate::described::described;
 use crate::replay::replay;
 use crate::status::Status;
-use crate::words::{Word, word_of};
 use cabinet::cabinet::Cabinet;
 use catalog::catalogue::Catalogue;
+use command_words::words::{Word, word_of};
 use exact_ratio::words::Words;
 use http_wire::inputs::InputEnd;
 use http_wire::streams::{ByteSink, ByteSource};

@@ -5,7 +5,7 @@ ghost use Rattle.tile_service.specs.Outside.{InputChange, Outside};
 ghost use Rattle.tile_service.specs.Session.{IsAtRest};
 ghost use Rattle.tile_service.specs.SessionEnds.{HasSession};
 
-use crate::duplex::{Duplex, Ends, Loans};
+use http_wire::duplex::{Duplex, Ends, Loans};
 use http_wire::streams::{ByteSink, ByteSource};
 use source_render::source::Source;
 use std::alloc::Global;

@@ -32,8 +32,8 @@ use Rattle.truncation_list.specs.declared.cover.Cover.{Cover}
 -- ENTRIES
 
 -- the renders that run after one entry more
-runs_after : (s : State) (e : Entry) → (now (grown s e [])).out ≡ (after s.catalogue (now s) e).out
-runs_after s e = ap (λ x. x.out) (now_more s e [])
+runs_after : (s : State) (e : Entry) → (now (grown s e None)).out ≡ (after s.catalogue (now s) e).out
+runs_after s e = ap (λ x. x.out) (now_more s e None)
 
 pub used_rests : (s : State) (m : MetaKey) → IsAtRest s → IsAtRest (with_entry s (entry.Used m))
 used_rests s m rest = runs_after s (entry.Used m) ∙ rest

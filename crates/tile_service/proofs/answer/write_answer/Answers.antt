@@ -6,8 +6,8 @@ use Rattle.tile_service.proofs.answer.write_answer.Goals as goal
 
 pub returns-in-Ok-send_answer-2-clause-ok : goal.returns-in-Ok-send_answer-2-clause-ok
 returns-in-Ok-send_answer-2-clause-ok g c =
-    inr (refl, subst (λ p. Appends (g.O.ByteSink.taken c.args.output.now) (g.O.ByteSink.taken c.send_answer-in-Err.new.output) (framed c.args.line c.args.answer.now.actor c.args.answer.now.start (response_text false p))) c.bare.ensures c.in-Ok-send_answer-2.ensures.ok)
+    inr (c.in-Err.ensures.made, (refl, subst (λ p. Appends (g.O.ByteSink.taken c.args.output.now) (g.O.ByteSink.taken c.send_answer-in-Err.new.output) (framed c.args.line c.args.answer.now.actor c.args.answer.now.start (response_text false p))) c.bare.ensures c.in-Ok-send_answer-2.ensures.ok))
 
 pub returns-clause-err : goal.returns-clause-err
 returns-clause-err g c =
-    inr (subst (λ p. AppendsFront (g.O.ByteSink.taken c.args.output.now) (g.O.ByteSink.taken c.send_answer-in-Err.new.output) (framed c.args.line c.args.answer.now.actor c.args.answer.now.start (response_text false p))) c.bare.ensures c.in-Err-send_answer-2.ensures.err)
+    inr (c.in-Err.ensures.made, subst (λ p. AppendsFront (g.O.ByteSink.taken c.args.output.now) (g.O.ByteSink.taken c.send_answer-in-Err.new.output) (framed c.args.line c.args.answer.now.actor c.args.answer.now.start (response_text false p))) c.bare.ensures c.in-Err-send_answer-2.ensures.err)

@@ -7,7 +7,7 @@ use Rattle.clap.specs.ValueTests.{accepts}
 use Rattle.clap.specs.Walk.{one_of}
 use Rattle.clap.specs.Simple.{matches_of}
 use Rattle.clap.proofs.OnLiterals.{clap_on_literals}
-use Rattle.tile_command.specs.ServeOptions.{numbers_to, serve_app}
+use Rattle.command_words.specs.ServeOptions.{numbers_to, serve_app}
 
 -- the word is no flag, and passes as a number
 pub record IsValue (most : ℕ) (word : List ℕ) : Type 0 where

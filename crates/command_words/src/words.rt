@@ -1,6 +1,6 @@
 //! The words `schedule`, `replay` and `drill` of a command; those of a server stand in `serve_words`.
 ghost use Rattle.std.specs.Prelude.{◌≡◌};
-ghost use Rattle.tile_command.specs.Words.{number_of, word_of};
+ghost use Rattle.command_words.specs.Words.{number_of, word_of};
 
 use exact_ratio::words::Words;
 use wmts_kvp::number::{below, is_number};

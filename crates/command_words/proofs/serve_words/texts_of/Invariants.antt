@@ -1,5 +1,5 @@
 use Rattle.std.proofs.Common.{◌≡◌, map, take}
-use Rattle.tile_command.proofs.serve_words.texts_of.Given as goal
+use Rattle.command_words.proofs.serve_words.texts_of.Given as goal
 
 -- the texts so far
 abbrev pub invariant-loop-word : goal.invariant-loop-word

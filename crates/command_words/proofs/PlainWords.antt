@@ -6,10 +6,10 @@ use Rattle.std.specs.Str.{IsAscii}
 use Rattle.std.proofs.lemmas.Bool.{ltb-true, and_parts}
 use Rattle.std.proofs.lemmas.Slice.Eq.{bytes_eq-Decides}
 use Rattle.std.proofs.lemmas.Str.{IsUtf8-from_ascii}
-use Rattle.tile_command.specs.ServeWords.{plain_number, plain_pairs, plain_words, served}
-use Rattle.tile_command.specs.declared.serve_words.ServeWords.{ServeWords}
-use Rattle.tile_command.proofs.PlainNumbers.{IsPlainNumber, ascii_digits, number_parts, plain_value}
-use Rattle.tile_command.proofs.ServeWalk.{Holds, connections_first, port_first}
+use Rattle.command_words.specs.ServeWords.{plain_number, plain_pairs, plain_words, served}
+use Rattle.command_words.specs.declared.serve_words.ServeWords.{ServeWords}
+use Rattle.command_words.proofs.PlainNumbers.{IsPlainNumber, ascii_digits, number_parts, plain_value}
+use Rattle.command_words.proofs.ServeWalk.{Holds, connections_first, port_first}
 
 -- the words of the plain form, by what clap holds of them
 pub record IsPlain (words : List (List ℕ)) (w : ServeWords) : Type 0 where

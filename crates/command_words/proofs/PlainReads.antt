@@ -11,13 +11,13 @@ use Rattle.clap.specs.declared.error.Error.{Error}
 use Rattle.clap.specs.declared.error.kind.ErrorKind.TheVariants as kind
 use Rattle.clap.specs.declared.parser.matches.ArgMatches.{ArgMatches}
 use Rattle.clap.proofs.WalkLemmas.{one_text-rows}
-use Rattle.tile_command.specs.ServeOptions.{IsGiven, serve_app}
-use Rattle.tile_command.specs.ServeWords.{plain_words}
-use Rattle.tile_command.specs.declared.serve_words.ServeFault.{ServeFault}
-use Rattle.tile_command.specs.declared.serve_words.ServeFault.TheVariants.{Usage, OutOfMemory}
-use Rattle.tile_command.specs.declared.serve_words.ServeWords.{ServeWords}
-use Rattle.tile_command.proofs.PlainNumbers.{IsPlainNumber, signless}
-use Rattle.tile_command.proofs.PlainWords.{IsPlain, plain_parts}
+use Rattle.command_words.specs.ServeOptions.{IsGiven, serve_app}
+use Rattle.command_words.specs.ServeWords.{plain_words}
+use Rattle.command_words.specs.declared.serve_words.ServeFault.{ServeFault}
+use Rattle.command_words.specs.declared.serve_words.ServeFault.TheVariants.{Usage, OutOfMemory}
+use Rattle.command_words.specs.declared.serve_words.ServeWords.{ServeWords}
+use Rattle.command_words.proofs.PlainNumbers.{IsPlainNumber, signless}
+use Rattle.command_words.proofs.PlainWords.{IsPlain, plain_parts}
 
 -- the words give these numbers, or memory ran out
 abbrev pub Gives : Result ServeWords ServeFault → ServeWords → Type 0

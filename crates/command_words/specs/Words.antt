@@ -1,8 +1,8 @@
 -- What the words of a command ask for.
 use Rattle.std.specs.Prelude.{ℕ, ◌&&◌, nat_le, if◌then◌else◌, List, [], ◌∷◌, length, Option, Some, None, option_map, codes, bytes_eq}
 use Rattle.std.specs.Str.Parse.{digits_value}
-use Rattle.tile_command.specs.declared.words.Word.{Word}
-use Rattle.tile_command.specs.declared.words.Word.TheVariants.{Schedule, Replay, Drill}
+use Rattle.command_words.specs.declared.words.Word.{Word}
+use Rattle.command_words.specs.declared.words.Word.TheVariants.{Schedule, Replay, Drill}
 use Rattle.wmts_kvp.specs.Rows.{is_number}
 
 -- the number of 1 to 9 digits

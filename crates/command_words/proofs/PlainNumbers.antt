@@ -10,9 +10,9 @@ use Rattle.clap.specs.Lexer.{without_minus}
 use Rattle.clap.specs.Values.{IsSignedIn}
 use Rattle.clap.proofs.ValueTestLemmas.{Accepts-accepts}
 use Rattle.wmts_kvp.proofs.Numbers.{digits_of_number}
-use Rattle.tile_command.specs.ServeOptions.{numbers_to}
-use Rattle.tile_command.specs.ServeWords.{is_plain_number, plain_number}
-use Rattle.tile_command.proofs.ServeWalk.{IsValue}
+use Rattle.command_words.specs.ServeOptions.{numbers_to}
+use Rattle.command_words.specs.ServeWords.{is_plain_number, plain_number}
+use Rattle.command_words.proofs.ServeWalk.{IsValue}
 
 -- the text is a plain number of 1 up to the most
 pub record IsPlainNumber (most : ℕ) (text : List ℕ) (n : ℕ) : Type 0 where

@@ -1,7 +1,7 @@
 use Rattle.std.proofs.Common.{◌∙◌, Ok, Err, map, ap}
 use Rattle.std.proofs.lemmas.Result.{err_from_is_err_and}
-use Rattle.tile_command.proofs.PlainReads.{plain_from, read_plain, refused_plain, unread_plain, usage_from}
-use Rattle.tile_command.proofs.serve_words.serve_words.Goals as goal
+use Rattle.command_words.proofs.PlainReads.{plain_from, read_plain, refused_plain, unread_plain, usage_from}
+use Rattle.command_words.proofs.serve_words.serve_words.Goals as goal
 
 pub returns-in_err-texts-clause-plain : goal.returns-in_err-texts-clause-plain
 returns-in_err-texts-clause-plain c =

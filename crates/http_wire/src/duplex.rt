@@ -5,8 +5,8 @@ ghost use Rattle.std.specs.Io.KnownBytes.{ReadConsumes, WriteAppends};
 ghost use Rattle.causes.specs.Causes.{HasCause};
 ghost use Rattle.http_wire.specs.Side.{side};
 
-use http_wire::links::Link;
-use http_wire::streams::{ByteSink, ByteSource, Failed};
+use crate::links::Link;
+use crate::streams::{ByteSink, ByteSource, Failed};
 use std::marker::{Brand, PhantomData};
 
 /// An input and an output, both lent, that know nothing of each other.
@@ -63,7 +63,7 @@ impl Loans for Brand {
 /// who lent them and hands on the link knows afterwards that it was they who were read and written.
 #[derive(Drop)]
 pub struct Duplex<'a, 'b, I, O, L: Loans> {
-    ends: Ends<'a, 'b, I, O>,
+    pub ends: Ends<'a, 'b, I, O>,
     loans: PhantomData<L>,
     ghost same_input: { ends.input.ghost_name ≡ L.input },
     ghost same_output: { ends.output.ghost_name ≡ L.output },

@@ -1,6 +1,6 @@
 use Rattle.std.proofs.lemmas.Result.{IfOk-weaker}
-use Rattle.tile_command.proofs.ServeReads.{is_serve_command}
-use Rattle.tile_command.proofs.serve_words.serve_command.Goals as goal
+use Rattle.command_words.proofs.ServeReads.{is_serve_command}
+use Rattle.command_words.proofs.serve_words.serve_command.Goals as goal
 
 pub returns : goal.returns
 returns c =

@@ -19,7 +19,7 @@ use Rattle.clap.specs.declared.builder.command.Command.TheViews.{out-Command}
 use Rattle.clap.specs.declared.parser.matches.ArgMatches.{ArgMatches}
 use Rattle.clap.proofs.CallerLemmas.{added_plain}
 use Rattle.clap.proofs.CallerReads.{required_reads}
-use Rattle.tile_command.specs.ServeOptions.{IsGiven, IsNumberOption, IsServeCommand, from_first_word, numbers_to, serve_app}
+use Rattle.command_words.specs.ServeOptions.{IsGiven, IsNumberOption, IsServeCommand, from_first_word, numbers_to, serve_app}
 
 without_hyphen : (text : List ℕ) → starts_with_minus text ≡ false → without_minus text ≡ text
 without_hyphen [] e = refl

@@ -1,8 +1,8 @@
 //! The words after `serve`: the port, and how many connections.
 ghost use Rattle.std.specs.Prelude.{◌≡◌, ◌⊎◌, Ok, Err, Some, None, All, IfErr, IfOk, IfSome, IsUtf8, List, codes, map};
 ghost use Rattle.clap.specs.Words.{kind_of};
-ghost use Rattle.tile_command.specs.ServeOptions.{GivesBoth, IsGiven, IsNumberOption, IsServeCommand, numbers_to};
-ghost use Rattle.tile_command.specs.ServeWords.{IsServable, plain_words};
+ghost use Rattle.command_words.specs.ServeOptions.{GivesBoth, IsGiven, IsNumberOption, IsServeCommand, numbers_to};
+ghost use Rattle.command_words.specs.ServeWords.{IsServable, plain_words};
 
 use clap::builder::ValueParser;
 use clap::error::ErrorKind;
@@ -31,7 +31,7 @@ pub enum ServeFault {
 
 impl From<AllocError> for ServeFault {
     ghost use Rattle.std.specs.Prelude.{◌≡◌};
-    ghost use Rattle.tile_command.specs.declared.serve_words.ServeFault.TheVariants.{OutOfMemory};
+    ghost use Rattle.command_words.specs.declared.serve_words.ServeFault.TheVariants.{OutOfMemory};
 
     ghost from_gives = { λ _ fault. fault ≡ OutOfMemory };
 
@@ -42,7 +42,7 @@ impl From<AllocError> for ServeFault {
 
 impl<T: Drop> From<AllocFailed<T>> for ServeFault {
     ghost use Rattle.std.specs.Prelude.{◌≡◌};
-    ghost use Rattle.tile_command.specs.declared.serve_words.ServeFault.TheVariants.{OutOfMemory};
+    ghost use Rattle.command_words.specs.declared.serve_words.ServeFault.TheVariants.{OutOfMemory};
 
     ghost from_gives = { λ _ fault. fault ≡ OutOfMemory };
 

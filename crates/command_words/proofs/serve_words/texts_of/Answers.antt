@@ -1,5 +1,5 @@
 use Rattle.std.proofs.Common.{IsUtf8, sym, subst}
-use Rattle.tile_command.proofs.serve_words.texts_of.Goals as goal
+use Rattle.command_words.proofs.serve_words.texts_of.Goals as goal
 
 pub returns-in_default-clause-usage : goal.returns-in_default-clause-usage
 returns-in_default-clause-usage c told all =
