@@ -16,15 +16,15 @@ use Rattle.raster_field.specs.TileText.{tile_text}
 use Rattle.cache_core.specs.declared.actor.Actor.{Actor}
 use Rattle.cache_core.specs.declared.actor.Actor.TheVariants.{Idle, Holding}
 use Rattle.cache_core.specs.declared.actor.Step.{Step}
-use Rattle.cache_core.specs.declared.outcome.Outcome.{Outcome}
-use Rattle.cache_core.specs.declared.outcome.Outcome.TheVariants as outcome
+use Rattle.cache_core.specs.declared.outcome.TileOutcome.{TileOutcome}
+use Rattle.cache_core.specs.declared.outcome.TileOutcome.TheVariants as outcome
 use Rattle.cache_core.specs.Begun.{Begins}
 use Rattle.cache_core.specs.Fits.{IsFit, IsAtWork, IsTrueActor, IsTrueOutcome, IsFreshActor, IsFreshOutcome, Extends}
 use Rattle.cache_core.specs.Shown.{shown, IsFailed}
 use Rattle.cache_core.specs.Steps.{began, blob_of, unless_kept, render_wanted, unless_busy, given, goes_on, ends, hit, ticket_for, tile_at}
 use Rattle.cache_core.proofs.Endings.{byte_of, bytes_of_blob}
 
-shown_as : (step : Step) (t : State) (actor : Actor) (o : Option Outcome) → step.actor ≡ actor → step.outcome ≡ o → shown step t ≡ record { cabinet = t; actor = actor; outcome = o }
+shown_as : (step : Step) (t : State) (actor : Actor) (o : Option TileOutcome) → step.actor ≡ actor → step.outcome ≡ o → shown step t ≡ record { cabinet = t; actor = actor; outcome = o }
 shown_as step t actor o e f = rw e (rw f refl)
 
 entry_sound : (s t : State) (e : Entry) → t ≡ with_entry s e → IsSound s → IsSound t
@@ -55,13 +55,13 @@ module _ (s t : State) (a : Address) (k : Ticketed) (step : Step) (tile : IsTile
   is_true = let P : Actor → Type 0 = IsTrueActor s.catalogue in subst P (sym actor) tt
 
   answers : IsTrueOutcome s.catalogue a step.outcome
-  answers = let P : Option Outcome → Type 0 = IsTrueOutcome s.catalogue a in subst P (sym no_outcome) tt
+  answers = let P : Option TileOutcome → Type 0 = IsTrueOutcome s.catalogue a in subst P (sym no_outcome) tt
 
   holds_fresh : IsFreshActor s.catalogue t.history (length s.history) a step.actor
   holds_fresh = let P : Actor → Type 0 = IsFreshActor s.catalogue t.history (length s.history) a in subst P (sym actor) fresh
 
   nothing_stale : IsFreshOutcome s.catalogue t.history (length s.history) a step.outcome
-  nothing_stale = let P : Option Outcome → Type 0 = IsFreshOutcome s.catalogue t.history (length s.history) a in subst P (sym no_outcome) tt
+  nothing_stale = let P : Option TileOutcome → Type 0 = IsFreshOutcome s.catalogue t.history (length s.history) a in subst P (sym no_outcome) tt
 
   goes_well : IsFailed step.actor → ⊥
   goes_well f = let P : Actor → Type 0 = IsFailed in subst P actor f
@@ -104,9 +104,9 @@ hit_asked s t a k bytes step tile is_hit idle ended true_bytes is_fresh =
     let P : Actor → Type 0 = IsAtWork s.catalogue a in
     let Q : Actor → Type 0 = IsTrueActor s.catalogue in
     let R : Actor → Type 0 = IsFailed in
-    let Truly : Option Outcome → Type 0 = IsTrueOutcome s.catalogue a in
+    let Truly : Option TileOutcome → Type 0 = IsTrueOutcome s.catalogue a in
     let Held : Actor → Type 0 = IsFreshActor s.catalogue t.history (length s.history) a in
-    let Answered : Option Outcome → Type 0 = IsFreshOutcome s.catalogue t.history (length s.history) a in
+    let Answered : Option TileOutcome → Type 0 = IsFreshOutcome s.catalogue t.history (length s.history) a in
     let m = block_of s.catalogue a in
     let blob = Some (byte_of is_hit.blob) in
     let whole = blob_is s m is_hit.blob is_hit.long (kept_text s m) is_hit.told in

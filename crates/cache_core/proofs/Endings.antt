@@ -18,7 +18,7 @@ use Rattle.raster_field.specs.Blocks.{blob_size, block_text, tile_part}
 use Rattle.cache_core.specs.declared.actor.Actor.{Actor}
 use Rattle.cache_core.specs.declared.actor.Actor.TheVariants.{Idle, Holding, Rendered}
 use Rattle.cache_core.specs.declared.actor.Step.{Step}
-use Rattle.cache_core.specs.declared.outcome.Outcome.{Outcome}
+use Rattle.cache_core.specs.declared.outcome.TileOutcome.{TileOutcome}
 use Rattle.cache_core.specs.Advanced.{Advances}
 use Rattle.cache_core.specs.Fits.{IsFit, IsAtWork, IsTrueActor, IsTrueOutcome, IsFreshActor, IsFreshOutcome, Extends, place_of}
 use Rattle.cache_core.specs.Shown.{IsFailed}
@@ -59,7 +59,7 @@ finishes_catalogue s t k blob finished.Kept h = ap (λ u. u.catalogue) h.2.2
 
 -- THE LAST EVENT
 
-pub ending : (told : Option ℕ) (before after : ℕ) → before ≤ after → (s t : State) (actor : Actor) (step : Step) (o : Outcome) (left : Bool) (bytes : Option (ℕ → ℕ))
+pub ending : (told : Option ℕ) (before after : ℕ) → before ≤ after → (s t : State) (actor : Actor) (step : Step) (o : TileOutcome) (left : Bool) (bytes : Option (ℕ → ℕ))
     → step.actor ≡ Idle → step.outcome ≡ Some o → ends t o ≡ advanced s actor left bytes → Extends s.history t.history → t.catalogue ≡ s.catalogue
     → (told ≡ Some s.catalogue.source → IsSound s → IsTrueActor s.catalogue actor → IsSound t)
     → ((a : Address) → IsFit s.catalogue a actor → IsTrueActor s.catalogue actor → IsTrueOutcome s.catalogue a (Some o))
@@ -67,8 +67,8 @@ pub ending : (told : Option ℕ) (before after : ℕ) → before ≤ after → (
     → Advances told before after s actor step t
 ending told before after later s t actor step o left bytes idle ended is_step grows catalogue sound truth fresh =
     let c = s.catalogue in
-    let Truly : Option Outcome → Address → Type 0 = λ x a. IsTrueOutcome c a x in
-    let Fresh : Option Outcome → ℕ → Address → Type 0 = λ x p a. IsFreshOutcome c t.history p a x in
+    let Truly : Option TileOutcome → Address → Type 0 = λ x a. IsTrueOutcome c a x in
+    let Fresh : Option TileOutcome → ℕ → Address → Type 0 = λ x p a. IsFreshOutcome c t.history p a x in
     let Works : Actor → Address → Type 0 = λ x a. IsAtWork c a x in
     let Held : Actor → Type 0 = λ x. IsTrueActor c x in
     let Young : Actor → ℕ → Address → Type 0 = λ x p a. IsFreshActor c t.history p a x in
@@ -113,8 +113,8 @@ painted_on told before after later s k a blob bytes step fit size part text acto
     let Works : Actor → Address → Type 0 = λ x b. IsAtWork c b x in
     let Held : Actor → Type 0 = λ x. IsTrueActor c x in
     let Young : Actor → ℕ → Address → Type 0 = λ x p b. IsFreshActor c s.history p b x in
-    let Truly : Option Outcome → Address → Type 0 = λ x b. IsTrueOutcome c b x in
-    let Fresh : Option Outcome → ℕ → Address → Type 0 = λ x p b. IsFreshOutcome c s.history p b x in
+    let Truly : Option TileOutcome → Address → Type 0 = λ x b. IsTrueOutcome c b x in
+    let Fresh : Option TileOutcome → ℕ → Address → Type 0 = λ x p b. IsFreshOutcome c s.history p b x in
     let Failing : Actor → Type 0 = IsFailed in
     record {
       left = true;

@@ -10,8 +10,8 @@ use Rattle.raster_field.specs.Blocks.{block_of, blob_size, block_text, tile_part
 use Rattle.raster_field.specs.TileText.{tile_text}
 use Rattle.cache_core.specs.declared.actor.Actor.{Actor}
 use Rattle.cache_core.specs.declared.actor.Actor.TheVariants.{Idle, Waiting, Holding, Rendered, Failed}
-use Rattle.cache_core.specs.declared.outcome.Outcome.{Outcome}
-use Rattle.cache_core.specs.declared.outcome.Outcome.TheVariants as outcome
+use Rattle.cache_core.specs.declared.outcome.TileOutcome.{TileOutcome}
+use Rattle.cache_core.specs.declared.outcome.TileOutcome.TheVariants as outcome
 use Rattle.cache_core.specs.declared.outcome.Tile.{Tile}
 
 -- the ticket is for the metatile of the tile
@@ -47,7 +47,7 @@ IsTrueActor c (Rendered t blob tile) = blob ≡ block_text c t.number t.meta
 IsTrueActor c (Failed t) = ⊤
 
 -- the bytes are the encoded tile of its number
-abbrev pub IsTrueOutcome : Catalogue → Address → Option Outcome → Type 0
+abbrev pub IsTrueOutcome : Catalogue → Address → Option TileOutcome → Type 0
 IsTrueOutcome c a None = ⊤
 IsTrueOutcome c a (Some (outcome.Tile tile)) = tile.bytes ≡ tile_text c tile.number a
 IsTrueOutcome c a (Some outcome.SourceFailed) = ⊤
@@ -62,7 +62,7 @@ IsFreshActor c h p a (Holding t b) = IsFresh c h p a t.number
 IsFreshActor c h p a (Rendered t blob tile) = IsFresh c h p a tile.number
 IsFreshActor c h p a (Failed t) = ⊤
 
-abbrev pub IsFreshOutcome : Catalogue → History → ℕ → Address → Option Outcome → Type 0
+abbrev pub IsFreshOutcome : Catalogue → History → ℕ → Address → Option TileOutcome → Type 0
 IsFreshOutcome c h p a None = ⊤
 IsFreshOutcome c h p a (Some (outcome.Tile tile)) = IsFresh c h p a tile.number
 IsFreshOutcome c h p a (Some outcome.SourceFailed) = ⊤

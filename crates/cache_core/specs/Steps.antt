@@ -18,20 +18,20 @@ use Rattle.metatile_plan.specs.declared.metatile.MetaKey.{MetaKey}
 use Rattle.raster_field.specs.Blocks.{block_of, blob_size, tile_part}
 use Rattle.cache_core.specs.declared.actor.Actor.{Actor}
 use Rattle.cache_core.specs.declared.actor.Actor.TheVariants.{Idle, Waiting, Holding, Rendered, Failed}
-use Rattle.cache_core.specs.declared.outcome.Outcome.{Outcome}
-use Rattle.cache_core.specs.declared.outcome.Outcome.TheVariants as outcome
+use Rattle.cache_core.specs.declared.outcome.TileOutcome.{TileOutcome}
+use Rattle.cache_core.specs.declared.outcome.TileOutcome.TheVariants as outcome
 use Rattle.cache_core.specs.declared.outcome.Tile.{Tile}
 
 -- what an event came to: the cabinet after it, the actor, and the outcome where the request ended
 pub record Stepped : Type 0 where
   pub cabinet : State
   pub actor : Actor
-  pub outcome : Option Outcome
+  pub outcome : Option TileOutcome
 
 abbrev pub goes_on : State → Actor → Stepped
 goes_on s actor = record { cabinet = s; actor = actor; outcome = None }
 
-abbrev pub ends : State → Outcome → Stepped
+abbrev pub ends : State → TileOutcome → Stepped
 ends s o = record { cabinet = s; actor = Idle; outcome = Some o }
 
 -- THE ASK AND THE FORCE

@@ -1,5 +1,5 @@
 //! The state of a request for a tile between two of its events, and what an event comes to.
-use crate::outcome::{Outcome, Tile};
+use crate::outcome::{Tile, TileOutcome};
 use exact_ratio::words::Words;
 use matrix_geometry::address::Address;
 use metatile_locks::ticket::Ticket;
@@ -22,5 +22,5 @@ pub enum Actor {
 pub struct Step {
     pub actor: Actor,
     /// The outcome, where the request ended.
-    pub outcome: Option<Outcome>,
+    pub outcome: Option<TileOutcome>,
 }

@@ -11,7 +11,7 @@ pub struct Tile {
 
 /// How a request for a tile ended.
 #[derive(Drop)]
-pub enum Outcome {
+pub enum TileOutcome {
     Tile(Tile),
     /// The source failed at the rendering.
     SourceFailed,

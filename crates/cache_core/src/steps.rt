@@ -13,7 +13,7 @@ ghost use Rattle.cache_core.specs.Shown.{shown, IsFailed, IsIdle};
 ghost use Rattle.cache_core.specs.Steps.{advanced, given_up, tile_at};
 
 use crate::actor::{Actor, Step};
-use crate::outcome::{Outcome, Tile};
+use crate::outcome::{Tile, TileOutcome};
 use crate::render::{RenderFault, blob_of, tile_in};
 use cabinet::cabinet::Cabinet;
 use cabinet::laws::laws_of_rows;
@@ -37,7 +37,7 @@ fn goes_on(actor: Actor) -> Step
     }
 }
 
-fn ends(outcome: Outcome) -> Step
+fn ends(outcome: TileOutcome) -> Step
     ensures actor { result.actor ≡ Actor.Idle }
     ensures outcome { result.outcome ≡ Some outcome }
 {
@@ -49,9 +49,9 @@ fn ends(outcome: Outcome) -> Step
 
 fn hit(number: u64, bytes: Vec<u8>) -> Step
     ensures actor { result.actor ≡ Actor.Idle }
-    ensures outcome { result.outcome ≡ Some (Outcome.Tile (tile_at true number bytes.items)) }
+    ensures outcome { result.outcome ≡ Some (TileOutcome.Tile (tile_at true number bytes.items)) }
 {
-    ends(Outcome::Tile(Tile {
+    ends(TileOutcome::Tile(Tile {
         hit: true,
         number,
         bytes: Words::of(bytes),
@@ -63,8 +63,8 @@ fn ask(alloc: Global, cabinet: &mut Cabinet, address: &Address) -> Step
     ensures { Begins cabinet.old address.now false result cabinet.new }
 {
     match cabinet.ask(alloc, address) {
-        Err(_) => ends(Outcome::NoMemory),
-        Ok(Asked::Spent) => ends(Outcome::Spent),
+        Err(_) => ends(TileOutcome::NoMemory),
+        Ok(Asked::Spent) => ends(TileOutcome::Spent),
         Ok(Asked::Busy(_)) => goes_on(Actor::Waiting(*address, false)),
         Ok(Asked::Ticket(ticket)) => goes_on(Actor::Holding(ticket, *address)),
         Ok(Asked::Hit(number, bytes)) => hit(number, bytes),
@@ -79,8 +79,8 @@ fn force(alloc: Global, cabinet: &mut Cabinet, address: &Address) -> Step
     cabinet.known();
     let meta = block_of(cabinet.catalogue(), address);
     match cabinet.force(alloc, &meta) {
-        Err(_) => ends(Outcome::NoMemory),
-        Ok(Forced::Spent) => ends(Outcome::Spent),
+        Err(_) => ends(TileOutcome::NoMemory),
+        Ok(Forced::Spent) => ends(TileOutcome::Spent),
         Ok(Forced::Busy(_)) => goes_on(Actor::Waiting(*address, true)),
         Ok(Forced::Ticket(ticket)) => goes_on(Actor::Holding(ticket, *address)),
     }
@@ -113,7 +113,7 @@ fn hand_in(cabinet: &mut Cabinet, ticket: Ticket, blob: Words, tile: Tile) -> St
     laws_of_metatiles();
     cabinet.known();
     let _ = cabinet.finish(ticket, blob.into_vec());
-    ends(Outcome::Tile(tile))
+    ends(TileOutcome::Tile(tile))
 }
 
 /// Gives a ticket back at which the source failed.
@@ -121,7 +121,7 @@ fn give_back(cabinet: &mut Cabinet, ticket: Ticket) -> Step
     ensures { (told : Option ℕ) (n : ℕ) → Advances told n n cabinet.old (Actor.Failed ticket) result cabinet.new }
 {
     cabinet.abandon(ticket);
-    ends(Outcome::SourceFailed)
+    ends(TileOutcome::SourceFailed)
 }
 
 /// Gives a ticket back where memory ran out.
@@ -129,7 +129,7 @@ fn run_out(cabinet: &mut Cabinet, ticket: Ticket, _address: &Address) -> Step
     ensures { (told : Option ℕ) (before after : ℕ) → before ≤ after → Advances told before after cabinet.old (Actor.Holding ticket _address.now) result cabinet.new }
 {
     cabinet.abandon(ticket);
-    ends(Outcome::NoMemory)
+    ends(TileOutcome::NoMemory)
 }
 
 /// A blob that was rendered, and the copy of its tile.

@@ -5,8 +5,8 @@ use Rattle.cabinet.specs.State.{State, IsSound}
 use Rattle.cache_core.specs.declared.actor.Actor.{Actor}
 use Rattle.cache_core.specs.declared.actor.Actor.TheVariants as actor
 use Rattle.cache_core.specs.declared.actor.Step.{Step}
-use Rattle.cache_core.specs.declared.outcome.Outcome.{Outcome}
-use Rattle.cache_core.specs.declared.outcome.Outcome.TheVariants as outcome
+use Rattle.cache_core.specs.declared.outcome.TileOutcome.{TileOutcome}
+use Rattle.cache_core.specs.declared.outcome.TileOutcome.TheVariants as outcome
 use Rattle.cache_core.specs.Advanced.{Advances}
 use Rattle.cache_core.specs.Fits.{IsFit, IsTrueActor, IsTrueOutcome, IsFreshActor, IsFreshOutcome, Extends}
 use Rattle.cache_core.specs.Shown.{shown, IsIdle}
@@ -20,7 +20,7 @@ abbrev pub StayCovered : ℕ → ℕ → ℕ → ℕ → Type 0
 StayCovered before after old new = (from : ℕ) (others : ℕ) → RoseBy (others + old) from before → RoseBy (others + new) from after
 
 -- 1 where the request ends in a failure of the source
-abbrev pub failing : Option Outcome → ℕ
+abbrev pub failing : Option TileOutcome → ℕ
 failing None = 0
 failing (Some (outcome.Tile tile)) = 0
 failing (Some outcome.SourceFailed) = 1
@@ -28,7 +28,7 @@ failing (Some outcome.Spent) = 0
 failing (Some outcome.NoMemory) = 0
 
 -- a request goes on until it has an outcome
-abbrev pub GoesOn : Actor → Option Outcome → Type 0
+abbrev pub GoesOn : Actor → Option TileOutcome → Type 0
 GoesOn a None = IsIdle a → ⊥
 GoesOn a (Some o) = a ≡ actor.Idle
 

@@ -9,8 +9,8 @@ use Rattle.cabinet.specs.History.{History, next}
 use Rattle.cabinet.specs.State.{State, now, with_cut, with_dropped}
 use Rattle.cache_core.specs.declared.actor.Actor.{Actor}
 use Rattle.cache_core.specs.declared.actor.Actor.TheVariants.{Idle, Waiting, Holding, Rendered, Failed}
-use Rattle.cache_core.specs.declared.outcome.Outcome.TheVariants as core
-use Rattle.cache_core.specs.declared.outcome.Outcome as cached
+use Rattle.cache_core.specs.declared.outcome.TileOutcome.TheVariants as core
+use Rattle.cache_core.specs.declared.outcome.TileOutcome as cached
 use Rattle.cache_core.specs.Steps.{Stepped, began, advanced}
 use Rattle.catalog.specs.declared.catalogue.Catalogue.{Catalogue}
 use Rattle.catalog.specs.declared.catalogue.Scope.{Scope}
@@ -69,7 +69,7 @@ events Asks s a c = began s a false c.ask c.bytes
 events Forces s a c = began s a true c.ask c.bytes
 
 -- the outcome of a request for a tile as that of a request
-abbrev pub outcome_of : cached.Outcome → Outcome
+abbrev pub outcome_of : cached.TileOutcome → Outcome
 outcome_of (core.Tile tile) = outcome.Tile tile.hit tile.number tile.bytes
 outcome_of core.SourceFailed = outcome.SourceFailed
 outcome_of core.Spent = outcome.Spent

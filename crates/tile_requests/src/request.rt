@@ -3,7 +3,7 @@ ghost use Rattle.std.specs.Prelude.{◌≡◌};
 ghost use Rattle.tile_requests.specs.Requests.{outcome_of};
 
 use crate::outcome::Outcome;
-use cache_core::outcome::{Outcome as TileOutcome, Tile};
+use cache_core::outcome::{Tile, TileOutcome};
 use exception_report::code::{Code, Locator};
 use job_forms::fault::JobFault;
 use matrix_geometry::address::Address;

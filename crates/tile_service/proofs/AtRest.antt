@@ -12,8 +12,8 @@ use Rattle.cabinet.specs.History.{after, kept_of, next}
 use Rattle.cabinet.specs.State.{State, grown, now, with_entry, with_cut}
 use Rattle.cabinet.proofs.Rows.{now_more}
 use Rattle.cache_core.specs.declared.actor.Actor.TheVariants.{Idle}
-use Rattle.cache_core.specs.declared.outcome.Outcome as cached
-use Rattle.cache_core.specs.declared.outcome.Outcome.TheVariants as core
+use Rattle.cache_core.specs.declared.outcome.TileOutcome as cached
+use Rattle.cache_core.specs.declared.outcome.TileOutcome.TheVariants as core
 use Rattle.cache_core.specs.Steps.{Stepped, abandoned, began, blob_of, ended, ends, finished, given, off, render_wanted, rendered, stored, ticket_for, unless_busy, unless_kept, with_room}
 use Rattle.catalog.specs.declared.catalogue.Scope.{Scope}
 use Rattle.matrix_geometry.specs.declared.address.Address.{Address}
@@ -80,12 +80,12 @@ module _ (s : State) (k : ℕ) (m : MetaKey) (one : (now s).out ≡ unmarked k m
 
 -- the request has an outcome, its actor holds nothing more, and no render runs
 pub record IsDone (r : Stepped) : Type 0 where
-  pub told : cached.Outcome
+  pub told : cached.TileOutcome
   pub is : r.outcome ≡ Some told
   pub idle : r.actor ≡ Idle
   pub rests : IsAtRest r.cabinet
 
-abbrev done_at : (s : State) (o : cached.Outcome) → IsAtRest s → IsDone (ends s o)
+abbrev done_at : (s : State) (o : cached.TileOutcome) → IsAtRest s → IsDone (ends s o)
 done_at s o rest = record { told = o; is = refl; idle = refl; rests = rest }
 
 module _ (a : Address) (c : Chance) where

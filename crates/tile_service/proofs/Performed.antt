@@ -7,7 +7,7 @@ use Rattle.cabinet.specs.State.{State}
 use Rattle.cache_core.specs.declared.actor.Actor.{Actor}
 use Rattle.cache_core.specs.declared.actor.Actor.TheVariants as actor
 use Rattle.cache_core.specs.declared.actor.Step.{Step}
-use Rattle.cache_core.specs.declared.outcome.Outcome as cached
+use Rattle.cache_core.specs.declared.outcome.TileOutcome as cached
 use Rattle.cache_core.specs.Advanced.{Advances}
 use Rattle.cache_core.specs.Fits.{IsFit, IsTrueActor}
 use Rattle.cache_core.specs.Shown.{shown, IsIdle}
@@ -39,11 +39,11 @@ use Rattle.tile_service.proofs.Telling.{Stays, same_stays, AsksNoTile, told_answ
 
 -- SEATS
 
-seat_next : (b : PendingRequest) (x : Actor) (o : Option cached.Outcome) → seat_of (seat_after b x o) ≡ next_seat b.start b.address x o
+seat_next : (b : PendingRequest) (x : Actor) (o : Option cached.TileOutcome) → seat_of (seat_after b x o) ≡ next_seat b.start b.address x o
 seat_next b x None = refl
 seat_next b x (Some o) = refl
 
-set_seats : (busy : List (Option PendingRequest)) (seats : List Seat) (i : ℕ) (b : PendingRequest) (x : Actor) (o : Option cached.Outcome) → map seat_of busy ≡ seats → map seat_of (slice_set busy i (seat_after b x o)) ≡ slice_set seats i (next_seat b.start b.address x o)
+set_seats : (busy : List (Option PendingRequest)) (seats : List Seat) (i : ℕ) (b : PendingRequest) (x : Actor) (o : Option cached.TileOutcome) → map seat_of busy ≡ seats → map seat_of (slice_set busy i (seat_after b x o)) ≡ slice_set seats i (next_seat b.start b.address x o)
 set_seats busy seats i b x o e = map-set seat_of busy i (seat_after b x o) ∙ rw (e, seat_next b x o) refl
 
 there : (busy : List (Option PendingRequest)) (seats : List Seat) (i : ℕ) → map seat_of busy ≡ seats → slice_get seats i ≡ option_map seat_of (slice_get busy i)
@@ -108,17 +108,17 @@ module _ (told : Option ℕ) (before after : ℕ) (s t : State) (first : Actor) 
   abbrev there_after : World
   there_after = world_of t document (slice_set busy i (seat_after b step.actor step.outcome))
 
-  made_with : (l : Bool) (o : Option cached.Outcome) → step.outcome ≡ o → line_done (world_of s document busy) n (c l) action ≡ Some (there_after, answers_after n i l b o)
+  made_with : (l : Bool) (o : Option cached.TileOutcome) → step.outcome ≡ o → line_done (world_of s document busy) n (c l) action ≡ Some (there_after, answers_after n i l b o)
   made_with l o e =
-      let P : Bool → Option cached.Outcome → Type 0 = λ x y. line_done (world_of s document busy) n (c l) action ≡ Some (there_after, answers_after n i x b y) in
+      let P : Bool → Option cached.TileOutcome → Type 0 = λ x y. line_done (world_of s document busy) n (c l) action ≡ Some (there_after, answers_after n i x b y) in
       subst (P l) e (subst (λ x. P x step.outcome) (left l) (made l))
 
-  kept_with : (l : Bool) (o : Option cached.Outcome) → step.outcome ≡ o → Keeps told before after (world_of s document busy) there_after (answers_after n i l b o)
+  kept_with : (l : Bool) (o : Option cached.TileOutcome) → step.outcome ≡ o → Keeps told before after (world_of s document busy) there_after (answers_after n i l b o)
   kept_with l o e =
-      let P : Option cached.Outcome → Type 0 = λ y. Keeps told before after (world_of s document busy) there_after (answers_after n i l b y) in
+      let P : Option cached.TileOutcome → Type 0 = λ y. Keeps told before after (world_of s document busy) there_after (answers_after n i l b y) in
       subst P e (settled_keeps told before after s t first b step m (λ none. open_after) document busy i old at same was n l)
 
-  pub settled_ends : (o : Option cached.Outcome) → step.outcome ≡ o → ActionEnds told before after (world_of s document busy) n action there_after (action_end_of i b.start o)
+  pub settled_ends : (o : Option cached.TileOutcome) → step.outcome ≡ o → ActionEnds told before after (world_of s document busy) n action there_after (action_end_of i b.start o)
   settled_ends None e = (c true, made_with true None e, kept_with true None e)
   settled_ends (Some o) e =
       record {

@@ -8,8 +8,8 @@ use Rattle.cabinet.specs.State.{State}
 use Rattle.cache_core.specs.declared.actor.Actor.{Actor}
 use Rattle.cache_core.specs.declared.actor.Actor.TheVariants as actor
 use Rattle.cache_core.specs.declared.actor.Step.{Step}
-use Rattle.cache_core.specs.declared.outcome.Outcome as cached
-use Rattle.cache_core.specs.declared.outcome.Outcome.TheVariants as core
+use Rattle.cache_core.specs.declared.outcome.TileOutcome as cached
+use Rattle.cache_core.specs.declared.outcome.TileOutcome.TheVariants as core
 use Rattle.cache_core.specs.Fits.{IsFreshActor, IsFreshOutcome, IsTrueActor, IsTrueOutcome, Extends}
 use Rattle.cache_core.proofs.Endings.{extends_fresh}
 use Rattle.catalog.specs.declared.catalogue.Catalogue.{Catalogue}
@@ -76,16 +76,16 @@ seats_later c h g more seats all = all_mapped (IsSeat c h) (IsSeat c g) (seat_la
 -- AFTER EVENTS OF ONE ACTOR
 
 module _ (told : Option ℕ) (before after : ℕ) (s t : State) (first : Actor) (b : PendingRequest) (step : Step) (m : Moves told before after s first b.address b.place step t) (open_after : step.outcome ≡ None → b.message.last ≡ false) where
-  seat_kept : (o : Option cached.Outcome) → step.outcome ≡ o → IsSeat s.catalogue t.history (seat_after b step.actor o)
+  seat_kept : (o : Option cached.TileOutcome) → step.outcome ≡ o → IsSeat s.catalogue t.history (seat_after b step.actor o)
   seat_kept (Some o) e = tt
-  seat_kept None e = let P : Option cached.Outcome → Type 0 = GoesOn step.actor in record { fits = m.fits; busy = subst P e m.goes_on; open_after = open_after e; within = m.within; fresh = m.held_fresh }
+  seat_kept None e = let P : Option cached.TileOutcome → Type 0 = GoesOn step.actor in record { fits = m.fits; busy = subst P e m.goes_on; open_after = open_after e; within = m.within; fresh = m.held_fresh }
 
-  seat_true : (o : Option cached.Outcome) → IsTrueActor s.catalogue step.actor → IsTrueSeat s.catalogue (seat_after b step.actor o)
+  seat_true : (o : Option cached.TileOutcome) → IsTrueActor s.catalogue step.actor → IsTrueSeat s.catalogue (seat_after b step.actor o)
   seat_true (Some o) held = tt
   seat_true None held = held
 
   -- what is answered and what is owed is no more than the step has
-  few : (n i : ℕ) (left : Bool) (o : Option cached.Outcome) → failures (answers_after n i left b o) + owed_at (seat_after b step.actor o) ≤ failing o + owed step.actor
+  few : (n i : ℕ) (left : Bool) (o : Option cached.TileOutcome) → failures (answers_after n i left b o) + owed_at (seat_after b step.actor o) ≤ failing o + owed step.actor
   few n i left None = omega arith
   few n i true (Some (core.Tile tile)) = omega arith
   few n i true (Some core.SourceFailed) = omega arith
@@ -96,7 +96,7 @@ module _ (told : Option ℕ) (before after : ℕ) (s t : State) (first : Actor) 
   few n i false (Some core.Spent) = omega arith
   few n i false (Some core.NoMemory) = omega arith
 
-  answers_true : (n i : ℕ) (left : Bool) (o : Option cached.Outcome) → IsTrueOutcome s.catalogue b.address o → AllByRecursion (IsTrue s.catalogue) (answers_after n i left b o)
+  answers_true : (n i : ℕ) (left : Bool) (o : Option cached.TileOutcome) → IsTrueOutcome s.catalogue b.address o → AllByRecursion (IsTrue s.catalogue) (answers_after n i left b o)
   answers_true n i left None h = tt
   answers_true n i true (Some (core.Tile tile)) h = (h, tt)
   answers_true n i true (Some core.SourceFailed) h = (tt, tt)
@@ -107,7 +107,7 @@ module _ (told : Option ℕ) (before after : ℕ) (s t : State) (first : Actor) 
   answers_true n i false (Some core.Spent) h = (tt, tt)
   answers_true n i false (Some core.NoMemory) h = (tt, tt)
 
-  answers_fresh : (n i : ℕ) (left : Bool) (o : Option cached.Outcome) → IsFreshOutcome s.catalogue t.history b.place b.address o → AllByRecursion (λ a. (a.place ≤ length t.history) × IsFresh s.catalogue t.history a) (answers_after n i left b o)
+  answers_fresh : (n i : ℕ) (left : Bool) (o : Option cached.TileOutcome) → IsFreshOutcome s.catalogue t.history b.place b.address o → AllByRecursion (λ a. (a.place ≤ length t.history) × IsFresh s.catalogue t.history a) (answers_after n i left b o)
   answers_fresh n i left None h = tt
   answers_fresh n i true (Some (core.Tile tile)) h = ((m.within, h), tt)
   answers_fresh n i true (Some core.SourceFailed) h = ((m.within, tt), tt)

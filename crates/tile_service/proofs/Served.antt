@@ -3,7 +3,7 @@ use Rattle.std.proofs.Common.{◌≡◌, ℕ, Bool, true, false, List, [], ◌�
 use Rattle.cabinet.specs.State.{State}
 use Rattle.cache_core.specs.declared.actor.Actor.TheVariants as actor
 use Rattle.cache_core.specs.declared.actor.Step.{Step}
-use Rattle.cache_core.specs.declared.outcome.Outcome as cached
+use Rattle.cache_core.specs.declared.outcome.TileOutcome as cached
 use Rattle.cache_core.specs.Shown.{shown}
 use Rattle.cache_core.specs.Steps.{Stepped}
 use Rattle.http_wire.specs.declared.message.Message.{Message}
@@ -62,22 +62,22 @@ module _ (told : Option ℕ) (document : List ℕ) (s : State) (m : Message) (re
     abbrev busy : ℕ → PendingRequest
     busy i = started (lone s document) i m a
 
-    abbrev there_after : PendingRequest → Option cached.Outcome → World
+    abbrev there_after : PendingRequest → Option cached.TileOutcome → World
     there_after b x = world_of t document (slice_set (None ∷ []) 0 (seat_after b step.actor x))
 
-    made_with : (i : ℕ) (left : Bool) (x : Option cached.Outcome) → step.outcome ≡ x → sent (lone s document) i (with_ends h.chance true left) Gets 0 m ≡ (there_after (busy i) x, answers_after i 0 left (busy i) x)
+    made_with : (i : ℕ) (left : Bool) (x : Option cached.TileOutcome) → step.outcome ≡ x → sent (lone s document) i (with_ends h.chance true left) Gets 0 m ≡ (there_after (busy i) x, answers_after i 0 left (busy i) x)
     made_with i left x is =
         let c = with_ends h.chance true left in
-        let P : Option cached.Outcome → Type 0 = λ y. sent (lone s document) i c Gets 0 m ≡ (there_after (busy i) y, answers_after i 0 left (busy i) y) in
+        let P : Option cached.TileOutcome → Type 0 = λ y. sent (lone s document) i c Gets 0 m ≡ (there_after (busy i) y, answers_after i 0 left (busy i) y) in
         let same : events Gets s a c ≡ shown step t = sym (same_events Gets s a h.chance true left) ∙ sym h.made in
         subst P is (read_asks (lone s document) i h.chance Gets 0 m (request.Tile a) left e ∙ ap (settled (lone s document) i c 0 (busy i)) same)
 
-    kept_with : (i : ℕ) (left : Bool) (x : Option cached.Outcome) → (x ≡ None → ⊥) → step.outcome ≡ x → Keeps told before after (lone s document) (there_after (busy i) x) (answers_after i 0 left (busy i) x)
+    kept_with : (i : ℕ) (left : Bool) (x : Option cached.TileOutcome) → (x ≡ None → ⊥) → step.outcome ≡ x → Keeps told before after (lone s document) (there_after (busy i) x) (answers_after i 0 left (busy i) x)
     kept_with i left x ends is =
-        let P : Option cached.Outcome → Type 0 = λ y. Keeps told before after (lone s document) (there_after (busy i) y) (answers_after i 0 left (busy i) y) in
+        let P : Option cached.TileOutcome → Type 0 = λ y. Keeps told before after (lone s document) (there_after (busy i) y) (answers_after i 0 left (busy i) y) in
         subst P is (settled_keeps told before after s t actor.Idle (busy i) step h.moves (λ none. absurd (ends (sym is ∙ none))) document (None ∷ []) 0 None refl refl (λ x. tt) i left)
 
-    pub tile_serves : (x : cached.Outcome) → step.outcome ≡ Some x → Serves told before after document s m (outcome_of x) t
+    pub tile_serves : (x : cached.TileOutcome) → step.outcome ≡ Some x → Serves told before after document s m (outcome_of x) t
     tile_serves x is =
         record {
           request = Some (request.Tile a);

@@ -12,8 +12,8 @@ use Rattle.cabinet.specs.History.{kept_of, next}
 use Rattle.cabinet.specs.State.{State, now, with_entry}
 use Rattle.cache_core.specs.declared.actor.Actor.{Actor}
 use Rattle.cache_core.specs.declared.actor.Actor.TheVariants as actor
-use Rattle.cache_core.specs.declared.outcome.Outcome as cached
-use Rattle.cache_core.specs.declared.outcome.Outcome.TheVariants as core
+use Rattle.cache_core.specs.declared.outcome.TileOutcome as cached
+use Rattle.cache_core.specs.declared.outcome.TileOutcome.TheVariants as core
 use Rattle.cache_core.specs.declared.outcome.Tile.{Tile}
 use Rattle.cache_core.specs.Fits.{place_of}
 use Rattle.cache_core.specs.Steps.{Stepped, advanced, began, ended, given, off, stored, unless_busy, unless_kept, unless_overtaken, with_room}
@@ -54,7 +54,7 @@ plain_actor (actor.Rendered t blob tile) = actor.Rendered t (replicate (length b
 plain_actor (actor.Failed t) = actor.Failed t
 
 -- whether there is an outcome
-abbrev marked : Option cached.Outcome → Option cached.Outcome
+abbrev marked : Option cached.TileOutcome → Option cached.TileOutcome
 marked None = None
 marked (Some o) = Some core.NoMemory
 
@@ -68,7 +68,7 @@ plain_twice (actor.Holding t a) = refl
 plain_twice (actor.Rendered t blob tile) = ap (λ n. actor.Rendered t (replicate n 0) (plain_tile tile)) (length-replicate (length blob) 0)
 plain_twice (actor.Failed t) = refl
 
-marked_twice : (o : Option cached.Outcome) → marked (marked o) ≡ marked o
+marked_twice : (o : Option cached.TileOutcome) → marked (marked o) ≡ marked o
 marked_twice None = refl
 marked_twice (Some o) = refl
 
@@ -191,11 +191,11 @@ world_with w s seats = record { cabinet = s; capabilities = w.capabilities; seat
 same_seats : (w : World) (s t : State) → plain s ≡ plain t → plain_world (world_with w s w.seats) ≡ plain_world (world_with w t (map plain_seat w.seats))
 same_seats w s t e = ap (λ u. world_with w u (map plain_seat w.seats)) e ∙ ap (world_with w (plain t)) (sym (seats_twice w.seats))
 
-seat_like : (b : PendingRequest) (x : Actor) (o : Option cached.Outcome) → plain_seat (seat_after b x o) ≡ seat_after b (plain_actor x) (marked o)
+seat_like : (b : PendingRequest) (x : Actor) (o : Option cached.TileOutcome) → plain_seat (seat_after b x o) ≡ seat_after b (plain_actor x) (marked o)
 seat_like b x None = refl
 seat_like b x (Some o) = refl
 
-settled_like : (w : World) (n i : ℕ) (c : Chance) (b d : PendingRequest) (r q : Stepped) → shape r ≡ shape q → ((x : Actor) (o : Option cached.Outcome) → seat_after b x o ≡ seat_after d x o)
+settled_like : (w : World) (n i : ℕ) (c : Chance) (b d : PendingRequest) (r q : Stepped) → shape r ≡ shape q → ((x : Actor) (o : Option cached.TileOutcome) → seat_after b x o ≡ seat_after d x o)
     → plain_world (settled w n c i b r).0 ≡ plain_world (settled (plain_world w) n (without_bytes c) i d q).0
 settled_like w n i c b d r q e same =
     let one : map plain_seat (slice_set w.seats i (seat_after b r.actor r.outcome)) ≡ slice_set (map plain_seat w.seats) i (seat_after b (plain_actor r.actor) (marked r.outcome)) =
@@ -264,7 +264,7 @@ place_like (actor.Holding t a) here place = refl
 place_like (actor.Rendered t blob tile) here place = refl
 place_like (actor.Failed t) here place = refl
 
-resumed_like : (w : World) (b d : PendingRequest) → plain_seat (Some b) ≡ Some d → (x : Actor) (o : Option cached.Outcome) → seat_after (resumed w b) x o ≡ seat_after (resumed (plain_world w) (record b { actor = plain_actor b.actor })) x o
+resumed_like : (w : World) (b d : PendingRequest) → plain_seat (Some b) ≡ Some d → (x : Actor) (o : Option cached.TileOutcome) → seat_after (resumed w b) x o ≡ seat_after (resumed (plain_world w) (record b { actor = plain_actor b.actor })) x o
 resumed_like w b d is x None = rw (place_like b.actor (length w.cabinet.history) b.place) refl
 resumed_like w b d is x (Some o) = refl
 

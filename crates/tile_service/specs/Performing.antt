@@ -3,7 +3,7 @@
 use Rattle.std.specs.Prelude.{ℕ, ◌≡◌, ◌⊎◌, List, slice_set, Option, Some}
 use Rattle.cabinet.specs.State.{State}
 use Rattle.cache_core.specs.declared.actor.Step.{Step}
-use Rattle.cache_core.specs.declared.outcome.Outcome as cached
+use Rattle.cache_core.specs.declared.outcome.TileOutcome as cached
 use Rattle.matrix_geometry.specs.declared.address.Address.{Address}
 use Rattle.tile_service.specs.declared.action_end.ActionEnd.{ActionEnd}
 use Rattle.tile_service.specs.declared.action_end.ActionEnd.TheVariants.{Answers}
@@ -22,7 +22,7 @@ use Rattle.tile_service.specs.Seats.{action_end_of, next_seat}
 
 -- the tile was asked for, rendered and finished one after the other, and this is its outcome
 abbrev pub IsGot : Option ℕ → ℕ → ℕ → State → Address → Outcome → State → Type 0
-IsGot told before after s a o t = (step : Step) × (ended : cached.Outcome) × Opens told before after s a Gets step t × (step.outcome ≡ Some ended) × (o ≡ outcome_of ended)
+IsGot told before after s a o t = (step : Step) × (ended : cached.TileOutcome) × Opens told before after s a Gets step t × (step.outcome ≡ Some ended) × (o ≡ outcome_of ended)
 
 -- WHERE THE CODE'S SEATS ARE
 

@@ -5,7 +5,7 @@ use Rattle.cabinet.specs.History.{History}
 use Rattle.cabinet.specs.State.{State}
 use Rattle.cache_core.specs.declared.actor.Actor.{Actor}
 use Rattle.cache_core.specs.declared.actor.Actor.TheVariants as actor
-use Rattle.cache_core.specs.declared.outcome.Outcome as cached
+use Rattle.cache_core.specs.declared.outcome.TileOutcome as cached
 use Rattle.cache_core.specs.Fits.{place_of}
 use Rattle.cache_core.specs.Steps.{Stepped, advanced, given_up}
 use Rattle.catalog.specs.declared.catalogue.Catalogue.{Catalogue}
@@ -79,12 +79,12 @@ told_in w n c i m r done =
 -- EVENTS
 
 -- the actor stays busy unless its request has an outcome
-abbrev pub seat_after : PendingRequest → Actor → Option cached.Outcome → Option PendingRequest
+abbrev pub seat_after : PendingRequest → Actor → Option cached.TileOutcome → Option PendingRequest
 seat_after b actor None = Some (record { start = b.start; message = b.message; address = b.address; place = b.place; actor = actor })
 seat_after b actor (Some o) = None
 
 -- the outcome is answered, by the actor i in line n
-abbrev pub answers_after : ℕ → ℕ → Bool → PendingRequest → Option cached.Outcome → List Answer
+abbrev pub answers_after : ℕ → ℕ → Bool → PendingRequest → Option cached.TileOutcome → List Answer
 answers_after n i left b None = []
 answers_after n i left b (Some o) = record { line = n; actor = i; start = b.start; message = b.message; request = Some (request.Tile b.address); place = b.place; outcome = answered_at left (outcome_of o) } ∷ []
 

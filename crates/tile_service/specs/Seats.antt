@@ -3,7 +3,7 @@
 use Rattle.std.specs.Prelude.{ℕ, Bool, true, false, List, fold, Option, Some, None}
 use Rattle.cabinet.specs.State.{State}
 use Rattle.cache_core.specs.declared.actor.Actor.{Actor}
-use Rattle.cache_core.specs.declared.outcome.Outcome as core
+use Rattle.cache_core.specs.declared.outcome.TileOutcome as core
 use Rattle.cache_core.specs.Steps.{given_up}
 use Rattle.matrix_geometry.specs.declared.address.Address.{Address}
 use Rattle.tile_service.specs.declared.action_end.ActionEnd.{ActionEnd}

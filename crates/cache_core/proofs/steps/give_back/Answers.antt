@@ -1,6 +1,6 @@
 use Rattle.std.proofs.Common.{true, None}
 use Rattle.cache_core.specs.declared.actor.Actor.TheVariants.{Failed}
-use Rattle.cache_core.specs.declared.outcome.Outcome.TheVariants.{SourceFailed}
+use Rattle.cache_core.specs.declared.outcome.TileOutcome.TheVariants.{SourceFailed}
 use Rattle.cache_core.proofs.Endings.{abandons_catalogue, abandons_grow, ending}
 use Rattle.cache_core.proofs.Truth.{abandoned_sound}
 use Rattle.cache_core.proofs.steps.give_back.Goals as goal

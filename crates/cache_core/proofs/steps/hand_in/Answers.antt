@@ -1,6 +1,6 @@
 use Rattle.std.proofs.Common.{true, None}
 use Rattle.cache_core.specs.declared.actor.Actor.TheVariants.{Rendered}
-use Rattle.cache_core.specs.declared.outcome.Outcome.TheVariants.{Tile}
+use Rattle.cache_core.specs.declared.outcome.TileOutcome.TheVariants.{Tile}
 use Rattle.cache_core.proofs.Endings.{ending, extends_fresh, finishes_catalogue, finishes_grow}
 use Rattle.cache_core.proofs.Truth.{part_true}
 use Rattle.cache_core.proofs.steps.hand_in.Goals as goal

@@ -1,6 +1,6 @@
 use Rattle.std.proofs.Common.{false, None}
 use Rattle.cache_core.specs.declared.actor.Actor.TheVariants.{Holding}
-use Rattle.cache_core.specs.declared.outcome.Outcome.TheVariants.{NoMemory}
+use Rattle.cache_core.specs.declared.outcome.TileOutcome.TheVariants.{NoMemory}
 use Rattle.cache_core.proofs.Endings.{abandons_catalogue, abandons_grow, ending}
 use Rattle.cache_core.proofs.Truth.{abandoned_sound}
 use Rattle.cache_core.proofs.steps.run_out.Goals as goal
