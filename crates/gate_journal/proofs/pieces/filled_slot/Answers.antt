@@ -1,7 +1,7 @@
 use Rattle.std.proofs.Common.{List, ℕ, [], ◌∷◌, ◌++◌, sym, ◌∙◌, ap, arith}
 use Rattle.std.proofs.lemmas.List.{set_at}
 use Rattle.gate_journal.proofs.Filling.{slot_within, slot_past}
-use Rattle.gate_journal.proofs.compact.filled_slot.Goals as goal
+use Rattle.gate_journal.proofs.pieces.filled_slot.Goals as goal
 
 pub returns-then-k-bodies : goal.returns-then-k-bodies
 returns-then-k-bodies c =
