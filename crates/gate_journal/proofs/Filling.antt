@@ -1,7 +1,7 @@
 -- What the slots of a half hold once they are written.
-use Rattle.std.proofs.Common.{◌≡◌, ℕ, zero, suc, ◌+◌, ◌-◌, ◌*◌, ◌<◌, ◌≤◌, List, [], ◌∷◌, ◌++◌, replicate, length, get_or, take, refl, sym, ◌∙◌, ap, subst, arith, inl, inr}
+use Rattle.std.proofs.Common.{◌≡◌, ℕ, zero, suc, ◌+◌, ◌-◌, ◌*◌, ◌<◌, ◌≤◌, List, [], ◌∷◌, ◌++◌, replicate, length, get_or, set, take, refl, sym, ◌∙◌, ap, subst, arith, inl, inr}
 use Rattle.std.proofs.lemmas.Bool.{cases_lt}
-use Rattle.std.proofs.lemmas.List.{length-take-le, get_or-take, get_or_append_left, get_or-append_right}
+use Rattle.std.proofs.lemmas.List.{length-take-le, set_at, get_or-take, get_or_append_left, get_or-append_right}
 use Rattle.disk_model.specs.Content.{Content, byte_at, bytes_at, written, TornWrite, Same}
 use Rattle.disk_model.specs.Images.{DiskState, After, Steps, ChangesBy}
 use Rattle.disk_model.specs.Moments.{leaves_none, changes_at, changes_then}
@@ -13,10 +13,13 @@ use Rattle.gate_journal.proofs.Headers.{two_parts}
 use Rattle.gate_journal.proofs.Same.{same_bytes}
 
 -- a slot in place of one that isn't there yet
-pub slot_within : (bodies : List (List ℕ)) (k : ℕ) → k < length bodies → slot_of bodies k ≡ get_or bodies k [] ++ 1 ∷ []
+slot_within : (bodies : List (List ℕ)) (k : ℕ) → k < length bodies → slot_of bodies k ≡ get_or bodies k [] ++ 1 ∷ []
 slot_within [] k lt = absurd (omega arith)
 slot_within (body ∷ bodies) zero lt = refl
 slot_within (body ∷ bodies) (suc k) lt = slot_within bodies k (omega arith)
+
+pub slot_opened : (bodies : List (List ℕ)) (k : ℕ) (body : List ℕ) → k < length bodies → body ≡ get_or bodies k [] → length body ≡ 63 → slot_of bodies k ≡ set (body ++ 0 ∷ []) 63 1
+slot_opened bodies k body lt is size = slot_within bodies k lt ∙ ap (λ (l : List ℕ). l ++ 1 ∷ []) (sym is) ∙ sym (set_at body 0 [] 1 63 size)
 
 pub slot_past : (bodies : List (List ℕ)) (k : ℕ) → length bodies ≤ k → slot_of bodies k ≡ replicate 64 0
 slot_past [] k le = refl

@@ -37,6 +37,7 @@ impl Journal {
     }
 
     /// Writes these bodies to the other half, with their gates open and all others closed, at most 1,024 slots at a time, and syncs.
+    #[tactic(auto, using(crate::proofs::Filling::torn_none, crate::proofs::Filling::torn_synced))]
     fn fill_other<D: Disk>(&self, disk: &mut D, bodies: &[[u8; 63]]) -> Result<(), Failed>
         ensures told { D.told disk.new ≡ D.told disk.old }
         ensures changes { IsTrue (D.told disk.old)

@@ -4,6 +4,7 @@ ghost use Rattle.disk_model.specs.Content.{bytes_at};
 ghost use Rattle.gate_journal.specs.Sound.{slot_of};
 
 /// A slot of a half that is to hold these bodies.
+#[tactic(auto, using(crate::proofs::Filling::slot_opened, crate::proofs::Filling::slot_past))]
 fn filled_slot(bodies: &[[u8; 63]], k: u64) -> [u8; 64]
     ensures { result ≡ slot_of bodies.now k }
 {
@@ -17,6 +18,7 @@ fn filled_slot(bodies: &[[u8; 63]], k: u64) -> [u8; 64]
 }
 
 /// Puts slots of a half that is to hold these bodies into a piece, one behind the other: so many, from this one on.
+#[tactic(auto, using(crate::proofs::Filling::piece_more))]
 pub(crate) fn fill_piece(bodies: &[[u8; 63]], first: u64, count: u64, piece: &mut [u8])
     requires size { length piece.old ≡ 64 * count }
     requires limit { first + count ≤ 2 ^ 40 }

@@ -1,6 +1,6 @@
-use Rattle.std.proofs.Common.{rules, ◌≡◌, ℕ, ◌+◌, ◌*◌, ◌≤◌, List, length, refl, sym, ◌∙◌, subst, arith, IsTrue}
+use Rattle.std.proofs.Common.{rules, ◌≡◌, ℕ, ◌+◌, ◌*◌, ◌≤◌, List, length, sym, ◌∙◌, subst, arith, IsTrue}
 use Rattle.gate_journal.specs.Layout.{half_at, other_half}
-use Rattle.gate_journal.proofs.Filling.{slots_more, torn_none, torn_piece, torn_synced}
+use Rattle.gate_journal.proofs.Filling.{slots_more, torn_piece}
 use Rattle.gate_journal.proofs.journal.Journal.fill_other.Goals as goal
 
 pub loop-done-preserved : goal.loop-done-preserved
@@ -38,26 +38,3 @@ returns-in_err-write_at-clause-changes g c told =
     let size : length c.fill_piece.new.piece ≡ 64 * count = search rules in
     torn_piece start c.start-start.result (length c.fill_piece.new.piece) done count j.slots (g.D.Disk.state c.args.disk.now) (g.D.Disk.state c.loop-done.disk) (g.D.Disk.state c.write_at.new.self) begins upto size (inv.changes told)
     (c.write_at.ensures.steps (subst IsTrue (sym inv.same_told) told))
-
-pub loop-done-init : goal.loop-done-init
-loop-done-init g c =
-    let j = c.args.self.now in
-    record {
-      same_told = refl;
-      changes = λ told. torn_none (half_at j.slots (other_half j.half)) (64 * j.slots) (g.D.Disk.state c.args.disk.now);
-      filled = λ told i lt. absurd (omega arith);
-      within = omega arith;
-      faults = omega arith;
-    }
-
-pub returns-in_err-sync-clause-changes : goal.returns-in_err-sync-clause-changes
-returns-in_err-sync-clause-changes g c told =
-    let inv = c.loop-done.invariant in
-    let j = c.args.self.now in
-    torn_synced (half_at j.slots (other_half j.half)) (64 * j.slots) (g.D.Disk.state c.args.disk.now) (g.D.Disk.state c.loop-done.disk) (g.D.Disk.state c.sync.new.self) (inv.changes told) (c.sync.ensures.steps (subst IsTrue (sym inv.same_told) told))
-
-pub returns-clause-changes : goal.returns-clause-changes
-returns-clause-changes g c told =
-    let inv = c.loop-done.invariant in
-    let j = c.args.self.now in
-    torn_synced (half_at j.slots (other_half j.half)) (64 * j.slots) (g.D.Disk.state c.args.disk.now) (g.D.Disk.state c.loop-done.disk) (g.D.Disk.state c.sync.new.self) (inv.changes told) (c.sync.ensures.steps (subst IsTrue (sym inv.same_told) told))
