@@ -1,37 +1,79 @@
 -- What the slots of a half hold once they are written.
-use Rattle.std.proofs.Common.{◌≡◌, ℕ, zero, suc, ◌+◌, ◌*◌, ◌<◌, ◌≤◌, List, [], ◌∷◌, ◌++◌, replicate, length, get_or, refl, sym, ◌∙◌, ap, subst, arith, inl, inr}
+use Rattle.std.proofs.Common.{◌≡◌, ℕ, zero, suc, ◌+◌, ◌-◌, ◌*◌, ◌<◌, ◌≤◌, List, [], ◌∷◌, ◌++◌, replicate, length, get_or, set, take, refl, sym, ◌∙◌, ap, subst, arith, inl, inr}
 use Rattle.std.proofs.lemmas.Bool.{cases_lt}
+use Rattle.std.proofs.lemmas.List.{length-take-le, set_at, get_or-take, get_or_append_left, get_or-append_right}
 use Rattle.disk_model.specs.Content.{Content, byte_at, bytes_at, written, TornWrite, Same}
 use Rattle.disk_model.specs.Images.{DiskState, After, Steps, ChangesBy}
 use Rattle.disk_model.specs.Moments.{leaves_none, changes_at, changes_then}
-use Rattle.disk_model.specs.Writes.{unchanged_write, written_others}
+use Rattle.disk_model.specs.Writes.{unchanged_write, written_others, written_within}
+use Rattle.disk_model.proofs.Reading.{is_bytes_at}
 use Rattle.gate_journal.specs.Opened.{bodies_at}
 use Rattle.gate_journal.specs.Sound.{slot_of}
 use Rattle.gate_journal.proofs.Headers.{two_parts}
-use Rattle.gate_journal.proofs.Places.{written_bytes}
 use Rattle.gate_journal.proofs.Same.{same_bytes}
 
 -- a slot in place of one that isn't there yet
-pub slot_within : (bodies : List (List ℕ)) (k : ℕ) → k < length bodies → slot_of bodies k ≡ get_or bodies k [] ++ 1 ∷ []
+slot_within : (bodies : List (List ℕ)) (k : ℕ) → k < length bodies → slot_of bodies k ≡ get_or bodies k [] ++ 1 ∷ []
 slot_within [] k lt = absurd (omega arith)
 slot_within (body ∷ bodies) zero lt = refl
 slot_within (body ∷ bodies) (suc k) lt = slot_within bodies k (omega arith)
+
+pub slot_opened : (bodies : List (List ℕ)) (k : ℕ) (body : List ℕ) → k < length bodies → body ≡ get_or bodies k [] → length body ≡ 63 → slot_of bodies k ≡ set (body ++ 0 ∷ []) 63 1
+slot_opened bodies k body lt is size = slot_within bodies k lt ∙ ap (λ (l : List ℕ). l ++ 1 ∷ []) (sym is) ∙ sym (set_at body 0 [] 1 63 size)
 
 pub slot_past : (bodies : List (List ℕ)) (k : ℕ) → length bodies ≤ k → slot_of bodies k ≡ replicate 64 0
 slot_past [] k le = refl
 slot_past (body ∷ bodies) zero le = absurd (omega arith)
 slot_past (body ∷ bodies) (suc k) le = slot_past bodies k (omega arith)
 
--- one slot more
-pub slots_more : (start k : ℕ) (bodies : List (List ℕ)) (slot : List ℕ) (old new : Content) → length slot ≡ 64 → slot ≡ slot_of bodies k → new ≡ written (start + 64 * k) slot old
-    → ((i : ℕ) → i < k → bytes_at old (start + 64 * i) 64 ≡ slot_of bodies i) → (i : ℕ) → i < k + 1 → bytes_at new (start + 64 * i) 64 ≡ slot_of bodies i
-slots_more start k bodies slot old new size is put each i lt = elim (cases_lt i k) [
+-- a list with a slot in place of what stood there
+module _ (at : ℕ) (slot rest old : List ℕ) (fits : at ≤ length old) where
+  front : length (take at old) ≡ at
+  front = length-take-le at old fits
+
+  put_below : (place : ℕ) → place < at → byte_at (take at old ++ (slot ++ rest)) place ≡ byte_at old place
+  put_below place lt = get_or_append_left (take at old) (slot ++ rest) 0 place (omega (arith, front)) ∙ get_or-take at old place 0 lt
+
+  put_within : (i : ℕ) → i < length slot → byte_at (take at old ++ (slot ++ rest)) (at + i) ≡ byte_at slot i
+  put_within i lt =
+      let e : at + i - at ≡ i = omega arith in
+      get_or-append_right (take at old) (slot ++ rest) at (at + i) 0 front (omega arith) ∙ ap (byte_at (slot ++ rest)) e ∙ get_or_append_left slot rest 0 i lt
+
+-- one slot more of a piece
+pub piece_more : (first k : ℕ) (bodies : List (List ℕ)) (slot rest old : List ℕ) → 64 * k ≤ length old → length slot ≡ 64 → slot ≡ slot_of bodies (first + k)
+    → ((i : ℕ) → i < k → bytes_at old (64 * i) 64 ≡ slot_of bodies (first + i))
+    → (i : ℕ) → i < k + 1 → bytes_at (take (64 * k) old ++ (slot ++ rest)) (64 * i) 64 ≡ slot_of bodies (first + i)
+piece_more first k bodies slot rest old fits size is each i lt = elim (cases_lt i k) [
   | inl before ↦
-      same_bytes old new (start + 64 * i) 64 (λ place lo hi. ap (λ (c : Content). byte_at c place) put ∙ written_others (start + 64 * k) slot old place (inl (omega arith))) ∙ each i before
+      same_bytes old (take (64 * k) old ++ (slot ++ rest)) (64 * i) 64 (λ place lo hi. put_below (64 * k) slot rest old fits place (omega arith)) ∙ each i before
   | inr le ↦
       let this : i ≡ k = omega arith in
-      let here : start + 64 * i ≡ start + 64 * k = omega arith in
-      ap (λ (p : ℕ). bytes_at new p 64) here ∙ subst (λ (n : ℕ). bytes_at new (start + 64 * k) n ≡ slot) size (written_bytes (start + 64 * k) slot old new put) ∙ is ∙ ap (slot_of bodies) (sym this)
+      ap (λ (j : ℕ). bytes_at (take (64 * k) old ++ (slot ++ rest)) (64 * j) 64) this
+      ∙ sym (is_bytes_at (take (64 * k) old ++ (slot ++ rest)) (64 * k) 64 slot size (λ j short. sym (put_within (64 * k) slot rest old fits j (omega arith))))
+      ∙ is ∙ ap (λ (j : ℕ). slot_of bodies (first + j)) (sym this)
+]
+
+-- what a read gives of some of the bytes that were written
+written_part : (at : ℕ) (bytes : List ℕ) (old : Content) (from n : ℕ) → from + n ≤ length bytes → bytes_at (written at bytes old) (at + from) n ≡ bytes_at bytes from n
+written_part at bytes old from zero le = refl
+written_part at bytes old from (suc n) le =
+    let next : at + from + 1 ≡ at + (from + 1) = omega arith in
+    let first : byte_at (written at bytes old) (at + from) ≡ byte_at bytes from = written_within at bytes old from (omega arith) in
+    let rest : bytes_at (written at bytes old) (at + from + 1) n ≡ bytes_at bytes (from + 1) n =
+    ap (λ (place : ℕ). bytes_at (written at bytes old) place n) next ∙ written_part at bytes old (from + 1) n (omega arith) in
+    λ k. first k ∷ rest k
+
+-- some slots more, written as one piece
+pub slots_more : (start begin done count : ℕ) (bodies : List (List ℕ)) (piece : List ℕ) (old new : Content) → begin ≡ start → length piece ≡ 64 * count → ((k : ℕ) → k < count → bytes_at piece (64 * k) 64 ≡ slot_of bodies (done + k))
+    → new ≡ written (begin + 64 * done) piece old → ((i : ℕ) → i < done → bytes_at old (start + 64 * i) 64 ≡ slot_of bodies i) → (i : ℕ) → i < done + count → bytes_at new (start + 64 * i) 64 ≡ slot_of bodies i
+slots_more start begin done count bodies piece old new same size filled put each i lt = elim (cases_lt i done) [
+  | inl before ↦
+      same_bytes old new (start + 64 * i) 64 (λ place lo hi. ap (λ (c : Content). byte_at c place) put ∙ written_others (begin + 64 * done) piece old place (inl (omega arith))) ∙ each i before
+  | inr le ↦
+      let here : start + 64 * i ≡ begin + 64 * done + 64 * (i - done) = omega arith in
+      let this : done + (i - done) ≡ i = omega arith in
+      ap (λ (place : ℕ). bytes_at new place 64) here ∙ ap (λ (c : Content). bytes_at c (begin + 64 * done + 64 * (i - done)) 64) put
+      ∙ written_part (begin + 64 * done) piece old (64 * (i - done)) 64 (omega arith) ∙ filled (i - done) (omega arith) ∙ ap (slot_of bodies) this
 ]
 
 -- a write within a range is one of the range
@@ -55,9 +97,10 @@ torn_more at n start m old mid new low high before one =
     changes_then (TornWrite start m) (TornWrite at n) (TornWrite start m) old mid new (λ c d torn. torn)
     (λ c d e first next. torn_then start m c d e first (torn_within at n start m d e low high next)) before (changes_at (TornWrite at n) mid new one)
 
--- one slot more of a half
-pub torn_slot : (start here n k slots : ℕ) (old mid new : DiskState) → k < slots → here ≡ start + 64 * k → n ≡ 64 → ChangesBy (TornWrite start (64 * slots)) old mid → Steps (TornWrite here n) mid new → ChangesBy (TornWrite start (64 * slots)) old new
-torn_slot start here n k slots old mid new lt is size before one = torn_more here n start (64 * slots) old mid new (omega arith) (omega arith) before one
+-- one piece more of a half
+pub torn_piece : (start begin n done count slots : ℕ) (old mid new : DiskState) → begin ≡ start → done + count ≤ slots → n ≡ 64 * count → ChangesBy (TornWrite start (64 * slots)) old mid → Steps (TornWrite (begin + 64 * done) n) mid new
+    → ChangesBy (TornWrite start (64 * slots)) old new
+torn_piece start begin n done count slots old mid new same le size before one = torn_more (begin + 64 * done) n start (64 * slots) old mid new (omega arith) (omega arith) before one
 
 -- no write yet, and none but a sync
 pub torn_none : (start m : ℕ) (disk : DiskState) → ChangesBy (TornWrite start m) disk disk

@@ -9,24 +9,13 @@ ghost use Rattle.gate_journal.specs.Opened.{records};
 ghost use Rattle.gate_journal.specs.Sound.{IsAlike, IsSettled, IsSound, IsSoundAs, generation_of, kept, layout_of, room_of, slot_of, version_of};
 ghost use Rattle.gate_journal.specs.declared.standing.Standing.TheVariants.{Settled, Pending};
 
+use crate::half::AT_ONCE;
 use crate::header::header_body;
 use crate::journal::Journal;
+use crate::pieces::fill_piece;
 use crate::standing::Standing;
 use crate::writes::{close_gate, open_gate, write_body};
 use disk_model::disk::{Disk, Failed};
-
-/// A slot of a half that is to hold these bodies.
-fn filled_slot(bodies: &[[u8; 63]], k: u64) -> [u8; 64]
-    ensures { result ≡ slot_of bodies.now k }
-{
-    let mut slot = [0; 64];
-    let k = k as usize;
-    if k < bodies.len() {
-        slot[..63].copy_from_slice(&bodies[k]);
-        slot[63] = 1;
-    }
-    slot
-}
 
 impl Journal {
     /// Closes the header of the other half, where its gate is open.
@@ -47,7 +36,8 @@ impl Journal {
         Ok(())
     }
 
-    /// Writes these bodies to the other half, with their gates open and all others closed, and syncs.
+    /// Writes these bodies to the other half, with their gates open and all others closed, at most 1,024 slots at a time, and syncs.
+    #[tactic(auto, using(crate::proofs::Filling::torn_none, crate::proofs::Filling::torn_synced))]
     fn fill_other<D: Disk>(&self, disk: &mut D, bodies: &[[u8; 63]]) -> Result<(), Failed>
         ensures told { D.told disk.new ≡ D.told disk.old }
         ensures changes { IsTrue (D.told disk.old)
@@ -58,8 +48,14 @@ impl Journal {
         ensures cause { HasCause (D.faults disk.old) (D.faults disk.new) result }
     {
         let start = self.half.other().start(self.slots);
-        for k in 0..self.slots {
-            disk.write_at(start + 64 * k, &filled_slot(bodies, k))?;
+        let mut buffer = [0; 65536];
+        let mut done = 0;
+        while done < self.slots {
+            let count = AT_ONCE.min(self.slots - done);
+            let piece = &mut buffer[..64 * count as usize];
+            fill_piece(bodies, done, count, piece);
+            disk.write_at(start + 64 * done, piece)?;
+            done += count;
         }
         disk.sync()?;
         Ok(())

@@ -2,6 +2,9 @@
 ghost use Rattle.std.specs.Prelude.{◌≡◌, ◌≤◌, ◌^◌};
 ghost use Rattle.gate_journal.specs.Layout.{half_at, header_at, other_half};
 
+/// How many slots of a half are read or written at a time.
+pub(crate) const AT_ONCE: u64 = 1024;
+
 /// One of the two halves of a journal.
 #[derive(Clone, Copy, Debug, PartialEq, Eq, Drop)]
 pub enum Half {

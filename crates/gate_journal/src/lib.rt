@@ -19,6 +19,7 @@ pub mod laws;
 pub mod making;
 mod open;
 pub mod opened;
+mod pieces;
 mod queries;
 mod reading;
 mod settle;

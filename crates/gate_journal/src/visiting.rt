@@ -3,6 +3,7 @@ ghost use Rattle.std.specs.Prelude.{◌≡◌, ◌+◌, ◌*◌, ◌≤◌, ◌^
 ghost use Rattle.gate_journal.specs.Visiting.{ComesOfPart, ComesOfHalf, OnlyReads};
 
 use crate::fault::OpenFault;
+use crate::half::AT_ONCE;
 use crate::visit::Visit;
 use disk_model::disk::Disk;
 use std::alloc::Global;
@@ -48,9 +49,6 @@ fn visit_part<V: Visit>(
     }
     Ok(records)
 }
-
-/// How many slots are read at a time.
-const AT_ONCE: u64 = 1024;
 
 /// Visits the records of a half in their order, and gives how many there are. `NotACache` where an open gate stands
 /// after a closed one.

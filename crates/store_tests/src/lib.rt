@@ -12,6 +12,8 @@ mod disks;
 #[cfg(test)]
 mod extents;
 #[cfg(test)]
+mod images;
+#[cfg(test)]
 mod journals;
 #[cfg(test)]
 mod records;
