@@ -1,6 +1,5 @@
 -- Chunks of which no two side by side fit into one.
-use Rattle.std.proofs.Common.{◌≡◌, ℕ, zero, suc, ◌+◌, ◌*◌, ◌<◌, ◌≤◌, List, [], ◌∷◌, ◌++◌, length, drop, get_or, arith, length-append}
-use Rattle.std.proofs.lemmas.List.{drop_all}
+use Rattle.std.proofs.Common.{ℕ, zero, suc, ◌+◌, ◌*◌, ◌<◌, ◌≤◌, List, [], ◌∷◌, ◌++◌, length, drop, arith, length-append}
 use Rattle.extent_map.specs.declared.part.Part.{Part}
 use Rattle.extent_map.specs.Chunks.{all_parts, chunk_at, chunk_room, AreCrowded}
 

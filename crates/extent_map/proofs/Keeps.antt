@@ -1,5 +1,5 @@
 -- A space before and after a part is taken or given back.
-use Rattle.std.proofs.Common.{◌≡◌, ℕ, suc, ◌+◌, ◌-◌, ◌*◌, ◌/◌, ◌<◌, ◌≤◌, List, [], ◌∷◌, ◌++◌, length, get_or, refl, ap, subst, sym, ◌∙◌, arith, length-append}
+use Rattle.std.proofs.Common.{◌≡◌, ℕ, suc, ◌+◌, ◌-◌, ◌*◌, ◌/◌, ◌<◌, ◌≤◌, List, ◌∷◌, ◌++◌, length, get_or, ap, subst, sym, ◌∙◌, arith, length-append}
 use Rattle.extent_map.specs.declared.part.Part.{Part}
 use Rattle.extent_map.specs.Parts.{LieInOrder, inserted}
 use Rattle.extent_map.specs.Spaces.{IsFree}

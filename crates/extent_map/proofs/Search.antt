@@ -1,14 +1,11 @@
 -- The search for the lowest hole, step by step.
-use Rattle.std.proofs.Common.{◌≡◌, ℕ, ◌+◌, ◌<◌, ◌≤◌, List, [], ◌∷◌, ◌++◌, length, get_or, take, drop, inl, inr, ap, subst, sym, arith}
-use Rattle.std.specs.List.{AllByRecursion, insert}
-use Rattle.std.proofs.lemmas.Bool.{cases_lt}
-use Rattle.std.proofs.lemmas.List.{take_more, drop_more, drop_all, take-append-drop}
-use Rattle.std.proofs.lemmas.List.Elements.{All-from_recursion}
+use Rattle.std.proofs.Common.{ℕ, ◌≤◌, List, [], ◌∷◌, ◌++◌, inl, inr, arith}
+use Rattle.std.specs.List.{AllByRecursion}
 use Rattle.extent_map.specs.declared.part.Part.{Part}
-use Rattle.extent_map.specs.Parts.{part_at, end_of, AreApart, LieInOrder, inserted}
-use Rattle.extent_map.specs.Spaces.{IsFree, NoneFree}
-use Rattle.extent_map.specs.Holes.{first_start, IsHole}
-use Rattle.extent_map.proofs.Order.{low_high, joined, inserted_is}
+use Rattle.extent_map.specs.Parts.{end_of, AreApart, LieInOrder}
+use Rattle.extent_map.specs.Spaces.{IsFree}
+use Rattle.extent_map.specs.Holes.{first_start}
+use Rattle.extent_map.proofs.Order.{low_high}
 
 -- APART
 

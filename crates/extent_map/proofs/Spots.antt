@@ -1,7 +1,7 @@
 -- Where a part fits among the chunks, and where a part that is there stands.
-use Rattle.std.proofs.Common.{◌≡◌, ℕ, zero, suc, ◌+◌, ◌-◌, ◌<◌, ◌≤◌, List, [], ◌∷◌, ◌++◌, Contains, length, get_or, take, drop, inl, inr, refl, ap, subst, sym, ◌∙◌, arith}
+use Rattle.std.proofs.Common.{◌≡◌, ℕ, zero, suc, ◌+◌, ◌<◌, ◌≤◌, List, [], ◌∷◌, ◌++◌, Contains, length, get_or, take, drop, inl, inr, refl, ap, subst, sym, ◌∙◌, arith}
 use Rattle.std.specs.List.{AllByRecursion}
-use Rattle.std.proofs.lemmas.List.{drop_all, take_all, get_or_default, take-append-drop, length-drop}
+use Rattle.std.proofs.lemmas.List.{take_all, get_or_default, take-append-drop, length-drop}
 use Rattle.std.proofs.lemmas.List.Elements.{Contains-append_cases}
 use Rattle.std.proofs.lemmas.Bool.{cases_lt}
 use Rattle.extent_map.specs.declared.part.Part.{Part}
@@ -114,7 +114,7 @@ found_fits pss size bytes chunk from index place d l ordered s hole =
     let within = hole.within in
     let rest = length-drop index own in
     let high : first_start (parts_behind pss chunk index) size ≡ first_start (drop index own) 0 =
-        ap (λ (ps : List Part). first_start ps size) (behind_in pss chunk index d l) ∙ first_start_joined (drop index own) (parts_behind pss (suc chunk) 0) size 0 (omega arith) in
+    ap (λ (ps : List Part). first_start ps size) (behind_in pss chunk index d l) ∙ first_start_joined (drop index own) (parts_behind pss (suc chunk) 0) size 0 (omega arith) in
     let fits = hole.fits in
     fits_around pss size chunk index (part_at place bytes) (record { known = l; within = omega arith }) ordered (omega arith) (subst (λ n. place + bytes ≤ n) (sym high) fits)
 
@@ -170,7 +170,7 @@ claim_fits pss size chunk index d p l ordered before at hole =
     let first = ends_by 0 p.place pss chunk (omega arith) before in
     let mine = order_end 0 (take index own) p.place hole.behind in
     let low : last_end 0 (parts_before pss chunk index) ≤ p.place =
-        subst (λ n. n ≤ p.place) (sym (ap (last_end 0) (before_in pss chunk index d l) ∙ last_end_joined 0 (parts_before pss chunk 0) (take index own))) (last_end_by (last_end 0 (parts_before pss chunk 0)) p.place (take index own) first mine) in
+    subst (λ n. n ≤ p.place) (sym (ap (last_end 0) (before_in pss chunk index d l) ∙ last_end_joined 0 (parts_before pss chunk 0) (take index own))) (last_end_by (last_end 0 (parts_before pss chunk 0)) p.place (take index own) first mine) in
     let within = hole.within in
     let inside : index < length own = elim (cases_lt index (length own)) [
       | inl under ↦ under

@@ -108,7 +108,8 @@ impl Chunk {
         ensures { self.new ≡ remove self.old index }
     {
         self.parts.remove(index);
-        self.summary = summary_of(self.parts.as_slice(), size);
+        let others = self.parts.as_slice();
+        self.summary = summary_of(others, size);
     }
 
     /// Enters parts behind its own.

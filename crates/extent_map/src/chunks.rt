@@ -127,10 +127,10 @@ pub fn free_spot(chunks: &[Chunk], size: u64, place: u64, bytes: u32) -> Option<
             None => None,
         };
     }
-    if fits(place, bytes, size) {
-        return Some(end_spot(chunks));
+    if !fits(place, bytes, size) {
+        return None;
     }
-    None
+    Some(end_spot(chunks))
 }
 
 /// The spot of a part.

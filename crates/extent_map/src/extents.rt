@@ -105,7 +105,12 @@ impl Extents {
         prepare(&mut self.chunks, self.size);
         let found = lowest_hole(self.chunks.as_slice(), self.size, length)?;
         let place = found.place;
-        enter(&mut self.chunks, self.size, found.spot, Part { place, length });
+        enter(
+            &mut self.chunks,
+            self.size,
+            found.spot,
+            Part { place, length },
+        );
         self.taken += 1;
         Some(place)
     }

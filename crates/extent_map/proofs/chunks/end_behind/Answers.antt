@@ -1,4 +1,4 @@
-use Rattle.std.proofs.Common.{◌≡◌, ◌∙◌, ◌≤◌, arith, length}
+use Rattle.std.proofs.Common.{◌∙◌, arith}
 use Rattle.extent_map.proofs.Passed.{last_end_any}
 use Rattle.extent_map.proofs.chunks.end_behind.Goals as goal
 

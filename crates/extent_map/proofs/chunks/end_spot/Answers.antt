@@ -1,7 +1,7 @@
-use Rattle.std.proofs.Common.{◌≡◌, ◌≤◌, ◌∙◌, ◌++◌, [], List, ap, arith, length, sym}
+use Rattle.std.proofs.Common.{◌≡◌, ◌∙◌, ◌++◌, [], List, ap, arith, length, sym}
 use Rattle.std.proofs.lemmas.List.{append-nil, get_or_default}
 use Rattle.extent_map.specs.declared.part.Part.{Part}
-use Rattle.extent_map.specs.Chunks.{chunk_at, parts_before, parts_behind}
+use Rattle.extent_map.specs.Chunks.{parts_before, parts_behind}
 use Rattle.extent_map.proofs.InChunks.{around, behind_last}
 use Rattle.extent_map.proofs.chunks.end_spot.Goals as goal
 

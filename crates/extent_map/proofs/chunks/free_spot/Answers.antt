@@ -1,4 +1,4 @@
-use Rattle.std.proofs.Common.{◌≡◌, ◌+◌, ◌≤◌, ◌∙◌, [], List, arith, get_or, subst, sym}
+use Rattle.std.proofs.Common.{◌≡◌, ◌+◌, ◌≤◌, ◌∙◌, List, arith, get_or, subst, sym}
 use Rattle.std.proofs.lemmas.Bool.Decides.{nat_tests}
 use Rattle.extent_map.specs.declared.part.Part.{Part}
 use Rattle.extent_map.specs.Parts.{part_at, LieInOrder}
@@ -24,11 +24,11 @@ pub returns-in-None-clause-none : goal.returns-in-None-clause-none
 returns-in-None-clause-none c = λ free.
     c.in-None.ensures.none
     (subst (λ (ps : List Part). IsFree ps c.args.size (part_at c.args.place c.args.bytes)) (sym (c.parts.ensures ∙ c.index-chunks-chunk.is))
-      (claim_none c.args.chunks.now c.args.size c.chunk_of-chunk.result c.index-chunks-chunk.result (part_at c.args.place c.args.bytes) c.if-chunk-chunks.true free))
+    (claim_none c.args.chunks.now c.args.size c.chunk_of-chunk.result c.index-chunks-chunk.result (part_at c.args.place c.args.bytes) c.if-chunk-chunks.true free))
 
-pub returns-then-fits-clause-fits : goal.returns-then-fits-clause-fits
-returns-then-fits-clause-fits c =
-    let told = c.fits.ensures in let yes = c.if-fits.true in
+pub returns-clause-fits : goal.returns-clause-fits
+returns-clause-fits c =
+    let told = c.fits.ensures in let yes = c.if-not-fits.false in
     let within : c.args.place + c.args.bytes ≤ c.args.size = grind (arith, nat_tests) in
     let end = c.if-chunk-chunks.false in
     fits_behind c.args.chunks.now c.args.size c.end_spot.result.chunk c.end_spot.result.index (part_at c.args.place c.args.bytes) c.end_spot.ensures.spot c.requires.ordered c.end_spot.ensures.before c.end_spot.ensures.behind

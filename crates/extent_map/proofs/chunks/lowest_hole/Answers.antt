@@ -1,8 +1,8 @@
-use Rattle.std.proofs.Common.{◌≡◌, ◌+◌, ◌≤◌, ◌∙◌, [], List, ap, arith, get_or, subst, sym}
+use Rattle.std.proofs.Common.{◌+◌, ◌≤◌, ◌∙◌, List, ap, arith, subst}
 use Rattle.std.proofs.lemmas.Bool.Decides.{nat_tests}
 use Rattle.std.proofs.lemmas.List.{get_or_default}
 use Rattle.extent_map.specs.declared.part.Part.{Part}
-use Rattle.extent_map.specs.Parts.{part_at, LieInOrder}
+use Rattle.extent_map.specs.Parts.{part_at}
 use Rattle.extent_map.specs.Holes.{last_end, FitsBeforeNone, IsFirstHole}
 use Rattle.extent_map.proofs.InChunks.{chunk_order_from}
 use Rattle.extent_map.proofs.Spots.{fits_behind, found_fits, found_lowest, searched_all, searched_lowest, searched_more, searched_none, searched_start}

@@ -1,4 +1,4 @@
-use Rattle.std.proofs.Common.{◌≡◌, ◌<◌, ◌≤◌, ℕ, ◌+◌, ◌++◌, ◌∷◌, [], ◌∙◌, List, ap, arith, drop, get_or, length, refl, set, subst, suc, sym, take}
+use Rattle.std.proofs.Common.{◌≡◌, ◌<◌, ◌≤◌, ℕ, ◌+◌, ◌++◌, ◌∷◌, [], ◌∙◌, List, ap, arith, drop, get_or, length, set, subst, sym, take}
 use Rattle.std.specs.List.{insert}
 use Rattle.std.proofs.lemmas.List.{get_or_default}
 use Rattle.extent_map.specs.declared.part.Part.{Part}
@@ -40,7 +40,7 @@ returns c =
     let l = known c.args.chunks.now.items pss chunk f.1 c.requires.some in
     let front : c.truncate.new.self ≡ take kept (get_or pss chunk read) = c.truncate.ensures ∙ ap (take kept) (c.index_mut.ensures.value ∙ get_or_default pss chunk c.index_mut.result.now read l) in
     let back : c.append.new.self ≡ drop kept (get_or pss chunk read) =
-        c.append.ensures ∙ ap (λ (ps : List Part). ps ++ c.split_at.result.1.now) f.0 ∙ c.split_at.ensures.back ∙ ap (drop kept) (c.parts.ensures ∙ c.index.ensures) in
+    c.append.ensures ∙ ap (λ (ps : List Part). ps ++ c.split_at.result.1.now) f.0 ∙ c.split_at.ensures.back ∙ ap (drop kept) (c.parts.ensures ∙ c.index.ensures) in
     let long = ap (λ (ps : List Part). length ps) (ap (λ (qss : List (List Part)). chunk_at qss chunk) f.1 ∙ at_with_free pss chunk read l) in
     let within = c.requires.within in
     record {

@@ -1,6 +1,3 @@
-use Rattle.std.proofs.Common.{List, arith, subst, sym}
-use Rattle.extent_map.specs.declared.part.Part.{Part}
-use Rattle.extent_map.specs.Parts.{LieInOrder}
 use Rattle.extent_map.proofs.InChunks.{fits_order}
 use Rattle.extent_map.proofs.edits.enter.Goals as goal
 

@@ -11,7 +11,7 @@ leave-requires-clause-ordered c =
     let chunks = c.args.chunks.now.items in let chunk = c.args.spot.chunk in let index = c.args.spot.index in
     written_order chunks c.args.size chunk (remove c.index_mut.result.now index) c.requires.known
     (subst (λ (ps : List Part). LieInOrder 0 ps c.args.size) (sym (taken_parts chunks chunk index c.index_mut.result.now c.index_mut.ensures.value c.requires.known))
-      (taken_order chunks c.args.size chunk index c.requires.known c.requires.within c.requires.ordered))
+    (taken_order chunks c.args.size chunk index c.requires.known c.requires.within c.requires.ordered))
 
 pub returns-clause-parts : goal.returns-clause-parts
 returns-clause-parts c =

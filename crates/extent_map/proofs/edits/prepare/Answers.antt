@@ -1,4 +1,4 @@
-use Rattle.std.proofs.Common.{◌*◌, ◌/◌, ◌≤◌, List, arith, length, subst}
+use Rattle.std.proofs.Common.{◌/◌, List, arith, length, subst}
 use Rattle.extent_map.specs.declared.part.Part.{Part}
 use Rattle.extent_map.specs.Chunks.{AreCrowded}
 use Rattle.extent_map.proofs.Crowded.{crowded_many}

@@ -11,7 +11,7 @@ enter-requires-clause-ordered c =
     let chunks = c.args.chunks.now.items in let chunk = c.args.spot.chunk in let index = c.args.spot.index in
     written_order chunks c.args.size chunk (insert c.index_mut.result.now index c.args.part) c.requires.fits.spot.known
     (subst (λ (ps : List Part). LieInOrder 0 ps c.args.size) (sym (entered_parts chunks chunk index c.index_mut.result.now c.args.part c.index_mut.ensures.value c.requires.fits.spot.known))
-      (entered_order chunks c.args.size chunk index c.args.part c.requires.fits.before c.requires.fits.behind c.requires.some))
+    (entered_order chunks c.args.size chunk index c.args.part c.requires.fits.before c.requires.fits.behind c.requires.some))
 
 pub returns-clause-parts : goal.returns-clause-parts
 returns-clause-parts c =

@@ -13,6 +13,8 @@ pub loop-index-preserved : goal.loop-index-preserved
 loop-index-preserved c =
     let wide = c.larger-widest.ensures.one in let hole = c.larger-widest.ensures.other in let told = c.saturating_sub.ensures in
     let tight : (get_or c.args.parts.now c.loop-index.index (record { place = 0; length = 0 })).place < c.loop-index.end + (c.larger-widest.result + 1) = omega arith in
-    rw c.from.ensures
-    (c.loop-index.invariant.0, passed_more c.args.parts.now (c.larger-widest.result + 1) c.loop-index.index c.loop-index.end (record { place = 0; length = 0 }) c.loop-index-test.true
-      (passed_more_bytes c.args.parts.now (c.loop-index.widest + 1) (c.larger-widest.result + 1) c.loop-index.index c.loop-index.end (omega arith) c.loop-index.invariant.1) tight)
+    rw c.from.ensures (
+      c.loop-index.invariant.0,
+      passed_more c.args.parts.now (c.larger-widest.result + 1) c.loop-index.index c.loop-index.end (record { place = 0; length = 0 }) c.loop-index-test.true
+          (passed_more_bytes c.args.parts.now (c.loop-index.widest + 1) (c.larger-widest.result + 1) c.loop-index.index c.loop-index.end (omega arith) c.loop-index.invariant.1) tight,
+    )

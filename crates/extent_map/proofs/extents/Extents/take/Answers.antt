@@ -1,4 +1,4 @@
-use Rattle.std.proofs.Common.{◌≡◌, ◌-◌, ◌<◌, ◌∙◌, List, None, arith, refl, rules, subst, sym}
+use Rattle.std.proofs.Common.{◌-◌, ◌<◌, List, arith, refl, subst, sym}
 use Rattle.extent_map.specs.declared.part.Part.{Part}
 use Rattle.extent_map.specs.Parts.{part_at}
 use Rattle.extent_map.specs.Spaces.{Space, NoneFree, NoneFreeBelow}
@@ -35,7 +35,7 @@ pub returns-clause-lowest : goal.returns-clause-lowest
 returns-clause-lowest c =
     rw (← c.self.view_is)
     (subst (λ (ps : List Part). NoneFreeBelow ps c.self.inside.size c.args.length c.in_ok-found.found.place) c.prepare.ensures.parts
-      (subst (λ (pss : List (List Part)). NoneFreeBelow (all_parts pss) c.self.inside.size c.args.length c.in_ok-found.found.place) c.as_slice.ensures.value c.in_ok-found.ensures.lowest))
+    (subst (λ (pss : List (List Part)). NoneFreeBelow (all_parts pss) c.self.inside.size c.args.length c.in_ok-found.found.place) c.as_slice.ensures.value c.in_ok-found.ensures.lowest))
 
 pub returns-clause-taken : goal.returns-clause-taken
 returns-clause-taken c = let more = spare c in rw (← c.self.view_is) (record { entered = entered_is _ _ _ _ _ _ _ (entered c); same_size = refl; one_less = omega arith })
