@@ -1,14 +1,14 @@
 -- A part at a place that is asked for.
-use Rattle.std.proofs.Common.{◌≡◌, ℕ, suc, ◌+◌, ◌<◌, ◌≤◌, List, [], ◌∷◌, ◌++◌, All, AllPairs, Contains, length, get_or, take, drop, inl, inr, ap, subst, sym, ◌∙◌, arith}
-use Rattle.std.specs.List.{AllByRecursion, AllWithin, remove}
+use Rattle.std.proofs.Common.{◌≡◌, ℕ, ◌+◌, ◌<◌, ◌≤◌, List, [], ◌∷◌, All, AllPairs, Contains, length, get_or, take, drop, inl, inr, ap, subst, sym, ◌∙◌, arith}
+use Rattle.std.specs.List.{AllByRecursion, AllWithin}
 use Rattle.std.proofs.lemmas.Bool.{cases_lt}
 use Rattle.std.proofs.lemmas.List.{take_more, drop_more, take-append-drop, get_or-take, get_or-drop, length-take, length-drop}
 use Rattle.std.proofs.lemmas.List.Elements.{All-from_recursion, recursion_from_All, All-take, All-drop}
 use Rattle.extent_map.specs.declared.part.Part.{Part}
-use Rattle.extent_map.specs.Parts.{end_of, AreApart, LieInOrder, inserted}
+use Rattle.extent_map.specs.Parts.{end_of, AreApart, LieInOrder}
 use Rattle.extent_map.specs.Spaces.{IsFree}
 use Rattle.extent_map.specs.Holes.{first_start, last_end, IsHole}
-use Rattle.extent_map.proofs.Order.{front, back, later, last_end_push, removed, inserted_is}
+use Rattle.extent_map.proofs.Order.{front, back, later, last_end_push}
 use Rattle.extent_map.proofs.Search.{ahead_of}
 
 -- BEFORE AND AFTER AN INDEX
