@@ -1,14 +1,14 @@
 -- A part at a place that is asked for.
-use Rattle.std.proofs.Common.{◌≡◌, ℕ, suc, ◌+◌, ◌<◌, ◌≤◌, List, [], ◌∷◌, ◌++◌, All, AllPairs, Contains, length, get_or, take, drop, inl, inr, ap, subst, sym, ◌∙◌, arith}
-use Rattle.std.specs.List.{AllByRecursion, AllWithin, remove}
+use Rattle.std.proofs.Common.{◌≡◌, ℕ, ◌+◌, ◌<◌, ◌≤◌, List, [], ◌∷◌, All, AllPairs, Contains, length, get_or, take, drop, inl, inr, ap, subst, sym, ◌∙◌, arith}
+use Rattle.std.specs.List.{AllByRecursion, AllWithin}
 use Rattle.std.proofs.lemmas.Bool.{cases_lt}
 use Rattle.std.proofs.lemmas.List.{take_more, drop_more, take-append-drop, get_or-take, get_or-drop, length-take, length-drop}
 use Rattle.std.proofs.lemmas.List.Elements.{All-from_recursion, recursion_from_All, All-take, All-drop}
 use Rattle.extent_map.specs.declared.part.Part.{Part}
-use Rattle.extent_map.specs.Parts.{end_of, AreApart, LieInOrder, inserted}
+use Rattle.extent_map.specs.Parts.{end_of, AreApart, LieInOrder}
 use Rattle.extent_map.specs.Spaces.{IsFree}
 use Rattle.extent_map.specs.Holes.{first_start, last_end, IsHole}
-use Rattle.extent_map.proofs.Order.{front, back, later, last_end_push, removed, inserted_is}
+use Rattle.extent_map.proofs.Order.{front, back, later, last_end_push}
 use Rattle.extent_map.proofs.Search.{ahead_of}
 
 -- BEFORE AND AFTER AN INDEX
@@ -70,7 +70,7 @@ claims_none_behind taken size index p ordered starts tight free =
     let apart = recursion_from_All (λ q. AreApart q p) (drop index taken) (All-drop (λ q. AreApart q p) index taken (All-from_recursion (λ q. AreApart q p) taken free.1)) in
     met_behind (last_end 0 (take index taken)) (drop index taken) size p (back 0 (take index taken) (drop index taken) size whole) (recursion_from_All (λ q. p.place ≤ q.place) (drop index taken) starts) tight free.0 apart
 
--- GIVEN BACK
+-- THE INDEX OF A PART
 
 -- the index of a taken part is the number of those that start before it
 pub is_index : (taken : List Part) (index : ℕ) (p : Part) → AllPairs (λ p q. p.place < q.place) taken → index ≤ length taken → All (λ q. q.place < p.place) (take index taken) → All (λ q. p.place ≤ q.place) (drop index taken)
@@ -100,18 +100,3 @@ is_index taken index p rising within before behind has =
             (omega arith, subst (λ i. get_or taken i p ≡ p) e at)
       ]
     ]
-
-whole_at : (taken : List Part) (index : ℕ) (p : Part) → index < length taken → get_or taken index p ≡ p → taken ≡ take index taken ++ p ∷ drop (suc index) taken
-whole_at taken index p l at =
-    let next : index + 1 ≡ suc index = omega arith in
-    let rest = drop_more taken index p l ∙ ap (λ (q : Part). q ∷ drop (index + 1) taken) at in
-    subst (λ i. taken ≡ take index taken ++ p ∷ drop i taken) next (sym (take-append-drop index taken) ∙ ap (λ (ps : List Part). take index taken ++ ps) rest)
-
-pub given_order : (taken : List Part) (size index : ℕ) (p : Part) → LieInOrder 0 taken size → index < length taken → get_or taken index p ≡ p → LieInOrder 0 (remove taken index) size
-given_order taken size index p ordered l at =
-    removed 0 (take index taken) (drop (suc index) taken) p size (subst (λ (ps : List Part). LieInOrder 0 ps size) (whole_at taken index p l at) ordered)
-
-pub given_inserted : (taken : List Part) (size index : ℕ) (p : Part) → LieInOrder 0 taken size → index < length taken → get_or taken index p ≡ p → taken ≡ inserted p (remove taken index)
-given_inserted taken size index p ordered l at =
-    let e = whole_at taken index p l at in
-    e ∙ sym (inserted_is 0 (take index taken) (drop (suc index) taken) p size (subst (λ (ps : List Part). LieInOrder 0 ps size) e ordered))

@@ -1,3 +1,9 @@
 pub mod Order
 pub mod Search
 pub mod Claims
+pub mod Passed
+pub mod InChunks
+pub mod Crowded
+pub mod Divided
+pub mod Spots
+pub mod Keeps

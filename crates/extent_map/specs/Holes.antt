@@ -1,8 +1,7 @@
--- Where a part goes among those that are taken.
-use Rattle.std.specs.Prelude.{ℕ, ◌≤◌, List, [], ◌∷◌, length, take, drop}
+-- Where a part goes among those that are taken, and how wide the holes between them are.
+use Rattle.std.specs.Prelude.{ℕ, ◌≡◌, ◌+◌, ◌<◌, ◌≤◌, List, [], ◌∷◌, length, take, drop}
 use Rattle.extent_map.specs.declared.part.Part.{Part}
 use Rattle.extent_map.specs.Parts.{end_of, LieInOrder}
-use Rattle.extent_map.specs.Spaces.{NoneFreeBelow}
 
 -- where the last of the parts ends, and without a part the place from which they lie
 abbrev pub last_end : ℕ → List Part → ℕ
@@ -20,9 +19,33 @@ pub record IsHole (taken : List Part) (size index : ℕ) (p : Part) : Type 0 whe
   pub behind : LieInOrder 0 (take index taken) p.place
   pub ahead : LieInOrder (end_of p) (drop index taken) size
 
--- the search for so many bytes has come after the first so many of the taken parts, to this place
-pub record IsReached (taken : List Part) (size bytes index place : ℕ) : Type 0 where
-  pub within : index ≤ length taken
-  pub behind : LieInOrder 0 (take index taken) place
-  pub ahead : LieInOrder place (drop index taken) size
-  pub none_below : NoneFreeBelow taken size bytes place
+-- before none of the parts so many bytes fit; the hole before the first of them begins at a place
+abbrev pub FitsBeforeNone : ℕ → ℕ → List Part → Type 0
+FitsBeforeNone bytes from [] = Unit {0}
+FitsBeforeNone bytes from (p ∷ ps) = (p.place < from + bytes) × FitsBeforeNone bytes (end_of p) ps
+
+-- so many bytes fit before the part at an index, from a place on, and before no earlier one, where the first has no hole before it
+pub record IsGap (parts : List Part) (index place bytes : ℕ) : Type 0 where
+  pub within : index < length parts
+  pub place_is : (from : ℕ) → place ≡ last_end from (take index parts)
+  pub fits : place + bytes ≤ first_start (drop index parts) 0
+  pub none : FitsBeforeNone bytes (first_start parts 0) (take index parts)
+
+-- so many bytes fit before the part at an index, from a place on, and before no earlier one, where the first hole begins at `from`
+pub record IsFirstHole (parts : List Part) (from index place bytes : ℕ) : Type 0 where
+  pub within : index < length parts
+  pub place_is : place ≡ last_end from (take index parts)
+  pub fits : place + bytes ≤ first_start (drop index parts) 0
+  pub none : FitsBeforeNone bytes from (take index parts)
+
+-- where the parts start and end, both 0 without a part, and how wide a hole between two of them is at most
+pub record IsSummed (parts : List Part) (start end widest : ℕ) : Type 0 where
+  pub start_is : start ≡ first_start parts 0
+  pub end_is : end ≡ last_end 0 parts
+  pub bounded : FitsBeforeNone (widest + 1) (first_start parts 0) parts
+
+-- the first so many of the parts end at this place, and so many bytes fit before none of them
+pub record IsPassed (parts : List Part) (bytes index place : ℕ) : Type 0 where
+  pub within : index ≤ length parts
+  pub place_is : place ≡ last_end (first_start parts 0) (take index parts)
+  pub none : FitsBeforeNone bytes (first_start parts 0) (take index parts)

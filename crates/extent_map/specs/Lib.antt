@@ -1,3 +1,5 @@
 pub mod Parts
 pub mod Spaces
 pub mod Holes
+pub mod Chunks
+pub mod Kept

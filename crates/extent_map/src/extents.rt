@@ -1,42 +1,52 @@
 //! The taken parts of a space: how parts are taken, claimed and given back.
-ghost use Rattle.std.specs.Prelude.{◌≡◌, ◌+◌, ◌<◌, ◌≤◌, [], ◌↔◌, Contains, IfSome, IfNone, IfOk, IsOk, OnOk, OnErr, IsTrue, IsFalse, insert, vec_len, vec_capacity};
+ghost use Rattle.std.specs.Prelude.{◌≡◌, ◌+◌, ◌^◌, ◌<◌, ◌≤◌, [], ◌↔◌, Contains, IfSome, IfNone, IfOk, IsOk, OnOk, OnErr, IsTrue, IsFalse};
 ghost use Rattle.extent_map.specs.Parts.{part_at};
 
-use crate::holes::{hole_at, index_of, lowest_hole};
+use crate::chunk::{Chunk, ROOM};
+use crate::chunks::{free_spot, lowest_hole, spot_of};
+use crate::edits::{enter, grow, leave, prepare};
 use crate::part::Part;
 use std::alloc::{AllocError, Global};
 use std::marker::Model;
 
-/// Enters a part before the one at an index, with no memory taken.
-fn enter(parts: &mut Vec<Part>, index: usize, part: Part)
-    requires room { vec_len parts.old < vec_capacity parts.old }
-    requires within { index ≤ vec_len parts.old }
-    ensures items { parts.new.items ≡ insert parts.old.items index part }
-    ensures len { vec_len parts.new ≡ vec_len parts.old + 1 }
-    ensures capacity { vec_capacity parts.new ≡ vec_capacity parts.old }
+/// How many parts there will be room for in all, where so many are to be taken beside those that are.
+fn needed(taken: usize, parts: u32) -> Result<usize, AllocError>
+    ensures { IfOk result (λ room. (room ≡ taken + parts) × (room < 2 ^ 62)) }
 {
-    let _ = parts.insert(index, part);
+    let parts = parts as usize;
+    if taken >= (1 << 62) - parts {
+        return Err(AllocError);
+    }
+    Ok(taken + parts)
 }
 
 /// A space of bytes, of which parts are taken. Contracts see the taken parts in order of place, the size of the space and
 /// how many parts can be taken with no more memory.
+///
+/// As long as no two chunks side by side fit into one, the chunks hold on the average more than half of what they have
+/// room for. So half of that room can be promised, however the parts come to lie.
 #[derive(Drop)]
 pub struct Extents {
-    parts: Vec<Part>,
+    chunks: Vec<Chunk>,
     size: u64,
+    /// How many parts are taken.
+    taken: usize,
+    /// How many parts can be taken in all with no more memory.
+    room: usize,
 }
 
 impl Model for Extents {
-    ghost use Rattle.std.specs.Prelude.{◌-◌, vec_len, vec_capacity};
+    ghost use Rattle.std.specs.Prelude.{◌-◌};
     ghost use Rattle.extent_map.specs.Spaces.{Space};
 
     ghost Value = { Space };
 
-    ghost use Rattle.extent_map.specs.Parts.{LieInOrder};
+    ghost use Rattle.extent_map.specs.Chunks.{all_parts};
+    ghost use Rattle.extent_map.specs.Kept.{IsKept};
 
-    ghost view = { λ e. record { parts = e.parts.items; size = e.size; spare = vec_capacity e.parts - vec_len e.parts } };
+    ghost view = { λ e. record { parts = all_parts e.chunks.items; size = e.size; spare = e.room - e.taken } };
 
-    ghost invariant = { λ e. LieInOrder 0 e.parts.items e.size };
+    ghost invariant = { λ e. IsKept e.chunks.items e.size e.taken e.room };
 }
 
 impl Extents {
@@ -48,8 +58,10 @@ impl Extents {
         ensures size { IfOk result (λ e. e.size ≡ size) }
     {
         Ok(Extents {
-            parts: Vec::new(alloc),
+            chunks: Vec::new(alloc),
             size,
+            taken: 0,
+            room: 0,
         })
     }
 
@@ -58,11 +70,11 @@ impl Extents {
         ensures spare { result ≡ self.now.spare }
         ensures sound { IsSound self.now }
     {
-        self.parts.capacity() - self.parts.len()
+        self.room - self.taken
     }
 
     /// Gets the memory for so many parts to be taken. `AllocError` where memory runs out; all is then as before.
-    pub fn reserve(&mut self, _alloc: Global, parts: u32) -> Result<(), AllocError>
+    pub fn reserve(&mut self, alloc: Global, parts: u32) -> Result<(), AllocError>
         ensures spare { OnOk result (parts ≤ self.new.spare) }
         ensures enough { parts ≤ self.old.spare → IsOk result }
         ensures no_less { self.old.spare ≤ self.new.spare }
@@ -70,7 +82,13 @@ impl Extents {
         ensures same_size { self.new.size ≡ self.old.size }
         ensures err { OnErr result (self.new ≡ self.old) }
     {
-        self.parts.reserve(parts as usize)
+        if parts as usize <= self.room - self.taken {
+            return Ok(());
+        }
+        let room = needed(self.taken, parts)?;
+        grow(&mut self.chunks, alloc, 2 * (room / ROOM + 1))?;
+        self.room = room;
+        Ok(())
     }
 
     /// Takes a part of so many bytes at the lowest place where they are free; `None` exactly where they are free nowhere.
@@ -84,9 +102,16 @@ impl Extents {
         ensures unchanged { IfNone result (self.new ≡ self.old) }
         ensures sound { IsSound self.new }
     {
-        let hole = lowest_hole(self.parts.as_slice(), self.size, length)?;
-        let place = hole.place;
-        enter(&mut self.parts, hole.index, Part { place, length });
+        prepare(&mut self.chunks, self.size);
+        let found = lowest_hole(self.chunks.as_slice(), self.size, length)?;
+        let place = found.place;
+        enter(
+            &mut self.chunks,
+            self.size,
+            found.spot,
+            Part { place, length },
+        );
+        self.taken += 1;
         Some(place)
     }
 
@@ -96,8 +121,9 @@ impl Extents {
         ensures given { IsTaken self.new (part_at place length) self.old }
         ensures sound { IsSound self.new }
     {
-        let index = index_of(self.parts.as_slice(), Part { place, length });
-        self.parts.remove(index);
+        let spot = spot_of(self.chunks.as_slice(), self.size, Part { place, length });
+        leave(&mut self.chunks, self.size, spot);
+        self.taken -= 1;
     }
 
     /// Takes the part of so many bytes at a place, and tells whether it was free.
@@ -109,9 +135,11 @@ impl Extents {
         ensures unchanged { IsFalse result → self.new ≡ self.old }
         ensures sound { IsSound self.new }
     {
-        match hole_at(self.parts.as_slice(), self.size, place, length) {
-            Some(index) => {
-                enter(&mut self.parts, index, Part { place, length });
+        prepare(&mut self.chunks, self.size);
+        match free_spot(self.chunks.as_slice(), self.size, place, length) {
+            Some(spot) => {
+                enter(&mut self.chunks, self.size, spot, Part { place, length });
+                self.taken += 1;
                 true
             }
             None => false,

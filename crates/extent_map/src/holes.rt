@@ -1,40 +1,16 @@
 //! Holes between parts that lie in order.
 ghost use Rattle.std.specs.Prelude.{◌≡◌, ◌+◌, ◌<◌, ◌≤◌, IfSome, IfNone, All, AllPairs, Contains, length, slice_index_or, take, drop, nat_le};
 ghost use Rattle.extent_map.specs.Parts.{part_at, LieInOrder};
-ghost use Rattle.extent_map.specs.Spaces.{IsFree, NoneFree, NoneFreeBelow};
+ghost use Rattle.extent_map.specs.Spaces.{IsFree};
 ghost use Rattle.extent_map.specs.Holes.{first_start, last_end, IsHole};
 
-use crate::part::{Hole, Part};
+use crate::part::Part;
 
 /// Whether so many bytes from a place on end at or before another place.
 pub fn fits(place: u64, bytes: u32, high: u64) -> bool
     ensures { result ≡ nat_le (place + bytes) high }
 {
     place <= high && u64::from(bytes) <= high - place
-}
-
-/// The lowest hole in which a part of so many bytes fits.
-pub fn lowest_hole(parts: &[Part], size: u64, bytes: u32) -> Option<Hole>
-    requires ordered { LieInOrder 0 parts.now size }
-    requires some { 1 ≤ bytes }
-    ensures hole { IfSome result (λ hole. IsHole parts.now size hole.index (part_at hole.place bytes)) }
-    ensures lowest { IfSome result (λ hole. NoneFreeBelow parts.now size bytes hole.place) }
-    ensures none { IfNone result (NoneFree parts.now size bytes) }
-{
-    let mut index = 0;
-    let mut place = 0;
-    while index < parts.len() {
-        let part = parts[index];
-        if fits(place, bytes, part.place) {
-            return Some(Hole { index, place });
-        }
-        place = part.place + u64::from(part.length);
-        index += 1;
-    }
-    if fits(place, bytes, size) {
-        return Some(Hole { index, place });
-    }
-    None
 }
 
 /// How many of the parts start before a place.
@@ -61,7 +37,7 @@ fn end_before(parts: &[Part], size: u64, index: usize) -> u64
 }
 
 /// Where the first part after so many starts; the size where there is none.
-fn start_behind(parts: &[Part], size: u64, index: usize) -> u64
+pub fn start_behind(parts: &[Part], size: u64, index: usize) -> u64
     ensures { result ≡ first_start (drop index parts.now) size }
 {
     if index < parts.len() {
