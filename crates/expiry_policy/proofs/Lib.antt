@@ -1,5 +1,7 @@
-pub mod Held
 pub mod Orders
 pub mod Finds
 pub mod First
 pub mod Choices
+pub mod Winners
+pub mod Rankings
+pub mod Lookups
