@@ -62,6 +62,14 @@ is_some-map f (Some x) = refl
 pub is_some-use_in : (m : MetaKey) (es : Entries) → is_some (use_in (uses_of es) m) ≡ is_some (lookup (same_meta m) es)
 is_some-use_in m es = ap is_some (use_in-lookup m es) ∙ is_some-map (λ t. as_use (m, t)) (lookup (same_meta m) es)
 
+-- a key that has no use is not looked up
+pub absent_lookup : (m : MetaKey) (es : Entries) → use_in (uses_of es) m ≡ None → lookup (same_meta m) es ≡ None
+absent_lookup m es e = by (lookup (same_meta m) es) (sym (use_in-lookup m es) ∙ e)
+  where
+    by : (o : Option Tally) → option_map (λ t. as_use (m, t)) o ≡ None → o ≡ None
+    by None e = refl
+    by (Some t) e = absurd (cc)
+
 -- the use that the key of an entry is found to have
 pub found_use : (m : MetaKey) (t : Tally) (es : Entries) → lookup (same_meta m) es ≡ Some t → use_in (uses_of es) m ≡ Some (as_use (m, t))
 found_use m t es e = use_in-lookup m es ∙ ap (option_map (λ t. as_use (m, t))) e

@@ -1,8 +1,9 @@
 -- How a tournament stays right through a change, and that its first winner goes first.
 use Rattle.std.proofs.Common.{ℕ, ◌≡◌, ◌≢◌, ◌+◌, ◌-◌, ◌*◌, ◌/◌, ◌<◌, ◌≤◌, ◌&&◌, ◌⊎◌, inl, inr, eqb, suc, zero, Bool, true, false, cond, nat_lt, refl, sym, ap, subst, ◌∙◌, arith}
 use borrow.Author.Tests.{ltb-true, ltb-false}
-use Rattle.std.proofs.Common.{List, length, slice_index, slice_set, get_or-set_same, get_or-set_other, length-set}
+use Rattle.std.proofs.Common.{List, length, slice_index, slice_set, get_or-set_same, get_or-set_other, length-set, length-append, length-take-le, take, get_or-take, [], ◌∷◌, ◌++◌}
 use Rattle.std.proofs.lemmas.Bool.Decides.{eqb_tells}
+use Rattle.std.proofs.lemmas.List.{get_or_append_left}
 use Rattle.expiry_policy.specs.Tournaments.{above, IsAbove, itself, higher, Wins, IsRanked, IsRankedBut, pick}
 
 -- what holds of a test of which of two goes first
@@ -278,3 +279,17 @@ module _ (goes : ℕ → ℕ → Bool) where
                   inr (e.0, e.1, few, e.3, e.4 ∙ sym (kept e.0 few))
             ];
           }))
+
+  -- the same on lists
+  pub ranked_popped : (ws vs : List ℕ) (n : ℕ) → n ≡ length ws → 0 < n → vs ≡ take (n - 1) ws → IsRanked goes (length ws) (slice_index ws) → IsRankedBut goes (length vs) (slice_index vs) (above (length vs))
+  ranked_popped ws vs n size some is all =
+      let few : length vs ≡ n - 1 = ap length is ∙ length-take-le (n - 1) ws (omega arith) in
+      let more : length ws ≡ length vs + 1 = omega arith in
+      ranked_but_first (length vs) (slice_index ws) (slice_index vs) (subst (λ k. IsRanked goes k (slice_index ws)) more all)
+          (λ i lt. ap (λ zs. slice_index zs i) is ∙ get_or-take (n - 1) ws i 0 (omega arith))
+
+  pub ranked_pushed : (ws vs : List ℕ) (n x : ℕ) → n ≡ length ws → vs ≡ ws ++ x ∷ [] → IsRanked goes (length ws) (slice_index ws) → IsRankedBut goes (length vs) (slice_index vs) n
+  ranked_pushed ws vs n x size is all =
+      let more : length vs ≡ length ws + 1 = ap length is ∙ length-append ws (x ∷ []) in
+      subst (IsRankedBut goes (length vs) (slice_index vs)) (sym size) (subst (λ k. IsRankedBut goes k (slice_index vs) (length ws)) (sym more)
+          (ranked_but_last goes goes (length ws) (slice_index ws) (slice_index vs) all (λ i j h k. refl) (λ i lt. ap (λ zs. slice_index zs i) is ∙ get_or_append_left ws (x ∷ []) 0 i lt)))
