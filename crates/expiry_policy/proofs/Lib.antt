@@ -5,3 +5,4 @@ pub mod Choices
 pub mod Winners
 pub mod Rankings
 pub mod Lookups
+pub mod Changes

@@ -74,6 +74,9 @@ absent_lookup m es e = by (lookup (same_meta m) es) (sym (use_in-lookup m es) �
 pub found_use : (m : MetaKey) (t : Tally) (es : Entries) → lookup (same_meta m) es ≡ Some t → use_in (uses_of es) m ≡ Some (as_use (m, t))
 found_use m t es e = use_in-lookup m es ∙ ap (option_map (λ t. as_use (m, t))) e
 
+pub absent_use : (m : MetaKey) (es : Entries) → lookup (same_meta m) es ≡ None → use_in (uses_of es) m ≡ None
+absent_use m es e = use_in-lookup m es ∙ ap (option_map (λ t. as_use (m, t))) e
+
 -- what is found stands at an index
 pub found_at : (m : MetaKey) (es : Entries) (u : Use) → use_in (uses_of es) m ≡ Some u → (i : ℕ) × (i < length es) × (use_at es i ≡ u)
 unfolding use_at

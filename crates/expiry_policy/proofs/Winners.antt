@@ -232,6 +232,18 @@ module _ (goes later : ℕ → ℕ → Bool) where
             from = w.from;
           })
 
+  -- the same entries, under another test that agrees on them
+  pub ranked_alike : (count : ℕ) (winner : ℕ → ℕ) → IsRanked goes count winner → ((i j : ℕ) → i < count → j < count → later i j ≡ goes i j) → IsRanked later count winner
+  ranked_alike count winner all same = record { right = λ k lt.
+      let w = all.right k lt in
+      record {
+        within = w.within;
+        own = same k (winner k) lt w.within ∙ w.own;
+        beneath = λ c some few e. same (winner c) (winner k) (all.right c few).within w.within ∙ w.beneath c some few e;
+        from = w.from;
+      }
+  }
+
   -- one entry more is the last
   pub ranked_but_last : (count : ℕ) (winner new : ℕ → ℕ) → IsRanked goes count winner → ((i j : ℕ) → i < count → j < count → later i j ≡ goes i j) → ((i : ℕ) → i < count → new i ≡ winner i) → IsRankedBut later (count + 1) new count
   ranked_but_last count winner new all same kept = record { right = λ k lt. by k lt (tells k count) }

@@ -100,7 +100,7 @@ impl Tournament {
         ensures order { self.new.order ≡ self.old.order }
         ensures size { length self.new.winners.items ≡ length self.old.winners.items }
         ensures capacity { vec_capacity self.new.winners ≡ vec_capacity self.old.winners }
-        ensures ranked { IsRanked (goes self.old.order held.now.entries) (length self.new.winners.items) (slice_index self.new.winners.items) }
+        ensures ranked { IsRanked (goes self.new.order held.now.entries) (length self.new.winners.items) (slice_index self.new.winners.items) }
     {
         if at < self.winners.len() {
             settle_from(self.order, held, self.winners.as_mut_slice(), at);
@@ -115,7 +115,7 @@ impl Tournament {
         ensures order { self.new.order ≡ self.old.order }
         ensures size { length self.new.winners.items ≡ length self.old.winners.items + 1 }
         ensures capacity { vec_capacity self.new.winners ≡ vec_capacity self.old.winners }
-        ensures ranked { IsRanked (goes self.old.order held.now.entries) (length self.new.winners.items) (slice_index self.new.winners.items) }
+        ensures ranked { IsRanked (goes self.new.order held.now.entries) (length self.new.winners.items) (slice_index self.new.winners.items) }
     {
         let last = self.winners.len();
         self.winners.push_reserved(last);
@@ -130,7 +130,7 @@ impl Tournament {
         ensures order { self.new.order ≡ self.old.order }
         ensures size { length self.new.winners.items + 1 ≡ length self.old.winners.items }
         ensures capacity { vec_capacity self.new.winners ≡ vec_capacity self.old.winners }
-        ensures ranked { IsRanked (goes self.old.order held.now.entries) (length self.new.winners.items) (slice_index self.new.winners.items) }
+        ensures ranked { IsRanked (goes self.new.order held.now.entries) (length self.new.winners.items) (slice_index self.new.winners.items) }
     {
         self.winners.pop();
         let last = self.winners.len();
