@@ -1,5 +1,5 @@
 -- How a layer's uses and their tournaments go through a change of its entries.
-use Rattle.std.proofs.Common.{ℕ, ◌≡◌, ◌≢◌, ◌<◌, Bool, true, false, cond, List, length, slice_index, slice_get, Option, Some, refl, sym, ap, subst, ◌∙◌}
+use Rattle.std.proofs.Common.{ℕ, ◌≡◌, ◌≢◌, ◌<◌, Bool, true, false, cond, List, length, slice_index, slice_get, Option, None, Some, refl, sym, ap, subst, ◌∙◌}
 use Rattle.catalog.specs.declared.catalogue.Policy.{Policy}
 use Rattle.metatile_plan.proofs.Same.{same_meta_is}
 use Rattle.metatile_plan.specs.declared.metatile.MetaKey.{MetaKey}
@@ -33,6 +33,14 @@ still_numbered number k w us vs old here each m u e = by (same_meta m k) refl (s
     by : (b : Bool) → same_meta m k ≡ b → cond b w (use_in us m) ≡ Some u → m.theme.layer ≡ number
     by true is _ = ap (λ (n : MetaKey). n.theme.layer) (same_meta_is m k is) ∙ here
     by false is f = old m u f
+
+pub fewer_numbered : (number : ℕ) (k : MetaKey) (us vs : List Use) → ((m : MetaKey) (u : Use) → use_in us m ≡ Some u → m.theme.layer ≡ number)
+    → ((m : MetaKey) → use_in vs m ≡ cond (same_meta m k) None (use_in us m)) → (m : MetaKey) (u : Use) → use_in vs m ≡ Some u → m.theme.layer ≡ number
+fewer_numbered number k us vs old each m u e = by (same_meta m k) (sym (each m) ∙ e)
+  where
+    by : (b : Bool) → cond b None (use_in us m) ≡ Some u → m.theme.layer ≡ number
+    by true f = absurd (cc)
+    by false f = old m u f
 
 -- the order of a tournament stays
 pub still_ordered : (r : Ranking) (old new : Order) → new ≡ old → old ≡ record { policy = old.policy; ranking = r } → new ≡ record { policy = new.policy; ranking = r }

@@ -6,3 +6,4 @@ pub mod Winners
 pub mod Rankings
 pub mod Lookups
 pub mod Changes
+pub mod FirstOfAll
