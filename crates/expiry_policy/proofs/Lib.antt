@@ -7,3 +7,4 @@ pub mod Rankings
 pub mod Lookups
 pub mod Changes
 pub mod FirstOfAll
+pub mod AllLayers
