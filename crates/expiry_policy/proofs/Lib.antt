@@ -8,3 +8,4 @@ pub mod Lookups
 pub mod Changes
 pub mod FirstOfAll
 pub mod AllLayers
+pub mod Together
