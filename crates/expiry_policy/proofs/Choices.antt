@@ -15,10 +15,10 @@ use Rattle.expiry_policy.proofs.First.{leader, leader_none}
 use Rattle.expiry_policy.specs.declared.uses.Use.{Use}
 use Rattle.expiry_policy.specs.Victims.{in_scope, is_before, is_first, is_of, rank, victim}
 
-abbrev cmp_ranks : Policy → Use → Use → Ordering
+abbrev pub cmp_ranks : Policy → Use → Use → Ordering
 cmp_ranks p = on (rank p) (slice_cmp nat_cmp)
 
-ranks_total : (p : Policy) → IsTotalOrder (cmp_ranks p)
+pub ranks_total : (p : Policy) → IsTotalOrder (cmp_ranks p)
 ranks_total p = on_texts (rank p)
 
 -- THE VICTIM

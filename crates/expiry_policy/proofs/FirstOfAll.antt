@@ -74,6 +74,7 @@ wider_first o test wider uses more bare (Some u) leads = record { held = leads.h
   where
     none_some : {w : Use} → None ≡ Some w → ⊥
     none_some e = cc
+
     by : (n : MetaKey) (v : Use) → wider n ≡ true → uses n ≡ Some v → (b : Bool) → test n ≡ b → precedes o v u ≡ false
     by n v h e true t = leads.before n v t e
     by n v h e false t = absurd (none_some (sym (bare n h t) ∙ e))
@@ -82,7 +83,7 @@ wider_first o test wider uses more bare (Some u) leads = record { held = leads.h
 pub first_of_layers : (o : Order) (layers : List OfLayer) (count : ℕ) (first : Option Use) → length layers ≤ count → IsFirst o (is_below count) (use_among layers) first → IsFirst o (λ _. true) (use_among layers) first
 first_of_layers o layers count first all is =
     wider_first o (is_below count) (λ _. true) (use_among layers) (λ n h. refl)
-        (λ n h e. let past = ltb-false n.theme.layer count e in ap (option_and_then (λ (l : OfLayer). use_in l.uses n)) (slice_get_past layers n.theme.layer (omega arith))) first is
+    (λ n h e. let past = ltb-false n.theme.layer count e in ap (option_and_then (λ (l : OfLayer). use_in l.uses n)) (slice_get_past layers n.theme.layer (omega arith))) first is
 
 -- before any layer
 pub first_of_none : (o : Order) (uses : MetaKey → Option Use) → IsFirst o (is_below 0) uses None

@@ -9,3 +9,4 @@ pub mod Changes
 pub mod FirstOfAll
 pub mod AllLayers
 pub mod Together
+pub mod OneVictim

@@ -86,6 +86,7 @@ module _ (layers : List OfLayer) (at : ℕ) (l new : OfLayer) (got : slice_get l
       elsewhere : m.theme.layer ≢ at → (b : Bool) → same_meta m k ≡ b → use_among layers m ≡ cond b w (use_among layers m)
       elsewhere n true is = absurd (n (ap (λ (k : MetaKey). k.theme.layer) (same_meta_is m k is) ∙ here))
       elsewhere n false is = refl
+
       by : ((eqb m.theme.layer at ≡ true) × (m.theme.layer ≡ at)) ⊎ ((eqb m.theme.layer at ≡ false) × (m.theme.layer ≢ at)) → use_among (set layers at new) m ≡ cond (same_meta m k) w (use_among layers m)
       by (inl e) = use_of_layer (set layers at new) new m at (slice_get-set_same layers at new lt) e.1 ∙ each m ∙ ap (cond (same_meta m k) w) (sym (use_of_layer layers l m at got e.1))
       by (inr n) = ap (option_and_then (λ (l : OfLayer). use_in l.uses m)) (slice_get-set_other layers at m.theme.layer new n.1) ∙ elsewhere n.1 (same_meta m k) refl
@@ -150,11 +151,14 @@ unsaved_first p uses meta (Some u) leads = by (u.uses == u.saved) refl
       | inl f ↦ f.1
       | inr f ↦ let no_later = leads.before n v refl e in let before = unsaved_precedes p v u f.0 saved in absurd (cc)
     ]
-    by false open_ = (u, record {
-      held = leads.held;
-      unsaved = λ same. let saved = eq-eqb u.uses u.saved same in absurd (cc);
-      least = λ n v e f. subst (λ k. is_lt (slice_cmp nat_cmp (fields k) (fields u.meta)) ≡ false) (meta n v e) (sym (unsaved_by_keys p v u (differ v.uses v.saved f) open_) ∙ leads.before n v refl e);
-    })
+    by false open_ = (
+      u,
+      record {
+        held = leads.held;
+        unsaved = λ same. let saved = eq-eqb u.uses u.saved same in absurd (cc);
+        least = λ n v e f. subst (λ k. is_lt (slice_cmp nat_cmp (fields k) (fields u.meta)) ≡ false) (meta n v e) (sym (unsaved_by_keys p v u (differ v.uses v.saved f) open_) ∙ leads.before n v refl e);
+      },
+    )
 
 pub unsaved_among : (p : Policy) (layers : List OfLayer) (first : Option Use) → IsFirst (record { ranking = Unsaved; policy = p }) (λ _. true) (use_among layers) first → IsUnsaved (use_among layers) (unsaved_key first)
 unsaved_among p layers first is = unsaved_first p (use_among layers) (meta_among layers) first is

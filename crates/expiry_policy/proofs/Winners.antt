@@ -152,6 +152,7 @@ module _ (goes : ℕ → ℕ → Bool) where
     where
       up_few : above at < count
       up_few = let less = above_below at some in omega arith
+
       by : (k : ℕ) → k < count → ((eqb k at ≡ true) × (k ≡ at)) ⊎ ((eqb k at ≡ false) × (k ≢ at)) → ((eqb k (above at) ≡ true) × (k ≡ above at)) ⊎ ((eqb k (above at) ≡ false) × (k ≢ above at))
           → ((at < count) × IsAbove k at) ⊎ Wins goes count winner k (winner k) → ((above at < count) × IsAbove k (above at)) ⊎ Wins goes count new k (new k)
       by k few (inl e) up known = inr (subst (λ z. Wins goes count new z (new z)) (sym e.1) (right_here count winner new at x is same w))
@@ -177,9 +178,10 @@ module _ (goes : ℕ → ℕ → Bool) where
 
     pub set_more : 0 < at → (above at < length (slice_set ws at x)) × IsRankedBut goes (length (slice_set ws at x)) (slice_index (slice_set ws at x)) (above at)
     set_more some =
-        let less = above_below at some in
-        (subst (λ n. above at < n) (sym (length-set ws at x)) (omega arith),
-         subst (λ n. IsRankedBut goes n (slice_index (slice_set ws at x)) (above at)) (sym (length-set ws at x)) (settled_more (length ws) (slice_index ws) (slice_index (slice_set ws at x)) at x lt but set_here set_elsewhere w some))
+        let less = above_below at some in (
+          subst (λ n. above at < n) (sym (length-set ws at x)) (omega arith),
+          subst (λ n. IsRankedBut goes n (slice_index (slice_set ws at x)) (above at)) (sym (length-set ws at x)) (settled_more (length ws) (slice_index ws) (slice_index (slice_set ws at x)) at x lt but set_here set_elsewhere w some),
+        )
 
   -- WHAT A CHANGE LEAVES RIGHT
 
@@ -234,14 +236,15 @@ module _ (goes later : ℕ → ℕ → Bool) where
 
   -- the same entries, under another test that agrees on them
   pub ranked_alike : (count : ℕ) (winner : ℕ → ℕ) → IsRanked goes count winner → ((i j : ℕ) → i < count → j < count → later i j ≡ goes i j) → IsRanked later count winner
-  ranked_alike count winner all same = record { right = λ k lt.
-      let w = all.right k lt in
-      record {
-        within = w.within;
-        own = same k (winner k) lt w.within ∙ w.own;
-        beneath = λ c some few e. same (winner c) (winner k) (all.right c few).within w.within ∙ w.beneath c some few e;
-        from = w.from;
-      }
+  ranked_alike count winner all same = record {
+    right = λ k lt.
+        let w = all.right k lt in
+        record {
+          within = w.within;
+          own = same k (winner k) lt w.within ∙ w.own;
+          beneath = λ c some few e. same (winner c) (winner k) (all.right c few).within w.within ∙ w.beneath c some few e;
+          from = w.from;
+        };
   }
 
   -- one entry more is the last
@@ -256,7 +259,7 @@ module _ (goes later : ℕ → ℕ → Bool) where
           let w = all.right k few in
           let here = kept k few in
           let within : (c : ℕ) → 0 < c → c < count + 1 → above c ≡ k → c < count =
-              λ c some more e. let past : c ≢ count = λ f. free (subst (IsAbove k) f (higher some (subst (IsAbove k) (sym e) itself))) in omega (arith, past) in
+          λ c some more e. let past : c ≢ count = λ f. free (subst (IsAbove k) f (higher some (subst (IsAbove k) (sym e) itself))) in omega (arith, past) in
           inr (subst (Wins later (count + 1) new k) (sym here) (record {
             within = let small = w.within in omega arith;
             own = same k (winner k) few w.within ∙ w.own;
@@ -298,10 +301,10 @@ module _ (goes : ℕ → ℕ → Bool) where
       let few : length vs ≡ n - 1 = ap length is ∙ length-take-le (n - 1) ws (omega arith) in
       let more : length ws ≡ length vs + 1 = omega arith in
       ranked_but_first (length vs) (slice_index ws) (slice_index vs) (subst (λ k. IsRanked goes k (slice_index ws)) more all)
-          (λ i lt. ap (λ zs. slice_index zs i) is ∙ get_or-take (n - 1) ws i 0 (omega arith))
+      (λ i lt. ap (λ zs. slice_index zs i) is ∙ get_or-take (n - 1) ws i 0 (omega arith))
 
   pub ranked_pushed : (ws vs : List ℕ) (n x : ℕ) → n ≡ length ws → vs ≡ ws ++ x ∷ [] → IsRanked goes (length ws) (slice_index ws) → IsRankedBut goes (length vs) (slice_index vs) n
   ranked_pushed ws vs n x size is all =
       let more : length vs ≡ length ws + 1 = ap length is ∙ length-append ws (x ∷ []) in
       subst (IsRankedBut goes (length vs) (slice_index vs)) (sym size) (subst (λ k. IsRankedBut goes k (slice_index vs) (length ws)) (sym more)
-          (ranked_but_last goes goes (length ws) (slice_index ws) (slice_index vs) all (λ i j h k. refl) (λ i lt. ap (λ zs. slice_index zs i) is ∙ get_or_append_left ws (x ∷ []) 0 i lt)))
+      (ranked_but_last goes goes (length ws) (slice_index ws) (slice_index vs) all (λ i j h k. refl) (λ i lt. ap (λ zs. slice_index zs i) is ∙ get_or_append_left ws (x ∷ []) 0 i lt)))

@@ -59,8 +59,20 @@ impl LayerUses {
         LayerUses {
             number,
             held: IndexMap::new(alloc),
-            expiry: Tournament::new(alloc, Order { ranking: Ranking::Expiry, policy }),
-            unsaved: Tournament::new(alloc, Order { ranking: Ranking::Unsaved, policy }),
+            expiry: Tournament::new(
+                alloc,
+                Order {
+                    ranking: Ranking::Expiry,
+                    policy,
+                },
+            ),
+            unsaved: Tournament::new(
+                alloc,
+                Order {
+                    ranking: Ranking::Unsaved,
+                    policy,
+                },
+            ),
         }
     }
 
@@ -134,12 +146,12 @@ impl LayerUses {
         ensures uses { (m : MetaKey) → use_in self.new.uses m ≡ (if same_meta m meta.now then None else use_in self.old.uses m) }
         ensures spare { self.old.spare ≤ self.new.spare }
     {
-        let at = index_of(&self.held, meta).unwrap();
+        let gone = index_of(&self.held, meta).unwrap();
         // The last entry moves to the place of the one that goes, so both tournaments leave the last out first.
         self.expiry.pop(&self.held);
         self.unsaved.pop(&self.held);
-        take_out(&mut self.held, at);
-        self.expiry.settle(&self.held, at);
-        self.unsaved.settle(&self.held, at);
+        take_out(&mut self.held, gone);
+        self.expiry.settle(&self.held, gone);
+        self.unsaved.settle(&self.held, gone);
     }
 }

@@ -7,9 +7,9 @@
 #![tactic(auto)]
 
 mod held;
+pub mod laws;
 mod layer;
 mod layers;
-pub mod laws;
 mod leading;
 mod order;
 mod tournament;

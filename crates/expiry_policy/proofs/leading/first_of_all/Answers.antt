@@ -19,7 +19,7 @@ looking-preserved c =
     let first = subst (λ p. IsFirst (record { ranking = o.ranking; policy = p }) (λ _. true) (use_in l.uses) next) (c.requires.policy i l at) c.first.ensures.first in
     let number = subst (λ n. IfSome next (λ u. u.meta.theme.layer ≡ n)) (c.requires.number i l at) c.first.ensures.number in
     subst (IsFirst o (is_below (i + 1)) (use_among layers)) (sym c.sooner-first.ensures)
-        (first_more o (use_among layers) (use_in l.uses) i (λ n e. use_of_layer layers l n i at e) c.looking.first next c.looking.invariant first number)
+    (first_more o (use_among layers) (use_in l.uses) i (λ n e. use_of_layer layers l n i at e) c.looking.first next c.looking.invariant first number)
 
 pub returns : goal.returns
 returns c = first_of_layers c.args.order c.args.layers.now c.looking.layer-index c.looking.first (omega arith) c.looking.invariant

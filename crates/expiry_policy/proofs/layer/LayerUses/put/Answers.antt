@@ -20,7 +20,7 @@ settle-requires-in-Some-clause-right c =
 pub invariant_of-self : goal.invariant_of-self
 invariant_of-self c =
     let numbered = still_numbered c.self.inside.number c.args.entry.now.meta (Some c.args.entry.now) (uses_of c.self.inside.held.entries) (uses_of c.change.new.held.entries) c.self.invariant.numbered
-        (c.requires.layer ∙ sym (ap (λ (l : OfLayer). l.number) c.self.view_is)) c.change.ensures.uses in
+    (c.requires.layer ∙ sym (ap (λ (l : OfLayer). l.number) c.self.view_is)) c.change.ensures.uses in
     record {
       numbered = numbered;
       expiry = record {

@@ -13,4 +13,4 @@ settle-requires-clause-right c =
     let size : vec_len old.winners ≡ length old.winners.items = omega arith in
     let node : length new.items - 1 ≡ c.saturating_sub.result = omega arith in
     subst (λ k. IsRankedBut (goes old.order c.args.held.now.entries) (length new.items) (slice_index new.items) (k / 2)) node
-        (ranked_popped (goes old.order c.args.held.now.entries) old.winners.items new.items (vec_len old.winners) size (omega arith) c.pop.ensures.rest c.requires.ranked)
+    (ranked_popped (goes old.order c.args.held.now.entries) old.winners.items new.items (vec_len old.winners) size (omega arith) c.pop.ensures.rest c.requires.ranked)

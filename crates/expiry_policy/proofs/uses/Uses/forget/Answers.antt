@@ -23,7 +23,7 @@ invariant_of-self c =
     let at = c.args.meta.now.theme.layer in
     let room = c.self.invariant.room at c.index_mut.result.now (got c) in
     still_layers c.self.inside.layers.items at c.index_mut.result.now c.remove.new.self (got c) (within c) c.self.inside.policy c.self.inside.spare c.self.inside.spare c.self.invariant
-        c.remove.ensures.number c.remove.ensures.policy (let kept = c.remove.ensures.spare in omega arith) (omega arith)
+    c.remove.ensures.number c.remove.ensures.policy (let kept = c.remove.ensures.spare in omega arith) (omega arith)
 
 pub returns-clause-uses : goal.returns-clause-uses
 returns-clause-uses c = λ m.

@@ -19,7 +19,7 @@ invariant_of-self c =
     let room = c.self.invariant.room at l got in
     let kept = c.put-was_held.ensures.kept c.if-was_held.true in
     still_layers layers at l c.put-was_held.new.self got within c.self.inside.policy c.self.inside.spare c.self.inside.spare c.self.invariant
-        c.put-was_held.ensures.number c.put-was_held.ensures.policy (omega arith) (omega arith)
+    c.put-was_held.ensures.number c.put-was_held.ensures.policy (omega arith) (omega arith)
 
 pub returns-then-was_held-clause-uses : goal.returns-then-was_held-clause-uses
 returns-then-was_held-clause-uses c = λ m.
@@ -42,7 +42,7 @@ invariant_of-self-2 c =
     let room = c.self.invariant.room at l got in
     let less = c.put-was_held.ensures.spare in
     still_layers layers at l c.put-was_held.new.self got within c.self.inside.policy c.self.inside.spare c.saturating_sub-self-inside.result c.self.invariant
-        c.put-was_held.ensures.number c.put-was_held.ensures.policy (omega arith) (omega arith)
+    c.put-was_held.ensures.number c.put-was_held.ensures.policy (omega arith) (omega arith)
 
 pub returns-clause-uses : goal.returns-clause-uses
 returns-clause-uses c = λ m.

@@ -13,4 +13,4 @@ returns c =
     let first = subst (λ ls. IsFirst (record { ranking = Unsaved; policy = p }) (λ _. true) (use_among ls) c.first_of_all.result) c.as_slice.ensures.value c.first_of_all.ensures in
     let least = unsaved_among p layers c.first_of_all.result first in
     subst (λ (v : Counts). IsUnsaved (use_of v) c.unsaved_key.result) c.self.view_is
-        (subst (λ f. IsUnsaved f c.unsaved_key.result) (λ i m. sym (found_among layers m) i) (subst (IsUnsaved (use_among layers)) (sym c.unsaved_key.ensures) least))
+    (subst (λ f. IsUnsaved f c.unsaved_key.result) (λ i m. sym (found_among layers m) i) (subst (IsUnsaved (use_among layers)) (sym c.unsaved_key.ensures) least))
