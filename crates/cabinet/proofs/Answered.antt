@@ -1,5 +1,5 @@
 -- The rows of commands, from what the parts of a cabinet answer.
-use Rattle.std.proofs.Common.{ℕ, ◌≡◌, ◌+◌, ◌<◌, ◌≤◌, Bool, true, false, cond, not, List, [], ◌∷◌, ◌==◌, length, map, filter, find, fold, Option, Some, None, IsSome, inl, inr, refl, sym, ap, subst, ◌∙◌, arith}
+use Rattle.std.proofs.Common.{ℕ, ◌≡◌, ◌≢◌, ◌+◌, ◌<◌, ◌≤◌, Bool, true, false, cond, not, List, [], ◌∷◌, ◌==◌, length, map, filter, find, fold, Option, Some, None, IsSome, inl, inr, refl, sym, ap, subst, ◌∙◌, arith}
 use Rattle.std.specs.Prelude.{nat_lt}
 use Rattle.std.specs.List.{AllByRecursion}
 use Rattle.std.specs.Option.{option_map}
@@ -9,7 +9,10 @@ use Rattle.std.proofs.lemmas.Grind.{fold-append}
 use Rattle.std.proofs.lemmas.List.{length-map}
 use Rattle.std.proofs.lemmas.List.Sums.{length-filter}
 use Rattle.catalog.specs.declared.catalogue.Scope.{Scope}
-use Rattle.expiry_policy.specs.Victims.{victim}
+use Rattle.expiry_policy.specs.declared.uses.Use.{Use}
+use Rattle.expiry_policy.specs.Victims.{IsVictim, victim}
+use Rattle.expiry_policy.specs.Victims as uses
+use Rattle.expiry_policy.proofs.OneVictim.{one_victim}
 use Rattle.matrix_geometry.specs.declared.address.Address.{Address}
 use Rattle.metatile_plan.specs.declared.metatile.MetaKey.{MetaKey}
 use Rattle.metatile_plan.proofs.Same.{same_meta_is}
@@ -21,7 +24,7 @@ use Rattle.truncation_list.specs.Purge.{purged}
 use Rattle.metatile_locks.specs.declared.render.Render.{Render}
 use Rattle.metatile_locks.specs.Running.{IsLeast, has_number, render_of, unmarked}
 use Rattle.metatile_locks.specs.Tickets.{Ticketed}
-use Rattle.metatile_locks.proofs.Lists.{all_filter, all_map, found}
+use Rattle.metatile_locks.proofs.Lists.{all_filter, all_map, all_weaker, found}
 use Rattle.metatile_locks.proofs.Runs.{one}
 use Rattle.cabinet.specs.declared.entry.Entry.TheVariants as entry
 use Rattle.cabinet.specs.declared.kept.Kept.{Kept}
@@ -35,13 +38,15 @@ use Rattle.cabinet.specs.declared.shelving.Shelving.TheVariants as shelving
 use Rattle.cabinet.specs.Commands.{Cuts, Expires, Finishes, Forces, IsHit, kept_at, others, place_for}
 use Rattle.cabinet.specs.Consistent.{IsConsistent, Parts, seen}
 use Rattle.cabinet.specs.Counted.{kept_in, part_of, scope_exceeded, use_of, uses_of}
+use Rattle.cabinet.specs.Fresh.{ApartBy}
 use Rattle.cabinet.specs.Gaps.{gap_for}
 use Rattle.cabinet.specs.History.{History, Standing, but, is_of, kept_of, least_of, lesser, next, numbers, last_number, whole}
-use Rattle.cabinet.specs.Shelved.{Drops, Reads, Shelved, Shelves, listed, scope_above}
+use Rattle.cabinet.specs.Shelved.{Drops, Reads, Shelved, Shelves, listed, scope_above, use_on}
 use Rattle.cabinet.specs.State.{IsLong, IsPictured, IsSound, State, blobs_with, blobs_without, now, with_blob, with_cut, with_dropped, with_entry}
 use Rattle.cabinet.proofs.Holding.{least_has, least_most}
 use Rattle.cabinet.proofs.Lists.{all_of_map, all_push, find_map}
 use Rattle.cabinet.proofs.Modelled.{some_and_made}
+use Rattle.cabinet.proofs.Once.{once}
 use Rattle.cabinet.proofs.OnShelf.{listed_filter}
 use Rattle.cabinet.proofs.Rows.{goes_kept}
 use Rattle.raster_field.specs.TileText.{tile_text}
@@ -70,6 +75,26 @@ map_numbers (b ∷ bs) = ap (λ (ns : List ℕ). b.kept.number ∷ ns) (map_numb
 -- and with the kept ones
 pub least_is : (least was : Option ℕ) (renders : List Render) (blobs those : List KeptBlob) → IsLeast was renders → least ≡ fold lesser was (map (λ b. b.kept.number) those) → those ≡ blobs → least ≡ least_of (numbers renders (map (λ b. b.kept) blobs))
 least_is least was renders blobs those w e same = e ∙ rw (least_running was renders w, same, fold-append, map_numbers blobs) refl
+
+-- USES
+
+-- what is found of a metatile is of it
+of_key : (f : MetaKey → Use) (m : MetaKey) (ts : List Kept) → option_map (λ t. f m) (find (is_of m) ts) ≡ option_map (λ t. f t.meta) (find (is_of m) ts)
+of_key f m [] = refl
+of_key f m (t ∷ ts) = chosen (is_of m t) refl (of_key f m ts)
+  where
+    chosen : (v : Bool) → is_of m t ≡ v → option_map (λ t. f m) (find (is_of m) ts) ≡ option_map (λ t. f t.meta) (find (is_of m) ts)
+        → option_map (λ t. f m) (cond v (Some t) (find (is_of m) ts)) ≡ option_map (λ t. f t.meta) (cond v (Some t) (find (is_of m) ts))
+    chosen true e ih = ap (λ (n : MetaKey). Some (f n)) (sym (same_meta_is t.meta m e))
+    chosen false e ih = ih
+
+-- the uses of metatiles that differ are apart
+uses_apart : (f : MetaKey → Use) → ((m : MetaKey) → (f m).meta ≡ m) → (ts : List Kept) → ApartBy (λ t. t.meta) ts → uses.AreApart (map (λ t. f t.meta) ts)
+uses_apart f is [] a = tt
+uses_apart f is (t ∷ ts) a = (
+  all_map (λ (x : Kept). f x.meta) (λ u. (f t.meta).meta ≢ u.meta) ts (all_weaker (λ (x : Kept). t.meta ≢ x.meta) (λ x. (f t.meta).meta ≢ (f x.meta).meta) (λ x off e. off (sym (is t.meta) ∙ e ∙ is x.meta)) ts a.0),
+  uses_apart f is ts a.1,
+)
 
 module _ (p : Parts) (h : History) (k : IsConsistent p h) where
   abbrev here : State
@@ -186,18 +211,28 @@ module _ (p : Parts) (h : History) (k : IsConsistent p h) where
   scope_is : (o : Option Scope) → scope_above p.shelf ≡ o → scope_exceeded here ≡ o
   scope_is o e = ap (λ (ts : List Kept). exceeded (accounts p.shelf.catalogue (map part_of ts))) (sym kept_are) ∙ e
 
-  uses_are : p.shelf.uses ≡ uses_of here
-  uses_are = k.uses ∙ ap (map (λ (t : Kept). use_of (whole p.opening h) t.meta)) kept_are
+  uses_are : (m : MetaKey) → use_on p.shelf m ≡ find (uses.is_of m) (uses_of here)
+  uses_are m =
+      k.uses m
+      ∙ ap (λ (ts : List Kept). option_map (λ t. use_of (whole p.opening h) m) (find (is_of m) ts)) kept_are
+      ∙ of_key (use_of (whole p.opening h)) m (now here).kept
+      ∙ sym (find_map (λ (t : Kept). use_of (whole p.opening h) t.meta) (uses.is_of m) (now here).kept)
+
+  -- the victim of the shelf is that of the history
+  victim_is : (scope : Scope) (m : MetaKey) → IsVictim p.shelf.catalogue.policy scope (use_on p.shelf) (Some m) → victim p.shelf.catalogue.policy scope (uses_of here) ≡ Some m
+  victim_is scope m goes =
+      let apart = uses_apart (use_of (whole p.opening h)) (λ n. refl) (now here).kept (once p.shelf.catalogue p.opening h k.known.possible.opens) in
+      sym (one_victim p.shelf.catalogue.policy scope (uses_of here) (Some m) apart (subst (λ (f : MetaKey → Option Use). IsVictim p.shelf.catalogue.policy scope f (Some m)) (λ j n. uses_are n j) goes))
 
   pub within_row : (shelf' : Shelved) (new : State) → Drops p.shelf None shelf' → new ≡ here → Expires here expired.Within new
   within_row shelf' new x is = (scope_is None x.0, is)
 
   pub dropped_row : (m : MetaKey) (shelf' : Shelved) (new : State) → Drops p.shelf (Some m) shelf' → new ≡ with_dropped here m → Expires here (expired.Dropped m) new
-  dropped_row m shelf' new x is = (x.0, scope_is (Some x.0) x.1, ap (victim p.shelf.catalogue.policy x.0) (sym uses_are) ∙ x.2, is)
+  dropped_row m shelf' new x is = (x.0, scope_is (Some x.0) x.1, victim_is x.0 m x.2, is)
 
   -- what goes is kept
   pub goes_listed : (m : MetaKey) (shelf' : Shelved) → Drops p.shelf (Some m) shelf' → IsSome (find (is_of m) (listed p.shelf.blobs))
-  goes_listed m shelf' x = subst (λ (ts : List Kept). IsSome (find (is_of m) ts)) (sym kept_are) (goes_kept here x.0 m (ap (victim p.shelf.catalogue.policy x.0) (sym uses_are) ∙ x.2))
+  goes_listed m shelf' x = subst (λ (ts : List Kept). IsSome (find (is_of m) ts)) (sym kept_are) (goes_kept here x.0 m (victim_is x.0 m x.2))
 
 -- a count that is not told to be at the limit is below it
 pub below_limit : (count limit : ℕ) (told : Bool) → told ≡ false → (limit ≤ count → told ≡ true) → count < limit

@@ -1,13 +1,15 @@
 -- What each command leaves of the parts of a cabinet.
-use Rattle.std.proofs.Common.{ℕ, ◌≡◌, ◌+◌, ◌<◌, ◌≤◌, max, not, List, [], ◌∷◌, ◌++◌, length, map, filter, find, Option, Some, None, refl, sym, ap, subst, ◌∙◌, arith, length-append, append_assoc}
+use Rattle.std.proofs.Common.{ℕ, ◌≡◌, ◌+◌, ◌<◌, ◌≤◌, Bool, true, false, cond, max, not, List, [], ◌∷◌, ◌++◌, length, map, filter, find, Option, Some, None, refl, sym, ap, subst, ◌∙◌, arith, length-append, append_assoc}
 use Rattle.std.specs.Prelude.{IsSome}
 use Rattle.std.specs.List.{AllByRecursion}
+use Rattle.std.specs.Option.{option_map}
 use Rattle.std.proofs.lemmas.List.{length-map}
 use Rattle.catalog.specs.declared.catalogue.Catalogue.{Catalogue}
 use Rattle.expiry_policy.specs.declared.uses.Use.{Use}
-use Rattle.expiry_policy.specs.Victims.{one_more}
-use Rattle.expiry_policy.specs.Victims as victims
+use Rattle.expiry_policy.specs.Victims.{one_more, used_at}
 use Rattle.metatile_plan.specs.declared.metatile.MetaKey.{MetaKey}
+use Rattle.metatile_plan.specs.Keys.{same_meta}
+use Rattle.metatile_plan.proofs.Same.{same_meta_is}
 use Rattle.raster_field.specs.Blocks.{IsMeta, blob_size}
 use Rattle.truncation_list.specs.declared.cover.Cover.{Cover}
 use Rattle.truncation_list.specs.Purge.{IsAbove, added, empty_book, purged}
@@ -24,29 +26,44 @@ use Rattle.cabinet.specs.Counted.{clock, clock_after, use_of}
 use Rattle.cabinet.specs.Gaps.{gap_for}
 use Rattle.cabinet.specs.Hits.{hits_of}
 use Rattle.served_covers.specs.OfCatalogue.{IsCoverOf}
-use Rattle.cabinet.specs.History.{History, Standing, after, but, is_of, least_of, numbers, spared, first_entries, last_number, whole, bare_opening}
+use Rattle.cabinet.specs.History.{History, Standing, after, but, is_of, kept_after, kept_of, least_of, numbers, spared, first_entries, last_number, whole, bare_opening}
 use Rattle.cabinet.specs.Fresh.{Holds, HoldsOfRender, May, cuts_of}
-use Rattle.cabinet.specs.Shelved.{dropping, keeping, listed, sifted, touched_on, with_room, bare, Shelved}
-use Rattle.cabinet.specs.State.{IsKnown, IsLong, now, grown}
+use Rattle.cabinet.specs.Shelved.{Forgets, IsAlike, IsBare, Keeps, Shelved, Sifts, Touches, listed, use_on, with_forgotten, with_kept, with_spared, with_used}
+use Rattle.cabinet.specs.declared.kept.KeptBlob.{KeptBlob}
+use Rattle.cabinet.specs.State.{IsKnown, IsLong, State, fresh_state, now, grown}
 use Rattle.cabinet.proofs.Holding.{above_listed, holds_of, bare_opens}
-use Rattle.cabinet.proofs.Lists.{all_push, map_filter}
+use Rattle.cabinet.proofs.Lists.{all_push}
 use Rattle.cabinet.proofs.OnShelf.{listed_filter, listed_put}
 use Rattle.cabinet.proofs.Rows.{one_more_known, now_more}
-use Rattle.cabinet.proofs.UsesAfter.{clock_more, entered_all, touched_all, use_more}
+use Rattle.cabinet.proofs.Sentences.{kept_step}
+use Rattle.cabinet.proofs.UsesAfter.{clock_more, same_swap, stored_here, stored_then, use_more, used_more}
 use Rattle.catalog.specs.Valid.{IsValid}
 use Rattle.truncation_list.specs.declared.book.Book.{Book}
 
 -- a cabinet in memory in which nothing has happened
-pub at_first : (c : Catalogue) (shelf : Shelved) (renders : List Render) (book : Book) (h : History) → IsValid c → shelf ≡ bare c shelf.room → renders ≡ [] → book ≡ empty_book → h ≡ []
+pub at_first : (c : Catalogue) (shelf : Shelved) (renders : List Render) (book : Book) (h : History) → IsValid c → IsBare c shelf → renders ≡ [] → book ≡ empty_book → h ≡ []
     → IsConsistent (record { opening = bare_opening 0; shelf = shelf; last = 0; renders = renders; book = book }) h
-at_first c shelf renders book h valid bared none empty new =
-    subst (λ (x : Parts × History). IsConsistent x.0 x.1) (λ i. (record { opening = bare_opening 0; shelf = sym bared i; last = 0; renders = sym none i; book = sym empty i }, sym new i)) (record {
-      known = record { valid = valid; number = omega arith; whole = refl; possible = record { opens = bare_opens c 0; follows = tt }; blobs = refl; lengths = tt; left = omega arith };
-      stands = refl;
-      clock_is = refl;
-      uses = refl;
-      room = omega arith;
-    })
+at_first c shelf renders book h valid bare none empty new =
+    let start : State = fresh_state c in
+    let there : seen (record { opening = bare_opening 0; shelf = shelf; last = 0; renders = renders; book = book }) h ≡ start = λ i. record { catalogue = bare.catalogue i; opening = bare_opening 0; history = new i; since = new i; blobs = Some (bare.blobs i) } in
+    record {
+      known = subst IsKnown (sym there) (record { valid = valid; number = omega arith; whole = refl; possible = record { opens = bare_opens c 0; follows = tt }; blobs = refl; lengths = tt; left = omega arith });
+      stands = ap now there ∙ (λ i. record { front = 0; kept = listed (sym bare.blobs i); out = sym none i; book = sym empty i });
+      clock_is = bare.clock ∙ ap clock (sym new);
+      uses = λ m. bare.uses m ∙ (λ i. option_map (λ t. use_of (sym new i) m) (find (is_of m) (listed (sym bare.blobs i))));
+      room = omega (arith, ap length none);
+    }
+
+-- WHAT BECOMES OF THE USE of one metatile
+
+used_key : (v : Bool) (o : Option Kept) (u : Use) (f : Use → Use) → cond v (option_map f (option_map (λ t. u) o)) (option_map (λ t. u) o) ≡ option_map (λ t. cond v (f u) u) o
+used_key true None u f = refl
+used_key true (Some t) u f = refl
+used_key false o u f = refl
+
+left_key : (v : Bool) (o : Option Kept) (u : Use) → cond v None (option_map (λ t. u) o) ≡ option_map (λ t. u) (cond v None o)
+left_key true o u = refl
+left_key false o u = refl
 
 module _ (p : Parts) (h : History) (k : IsConsistent p h) where
   holding : Holds p.shelf.catalogue (cuts_of (whole p.opening h)) (stood p)
@@ -64,7 +81,7 @@ module _ (p : Parts) (h : History) (k : IsConsistent p h) where
 
   -- one entry more
   one_entry : (e : Entry) (g : History) (q : Parts) → g ≡ h ++ e ∷ [] → q.opening ≡ p.opening → q.shelf.catalogue ≡ p.shelf.catalogue → May p.shelf.catalogue (stood p) e → after p.shelf.catalogue (stood p) e ≡ stood q
-      → AllByRecursion (IsLong p.shelf.catalogue) q.shelf.blobs → q.last ≤ last_number p.opening → q.shelf.clock ≡ clock_after (clock (whole p.opening h)) e → q.shelf.uses ≡ map (λ t. use_of (whole p.opening h ++ e ∷ []) t.meta) (listed q.shelf.blobs)
+      → AllByRecursion (IsLong p.shelf.catalogue) q.shelf.blobs → q.last ≤ last_number p.opening → q.shelf.clock ≡ clock_after (clock (whole p.opening h)) e → ((m : MetaKey) → use_on q.shelf m ≡ option_map (λ t. use_of (whole p.opening h ++ e ∷ []) m) (kept_after p.shelf.catalogue m (kept_of m (stood p)) e))
       → length q.renders ≤ q.shelf.room → IsConsistent q g
   one_entry e g q is opens same may gives long left count uses room =
       let gone : after p.shelf.catalogue (now (seen p h)) e ≡ stood q = ap (λ (x : Standing). after p.shelf.catalogue x e) k.stands ∙ gives in
@@ -76,34 +93,42 @@ module _ (p : Parts) (h : History) (k : IsConsistent p h) where
             (subst (λ (x : Standing). x.front ≤ last_number p.opening) (sym gone) left));
         stands = ap now there ∙ now_more (seen p h) e (Some q.shelf.blobs) ∙ gone;
         clock_is = count ∙ sym (clock_more (whole p.opening h) e) ∙ ap clock (sym past);
-        uses = uses ∙ ap (λ (x : History). map (λ t. use_of x t.meta) (listed q.shelf.blobs)) (sym past);
+        uses = λ m. uses m ∙ (λ i. option_map (λ t. use_of (sym past i) m) ((sym (kept_step p.shelf.catalogue m (stood p) e) ∙ ap (kept_of m) gives) i));
         room = room;
       }
 
+  -- the blobs that are left have their lengths
+  all_left_as : {blobs bs : List KeptBlob} → bs ≡ blobs → AllByRecursion (IsLong p.shelf.catalogue) blobs → AllByRecursion (IsLong p.shelf.catalogue) bs
+  all_left_as e a = subst (AllByRecursion (IsLong p.shelf.catalogue)) (sym e) a
+
   -- the uses of what is kept are those of before, where the entry uses nothing
-  as_before : (e : Entry) → ((m : MetaKey) → use_of (whole p.opening h ++ e ∷ []) m ≡ use_of (whole p.opening h) m) → (ts : List Kept) → map (λ t. use_of (whole p.opening h) t.meta) ts ≡ map (λ t. use_of (whole p.opening h ++ e ∷ []) t.meta) ts
-  as_before e same ts = λ i. map (λ t. sym (same t.meta) i) ts
+  as_before : (e : Entry) → ((m : MetaKey) → use_of (whole p.opening h ++ e ∷ []) m ≡ use_of (whole p.opening h) m) → (m : MetaKey) → use_on p.shelf m ≡ option_map (λ t. use_of (whole p.opening h ++ e ∷ []) m) (kept_of m (stood p))
+  as_before e same m = k.uses m ∙ ap (λ (u : Use). option_map (λ t. u) (kept_of m (stood p))) (sym (same m))
 
   -- STARTED
 
-  pub after_started : (m : MetaKey) (room' : ℕ) (g : History) (q : Parts) → g ≡ h ++ entry.Started (p.last + 1) m ∷ []
-      → q ≡ record { opening = p.opening; shelf = with_room room' p.shelf; last = p.last + 1; renders = begun (p.last + 1) m p.renders; book = p.book }
-      → IsMeta p.shelf.catalogue m → running_for m p.renders ≡ None → p.last < last_number p.opening → length p.renders + 1 ≤ room' → IsConsistent q g
-  after_started m room' g q is e meta none left room =
+  pub after_started : (m : MetaKey) (g : History) (q : Parts) → g ≡ h ++ entry.Started (p.last + 1) m ∷ [] → IsAlike p.shelf q.shelf
+      → q ≡ record { opening = p.opening; shelf = q.shelf; last = p.last + 1; renders = begun (p.last + 1) m p.renders; book = p.book }
+      → IsMeta p.shelf.catalogue m → running_for m p.renders ≡ None → p.last < last_number p.opening → length p.renders + 1 ≤ q.shelf.room → IsConsistent q g
+  after_started m g q is l e meta none left room =
       let higher : max p.last (p.last + 1) ≡ p.last + 1 = omega arith in
       let long = length-append p.renders (unmarked (p.last + 1) m ∷ []) in
       subst (λ (x : Parts). IsConsistent x g) (sym e)
-      (one_entry (entry.Started (p.last + 1) m) g (record { opening = p.opening; shelf = with_room room' p.shelf; last = p.last + 1; renders = begun (p.last + 1) m p.renders; book = p.book }) is refl refl (refl, none, meta)
-      (λ i. record { front = higher i; kept = listed p.shelf.blobs; out = begun (p.last + 1) m p.renders; book = p.book }) k.known.lengths (omega arith) k.clock_is
-      (k.uses ∙ as_before (entry.Started (p.last + 1) m) (use_more (whole p.opening h) (entry.Started (p.last + 1) m)) (listed p.shelf.blobs)) (omega arith))
+      (one_entry (entry.Started (p.last + 1) m) g (record { opening = p.opening; shelf = q.shelf; last = p.last + 1; renders = begun (p.last + 1) m p.renders; book = p.book }) is refl l.catalogue (refl, none, meta)
+      (λ i. record { front = higher i; kept = listed (sym l.blobs i); out = begun (p.last + 1) m p.renders; book = p.book }) (all_left_as l.blobs k.known.lengths) (omega arith) (l.clock ∙ k.clock_is)
+      (λ n. l.uses n ∙ as_before (entry.Started (p.last + 1) m) (use_more (whole p.opening h) (entry.Started (p.last + 1) m)) n) (omega arith))
 
   -- USED
 
-  pub after_used : (m : MetaKey) (g : History) (q : Parts) → g ≡ h ++ entry.Used m ∷ [] → q ≡ record { opening = p.opening; shelf = touched_on m p.shelf; last = p.last; renders = p.renders; book = p.book } → IsSome (find (is_of m) (listed p.shelf.blobs)) → IsConsistent q g
-  after_used m g q is e some =
+  pub after_used : (m : MetaKey) (g : History) (q : Parts) → g ≡ h ++ entry.Used m ∷ [] → Touches m p.shelf q.shelf → q ≡ record { opening = p.opening; shelf = q.shelf; last = p.last; renders = p.renders; book = p.book } → p.shelf.room ≤ q.shelf.room
+      → IsSome (find (is_of m) (listed p.shelf.blobs)) → IsConsistent q g
+  after_used m g q is l e room some =
+      let x = k.room in
       subst (λ (x : Parts). IsConsistent x g) (sym e)
-      (one_entry (entry.Used m) g (record { opening = p.opening; shelf = touched_on m p.shelf; last = p.last; renders = p.renders; book = p.book }) is refl refl some refl k.known.lengths front_left (ap one_more k.clock_is)
-      ((λ i. victims.touched m (one_more (k.clock_is i)) (k.uses i)) ∙ sym (touched_all (whole p.opening h) m (listed p.shelf.blobs))) k.room)
+      (one_entry (entry.Used m) g (record { opening = p.opening; shelf = q.shelf; last = p.last; renders = p.renders; book = p.book }) is refl l.catalogue some
+      (λ i. record { front = p.last; kept = listed (sym l.blobs i); out = p.renders; book = p.book }) (all_left_as l.blobs k.known.lengths) front_left (l.clock ∙ ap one_more k.clock_is)
+      (λ n. l.uses n ∙ (λ i. with_used m (one_more (k.clock_is i)) (λ o. k.uses o i) n) ∙ used_key (same_meta n m) (kept_of n (stood p)) (use_of (whole p.opening h) n) (used_at (one_more (clock (whole p.opening h))))
+      ∙ ap (λ (u : Use). option_map (λ t. u) (kept_of n (stood p))) (sym (used_more (whole p.opening h) m n))) (omega arith))
 
   -- ENDED
 
@@ -113,7 +138,7 @@ module _ (p : Parts) (h : History) (k : IsConsistent p h) where
       let x = k.room in
       subst (λ (x : Parts). IsConsistent x g) (sym e)
       (one_entry (entry.Ended n) g (record { opening = p.opening; shelf = p.shelf; last = p.last; renders = without n p.renders; book = p.book }) is refl refl tt refl k.known.lengths front_left k.clock_is
-      (k.uses ∙ as_before (entry.Ended n) (use_more (whole p.opening h) (entry.Ended n)) (listed p.shelf.blobs)) (omega arith))
+      (as_before (entry.Ended n) (use_more (whole p.opening h) (entry.Ended n))) (omega arith))
 
   -- STORED
 
@@ -121,54 +146,62 @@ module _ (p : Parts) (h : History) (k : IsConsistent p h) where
   pub one_less : (t : Ticketed) (r : Render) → render_of t p.renders ≡ Some r → length (without t.number p.renders) + 1 ≤ length p.renders
   one_less t r e = fewer (is_render_of t) (λ x. not (has_number t.number x)) (λ x is. ap not (both (has_number t.number x) _ is).0) p.renders r e
 
-  pub after_stored : (t : Kept) (text : List ℕ) (room' : ℕ) (g : History) (q : Parts) → g ≡ h ++ entry.Stored t.number t.meta t.place t.length ∷ []
-      → q ≡ record { opening = p.opening; shelf = keeping t text room' p.shelf; last = p.last; renders = without t.number p.renders; book = p.book }
+  -- the use of a metatile after one is stored
+  kept_key : (t : Kept) (n : MetaKey) (v : Bool) → same_meta t.meta n ≡ v
+      → cond (same_meta n t.meta) (Some (record { meta = t.meta; uses = 0; saved = 0; last = one_more (clock (whole p.opening h)) })) (option_map (λ x. use_of (whole p.opening h) n) (kept_of n (stood p)))
+      ≡ option_map (λ x. use_of (whole p.opening h ++ entry.Stored t.number t.meta t.place t.length ∷ []) n) (cond (same_meta t.meta n) (Some t) (kept_of n (stood p)))
+  kept_key t n true e =
+      let is : t.meta ≡ n = same_meta_is t.meta n e in
+      let here : use_of (whole p.opening h ++ entry.Stored t.number t.meta t.place t.length ∷ []) n ≡ record { meta = t.meta; uses = 0; saved = 0; last = one_more (clock (whole p.opening h)) } =
+      ap (use_of (whole p.opening h ++ entry.Stored t.number t.meta t.place t.length ∷ [])) (sym is) ∙ stored_here (whole p.opening h) t.number t.meta t.place t.length in
+      rw (same_swap n t.meta, e) (ap Some (sym here))
+  kept_key t n false e =
+      rw (same_swap n t.meta, e) (ap (λ (u : Use). option_map (λ x. u) (kept_of n (stood p))) (sym (stored_then (whole p.opening h) t.number t.meta t.place t.length n false e)))
+
+  pub after_stored : (t : Kept) (text : List ℕ) (g : History) (q : Parts) → g ≡ h ++ entry.Stored t.number t.meta t.place t.length ∷ [] → Keeps t text p.shelf q.shelf
+      → q ≡ record { opening = p.opening; shelf = q.shelf; last = p.last; renders = without t.number p.renders; book = p.book }
       → render_of (record { number = t.number; meta = t.meta }) p.renders ≡ Some (unmarked t.number t.meta) → length text ≡ t.length → t.length ≡ blob_size p.shelf.catalogue t.meta
-      → gap_for p.shelf.catalogue (listed p.shelf.blobs) t.length ≡ Some t.place → length (but t.meta (listed p.shelf.blobs)) < p.shelf.catalogue.kept_limit
-      → p.shelf.room ≤ room' + 1 → IsConsistent q g
-  after_stored t text room' g q is e runs long size gap few room =
-      let l = one_less (record { number = t.number; meta = t.meta }) (unmarked t.number t.meta) runs in
+      → gap_for p.shelf.catalogue (listed p.shelf.blobs) t.length ≡ Some t.place → length (but t.meta (listed p.shelf.blobs)) < p.shelf.catalogue.kept_limit → p.shelf.room ≤ q.shelf.room + 1 → IsConsistent q g
+  after_stored t text g q is l e runs long size gap few room =
+      let less = one_less (record { number = t.number; meta = t.meta }) (unmarked t.number t.meta) runs in
       let x = k.room in
-      let list = listed_put t text p.shelf.blobs in
+      let list = ap listed l.blobs ∙ listed_put t text p.shelf.blobs in
       subst (λ (x : Parts). IsConsistent x g) (sym e)
-      (one_entry (entry.Stored t.number t.meta t.place t.length) g (record { opening = p.opening; shelf = keeping t text room' p.shelf; last = p.last; renders = without t.number p.renders; book = p.book }) is refl refl (runs, size, gap, few)
+      (one_entry (entry.Stored t.number t.meta t.place t.length) g (record { opening = p.opening; shelf = q.shelf; last = p.last; renders = without t.number p.renders; book = p.book }) is refl l.catalogue (runs, size, gap, few)
       (λ i. record { front = p.last; kept = sym list i; out = without t.number p.renders; book = p.book })
-      (all_push (IsLong p.shelf.catalogue) (filter (λ b. not (is_of t.meta b.kept)) p.shelf.blobs) (record { kept = t; text = text })
-      (all_filter (IsLong p.shelf.catalogue) (λ b. not (is_of t.meta b.kept)) p.shelf.blobs k.known.lengths) (long, size))
-      front_left (ap one_more k.clock_is)
-      ((λ i. victims.entered t.meta (one_more (k.clock_is i)) (k.uses i)) ∙ sym (entered_all (whole p.opening h) t.number t.meta t.place t.length t (listed p.shelf.blobs) refl)
-      ∙ ap (map (λ (x : Kept). use_of (whole p.opening h ++ entry.Stored t.number t.meta t.place t.length ∷ []) x.meta)) (sym list)) (omega arith))
+      (all_left_as l.blobs (all_push (IsLong p.shelf.catalogue) (filter (λ b. not (is_of t.meta b.kept)) p.shelf.blobs) (record { kept = t; text = text })
+      (all_filter (IsLong p.shelf.catalogue) (λ b. not (is_of t.meta b.kept)) p.shelf.blobs k.known.lengths) (long, size)))
+      front_left (l.clock ∙ ap one_more k.clock_is) (λ n. l.uses n ∙ (λ i. with_kept t.meta (one_more (k.clock_is i)) (λ o. k.uses o i) n) ∙ kept_key t n (same_meta t.meta n) refl) (omega arith))
 
   -- DROPPED
 
-  pub after_dropped : (m : MetaKey) (room' : ℕ) (g : History) (q : Parts) → g ≡ h ++ entry.Dropped m ∷ [] → q ≡ record { opening = p.opening; shelf = dropping m room' p.shelf; last = p.last; renders = p.renders; book = p.book }
-      → IsSome (find (is_of m) (listed p.shelf.blobs)) → p.shelf.room ≤ room' → IsConsistent q g
-  after_dropped m room' g q is e some room =
+  pub after_dropped : (m : MetaKey) (g : History) (q : Parts) → g ≡ h ++ entry.Dropped m ∷ [] → Forgets m p.shelf q.shelf → q ≡ record { opening = p.opening; shelf = q.shelf; last = p.last; renders = p.renders; book = p.book }
+      → IsSome (find (is_of m) (listed p.shelf.blobs)) → p.shelf.room ≤ q.shelf.room → IsConsistent q g
+  after_dropped m g q is l e some room =
       let x = k.room in
-      let list = listed_filter (λ t. not (is_of m t)) p.shelf.blobs in
+      let list = ap listed l.blobs ∙ listed_filter (λ t. not (is_of m t)) p.shelf.blobs in
       subst (λ (x : Parts). IsConsistent x g) (sym e)
-      (one_entry (entry.Dropped m) g (record { opening = p.opening; shelf = dropping m room' p.shelf; last = p.last; renders = p.renders; book = p.book }) is refl refl some
-      (λ i. record { front = p.last; kept = sym list i; out = p.renders; book = p.book }) (all_filter (IsLong p.shelf.catalogue) (λ b. not (is_of m b.kept)) p.shelf.blobs k.known.lengths) front_left k.clock_is
-      (ap (victims.but m) k.uses ∙ sym (map_filter (λ (t : Kept). use_of (whole p.opening h) t.meta) (λ u. not (victims.is_of m u)) (listed p.shelf.blobs))
-      ∙ as_before (entry.Dropped m) (use_more (whole p.opening h) (entry.Dropped m)) (but m (listed p.shelf.blobs)) ∙ ap (map (λ (t : Kept). use_of (whole p.opening h ++ entry.Dropped m ∷ []) t.meta)) (sym list)) (omega arith))
+      (one_entry (entry.Dropped m) g (record { opening = p.opening; shelf = q.shelf; last = p.last; renders = p.renders; book = p.book }) is refl l.catalogue some
+      (λ i. record { front = p.last; kept = sym list i; out = p.renders; book = p.book }) (all_left_as l.blobs (all_filter (IsLong p.shelf.catalogue) (λ b. not (is_of m b.kept)) p.shelf.blobs k.known.lengths)) front_left (l.clock ∙ k.clock_is)
+      (λ n. l.uses n ∙ (λ i. with_forgotten m (λ o. k.uses o i) n) ∙ ap (λ (v : Bool). cond v None (option_map (λ t. use_of (whole p.opening h) n) (kept_of n (stood p)))) (same_swap n m) ∙ left_key (same_meta m n) (kept_of n (stood p)) (use_of (whole p.opening h) n)
+      ∙ ap (λ (u : Use). option_map (λ t. u) (cond (same_meta m n) None (kept_of n (stood p)))) (sym (use_more (whole p.opening h) (entry.Dropped m) n))) (omega arith))
 
   -- CUT
 
-  pub after_cut : (cover : Cover) (least : Option ℕ) (room' : ℕ) (g : History) (q : Parts) → g ≡ h ++ entry.Cut (p.last + 1) cover ∷ []
-      → q ≡ record { opening = p.opening; shelf = sifted cover room' p.shelf; last = p.last + 1; renders = overtaken (hits_of p.shelf.catalogue cover) (p.last + 1) p.renders; book = added (p.last + 1) cover least p.book }
+  pub after_cut : (cover : Cover) (least : Option ℕ) (g : History) (q : Parts) → g ≡ h ++ entry.Cut (p.last + 1) cover ∷ [] → Sifts cover p.shelf q.shelf
+      → q ≡ record { opening = p.opening; shelf = q.shelf; last = p.last + 1; renders = overtaken (hits_of p.shelf.catalogue cover) (p.last + 1) p.renders; book = added (p.last + 1) cover least p.book }
       → IsCoverOf p.shelf.catalogue cover → p.last < last_number p.opening → least ≡ least_of (numbers p.renders (listed p.shelf.blobs)) → length (purged (Some cover) least p.book).cuts < p.shelf.catalogue.cut_limit
-      → p.shelf.room ≤ room' → IsConsistent q g
-  after_cut cover least room' g q is e of left low few room =
+      → p.shelf.room ≤ q.shelf.room → IsConsistent q g
+  after_cut cover least g q is l e of left low few room =
       let higher : max p.last (p.last + 1) ≡ p.last + 1 = omega arith in
       let x = k.room in
-      let list = listed_filter (λ t. not (hits_of p.shelf.catalogue cover t.meta)) p.shelf.blobs in
+      let list = ap listed l.blobs ∙ listed_filter (λ t. not (hits_of p.shelf.catalogue cover t.meta)) p.shelf.blobs in
       let same = length-map p.renders (marked (hits_of p.shelf.catalogue cover) (p.last + 1)) in
       subst (λ (x : Parts). IsConsistent x g) (sym e)
       (one_entry (entry.Cut (p.last + 1) cover) g
-      (record { opening = p.opening; shelf = sifted cover room' p.shelf; last = p.last + 1; renders = overtaken (hits_of p.shelf.catalogue cover) (p.last + 1) p.renders; book = added (p.last + 1) cover least p.book }) is refl refl
+      (record { opening = p.opening; shelf = q.shelf; last = p.last + 1; renders = overtaken (hits_of p.shelf.catalogue cover) (p.last + 1) p.renders; book = added (p.last + 1) cover least p.book }) is refl l.catalogue
       (refl, of, subst (λ (x : Option ℕ). length (purged (Some cover) x p.book).cuts < p.shelf.catalogue.cut_limit) low few)
       (λ i. record { front = higher i; kept = sym list i; out = overtaken (hits_of p.shelf.catalogue cover) (p.last + 1) p.renders; book = added (p.last + 1) cover (sym low i) p.book })
-      (all_filter (IsLong p.shelf.catalogue) (λ b. not (hits_of p.shelf.catalogue cover b.kept.meta)) p.shelf.blobs k.known.lengths) (omega arith) k.clock_is
-      (ap (filter (λ (u : Use). not (hits_of p.shelf.catalogue cover u.meta))) k.uses ∙ sym (map_filter (λ (t : Kept). use_of (whole p.opening h) t.meta) (λ u. not (hits_of p.shelf.catalogue cover u.meta)) (listed p.shelf.blobs))
-      ∙ as_before (entry.Cut (p.last + 1) cover) (use_more (whole p.opening h) (entry.Cut (p.last + 1) cover)) (spared p.shelf.catalogue cover (listed p.shelf.blobs))
-      ∙ ap (map (λ (t : Kept). use_of (whole p.opening h ++ entry.Cut (p.last + 1) cover ∷ []) t.meta)) (sym list)) (omega arith))
+      (all_left_as l.blobs (all_filter (IsLong p.shelf.catalogue) (λ b. not (hits_of p.shelf.catalogue cover b.kept.meta)) p.shelf.blobs k.known.lengths)) (omega arith) (l.clock ∙ k.clock_is)
+      (λ n. l.uses n ∙ (λ i. with_spared p.shelf.catalogue cover (λ o. k.uses o i) n) ∙ left_key (hits_of p.shelf.catalogue cover n) (kept_of n (stood p)) (use_of (whole p.opening h) n)
+      ∙ ap (λ (u : Use). option_map (λ t. u) (cond (hits_of p.shelf.catalogue cover n) None (kept_of n (stood p)))) (sym (use_more (whole p.opening h) (entry.Cut (p.last + 1) cover) n))) (omega arith))

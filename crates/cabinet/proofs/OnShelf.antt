@@ -1,49 +1,43 @@
 -- What holds of the parts of a shelf, and what is left of it when a metatile is kept, is dropped, or some are.
 use Rattle.std.proofs.Common.{ℕ, ◌≡◌, ◌+◌, ◌^◌, ◌<◌, ◌≤◌, Bool, true, false, cond, not, ◌||◌, List, [], ◌∷◌, ◌++◌, ◌==◌, length, map, filter, find, Option, Some, None, refl, sym, ap, subst, ◌∙◌, arith, length-append}
-use Rattle.std.specs.Prelude.{Contains, IfNone, IfSome, IsSome}
+use Rattle.std.specs.Prelude.{Contains, IfNone, IfSome, IsSome, is_some}
 use Rattle.std.specs.List.{AllByRecursion, list_any}
-use Rattle.std.specs.Option.{option_map}
+use Rattle.std.specs.Option.{option_map, option_or}
 use Rattle.std.proofs.lemmas.List.{length-map, map-append}
+use Rattle.std.proofs.lemmas.List.Folds.{find-append}
 use Rattle.std.proofs.lemmas.List.Sums.{sum_by-cons}
 use Rattle.catalog.specs.declared.catalogue.Catalogue.{Catalogue}
 use Rattle.catalog.specs.declared.catalogue.Scope.{Scope}
 use Rattle.catalog.specs.Scopes.{is_in}
 use Rattle.expiry_policy.specs.declared.uses.Use.{Use}
-use Rattle.expiry_policy.specs.Victims.{Counts, in_scope, is_held, touched, victim}
+use Rattle.expiry_policy.specs.Victims.{Counts, IsVictim, one_more, use_of}
 use Rattle.expiry_policy.specs.Victims as victims
-use Rattle.expiry_policy.proofs.Choices.{victim_held}
 use Rattle.extent_map.specs.declared.part as extent
 use Rattle.extent_map.specs.Parts.{LieInOrder, inserted, part_at}
 use Rattle.extent_map.specs.Spaces.{IsFree, IsTaken, NoneFree, NoneFreeBelow, Space}
 use Rattle.metatile_plan.specs.declared.metatile.MetaKey.{MetaKey}
 use Rattle.metatile_plan.specs.Keys.{same_meta}
-use Rattle.metatile_plan.proofs.Same.{same_meta_is}
+use Rattle.metatile_plan.proofs.Same.{same_meta_is, same_meta_self}
 use Rattle.quota_ledger.specs.Accounts.{Accounts, Part, accounts, added, exceeded, removed, used_at}
 use Rattle.quota_ledger.specs.Accounts as ledgers
 use Rattle.quota_ledger.proofs.Holding.{holds_some}
 use Rattle.quota_ledger.proofs.Counting.{added_part, same_layers, sums_of}
-use Rattle.metatile_locks.proofs.Lists.{all_filter, few, found, none_passes}
+use Rattle.metatile_locks.proofs.Lists.{all_filter, few, find_filter, found, none_passes}
 use Rattle.cabinet.specs.declared.kept.Kept.{Kept}
 use Rattle.cabinet.specs.declared.kept.KeptBlob.{KeptBlob}
 use Rattle.cabinet.specs.Counted.{part_of}
 use Rattle.cabinet.specs.Gaps.{gap_for, lowest_gap, regions, region}
 use Rattle.cabinet.specs.History.{but, is_of}
-use Rattle.cabinet.specs.Shelved.{IsCountedIn, IsShelved, entering, holding, listed, without}
+use Rattle.cabinet.specs.Shelved.{IsCountedIn, IsShelved, LeavesUses, listed, with_forgotten, with_kept, with_used, without}
 use Rattle.cabinet.specs.State.{IsLong}
 use Rattle.cabinet.proofs.Bytes.{bytes_filter, bytes_within, older_counted, older_out}
-use Rattle.cabinet.proofs.Lists.{all_of, all_push, any_found, any_map, find_map, map_filter, map_twice}
+use Rattle.cabinet.proofs.Lists.{all_of, all_push, any_map, find_map, map_filter}
 use Rattle.cabinet.proofs.Numbers.{apart_filter, apart_push}
 use Rattle.cabinet.proofs.Once.{AreOnce, but_apart, but_none, one_kept}
 use Rattle.cabinet.proofs.Regions.{alone, gap_at, has_inserted, last_of, no_gap, one_of, taken_out}
+use Rattle.cabinet.proofs.Sentences.{but_is, stored_at}
+use Rattle.cabinet.proofs.UsesAfter.{same_swap}
 use Rattle.raster_field.specs.Blocks.{blob_size}
-
-none_passes_any : {X : Type 0} (q : X → Bool) (xs : List X) → filter q xs ≡ [] → list_any q xs ≡ false
-none_passes_any q [] e = refl
-none_passes_any q (x ∷ xs) e = chosen (q x) e (none_passes_any q xs)
-  where
-    chosen : (v : Bool) → cond v (x ∷ filter q xs) (filter q xs) ≡ [] → (filter q xs ≡ [] → list_any q xs ≡ false) → (v || list_any q xs) ≡ false
-    chosen true e ih = absurd (cc)
-    chosen false e ih = ih e
 
 -- the list of those that pass is what passes of the list
 pub listed_filter : (q : Kept → Bool) (blobs : List KeptBlob) → listed (filter (λ b. q b.kept) blobs) ≡ filter q (listed blobs)
@@ -53,18 +47,44 @@ pub listed_put : (t : Kept) (text : List ℕ) (blobs : List KeptBlob) → listed
 listed_put t text blobs =
     map-append (λ (b : KeptBlob). b.kept) (filter (λ b. not (is_of t.meta b.kept)) blobs) (record { kept = t; text = text } ∷ []) ∙ ap (λ (ts : List Kept). ts ++ t ∷ []) (listed_filter (λ x. not (is_of t.meta x)) blobs)
 
--- the keys of those that pass
-keys_filter : (q : MetaKey → Bool) (us : List Use) (blobs : List KeptBlob) → map (λ u. u.meta) us ≡ map (λ b. b.kept.meta) blobs → map (λ u. u.meta) (filter (λ u. q u.meta) us) ≡ map (λ b. b.kept.meta) (filter (λ b. q b.kept.meta) blobs)
-keys_filter q us blobs e = map_filter (λ (u : Use). u.meta) q us ∙ ap (filter q) e ∙ sym (map_filter (λ (b : KeptBlob). b.kept.meta) q blobs)
+-- WHICH METATILES HAVE USES
 
--- a use changes no key
-touched_keys : (m : MetaKey) (at : ℕ) (us : List Use) → map (λ u. u.meta) (touched m at us) ≡ map (λ u. u.meta) us
-touched_keys m at [] = refl
-touched_keys m at (u ∷ us) = (λ i. key_at (same_meta u.meta m) i ∷ touched_keys m at us i)
+some_both : {X Y : Type 0} (v : Bool) (a : Option X) (b : Option Y) → is_some a ≡ is_some b → is_some (cond v a None) ≡ is_some (cond v b None)
+some_both true a b e = e
+some_both false a b e = refl
+
+some_either : {X Y : Type 0} (v : Bool) (x : X) (y : Y) (a : Option X) (b : Option Y) → is_some a ≡ is_some b → is_some (cond v (Some x) a) ≡ is_some (cond v (Some y) b)
+some_either true x y a b e = refl
+some_either false x y a b e = e
+
+some_used : (v : Bool) (f : Use → Use) (o : Option Use) → is_some (cond v (option_map f o) o) ≡ is_some o
+some_used true f None = refl
+some_used true f (Some u) = refl
+some_used false f o = refl
+
+pub turned : {X : Type 0} (v : Bool) (o : Option X) → cond (not v) o None ≡ cond v None o
+turned true o = refl
+turned false o = refl
+
+-- what is found of a metatile where one is put in the place of its older one
+put_is : (k : MetaKey) (t : Kept) (ts : List Kept) → find (is_of k) (but t.meta ts ++ t ∷ []) ≡ cond (same_meta t.meta k) (Some t) (find (is_of k) ts)
+put_is k t ts =
+    find-append (is_of k) (but t.meta ts) (t ∷ []) ∙ ap (λ (f : Option Kept). option_or f (cond (same_meta t.meta k) (Some t) None)) (but_is k t.meta ts) ∙ stored_at t (same_meta t.meta k) (find (is_of k) ts)
+
+-- where something of a scope is kept, one such thing is found
+one_in : (scope : Scope) (ts : List Kept) → list_any (λ t. is_in scope t.meta.theme.layer) ts ≡ true → (t : Kept) × (is_in scope t.meta.theme.layer ≡ true) × (is_some (find (is_of t.meta) ts) ≡ true)
+one_in scope [] e = let f : false ≡ true = e in absurd (cc)
+one_in scope (t ∷ ts) e = chosen (is_in scope t.meta.theme.layer) refl e (one_in scope ts)
   where
-    key_at : (v : Bool) → (cond v (victims.used_at at u) u).meta ≡ u.meta
-    key_at true = refl
-    key_at false = refl
+    later : (u : Kept) (v : Bool) → is_some (find (is_of u.meta) ts) ≡ true → is_some (cond v (Some t) (find (is_of u.meta) ts)) ≡ true
+    later u true h = refl
+    later u false h = h
+
+    chosen : (v : Bool) → is_in scope t.meta.theme.layer ≡ v → (v || list_any (λ t. is_in scope t.meta.theme.layer) ts) ≡ true
+        → (list_any (λ t. is_in scope t.meta.theme.layer) ts ≡ true → (u : Kept) × (is_in scope u.meta.theme.layer ≡ true) × (is_some (find (is_of u.meta) ts) ≡ true))
+        → (u : Kept) × (is_in scope u.meta.theme.layer ≡ true) × (is_some (find (is_of u.meta) (t ∷ ts)) ≡ true)
+    chosen true is e ih = (t, is, rw (same_meta_self t.meta) refl)
+    chosen false is e ih = let r = ih e in (r.0, r.1, later r.0 (same_meta t.meta r.0.meta) r.2)
 
 -- what is found has its metatile's length
 pub found_long : (c : Catalogue) (blobs : List KeptBlob) (m : MetaKey) (b : KeptBlob) → AllByRecursion (IsLong c) blobs → find (λ x. is_of m x.kept) blobs ≡ Some b → length b.text ≡ blob_size c m
@@ -92,20 +112,12 @@ module _ (c : Catalogue) (blobs : List KeptBlob) (space : Space) (ledger : Accou
   pub its_key : (m : MetaKey) (t : Kept) → find (is_of m) (listed blobs) ≡ Some t → t.meta ≡ m
   its_key m t e = same_meta_is t.meta m (found (is_of m) (λ x. Unit {0}) (listed blobs) t (all_of (λ x. Unit {0}) (listed blobs) (λ x has. tt)) e).0
 
-  -- its key is held
-  pub key_held : (m : MetaKey) → IsSome (find (is_of m) (listed blobs)) → is_held m counts.held ≡ true
-  key_held m some = held_at (find (is_of m) (listed blobs)) refl some
-    where
-      held_at : (o : Option Kept) → find (is_of m) (listed blobs) ≡ o → IsSome o → is_held m counts.held ≡ true
-      held_at None e h = absurd (cc)
-      held_at (Some t) e h =
-          sym (any_map (λ (u : Use). u.meta) (λ k. same_meta k m) counts.held)
-          ∙ ap (list_any (λ (k : MetaKey). same_meta k m)) (n.keys ∙ sym (map_twice (λ (b : KeptBlob). b.kept) (λ t. t.meta) blobs))
-          ∙ any_map (λ (t : Kept). t.meta) (λ k. same_meta k m) (listed blobs)
-          ∙ any_found (is_of m) (listed blobs) t e
+  -- it has uses
+  pub key_held : (m : MetaKey) → IsSome (find (is_of m) (listed blobs)) → IsSome (use_of counts m)
+  key_held m some = n.keys m ∙ some
 
-  pub goes_held : (m : MetaKey) (t : Kept) → find (is_of m) (listed blobs) ≡ Some t → is_held t.meta counts.held ≡ true
-  goes_held m t e = subst (λ (key : MetaKey). is_held key counts.held ≡ true) (sym (its_key m t e)) (key_held m (rw e refl))
+  pub goes_held : (m : MetaKey) (t : Kept) → find (is_of m) (listed blobs) ≡ Some t → IsSome (use_of counts t.meta)
+  goes_held m t e = subst (λ (key : MetaKey). IsSome (use_of counts key)) (sym (its_key m t e)) (key_held m (rw e refl))
 
   -- ITS REGION
 
@@ -133,8 +145,8 @@ module _ (c : Catalogue) (blobs : List KeptBlob) (space : Space) (ledger : Accou
       some_at None h e = absurd (cc)
       some_at (Some b) h e = rw e refl
 
-  pub touched_shelved : (m : MetaKey) (at : ℕ) (counts' : Counts) → counts'.policy ≡ counts.policy → counts'.layers ≡ counts.layers → counts'.held ≡ touched m at counts.held → IsShelved c blobs space ledger counts'
-  touched_shelved m at counts' policy layers held = record {
+  pub touched_shelved : (m : MetaKey) (at : ℕ) (counts' : Counts) → counts'.policy ≡ counts.policy → counts'.layers ≡ counts.layers → ((k : MetaKey) → use_of counts' k ≡ with_used m at (use_of counts) k) → IsShelved c blobs space ledger counts'
+  touched_shelved m at counts' policy layers uses = record {
     valid = n.valid;
     once = n.once;
     within = n.within;
@@ -146,15 +158,15 @@ module _ (c : Catalogue) (blobs : List KeptBlob) (space : Space) (ledger : Accou
     bytes = n.bytes;
     policy = policy ∙ n.policy;
     layers = layers ∙ n.layers;
-    keys = ap (map (λ (u : Use). u.meta)) held ∙ touched_keys m at counts.held ∙ n.keys;
+    keys = λ k. ap is_some (uses k) ∙ some_used (same_meta k m) (victims.used_at at) (use_of counts k) ∙ n.keys k;
   }
 
   -- SOME ARE DROPPED
 
   -- what is left where some are kept on
   pub fewer_shelved : (q : MetaKey → Bool) (given : Space) (ledger' : Accounts) (counts' : Counts) → given.parts ≡ regions (filter (λ t. q t.meta) (listed blobs)) → given.size ≡ space.size → LieInOrder 0 given.parts given.size → ledger' ≡ accounts c (map part_of (filter (λ t. q t.meta) (listed blobs)))
-      → counts' ≡ holding (filter (λ u. q u.meta) counts.held) counts'.spare counts → IsShelved c (filter (λ b. q b.kept.meta) blobs) given ledger' counts'
-  fewer_shelved q given ledger' counts' parts size order bytes same =
+      → LeavesUses counts counts.now (λ k. cond (q k) (use_of counts k) None) counts' → IsShelved c (filter (λ b. q b.kept.meta) blobs) given ledger' counts'
+  fewer_shelved q given ledger' counts' parts size order bytes uses =
       let list = listed_filter (λ t. q t.meta) blobs in
       let less = few (λ (b : KeptBlob). q b.kept.meta) blobs in
       let most = n.few in
@@ -168,17 +180,23 @@ module _ (c : Catalogue) (blobs : List KeptBlob) (space : Space) (ledger : Accou
         size = size ∙ n.size;
         order = order;
         bytes = bytes ∙ ap (λ (ts : List Kept). accounts c (map part_of ts)) (sym list);
-        policy = ap (λ (u : Counts). u.policy) same ∙ n.policy;
-        layers = ap (λ (u : Counts). u.layers) same ∙ n.layers;
-        keys = ap (λ (u : Counts). map (λ x. x.meta) u.held) same ∙ keys_filter q counts.held blobs n.keys;
+        policy = uses.policy ∙ n.policy;
+        layers = uses.layers ∙ n.layers;
+        keys = λ k. ap is_some (uses.uses k) ∙ some_both (q k) (use_of counts k) (find (is_of k) (listed blobs)) (n.keys k)
+            ∙ ap is_some (sym (find_filter (is_of k) (λ t. q t.meta) (q k) (λ t at. ap q (same_meta_is t.meta k at)) (listed blobs)) ∙ ap (find (is_of k)) (sym list));
       }
 
   -- one is forgotten and dropped
   pub dropped_shelved : (m : MetaKey) (t : Kept) (given : Space) (ledger' : Accounts) (counts' : Counts) → find (is_of m) (listed blobs) ≡ Some t → LieInOrder 0 given.parts given.size → IsTaken given (region t) space
-      → ledger' ≡ removed t.meta.theme.layer t.length ledger → counts' ≡ holding (victims.but t.meta counts.held) counts'.spare counts → IsShelved c (filter (λ b. not (is_of m b.kept)) blobs) given ledger' counts'
-  dropped_shelved m t given ledger' counts' e sound taken bytes same =
+      → ledger' ≡ removed t.meta.theme.layer t.length ledger → LeavesUses counts counts.now (with_forgotten t.meta (use_of counts)) counts' → IsShelved c (filter (λ b. not (is_of m b.kept)) blobs) given ledger' counts'
+  dropped_shelved m t given ledger' counts' e sound taken bytes uses =
       fewer_shelved (λ k. not (same_meta k m)) given ledger' counts' (region_given m t given e taken) (sym taken.same_size) sound (bytes ∙ older_gone m (Some t) (sym e))
-      (same ∙ ap (λ (k : MetaKey). holding (victims.but k counts.held) counts'.spare counts) (its_key m t e))
+      (record {
+        policy = uses.policy;
+        layers = uses.layers;
+        now = uses.now;
+        uses = λ k. uses.uses k ∙ ap (λ (key : MetaKey). cond (same_meta k key) None (use_of counts k)) (its_key m t e) ∙ sym (turned (same_meta k m) (use_of counts k));
+      })
 
   -- ONE MORE IS KEPT
 
@@ -244,8 +262,8 @@ module _ (c : Catalogue) (blobs : List KeptBlob) (space : Space) (ledger : Accou
 
       -- the shelf with one more
       pub kept_shelved : (text : List ℕ) (ledger' : Accounts) (counts' : Counts) → length text ≡ t.length → t.length ≡ blob_size c t.meta → t.meta.theme.layer < length c.layers → length (but t.meta (listed blobs)) < c.kept_limit → ledger' ≡ added t.meta.theme.layer t.length (without older ledger)
-          → counts' ≡ entering t.meta counts'.spare counts → IsShelved c (filter (λ b. not (is_of t.meta b.kept)) blobs ++ record { kept = t; text = text } ∷ []) given ledger' counts'
-      kept_shelved text ledger' counts' long_text long_blob layer others bytes same =
+          → LeavesUses counts (one_more counts.now) (with_kept t.meta (one_more counts.now) (use_of counts)) counts' → IsShelved c (filter (λ b. not (is_of t.meta b.kept)) blobs ++ record { kept = t; text = text } ∷ []) given ledger' counts'
+      kept_shelved text ledger' counts' long_text long_blob layer others bytes uses =
           let list = listed_put t text blobs in
           let rest = but t.meta (listed blobs) in
           let ordered : LieInOrder 0 (regions (t ∷ but t.meta (listed blobs))) given.size = subst (λ (ps : List extent.Part.Part). LieInOrder 0 ps given.size) given_parts sound in
@@ -264,12 +282,12 @@ module _ (c : Catalogue) (blobs : List KeptBlob) (space : Space) (ledger : Accou
             order = sound;
             bytes = bytes ∙ ap (added t.meta.theme.layer t.length) (older_gone t.meta older is) ∙ added_part c (map part_of (but t.meta (listed blobs))) (part_of t) layer
                 ∙ ap (accounts c) (sym (map-append part_of (but t.meta (listed blobs)) (t ∷ []))) ∙ ap (λ (ts : List Kept). accounts c (map part_of ts)) (sym list);
-            policy = ap (λ (u : Counts). u.policy) same ∙ n.policy;
-            layers = ap (λ (u : Counts). u.layers) same ∙ n.layers;
-            keys = ap (λ (u : Counts). map (λ x. x.meta) u.held) same
-                ∙ map-append (λ (u : Use). u.meta) (victims.but t.meta counts.held) (record { meta = t.meta; uses = 0; last = victims.one_more counts.now } ∷ [])
-                ∙ ap (λ (ms : List MetaKey). ms ++ t.meta ∷ []) (keys_filter (λ k. not (same_meta k t.meta)) counts.held blobs n.keys)
-                ∙ sym (map-append (λ (b : KeptBlob). b.kept.meta) (filter (λ b. not (is_of t.meta b.kept)) blobs) (record { kept = t; text = text } ∷ []));
+            policy = uses.policy ∙ n.policy;
+            layers = uses.layers ∙ n.layers;
+            keys = λ k. ap is_some (uses.uses k)
+                ∙ ap (λ (v : Bool). is_some (cond v (Some (record { meta = t.meta; uses = 0; saved = 0; last = one_more counts.now })) (use_of counts k))) (same_swap k t.meta)
+                ∙ some_either (same_meta t.meta k) (record { meta = t.meta; uses = 0; saved = 0; last = one_more counts.now }) t (use_of counts k) (find (is_of k) (listed blobs)) (n.keys k)
+                ∙ ap is_some (sym (put_is k t (listed blobs)) ∙ ap (find (is_of k)) (sym list));
           }
 
     -- the bytes of what has a region beside the others' are few enough
@@ -295,28 +313,13 @@ module _ (c : Catalogue) (blobs : List KeptBlob) (space : Space) (ledger : Accou
   -- WHAT GOES
 
   -- where a scope's quota is exceeded it holds something
-  pub some_goes : (scope : Scope) → exceeded ledger ≡ Some scope → in_scope scope counts.held ≡ [] → ⊥
+  pub some_goes : (scope : Scope) → exceeded ledger ≡ Some scope → IsVictim counts.policy scope (use_of counts) None → ⊥
   some_goes scope above none =
       let holds = holds_some c (map part_of (listed blobs)) scope (ap exceeded (sym n.bytes) ∙ above) in
-      let some : list_any (λ u. is_in scope u.meta.theme.layer) counts.held ≡ true =
-      sym (any_map (λ (u : Use). u.meta) (λ k. is_in scope k.theme.layer) counts.held)
-      ∙ ap (list_any (λ (k : MetaKey). is_in scope k.theme.layer)) (n.keys ∙ sym (map_twice (λ (b : KeptBlob). b.kept) (λ t. t.meta) blobs))
-      ∙ any_map (λ (t : Kept). t.meta) (λ k. is_in scope k.theme.layer) (listed blobs)
-      ∙ sym (any_map part_of (λ p. is_in scope p.layer) (listed blobs))
-      ∙ holds in
-      let f : true ≡ false = sym some ∙ none_passes_any (λ (u : Use). is_in scope u.meta.theme.layer) counts.held none in
+      let one = one_in scope (listed blobs) (sym (any_map part_of (λ p. is_in scope p.layer) (listed blobs)) ∙ holds) in
+      let f : true ≡ false = sym (n.keys one.0.meta ∙ one.2) ∙ ap is_some (none one.0.meta one.1) in
       cc
 
   -- what goes is kept
-  pub goes_kept : (scope : Scope) (m : MetaKey) → victim counts.policy scope counts.held ≡ Some m → find (is_of m) (listed blobs) ≡ None → ⊥
-  goes_kept scope m goes none =
-      let held = victim_held counts.policy scope counts.held m goes in
-      let keys : find (λ k. same_meta k m) (map (λ u. u.meta) counts.held) ≡ None =
-      ap (find (λ (k : MetaKey). same_meta k m)) (n.keys ∙ sym (map_twice (λ (b : KeptBlob). b.kept) (λ t. t.meta) blobs))
-      ∙ find_map (λ (t : Kept). t.meta) (λ k. same_meta k m) (listed blobs)
-      ∙ ap (option_map (λ (t : Kept). t.meta)) none in
-      none_left (find (victims.is_of m) counts.held) held (sym (find_map (λ (u : Use). u.meta) (λ k. same_meta k m) counts.held) ∙ keys)
-    where
-      none_left : (o : Option Use) → IsSome o → option_map (λ u. u.meta) o ≡ None → ⊥
-      none_left None h e = cc
-      none_left (Some u) h e = cc
+  pub goes_kept : (scope : Scope) (m : MetaKey) → IsVictim counts.policy scope (use_of counts) (Some m) → find (is_of m) (listed blobs) ≡ None → ⊥
+  goes_kept scope m goes none = let f : true ≡ false = ap is_some (sym goes.1.held) ∙ n.keys m ∙ ap is_some none in cc

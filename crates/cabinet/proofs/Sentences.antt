@@ -32,15 +32,15 @@ off_at : (v : Bool) (f : Option Kept) → cond (not v) f None ≡ cond v None f
 off_at true f = refl
 off_at false f = refl
 
-stored_at : (t : Kept) (v : Bool) (f : Option Kept) → option_or (cond (not v) f None) (cond v (Some t) None) ≡ cond v (Some t) f
+pub stored_at : (t : Kept) (v : Bool) (f : Option Kept) → option_or (cond (not v) f None) (cond v (Some t) None) ≡ cond v (Some t) f
 stored_at t true f = refl
 stored_at t false None = refl
 stored_at t false (Some x) = refl
 
-but_is : (m n : MetaKey) (ts : List Kept) → find (is_of m) (but n ts) ≡ cond (not (same_meta n m)) (find (is_of m) ts) None
+pub but_is : (m n : MetaKey) (ts : List Kept) → find (is_of m) (but n ts) ≡ cond (not (same_meta n m)) (find (is_of m) ts) None
 but_is m n ts = find_filter (is_of m) (λ t. not (is_of n t)) (not (same_meta n m)) (λ t at. ap not (at_both t.meta m n at)) ts
 
-kept_step : (c : Catalogue) (m : MetaKey) (s : Standing) (e : Entry) → kept_of m (after c s e) ≡ kept_after c m (kept_of m s) e
+pub kept_step : (c : Catalogue) (m : MetaKey) (s : Standing) (e : Entry) → kept_of m (after c s e) ≡ kept_after c m (kept_of m s) e
 kept_step c m s (entry.Started k n) = refl
 kept_step c m s (entry.Cut t cover) =
     find_filter (is_of m) (λ x. not (hits_of c cover x.meta)) (not (hits_of c cover m)) (λ x at. ap (λ (n : MetaKey). not (hits_of c cover n)) (same_meta_is x.meta m at)) s.kept ∙ off_at (hits_of c cover m) (find (is_of m) s.kept)

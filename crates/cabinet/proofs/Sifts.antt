@@ -1,19 +1,19 @@
 -- What a pass over what is kept has come to.
-use Rattle.std.proofs.Common.{ℕ, ◌≡◌, ◌+◌, ◌<◌, ◌≤◌, Bool, true, false, List, length, get_or, filter, take, refl, sym, ap, subst, ◌∙◌, arith}
-use Rattle.std.specs.Prelude.{Contains}
+use Rattle.std.proofs.Common.{ℕ, ◌≡◌, ◌+◌, ◌<◌, ◌≤◌, Bool, true, false, cond, List, None, length, get_or, filter, take, refl, sym, ap, subst, ◌∙◌, arith}
+use Rattle.std.specs.Prelude.{Contains, IsSome}
 use Rattle.std.specs.List.{AllByRecursion, SwappedAt}
 use Rattle.std.proofs.lemmas.List.{drop_more}
 use Rattle.std.proofs.lemmas.List.Filters.{FiltersInPlace, FiltersInPlace-all, FiltersInPlace-more_no, FiltersInPlace-more_swap}
 use Rattle.catalog.specs.declared.catalogue.Catalogue.{Catalogue}
-use Rattle.expiry_policy.specs.Victims.{Counts, but, is_held}
+use Rattle.expiry_policy.specs.Victims.{Counts, use_of}
 use Rattle.extent_map.specs.Parts.{LieInOrder}
 use Rattle.extent_map.specs.Spaces.{IsTaken, Space}
 use Rattle.metatile_plan.specs.declared.metatile.MetaKey.{MetaKey}
 use Rattle.quota_ledger.specs.Accounts.{Accounts, removed}
 use Rattle.cabinet.specs.declared.kept.KeptBlob.{KeptBlob}
 use Rattle.cabinet.specs.Gaps.{region}
-use Rattle.cabinet.specs.Shelved.{IsCountedIn, IsShelved, holding}
-use Rattle.cabinet.proofs.Forgets.{IsForgetting, forgetting_end, forgetting_more, forgetting_start, may_count, may_forget}
+use Rattle.cabinet.specs.Shelved.{IsCountedIn, IsShelved, LeavesUses, with_forgotten}
+use Rattle.cabinet.proofs.Forgets.{IsForgetting, forgets_more, forgetting_end, forgetting_start, may_count, may_forget, spares_more}
 use Rattle.cabinet.proofs.Gives.{IsGiving, giving_end, giving_more, giving_start, may_give}
 use Rattle.cabinet.proofs.Lists.{all_of_map}
 use Rattle.cabinet.proofs.Once.{apart_of_map}
@@ -52,24 +52,24 @@ module _ (keep : MetaKey → Bool) (c : Catalogue) (old new : List KeptBlob) (st
     may_give_back off = may_give (λ t. keep t.meta) old index x space space' true within_old at_old s.giving off refl
 
     pub may_count_out : IsCountedIn ledger' x.kept
-    may_count_out = may_count keep c old index x counts counts' ledger' within_old at_old s.forgetting n.keys layers
+    may_count_out = may_count keep c old index x counts counts' ledger' within_old at_old s.forgetting layers
 
-    pub may_forget_it : is_held x.kept.meta counts'.held ≡ true
-    may_forget_it = may_forget keep c old index x counts counts' ledger' within_old at_old s.forgetting n.keys
+    pub may_forget_it : IsSome (use_of counts' x.kept.meta)
+    may_forget_it = may_forget keep c old index x counts counts' ledger' within_old at_old s.forgetting n.keys (apart_of_map (λ (b : KeptBlob). b.kept) (λ t. t.meta) old n.once)
 
     pub dropped : (given : Space) (after : Accounts) (left : Counts) → keep x.kept.meta ≡ false → IsTaken given (region x.kept) space' → LieInOrder 0 given.parts given.size → after ≡ removed x.kept.meta.theme.layer x.kept.length ledger'
-        → left ≡ holding (but x.kept.meta counts'.held) left.spare counts' → counts'.spare ≤ left.spare → IsSifting keep c old new stays (index + 1) space given counts left after
+        → LeavesUses counts' counts'.now (with_forgotten x.kept.meta (λ m. use_of counts' m)) left → counts'.spare ≤ left.spare → IsSifting keep c old new stays (index + 1) space given counts left after
     dropped given after left off taken sound bytes uses room = record {
       moved = FiltersInPlace-more_no s.moved within off at;
       giving = giving_more (λ t. keep t.meta) old index x space space' given true within_old at_old s.giving off (λ _. taken) (λ f. absurd (cc)) sound;
-      forgetting = forgetting_more keep c old index x counts counts' ledger' within_old at_old s.forgetting n.keys layers true left after off (apart_of_map (λ (b : KeptBlob). b.kept) (λ t. t.meta) old n.once) bytes uses room;
+      forgetting = forgets_more keep c old index x counts counts' ledger' within_old at_old s.forgetting layers left after off bytes uses room;
     }
 
     pub stayed : (moved : List KeptBlob) → keep x.kept.meta ≡ true → SwappedAt new moved stays index → IsSifting keep c old moved (stays + 1) (index + 1) space space' counts counts' ledger'
     stayed moved on swapped = record {
       moved = FiltersInPlace-more_swap s.moved within on at swapped;
       giving = giving_more (λ t. keep t.meta) old index x space space' space' false within_old at_old s.giving on (λ f. absurd (cc)) (λ _. refl) s.giving.sound;
-      forgetting = forgetting_more keep c old index x counts counts' ledger' within_old at_old s.forgetting n.keys layers false counts' ledger' on (apart_of_map (λ (b : KeptBlob). b.kept) (λ t. t.meta) old n.once) refl refl (omega arith);
+      forgetting = spares_more keep c old index x counts counts' ledger' within_old at_old s.forgetting layers on;
     }
 
   -- ALL ARE LOOKED AT
@@ -78,7 +78,7 @@ module _ (keep : MetaKey → Bool) (c : Catalogue) (old new : List KeptBlob) (st
     pub sifted_list : take stays new ≡ filter (λ b. keep b.kept.meta) old
     sifted_list = FiltersInPlace-all s.moved done
 
-    pub sifted_uses : counts' ≡ holding (filter (λ u. keep u.meta) counts.held) counts'.spare counts
+    pub sifted_uses : LeavesUses counts counts.now (λ m. cond (keep m) (use_of counts m) None) counts'
     sifted_uses = (forgetting_end keep c old index counts counts' ledger' done n.keys s.forgetting).1
 
     pub sifted_shelf : IsShelved c (take stays new) space' ledger' counts'

@@ -1,10 +1,12 @@
 -- How the parts of a cabinet are tied to its history.
-use Rattle.std.specs.Prelude.{ℕ, ◌≡◌, ◌≤◌, List, Some, length, map}
+use Rattle.std.specs.Prelude.{ℕ, ◌≡◌, ◌≤◌, List, Some, length}
+use Rattle.std.specs.Option.{option_map}
 use Rattle.metatile_locks.specs.declared.render.Render.{Render}
+use Rattle.metatile_plan.specs.declared.metatile.MetaKey.{MetaKey}
 use Rattle.truncation_list.specs.declared.book.Book.{Book}
 use Rattle.cabinet.specs.Counted.{clock, use_of}
-use Rattle.cabinet.specs.History.{History, Opening, Standing, whole}
-use Rattle.cabinet.specs.Shelved.{Shelved, listed}
+use Rattle.cabinet.specs.History.{History, Opening, Standing, kept_of, whole}
+use Rattle.cabinet.specs.Shelved.{Shelved, listed, use_on}
 use Rattle.cabinet.specs.State.{IsKnown, State, now}
 
 -- the opening, the shelf, the number that was given last, the renders that run, and the book
@@ -28,5 +30,5 @@ pub record IsConsistent (p : Parts) (later : History) : Type 0 where
   pub known : IsKnown (seen p later)
   pub stands : now (seen p later) ≡ stood p
   pub clock_is : p.shelf.clock ≡ clock (whole p.opening later)
-  pub uses : p.shelf.uses ≡ map (λ t. use_of (whole p.opening later) t.meta) (listed p.shelf.blobs)
+  pub uses : (m : MetaKey) → use_on p.shelf m ≡ option_map (λ t. use_of (whole p.opening later) m) (kept_of m (stood p))
   pub room : length p.renders ≤ p.shelf.room

@@ -86,8 +86,9 @@ times_after m t (Dropped o) = t
 abbrev pub last_use : History → MetaKey → ℕ
 last_use h m = (fold (times_after m) (record { count = 0; last = 0 }) h).last
 
+-- none of its uses is saved, since nothing in memory is
 abbrev pub use_of : History → MetaKey → Use
-use_of h m = record { meta = m; uses = uses h m; last = last_use h m }
+use_of h m = record { meta = m; uses = uses h m; saved = 0; last = last_use h m }
 
 -- the uses of what is kept
 abbrev pub uses_of : State → List Use

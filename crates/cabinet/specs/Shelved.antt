@@ -1,17 +1,18 @@
 -- What contracts see of a shelf, what its calls leave, and how its parts are tied together.
-use Rattle.std.specs.Prelude.{ℕ, ◌≡◌, ◌<◌, ◌≤◌, not, List, [], ◌∷◌, ◌++◌, length, map, filter, find, Option, Some, None}
+use Rattle.std.specs.Prelude.{ℕ, ◌≡◌, ◌<◌, ◌≤◌, not, if◌then◌else◌, List, [], ◌∷◌, ◌++◌, length, map, filter, find, Option, Some, None, is_some, slice_get}
 use Rattle.std.specs.List.{AllByRecursion}
-use Rattle.std.specs.Option.{option_map_or}
+use Rattle.std.specs.Option.{option_and_then, option_map, option_map_or}
 use Rattle.catalog.specs.declared.catalogue.Catalogue.{Catalogue}
 use Rattle.catalog.specs.declared.catalogue.Scope.{Scope}
 use Rattle.catalog.specs.Valid.{IsValid}
 use Rattle.expiry_policy.specs.declared.uses.Use.{Use}
-use Rattle.expiry_policy.specs.Victims.{Counts, entered, one_more, touched, victim}
+use Rattle.expiry_policy.specs.Victims.{Counts, IsVictim, one_more, use_of}
 use Rattle.expiry_policy.specs.Victims as victims
 use Rattle.extent_map.specs.Spaces.{Space, IsSound}
 use Rattle.matrix_geometry.specs.declared.address.Address.{Address}
 use Rattle.metatile_locks.specs.Tickets.{Ticketed}
 use Rattle.metatile_plan.specs.declared.metatile.MetaKey.{MetaKey}
+use Rattle.metatile_plan.specs.Keys.{same_meta}
 use Rattle.quota_ledger.specs.Accounts.{Accounts, accounts, exceeded, removed, used_at}
 use Rattle.quota_ledger.specs.Accounts as ledger
 use Rattle.raster_field.specs.Blocks.{blob_size, block_of, block_text, tile_part}
@@ -27,21 +28,28 @@ use Rattle.cabinet.specs.Gaps.{gap_for, regions}
 use Rattle.cabinet.specs.History.{but, is_of}
 use Rattle.cabinet.specs.Hits.{hits_of}
 use Rattle.cabinet.specs.Counted.{part_of}
-use Rattle.cabinet.specs.State.{IsLong}
+use Rattle.cabinet.specs.State.{IsLong, blobs_spared, blobs_with, blobs_without}
 
 -- what is kept, in the order in which it was kept, and how many more there is room for
 pub record Stored : Type 0 where
   pub blobs : List KeptBlob
   pub spare : ℕ
 
--- the catalogue, what is kept with its blobs, the uses, the count of entries that kept or used, and how many more there is
--- room for
+-- the catalogue, what is kept with its blobs, the uses of each layer, in an order of which nothing is said, the count of entries
+-- that kept or used, and how many more there is room for
 pub record Shelved : Type 0 where
   pub catalogue : Catalogue
   pub blobs : List KeptBlob
-  pub uses : List Use
+  pub uses : List (List Use)
   pub clock : ℕ
   pub room : ℕ
+
+-- how each metatile was used, none where none is kept of it
+abbrev pub UsesByKey : Type 0
+UsesByKey = MetaKey → Option Use
+
+abbrev pub use_on : Shelved → UsesByKey
+use_on s m = option_and_then (find (victims.is_of m)) (slice_get s.uses m.theme.layer)
 
 -- what is kept, without the blobs
 abbrev pub listed : List KeptBlob → List Kept
@@ -49,7 +57,7 @@ listed blobs = map (λ b. b.kept) blobs
 
 -- THE PARTS OF A SHELF
 
--- the accounts and the uses are those of what is kept, and its regions are the taken ones, in order; each metatile is kept once, is of a layer
+-- the accounts are those of what is kept, it has uses and nothing else has, and its regions are the taken ones, in order; each metatile is kept once, is of a layer
 -- of the catalogue, with a blob of its metatile's length, and no more are kept than may be
 pub record IsShelved (c : Catalogue) (blobs : List KeptBlob) (space : Space) (ledger : Accounts) (counts : Counts) : Type 0 where
   pub valid : IsValid c
@@ -63,7 +71,7 @@ pub record IsShelved (c : Catalogue) (blobs : List KeptBlob) (space : Space) (le
   pub bytes : ledger ≡ accounts c (map part_of (listed blobs))
   pub policy : counts.policy ≡ c.policy
   pub layers : counts.layers ≡ length c.layers
-  pub keys : map (λ u. u.meta) counts.held ≡ map (λ b. b.kept.meta) blobs
+  pub keys : (m : MetaKey) → is_some (use_of counts m) ≡ is_some (find (is_of m) (listed blobs))
 
 -- the bytes of a kept metatile are among those that the accounts count
 abbrev pub IsCountedIn : Accounts → Kept → Type 0
@@ -73,13 +81,26 @@ IsCountedIn a t = (t.meta.theme.layer < length a.layers) × (t.length ≤ used_a
 abbrev pub without : Option Kept → Accounts → Accounts
 without older a = option_map_or (λ t. removed t.meta.theme.layer t.length a) older a
 
--- the counts with these uses held, and so much room
-abbrev pub holding : List Use → ℕ → Counts → Counts
-holding held spare u = record { policy = u.policy; layers = u.layers; now = u.now; held = held; spare = spare }
+-- WHAT BECOMES OF USES at this count: a metatile is kept anew, used or forgotten, or those are that a cover hits
 
--- the counts where a key was entered, and so much room is left
-abbrev pub entering : MetaKey → ℕ → Counts → Counts
-entering m spare u = record { policy = u.policy; layers = u.layers; now = one_more u.now; held = entered m (one_more u.now) u.held; spare = spare }
+abbrev pub with_kept : MetaKey → ℕ → UsesByKey → UsesByKey
+with_kept m count uses n = if same_meta n m then Some (record { meta = m; uses = 0; saved = 0; last = count }) else uses n
+
+abbrev pub with_used : MetaKey → ℕ → UsesByKey → UsesByKey
+with_used m count uses n = if same_meta n m then option_map (victims.used_at count) (uses n) else uses n
+
+abbrev pub with_forgotten : MetaKey → UsesByKey → UsesByKey
+with_forgotten m uses n = if same_meta n m then None else uses n
+
+abbrev pub with_spared : Catalogue → Cover → UsesByKey → UsesByKey
+with_spared c cover uses n = if hits_of c cover n then None else uses n
+
+-- a call left the policy and the layers as they were, so many entries and uses counted, and these uses
+pub record LeavesUses (old : Counts) (count : ℕ) (by_key : UsesByKey) (new : Counts) : Type 0 where
+  pub policy : new.policy ≡ old.policy
+  pub layers : new.layers ≡ old.layers
+  pub now : new.now ≡ count
+  pub uses : (m : MetaKey) → use_of new m ≡ by_key m
 
 -- WHAT IS READ
 
@@ -93,46 +114,39 @@ Reads c blobs a (Some f) =
 
 -- WHAT CALLS LEAVE
 
--- a shelf on which nothing is kept
-abbrev pub bare : Catalogue → ℕ → Shelved
-bare c room = record { catalogue = c; blobs = []; uses = []; clock = 0; room = room }
+-- a shelf of the catalogue on which nothing is kept
+pub record IsBare (c : Catalogue) (s : Shelved) : Type 0 where
+  pub catalogue : s.catalogue ≡ c
+  pub blobs : s.blobs ≡ []
+  pub clock : s.clock ≡ 0
+  pub uses : (m : MetaKey) → use_on s m ≡ None
 
-abbrev pub with_room : ℕ → Shelved → Shelved
-with_room room s = record { catalogue = s.catalogue; blobs = s.blobs; uses = s.uses; clock = s.clock; room = room }
+-- the shelf after it has the catalogue, these blobs, so many entries counted that kept or used, and these uses
+pub record Leaves (s : Shelved) (blobs_then : List KeptBlob) (count : ℕ) (by_key : UsesByKey) (new : Shelved) : Type 0 where
+  pub catalogue : new.catalogue ≡ s.catalogue
+  pub blobs : new.blobs ≡ blobs_then
+  pub clock : new.clock ≡ count
+  pub uses : (m : MetaKey) → use_on new m ≡ by_key m
+
+-- all but its room is as before
+abbrev pub IsAlike : Shelved → Shelved → Type 0
+IsAlike s new = Leaves s s.blobs s.clock (use_on s) new
 
 -- a metatile is used
-abbrev pub touched_on : MetaKey → Shelved → Shelved
-touched_on m s = record { catalogue = s.catalogue; blobs = s.blobs; uses = touched m (one_more s.clock) s.uses; clock = one_more s.clock; room = s.room }
+abbrev pub Touches : MetaKey → Shelved → Shelved → Type 0
+Touches m s new = Leaves s s.blobs (one_more s.clock) (with_used m (one_more s.clock) (use_on s)) new
 
 -- a blob is kept, in the place of its metatile's older one
-abbrev pub keeping : Kept → List ℕ → ℕ → Shelved → Shelved
-keeping t text room s = record {
-  catalogue = s.catalogue;
-  blobs = filter (λ b. not (is_of t.meta b.kept)) s.blobs ++ record { kept = t; text = text } ∷ [];
-  uses = entered t.meta (one_more s.clock) s.uses;
-  clock = one_more s.clock;
-  room = room;
-}
+abbrev pub Keeps : Kept → List ℕ → Shelved → Shelved → Type 0
+Keeps t text s new = Leaves s (blobs_with t text s.blobs) (one_more s.clock) (with_kept t.meta (one_more s.clock) (use_on s)) new
 
 -- what a cover hits is dropped
-abbrev pub sifted : Cover → ℕ → Shelved → Shelved
-sifted cover room s = record {
-  catalogue = s.catalogue;
-  blobs = filter (λ b. not (hits_of s.catalogue cover b.kept.meta)) s.blobs;
-  uses = filter (λ u. not (hits_of s.catalogue cover u.meta)) s.uses;
-  clock = s.clock;
-  room = room;
-}
+abbrev pub Sifts : Cover → Shelved → Shelved → Type 0
+Sifts cover s new = Leaves s (blobs_spared s.catalogue cover s.blobs) s.clock (with_spared s.catalogue cover (use_on s)) new
 
 -- one metatile is dropped
-abbrev pub dropping : MetaKey → ℕ → Shelved → Shelved
-dropping m room s = record {
-  catalogue = s.catalogue;
-  blobs = filter (λ b. not (is_of m b.kept)) s.blobs;
-  uses = victims.but m s.uses;
-  clock = s.clock;
-  room = room;
-}
+abbrev pub Forgets : MetaKey → Shelved → Shelved → Type 0
+Forgets m s new = Leaves s (blobs_without m s.blobs) s.clock (with_forgotten m (use_on s)) new
 
 -- a row for each way in which the shelving of a ticket's blob ends
 abbrev pub Shelves : Shelved → Ticketed → List ℕ → Shelving → Shelved → Type 0
@@ -141,7 +155,7 @@ Shelves s t blob shelving.NoRoom new =
     (length (but t.meta (listed s.blobs)) < s.catalogue.kept_limit) × (gap_for s.catalogue (listed s.blobs) (length blob) ≡ None) × (new ≡ s)
 Shelves s t blob (shelving.Kept kept) new =
     (length (but t.meta (listed s.blobs)) < s.catalogue.kept_limit) × (gap_for s.catalogue (listed s.blobs) (length blob) ≡ Some kept.place)
-    × (kept ≡ record { number = t.number; meta = t.meta; place = kept.place; length = length blob }) × (new ≡ keeping kept blob new.room s)
+    × (kept ≡ record { number = t.number; meta = t.meta; place = kept.place; length = length blob }) × Keeps kept blob s new
 
 -- the scope whose quota is exceeded
 abbrev pub scope_above : Shelved → Option Scope
@@ -150,7 +164,7 @@ scope_above s = exceeded (accounts s.catalogue (map part_of (listed s.blobs)))
 -- the first metatile to go of the scope whose quota is exceeded is dropped
 abbrev pub Drops : Shelved → Option MetaKey → Shelved → Type 0
 Drops s None new = (scope_above s ≡ None) × (new ≡ s)
-Drops s (Some m) new = (scope : Scope) × (scope_above s ≡ Some scope) × (victim s.catalogue.policy scope s.uses ≡ Some m) × (new ≡ dropping m new.room s)
+Drops s (Some m) new = (scope : Scope) × (scope_above s ≡ Some scope) × IsVictim s.catalogue.policy scope (use_on s) (Some m) × Forgets m s new
 
 -- the bytes of a layer, and of all layers
 abbrev pub used_on : Shelved → ℕ → ℕ

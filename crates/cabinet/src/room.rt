@@ -1,6 +1,6 @@
 //! The room that running renders need when they are kept.
 ghost use Rattle.std.specs.Prelude.{OnOk, length, ◌+◌, ◌<◌, ◌≡◌, ◌≤◌};
-ghost use Rattle.cabinet.specs.Shelved.{with_room};
+ghost use Rattle.cabinet.specs.Shelved.{IsAlike};
 
 use crate::shelf::Shelf;
 use metatile_locks::locks::Locks;
@@ -9,7 +9,7 @@ use std::alloc::{AllocError, Global};
 /// Makes room for one more render, and for each running one and that one to be kept. `AllocError` where memory runs out;
 /// what is kept and runs is then as before, and no room is lost.
 pub fn make_room(alloc: Global, shelf: &mut Shelf, locks: &mut Locks) -> Result<(), AllocError>
-    ensures shelf { shelf.new ≡ with_room shelf.new.room shelf.old }
+    ensures shelf { IsAlike shelf.old shelf.new }
     ensures renders { locks.new.renders ≡ locks.old.renders }
     ensures no_less { shelf.old.room ≤ shelf.new.room }
     ensures lock { OnOk result (0 < locks.new.spare) }

@@ -35,18 +35,18 @@ impl Model for Shelf {
 
     ghost Value = { Shelved };
 
-    ghost view = { λ s. record { catalogue = s.catalogue; blobs = s.store.blobs; uses = s.tally.uses.held; clock = s.tally.uses.now; room = min s.store.spare (min s.tally.extents.spare s.tally.uses.spare) } };
+    ghost view = { λ s. record { catalogue = s.catalogue; blobs = s.store.blobs; uses = s.tally.uses.uses; clock = s.tally.uses.now; room = min s.store.spare (min s.tally.extents.spare s.tally.uses.spare) } };
 
     ghost invariant = { λ s. IsShelved s.catalogue s.store.blobs s.tally.extents s.tally.ledger s.tally.uses };
 }
 
 impl Shelf {
-    ghost use Rattle.cabinet.specs.Shelved.{Drops, Reads, Shelves, bare, sifted, touched_on, used_on, used_on_all, with_room};
+    ghost use Rattle.cabinet.specs.Shelved.{Drops, IsAlike, IsBare, Reads, Shelves, Sifts, Touches, used_on, used_on_all};
 
     /// A shelf on which nothing is kept. `AllocError` where memory runs out.
     pub fn new(alloc: Global, catalogue: Catalogue) -> Result<Shelf, AllocError>
         requires { IsValid catalogue }
-        ensures { IfOk result (λ shelf. shelf ≡ bare catalogue shelf.room) }
+        ensures { IfOk result (λ shelf. IsBare catalogue shelf) }
     {
         let tally = Tally::new(alloc, &catalogue)?;
         Ok(Shelf {
@@ -67,7 +67,7 @@ impl Shelf {
     /// Makes room for so many more to be kept. `AllocError` where memory runs out; all else is as before, and no room is
     /// lost.
     pub fn reserve(&mut self, alloc: Global, metatiles: u32) -> Result<(), AllocError>
-        ensures same { self.new ≡ with_room self.new.room self.old }
+        ensures same { IsAlike self.old self.new }
         ensures no_less { self.old.room ≤ self.new.room }
         ensures room { OnOk result (metatiles ≤ self.new.room) }
     {
@@ -93,7 +93,8 @@ impl Shelf {
     /// Adds a use of a metatile that is kept.
     pub fn touch(&mut self, meta: &MetaKey)
         requires { IsSome (find (λ b. is_of meta.now b.kept) self.old.blobs) }
-        ensures { self.new ≡ touched_on meta.now self.old }
+        ensures touched { Touches meta.now self.old self.new }
+        ensures room { self.old.room ≤ self.new.room }
     {
         self.tally.uses.touch(meta);
     }
@@ -129,7 +130,7 @@ impl Shelf {
     /// Drops each metatile of which the cover is for a tile. It takes no memory, and tests each once.
     pub fn drop_hit(&mut self, cover: &Cover)
         requires { IsCoverOf self.old.catalogue cover.now }
-        ensures sifted { self.new ≡ sifted cover.now self.new.room self.old }
+        ensures sifted { Sifts cover.now self.old self.new }
         ensures room { self.old.room ≤ self.new.room }
     {
         let stays = sift(&mut self.store, &mut self.tally, &self.catalogue, cover);

@@ -3,7 +3,8 @@ ghost use Rattle.std.specs.Prelude.{filter, length, map, not, take, ◌≡◌, �
 ghost use Rattle.catalog.specs.Valid.{IsValid};
 ghost use Rattle.served_covers.specs.OfCatalogue.{IsCoverOf};
 ghost use Rattle.cabinet.specs.Hits.{hits_of};
-ghost use Rattle.cabinet.specs.Shelved.{IsShelved};
+ghost use Rattle.cabinet.specs.Shelved.{IsShelved, LeavesUses, with_spared};
+ghost use Rattle.expiry_policy.specs.Victims.{use_of};
 
 use crate::hitting::is_hit;
 use crate::store::Store;
@@ -18,8 +19,7 @@ pub fn sift(store: &mut Store, tally: &mut Tally, catalogue: &Catalogue, cover: 
     requires shelved { IsShelved catalogue.now store.old.blobs tally.old.extents tally.old.ledger tally.old.uses }
     ensures spared { take result store.new.blobs ≡ filter (λ b. not (hits_of catalogue.now cover.now b.kept.meta)) store.old.blobs }
     ensures shelved { IsShelved catalogue.now (take result store.new.blobs) tally.new.extents tally.new.ledger tally.new.uses }
-    ensures uses { tally.new.uses.held ≡ filter (λ u. not (hits_of catalogue.now cover.now u.meta)) tally.old.uses.held }
-    ensures clock { tally.new.uses.now ≡ tally.old.uses.now }
+    ensures uses { LeavesUses tally.old.uses tally.old.uses.now (with_spared catalogue.now cover.now (λ m. use_of tally.old.uses m)) tally.new.uses }
     ensures room { store.new.spare ≡ store.old.spare }
     ensures regions { tally.old.extents.spare ≤ tally.new.extents.spare }
     ensures keys { tally.old.uses.spare ≤ tally.new.uses.spare }

@@ -1,12 +1,13 @@
 //! What kept metatiles take up: their regions, the bytes of their layers, and their uses. What keeps or forgets a metatile
 //! changes all three.
-ghost use Rattle.std.specs.Prelude.{[], Contains, IfNone, IfOk, IfSome, length, true, ◌+◌, ◌<◌, ◌^◌, ◌≡◌, ◌≤◌};
+ghost use Rattle.std.specs.Prelude.{[], Contains, IfNone, IfOk, IfSome, IsSome, None, length, ◌+◌, ◌<◌, ◌^◌, ◌≡◌, ◌≤◌};
 ghost use Rattle.extent_map.specs.Spaces.{IsSound, IsTaken};
 ghost use Rattle.catalog.specs.Valid.{IsValid};
-ghost use Rattle.expiry_policy.specs.Victims.{but, is_held};
+ghost use Rattle.expiry_policy.specs.Victims.{one_more, use_of};
+ghost use Rattle.metatile_plan.specs.declared.metatile.MetaKey.{MetaKey};
 ghost use Rattle.quota_ledger.specs.Accounts.{added, removed};
 ghost use Rattle.cabinet.specs.Gaps.{region};
-ghost use Rattle.cabinet.specs.Shelved.{IsCountedIn, IsShelved, entering, holding, without};
+ghost use Rattle.cabinet.specs.Shelved.{IsCountedIn, IsShelved, LeavesUses, with_forgotten, with_kept, without};
 
 use crate::kept::Kept;
 use catalog::catalogue::Catalogue;
@@ -63,7 +64,7 @@ impl Tally {
     pub fn new(alloc: Global, catalogue: &Catalogue) -> Result<Tally, AllocError>
         requires { IsValid catalogue.now }
         ensures shelved { IfOk result (λ tally. IsShelved catalogue.now [] tally.extents tally.ledger tally.uses) }
-        ensures uses { IfOk result (λ tally. tally.uses.held ≡ []) }
+        ensures uses { IfOk result (λ tally. (m : MetaKey) → use_of tally.uses m ≡ None) }
         ensures clock { IfOk result (λ tally. tally.uses.now ≡ 0) }
     {
         let layers = catalogue.layers.len() as u32;
@@ -86,24 +87,24 @@ impl Tally {
         ensures left { IfNone older (self.new.extents ≡ self.old.extents) }
         ensures sound { IsSound self.new.extents }
         ensures bytes { self.new.ledger ≡ added kept.meta.theme.layer kept.length (without older self.old.ledger) }
-        ensures uses { self.new.uses ≡ entering kept.meta self.new.uses.spare self.old.uses }
+        ensures uses { LeavesUses self.old.uses (one_more self.old.uses.now) (with_kept kept.meta (one_more self.old.uses.now) (λ m. use_of self.old.uses m)) self.new.uses }
         ensures spare { self.old.uses.spare ≤ self.new.uses.spare + 1 }
     {
         give_back(&mut self.extents, older);
         count_out(&mut self.ledger, older);
         self.ledger.add(kept.meta.theme.layer, kept.length);
-        self.uses.enter(&kept.meta);
+        self.uses.enter(&kept.meta, 0);
     }
 
     /// Forgets a kept metatile: its region, its bytes and its uses.
     pub fn forget(&mut self, kept: Kept)
         requires region { Contains self.old.extents.parts (region kept) }
         requires counted { IsCountedIn self.old.ledger kept }
-        requires held { is_held kept.meta self.old.uses.held ≡ true }
+        requires held { IsSome (use_of self.old.uses kept.meta) }
         ensures given { IsTaken self.new.extents (region kept) self.old.extents }
         ensures sound { IsSound self.new.extents }
         ensures bytes { self.new.ledger ≡ removed kept.meta.theme.layer kept.length self.old.ledger }
-        ensures uses { self.new.uses ≡ holding (but kept.meta self.old.uses.held) self.new.uses.spare self.old.uses }
+        ensures uses { LeavesUses self.old.uses self.old.uses.now (with_forgotten kept.meta (λ m. use_of self.old.uses m)) self.new.uses }
         ensures spare { self.old.uses.spare ≤ self.new.uses.spare }
     {
         self.extents.give(kept.place, kept.length);

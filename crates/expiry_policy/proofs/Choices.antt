@@ -1,4 +1,4 @@
--- The victim of a scope, and how one pass finds it.
+-- The victim of a scope in a list of uses.
 use Rattle.std.proofs.Common.{◌≡◌, Bool, true, false, cond, List, [], ◌∷◌, find, fold, Option, Some, None, IsSome, Ordering, refl, sym, ap, subst, ◌∙◌}
 use Rattle.std.specs.Cmp.{IsTotalOrder}
 use Rattle.std.specs.Cmp.Lexicographic.{on_texts, slice_cmp}
@@ -11,42 +11,15 @@ use Rattle.metatile_plan.specs.declared.metatile.MetaKey.{MetaKey}
 use Rattle.metatile_plan.specs.Keys.{same_meta}
 use Rattle.metatile_plan.proofs.Same.{same_meta_self}
 use Rattle.expiry_policy.proofs.Finds.{all_filter, find_among, found_in_whole}
-use Rattle.expiry_policy.proofs.First.{leader, leader_cons, leader_none, sooner_of, sooner_none, sooner_sooner}
+use Rattle.expiry_policy.proofs.First.{leader, leader_none}
 use Rattle.expiry_policy.specs.declared.uses.Use.{Use}
-use Rattle.expiry_policy.specs.Pass.{first_with, sooner}
 use Rattle.expiry_policy.specs.Victims.{in_scope, is_before, is_first, is_of, rank, victim}
 
-abbrev cmp_ranks : Policy → Use → Use → Ordering
+abbrev pub cmp_ranks : Policy → Use → Use → Ordering
 cmp_ranks p = on (rank p) (slice_cmp nat_cmp)
 
-ranks_total : (p : Policy) → IsTotalOrder (cmp_ranks p)
+pub ranks_total : (p : Policy) → IsTotalOrder (cmp_ranks p)
 ranks_total p = on_texts (rank p)
-
--- THE PASS
-
-with_one : (p : Policy) (first : Option Use) (u : Use) → Some (option_map_or (λ v. sooner p v u) first u) ≡ sooner_of (cmp_ranks p) first (Some u)
-with_one p None u = refl
-with_one p (Some v) u = chosen (is_before p u v)
-  where
-    chosen : (b : Bool) → ◌≡◌ {A = Option Use} (Some (cond b u v)) (cond b (Some u) (Some v))
-    chosen true = refl
-    chosen false = refl
-
-pass_through : (p : Policy) (scope : Scope) (first : Option Use) (us : List Use) → fold (first_with p scope) first us ≡ sooner_of (cmp_ranks p) first (leader (cmp_ranks p) (in_scope scope us))
-pass_through p scope first [] = sym (sooner_none (cmp_ranks p) (ranks_total p) first)
-pass_through p scope first (u ∷ us) = pass_through p scope (first_with p scope first u) us ∙ chosen (is_in scope u.meta.theme.layer)
-  where
-    chosen : (b : Bool) → sooner_of (cmp_ranks p) (cond b (Some (option_map_or (λ v. sooner p v u) first u)) first) (leader (cmp_ranks p) (in_scope scope us))
-        ≡ sooner_of (cmp_ranks p) first (leader (cmp_ranks p) (cond b (u ∷ in_scope scope us) (in_scope scope us)))
-    chosen true =
-        let others = leader (cmp_ranks p) (in_scope scope us) in
-        ap (λ a. sooner_of (cmp_ranks p) a others) (with_one p first u) ∙ sooner_sooner (cmp_ranks p) (ranks_total p) first (Some u) others
-        ∙ ap (sooner_of (cmp_ranks p) first) (sym (leader_cons (cmp_ranks p) (ranks_total p) u (in_scope scope us)))
-    chosen false = refl
-
--- one pass finds the first before which none goes
-pub pass_finds : (p : Policy) (scope : Scope) (us : List Use) → fold (first_with p scope) None us ≡ find (is_first p (in_scope scope us)) (in_scope scope us)
-pass_finds p scope us = pass_through p scope None us
 
 -- THE VICTIM
 

@@ -6,7 +6,7 @@ use Rattle.std.specs.Ordering.{is_gt, is_lt, ordering_reverse}
 use Rattle.std.proofs.lemmas.Cmp.{tied_itself, upto}
 use Rattle.expiry_policy.proofs.Finds.{all_weaker, find_among, find_passes}
 
-is_less : (r : Ordering) → is_lt r ≡ true → r ≡ Less
+pub is_less : (r : Ordering) → is_lt r ≡ true → r ≡ Less
 is_less Less e = refl
 is_less Equal e = absurd (cc)
 is_less Greater e = absurd (cc)
@@ -51,7 +51,7 @@ module _ {X : Type 0} (R : X → X → Ordering) where
     back x y = ap is_gt (o.antisymm y x) ∙ turned (R x y)
 
     -- one that does not go before the second does not go before the first either, before which the second does not go
-    stays_through : (x y z : X) → goes y x ≡ false → goes z y ≡ false → goes z x ≡ false
+    pub stays_through : (x y z : X) → goes y x ≡ false → goes z y ≡ false → goes z x ≡ false
     stays_through x y z h k = sym (back z x) ∙ upto o x y z (back y x ∙ h) (back z y ∙ k)
 
     alone : (x : X) → leader (x ∷ []) ≡ Some x

@@ -1,5 +1,12 @@
-pub mod Held
 pub mod Orders
 pub mod Finds
 pub mod First
 pub mod Choices
+pub mod Winners
+pub mod Rankings
+pub mod Lookups
+pub mod Changes
+pub mod FirstOfAll
+pub mod AllLayers
+pub mod Together
+pub mod OneVictim

@@ -1,2 +1,5 @@
 pub mod Victims
-pub mod Pass
+pub mod Orders
+pub mod Entries
+pub mod Tournaments
+pub mod Layers

@@ -1,14 +1,31 @@
-//! The order in which metatiles go.
-ghost use Rattle.std.specs.Prelude.{◌≡◌};
+//! The orders in which metatiles are ranked.
+ghost use Rattle.std.specs.Prelude.{if◌then◌else◌, ◌∷◌, ◌==◌, ◌≡◌};
 ghost use Rattle.std.specs.Cmp.Lexicographic.{slice_cmp};
 ghost use Rattle.std.specs.Ordering.{nat_cmp};
 ghost use Rattle.catalog.specs.declared.catalogue.Policy.TheVariants.{Lfu, Lru};
+ghost use Rattle.expiry_policy.specs.Orders.{precedes, ranked};
 ghost use Rattle.expiry_policy.specs.Victims.{fields, is_before, rank};
 
 use crate::uses::Use;
 use catalog::catalogue::Policy;
 use metatile_plan::metatile::MetaKey;
 use std::cmp::Ordering;
+
+/// By what metatiles are ranked.
+#[derive(Clone, Copy, Debug, PartialEq, Eq)]
+pub enum Ranking {
+    /// As the policy ranks them: the first one is the victim.
+    Expiry,
+    /// Those with uses that are not saved before the others, each by their keys.
+    Unsaved,
+}
+
+/// A ranking, and the policy that it may go by.
+#[derive(Clone, Copy, Debug, PartialEq, Eq)]
+pub struct Order {
+    pub ranking: Ranking,
+    pub policy: Policy,
+}
 
 /// Two keys, field by field.
 fn cmp_keys(a: &MetaKey, b: &MetaKey) -> Ordering
@@ -39,12 +56,43 @@ fn cmp_uses(a: &Use, b: &Use) -> Ordering
     }
 }
 
-/// Whether the first of the two goes before the second.
-pub fn is_before(policy: Policy, a: &Use, b: &Use) -> bool
+/// 1 where all uses are saved, 0 where some are not.
+fn standing(entry: &Use) -> u8
+    ensures { result ≡ (if entry.now.uses == entry.now.saved then 1 else 0) }
+{
+    if entry.uses == entry.saved {
+        return 1;
+    }
+    0
+}
+
+/// Two metatiles, those with uses that are not saved first, and by their keys where both or neither are saved.
+fn cmp_unsaved(a: &Use, b: &Use) -> Ordering
+    ensures { result ≡ slice_cmp nat_cmp ((if a.now.uses == a.now.saved then 1 else 0) ∷ fields a.now.meta) ((if b.now.uses == b.now.saved then 1 else 0) ∷ fields b.now.meta) }
+{
+    match standing(a).cmp(&standing(b)) {
+        Ordering::Equal => cmp_keys(&a.meta, &b.meta),
+        unequal => unequal,
+    }
+}
+
+/// Whether the first of the two goes before the second as a policy has it.
+fn is_before(policy: Policy, a: &Use, b: &Use) -> bool
     ensures { result ≡ is_before policy a.now b.now }
 {
     match policy {
         Policy::Lru => cmp_last_use(a, b).is_lt(),
         Policy::Lfu => cmp_uses(a, b).is_lt(),
+    }
+}
+
+/// Whether the first of the two goes before the second.
+#[tactic(auto, unfolding(crate::specs::Orders::precedes))]
+pub fn precedes(order: Order, a: &Use, b: &Use) -> bool
+    ensures { result ≡ precedes order a.now b.now }
+{
+    match order.ranking {
+        Ranking::Expiry => is_before(order.policy, a, b),
+        Ranking::Unsaved => cmp_unsaved(a, b).is_lt(),
     }
 }

@@ -1,7 +1,7 @@
 //! The types of a theme and of a filter of themes.
 
 /// A layer with one of its styles and a value of each of its dimensions, all by their numbers in the catalogue.
-#[derive(Clone, Copy, Debug, PartialEq, Eq, PartialOrd, Ord)]
+#[derive(Clone, Copy, Debug, PartialEq, Eq, PartialOrd, Ord, Hash)]
 pub struct Theme {
     pub layer: u32,
     pub style: u32,

@@ -14,7 +14,7 @@ pub struct Factors {
 
 /// One metatile: its theme, its grid, the number of its matrix in the grid, and its place among the metatiles of the
 /// matrix. Keys are ordered field by field.
-#[derive(Clone, Copy, Debug, PartialEq, Eq, PartialOrd, Ord)]
+#[derive(Clone, Copy, Debug, PartialEq, Eq, PartialOrd, Ord, Hash)]
 pub struct MetaKey {
     pub theme: Theme,
     pub grid: u32,

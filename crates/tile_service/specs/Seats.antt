@@ -26,11 +26,11 @@ pending_at (Some Free) = None
 pending_at (Some (Busy pending)) = Some pending
 
 -- the seat after events of a request, and how the action ends
-abbrev pub next_seat : ℕ → Address → Actor → Option core.Outcome → Seat
+abbrev pub next_seat : ℕ → Address → Actor → Option core.TileOutcome → Seat
 next_seat start a actor None = Busy (record { start = start; address = a; actor = actor })
 next_seat start a actor (Some o) = Free
 
-abbrev pub action_end_of : ℕ → ℕ → Option core.Outcome → ActionEnd
+abbrev pub action_end_of : ℕ → ℕ → Option core.TileOutcome → ActionEnd
 action_end_of i start None = Silent
 action_end_of i start (Some o) = Answers (record { actor = i; start = start; outcome = outcome_of o })
 

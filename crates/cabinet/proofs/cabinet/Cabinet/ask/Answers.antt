@@ -1,4 +1,4 @@
-use Rattle.std.proofs.Common.{◌≡◌, ◌++◌, ◌∷◌, [], Some, find, length, ap, sym, subst, ◌∙◌}
+use Rattle.std.proofs.Common.{◌≡◌, ◌++◌, ◌∷◌, [], Some, find, length, refl, ap, sym, subst, ◌∙◌}
 use Rattle.catalog.specs.declared.catalogue.Catalogue.{Catalogue}
 use Rattle.catalog.specs.LookUp.{IsTile}
 use Rattle.metatile_plan.specs.declared.metatile.MetaKey.{MetaKey}
@@ -27,8 +27,7 @@ invariant_of-self c =
     let reads = subst (Reads i.shelf.catalogue i.shelf.blobs c.args.address.now) c.in-Some.is c.in_ok-found.ensures in
     let is = c.block_of-meta.ensures.meta ∙ ap (λ (x : Catalogue). block_of x c.args.address.now) c.catalogue.ensures.catalogue in
     let e = subst (λ (m : MetaKey). find (λ (x : KeptBlob). is_of m x.kept) i.shelf.blobs ≡ Some reads.0) (sym is) reads.1 in
-    after_used p h c.self.invariant c.block_of-meta.result c.and-self-inside.result.entries _ c.and-self-inside.ensures
-    (λ j. record { opening = bare_opening i.opening; shelf = c.touch.ensures j; last = i.last; renders = i.locks.renders; book = i.cuts.book }) (some_listed p h c.self.invariant c.block_of-meta.result reads.0 e)
+    after_used p h c.self.invariant c.block_of-meta.result c.and-self-inside.result.entries _ c.and-self-inside.ensures c.touch.ensures.touched refl c.touch.ensures.room (some_listed p h c.self.invariant c.block_of-meta.result reads.0 e)
 
 pub returns-in-Some-clause-asked : goal.returns-in-Some-clause-asked
 returns-in-Some-clause-asked c =
@@ -39,7 +38,7 @@ returns-in-Some-clause-asked c =
     let is = c.block_of-meta.ensures.meta ∙ ap (λ (x : Catalogue). block_of x c.args.address.now) c.catalogue.ensures.catalogue in
     let told = c.and-self-inside.ensures ∙ ap (λ (m : MetaKey). i.past.entries ++ entry.Used m ∷ []) is in
     let new : State = record { catalogue = c.touch.new.self.catalogue; opening = bare_opening i.opening; history = c.and-self-inside.result.entries; since = c.and-self-inside.result.entries; blobs = Some c.touch.new.self.blobs } in
-    let hit = hit_row p h c.self.invariant c.args.address.now c.in-Some.found new reads (λ j. record { catalogue = (c.touch.ensures j).catalogue; opening = bare_opening i.opening; history = told j; since = told j; blobs = Some (c.touch.ensures j).blobs }) in
+    let hit = hit_row p h c.self.invariant c.args.address.now c.in-Some.found new reads (λ j. record { catalogue = c.touch.ensures.touched.catalogue j; opening = bare_opening i.opening; history = told j; since = told j; blobs = Some (c.touch.ensures.touched.blobs j) }) in
     subst (λ (v : State). IsHit v c.args.address.now c.in-Some.found.number c.in-Some.found.text.items new) c.self.view_is hit
 
 pub returns-in-Some-clause-sound : goal.returns-in-Some-clause-sound
@@ -60,7 +59,7 @@ returns-in-Some-clause-fresh c =
     let is = c.block_of-meta.ensures.meta ∙ ap (λ (x : Catalogue). block_of x c.args.address.now) c.catalogue.ensures.catalogue in
     let told = c.and-self-inside.ensures ∙ ap (λ (m : MetaKey). i.past.entries ++ entry.Used m ∷ []) is in
     let new : State = record { catalogue = c.touch.new.self.catalogue; opening = bare_opening i.opening; history = c.and-self-inside.result.entries; since = c.and-self-inside.result.entries; blobs = Some c.touch.new.self.blobs } in
-    let hit = hit_row p h c.self.invariant c.args.address.now c.in-Some.found new reads (λ j. record { catalogue = (c.touch.ensures j).catalogue; opening = bare_opening i.opening; history = told j; since = told j; blobs = Some (c.touch.ensures j).blobs }) in
+    let hit = hit_row p h c.self.invariant c.args.address.now c.in-Some.found new reads (λ j. record { catalogue = c.touch.ensures.touched.catalogue j; opening = bare_opening i.opening; history = told j; since = told j; blobs = Some (c.touch.ensures.touched.blobs j) }) in
     let tile = subst (λ (v : State). IsTile v.catalogue c.args.address.now) (sym c.self.view_is) c.requires in
     subst (λ (v : State). IsFresh v.catalogue c.and-self-inside.result.entries (length v.history) c.args.address.now c.in-Some.found.number) c.self.view_is
     (asks_fresh (seen p h) new c.args.address.now (asked.Hit c.in-Some.found.number c.in-Some.found.text) c.self.invariant.known tile hit)

@@ -8,8 +8,8 @@ use Rattle.cabinet.specs.declared.replies.Finished.TheVariants as finished
 use Rattle.cabinet.specs.declared.shelving.Shelving.TheVariants as shelving
 use Rattle.cabinet.specs.Consistent.{Parts, seen}
 use Rattle.cabinet.specs.Gaps.{gap_for}
-use Rattle.cabinet.specs.Shelved.{Shelved, listed, Shelves, keeping}
-use Rattle.cabinet.specs.State.{IsSound, State}
+use Rattle.cabinet.specs.Shelved.{Shelved, listed, Shelves}
+use Rattle.cabinet.specs.State.{IsSound, State, blobs_with}
 use Rattle.cabinet.proofs.Consistent.{after_ended, after_stored}
 use Rattle.cabinet.proofs.Answered.{sound_stored, full_row, no_room_row, kept_row}
 use Rattle.cabinet.specs.History.{bare_opening, but}
@@ -70,7 +70,7 @@ invariant_of-self-in-Kept c =
     (subst (λ (m : MetaKey). render_of (record { number = c.args.ticket.number; meta = m }) i.locks.renders ≡ Some (unmarked c.args.ticket.number m)) meta c.in-Whole.ensures.ends.0) in
     let off = c.in-Whole.ensures.ends.1 ∙ ap (λ (n : ℕ). without n i.locks.renders) number in
     let gap = subst (λ (n : ℕ). gap_for i.shelf.catalogue (listed i.shelf.blobs) n ≡ Some t.place) long shelves.1 in
-    after_stored p h c.self.invariant t c.args.blob.items c.keep.new.self.room c.and-self-inside-in-Kept.result.entries _ told (λ j. record { opening = bare_opening i.opening; shelf = shelves.3 j; last = i.last; renders = off j; book = i.cuts.book }) runs long size gap (subst (λ (m : MetaKey). length (but m (listed i.shelf.blobs)) < i.shelf.catalogue.kept_limit) (ap (λ (x : Kept). x.meta) (sym shelves.2)) shelves.0) c.keep.ensures.room
+    after_stored p h c.self.invariant t c.args.blob.items c.and-self-inside-in-Kept.result.entries _ told shelves.3 (λ j. record { opening = bare_opening i.opening; shelf = c.keep.new.self; last = i.last; renders = off j; book = i.cuts.book }) runs long size gap (subst (λ (m : MetaKey). length (but m (listed i.shelf.blobs)) < i.shelf.catalogue.kept_limit) (ap (λ (x : Kept). x.meta) (sym shelves.2)) shelves.0) c.keep.ensures.room
 
 pub returns-in-Kept-clause-sound : goal.returns-in-Kept-clause-sound
 returns-in-Kept-clause-sound c = λ sound text.
@@ -84,7 +84,7 @@ returns-in-Kept-clause-sound c = λ sound text.
     let told = c.and-self-inside-in-Kept.ensures ∙ (λ j. i.past.entries ++ entry.Stored ((sym shelves.2) j).number ((sym shelves.2) j).meta t.place t.length ∷ []) in
     let true_text = text ∙ (λ j. block_text (sym c.self.view_is j).catalogue (number j) (meta j)) in
     sound_stored (seen p h) t c.args.blob.items _ (subst (λ (v : State). IsSound v) (sym c.self.view_is) sound) true_text
-    (λ j. record { catalogue = (shelves.3 j).catalogue; opening = bare_opening i.opening; history = told j; since = told j; blobs = Some (shelves.3 j).blobs })
+    (λ j. record { catalogue = shelves.3.catalogue j; opening = bare_opening i.opening; history = told j; since = told j; blobs = Some (shelves.3.blobs j) })
 
 pub returns-in-Full-clause-finished : goal.returns-in-Full-clause-finished
 returns-in-Full-clause-finished c =
@@ -121,7 +121,7 @@ returns-in-Kept-clause-finished c =
     let new : State = record { catalogue = c.keep.new.self.catalogue; opening = bare_opening i.opening; history = c.and-self-inside-in-Kept.result.entries; since = c.and-self-inside-in-Kept.result.entries; blobs = Some c.keep.new.self.blobs } in
     let shelves = subst (λ (t : Ticketed). Shelves i.shelf t c.args.blob.items (shelving.Kept c.in-Kept.kept) c.keep.new.self) (λ j. record { number = c.number-number.ensures j; meta = c.meta-meta.ensures j }) c.in-Kept.ensures.shelves in
     let told = c.and-self-inside-in-Kept.ensures ∙ (λ j. i.past.entries ++ entry.Stored (c.number-number.ensures j) (c.meta-meta.ensures j) t.place ((shelves.2 j).length) ∷ []) in
-    let kept = shelves.3 ∙ ap (λ (x : Kept). keeping x c.args.blob.items c.keep.new.self.room i.shelf) shelves.2 in
+    let blobs = shelves.3.blobs ∙ ap (λ (x : Kept). blobs_with x c.args.blob.items i.shelf.blobs) shelves.2 in
     subst (λ (v : State). Finishes v c.args.ticket c.args.blob.items finished.Kept new) c.self.view_is
     (kept_row p h c.self.invariant c.args.ticket c.args.blob.items c.in-Whole.ensures.ends.0 new c.in-Kept.kept c.keep.new.self shelves
-    (λ j. record { catalogue = (kept j).catalogue; opening = bare_opening i.opening; history = told j; since = told j; blobs = Some (kept j).blobs }))
+    (λ j. record { catalogue = shelves.3.catalogue j; opening = bare_opening i.opening; history = told j; since = told j; blobs = Some (blobs j) }))

@@ -22,5 +22,5 @@ invariant_of-self-2 c =
     let meta = subst (λ (v : State). IsMeta v.catalogue c.args.meta.now) (sym c.self.view_is) c.requires in
     let none : running_for c.args.meta.now i.locks.renders ≡ None = search rules in
     let begins : c.begin.new.self.renders ≡ begun (i.last + 1) c.args.meta.now i.locks.renders = search rules in
-    after_started p h c.self.invariant c.args.meta.now c.make_room.new.shelf.room c.and-self-inside.result.entries _ c.and-self-inside.ensures
-    (λ j. record { opening = bare_opening i.opening; shelf = c.make_room.ensures.shelf j; last = i.last + 1; renders = begins j; book = i.cuts.book }) meta none (omega arith) c.in_ok-make_room.ensures.room
+    after_started p h c.self.invariant c.args.meta.now c.and-self-inside.result.entries _ c.and-self-inside.ensures c.make_room.ensures.shelf
+    (λ j. record { opening = bare_opening i.opening; shelf = c.make_room.new.shelf; last = i.last + 1; renders = begins j; book = i.cuts.book }) meta none (omega arith) c.in_ok-make_room.ensures.room

@@ -1,20 +1,21 @@
-use Rattle.std.proofs.Common.{Some, ap, sym, subst, ◌∙◌, min}
-use Rattle.expiry_policy.specs.Victims as victims
+use Rattle.std.proofs.Common.{Some, refl, ap, sym, subst, ◌∙◌, min}
+use Rattle.catalog.specs.declared.catalogue.Policy.{Policy}
+use Rattle.expiry_policy.specs.Victims.{IsVictim, use_of}
 use Rattle.metatile_plan.specs.declared.metatile.MetaKey.{MetaKey}
 use Rattle.quota_ledger.specs.Accounts as accounts
-use Rattle.cabinet.specs.Shelved.{Drops, IsShelved, Shelved}
+use Rattle.cabinet.specs.Shelved.{Drops, IsShelved, Shelved, with_forgotten}
 use Rattle.cabinet.proofs.OnShelf.{dropped_shelved, goes_held, goes_kept, its_key, older_in, region_taken, some_goes}
 use Rattle.cabinet.proofs.shelf.Shelf.drop_first.Goals as goal
 
 pub unreachable-requires : goal.unreachable-requires
 unreachable-requires c =
     let i = c.self.inside in
-    some_goes i.catalogue i.store.blobs i.tally.extents i.tally.ledger i.tally.uses c.self.invariant c.in-Some.scope (sym c.exceeded.ensures ∙ c.in-Some.is) (c.victim.ensures.none.0 c.in_default.is)
+    some_goes i.catalogue i.store.blobs i.tally.extents i.tally.ledger i.tally.uses c.self.invariant c.in-Some.scope (sym c.exceeded.ensures ∙ c.in-Some.is) (subst (IsVictim i.tally.uses.policy c.in-Some.scope (use_of i.tally.uses)) c.in_default.is c.victim.ensures)
 
 pub unreachable-requires-in_default-kept_of : goal.unreachable-requires-in_default-kept_of
 unreachable-requires-in_default-kept_of c =
     let i = c.self.inside in
-    goes_kept i.catalogue i.store.blobs i.tally.extents i.tally.ledger i.tally.uses c.self.invariant c.in-Some.scope c.in-Some-victim.meta (sym c.victim.ensures.value ∙ c.in-Some-victim.is) (sym c.kept_of.ensures ∙ c.in_default-kept_of.is)
+    goes_kept i.catalogue i.store.blobs i.tally.extents i.tally.ledger i.tally.uses c.self.invariant c.in-Some.scope c.in-Some-victim.meta (subst (IsVictim i.tally.uses.policy c.in-Some.scope (use_of i.tally.uses)) c.in-Some-victim.is c.victim.ensures) (sym c.kept_of.ensures ∙ c.in_default-kept_of.is)
 
 pub forget-requires-clause-region : goal.forget-requires-clause-region
 forget-requires-clause-region c =
@@ -49,16 +50,15 @@ returns-clause-drops c =
     let key = its_key i.catalogue i.store.blobs i.tally.extents i.tally.ledger i.tally.uses c.self.invariant c.in-Some-victim.meta c.in-Some-kept_of.kept (sym c.kept_of.ensures ∙ c.in-Some-kept_of.is) in
     let room = min c.drop_of.new.self.spare (min left.extents.spare left.uses.spare) in
     subst
-    (λ (v : Shelved). Drops v (Some m) (record { catalogue = i.catalogue; blobs = c.drop_of.new.self.blobs; uses = left.uses.held; clock = left.uses.now; room = room }))
+    (λ (v : Shelved). Drops v (Some m) (record { catalogue = i.catalogue; blobs = c.drop_of.new.self.blobs; uses = left.uses.uses; clock = left.uses.now; room = room }))
     c.self.view_is (
       c.in-Some.scope,
       sym (ap accounts.exceeded n.bytes) ∙ sym c.exceeded.ensures ∙ c.in-Some.is,
-      (λ j. victims.victim (sym n.policy j) c.in-Some.scope i.tally.uses.held) ∙ sym c.victim.ensures.value ∙ c.in-Some-victim.is,
-      (λ j. record {
-        catalogue = i.catalogue;
-        blobs = c.drop_of.ensures.blobs j;
-        uses = (ap (λ (u : victims.Counts). u.held) c.forget.ensures.uses ∙ ap (λ (k : MetaKey). victims.but k i.tally.uses.held) key) j;
-        clock = ap (λ (u : victims.Counts). u.now) c.forget.ensures.uses j;
-        room = room;
-      }),
+      subst (λ (p : Policy). IsVictim p c.in-Some.scope (use_of i.tally.uses) (Some m)) n.policy (subst (IsVictim i.tally.uses.policy c.in-Some.scope (use_of i.tally.uses)) c.in-Some-victim.is c.victim.ensures),
+      record {
+        catalogue = refl;
+        blobs = c.drop_of.ensures.blobs;
+        clock = c.forget.ensures.uses.now;
+        uses = λ k. c.forget.ensures.uses.uses k ∙ ap (λ (x : MetaKey). with_forgotten x (use_of i.tally.uses) k) key;
+      },
     )

@@ -1,5 +1,5 @@
 use Rattle.std.proofs.Common.{ℕ, ◌≡◌, ◌<◌, ◌≤◌, List, None, Some, length, refl, ap, sym, subst, ◌∙◌, min}
-use Rattle.expiry_policy.specs.Victims.{Counts}
+use Rattle.expiry_policy.specs.Victims.{use_of}
 use Rattle.raster_field.specs.Blocks.{IsMeta, blob_size}
 use Rattle.cabinet.specs.declared.kept.Kept.{Kept}
 use Rattle.cabinet.specs.declared.kept.KeptBlob.{KeptBlob}
@@ -24,11 +24,11 @@ returns-in_default-clause-shelves c =
     let gap = gap_none i.catalogue i.store.blobs i.tally.extents i.tally.ledger i.tally.uses c.self.invariant c.blob_bytes-length.result c.take.new.self c.in_default.ensures.none c.in_default.ensures.unchanged c.take.ensures.sound in
     subst
     (λ (v : Shelved). Shelves v (record { number = c.args.number; meta = c.args.meta }) c.args.blob.items shelving.NoRoom
-    (record { catalogue = i.catalogue; blobs = i.store.blobs; uses = i.tally.uses.held; clock = i.tally.uses.now; room = min i.store.spare (min c.take.new.self.spare i.tally.uses.spare) }))
+    (record { catalogue = i.catalogue; blobs = i.store.blobs; uses = i.tally.uses.uses; clock = i.tally.uses.now; room = min i.store.spare (min c.take.new.self.spare i.tally.uses.spare) }))
     c.self.view_is (
       subst (λ (n : ℕ). n < i.catalogue.kept_limit) others c.if-count_others-self.false,
       subst (λ (n : ℕ). gap_for i.catalogue (listed i.store.blobs) n ≡ None) long gap,
-      (λ j. record { catalogue = i.catalogue; blobs = i.store.blobs; uses = i.tally.uses.held; clock = i.tally.uses.now; room = min i.store.spare (min (c.in_default.ensures.unchanged j).spare i.tally.uses.spare) }),
+      (λ j. record { catalogue = i.catalogue; blobs = i.store.blobs; uses = i.tally.uses.uses; clock = i.tally.uses.now; room = min i.store.spare (min (c.in_default.ensures.unchanged j).spare i.tally.uses.spare) }),
     )
 
 pub keep-requires-clause-layer : goal.keep-requires-clause-layer
@@ -83,10 +83,10 @@ returns-clause-shelves c =
     let gap = gap_taken i.catalogue i.store.blobs i.tally.extents i.tally.ledger i.tally.uses c.self.invariant c.blob_bytes-length.result c.in-Some.place c.take.new.self c.in-Some.ensures.free c.in-Some.ensures.lowest c.in-Some.ensures.taken c.take.ensures.sound in
     subst
     (λ (v : Shelved). Shelves v (record { number = c.args.number; meta = c.args.meta }) c.args.blob.items (shelving.Kept t)
-    (record { catalogue = i.catalogue; blobs = c.put.new.self.blobs; uses = left.uses.held; clock = left.uses.now; room = room }))
+    (record { catalogue = i.catalogue; blobs = c.put.new.self.blobs; uses = left.uses.uses; clock = left.uses.now; room = room }))
     c.self.view_is (
       subst (λ (n : ℕ). n < i.catalogue.kept_limit) others c.if-count_others-self.false,
       subst (λ (n : ℕ). gap_for i.catalogue (listed i.store.blobs) n ≡ Some c.in-Some.place) long gap,
       (λ j. record { number = c.args.number; meta = c.args.meta; place = c.in-Some.place; length = long j }),
-      (λ j. record { catalogue = i.catalogue; blobs = c.put.ensures.blobs j; uses = ap (λ (u : Counts). u.held) c.keep.ensures.uses j; clock = ap (λ (u : Counts). u.now) c.keep.ensures.uses j; room = room }),
+      record { catalogue = refl; blobs = c.put.ensures.blobs; clock = c.keep.ensures.uses.now; uses = c.keep.ensures.uses.uses },
     )

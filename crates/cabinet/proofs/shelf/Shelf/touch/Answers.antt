@@ -13,4 +13,4 @@ touch-requires c =
 pub invariant_of-self : goal.invariant_of-self
 invariant_of-self c =
     let i = c.self.inside in
-    touched_shelved i.catalogue i.store.blobs i.tally.extents i.tally.ledger i.tally.uses c.self.invariant c.args.meta.now _ c.touch.new.self c.touch.ensures.policy c.touch.ensures.layers c.touch.ensures.held
+    touched_shelved i.catalogue i.store.blobs i.tally.extents i.tally.ledger i.tally.uses c.self.invariant c.args.meta.now _ c.touch.new.self c.touch.ensures.policy c.touch.ensures.layers c.touch.ensures.uses
