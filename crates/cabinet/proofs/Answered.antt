@@ -17,7 +17,7 @@ use Rattle.matrix_geometry.specs.declared.address.Address.{Address}
 use Rattle.metatile_plan.specs.declared.metatile.MetaKey.{MetaKey}
 use Rattle.metatile_plan.proofs.Same.{same_meta_is}
 use Rattle.quota_ledger.specs.Accounts.{accounts, exceeded}
-use Rattle.raster_field.specs.Blocks.{blob_size, block_of, block_text, tile_part}
+use Rattle.raster_field.specs.Blocks.{blob_size, block_of, block_text}
 use Rattle.truncation_list.specs.declared.book.Book.{Book}
 use Rattle.truncation_list.specs.declared.cover.Cover.{Cover}
 use Rattle.truncation_list.specs.Purge.{purged}

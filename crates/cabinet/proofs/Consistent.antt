@@ -1,5 +1,5 @@
 -- What each command leaves of the parts of a cabinet.
-use Rattle.std.proofs.Common.{ℕ, ◌≡◌, ◌+◌, ◌<◌, ◌≤◌, Bool, true, false, cond, max, not, List, [], ◌∷◌, ◌++◌, length, map, filter, find, Option, Some, None, refl, sym, ap, subst, ◌∙◌, arith, length-append, append_assoc}
+use Rattle.std.proofs.Common.{ℕ, ◌≡◌, ◌+◌, ◌<◌, ◌≤◌, Bool, true, false, cond, max, not, List, [], ◌∷◌, ◌++◌, length, filter, find, Option, Some, None, refl, sym, ap, subst, ◌∙◌, arith, length-append, append_assoc}
 use Rattle.std.specs.Prelude.{IsSome}
 use Rattle.std.specs.List.{AllByRecursion}
 use Rattle.std.specs.Option.{option_map}
@@ -26,7 +26,7 @@ use Rattle.cabinet.specs.Counted.{clock, clock_after, use_of}
 use Rattle.cabinet.specs.Gaps.{gap_for}
 use Rattle.cabinet.specs.Hits.{hits_of}
 use Rattle.served_covers.specs.OfCatalogue.{IsCoverOf}
-use Rattle.cabinet.specs.History.{History, Standing, after, but, is_of, kept_after, kept_of, least_of, numbers, spared, first_entries, last_number, whole, bare_opening}
+use Rattle.cabinet.specs.History.{History, Standing, after, but, is_of, kept_after, kept_of, least_of, numbers, first_entries, last_number, whole, bare_opening}
 use Rattle.cabinet.specs.Fresh.{Holds, HoldsOfRender, May, cuts_of}
 use Rattle.cabinet.specs.Shelved.{Forgets, IsAlike, IsBare, Keeps, Shelved, Sifts, Touches, listed, use_on, with_forgotten, with_kept, with_spared, with_used}
 use Rattle.cabinet.specs.declared.kept.KeptBlob.{KeptBlob}

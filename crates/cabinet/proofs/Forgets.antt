@@ -7,7 +7,6 @@ use Rattle.std.proofs.lemmas.List.Folds.{list_any-append}
 use Rattle.catalog.specs.declared.catalogue.Catalogue.{Catalogue}
 use Rattle.expiry_policy.specs.declared.uses.Use.{Use}
 use Rattle.expiry_policy.specs.Victims.{Counts, use_of}
-use Rattle.expiry_policy.proofs.Finds.{is_some_find}
 use Rattle.metatile_plan.specs.declared.metatile.MetaKey.{MetaKey}
 use Rattle.metatile_plan.specs.Keys.{same_meta}
 use Rattle.metatile_plan.proofs.Same.{same_meta_is, same_meta_self}
@@ -22,7 +21,6 @@ use Rattle.cabinet.specs.Fresh.{ApartBy}
 use Rattle.cabinet.proofs.Bytes.{one_counted, one_out}
 use Rattle.cabinet.proofs.Gives.{before_is, still, still_end, still_off, still_on}
 use Rattle.cabinet.proofs.Once.{apart_around, off_of}
-use Rattle.cabinet.proofs.Sentences.{at_both}
 use Rattle.cabinet.proofs.UsesAfter.{same_swap}
 
 -- one of these is of the metatile, and is not kept on

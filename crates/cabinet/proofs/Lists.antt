@@ -57,10 +57,6 @@ map_filter f p (x ∷ xs) = chosen (p (f x)) (map_filter f p xs)
     chosen true h = ap (λ ys. f x ∷ ys) h
     chosen false h = h
 
-pub map_twice : {X Y Z : Type 0} (f : X → Y) (h : Y → Z) (xs : List X) → map h (map f xs) ≡ map (λ x. h (f x)) xs
-map_twice f h [] = refl
-map_twice f h (x ∷ xs) = ap (λ ys. h (f x) ∷ ys) (map_twice f h xs)
-
 pub find_map : {X Y : Type 0} (f : X → Y) (q : Y → Bool) (xs : List X) → find q (map f xs) ≡ option_map f (find (λ x. q (f x)) xs)
 find_map f q [] = refl
 find_map f q (x ∷ xs) = chosen (q (f x)) (find_map f q xs)
@@ -75,14 +71,6 @@ all_got P (y ∷ ys) zero x a e = let d : y ≡ x = cc in subst P d a.0
 all_got P (y ∷ ys) (suc i) x a e = all_got P ys i x a.1 e
 
 -- ANY
-
-pub any_found : {X : Type 0} (q : X → Bool) (xs : List X) (x : X) → find q xs ≡ Some x → list_any q xs ≡ true
-any_found q [] x e = absurd (cc)
-any_found q (y ∷ ys) x e = chosen (q y) e (any_found q ys x)
-  where
-    chosen : (v : Bool) → cond v (Some y) (find q ys) ≡ Some x → (find q ys ≡ Some x → list_any q ys ≡ true) → (v || list_any q ys) ≡ true
-    chosen true e ih = refl
-    chosen false e ih = ih e
 
 pub any_map : {X Y : Type 0} (f : X → Y) (q : Y → Bool) (xs : List X) → list_any q (map f xs) ≡ list_any (λ x. q (f x)) xs
 any_map f q [] = refl

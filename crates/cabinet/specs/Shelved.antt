@@ -1,5 +1,5 @@
 -- What contracts see of a shelf, what its calls leave, and how its parts are tied together.
-use Rattle.std.specs.Prelude.{ℕ, ◌≡◌, ◌<◌, ◌≤◌, not, if◌then◌else◌, List, [], ◌∷◌, ◌++◌, length, map, filter, find, Option, Some, None, is_some, slice_get}
+use Rattle.std.specs.Prelude.{ℕ, ◌≡◌, ◌<◌, ◌≤◌, if◌then◌else◌, List, [], length, map, find, Option, Some, None, is_some, slice_get}
 use Rattle.std.specs.List.{AllByRecursion}
 use Rattle.std.specs.Option.{option_and_then, option_map, option_map_or}
 use Rattle.catalog.specs.declared.catalogue.Catalogue.{Catalogue}
@@ -15,7 +15,7 @@ use Rattle.metatile_plan.specs.declared.metatile.MetaKey.{MetaKey}
 use Rattle.metatile_plan.specs.Keys.{same_meta}
 use Rattle.quota_ledger.specs.Accounts.{Accounts, accounts, exceeded, removed, used_at}
 use Rattle.quota_ledger.specs.Accounts as ledger
-use Rattle.raster_field.specs.Blocks.{blob_size, block_of, block_text, tile_part}
+use Rattle.raster_field.specs.Blocks.{block_of, block_text, tile_part}
 use Rattle.raster_field.specs.TileText.{tile_text}
 use Rattle.truncation_list.specs.declared.cover.Cover.{Cover}
 use Rattle.cabinet.specs.declared.kept.Kept.{Kept}

@@ -1,5 +1,4 @@
 use Rattle.std.proofs.Common.{ℕ, ◌≡◌, ◌<◌, ◌≤◌, List, None, Some, length, refl, ap, sym, subst, ◌∙◌, min}
-use Rattle.expiry_policy.specs.Victims.{use_of}
 use Rattle.raster_field.specs.Blocks.{IsMeta, blob_size}
 use Rattle.cabinet.specs.declared.kept.Kept.{Kept}
 use Rattle.cabinet.specs.declared.kept.KeptBlob.{KeptBlob}
