@@ -1,5 +1,5 @@
 -- The layers, each at the place of its number.
-use Rattle.std.proofs.Common.{ℕ, ◌≡◌, ◌≢◌, ◌+◌, ◌<◌, ◌≤◌, ◌⊎◌, inl, inr, suc, zero, List, [], ◌∷◌, ◌++◌, length, length-append, set, slice_get, Option, None, Some, refl, sym, ap, subst, ◌∙◌, arith}
+use Rattle.std.proofs.Common.{ℕ, ◌≡◌, ◌≢◌, ◌+◌, ◌<◌, ◌⊎◌, inl, inr, suc, zero, List, [], ◌∷◌, ◌++◌, length, length-append, set, slice_get, Option, None, Some, refl, sym, ap, ◌∙◌, arith}
 use Rattle.catalog.specs.declared.catalogue.Policy.{Policy}
 use Rattle.expiry_policy.specs.Layers.{AreBare, IsGrown, MayGrow, OfLayer}
 
