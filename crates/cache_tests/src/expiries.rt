@@ -12,8 +12,8 @@ const OTHER: MetaKey = MetaKey { col: 1, ..META };
 fn used(alloc: Global, policy: Policy) -> Result<Uses, AllocError> {
     let mut uses = Uses::new(alloc, policy, 1)?;
     uses.reserve(alloc, 2)?;
-    uses.enter(&META);
-    uses.enter(&OTHER);
+    uses.enter(&META, 0);
+    uses.enter(&OTHER, 0);
     if uses.last_use(&META).is_some() {
         uses.touch(&META);
     }
@@ -31,5 +31,18 @@ fn the_longest_unused_and_the_least_often_used_go_first(rt: HostRuntime) -> Resu
         }
         assert!(rt; uses.victim(Scope::All) == Some(META));
     }
+    Ok(())
+}
+
+#[test]
+fn uses_are_saved_by_their_keys(rt: HostRuntime) -> Result<(), Fail> {
+    let mut uses = used(rt.alloc(), Policy::Lru)?;
+    assert!(rt; uses.unsaved() == Some(META));
+    if uses.last_use(&META).is_some() {
+        assert_eq!(rt; uses.saved(&META), 1);
+    }
+    assert_eq!(rt; uses.saved_uses(&META), Some(1));
+    assert_eq!(rt; uses.uses_of(&OTHER), Some(0));
+    assert!(rt; uses.unsaved() == None);
     Ok(())
 }

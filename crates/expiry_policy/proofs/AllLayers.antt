@@ -1,7 +1,7 @@
 -- The layers, each at the place of its number.
-use Rattle.std.proofs.Common.{ℕ, ◌≡◌, ◌≢◌, ◌+◌, ◌<◌, ◌≤◌, ◌⊎◌, inl, inr, suc, zero, List, [], ◌∷◌, ◌++◌, length, length-append, set, slice_get, Option, None, Some, refl, sym, ap, subst, ◌∙◌, arith}
+use Rattle.std.proofs.Common.{ℕ, ◌≡◌, ◌≢◌, ◌+◌, ◌<◌, ◌⊎◌, inl, inr, suc, zero, List, [], ◌∷◌, ◌++◌, length, length-append, set, slice_get, Some, refl, sym, ap, ◌∙◌, arith}
 use Rattle.catalog.specs.declared.catalogue.Policy.{Policy}
-use Rattle.expiry_policy.specs.Layers.{AreBare, IsGrown, MayGrow, OfLayer}
+use Rattle.expiry_policy.specs.Layers.{AreBare, OfLayer}
 
 module _ {X : Type 0} where
   slice_get-push : (xs : List X) (x : X) (i : ℕ) (y : X) → slice_get (xs ++ x ∷ []) i ≡ Some y → (slice_get xs i ≡ Some y) ⊎ ((i ≡ length xs) × (x ≡ y))
@@ -30,14 +30,3 @@ bare_more p count layers l bare is = record {
   policy = λ i k e. elim (slice_get-push layers l i k e) [ inl h ↦ bare.policy i k h | inr h ↦ ap (λ (k : OfLayer). k.policy) (sym h.1 ∙ is) ];
   bare = λ i k e. elim (slice_get-push layers l i k e) [ inl h ↦ bare.bare i k h | inr h ↦ ap (λ (k : OfLayer). k.uses) (sym h.1 ∙ is) ];
 }
-
--- MORE ROOM
-
-pub same_grown : (o : Option OfLayer) → MayGrow o o
-same_grown None = tt
-same_grown (Some l) = record { number = refl; policy = refl; uses = refl; kept = omega arith }
-
--- a layer that had grown grows again
-more_grown : (o : Option OfLayer) (k l : OfLayer) → MayGrow o (Some k) → IsGrown k l → MayGrow o (Some l)
-more_grown None k l h g = h
-more_grown (Some j) k l h g = record { number = g.number ∙ h.number; policy = g.policy ∙ h.policy; uses = g.uses ∙ h.uses; kept = let a = h.kept in let b = g.kept in omega arith }

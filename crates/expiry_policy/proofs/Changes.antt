@@ -1,6 +1,5 @@
 -- How a layer's uses and their tournaments go through a change of its entries.
 use Rattle.std.proofs.Common.{ℕ, ◌≡◌, ◌≢◌, ◌<◌, Bool, true, false, cond, List, length, slice_index, slice_get, Option, None, Some, refl, sym, ap, subst, ◌∙◌}
-use Rattle.catalog.specs.declared.catalogue.Policy.{Policy}
 use Rattle.metatile_plan.proofs.Same.{same_meta_is}
 use Rattle.metatile_plan.specs.declared.metatile.MetaKey.{MetaKey}
 use Rattle.metatile_plan.specs.Keys.{same_meta}

@@ -1,8 +1,8 @@
 -- The victim of a scope in a list of uses.
-use Rattle.std.proofs.Common.{◌≡◌, Bool, true, false, cond, List, [], ◌∷◌, find, fold, Option, Some, None, IsSome, Ordering, refl, sym, ap, subst, ◌∙◌}
+use Rattle.std.proofs.Common.{◌≡◌, true, List, [], find, Option, Some, None, IsSome, Ordering, refl, ap, subst}
 use Rattle.std.specs.Cmp.{IsTotalOrder}
 use Rattle.std.specs.Cmp.Lexicographic.{on_texts, slice_cmp}
-use Rattle.std.specs.Option.{option_map, option_map_or}
+use Rattle.std.specs.Option.{option_map}
 use Rattle.std.specs.Ordering.{nat_cmp, on}
 use Rattle.catalog.specs.declared.catalogue.Policy.{Policy}
 use Rattle.catalog.specs.declared.catalogue.Scope.{Scope}
@@ -13,7 +13,7 @@ use Rattle.metatile_plan.proofs.Same.{same_meta_self}
 use Rattle.expiry_policy.proofs.Finds.{all_filter, find_among, found_in_whole}
 use Rattle.expiry_policy.proofs.First.{leader, leader_none}
 use Rattle.expiry_policy.specs.declared.uses.Use.{Use}
-use Rattle.expiry_policy.specs.Victims.{in_scope, is_before, is_first, is_of, rank, victim}
+use Rattle.expiry_policy.specs.Victims.{in_scope, is_first, is_of, rank, victim}
 
 abbrev pub cmp_ranks : Policy → Use → Use → Ordering
 cmp_ranks p = on (rank p) (slice_cmp nat_cmp)

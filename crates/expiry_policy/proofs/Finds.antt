@@ -1,6 +1,6 @@
 -- What is found in a list.
-use Rattle.std.proofs.Common.{◌≡◌, Bool, true, false, cond, not, ◌&&◌, ◌||◌, List, [], ◌∷◌, find, filter, Option, Some, None, IsSome, is_some, rules, refl, sym, ap, ◌∙◌}
-use Rattle.std.specs.List.{list_all, list_any}
+use Rattle.std.proofs.Common.{◌≡◌, Bool, true, false, cond, not, ◌&&◌, List, [], ◌∷◌, find, filter, Option, Some, None, IsSome, rules, refl, sym, ap, ◌∙◌}
+use Rattle.std.specs.List.{list_all}
 use Rattle.std.proofs.lemmas.Bool.{and_parts}
 
 module _ {X : Type 0} where
@@ -68,12 +68,3 @@ module _ {X : Type 0} where
           let no = find_among (λ x. not (t x)) q (filter p xs) y e (all_of_fewer (λ x. not (t x)) p xs (none_passes t xs is)) in
           let both = ap not passes in
           absurd (cc)
-
-  -- something is found exactly where the test passes somewhere
-  pub is_some_find : (q : X → Bool) (xs : List X) → is_some (find q xs) ≡ list_any q xs
-  is_some_find q [] = refl
-  is_some_find q (x ∷ xs) = chosen (q x) (is_some_find q xs)
-    where
-      chosen : (b : Bool) → is_some (find q xs) ≡ list_any q xs → is_some (cond b (Some x) (find q xs)) ≡ (b || list_any q xs)
-      chosen true more = refl
-      chosen false more = more

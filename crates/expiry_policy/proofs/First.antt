@@ -100,26 +100,3 @@ module _ {X : Type 0} (R : X → X → Ordering) where
     pub leader_none : (xs : List X) → leader xs ≡ None → xs ≡ []
     leader_none [] e = refl
     leader_none (x ∷ xs) e = absurd (some_sooner x (leader xs) (sym (more_led x xs (leader_none xs) (leader xs) refl) ∙ e))
-
-    -- the leader with one more element before the others
-    pub leader_cons : (x : X) (xs : List X) → leader (x ∷ xs) ≡ sooner_of (Some x) (leader xs)
-    leader_cons x xs = more_led x xs (leader_none xs) (leader xs) refl
-
-    -- SOONER OF THREE
-
-    pub sooner_none : (a : Option X) → sooner_of a None ≡ a
-    sooner_none None = refl
-    sooner_none (Some x) = refl
-
-    sooner_three : (x y z : X) (s t u : Bool) → goes y x ≡ s → goes z y ≡ t → goes z x ≡ u
-        → sooner_of (cond s (Some y) (Some x)) (Some z) ≡ sooner_of (Some x) (cond t (Some z) (Some y))
-    sooner_three x y z true true u h k l = let through = goes_through z y x k h in rw (k, through) refl
-    sooner_three x y z true false u h k l = rw (k, h) refl
-    sooner_three x y z false true u h k l = refl
-    sooner_three x y z false false u h k l = let stays = stays_through x y z h k in rw (stays, h) refl
-
-    pub sooner_sooner : (a b c : Option X) → sooner_of (sooner_of a b) c ≡ sooner_of a (sooner_of b c)
-    sooner_sooner None b c = refl
-    sooner_sooner (Some x) None c = refl
-    sooner_sooner (Some x) (Some y) None = sooner_none (sooner_of (Some x) (Some y))
-    sooner_sooner (Some x) (Some y) (Some z) = sooner_three x y z (goes y x) (goes z y) (goes z x) refl refl refl

@@ -1,13 +1,13 @@
 -- The first use among all layers, by one layer after the other.
-use Rattle.std.proofs.Common.{ℕ, ◌≡◌, ◌+◌, ◌<◌, ◌≤◌, Bool, true, false, cond, nat_lt, List, length, slice_get, Option, None, Some, IfSome, refl, sym, ap, subst, ◌∙◌, arith, option_and_then, ◌⊎◌, inl, inr}
+use Rattle.std.proofs.Common.{ℕ, ◌≡◌, ◌+◌, ◌≤◌, Bool, true, false, cond, nat_lt, List, length, slice_get, Option, None, Some, IfSome, refl, sym, ap, ◌∙◌, arith, option_and_then, ◌⊎◌, inl, inr}
 use borrow.Author.Tests.{ltb-true, ltb-false, lt-ltb}
 use Rattle.std.proofs.lemmas.Option.{slice_get_past}
 use Rattle.metatile_plan.specs.declared.metatile.MetaKey.{MetaKey}
 use Rattle.expiry_policy.specs.declared.order.Order.{Order}
 use Rattle.expiry_policy.specs.declared.uses.Use.{Use}
 use Rattle.expiry_policy.specs.Layers.{OfLayer, use_among, use_in}
-use Rattle.expiry_policy.specs.Orders.{IsFirst, Leads, precedes, sooner}
-use Rattle.expiry_policy.proofs.Rankings.{precedes_alone, precedes_one_way, precedes_through}
+use Rattle.expiry_policy.specs.Orders.{IsFirst, precedes, sooner}
+use Rattle.expiry_policy.proofs.Rankings.{precedes_one_way, precedes_through}
 
 -- the key is of one of the first so many layers
 abbrev pub is_below : ℕ → MetaKey → Bool

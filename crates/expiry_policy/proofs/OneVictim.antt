@@ -1,5 +1,5 @@
 -- There is one victim: what is said of it by a function of the metatiles is the victim of a list of their uses.
-use Rattle.std.proofs.Common.{ℕ, ◌≡◌, ◌≢◌, ◌+◌, Bool, true, false, true≢false, cond, not, ◌&&◌, List, [], ◌∷◌, ◌++◌, length, length-append, find, filter, Option, None, Some, IsSome, Ordering, Less, Equal, Greater, refl, sym, ap, subst, ◌∙◌, arith}
+use Rattle.std.proofs.Common.{ℕ, ◌≡◌, ◌≢◌, Bool, true, false, true≢false, cond, not, List, [], ◌∷◌, ◌++◌, length, length-append, find, filter, Option, None, Some, IsSome, Ordering, Less, Equal, Greater, refl, sym, ap, subst, ◌∙◌, arith}
 use Rattle.std.proofs.lemmas.Bool.{and_parts}
 use Rattle.std.specs.Cmp.Lexicographic.{same_text, slice_cmp, texts_ties}
 use Rattle.std.specs.List.{AllByRecursion, list_all}
@@ -13,7 +13,7 @@ use Rattle.metatile_plan.proofs.Same.{same_meta_is, same_meta_self}
 use Rattle.metatile_plan.specs.declared.metatile.MetaKey.{MetaKey}
 use Rattle.metatile_plan.specs.Keys.{same_meta}
 use Rattle.expiry_policy.specs.declared.uses.Use.{Use}
-use Rattle.expiry_policy.specs.Victims.{AreApart, GoesFirst, IsVictim, fields, in_scope, is_before, is_first, is_of, rank, victim}
+use Rattle.expiry_policy.specs.Victims.{AreApart, IsVictim, fields, in_scope, is_before, is_first, is_of, rank, victim}
 use Rattle.expiry_policy.proofs.Choices.{cmp_ranks, ranks_total, victim_held, victim_in_scope}
 use Rattle.expiry_policy.proofs.Finds.{all_filter, find_among, find_passes}
 use Rattle.expiry_policy.proofs.First.{leader, leader_none}

@@ -1,5 +1,5 @@
 -- The orders of uses are total, so of two uses at most one goes before the other.
-use Rattle.std.proofs.Common.{ℕ, ◌≡◌, Bool, true, false, List, Ordering, Less, Equal, Greater, refl, sym, ap, ◌∙◌}
+use Rattle.std.proofs.Common.{◌≡◌, true, false, List, Ordering, ap, ◌∙◌}
 use Rattle.std.specs.Cmp.{IsTotalOrder}
 use Rattle.std.specs.Cmp.Lexicographic.{on_texts, slice_cmp}
 use Rattle.std.specs.Ordering.{is_lt, nat_cmp, on, ordering_reverse}

@@ -1,5 +1,5 @@
 -- The uses of all layers together.
-use Rattle.std.proofs.Common.{ℕ, ◌≡◌, ◌≢◌, ◌+◌, ◌-◌, ◌<◌, ◌≤◌, ◌⊎◌, ◌==◌, inl, inr, eqb, Bool, true, false, cond, List, [], ◌∷◌, length, map, find, set, slice_get, Option, None, Some, IfSome, IsSome, option_and_then, refl, sym, ap, subst, ◌∙◌, arith, eq-eqb}
+use Rattle.std.proofs.Common.{ℕ, ◌≡◌, ◌≢◌, ◌<◌, ◌≤◌, ◌⊎◌, ◌==◌, inl, inr, eqb, Bool, true, false, cond, List, ◌∷◌, length, map, find, set, slice_get, Option, None, Some, IfSome, IsSome, option_and_then, refl, sym, ap, subst, ◌∙◌, arith, eq-eqb}
 use borrow.Author.Tests.{eqb-true}
 use Rattle.std.proofs.lemmas.Bool.Decides.{eqb_tells}
 use Rattle.std.proofs.lemmas.Option.{slice_get-map, slice_get_past, slice_get_within}
@@ -16,8 +16,8 @@ use Rattle.expiry_policy.specs.declared.order.Order.{Order}
 use Rattle.expiry_policy.specs.declared.order.Ranking.TheVariants.{Expiry, Unsaved}
 use Rattle.expiry_policy.specs.declared.uses.Use.{Use}
 use Rattle.expiry_policy.specs.Layers.{AreBare, AreLayers, MayGrow, OfLayer, use_among, use_in}
-use Rattle.expiry_policy.specs.Orders.{IsFirst, Leads, precedes, unsaved_key}
-use Rattle.expiry_policy.specs.Victims.{GoesFirst, IsLeastUnsaved, IsUnsaved, IsVictim, fields, is_of}
+use Rattle.expiry_policy.specs.Orders.{IsFirst, precedes, unsaved_key}
+use Rattle.expiry_policy.specs.Victims.{IsUnsaved, IsVictim, fields, is_of}
 use Rattle.expiry_policy.proofs.AllLayers.{slice_get-set_other, slice_get-set_same}
 use Rattle.expiry_policy.proofs.FirstOfAll.{use_of_layer}
 use Rattle.expiry_policy.proofs.Lookups.{meta_of_use}

@@ -1,6 +1,6 @@
 -- A tree of nodes, each with the index of the entry that goes first of the node's own and those of the nodes beneath it. The
 -- node 0 stands above all.
-use Rattle.std.specs.Prelude.{ℕ, ◌≡◌, ◌+◌, ◌-◌, ◌*◌, ◌/◌, ◌<◌, ◌&&◌, ◌⊎◌, Bool, true, false, nat_lt, if◌then◌else◌}
+use Rattle.std.specs.Prelude.{ℕ, ◌≡◌, ◌-◌, ◌/◌, ◌<◌, ◌&&◌, ◌⊎◌, Bool, false, nat_lt, if◌then◌else◌}
 
 -- the node right above
 abbrev pub above : ℕ → ℕ

@@ -188,7 +188,8 @@ impl Uses {
 
     /// The count of entries and uses when the key was last entered or used, `None` exactly where it is not held.
     pub fn last_use(&self, meta: &MetaKey) -> Option<u64>
-        ensures { result ≡ option_map (λ u. u.last) (use_of self.now meta.now) }
+        ensures held { is_some result ≡ is_some (use_of self.now meta.now) }
+        ensures value { result ≡ option_map (λ u. u.last) (use_of self.now meta.now) }
     {
         match self.use_of(meta) {
             None => None,

@@ -1,5 +1,5 @@
-use Rattle.std.proofs.Common.{◌≡◌, Some, None, length, length-append, [], ◌∷◌, ◌++◌, subst, sym, ap, ◌∙◌}
-use Rattle.indexmap.specs.IndexMap.{Updates, get, insert_entry}
+use Rattle.std.proofs.Common.{◌≡◌, Some, length, length-append, [], ◌∷◌, ◌++◌, subst, ap, ◌∙◌}
+use Rattle.indexmap.specs.IndexMap.{Updates, insert_entry}
 use Rattle.indexmap.proofs.CallerLemmas.{insert_entry-new}
 use Rattle.metatile_plan.specs.Keys.{same_meta}
 use Rattle.expiry_policy.specs.declared.held.Tally.{Tally}

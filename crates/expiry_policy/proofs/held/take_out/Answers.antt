@@ -1,4 +1,4 @@
-use Rattle.std.proofs.Common.{◌≡◌, Option, Some, None, cond, subst, sym, ap, ◌∙◌, arith, slice_get}
+use Rattle.std.proofs.Common.{◌≡◌, Some, None, cond, subst, sym, ap, ◌∙◌, arith, slice_get}
 use Rattle.indexmap.specs.IndexMap.{Updates}
 use Rattle.metatile_plan.specs.Keys.{same_meta}
 use Rattle.expiry_policy.specs.declared.uses.Use.{Use}

@@ -1,4 +1,4 @@
-use Rattle.std.proofs.Common.{◌≡◌, Some, slice_get, sym, ◌∙◌}
+use Rattle.std.proofs.Common.{sym}
 use Rattle.expiry_policy.proofs.Changes.{winner_leads}
 use Rattle.expiry_policy.proofs.layer.leader.Goals as goal
 

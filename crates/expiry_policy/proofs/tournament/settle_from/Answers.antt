@@ -1,4 +1,4 @@
-use Rattle.std.proofs.Common.{◌<◌, ◌*◌, ◌+◌, sym, length, slice_index, arith}
+use Rattle.std.proofs.Common.{◌*◌, ◌+◌, length, slice_index, arith}
 use Rattle.expiry_policy.specs.Entries.{goes}
 use Rattle.expiry_policy.proofs.Winners.{right_within, set_all, set_more}
 use Rattle.expiry_policy.proofs.tournament.settle_from.Goals as goal

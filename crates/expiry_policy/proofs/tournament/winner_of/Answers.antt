@@ -1,4 +1,4 @@
-use Rattle.std.proofs.Common.{ℕ, ◌≡◌, ◌+◌, ◌*◌, length, slice_index, sym, ap, subst, ◌∙◌, arith}
+use Rattle.std.proofs.Common.{◌≡◌, ◌+◌, ◌*◌, length, slice_index, sym, ap, subst, ◌∙◌}
 use Rattle.expiry_policy.specs.Entries.{goes}
 use Rattle.expiry_policy.specs.Tournaments.{Wins, pick}
 use Rattle.expiry_policy.proofs.Rankings.{goes_ranks}

@@ -1,4 +1,4 @@
-use Rattle.std.proofs.Common.{◌≡◌, ◌<◌, cond, length, Some, sym, ap, subst, ◌∙◌, arith}
+use Rattle.std.proofs.Common.{◌≡◌, ◌<◌, cond, Some, sym, ap, subst, ◌∙◌}
 use Rattle.metatile_plan.specs.Keys.{same_meta}
 use Rattle.expiry_policy.specs.declared.order.Order.{Order}
 use Rattle.expiry_policy.specs.declared.order.Ranking.TheVariants.{Expiry, Unsaved}

@@ -1,4 +1,4 @@
-use Rattle.std.proofs.Common.{◌≡◌, ◌<◌, ◌-◌, ◌/◌, length, slice_index, vec_len, sym, ap, subst, ◌∙◌, arith}
+use Rattle.std.proofs.Common.{◌≡◌, ◌-◌, ◌/◌, length, slice_index, vec_len, subst, arith}
 use Rattle.expiry_policy.specs.Entries.{goes}
 use Rattle.expiry_policy.specs.Tournaments.{IsRankedBut}
 use Rattle.expiry_policy.proofs.Winners.{ranked_popped}

@@ -1,10 +1,6 @@
-use Rattle.std.proofs.Common.{◌≡◌, ◌<◌, ◌≤◌, ◌-◌, length, set, cond, Option, None, Some, IsSome, is_some, slice_get, true≢false, refl, sym, ap, subst, ◌∙◌, arith}
-use Rattle.metatile_plan.specs.declared.metatile.MetaKey.{MetaKey}
+use Rattle.std.proofs.Common.{◌≡◌, ◌<◌, length, set, cond, None, Some, IsSome, slice_get, refl, sym, ap, subst, ◌∙◌, arith}
 use Rattle.metatile_plan.specs.Keys.{same_meta}
-use Rattle.expiry_policy.specs.declared.uses.Use.{Use}
-use Rattle.expiry_policy.specs.Layers.{OfLayer, use_among, use_in}
 use Rattle.expiry_policy.specs.Victims.{Counts, use_of}
-use Rattle.expiry_policy.proofs.FirstOfAll.{use_of_layer}
 use Rattle.expiry_policy.proofs.Lookups.{slice_get-get_or}
 use Rattle.expiry_policy.proofs.Together.{changed_among, found_among, layer_within, still_layers}
 use Rattle.expiry_policy.proofs.uses.Uses.forget.Goals as goal

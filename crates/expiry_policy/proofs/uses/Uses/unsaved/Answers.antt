@@ -1,7 +1,7 @@
-use Rattle.std.proofs.Common.{true, sym, subst, ◌∙◌}
+use Rattle.std.proofs.Common.{true, sym, subst}
 use Rattle.expiry_policy.specs.declared.order.Ranking.TheVariants.{Unsaved}
 use Rattle.expiry_policy.specs.Layers.{use_among}
-use Rattle.expiry_policy.specs.Orders.{IsFirst, unsaved_key}
+use Rattle.expiry_policy.specs.Orders.{IsFirst}
 use Rattle.expiry_policy.specs.Victims.{Counts, IsUnsaved, use_of}
 use Rattle.expiry_policy.proofs.Together.{found_among, unsaved_among}
 use Rattle.expiry_policy.proofs.uses.Uses.unsaved.Goals as goal

@@ -1,9 +1,8 @@
 use borrow.Author.Tests.{ltb-true, ltb-false}
-use Rattle.std.proofs.Common.{◌≡◌, ◌≤◌, ◌==◌, length, Option, None, Some, true, slice_get, refl, sym, ap, subst, ◌∙◌}
+use Rattle.std.proofs.Common.{◌≡◌, ◌≤◌, ◌==◌, length, None, Some, true, slice_get, sym, ap, subst, ◌∙◌}
 use Rattle.catalog.specs.Scopes.{is_in}
-use Rattle.metatile_plan.specs.declared.metatile.MetaKey.{MetaKey}
 use Rattle.expiry_policy.specs.declared.order.Ranking.TheVariants.{Expiry}
-use Rattle.expiry_policy.specs.Layers.{OfLayer, use_among, use_in}
+use Rattle.expiry_policy.specs.Layers.{use_among, use_in}
 use Rattle.expiry_policy.specs.Orders.{IsFirst}
 use Rattle.expiry_policy.specs.Victims.{Counts, IsVictim, use_of}
 use Rattle.expiry_policy.proofs.Lookups.{slice_get-get_or}
