@@ -2,7 +2,6 @@
 use Rattle.std.proofs.Common.{◌≡◌, ℕ, ◌+◌, ◌<◌, true, false, List, [], ◌∷◌, ◌++◌, length, Option, Some, None, inl, inr, refl, sym, ap, subst, ◌∙◌, arith}
 use Rattle.std.specs.Io.KnownBytes.{Appends, Keeps, prepend_known}
 use Rattle.std.proofs.lemmas.List.{length-append}
-use Rattle.cabinet.specs.State.{State}
 use Rattle.causes.specs.Causes.{Rose}
 use Rattle.http_wire.specs.Answers.{IsPartOfTake, Remain, StaysAt, LeavesNext, LeavesFault, next_at}
 use Rattle.http_wire.specs.Messages.{HoldsMessage}
@@ -16,7 +15,7 @@ use Rattle.http_wire.specs.declared.message.WireFault.{WireFault}
 use Rattle.http_wire.specs.declared.message.WireFault.TheVariants as faults
 use Rattle.tile_service.specs.declared.session.SessionEnd.{SessionEnd}
 use Rattle.tile_service.specs.declared.session.SessionEnd.TheVariants.{Closed, Truncated, Bad, ReadFault, WriteFault, TooMany, OutOfMemory}
-use Rattle.tile_requests.specs.Sent.{AppendsFront, AppendsPart}
+use Rattle.tile_requests.specs.Sent.{AppendsFront}
 use Rattle.tile_service.specs.Session.{reply_text, replies, bad_text}
 use Rattle.tile_service.specs.SessionEnds.{AreOpen, GoOn, GoBefore, Ends}
 use Rattle.tile_requests.proofs.Known.{appends_more, appends_nothing}

@@ -1,10 +1,10 @@
 -- A session that is under way: one message more, whose answer was written.
-use Rattle.std.proofs.Common.{◌≡◌, ℕ, ◌+◌, Bool, true, false, List, [], ◌∷◌, ◌++◌, length, Option, Some, None, inl, inr, refl, sym, subst, append-nil, ◌∙◌}
+use Rattle.std.proofs.Common.{◌≡◌, ℕ, ◌+◌, Bool, true, false, List, [], ◌∷◌, ◌++◌, length, Option, Some, None, inl, inr, refl, subst, append-nil, ◌∙◌}
 use Rattle.std.specs.Io.KnownBytes.{Appends, prepend_known}
 use Rattle.std.proofs.lemmas.Grind.{flat_map-append}
 use Rattle.cabinet.specs.State.{State}
 use Rattle.http_wire.specs.Answers.{TakesMessage, AnswersNext}
-use Rattle.http_wire.specs.Reader.{Reading, stream}
+use Rattle.http_wire.specs.Reader.{Reading}
 use Rattle.http_wire.specs.Streams.{StandIn}
 use Rattle.http_wire.specs.declared.message.Message.{Message}
 use Rattle.http_wire.specs.declared.message.Next.{Next}
@@ -16,7 +16,6 @@ use Rattle.tile_requests.specs.Requests.{answered_at}
 use Rattle.tile_requests.specs.Response.{response}
 use Rattle.tile_service.specs.Outside.{InputChange, Outside}
 use Rattle.tile_service.specs.Run.{Answer}
-use Rattle.tile_requests.specs.Sent.{AppendsFront, AppendsPart}
 use Rattle.tile_service.specs.Serving.{Serves}
 use Rattle.tile_service.specs.Session.{reply_text, replies}
 use Rattle.tile_service.specs.SessionEnds.{AreOpen, HasSession}
@@ -90,21 +89,18 @@ under_way_start {start} reading e =
 abbrev pub Sending : Type 1
 Sending = Option (List ℕ) → Option (List ℕ) → List ℕ → Type 0
 
--- A message was found, with these bytes held after it, and served, and its response was sent so. No byte was sent before that,
--- and none read after it was found.
+-- m was read, with these bytes held after it, and served, and its response was sent so
 pub record Meets (Sends : Sending) (now there : Moment) (held later : List ℕ) (n : ℕ) (m : Message) : Type 0 where
-  pub next : Next
-  pub left : Option (List ℕ)
-  pub found : AnswersNext (prepend_known held now.wire.left) (prepend_known later left) next
-  pub message : next ≡ nexts.Message m
-  pub unread : there.wire.left ≡ left
+  pub takes : TakesMessage (prepend_known held now.wire.left) m (prepend_known later there.wire.left)
   pub outcome : Outcome
   pub serves : Serves now.told now.renders there.renders now.document now.cabinet m outcome there.cabinet
   pub told : there.told ≡ now.told
   pub document : there.document ≡ now.document
-  pub taken : Option (List ℕ)
-  pub unsent : taken ≡ now.wire.taken
-  pub sends : MayTell outcome (λ o. Sends taken there.wire.taken (response now.document m (n + 1) o))
+  pub sends : MayTell outcome (λ o. Sends now.wire.taken there.wire.taken (response now.document m (n + 1) o))
+
+-- an answer that is a message
+pub takes_it : (before after : Option (List ℕ)) {next : Next} {m : Message} → next ≡ nexts.Message m → AnswersNext before after next → TakesMessage before m after
+takes_it before after is answers = subst (AnswersNext before after) is answers
 
 -- n messages were answered, none of them the last of its connection, and then m, whose response was sent so behind theirs
 pub record IsAnswered (Sends : Sending) (start now : Moment) (held : List ℕ) (n : ℕ) (m : Message) : Type 0 where
@@ -125,18 +121,11 @@ which_told o P (inl k) = (true, k)
 which_told o P (inr k) = (false, rw k.0 k.1)
 
 module _ {Sends : Sending} {start now there : Moment} {held later : List ℕ} {n : ℕ} {m : Message} (f : IsUnderWay start now held n) (met : Meets Sends now there held later n m) where
-  takes : TakesMessage (prepend_known held now.wire.left) m (prepend_known later there.wire.left)
-  takes =
-      let k : TakesMessage (prepend_known held now.wire.left) m (prepend_known later met.left) = subst (AnswersNext (prepend_known held now.wire.left) (prepend_known later met.left)) met.message met.found in
-      subst (λ left. TakesMessage (prepend_known held now.wire.left) m (prepend_known later left)) (sym met.unread) k
-
   serves : Serves now.told now.renders there.renders start.document now.cabinet m met.outcome there.cabinet
   serves = subst (λ d. Serves now.told now.renders there.renders d now.cabinet m met.outcome there.cabinet) f.document met.serves
 
   tells : MayTell met.outcome (λ o. Sends now.wire.taken there.wire.taken (response start.document m (n + 1) o))
-  tells =
-      let k = subst (λ taken. MayTell met.outcome (λ o. Sends taken there.wire.taken (response now.document m (n + 1) o))) met.unsent met.sends in
-      subst (λ d. MayTell met.outcome (λ o. Sends now.wire.taken there.wire.taken (response d m (n + 1) o))) f.document k
+  tells = subst (λ d. MayTell met.outcome (λ o. Sends now.wire.taken there.wire.taken (response d m (n + 1) o))) f.document met.sends
 
   pub answered : IsAnswered Sends start there later n m
   answered =
@@ -147,7 +136,7 @@ module _ {Sends : Sending} {start now there : Moment} {held later : List ℕ} {n
         answer = the_answer f.served f.told serves k.0;
         all_open = f.all_open;
         many = f.served.many;
-        stand = stand_in_more start.wire.left (prepend_known held now.wire.left) (prepend_known later there.wire.left) f.messages m f.stand takes;
+        stand = stand_in_more start.wire.left (prepend_known held now.wire.left) (prepend_known later there.wire.left) f.messages m f.stand met.takes;
         served = served_next f.served f.told serves k.0;
         between = now.wire.taken;
         text = f.text;

@@ -9,7 +9,6 @@ use Rattle.http_wire.specs.declared.message.Message.{Message}
 use Rattle.tile_requests.specs.declared.outcome.Outcome.{Outcome}
 use Rattle.tile_requests.specs.declared.request.Mode.TheVariants.{Gets}
 use Rattle.tile_service.specs.OneLine.{IsWorld}
-use Rattle.tile_service.specs.Outside.{FaultCounts}
 use Rattle.tile_requests.specs.Requests.{Chance, answered_at}
 use Rattle.tile_service.specs.Run.{World, Answer, sent, failures, IsTrue}
 use Rattle.tile_service.specs.Serving.{answer_to, Serves}

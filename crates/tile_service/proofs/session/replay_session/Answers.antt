@@ -1,6 +1,6 @@
 use Rattle.std.proofs.Common.{rules, arith, refl, ap, ◌∙◌, ◌≡◌, Ok, Err}
 use Rattle.http_wire.specs.Answers.{stop_of}
-use Rattle.tile_service.proofs.Replaying.{answered, under_way_next, under_way_start}
+use Rattle.tile_service.proofs.Replaying.{answered, takes_it, under_way_next, under_way_start}
 use Rattle.tile_service.proofs.Ending.{unbegun, closed_there, truncated_there, bad_there, bad_cut_off, unread_there, short_there, closed_behind, cut_off_behind, too_many}
 use Rattle.tile_service.proofs.session.replay_session.Goals as goal
 
@@ -68,18 +68,12 @@ returns-in-Err-respond-clause-session g c =
     let same = c.next.ensures.put_faults in
     let surplus = c.in-Ok-Message.ensures.surplus i.going (c.in-Ok-Message.message, ap Ok c.in-Ok-Message.field-0-is) i.surplus in
     cut_off_behind (omega arith) surplus (omega (arith, rose, same, i.writes)) (answered i.under_way (record {
-      next = c.in-Ok-Message.field-0;
-      left = g.L.ByteSource.left c.next.new.link;
-      found = c.in-Ok-Message.ensures.answers i.going;
-      message = c.in-Ok-Message.field-0-is;
-      unread = c.respond.ensures.left;
+      takes = rw c.respond.ensures.left (takes_it _ _ c.in-Ok-Message.field-0-is (c.in-Ok-Message.ensures.answers i.going));
       outcome = r.0;
       serves = r.1;
       told = c.respond.ensures.told;
       document = c.respond.ensures.capabilities;
-      taken = g.L.ByteSink.taken c.next.new.link;
-      unsent = c.next.ensures.taken;
-      sends = r.3;
+      sends = rw c.next.ensures.taken at r.3;
     }))
 
 pub returns-then-message-clause-session : goal.returns-then-message-clause-session
@@ -88,18 +82,12 @@ returns-then-message-clause-session g c =
     let r = c.in-Ok-respond.ensures.responds in
     let surplus = c.in-Ok-Message.ensures.surplus i.going (c.in-Ok-Message.message, ap Ok c.in-Ok-Message.field-0-is) i.surplus in
     closed_behind (omega arith) surplus c.if-message.true (answered i.under_way (record {
-      next = c.in-Ok-Message.field-0;
-      left = g.L.ByteSource.left c.next.new.link;
-      found = c.in-Ok-Message.ensures.answers i.going;
-      message = c.in-Ok-Message.field-0-is;
-      unread = c.respond.ensures.left;
+      takes = rw c.respond.ensures.left (takes_it _ _ c.in-Ok-Message.field-0-is (c.in-Ok-Message.ensures.answers i.going));
       outcome = r.0;
       serves = r.1;
       told = c.respond.ensures.told;
       document = c.respond.ensures.capabilities;
-      taken = g.L.ByteSink.taken c.next.new.link;
-      unsent = c.next.ensures.taken;
-      sends = r.2;
+      sends = rw c.next.ensures.taken at r.2;
     }))
 
 pub serving-preserved : goal.serving-preserved
@@ -110,18 +98,12 @@ serving-preserved g c =
     let written = c.respond.ensures.cause.later in
     record {
       under_way = under_way_next i.under_way (record {
-        next = c.in-Ok-Message.field-0;
-        left = g.L.ByteSource.left c.next.new.link;
-        found = c.in-Ok-Message.ensures.answers i.going;
-        message = c.in-Ok-Message.field-0-is;
-        unread = c.respond.ensures.left;
+        takes = rw c.respond.ensures.left (takes_it _ _ c.in-Ok-Message.field-0-is (c.in-Ok-Message.ensures.answers i.going));
         outcome = r.0;
         serves = r.1;
         told = c.respond.ensures.told;
         document = c.respond.ensures.capabilities;
-        taken = g.L.ByteSink.taken c.next.new.link;
-        unsent = c.next.ensures.taken;
-        sends = r.2;
+        sends = rw c.next.ensures.taken at r.2;
       }) c.if-message.false;
       going = c.in-Ok-Message.ensures.ends i.going ∙ ap stop_of c.in-Ok-Message.field-0-is;
       surplus = c.in-Ok-Message.ensures.surplus i.going (c.in-Ok-Message.message, ap Ok c.in-Ok-Message.field-0-is) i.surplus;
