@@ -21,7 +21,7 @@ use Rattle.tile_drill.specs.Drill.{IsDrilled, drill_lines, drill_run, is_busy, l
 use Rattle.tile_drill.specs.Drilling.{HasMade, HasMadeAll, Makes}
 use Rattle.tile_service.specs.Lines.{action_in}
 use Rattle.tile_drill.specs.Made.{Made as Line, drawn, made_line}
-use Rattle.tile_service.specs.OneLine.{IsLine, IsSeated, seat_of}
+use Rattle.tile_service.specs.OneLine.{seat_of}
 use Rattle.tile_service.specs.Outside.{Outside}
 use Rattle.tile_requests.specs.Requests.{Chance, calm}
 use Rattle.tile_service.specs.Run.{Answer, PendingRequest, World, answer_text, free_seats, line_done, output_of, run, world_of}
