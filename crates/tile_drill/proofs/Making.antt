@@ -21,7 +21,7 @@ use Rattle.tile_drill.specs.Drill.{IsDrilled, drill_lines, drill_run, is_busy, l
 use Rattle.tile_drill.specs.Drilling.{HasMade, HasMadeAll, Makes}
 use Rattle.tile_service.specs.Lines.{action_in}
 use Rattle.tile_drill.specs.Made.{Made as Line, drawn, made_line}
-use Rattle.tile_service.specs.OneLine.{IsLine, IsSeated, seat_of}
+use Rattle.tile_service.specs.OneLine.{seat_of}
 use Rattle.tile_service.specs.Outside.{Outside}
 use Rattle.tile_requests.specs.Requests.{Chance, calm}
 use Rattle.tile_service.specs.Run.{Answer, PendingRequest, World, answer_text, free_seats, line_done, output_of, run, world_of}
@@ -30,6 +30,27 @@ use Rattle.tile_service.specs.CacheTally.{both, is_hit, is_miss, is_other, one_o
 use Rattle.tile_service.specs.Written.{LineEnds, Writes}
 use Rattle.tile_service.proofs.Far.{Far, ends_done, ends_upheld, far_next, far_start_free, free_same}
 use Rattle.tile_drill.proofs.Speaking.{never_refused}
+
+-- MOMENTS
+
+-- how all stands at a moment of a drill: what is modelled of the source, and its faults, the cabinet, the document, the seats
+-- of the code, the number of the draws so far, and all that was written
+pub record Moment : Type 0 where
+  pub told : Option ℕ
+  pub renders : ℕ
+  pub cabinet : State
+  pub document : List ℕ
+  pub seats : List Seat
+  pub x : ℕ
+  pub text : List ℕ
+
+-- what is seen of the source and the output from one moment to another
+abbrev pub seen : Moment → Moment → Outside
+seen a b = record { told = a.told; renders = record { before = a.renders; after = b.renders }; writes = record { before = 0; after = 0 }; from = Some a.text; to = Some b.text }
+
+-- the world at a moment, by what the actors are busy with
+abbrev world_at : Moment → List (Option PendingRequest) → World
+world_at m busy = world_of m.cabinet m.document busy
 
 -- THE SEATS OF THE CODE
 
@@ -40,13 +61,12 @@ busy_same (Some b ∷ busy) zero = refl
 busy_same (b ∷ busy) (suc i) = busy_same busy i
 
 -- the line that the code makes by its seats is the one that is made in the world
-pub makes_at : (o : Outside) (s : State) (document : List ℕ) (seats : List Seat) (n x : ℕ) (t : State) (seats' : List Seat) (x' : ℕ) (end : LineEnd) (line : List ℕ)
-    → ◌≡◌ {A = Line} (record { line = line; x = x' }) (made_line s.catalogue (is_some (pending_at (slice_get seats (drawn 4 x)))) x) → Writes o s document seats n line t seats' end → Makes o s document seats n x t seats' x' end
-makes_at o s document seats n x t seats' x' end line e k busy is =
+pub makes_at : (now there : Moment) (n : ℕ) (end : LineEnd) (line : List ℕ) → ◌≡◌ {A = Line} (record { line = line; x = there.x }) (made_line now.cabinet.catalogue (is_some (pending_at (slice_get now.seats (drawn 4 now.x)))) now.x)
+    → Writes (seen now there) now.cabinet now.document now.seats n line there.cabinet there.seats end → Makes (seen now there) now.cabinet now.document now.seats n now.x there.cabinet there.seats there.x end
+makes_at now there n end line e k busy is =
     let d = k busy is in
-    let w = world_of s document busy in
-    let same = e ∙ ap (λ b. made_line s.catalogue b x) (ap (λ ss. is_some (pending_at (slice_get ss (drawn 4 x)))) (sym is.same) ∙ busy_same busy (drawn 4 x)) in
-    (d.0, d.1, subst (λ l. LineEnds o w n l (world_of t document d.0) end) (ap (λ m. m.line) same) d.2, ap (λ m. m.x) same)
+    let same = e ∙ ap (λ b. made_line now.cabinet.catalogue b now.x) (ap (λ ss. is_some (pending_at (slice_get ss (drawn 4 now.x)))) (sym is.same) ∙ busy_same busy (drawn 4 now.x)) in
+    (d.0, d.1, subst (λ l. LineEnds (seen now there) (world_at now busy) n l (world_of there.cabinet now.document d.0) end) (ap (λ m. m.line) same) d.2, ap (λ m. m.x) same)
 
 -- COUNTS
 
@@ -61,138 +81,138 @@ tally_more answers news =
       count_more (λ a. is_other (result_of a.outcome)) answers news,
     ) refl
 
--- HOW FAR
-
--- n lines are made and done, and x is the number of the draws after them
-pub record Made (told : Option ℕ) (before after : ℕ) (w : World) (number n x : ℕ) (tally : CacheTally) (text : List ℕ) (t : World) : Type 0 where
-  pub done : List (List ℕ)
-  pub chances : List Chance
-  pub answers : List Answer
-  pub lines : (count : ℕ) (more : List Chance) → made_lines (n + count) w 1 number (chances ++ more) ≡ done ++ made_lines count t (n + 1) x more
-  pub long : length done ≡ n
-  pub counted : tally ≡ tally_of answers
-  pub few : total tally ≤ n
-  pub written : text ≡ flat_map (answer_text w.capabilities) answers
-  pub far : Far told before after w done chances answers n t
-
--- one line, and then others
-one_made : (t u : World) (n x : ℕ) (c : Chance) (news : List Answer) → line_done t n c (action_in (made t x).line) ≡ Some (u, news)
-    → (count : ℕ) (more : List Chance) → made_lines (suc count) t n x (c ∷ more) ≡ (made t x).line ∷ made_lines count u (n + 1) (made t x).x more
-unfolding made_lines
-one_made t u n x c news e count more = rw e refl
-
-none_made : (t : World) (n x : ℕ) (more : List Chance) → made_lines 0 t n x more ≡ []
-unfolding made_lines
-none_made t n x more = refl
-
 few_more : (a : CacheTally) (answered : Option CacheResult) (n : ℕ) → total a ≤ n → total (both a (one_of answered)) ≤ n + 1
 few_more a None n l = omega arith
 few_more a (Some Hit) n l = omega arith
 few_more a (Some Miss) n l = omega arith
 few_more a (Some Other) n l = omega arith
 
-module _ (told told' : Option ℕ) (before mid after : ℕ) (w : World) (number n x : ℕ) (tally : CacheTally) (text : List ℕ) (t u : World) (news : List Answer) (answered : Option CacheResult)
-    (f : Made told before mid w number n x tally text t) (same : told' ≡ told) (l : IsLine told' mid after t (n + 1) (made t x).line u news) (counts : tally_of news ≡ one_of answered) where
-  lines_more : (count : ℕ) (more : List Chance) → made_lines (n + 1 + count) w 1 number ((f.chances ++ l.chance ∷ []) ++ more) ≡ (f.done ++ (made t x).line ∷ []) ++ made_lines count u (n + 1 + 1) (made t x).x more
-  lines_more count more =
-      let e : n + 1 + count ≡ n + suc count = omega arith in
-      rw (e, append_assoc f.chances (l.chance ∷ []) more, append_assoc f.done ((made t x).line ∷ []) (made_lines count u (n + 1 + 1) (made t x).x more))
-      (f.lines (suc count) (l.chance ∷ more) ∙ ap (λ ls. f.done ++ ls) (one_made t u (n + 1) x l.chance news l.made count more))
+text_more : (document was text : List ℕ) (answers news : List Answer) → document ≡ was → text ≡ flat_map (answer_text was) answers → text ++ flat_map (answer_text document) news ≡ flat_map (answer_text was) (answers ++ news)
+text_more document was text answers news same written = rw (same, written, flat_map-append (answer_text was) answers news) refl
 
-  made_next : (text' : List ℕ) → text' ≡ text ++ flat_map (answer_text t.capabilities) news → Made told before after w number (n + 1) (made t x).x (both tally (one_of answered)) text' u
-  made_next text' write =
-      record {
-        done = f.done ++ (made t x).line ∷ [];
-        chances = f.chances ++ l.chance ∷ [];
-        answers = f.answers ++ news;
-        lines = lines_more;
-        long = length-append f.done ((made t x).line ∷ []) ∙ let e = f.long in omega arith;
-        counted = sym (tally_more f.answers news ∙ ap (both (tally_of f.answers)) counts ∙ ap (λ a. both a (one_of answered)) (sym f.counted));
-        few = few_more tally answered n f.few;
-        written = write ∙ rw (f.far.capabilities, f.written, flat_map-append (answer_text w.capabilities) f.answers news) refl;
-        far = far_next told told' before mid after w f.done f.chances f.answers n (made t x).line t u news f.far same l;
-      }
+-- HOW FAR
 
--- ENDS
+-- since the start so many lines were made and run, and this is what their answers tell of the cache
+pub record HasDrilled (start now : Moment) (lines : ℕ) (tally : CacheTally) : Type 0 where
+  pub busy : List (Option PendingRequest)
+  pub seated : map seat_of busy ≡ now.seats
+  pub done : List (List ℕ)
+  pub chances : List Chance
+  pub answers : List Answer
+  pub goes : (count : ℕ) (more : List Chance) → made_lines (lines + count) (world_at start free_seats) 1 start.x (chances ++ more) ≡ done ++ made_lines count (world_at now busy) (lines + 1) now.x more
+  pub long : length done ≡ lines
+  pub counted : tally ≡ tally_of answers
+  pub few : total tally ≤ lines
+  pub written : now.text ≡ flat_map (answer_text start.document) answers
+  pub told : now.told ≡ start.told
+  pub far : Far start.told start.renders now.renders (world_at start free_seats) done chances answers lines (world_at now busy)
 
-module _ (told : Option ℕ) (before after : ℕ) (w : World) (number n x : ℕ) (tally : CacheTally) (text : List ℕ) (t : World) (f : Made told before after w number n x tally text t) where
-  all_lines : drill_lines n w number f.chances ≡ f.done
-  all_lines =
-      let none : n + 0 ≡ n = omega arith in
-      rw (none, none_made t (n + 1) x [], append-nil f.chances, append-nil f.done) at (f.lines 0 [])
-
-  all_run : drill_run n w number f.chances ≡ record { answers = f.answers; world = t; refused = None }
-  all_run = ap (λ ls. run w 1 ls f.chances) all_lines ∙ ends_done told before after w f.done f.chances f.answers n t f.far
-
-  pub all_drilled : IsDrilled told (record { before = before; after = after }) w number n f.chances t
-  all_drilled = record { ends = ap (λ r. r.refused) all_run; world = sym (ap (λ r. r.world) all_run); upheld = ends_upheld told before after w f.done f.chances f.answers n t f.far _ None all_run }
-
-  done_made : HasMadeAll n told (record { before = before; after = after }) w number t tally (sha256 text)
-  done_made = (
-    f.chances,
-    all_drilled,
-    ap length all_lines ∙ f.long,
-    f.counted ∙ sym (ap (λ r. tally_of r.answers) all_run),
-    ap sha256 (f.written ∙ sym (ap (output_of w.capabilities) all_run)),
-    f.few,
-  )
-
--- THE SEATS OF THE CODE
-
-abbrev pub Seated : Option ℕ → ℕ → ℕ → World → ℕ → ℕ → ℕ → CacheTally → List ℕ → State → List ℕ → List Seat → Type 0
-Seated told before after w number n x tally text s document seats = (busy : List (Option PendingRequest)) × (map seat_of busy ≡ seats) × Made told before after w number n x tally text (world_of s document busy)
-
--- the seats after a call, and how the lines ended
-abbrev Ends : Option ℕ → ℕ → ℕ → World → ℕ → State → List ℕ → List Seat → MadeEnd → Type 0
-Ends told before after w number s document seats end = (busy : List (Option PendingRequest)) × (map seat_of busy ≡ seats) × HasMade told (record { before = before; after = after }) w number (world_of s document busy) end
-
-abbrev pub made_start : (told : Option ℕ) (n : ℕ) (s : State) (document : List ℕ) (number : ℕ) → Made told n n (world_of s document free_seats) number 0 number (record { hits = 0; misses = 0; others = 0 }) [] (world_of s document free_seats)
-made_start told n s document number =
+abbrev pub drilled_start : {start : Moment} → start.seats ≡ replicate ACTORS seat.Free → start.text ≡ [] → HasDrilled start start 0 (record { hits = 0; misses = 0; others = 0 })
+drilled_start {start} free empty =
     record {
+      busy = free_seats;
+      seated = free_same ACTORS ∙ sym free;
       done = [];
       chances = [];
       answers = [];
-      lines = λ count more. let none : 0 + count ≡ count = omega arith in rw none refl;
+      goes = λ count more. let none : 0 + count ≡ count = omega arith in rw none refl;
       long = refl;
       counted = refl;
       few = omega arith;
-      written = refl;
-      far = far_start_free told n s document;
+      written = empty;
+      told = refl;
+      far = far_start_free start.told start.renders start.cabinet start.document;
     }
 
-pub seated_start : (told : Option ℕ) (n : ℕ) (s : State) (document : List ℕ) (seats : List Seat) (number : ℕ) → seats ≡ replicate ACTORS seat.Free
-    → Seated told n n (world_of s document free_seats) number 0 number (record { hits = 0; misses = 0; others = 0 }) [] s document seats
-seated_start told n s document seats number e = (free_seats, free_same ACTORS ∙ sym e, made_start told n s document number)
+-- ONE LINE MORE
 
-pub seated_done : (told : Option ℕ) (before after : ℕ) (w : World) (number n x : ℕ) (tally : CacheTally) (text : List ℕ) (s : State) (document : List ℕ) (seats : List Seat)
-    → Seated told before after w number n x tally text s document seats → n ≡ line_count → Ends told before after w number s document seats (made_end.Done tally (sha256 text))
-seated_done told before after w number n x tally text s document seats f e =
-    let h = done_made told before after w number n x tally text (world_of s document f.0) f.2 in
-    (f.0, f.1, subst (λ k. HasMadeAll k told (record { before = before; after = after }) w number (world_of s document f.0) tally (sha256 text)) e h)
+-- the next line was made and run, and ended so
+pub record RanMade (now there : Moment) (lines : ℕ) (end : LineEnd) : Type 0 where
+  pub told : there.told ≡ now.told
+  pub document : there.document ≡ now.document
+  pub makes : Makes (seen now there) now.cabinet now.document now.seats (lines + 1) now.x there.cabinet there.seats there.x end
 
-pub seated_short : (told : Option ℕ) (before after : ℕ) (w : World) (number n x : ℕ) (tally : CacheTally) (text : List ℕ) (s : State) (document : List ℕ) (seats : List Seat)
-    → Seated told before after w number n x tally text s document seats → n ≤ line_count → Ends told before after w number s document seats made_end.OutOfMemory
-seated_short told before after w number n x tally text s document seats f l =
-    (f.0, f.1, (n, l, f.2.chances, all_drilled told before after w number n x tally text (world_of s document f.0) f.2))
+-- one line, and then others
+one_made : (t u : World) (n x later : ℕ) (c : Chance) (news : List Answer) → line_done t n c (action_in (made t x).line) ≡ Some (u, news) → later ≡ (made t x).x
+    → (count : ℕ) (more : List Chance) → made_lines (suc count) t n x (c ∷ more) ≡ (made t x).line ∷ made_lines count u (n + 1) later more
+unfolding made_lines
+one_made t u n x later c news e draws count more = rw (e, draws) refl
 
-module _ (told via : Option ℕ) (before mid after : ℕ) (w : World) (number n x x' : ℕ) (tally : CacheTally) (text text' : List ℕ) (s t : State) (document : List ℕ) (seats later : List Seat)
-    (f : Seated told before mid w number n x tally text s document seats) (same : via ≡ told) where
-  abbrev one : Outside
-  one = record { told = via; renders = record { before = mid; after = after }; writes = record { before = 0; after = 0 }; from = Some text; to = Some text' }
+none_made : (t : World) (n x : ℕ) (more : List Chance) → made_lines 0 t n x more ≡ []
+unfolding made_lines
+none_made t n x more = refl
 
-  abbrev is_seated : IsSeated s document seats f.0
-  is_seated = record { same = f.1; world = f.2.far.world }
+module _ {start now there : Moment} {lines : ℕ} {tally : CacheTally} {end : LineEnd} (f : HasDrilled start now lines tally) (l : RanMade now there lines end) where
+  -- the line that is made in the world so far, and how it ended there
+  abbrev line : Line
+  line = made (world_at now f.busy) now.x
 
-  pub seated_next : (answered : Option CacheResult) (end : LineEnd) → end ≡ line_end.Done answered → Makes one s document seats (n + 1) x t later x' end → Seated told before after w number (n + 1) x' (both tally (one_of answered)) text' t document later
-  seated_next answered end e k =
-      let d = subst (λ v. Makes one s document seats (n + 1) x t later x' v) e k f.0 is_seated in
-      let line = d.2 in
-      let next = made_next told via before mid after w number n x tally text (world_of s document f.0) (world_of t document d.0) line.0 answered f.2 same line.1 line.3 text' line.2 in
-      (d.0, d.1, rw d.3 next)
+  line_ended : (later : List (Option PendingRequest)) × (map seat_of later ≡ there.seats) × LineEnds (seen now there) (world_at now f.busy) (lines + 1) line.line (world_at there later) end × (there.x ≡ line.x)
+  line_ended =
+      let d = l.makes f.busy (record { same = f.seated; world = f.far.world }) in
+      (d.0, d.1, subst (λ x. LineEnds (seen now there) (world_at now f.busy) (lines + 1) line.line (world_of there.cabinet x d.0) end) (sym l.document) d.2, d.3)
 
-  -- the line is not refused
-  pub seated_accepted : IsValid s.catalogue → length seats ≡ ACTORS → (end : LineEnd) → end ≡ line_end.Refused → Makes one s document seats (n + 1) x t later x' end → ⊥
-  seated_accepted v long end ends k =
-      let d = subst (λ v. Makes one s document seats (n + 1) x t later x' v) ends k f.0 is_seated in
-      let few : 4 ≤ length f.0 = let e = ap length f.1 in let m = length-map f.0 seat_of in omega arith in
-      never_refused (world_of s document f.0) (n + 1) calm x v few d.2.0
+pub drilled_next : {start now there : Moment} {lines : ℕ} {tally : CacheTally} {answered : Option CacheResult} {end : LineEnd} → HasDrilled start now lines tally → RanMade now there lines end → end ≡ line_end.Done answered
+    → HasDrilled start there (lines + 1) (both tally (one_of answered))
+drilled_next {start} {now} {there} {lines} {tally} {answered} f l is =
+    let d = line_ended f (subst (RanMade now there lines) is l) in
+    let its = made (world_at now f.busy) now.x in
+    let ran = d.2 in
+    let chance = ran.1.chance in
+    record {
+      busy = d.0;
+      seated = d.1;
+      done = f.done ++ its.line ∷ [];
+      chances = f.chances ++ chance ∷ [];
+      answers = f.answers ++ ran.0;
+      goes = λ count more.
+          let e : lines + 1 + count ≡ lines + suc count = omega arith in
+          rw (e, append_assoc f.chances (chance ∷ []) more, append_assoc f.done (its.line ∷ []) (made_lines count (world_at there d.0) (lines + 1 + 1) there.x more))
+          (f.goes (suc count) (chance ∷ more) ∙ ap (λ ls. f.done ++ ls) (one_made (world_at now f.busy) (world_at there d.0) (lines + 1) now.x there.x chance ran.0 ran.1.made d.3 count more));
+      long = length-append f.done (its.line ∷ []) ∙ let e = f.long in omega arith;
+      counted = sym (tally_more f.answers ran.0 ∙ ap (both (tally_of f.answers)) ran.3 ∙ ap (λ a. both a (one_of answered)) (sym f.counted));
+      few = few_more tally answered lines f.few;
+      written = ran.2 ∙ text_more now.document start.document now.text f.answers ran.0 f.far.capabilities f.written;
+      told = l.told ∙ f.told;
+      far = far_next f.far f.told ran.1;
+    }
+
+-- in a valid catalogue the line is not refused
+pub drilled_accepted : {start now there : Moment} {lines : ℕ} {tally : CacheTally} {end : LineEnd} → HasDrilled start now lines tally → RanMade now there lines end → end ≡ line_end.Refused → IsValid now.cabinet.catalogue → length now.seats ≡ ACTORS → ⊥
+drilled_accepted {now = now} {there} {lines} f l is valid long =
+    let d = line_ended f (subst (RanMade now there lines) is l) in
+    let few : 4 ≤ length f.busy = let e = ap length f.seated in let m = length-map f.busy seat_of in omega arith in
+    never_refused (world_at now f.busy) (lines + 1) calm now.x valid few d.2.0
+
+-- ENDS
+
+-- the lines have ended so
+abbrev HasEnded : Moment → Moment → MadeEnd → Type 0
+HasEnded start now end = (busy : List (Option PendingRequest)) × (map seat_of busy ≡ now.seats) × HasMade start.told (record { before = start.renders; after = now.renders }) (world_at start free_seats) start.x (world_at now busy) end
+
+module _ {start now : Moment} {lines : ℕ} {tally : CacheTally} (f : HasDrilled start now lines tally) where
+  all_lines : drill_lines lines (world_at start free_seats) start.x f.chances ≡ f.done
+  all_lines =
+      let none : lines + 0 ≡ lines = omega arith in
+      rw (none, none_made (world_at now f.busy) (lines + 1) now.x [], append-nil f.chances, append-nil f.done) at (f.goes 0 [])
+
+  all_run : drill_run lines (world_at start free_seats) start.x f.chances ≡ record { answers = f.answers; world = world_at now f.busy; refused = None }
+  all_run = ap (λ ls. run (world_at start free_seats) 1 ls f.chances) all_lines ∙ ends_done f.far
+
+  pub all_drilled : IsDrilled start.told (record { before = start.renders; after = now.renders }) (world_at start free_seats) start.x lines f.chances (world_at now f.busy)
+  all_drilled = record { ends = ap (λ r. r.refused) all_run; world = sym (ap (λ r. r.world) all_run); upheld = ends_upheld f.far _ None all_run }
+
+  pub drilled_done : lines ≡ line_count → HasEnded start now (made_end.Done tally (sha256 now.text))
+  drilled_done e =
+      let made : HasMadeAll lines start.told (record { before = start.renders; after = now.renders }) (world_at start free_seats) start.x (world_at now f.busy) tally (sha256 now.text) = (
+        f.chances,
+        all_drilled,
+        ap length all_lines ∙ f.long,
+        f.counted ∙ sym (ap (λ r. tally_of r.answers) all_run),
+        ap sha256 (f.written ∙ sym (ap (output_of start.document) all_run)),
+        f.few,
+      ) in
+      (f.busy, f.seated, subst (λ k. HasMadeAll k start.told (record { before = start.renders; after = now.renders }) (world_at start free_seats) start.x (world_at now f.busy) tally (sha256 now.text)) e made)
+
+  pub drilled_short : lines ≤ line_count → HasEnded start now made_end.OutOfMemory
+  drilled_short few = (f.busy, f.seated, (lines, few, f.chances, all_drilled))

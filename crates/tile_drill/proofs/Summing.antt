@@ -8,6 +8,7 @@ use Rattle.causes.specs.Causes.{Rose}
 use Rattle.sha2.specs.Sha256.{sha256}
 use Rattle.tile_drill.specs.declared.drill.DrillEnd.TheVariants.{Done, OutOfMemory, WriteFault}
 use Rattle.tile_drill.specs.declared.drill_run.MadeEnd.TheVariants as made_end
+use Rattle.tile_service.specs.declared.seats.Seat.TheVariants as seat
 use Rattle.tile_service.specs.declared.seats.TheConstants.{ACTORS}
 use Rattle.tile_service.specs.declared.cache_tally.CacheResult.{CacheResult}
 use Rattle.tile_service.specs.declared.cache_tally.CacheResult.TheVariants.{Hit, Miss, Other}
@@ -18,7 +19,7 @@ use Rattle.tile_service.specs.Outside.{FaultCounts, Outside}
 use Rattle.tile_service.specs.Run.{Answer, Run, World, closed, free_seats, left_by, output_of, world_of}
 use Rattle.tile_requests.specs.Sent.{AppendsFront}
 use Rattle.tile_service.specs.CacheTally.{is_hit, is_miss, is_other, result_of, tally_of, total}
-use Rattle.tile_drill.proofs.Making.{all_drilled, made_start}
+use Rattle.tile_drill.proofs.Making.{Moment, all_drilled, drilled_start}
 
 -- EVERY ANSWER IS COUNTED ONCE
 
@@ -48,32 +49,26 @@ outside told renders writes from to = record { told = told; renders = renders; w
 abbrev no_faults : FaultCounts
 no_faults = record { before = 0; after = 0 }
 
-module _ (told : Option ℕ) (renders : FaultCounts) (from to : Option (List ℕ)) (number : ℕ) (w last t : World) (tally : CacheTally) (digest : List ℕ)
+module _ {told : Option ℕ} {renders : FaultCounts} {number : ℕ} {w last t : World} {tally : CacheTally} {digest : List ℕ}
     (h : HasMade told renders w number last (made_end.Done tally digest)) (closes : t ≡ closed last) where
   its_text : counts_text number (total tally) tally ++ digest_text digest ≡ summary w.capabilities number (drill_run line_count w number h.0)
   its_text = summary_is w.capabilities number (drill_run line_count w number h.0) tally digest h.3 h.4
 
-  pub drills_done : Appends from to (counts_text number (total tally) tally ++ digest_text digest) → Drills (outside told renders no_faults from to) ⊤ number w t Done
-  drills_done sent = (h.0, last, h.1, closes, h.2, subst (Appends from to) its_text sent)
+  pub drills_done : (from to : Option (List ℕ)) → Appends from to (counts_text number (total tally) tally ++ digest_text digest) → Drills (outside told renders no_faults from to) ⊤ number w t Done
+  drills_done from to sent = (h.0, last, h.1, closes, h.2, subst (Appends from to) its_text sent)
 
-  pub drills_cut : (before after : ℕ) → AppendsFront from to (counts_text number (total tally) tally ++ digest_text digest) → Rose before after
+  pub drills_cut : (from to : Option (List ℕ)) (before after : ℕ) → AppendsFront from to (counts_text number (total tally) tally ++ digest_text digest) → Rose before after
       → Drills (outside told renders (record { before = before; after = after }) from to) ⊤ number w t WriteFault
-  drills_cut before after sent rose = (h.0, last, h.1, closes, subst (AppendsFront from to) its_text sent, rose)
+  drills_cut from to before after sent rose = (h.0, last, h.1, closes, subst (AppendsFront from to) its_text sent, rose)
 
 none_left : (s : State) (n : ℕ) → fold left_by s (replicate n None) ≡ s
 none_left s zero = refl
 none_left s (suc n) = none_left s n
 
 -- before the first line
-pub drills_nothing : (told : Option ℕ) (n : ℕ) (Stays : Type 0) (number : ℕ) (s : State) (document : List ℕ) → Stays
-    → Drills (outside told (record { before = n; after = n }) no_faults None None) Stays number (world_of s document free_seats) (world_of s document free_seats) OutOfMemory
-drills_nothing told n Stays number s document stays =
-    let w = world_of s document free_seats in (
-      0,
-      omega arith,
-      [],
-      w,
-      all_drilled told n n w number 0 number (record { hits = 0; misses = 0; others = 0 }) [] w (made_start told n s document number),
-      sym (ap (λ u. world_of u document free_seats) (none_left s ACTORS)),
-      stays,
-    )
+pub drills_nothing : {Stays : Type 0} (told : Option ℕ) (renders number : ℕ) (s : State) (document : List ℕ) → Stays
+    → Drills (outside told (record { before = renders; after = renders }) no_faults None None) Stays number (world_of s document free_seats) (world_of s document free_seats) OutOfMemory
+drills_nothing told renders number s document stays =
+    let start : Moment = record { told = told; renders = renders; cabinet = s; document = document; seats = replicate ACTORS seat.Free; x = number; text = [] } in
+    let drilled = drilled_start {start = start} refl refl in
+    (0, omega arith, [], world_of s document free_seats, all_drilled drilled, sym (ap (λ u. world_of u document free_seats) (none_left s ACTORS)), stays)

@@ -91,7 +91,7 @@ one_line : (t u : World) (n : ℕ) (line : List ℕ) (c : Chance) (news : List A
     → (tail : List (List ℕ)) (more : List Chance) → run t n (line ∷ tail) (c ∷ more) ≡ behind news (run u (n + 1) tail more)
 one_line t u n line c news e tail more = rw e refl
 
-module _ (told told' : Option ℕ) (before mid after : ℕ) (w : World) (done : List (List ℕ)) (made : List Chance) (answers : List Answer) (n : ℕ) (line : List ℕ) (t u : World) (news : List Answer)
+module _ {told told' : Option ℕ} {before mid after : ℕ} {w : World} {done : List (List ℕ)} {made : List Chance} {answers : List Answer} {n : ℕ} {line : List ℕ} {t u : World} {news : List Answer}
     (f : Far told before mid w done made answers n t) (same : told' ≡ told) (l : IsLine told' mid after t (n + 1) line u news) where
   goes_more : (tail : List (List ℕ)) (more : List Chance) → run w 1 ((done ++ line ∷ []) ++ tail) ((made ++ l.chance ∷ []) ++ more) ≡ behind (answers ++ news) (run u (n + 1 + 1) tail more)
   goes_more tail more =
@@ -133,8 +133,8 @@ module _ (told told' : Option ℕ) (before mid after : ℕ) (w : World) (done : 
       }
 
 -- nothing happens while the source goes on
-pub far_waits : (told : Option ℕ) (before mid after : ℕ) (w : World) (done : List (List ℕ)) (made : List Chance) (answers : List Answer) (n : ℕ) (t : World) → Far told before mid w done made answers n t → mid ≤ after → Far told before after w done made answers n t
-far_waits told before mid after w done made answers n t f later =
+pub far_waits : {told : Option ℕ} {before mid after : ℕ} {w : World} {done : List (List ℕ)} {made : List Chance} {answers : List Answer} {n : ℕ} {t : World} → Far told before mid w done made answers n t → mid ≤ after → Far told before after w done made answers n t
+far_waits f later =
     record {
       goes = f.goes;
       later = let i = f.later in omega arith;
@@ -150,7 +150,7 @@ far_waits told before mid after w done made answers n t f later =
 
 -- ENDS
 
-module _ (told : Option ℕ) (before after : ℕ) (w : World) (done : List (List ℕ)) (made : List Chance) (answers : List Answer) (n : ℕ) (t : World) (f : Far told before after w done made answers n t) where
+module _ {told : Option ℕ} {before after : ℕ} {w : World} {done : List (List ℕ)} {made : List Chance} {answers : List Answer} {n : ℕ} {t : World} (f : Far told before after w done made answers n t) where
   abbrev pub came_to : Option ℕ → Run
   came_to refused = record { answers = answers; world = t; refused = refused }
 

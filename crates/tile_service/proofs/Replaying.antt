@@ -1,10 +1,10 @@
 -- A session that is under way: one message more, whose answer was written.
-use Rattle.std.proofs.Common.{◌≡◌, ℕ, ◌+◌, Bool, true, false, List, [], ◌∷◌, ◌++◌, length, Option, Some, None, inl, inr, refl, sym, subst, append-nil}
+use Rattle.std.proofs.Common.{◌≡◌, ℕ, ◌+◌, Bool, true, false, List, [], ◌∷◌, ◌++◌, length, Option, Some, None, inl, inr, refl, subst, append-nil, ◌∙◌}
 use Rattle.std.specs.Io.KnownBytes.{Appends, prepend_known}
 use Rattle.std.proofs.lemmas.Grind.{flat_map-append}
 use Rattle.cabinet.specs.State.{State}
 use Rattle.http_wire.specs.Answers.{TakesMessage, AnswersNext}
-use Rattle.http_wire.specs.Reader.{Reading, stream}
+use Rattle.http_wire.specs.Reader.{Reading}
 use Rattle.http_wire.specs.Streams.{StandIn}
 use Rattle.http_wire.specs.declared.message.Message.{Message}
 use Rattle.http_wire.specs.declared.message.Next.{Next}
@@ -14,115 +14,156 @@ use Rattle.tile_requests.specs.declared.outcome.Outcome.{Outcome}
 use Rattle.tile_service.specs.OneLine.{MayTell}
 use Rattle.tile_requests.specs.Requests.{answered_at}
 use Rattle.tile_requests.specs.Response.{response}
+use Rattle.tile_service.specs.Outside.{InputChange, Outside}
 use Rattle.tile_service.specs.Run.{Answer}
-use Rattle.tile_requests.specs.Sent.{AppendsFront, AppendsPart}
 use Rattle.tile_service.specs.Serving.{Serves}
 use Rattle.tile_service.specs.Session.{reply_text, replies}
-use Rattle.tile_service.specs.SessionEnds.{AreOpen}
+use Rattle.tile_service.specs.SessionEnds.{AreOpen, HasSession}
+use Rattle.tile_service.specs.declared.session.SessionEnd.{SessionEnd}
 use Rattle.tile_requests.proofs.Known.{appends_more, appends_nothing}
 use Rattle.tile_service.proofs.SoFar.{HasServed, served_start, served_next, the_answer}
 
--- n messages were answered, none of them the last of its connection; this is left of the bytes, and that was written
-pub record IsUnderWay (told : Option ℕ) (before now : ℕ) (document : List ℕ) (s t : State) (from left empty written : Option (List ℕ)) (n : ℕ) : Type 0 where
+-- MOMENTS
+
+-- how a link stands: the faults of its reads and of its writes, the bytes that are left, and those that it has taken, where they
+-- are modelled
+pub record Wire : Type 0 where
+  pub reads : ℕ
+  pub writes : ℕ
+  pub left : Option (List ℕ)
+  pub taken : Option (List ℕ)
+
+-- how all stands at a moment of a session: what is modelled of the source, and its faults, the document, the cabinet, the link
+pub record Moment : Type 0 where
+  pub told : Option ℕ
+  pub renders : ℕ
+  pub document : List ℕ
+  pub cabinet : State
+  pub wire : Wire
+
+-- what is seen of the input, and of the source and the output, from one moment to another
+abbrev pub input : Moment → Moment → InputChange
+input a b = record { reads = record { before = a.wire.reads; after = b.wire.reads }; from = a.wire.left; to = b.wire.left }
+
+abbrev pub outside : Moment → Moment → Outside
+outside a b = record { told = a.told; renders = record { before = a.renders; after = b.renders }; writes = record { before = a.wire.writes; after = b.wire.writes }; from = a.wire.taken; to = b.wire.taken }
+
+-- the session was held from one moment to another
+abbrev pub IsHeld : Moment → Moment → SessionEnd → Type 0
+IsHeld start now end = HasSession (input start now) (outside start now) start.document start.cabinet now.cabinet end
+
+-- HOW FAR
+
+-- since the start n messages were answered, none of them the last of its connection, and these bytes are held
+pub record IsUnderWay (start now : Moment) (held : List ℕ) (n : ℕ) : Type 0 where
   pub messages : List Message
   pub answers : List Answer
   pub all_open : AreOpen messages
-  pub stand : StandIn from messages left
-  pub served : HasServed told before now document s t messages answers n
-  pub text : Appends empty written (replies document answers)
+  pub stand : StandIn start.wire.left messages (prepend_known held now.wire.left)
+  pub served : HasServed start.told start.renders now.renders start.document start.cabinet now.cabinet messages answers n
+  pub text : Appends start.wire.taken now.wire.taken (replies start.document answers)
+  pub told : now.told ≡ start.told
+  pub document : now.document ≡ start.document
 
 -- before the first message
 pub stand_none : (bytes : Option (List ℕ)) → StandIn bytes [] (prepend_known [] bytes)
 stand_none None = tt
 stand_none (Some bytes) = refl
 
-pub under_way_start : (told : Option ℕ) (count : ℕ) (document : List ℕ) (s : State) (from empty : Option (List ℕ)) (reading : Reading) → reading ≡ record { held = []; ended = None }
-    → IsUnderWay told count count document s s from (stream reading from) empty empty 0
-under_way_start told count document s from empty reading e =
+pub under_way_start : {start : Moment} (reading : Reading) → reading ≡ record { held = []; ended = None } → IsUnderWay start start reading.held 0
+under_way_start {start} reading e =
     record {
       messages = [];
       answers = [];
       all_open = tt;
-      stand = rw e (stand_none from);
-      served = served_start told count document s;
-      text = appends_nothing empty;
+      stand = rw e (stand_none start.wire.left);
+      served = served_start start.told start.renders start.document start.cabinet;
+      text = appends_nothing start.wire.taken;
+      told = refl;
+      document = refl;
     }
 
 -- ONE MESSAGE MORE
 
--- n messages were answered, none of them the last of its connection, and then m
-pub record IsAnswered (told : Option ℕ) (before now : ℕ) (document : List ℕ) (s t : State) (from left : Option (List ℕ)) (n : ℕ) (m : Message) : Type 0 where
+-- how a text is sent: the bytes that were taken before and after it, and the text
+abbrev pub Sending : Type 1
+Sending = Option (List ℕ) → Option (List ℕ) → List ℕ → Type 0
+
+-- m was read, with these bytes held after it, and served, and its response was sent so
+pub record Meets (Sends : Sending) (now there : Moment) (held later : List ℕ) (n : ℕ) (m : Message) : Type 0 where
+  pub takes : TakesMessage (prepend_known held now.wire.left) m (prepend_known later there.wire.left)
+  pub outcome : Outcome
+  pub serves : Serves now.told now.renders there.renders now.document now.cabinet m outcome there.cabinet
+  pub told : there.told ≡ now.told
+  pub document : there.document ≡ now.document
+  pub sends : MayTell outcome (λ o. Sends now.wire.taken there.wire.taken (response now.document m (n + 1) o))
+
+-- an answer that is a message
+pub takes_it : (before after : Option (List ℕ)) {next : Next} {m : Message} → next ≡ nexts.Message m → AnswersNext before after next → TakesMessage before m after
+takes_it before after is answers = subst (AnswersNext before after) is answers
+
+-- n messages were answered, none of them the last of its connection, and then m, whose response was sent so behind theirs
+pub record IsAnswered (Sends : Sending) (start now : Moment) (held : List ℕ) (n : ℕ) (m : Message) : Type 0 where
   pub earlier : List Message
-  pub answers : List Answer
   pub before_it : List Answer
   pub answer : Answer
-  pub split : answers ≡ before_it ++ answer ∷ []
   pub all_open : AreOpen earlier
   pub many : length earlier ≡ n
-  pub stand : StandIn from (earlier ++ m ∷ []) left
-  pub served : HasServed told before now document s t (earlier ++ m ∷ []) answers (n + 1)
+  pub stand : StandIn start.wire.left (earlier ++ m ∷ []) (prepend_known held now.wire.left)
+  pub served : HasServed start.told start.renders now.renders start.document start.cabinet now.cabinet (earlier ++ m ∷ []) (before_it ++ answer ∷ []) (n + 1)
+  pub between : Option (List ℕ)
+  pub text : Appends start.wire.taken between (replies start.document before_it)
+  pub sent : Sends between now.wire.taken (reply_text start.document answer)
 
 -- what is told is told of the answer's outcome
 which_told : (o : Outcome) (P : Outcome → Type 0) → MayTell o P → (left : Bool) × P (answered_at left o)
 which_told o P (inl k) = (true, k)
 which_told o P (inr k) = (false, rw k.0 k.1)
 
--- the message was read, served, and its answer written, whole or in part
-module _ (told via : Option ℕ) (before mid after : ℕ) (document words : List ℕ) (s t u : State) (from here rest left empty middle sent written : Option (List ℕ)) (held : List ℕ) (next : Next) (n : ℕ) (m : Message) (o : Outcome)
-    (f : IsUnderWay told before mid document s t from here empty middle n) (found : AnswersNext here (prepend_known held rest) next) (is : next ≡ nexts.Message m) (unsent : sent ≡ middle) (same : via ≡ told) (same_words : words ≡ document)
-    (serves : Serves via mid after words t m o u) (unread : left ≡ rest) where
-  takes : TakesMessage here m (prepend_known held left)
-  takes = let k : TakesMessage here m (prepend_known held rest) = subst (AnswersNext here (prepend_known held rest)) is found in rw unread k
+module _ {Sends : Sending} {start now there : Moment} {held later : List ℕ} {n : ℕ} {m : Message} (f : IsUnderWay start now held n) (met : Meets Sends now there held later n m) where
+  serves : Serves now.told now.renders there.renders start.document now.cabinet m met.outcome there.cabinet
+  serves = subst (λ d. Serves now.told now.renders there.renders d now.cabinet m met.outcome there.cabinet) f.document met.serves
 
-  h : Serves via mid after document t m o u
-  h = rw same_words at serves
+  tells : MayTell met.outcome (λ o. Sends now.wire.taken there.wire.taken (response start.document m (n + 1) o))
+  tells = subst (λ d. MayTell met.outcome (λ o. Sends now.wire.taken there.wire.taken (response d m (n + 1) o))) f.document met.sends
 
-  abbrev its_answer : Bool → Answer
-  its_answer memory = the_answer told via before mid after document s t u f.messages f.answers n m o f.served same h memory
-
-  its_text : (memory : Bool) → response document m (n + 1) (answered_at memory o) ≡ replies document (its_answer memory ∷ [])
-  its_text memory = sym (append-nil (reply_text document (its_answer memory)))
-
-  abbrev answered : Bool → IsAnswered told before after document s u from (prepend_known held left) n m
-  answered memory =
+  pub answered : IsAnswered Sends start there later n m
+  answered =
+      let k = which_told met.outcome (λ o. Sends now.wire.taken there.wire.taken (response start.document m (n + 1) o)) tells in
       record {
         earlier = f.messages;
-        answers = f.answers ++ its_answer memory ∷ [];
         before_it = f.answers;
-        answer = its_answer memory;
-        split = refl;
+        answer = the_answer f.served f.told serves k.0;
         all_open = f.all_open;
         many = f.served.many;
-        stand = stand_in_more from here (prepend_known held left) f.messages m f.stand takes;
-        served = served_next told via before mid after document s t u f.messages f.answers n m o f.served same h memory;
+        stand = stand_in_more start.wire.left (prepend_known held now.wire.left) (prepend_known later there.wire.left) f.messages m f.stand met.takes;
+        served = served_next f.served f.told serves k.0;
+        between = now.wire.taken;
+        text = f.text;
+        sent = k.1;
       }
 
-  -- its answer was written
-  pub answered_whole : MayTell o (λ x. Appends sent written (response words m (n + 1) x)) → (a : IsAnswered told before after document s u from (prepend_known held left) n m) × Appends empty written (replies document a.answers)
-  answered_whole tells =
-      let k = which_told o (λ x. Appends sent written (response document m (n + 1) x)) (subst (λ d. MayTell o (λ x. Appends sent written (response d m (n + 1) x))) same_words tells) in
-      let one : Appends middle written (replies document (its_answer k.0 ∷ [])) = subst (λ x. Appends x written (replies document (its_answer k.0 ∷ []))) unsent (subst (Appends sent written) (its_text k.0) k.1) in
-      (answered k.0, rw (flat_map-append (reply_text document) f.answers (its_answer k.0 ∷ [])) (appends_more empty middle written _ _ f.text one))
-
-  -- a front of it was written
-  pub answered_front : MayTell o (λ x. AppendsFront sent written (response words m (n + 1) x)) → (a : IsAnswered told before after document s u from (prepend_known held left) n m) × AppendsPart empty written (replies document a.before_it) (reply_text document a.answer)
-  answered_front tells =
-      let k = which_told o (λ x. AppendsFront sent written (response document m (n + 1) x)) (subst (λ d. MayTell o (λ x. AppendsFront sent written (response d m (n + 1) x))) same_words tells) in
-      (answered k.0, record { between = middle; whole = f.text; part = subst (λ x. AppendsFront x written (reply_text document (its_answer k.0))) unsent k.1 })
+-- all of it was written
+pub whole_text : {start now : Moment} {held : List ℕ} {n : ℕ} {m : Message} (a : IsAnswered Appends start now held n m) → Appends start.wire.taken now.wire.taken (replies start.document (a.before_it ++ a.answer ∷ []))
+whole_text {start} {now} a =
+    let one : Appends a.between now.wire.taken (replies start.document (a.answer ∷ [])) = rw (append-nil (reply_text start.document a.answer)) a.sent in
+    rw (flat_map-append (reply_text start.document) a.before_it (a.answer ∷ [])) (appends_more start.wire.taken a.between now.wire.taken _ _ a.text one)
 
 open_more : (messages : List Message) (m : Message) → AreOpen messages → m.last ≡ false → AreOpen (messages ++ m ∷ [])
 open_more [] m all e = (e, tt)
 open_more (x ∷ messages) m all e = (all.0, open_more messages m all.1 e)
 
 -- and the session goes on
-pub under_way_next : (told : Option ℕ) (before now : ℕ) (document : List ℕ) (s t : State) (from left empty written : Option (List ℕ)) (n : ℕ) (m : Message) → m.last ≡ false
-    → (a : IsAnswered told before now document s t from left n m) × Appends empty written (replies document a.answers) → IsUnderWay told before now document s t from left empty written (n + 1)
-under_way_next told before now document s t from left empty written n m e a =
+pub under_way_next : {start now there : Moment} {held later : List ℕ} {n : ℕ} {m : Message} → IsUnderWay start now held n → Meets Appends now there held later n m → m.last ≡ false → IsUnderWay start there later (n + 1)
+under_way_next {m = m} f met last =
+    let a = answered f met in
     record {
-      messages = a.0.earlier ++ m ∷ [];
-      answers = a.0.answers;
-      all_open = open_more a.0.earlier m a.0.all_open e;
-      stand = a.0.stand;
-      served = a.0.served;
-      text = a.1;
+      messages = a.earlier ++ m ∷ [];
+      answers = a.before_it ++ a.answer ∷ [];
+      all_open = open_more a.earlier m a.all_open last;
+      stand = a.stand;
+      served = a.served;
+      text = whole_text a;
+      told = met.told ∙ f.told;
+      document = met.document ∙ f.document;
     }

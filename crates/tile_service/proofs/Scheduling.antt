@@ -1,148 +1,184 @@
 -- How far the run of a schedule's text has come, one more line, and its ends.
-use Rattle.std.proofs.Common.{◌≡◌, ℕ, map, replicate, ◌+◌, ◌≤◌, List, [], ◌∷◌, ◌++◌, Option, Some, None, length, flat_map, refl, sym, ap, subst, ◌∙◌, arith, append_assoc, append-nil}
+use Rattle.std.proofs.Common.{◌≡◌, ℕ, map, replicate, ◌+◌, ◌≤◌, List, [], ◌∷◌, ◌++◌, Option, None, Some, length, flat_map, refl, sym, ap, subst, ◌∙◌, arith, append_assoc, append-nil}
 use Rattle.std.specs.Io.KnownBytes.{Appends}
 use Rattle.std.proofs.lemmas.Grind.{flat_map-append}
 use Rattle.cabinet.specs.State.{State}
-use Rattle.causes.specs.Causes.{Rose}
-use Rattle.tile_service.specs.declared.run_lines.RunEnd.TheVariants.{Done, Line, WriteFault}
+use Rattle.tile_service.specs.declared.run_line.LineEnd.{LineEnd}
 use Rattle.tile_service.specs.declared.run_line.LineEnd.TheVariants as line_end
+use Rattle.tile_service.specs.declared.run_lines.RunEnd.{RunEnd}
+use Rattle.tile_service.specs.declared.run_lines.RunEnd.TheVariants.{Done, Line, WriteFault}
 use Rattle.tile_service.specs.declared.seats.Seat.{Seat}
 use Rattle.tile_service.specs.declared.seats.Seat.TheVariants as seat
 use Rattle.tile_service.specs.declared.seats.TheConstants.{ACTORS}
 use Rattle.tile_service.specs.declared.cache_tally.CacheResult.{CacheResult}
-use Rattle.tile_service.specs.Written.{Writes}
-use Rattle.tile_service.specs.Lines.{lines_of, action_in}
-use Rattle.tile_service.specs.OneLine.{IsLine, IsSeated, seat_of}
+use Rattle.tile_service.specs.Written.{LineEnds, Writes}
+use Rattle.tile_service.specs.Lines.{lines_of}
+use Rattle.tile_service.specs.OneLine.{seat_of}
 use Rattle.tile_service.specs.Outside.{Outside}
-use Rattle.tile_requests.specs.Requests.{Chance, calm}
-use Rattle.tile_service.specs.Run.{PendingRequest, free_seats, World, Answer, line_done, answer_text, world_of}
+use Rattle.tile_requests.specs.Requests.{Chance}
+use Rattle.tile_service.specs.Run.{PendingRequest, free_seats, World, Answer, answer_text, world_of}
 use Rattle.tile_service.specs.Schedules.{HasRun}
 use Rattle.tile_requests.specs.Sent.{AppendsFront}
 use Rattle.tile_requests.proofs.Known.{appends_more, appends_nothing}
 use Rattle.tile_service.proofs.Far.{Far, far_next, far_start_free, far_waits, so_far_done, ends_done, ends_refused, ends_upheld, free_same}
 
--- n lines of the text are done, and the rest is not
-pub record Reads (told : Option ℕ) (before after : ℕ) (from to : Option (List ℕ)) (w : World) (text : List ℕ) (n : ℕ) (rest : List ℕ) (t : World) : Type 0 where
+-- MOMENTS
+
+-- how all stands at a moment of a run: what is modelled of the source, its faults and those of the output, what the output
+-- has taken, where it is modelled, the cabinet, the document, and the seats of the code
+pub record Moment : Type 0 where
+  pub told : Option ℕ
+  pub renders : ℕ
+  pub writes : ℕ
+  pub taken : Option (List ℕ)
+  pub cabinet : State
+  pub document : List ℕ
+  pub seats : List Seat
+
+-- what is seen of the source and the output from one moment to another
+abbrev pub seen : Moment → Moment → Outside
+seen a b = record { told = a.told; renders = record { before = a.renders; after = b.renders }; writes = record { before = a.writes; after = b.writes }; from = a.taken; to = b.taken }
+
+-- the world at a moment, by what the actors are busy with
+abbrev pub world_at : Moment → List (Option PendingRequest) → World
+world_at m busy = world_of m.cabinet m.document busy
+
+-- HOW FAR
+
+-- since the start so many lines of the text are done, and the rest is not
+pub record Reads (start now : Moment) (text : List ℕ) (lines : ℕ) (rest : List ℕ) : Type 0 where
+  pub busy : List (Option PendingRequest)
+  pub seated : map seat_of busy ≡ now.seats
   pub done : List (List ℕ)
   pub made : List Chance
   pub answers : List Answer
   pub split : lines_of text ≡ done ++ lines_of rest
-  pub written : Appends from to (flat_map (answer_text w.capabilities) answers)
-  pub far : Far told before after w done made answers n t
+  pub written : Appends start.taken now.taken (flat_map (answer_text start.document) answers)
+  pub told : now.told ≡ start.told
+  pub later : start.writes ≤ now.writes
+  pub far : Far start.told start.renders now.renders (world_at start free_seats) done made answers lines (world_at now busy)
 
-module _ (told told' : Option ℕ) (before mid after : ℕ) (from via to : Option (List ℕ)) (w : World) (text : List ℕ) (n : ℕ) (rest line next : List ℕ) (t u : World) (news : List Answer)
-    (f : Reads told before mid from via w text n rest t) (same : told' ≡ told) (lines : lines_of rest ≡ line ∷ lines_of next) (l : IsLine told' mid after t (n + 1) line u news) where
-  split_more : lines_of text ≡ (f.done ++ line ∷ []) ++ lines_of next
-  split_more = f.split ∙ rw lines (sym (append_assoc f.done (line ∷ []) (lines_of next)))
+pub reads_start : {start : Moment} {text : List ℕ} → start.seats ≡ replicate ACTORS seat.Free → Reads start start text 0 text
+reads_start {start} free =
+    record {
+      busy = free_seats;
+      seated = free_same ACTORS ∙ sym free;
+      done = [];
+      made = [];
+      answers = [];
+      split = refl;
+      written = appends_nothing start.taken;
+      told = refl;
+      later = omega arith;
+      far = far_start_free start.told start.renders start.cabinet start.document;
+    }
 
-  further : Far told before after w (f.done ++ line ∷ []) (f.made ++ l.chance ∷ []) (f.answers ++ news) (n + 1) u
-  further = far_next told told' before mid after w f.done f.made f.answers n line t u news f.far same l
+-- ONE LINE MORE
 
-  reads_next : Appends via to (flat_map (answer_text t.capabilities) news) → Reads told before after from to w text (n + 1) next u
-  reads_next write =
+-- the next line was taken from the rest and run, and ended so
+pub record RanLine (now there : Moment) (lines : ℕ) (rest : List ℕ) (end : LineEnd) : Type 0 where
+  pub line : List ℕ
+  pub next : List ℕ
+  pub split : lines_of rest ≡ line ∷ lines_of next
+  pub told : there.told ≡ now.told
+  pub later : now.writes ≤ there.writes
+  pub document : there.document ≡ now.document
+  pub writes : Writes (seen now there) now.cabinet now.document now.seats (lines + 1) line there.cabinet there.seats end
+
+-- the run of a text has ended so
+abbrev pub HasEnded : Moment → Moment → List ℕ → RunEnd → Type 0
+HasEnded start now text end = (busy : List (Option PendingRequest)) × (map seat_of busy ≡ now.seats) × HasRun (seen start now) (world_at start free_seats) text (world_at now busy) end
+
+module _ {start now there : Moment} {text rest : List ℕ} {lines : ℕ} {end : LineEnd} (f : Reads start now text lines rest) (l : RanLine now there lines rest end) where
+  split_more : lines_of text ≡ (f.done ++ l.line ∷ []) ++ lines_of l.next
+  split_more = f.split ∙ rw l.split (sym (append_assoc f.done (l.line ∷ []) (lines_of l.next)))
+
+  -- so the line ended in the world so far
+  line_ended : (later : List (Option PendingRequest)) × (map seat_of later ≡ there.seats) × LineEnds (seen now there) (world_at now f.busy) (lines + 1) l.line (world_at there later) end
+  line_ended =
+      let d = l.writes f.busy (record { same = f.seated; world = f.far.world }) in
+      (d.0, d.1, subst (λ x. LineEnds (seen now there) (world_at now f.busy) (lines + 1) l.line (world_of there.cabinet x d.0) end) (sym l.document) d.2)
+
+pub reads_next : {start now there : Moment} {text rest : List ℕ} {lines : ℕ} {answered : Option CacheResult} (f : Reads start now text lines rest) (l : RanLine now there lines rest (line_end.Done answered)) → Reads start there text (lines + 1) l.next
+reads_next {start} {now} {there} f l =
+    let d = line_ended f l in
+    record {
+      busy = d.0;
+      seated = d.1;
+      done = f.done ++ l.line ∷ [];
+      made = f.made ++ d.2.1.chance ∷ [];
+      answers = f.answers ++ d.2.0;
+      split = split_more f l;
+      written = rw flat_map-append (appends_more start.taken now.taken there.taken _ _ f.written (subst (λ x. Appends now.taken there.taken (flat_map (answer_text x) d.2.0)) f.far.capabilities d.2.2));
+      told = l.told ∙ f.told;
+      later = let i = f.later in let j = l.later in omega arith;
+      far = far_next f.far f.told d.2.1;
+    }
+
+-- ENDS
+
+-- a write failed at the line's answer
+pub run_cut : {start now there : Moment} {text rest : List ℕ} {lines : ℕ} → Reads start now text lines rest → RanLine now there lines rest line_end.WriteFault → HasEnded start there text WriteFault
+run_cut {start} {now} {there} f l =
+    let d = line_ended f l in
+    let answer = d.2.0 in
+    let more = far_next f.far f.told d.2.1 in
+    let all = ends_done more in
+    let front = so_far_done f.far (d.2.1.chance ∷ []) in (
+      d.0,
+      d.1,
       record {
-        done = f.done ++ line ∷ [];
-        made = f.made ++ l.chance ∷ [];
-        answers = f.answers ++ news;
-        split = split_more;
-        written = rw flat_map-append (appends_more from via to _ _ f.written (subst (λ d. Appends via to (flat_map (answer_text d) news)) f.far.capabilities write));
-        far = further;
-      }
-
-  abbrev outside_cut : ℕ → ℕ → Outside
-  outside_cut sb sa = record { told = told; renders = record { before = before; after = after }; writes = record { before = sb; after = sa }; from = from; to = to }
-
-  -- a write failed at the line's answer
-  run_cut : (sb sa : ℕ) (answer : Answer) → news ≡ answer ∷ [] → AppendsFront via to (answer_text t.capabilities answer) → Rose sb sa → HasRun (outside_cut sb sa) w text u WriteFault
-  run_cut sb sa answer one write rose =
-      let e = ends_done told before after w (f.done ++ line ∷ []) (f.made ++ l.chance ∷ []) (f.answers ++ news) (n + 1) u further in
-      let d = so_far_done told before mid w f.done f.made f.answers n t f.far (l.chance ∷ []) in
-      record {
-        lines = f.done ++ line ∷ [];
-        chances = f.made ++ l.chance ∷ [];
-        through = (lines_of next, split_more);
+        lines = f.done ++ l.line ∷ [];
+        chances = f.made ++ d.2.1.chance ∷ [];
+        through = (lines_of l.next, split_more f l);
         ends = (
-          ap (λ r. r.world) (sym e),
-          rose,
+          ap (λ r. r.world) (sym all),
+          let i = f.later in let rose = d.2.3 in omega arith,
           record {
             before = f.done;
-            line = line;
+            line = l.line;
             whole = refl;
             answer = answer;
-            answers = rw (e, d, one) refl;
-            sent = record { between = via; whole = rw d f.written; part = subst (λ d. AppendsFront via to (answer_text d answer)) f.far.capabilities write };
+            answers = rw (all, front) refl;
+            sent = record { between = now.taken; whole = rw front f.written; part = subst (λ x. AppendsFront now.taken there.taken (answer_text x answer)) f.far.capabilities d.2.2 };
           },
         );
-        upheld = ends_upheld told before after w (f.done ++ line ∷ []) (f.made ++ l.chance ∷ []) (f.answers ++ news) (n + 1) u further _ None e;
-      }
+        upheld = ends_upheld more _ None all;
+      },
+    )
+
+-- the line was refused
+pub run_refused : {start now there : Moment} {text rest : List ℕ} {lines : ℕ} → Reads start now text lines rest → RanLine now there lines rest line_end.Refused → HasEnded start there text (Line (lines + 1))
+run_refused {lines = lines} f l =
+    let d = line_ended f l in
+    let waits = far_waits f.far d.2.2 in
+    let e = ends_refused waits l.line (lines_of l.next) d.2.0 in (
+      d.0,
+      d.1,
+      rw (d.2.1, d.2.3) (record {
+        lines = f.done ++ l.line ∷ lines_of l.next;
+        chances = f.made;
+        through = sym (f.split ∙ rw l.split refl);
+        ends = rw e (refl, refl, f.written);
+        upheld = ends_upheld waits _ (Some (lines + 1)) e;
+      }),
+    )
 
 no_rest : (rest : List ℕ) → length rest ≡ 0 → lines_of rest ≡ []
 no_rest [] e = refl
 no_rest (b ∷ bs) e = absurd (omega arith)
 
-module _ (o : Outside) (w : World) (text : List ℕ) (n : ℕ) (rest : List ℕ) (t : World) where
-  run_done : Reads o.told o.renders.before o.renders.after o.from o.to w text n rest t → length rest ≡ 0 → HasRun o w text t Done
-  run_done f none =
-      let e = ends_done o.told o.renders.before o.renders.after w f.done f.made f.answers n t f.far in
+-- no line is left
+pub run_done : {start now : Moment} {text rest : List ℕ} {lines : ℕ} → Reads start now text lines rest → length rest ≡ 0 → HasEnded start now text Done
+run_done {rest = rest} f none =
+    let e = ends_done f.far in (
+      f.busy,
+      f.seated,
       record {
         lines = f.done;
         chances = f.made;
         through = sym (f.split ∙ rw (no_rest rest none) (append-nil f.done));
         ends = rw e (refl, refl, f.written);
-        upheld = ends_upheld o.told o.renders.before o.renders.after w f.done f.made f.answers n t f.far _ None e;
-      }
-
-  run_refused : (mid : ℕ) → Reads o.told o.renders.before mid o.from o.to w text n rest t → mid ≤ o.renders.after → (line next : List ℕ) → lines_of rest ≡ line ∷ lines_of next → line_done t (n + 1) calm (action_in line) ≡ None
-      → HasRun o w text t (Line (n + 1))
-  run_refused mid f later line next lines none =
-      let g = far_waits o.told o.renders.before mid o.renders.after w f.done f.made f.answers n t f.far later in
-      let e = ends_refused o.told o.renders.before o.renders.after w f.done f.made f.answers n t g line (lines_of next) none in
-      record {
-        lines = f.done ++ line ∷ lines_of next;
-        chances = f.made;
-        through = sym (f.split ∙ rw lines refl);
-        ends = rw e (refl, refl, f.written);
-        upheld = ends_upheld o.told o.renders.before o.renders.after w f.done f.made f.answers n t g _ (Some (n + 1)) e;
-      }
-
--- THE SEATS OF THE CODE
-
-abbrev pub Seated : Option ℕ → ℕ → ℕ → Option (List ℕ) → Option (List ℕ) → World → List ℕ → ℕ → List ℕ → State → List ℕ → List Seat → Type 0
-Seated told before after from to w text n rest s document seats = (busy : List (Option PendingRequest)) × (map seat_of busy ≡ seats) × Reads told before after from to w text n rest (world_of s document busy)
-
-pub seated_start : (told : Option ℕ) (n : ℕ) (from : Option (List ℕ)) (s : State) (document : List ℕ) (seats : List Seat) (text : List ℕ) → seats ≡ replicate ACTORS seat.Free
-    → Seated told n n from from (world_of s document free_seats) text 0 text s document seats
-seated_start told n from s document seats text e =
-    (free_seats, free_same ACTORS ∙ sym e, record { done = []; made = []; answers = []; split = refl; written = appends_nothing from; far = far_start_free told n s document })
-
-module _ (told via : Option ℕ) (before mid after sb sm sa : ℕ) (from middle to : Option (List ℕ)) (w : World) (text : List ℕ) (n : ℕ) (rest line next : List ℕ) (s t : State) (document : List ℕ) (seats later : List Seat)
-    (f : Seated told before mid from middle w text n rest s document seats) (same : via ≡ told) (lines : lines_of rest ≡ line ∷ lines_of next) where
-  abbrev one : Outside
-  one = record { told = via; renders = record { before = mid; after = after }; writes = record { before = sm; after = sa }; from = middle; to = to }
-
-  abbrev all : Outside
-  all = record { told = told; renders = record { before = before; after = after }; writes = record { before = sb; after = sa }; from = from; to = to }
-
-  is_seated : IsSeated s document seats f.0
-  is_seated = record { same = f.1; world = f.2.far.world }
-
-  pub seated_next : (answered : Option CacheResult) → Writes one s document seats (n + 1) line t later (line_end.Done answered) → Seated told before after from to w text (n + 1) next t document later
-  seated_next answered k =
-      let d = k f.0 is_seated in
-      (d.0, d.1, reads_next told via before mid after from middle to w text n rest line next (world_of s document f.0) (world_of t document d.0) d.2.0 f.2 same lines d.2.1 d.2.2)
-
-  pub seated_cut : sb ≤ sm → Writes one s document seats (n + 1) line t later line_end.WriteFault → (busy : List (Option PendingRequest)) × (map seat_of busy ≡ later) × HasRun all w text (world_of t document busy) WriteFault
-  seated_cut l k =
-      let d = k f.0 is_seated in
-      let rose = d.2.3 in
-      (d.0, d.1, run_cut told via before mid after from middle to w text n rest line next (world_of s document f.0) (world_of t document d.0) (d.2.0 ∷ []) f.2 same lines d.2.1 sb sa d.2.0 refl d.2.2 (omega arith))
-
-  pub seated_refused : Writes one s document seats (n + 1) line t later line_end.Refused → (busy : List (Option PendingRequest)) × (map seat_of busy ≡ later) × HasRun all w text (world_of t document busy) (Line (n + 1))
-  seated_refused k =
-      let d = k f.0 is_seated in
-      let stays = d.2.3 in
-      (d.0, d.1, rw (d.2.1, stays) (run_refused (record all { to = middle }) w text n rest (world_of s document f.0) mid f.2 d.2.2 line next lines d.2.0))
-
-pub seated_done : (o : Outside) (w : World) (text : List ℕ) (n : ℕ) (rest : List ℕ) (s : State) (document : List ℕ) (seats : List Seat) → Seated o.told o.renders.before o.renders.after o.from o.to w text n rest s document seats → length rest ≡ 0
-    → (busy : List (Option PendingRequest)) × (map seat_of busy ≡ seats) × HasRun o w text (world_of s document busy) Done
-seated_done o w text n rest s document seats f none = (f.0, f.1, run_done o w text n rest (world_of s document f.0) f.2 none)
+        upheld = ends_upheld f.far _ None e;
+      },
+    )

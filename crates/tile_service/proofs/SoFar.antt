@@ -9,7 +9,6 @@ use Rattle.http_wire.specs.declared.message.Message.{Message}
 use Rattle.tile_requests.specs.declared.outcome.Outcome.{Outcome}
 use Rattle.tile_requests.specs.declared.request.Mode.TheVariants.{Gets}
 use Rattle.tile_service.specs.OneLine.{IsWorld}
-use Rattle.tile_service.specs.Outside.{FaultCounts}
 use Rattle.tile_requests.specs.Requests.{Chance, answered_at}
 use Rattle.tile_service.specs.Run.{World, Answer, sent, failures, IsTrue}
 use Rattle.tile_service.specs.Serving.{answer_to, Serves}
@@ -60,7 +59,7 @@ behind_answers answers r = (r.0, answers ++ r.1)
 behind_both : (answers news : List Answer) (r : World × List Answer) → behind_answers answers (behind_answers news r) ≡ behind_answers (answers ++ news) r
 behind_both answers news r = ap (λ (xs : List Answer). let p : World × List Answer = (r.0, xs) in p) (sym (append_assoc answers news r.1))
 
-module _ (told told' : Option ℕ) (before mid after : ℕ) (document : List ℕ) (s t u : State) (messages : List Message) (answers : List Answer) (n : ℕ) (m : Message) (o : Outcome)
+module _ {told told' : Option ℕ} {before mid after : ℕ} {document : List ℕ} {s t u : State} {messages : List Message} {answers : List Answer} {n : ℕ} {m : Message} {o : Outcome}
     (f : HasServed told before mid document s t messages answers n) (same : told' ≡ told) (h : Serves told' mid after document t m o u) (left : Bool) where
   abbrev pub the_answer : Answer
   the_answer = answer_to (n + 1) m h.request (length t.history) (answered_at left o)
@@ -107,9 +106,9 @@ module _ (told told' : Option ℕ) (before mid after : ℕ) (document : List ℕ
       }
 
 -- that is what is promised
-pub is_served : (told : Option ℕ) (renders : FaultCounts) (document : List ℕ) (s t : State) (messages : List Message) (answers : List Answer) (n : ℕ)
-    → HasServed told renders.before renders.after document s t messages answers n → IsServed told renders document s t messages answers
-is_served told renders document s t messages answers n f =
+pub is_served : {told : Option ℕ} {before now : ℕ} {document : List ℕ} {s t : State} {messages : List Message} {answers : List Answer} {n : ℕ}
+    → HasServed told before now document s t messages answers n → IsServed told (record { before = before; after = now }) document s t messages answers
+is_served {s = s} {t} {messages} {answers} f =
     record {
       chances = f.made;
       made = rw (append-nil messages, append-nil f.made, append-nil answers) at (f.goes [] []);

@@ -4,17 +4,15 @@ use Rattle.catalog.specs.Valid.{IsValid}
 use Rattle.tile_service.specs.declared.seats.Seat.TheVariants as seat
 use Rattle.tile_service.specs.declared.seats.TheConstants.{ACTORS}
 use Rattle.tile_drill.specs.Drill.{line_count}
-use Rattle.tile_service.specs.Run.{free_seats, world_of}
-use Rattle.tile_drill.proofs.Making.{seated_start, seated_next, seated_accepted, seated_short, seated_done}
+use Rattle.tile_drill.proofs.Making.{drilled_start, drilled_next, drilled_accepted, drilled_short, drilled_done}
 use Rattle.tile_drill.proofs.drill_run.run_made_lines.Goals as goal
 
 pub making-init : goal.making-init
 making-init g c =
     record {
-      so_far = rw (c.from.ensures, c.new-output.ensures) (seated_start _ _ c.args.counter.now.cabinet c.args.counter.now.capabilities c.args.seats.now c.args.number c.requires.free);
+      so_far = rw (c.from.ensures, c.new-output.ensures) (drilled_start c.requires.free refl);
       valid = refl;
       capabilities = refl;
-      told = refl;
       few = omega arith;
       long = ap length c.requires.free ∙ length-replicate ACTORS seat.Free;
     }
@@ -22,36 +20,29 @@ making-init g c =
 pub making-preserved : goal.making-preserved
 making-preserved g c =
     let i = c.making.invariant in
-    let line = c.run_made_line in
+    let line = c.run_made_line.ensures in
     record {
-      so_far =
-          rw (line.ensures.capabilities, c.count.ensures)
-          (seated_next (g.S.Source.told c.args.source.now) (g.S.Source.told c.making.source) (g.S.Source.faults c.args.source.now) (g.S.Source.faults c.making.source) (g.S.Source.faults line.new.source) (world_of c.args.counter.now.cabinet c.args.counter.now.capabilities free_seats) c.args.number c.making.lines c.making.draws.x line.new.draws.x c.making.tally c.making.output line.new.output
-          c.making.counter.cabinet line.new.counter.cabinet c.making.counter.capabilities c.making.seats line.new.seats i.so_far i.told c.in-Ok-Done.told c.in-Ok-Done.field-0 c.in-Ok-Done.field-0-is c.in-Ok-Done.ensures.makes);
-      valid = line.ensures.catalogue ∙ i.valid;
-      capabilities = line.ensures.capabilities ∙ i.capabilities;
-      told = line.ensures.told ∙ i.told;
+      so_far = rw c.count.ensures (drilled_next i.so_far (record { told = line.told; document = line.capabilities; makes = c.in-Ok-Done.ensures.makes }) c.in-Ok-Done.field-0-is);
+      valid = line.catalogue ∙ i.valid;
+      capabilities = line.capabilities ∙ i.capabilities;
       few = omega (arith, c.making-test.true);
-      long = line.auto.seats ∙ i.long;
+      long = c.run_made_line.auto.seats ∙ i.long;
     }
 
 pub unreachable-requires : goal.unreachable-requires
 unreachable-requires g c =
     let i = c.making.invariant in
-    let line = c.run_made_line in
-    seated_accepted (g.S.Source.told c.args.source.now) (g.S.Source.told c.making.source) (g.S.Source.faults c.args.source.now) (g.S.Source.faults c.making.source) (g.S.Source.faults line.new.source) (world_of c.args.counter.now.cabinet c.args.counter.now.capabilities free_seats) c.args.number c.making.lines c.making.draws.x line.new.draws.x c.making.tally c.making.output line.new.output
-    c.making.counter.cabinet line.new.counter.cabinet c.making.counter.capabilities c.making.seats line.new.seats i.so_far i.told (subst IsValid (sym i.valid) c.requires.valid) i.long c.in-Ok-Refused.field-0 c.in-Ok-Refused.field-0-is c.in-Ok-Refused.ensures.makes
+    let line = c.run_made_line.ensures in
+    drilled_accepted i.so_far (record { told = line.told; document = line.capabilities; makes = c.in-Ok-Refused.ensures.makes }) c.in-Ok-Refused.field-0-is (subst IsValid (sym i.valid) c.requires.valid) i.long
 
 pub returns-in-Err-clause-made : goal.returns-in-Err-clause-made
 returns-in-Err-clause-made g c =
     let i = c.making.invariant in
     let same = c.in-Err.ensures.err in
-    rw (same.0, same.1, same.2)
-    (seated_short _ _ _ (world_of c.args.counter.now.cabinet c.args.counter.now.capabilities free_seats) c.args.number c.making.lines c.making.draws.x c.making.tally c.making.output c.making.counter.cabinet c.making.counter.capabilities c.making.seats i.so_far i.few)
+    rw (same.0, same.1, same.2) (drilled_short i.so_far i.few)
 
 pub returns-clause-made : goal.returns-clause-made
 returns-clause-made g c =
     let i = c.making.invariant in
     let whole : c.making.lines ≡ line_count = omega (arith, i.few, c.making-test.false) in
-    rw c.digest.ensures
-    (seated_done _ _ _ (world_of c.args.counter.now.cabinet c.args.counter.now.capabilities free_seats) c.args.number c.making.lines c.making.draws.x c.making.tally c.making.output c.making.counter.cabinet c.making.counter.capabilities c.making.seats i.so_far whole)
+    rw c.digest.ensures (drilled_done i.so_far whole)
