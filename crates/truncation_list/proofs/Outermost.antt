@@ -1,7 +1,7 @@
 -- a purge in two steps: the cuts within later ones, and then those that go by the cover or by their numbers
-use Rattle.std.proofs.Common.{ℕ, ◌≡◌, ◌+◌, ◌<◌, ◌≤◌, ◌||◌, refl, ap, arith, zero, suc, Bool, true, false, not, cond, List, [], ◌∷◌, fold, length, Option, Some, None, drop, get_or}
+use Rattle.std.proofs.Common.{ℕ, ◌≡◌, ◌+◌, ◌<◌, ◌≤◌, ◌||◌, ◌∙◌, refl, subst, sym, ap, arith, zero, suc, Bool, true, false, not, cond, List, [], ◌∷◌, ◌++◌, fold, length, IsTrue, Option, Some, None, drop, take, get_or}
 use Rattle.std.specs.Prelude.{filter}
-use Rattle.std.specs.List.{All}
+use Rattle.std.specs.List.{All, remove}
 use Rattle.std.proofs.lemmas.Bool.Decides.{nat_tests}
 use Rattle.std.proofs.lemmas.List.Elements.{All-cons, All-head, All-tail, All-weaker}
 use Rattle.truncation_list.specs.declared.book.Book.{Book}
@@ -9,6 +9,7 @@ use Rattle.truncation_list.specs.declared.book.Cut.{Cut}
 use Rattle.truncation_list.specs.declared.cover.Cover.{Cover}
 use Rattle.truncation_list.specs.Listed.{IsSettled, outermost}
 use Rattle.truncation_list.specs.Purge.{IsByNumber, goes, is_old, is_outdone, is_within, purged, raised, remaining}
+use Rattle.truncation_list.specs.Slots.{stays}
 use Rattle.truncation_list.proofs.Remaining.{no_more_remain}
 use Rattle.truncation_list.proofs.Settled.{neither}
 
@@ -74,3 +75,30 @@ number_le (x ∷ xs) zero zero d o l b = omega arith
 number_le (x ∷ xs) (suc i) zero d o l b = absurd (omega arith)
 number_le (x ∷ xs) zero (suc j) d o l b = let h : x.number < (get_or xs j d).number = o.0 j d (omega arith) in omega arith
 number_le (x ∷ xs) (suc i) (suc j) d o l b = number_le xs i j d o.1 (omega arith) (omega arith)
+
+pub number_lt : (cuts : List Cut) (i j : ℕ) (d : Cut) → IsByNumber cuts → i < j → j < length cuts → (get_or cuts i d).number < (get_or cuts j d).number
+number_lt [] i j d o l b = absurd (omega arith)
+number_lt (x ∷ xs) i zero d o l b = absurd (omega arith)
+number_lt (x ∷ xs) zero (suc j) d o l b = o.0 j d (omega arith)
+number_lt (x ∷ xs) (suc i) (suc j) d o l b = number_lt xs i j d o.1 (omega arith) (omega arith)
+
+-- the next cut of those that are settled so far goes, or it stays
+pub next_goes : (cuts : List Cut) (kept : ℕ) (d : Cut) → kept < length cuts → IsTrue (is_outdone (drop (kept + 1) cuts) (get_or cuts kept d)) → take kept (remove cuts kept) ++ outermost (drop kept (remove cuts kept)) ≡ take kept cuts ++ outermost (drop kept cuts)
+next_goes [] kept d l t = absurd (omega arith)
+next_goes (x ∷ xs) zero d l t = rw t refl
+next_goes (x ∷ xs) (suc kept) d l t =
+    let next : suc kept + 1 ≡ suc (kept + 1) = omega arith in
+    ap (λ (ys : List Cut). x ∷ ys) (next_goes xs kept d (omega arith) (subst (λ (j : ℕ). IsTrue (is_outdone (drop j (x ∷ xs)) (get_or xs kept d))) next t))
+
+pub next_stays : (cuts : List Cut) (kept : ℕ) (d : Cut) → kept < length cuts → is_outdone (drop (kept + 1) cuts) (get_or cuts kept d) ≡ false → take (kept + 1) cuts ++ outermost (drop (kept + 1) cuts) ≡ take kept cuts ++ outermost (drop kept cuts)
+next_stays [] kept d l e = absurd (omega arith)
+next_stays (x ∷ xs) zero d l e = rw e refl
+next_stays (x ∷ xs) (suc kept) d l e =
+    let next : suc kept + 1 ≡ suc (kept + 1) = omega arith in
+    subst (λ (j : ℕ). take j (x ∷ xs) ++ outermost (drop j (x ∷ xs)) ≡ x ∷ take kept xs ++ outermost (drop kept xs)) (sym next)
+    (ap (λ (ys : List Cut). x ∷ ys) (next_stays xs kept d (omega arith) (subst (λ (j : ℕ). is_outdone (drop j (x ∷ xs)) (get_or xs kept d) ≡ false) next e)))
+
+-- a settled list keeps the cuts that stay by themselves
+pub settled_remaining : (cover : Option Cover) (least : Option ℕ) (cuts : List Cut) → IsSettled cuts → remaining cover least cuts ≡ filter (stays cover least) cuts
+settled_remaining cover least cuts h =
+    remaining_filters cover least cuts ∙ ap (λ (ks : List Cut). filter (stays cover least) ks) (outermost_same cuts h)
