@@ -89,4 +89,3 @@ module _ {A B : Type 0} where
   map-remove f xs i =
       map-append f (take i xs) (drop (suc i) xs)
       ∙ ap (λ (front : List B). front ++ map f (drop (suc i) xs)) (sym (take-map f i xs)) ∙ ap (λ (back : List B). take i (map f xs) ++ back) (sym (drop-map f (suc i) xs))
-

@@ -19,8 +19,9 @@ use std::marker::Model;
 /// them.
 ///
 /// In the calls below `least` is the least number that is kept or running, `None` where there is none. `last` reads the cuts
-/// of the tile's layer, grid and zoom alone. `full` and `add` read those of the cover's zooms, and go over all cuts only where
-/// many go. The first purge after an `enter`, and `full` before it, compare each cut with the later ones.
+/// of the tile's layer, grid and zoom alone. `full` and `add` read those of the cover's zooms. `add` goes over all cuts only
+/// where many go, and `full` only where some go and more than `limit` are listed. The first purge after an `enter`, and `full`
+/// before it, compare each cut with the later ones.
 #[derive(Drop)]
 pub struct CutList {
     cuts: IndexedCuts,

@@ -109,7 +109,7 @@ pub fn keep_each(lists: &mut [Vec<u32>], slots: &Slab<Cut>)
     }
 }
 
-/// Whether the lists from the first one to the last one have more slots in all than these.
+/// Whether the lists from the first one to the last one have more slots in all than `most`.
 pub fn exceed(lists: &[Vec<u32>], first: usize, last: usize, most: usize) -> bool
     requires { last ≤ 31 }
 {

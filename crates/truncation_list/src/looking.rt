@@ -52,7 +52,8 @@ fn first_within(list: &[u32], slots: &Slab<Cut>, cover: &Cover) -> Option<u32>
 }
 
 /// A slot of the order whose cut lies within the cover, `None` where there is none; `lists` are those of the cover's layer and
-/// grid. Where those of its zooms have more slots in all than there are cuts, the order is looked along instead.
+/// grid. Where those of its zooms have more slots in all than half of the cuts, the order is looked along instead: it has each cut
+/// once, and mostly one behind another.
 pub fn some_within(
     order: &[u32],
     lists: &[Vec<u32>],
@@ -65,7 +66,7 @@ pub fn some_within(
 {
     let first = first_list(cover);
     let last = last_list(cover);
-    if exceed(lists, first, last, order.len()) {
+    if exceed(lists, first, last, order.len() / 2) {
         return first_within(order, slots, cover);
     }
     'looking: for k in first..last + 1 {

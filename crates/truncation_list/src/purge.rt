@@ -132,12 +132,7 @@ fn let_go(cuts: &mut IndexedCuts, cover: &Option<Cover>, least: Option<u64>)
 }
 
 /// Takes out the cuts that go.
-pub fn purge(
-    cuts: &mut IndexedCuts,
-    cover: &Option<Cover>,
-    least: Option<u64>,
-    is_settled: bool,
-)
+pub fn purge(cuts: &mut IndexedCuts, cover: &Option<Cover>, least: Option<u64>, is_settled: bool)
     requires { IsTrue is_settled → IsSettled cuts.old.cuts }
     ensures cuts { cuts.new.cuts ≡ remaining cover.now least cuts.old.cuts }
     ensures ready { (cover : Cover) → HasRoomFor cuts.old.room cover → HasRoomFor cuts.new.room cover }
