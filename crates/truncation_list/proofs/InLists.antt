@@ -1,5 +1,5 @@
 -- a list of a shelf by its number, after a write to one
-use Rattle.std.proofs.Common.{ℕ, ◌≡◌, ◌<◌, ◌≤◌, ◌&&◌, ◌∙◌, inl, inr, ap, arith, subst, sym, zero, suc, Bool, true, false, cond, IsTrue, List, [], ◌∷◌, length, map, set, get_or}
+use Rattle.std.proofs.Common.{ℕ, ◌≡◌, ◌<◌, ◌≤◌, ◌&&◌, ◌∙◌, inl, inr, ap, arith, subst, sym, Bool, true, false, cond, IsTrue, List, [], length, map, set, get_or}
 use Rattle.std.specs.Prelude.{Vec, nat_le, vec_capacity, vec_len}
 use Rattle.std.specs.declared.alloc.Global.{Global}
 use Rattle.std.proofs.lemmas.List.{get_or-map, get_or-set_other, get_or-set_same, get_or_past, length-map, map-set, with_items_is}
@@ -65,12 +65,6 @@ within_capacity lists k n h = elim (cases_lt k (length lists)) [ inl l ↦ l | i
     none past =
         let e = get_or_past (map (λ (v : Vec ℕ Global). vec_capacity v) lists) k 0 (let n = length-map lists (λ (v : Vec ℕ Global). vec_capacity v) in omega (arith, n)) in
         omega (arith, e, h)
-
--- no list has more slots than it has memory for
-pub fits_capacity : (lists : List (Vec ℕ Global)) (k : ℕ) → length (slots_in lists k) ≤ capacity_in lists k
-fits_capacity [] k = omega arith
-fits_capacity (v ∷ vs) zero = let long = v.ok.0 in let most = v.ok.1 in omega (arith, long, most)
-fits_capacity (v ∷ vs) (suc k) = fits_capacity vs k
 
 -- the list of a Vec whose items were written through a slice
 pub written : (v : Vec (Vec ℕ Global) Global) (ws : List (Vec ℕ Global)) → length ws ≡ length v.items → (with_items v ws).items ≡ ws

@@ -167,18 +167,13 @@ module _ (cover : Option Cover) (least : Option ℕ) where
   taken_stays None t = refl
   taken_stays (Some c) t = kept_whole c (stays cover least c) t
 
-  fewer_at : (o : Option Cut) (v : Bool) (m n : ℕ) → m ≤ n → cond (is_some (staying cover least o)) 1 0 + m ≤ cond (is_some o) 1 0 + n
-  fewer_at None v m n h = omega arith
-  fewer_at (Some c) true m n h = one_at (stays cover least c)
-    where
-      one_at : (v : Bool) → cond (is_some (cond v (Some c) None)) 1 0 + m ≤ 1 + n
-      one_at true = omega arith
-      one_at false = omega arith
-  fewer_at (Some c) false m n h = one_at (stays cover least c)
-    where
-      one_at : (v : Bool) → cond (is_some (cond v (Some c) None)) 1 0 + m ≤ 1 + n
-      one_at true = omega arith
-      one_at false = omega arith
+  one_at : (c : Cut) (v : Bool) (m n : ℕ) → m ≤ n → cond (is_some (cond v (Some c) None)) 1 0 + m ≤ 1 + n
+  one_at c true m n h = omega arith
+  one_at c false m n h = omega arith
+
+  fewer_at : (o : Option Cut) (m n : ℕ) → m ≤ n → cond (is_some (staying cover least o)) 1 0 + m ≤ cond (is_some o) 1 0 + n
+  fewer_at None m n h = omega arith
+  fewer_at (Some c) m n h = one_at c (stays cover least c) m n h
 
   pub no_more_taken : (xs : List (Option Cut)) → count_by is_some (map (staying cover least) xs) ≤ count_by is_some xs
   no_more_taken [] = omega arith
@@ -186,7 +181,7 @@ module _ (cover : Option Cover) (least : Option ℕ) where
       let h = no_more_taken xs in
       let old = sum_by-cons (λ (o : Option Cut). cond (is_some o) 1 0) x xs in
       let new = sum_by-cons (λ (o : Option Cut). cond (is_some o) 1 0) (staying cover least x) (map (staying cover least) xs) in
-      let more = fewer_at x true (count_by is_some (map (staying cover least) xs)) (count_by is_some xs) h in
+      let more = fewer_at x (count_by is_some (map (staying cover least) xs)) (count_by is_some xs) h in
       omega (arith, old, new, more)
 
   module _ (old new : Slab Cut) (order : List ℕ) (freed : new.slots ≡ map (staying cover least) old.slots) where
@@ -247,15 +242,3 @@ module _ (old new : Slab Cut) (order : List ℕ) (slot : ℕ) (cut : Cut) (vacan
         ∙ ap (λ (c : Cut). standing l g k new order ++ cond (stands l g k c.cover) (slot ∷ []) []) (sym own_cut)
         ∙ sym (filter-append (λ x. stands l g k (cut_in new x).cover) order (slot ∷ []));
   }
-
--- MORE MEMORY
-
-pub same_index : (old new : Slab Cut) (order order' : List ℕ) (shelves shelves' : List Shelf) → new.slots ≡ old.slots → order' ≡ order → ((l g k : ℕ) → listed shelves' l g k ≡ listed shelves l g k) → IsIndexed old order shelves → IsIndexed new order' shelves'
-same_index old new order order' shelves shelves' slots is left h = subst (λ (xs : List ℕ). IsIndexed new xs shelves') (sym is) (record {
-  taken = taken_as_before old new order same h.taken;
-  in_order = subst IsInOrder (sym (cuts_as_before old new order same)) h.in_order;
-  index = λ l g k. left l g k ∙ h.index l g k ∙ sym (standing_as_before old new order same l g k);
-})
-  where
-    same : All (λ x. get new x ≡ get old x) order
-    same = λ k d l. ap (λ (all : List (Option Cut)). get_or all (get_or order k d) None) slots

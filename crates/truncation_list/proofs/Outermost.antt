@@ -4,14 +4,11 @@ use Rattle.std.specs.Prelude.{filter}
 use Rattle.std.specs.List.{All, remove}
 use Rattle.std.proofs.lemmas.Bool.Decides.{nat_tests}
 use Rattle.std.proofs.lemmas.List.Elements.{All-cons, All-head, All-tail, All-weaker}
-use Rattle.truncation_list.specs.declared.book.Book.{Book}
 use Rattle.truncation_list.specs.declared.book.Cut.{Cut}
 use Rattle.truncation_list.specs.declared.cover.Cover.{Cover}
 use Rattle.truncation_list.specs.Listed.{IsSettled, outermost}
-use Rattle.truncation_list.specs.Purge.{IsByNumber, goes, is_old, is_outdone, is_within, purged, raised, remaining}
+use Rattle.truncation_list.specs.Purge.{IsByNumber, is_old, is_outdone, is_within, raised, remaining}
 use Rattle.truncation_list.specs.Slots.{stays}
-use Rattle.truncation_list.proofs.Remaining.{no_more_remain}
-use Rattle.truncation_list.proofs.Settled.{neither}
 
 two_steps : (own later : Bool) (x : Cut) (rest out : List Cut) (test : Cut → Bool) → test x ≡ not own → rest ≡ filter test out → cond (own || later) rest (x ∷ rest) ≡ filter test (cond later out (x ∷ out))
 two_steps true true x rest out test t e = e
@@ -28,22 +25,6 @@ pub outermost_same : (cuts : List Cut) → IsSettled cuts → outermost cuts ≡
 outermost_same [] h = refl
 outermost_same (x ∷ xs) h = rw (h.0, outermost_same xs h.1) refl
 
-pub none_remain : (cover : Option Cover) (least : Option ℕ) (cuts : List Cut) → IsSettled cuts → All (λ cut. is_within cover cut ≡ false) cuts → All (λ cut. is_old least cut ≡ false) cuts → remaining cover least cuts ≡ cuts
-none_remain cover least [] s w o = refl
-none_remain cover least (x ∷ xs) s w o =
-    let stays : goes cover least xs x ≡ false = neither (is_within cover x || is_old least x) (is_outdone xs x) (neither (is_within cover x) (is_old least x) (All-head (λ cut. is_within cover cut ≡ false) x xs w) (All-head (λ cut. is_old least cut ≡ false) x xs o)) s.0 in
-    rw (stays, none_remain cover least xs s.1 (All-tail (λ cut. is_within cover cut ≡ false) x xs w) (All-tail (λ cut. is_old least cut ≡ false) x xs o)) refl
-
-as_many_at : (v : Bool) (x : Cut) (rest xs : List Cut) → length rest ≤ length xs → length xs + 1 ≤ length (cond v rest (x ∷ rest)) → (length xs ≤ length rest → rest ≡ xs) → cond v rest (x ∷ rest) ≡ x ∷ xs
-as_many_at true x rest xs few many ih = absurd (omega arith)
-as_many_at false x rest xs few many ih = ap (λ (ys : List Cut). x ∷ ys) (ih (omega arith))
-
--- where as many stay, all do
-pub as_many : (cover : Option Cover) (least : Option ℕ) (cuts : List Cut) → length cuts ≤ length (remaining cover least cuts) → remaining cover least cuts ≡ cuts
-as_many cover least [] h = refl
-as_many cover least (x ∷ xs) h =
-    as_many_at (goes cover least xs x) x (remaining cover least xs) xs (no_more_remain cover least xs) (omega arith) (λ m. as_many cover least xs m)
-
 -- NUMBERS
 
 pub none_raise : (least : Option ℕ) (cuts : List Cut) (floor : ℕ) → All (λ cut. is_old least cut ≡ false) cuts → fold (raised least) floor cuts ≡ floor
@@ -58,9 +39,6 @@ not_older (Some n) x y h l = grind (arith, nat_tests)
 pub none_old_after : (least : Option ℕ) (x : Cut) (xs : List Cut) → IsByNumber (x ∷ xs) → is_old least x ≡ false → All (λ cut. is_old least cut ≡ false) (x ∷ xs)
 none_old_after least x xs o h =
     All-cons (λ cut. is_old least cut ≡ false) x xs h (All-weaker (λ other. x.number < other.number) (λ cut. is_old least cut ≡ false) (λ cut l. not_older least x cut h l) xs o.0)
-
-pub none_purged : (cover : Option Cover) (least : Option ℕ) (book : Book) → IsSettled book.cuts → All (λ cut. is_within cover cut ≡ false) book.cuts → All (λ cut. is_old least cut ≡ false) book.cuts → purged cover least book ≡ book
-none_purged cover least book s w o = rw (none_remain cover least book.cuts s w o, none_raise least book.cuts book.floor o) refl
 
 -- where a cut doesn't meet the test on numbers, no later one does
 pub none_raise_from : (least : Option ℕ) (cuts : List Cut) (i : ℕ) (d : Cut) (floor : ℕ) → i < length cuts → IsByNumber cuts → is_old least (get_or cuts i d) ≡ false → fold (raised least) floor (drop i cuts) ≡ floor

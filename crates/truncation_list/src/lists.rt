@@ -80,6 +80,7 @@ pub fn push_slot(lists: &mut [Vec<u32>], first: usize, last: usize, slot: u32)
     }
 }
 
+/// Takes a slot out of a list.
 fn take_out(list: &mut Vec<u32>, slot: u32)
     ensures items { list.new.items ≡ without slot list.old.items }
     ensures capacity { vec_capacity list.new ≡ vec_capacity list.old }

@@ -70,7 +70,7 @@ pub fn stay_at_least(
     true
 }
 
-/// The same of a settled list, with no pass over the cuts where none goes, or where as many would be too few.
+/// The same of a settled list. It goes over the cuts only where one goes and more than `limit` are listed.
 pub fn settled_stay_at_least(
     cuts: &IndexedCuts,
     cover: &Option<Cover>,

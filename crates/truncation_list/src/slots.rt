@@ -16,6 +16,7 @@ pub fn cut_in(slots: &Slab<Cut>, slot: u32) -> &Cut
     &slots[slot as usize]
 }
 
+/// Whether a slot has a cut.
 fn is_taken(slots: &Slab<Cut>, slot: u32) -> bool
     ensures { result ≡ is_some (get slots.now slot) }
 {
