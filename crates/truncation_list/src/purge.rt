@@ -11,7 +11,7 @@ use crate::going::{is_old, stays};
 use crate::indexed::IndexedCuts;
 
 /// So many cuts are taken out one at a time before the others are taken out in one pass.
-const FEW: u32 = 16;
+const FEW: u32 = 8;
 
 /// Whether the cover of a later cut contains that of the cut at this place.
 fn is_outdone(cuts: &IndexedCuts, i: usize) -> bool
