@@ -1,11 +1,12 @@
 -- a list of a shelf by its number, after a write to one
-use Rattle.std.proofs.Common.{ℕ, ◌≡◌, ◌<◌, ◌≤◌, ◌∙◌, inl, inr, ap, arith, subst, sym, zero, suc, List, [], ◌∷◌, length, map, set, get_or}
-use Rattle.std.specs.Prelude.{Vec, vec_capacity, vec_len}
+use Rattle.std.proofs.Common.{ℕ, ◌≡◌, ◌<◌, ◌≤◌, ◌&&◌, ◌∙◌, inl, inr, ap, arith, subst, sym, Bool, true, false, cond, IsTrue, List, [], length, map, set, get_or}
+use Rattle.std.specs.Prelude.{Vec, nat_le, vec_capacity, vec_len}
 use Rattle.std.specs.declared.alloc.Global.{Global}
 use Rattle.std.proofs.lemmas.List.{get_or-map, get_or-set_other, get_or-set_same, get_or_past, length-map, map-set, with_items_is}
 use Rattle.std.proofs.lemmas.Bool.{cases_eq, cases_lt}
 use Rattle.std.specs.Vec.{with_items}
-use Rattle.truncation_list.specs.Index.{capacity_in, places_in}
+use Rattle.truncation_list.specs.Index.{capacity_in, slots_in}
+use Rattle.truncation_list.proofs.Decided.{both, is_le, join, le_is}
 
 module _ {A : Type 0} (of : Vec ℕ Global → A) (none : A) where
   pub at_same : (lists : List (Vec ℕ Global)) (k : ℕ) (v : Vec ℕ Global) → k < length lists → get_or (map of (set lists k v)) k none ≡ of v
@@ -18,32 +19,32 @@ module _ {A : Type 0} (of : Vec ℕ Global → A) (none : A) where
       ap (λ (xs : List A). get_or xs j none) (map-set of lists k v) ∙ get_or-set_other (map of lists) k j (of v) none ne
 
 module _ (lists : List (Vec ℕ Global)) (k : ℕ) (d : Vec ℕ Global) where
-  pub places_read : k < length lists → places_in lists k ≡ (get_or lists k d).items
-  places_read l = get_or-map (λ (v : Vec ℕ Global). v.items) lists k d [] l
+  pub slots_read : k < length lists → slots_in lists k ≡ (get_or lists k d).items
+  slots_read l = get_or-map (λ (v : Vec ℕ Global). v.items) lists k d [] l
 
   pub capacity_read : k < length lists → capacity_in lists k ≡ vec_capacity (get_or lists k d)
   capacity_read l = get_or-map (λ (v : Vec ℕ Global). vec_capacity v) lists k d 0 l
 
-  pub room_read : length (places_in lists k) < capacity_in lists k → k < length lists → vec_len (get_or lists k d) < vec_capacity (get_or lists k d)
+  pub room_read : length (slots_in lists k) < capacity_in lists k → k < length lists → vec_len (get_or lists k d) < vec_capacity (get_or lists k d)
   room_read h l =
-      let items = ap (λ (xs : List ℕ). length xs) (places_read l) in
+      let items = ap (λ (xs : List ℕ). length xs) (slots_read l) in
       let space = capacity_read l in
       let long = (get_or lists k d).ok.0 in
       omega (arith, h, items, space, long)
 
   module _ (v : Vec ℕ Global) where
-    pub places_set : k < length lists → places_in (set lists k v) k ≡ v.items
-    places_set l = at_same (λ (w : Vec ℕ Global). w.items) [] lists k v l
+    pub slots_set : k < length lists → slots_in (set lists k v) k ≡ v.items
+    slots_set l = at_same (λ (w : Vec ℕ Global). w.items) [] lists k v l
 
-    pub places_set_other : (j : ℕ) → (j ≡ k → ⊥) → places_in (set lists k v) j ≡ places_in lists j
-    places_set_other j ne = at_other (λ (w : Vec ℕ Global). w.items) [] lists k j v ne
+    pub slots_set_other : (j : ℕ) → (j ≡ k → ⊥) → slots_in (set lists k v) j ≡ slots_in lists j
+    slots_set_other j ne = at_other (λ (w : Vec ℕ Global). w.items) [] lists k j v ne
 
     -- a list with the same items, or with the same capacity
-    pub places_set_same : k < length lists → v.items ≡ (get_or lists k d).items → (j : ℕ) → places_in (set lists k v) j ≡ places_in lists j
-    places_set_same l e j =
+    pub slots_set_same : k < length lists → v.items ≡ (get_or lists k d).items → (j : ℕ) → slots_in (set lists k v) j ≡ slots_in lists j
+    slots_set_same l e j =
         elim (cases_eq j k) [
-          | inl s ↦ subst (λ (i : ℕ). places_in (set lists k v) i ≡ places_in lists i) (sym s) (places_set l ∙ e ∙ sym (places_read l))
-          | inr ne ↦ places_set_other j ne
+          | inl s ↦ subst (λ (i : ℕ). slots_in (set lists k v) i ≡ slots_in lists i) (sym s) (slots_set l ∙ e ∙ sym (slots_read l))
+          | inr ne ↦ slots_set_other j ne
         ]
 
     pub capacity_set : k < length lists → vec_capacity v ≡ vec_capacity (get_or lists k d) → (j : ℕ) → capacity_in (set lists k v) j ≡ capacity_in lists j
@@ -65,12 +66,22 @@ within_capacity lists k n h = elim (cases_lt k (length lists)) [ inl l ↦ l | i
         let e = get_or_past (map (λ (v : Vec ℕ Global). vec_capacity v) lists) k 0 (let n = length-map lists (λ (v : Vec ℕ Global). vec_capacity v) in omega (arith, n)) in
         omega (arith, e, h)
 
--- no list has more places than it has memory for
-pub fits_capacity : (lists : List (Vec ℕ Global)) (k : ℕ) → length (places_in lists k) ≤ capacity_in lists k
-fits_capacity [] k = omega arith
-fits_capacity (v ∷ vs) zero = let long = v.ok.0 in let most = v.ok.1 in omega (arith, long, most)
-fits_capacity (v ∷ vs) (suc k) = fits_capacity vs k
-
 -- the list of a Vec whose items were written through a slice
 pub written : (v : Vec (Vec ℕ Global) Global) (ws : List (Vec ℕ Global)) → length ws ≡ length v.items → (with_items v ws).items ≡ ws
 written v ws e = with_items_is v ws (e ∙ sym v.ok.0)
+
+-- a list past the last one is empty
+pub slots_past : (lists : List (Vec ℕ Global)) (k : ℕ) → length lists ≤ k → slots_in lists k ≡ []
+slots_past lists k past =
+    get_or_past (map (λ (v : Vec ℕ Global). v.items) lists) k [] (let n = length-map lists (λ (v : Vec ℕ Global). v.items) in omega (arith, n))
+
+-- a list by its number, where those in a range changed
+pub by_range : (first last j : ℕ) (v : Bool) (new old changed : List ℕ) → (nat_le first j && nat_le j last) ≡ v → (first ≤ j → j ≤ last → new ≡ changed) → (j < first → new ≡ old) → (last < j → new ≡ old) → new ≡ cond v changed old
+by_range first last j true new old changed e a b c =
+    let t = both (nat_le first j) (nat_le j last) e in
+    a (le_is first j t.0) (le_is j last t.1)
+by_range first last j false new old changed e a b c =
+    elim (cases_lt j first) [
+      | inl l ↦ b l
+      | inr f ↦ elim (cases_lt last j) [ inl m ↦ c m | inr n ↦ absurd (let t : IsTrue (nat_le first j && nat_le j last) = join (nat_le first j) (nat_le j last) (is_le first j f) (is_le j last n) in cc) ]
+    ]

@@ -1,6 +1,5 @@
 -- the last cut of an ordered list, and the last one that covers a tile
-use Rattle.std.proofs.Common.{ℕ, ◌≡◌, ◌+◌, ◌-◌, ◌<◌, ◌≤◌, refl, subst, ap, arith, zero, suc, false, List, [], ◌∷◌, length, drop, Some, IsTrue, get_or}
-use Rattle.std.specs.Prelude.{slice_get}
+use Rattle.std.proofs.Common.{ℕ, ◌≡◌, ◌+◌, ◌<◌, ◌≤◌, refl, subst, arith, zero, suc, false, List, [], ◌∷◌, length, drop, Some, IsTrue, get_or}
 use Rattle.std.specs.List.{All}
 use Rattle.std.proofs.lemmas.List.Elements.{All-cons, All-get_or, All-head, All-weaker, Contains-get_or}
 use Rattle.matrix_geometry.specs.declared.address.Address.{Address}
@@ -12,19 +11,16 @@ use Rattle.truncation_list.specs.Listed.{IsLastCovering}
 use Rattle.truncation_list.specs.Purge.{IsByNumber}
 use Rattle.truncation_list.proofs.Answering.{any_of}
 
-greatest_is_last : (cuts : List Cut) (i : ℕ) (k : Cut) → IsByNumber cuts → i + 1 ≡ length cuts → Some k ≡ slice_get cuts i → greatest_number cuts ≡ k.number
-greatest_is_last [] i k o e s = absurd (omega arith)
-greatest_is_last (x ∷ []) zero k o e s = let same : k ≡ x = cc in let n : k.number ≡ x.number = ap (λ (z : Cut). z.number) same in omega arith
-greatest_is_last (x ∷ y ∷ ys) zero k o e s = absurd (omega arith)
-greatest_is_last (x ∷ []) (suc i) k o e s = absurd (omega arith)
-greatest_is_last (x ∷ y ∷ ys) (suc i) k o e s =
-    let h = greatest_is_last (y ∷ ys) i k o.1 (omega arith) s in
+-- the greatest number is that of the last cut
+pub greatest_is_last : (cuts : List Cut) (i : ℕ) (d : Cut) → IsByNumber cuts → i + 1 ≡ length cuts → greatest_number cuts ≡ (get_or cuts i d).number
+greatest_is_last [] i d o e = absurd (omega arith)
+greatest_is_last (x ∷ []) zero d o e = omega arith
+greatest_is_last (x ∷ y ∷ ys) zero d o e = absurd (omega arith)
+greatest_is_last (x ∷ []) (suc i) d o e = absurd (omega arith)
+greatest_is_last (x ∷ y ∷ ys) (suc i) d o e =
+    let h = greatest_is_last (y ∷ ys) i d o.1 (omega arith) in
     let less : x.number < y.number = All-head (λ other. x.number < other.number) y ys o.0 in
     omega arith
-
-pub greatest_is_at_end : (cuts : List Cut) (k : Cut) → IsByNumber cuts → Some k ≡ slice_get cuts (length cuts - 1) → greatest_number cuts ≡ k.number
-greatest_is_at_end [] k o s = absurd (cc)
-greatest_is_at_end (x ∷ xs) k o s = greatest_is_last (x ∷ xs) (length (x ∷ xs) - 1) k o (omega arith) s
 
 module _ (m : Matrix) (a : Address) where
   -- none of the later ones covers the tile, and the earlier ones are lesser

@@ -7,10 +7,13 @@ pub mod Settled
 pub mod Last
 pub mod Boxes
 pub mod Rule
-pub mod Places
+pub mod Filters
+pub mod InSlots
+pub mod Freed
+pub mod Along
 pub mod Shelves
 pub mod InLists
 pub mod Standing
 pub mod Outermost
-pub mod Along
 pub mod Indexing
+pub mod Roomy

@@ -1,16 +1,14 @@
 -- a purge in two steps: the cuts within later ones, and then those that go by the cover or by their numbers
-use Rattle.std.proofs.Common.{ℕ, ◌≡◌, ◌+◌, ◌<◌, ◌≤◌, ◌||◌, refl, ap, arith, zero, suc, Bool, true, false, not, cond, List, [], ◌∷◌, fold, length, Option, Some, None, drop, get_or}
+use Rattle.std.proofs.Common.{ℕ, ◌≡◌, ◌+◌, ◌<◌, ◌≤◌, ◌||◌, ◌∙◌, refl, subst, sym, ap, arith, zero, suc, Bool, true, false, not, cond, List, [], ◌∷◌, ◌++◌, fold, length, IsTrue, Option, Some, None, drop, take, get_or}
 use Rattle.std.specs.Prelude.{filter}
-use Rattle.std.specs.List.{All}
+use Rattle.std.specs.List.{All, remove}
 use Rattle.std.proofs.lemmas.Bool.Decides.{nat_tests}
 use Rattle.std.proofs.lemmas.List.Elements.{All-cons, All-head, All-tail, All-weaker}
-use Rattle.truncation_list.specs.declared.book.Book.{Book}
 use Rattle.truncation_list.specs.declared.book.Cut.{Cut}
 use Rattle.truncation_list.specs.declared.cover.Cover.{Cover}
 use Rattle.truncation_list.specs.Listed.{IsSettled, outermost}
-use Rattle.truncation_list.specs.Purge.{IsByNumber, goes, is_old, is_outdone, is_within, purged, raised, remaining}
-use Rattle.truncation_list.proofs.Remaining.{no_more_remain}
-use Rattle.truncation_list.proofs.Settled.{neither}
+use Rattle.truncation_list.specs.Purge.{IsByNumber, is_old, is_outdone, is_within, raised, remaining}
+use Rattle.truncation_list.specs.Slots.{stays}
 
 two_steps : (own later : Bool) (x : Cut) (rest out : List Cut) (test : Cut → Bool) → test x ≡ not own → rest ≡ filter test out → cond (own || later) rest (x ∷ rest) ≡ filter test (cond later out (x ∷ out))
 two_steps true true x rest out test t e = e
@@ -27,22 +25,6 @@ pub outermost_same : (cuts : List Cut) → IsSettled cuts → outermost cuts ≡
 outermost_same [] h = refl
 outermost_same (x ∷ xs) h = rw (h.0, outermost_same xs h.1) refl
 
-pub none_remain : (cover : Option Cover) (least : Option ℕ) (cuts : List Cut) → IsSettled cuts → All (λ cut. is_within cover cut ≡ false) cuts → All (λ cut. is_old least cut ≡ false) cuts → remaining cover least cuts ≡ cuts
-none_remain cover least [] s w o = refl
-none_remain cover least (x ∷ xs) s w o =
-    let stays : goes cover least xs x ≡ false = neither (is_within cover x || is_old least x) (is_outdone xs x) (neither (is_within cover x) (is_old least x) (All-head (λ cut. is_within cover cut ≡ false) x xs w) (All-head (λ cut. is_old least cut ≡ false) x xs o)) s.0 in
-    rw (stays, none_remain cover least xs s.1 (All-tail (λ cut. is_within cover cut ≡ false) x xs w) (All-tail (λ cut. is_old least cut ≡ false) x xs o)) refl
-
-as_many_at : (v : Bool) (x : Cut) (rest xs : List Cut) → length rest ≤ length xs → length xs + 1 ≤ length (cond v rest (x ∷ rest)) → (length xs ≤ length rest → rest ≡ xs) → cond v rest (x ∷ rest) ≡ x ∷ xs
-as_many_at true x rest xs few many ih = absurd (omega arith)
-as_many_at false x rest xs few many ih = ap (λ (ys : List Cut). x ∷ ys) (ih (omega arith))
-
--- where as many stay, all do
-pub as_many : (cover : Option Cover) (least : Option ℕ) (cuts : List Cut) → length cuts ≤ length (remaining cover least cuts) → remaining cover least cuts ≡ cuts
-as_many cover least [] h = refl
-as_many cover least (x ∷ xs) h =
-    as_many_at (goes cover least xs x) x (remaining cover least xs) xs (no_more_remain cover least xs) (omega arith) (λ m. as_many cover least xs m)
-
 -- NUMBERS
 
 pub none_raise : (least : Option ℕ) (cuts : List Cut) (floor : ℕ) → All (λ cut. is_old least cut ≡ false) cuts → fold (raised least) floor cuts ≡ floor
@@ -58,9 +40,6 @@ pub none_old_after : (least : Option ℕ) (x : Cut) (xs : List Cut) → IsByNumb
 none_old_after least x xs o h =
     All-cons (λ cut. is_old least cut ≡ false) x xs h (All-weaker (λ other. x.number < other.number) (λ cut. is_old least cut ≡ false) (λ cut l. not_older least x cut h l) xs o.0)
 
-pub none_purged : (cover : Option Cover) (least : Option ℕ) (book : Book) → IsSettled book.cuts → All (λ cut. is_within cover cut ≡ false) book.cuts → All (λ cut. is_old least cut ≡ false) book.cuts → purged cover least book ≡ book
-none_purged cover least book s w o = rw (none_remain cover least book.cuts s w o, none_raise least book.cuts book.floor o) refl
-
 -- where a cut doesn't meet the test on numbers, no later one does
 pub none_raise_from : (least : Option ℕ) (cuts : List Cut) (i : ℕ) (d : Cut) (floor : ℕ) → i < length cuts → IsByNumber cuts → is_old least (get_or cuts i d) ≡ false → fold (raised least) floor (drop i cuts) ≡ floor
 none_raise_from least [] i d floor l o h = absurd (omega arith)
@@ -74,3 +53,30 @@ number_le (x ∷ xs) zero zero d o l b = omega arith
 number_le (x ∷ xs) (suc i) zero d o l b = absurd (omega arith)
 number_le (x ∷ xs) zero (suc j) d o l b = let h : x.number < (get_or xs j d).number = o.0 j d (omega arith) in omega arith
 number_le (x ∷ xs) (suc i) (suc j) d o l b = number_le xs i j d o.1 (omega arith) (omega arith)
+
+pub number_lt : (cuts : List Cut) (i j : ℕ) (d : Cut) → IsByNumber cuts → i < j → j < length cuts → (get_or cuts i d).number < (get_or cuts j d).number
+number_lt [] i j d o l b = absurd (omega arith)
+number_lt (x ∷ xs) i zero d o l b = absurd (omega arith)
+number_lt (x ∷ xs) zero (suc j) d o l b = o.0 j d (omega arith)
+number_lt (x ∷ xs) (suc i) (suc j) d o l b = number_lt xs i j d o.1 (omega arith) (omega arith)
+
+-- the next cut of those that are settled so far goes, or it stays
+pub next_goes : (cuts : List Cut) (kept : ℕ) (d : Cut) → kept < length cuts → IsTrue (is_outdone (drop (kept + 1) cuts) (get_or cuts kept d)) → take kept (remove cuts kept) ++ outermost (drop kept (remove cuts kept)) ≡ take kept cuts ++ outermost (drop kept cuts)
+next_goes [] kept d l t = absurd (omega arith)
+next_goes (x ∷ xs) zero d l t = rw t refl
+next_goes (x ∷ xs) (suc kept) d l t =
+    let next : suc kept + 1 ≡ suc (kept + 1) = omega arith in
+    ap (λ (ys : List Cut). x ∷ ys) (next_goes xs kept d (omega arith) (subst (λ (j : ℕ). IsTrue (is_outdone (drop j (x ∷ xs)) (get_or xs kept d))) next t))
+
+pub next_stays : (cuts : List Cut) (kept : ℕ) (d : Cut) → kept < length cuts → is_outdone (drop (kept + 1) cuts) (get_or cuts kept d) ≡ false → take (kept + 1) cuts ++ outermost (drop (kept + 1) cuts) ≡ take kept cuts ++ outermost (drop kept cuts)
+next_stays [] kept d l e = absurd (omega arith)
+next_stays (x ∷ xs) zero d l e = rw e refl
+next_stays (x ∷ xs) (suc kept) d l e =
+    let next : suc kept + 1 ≡ suc (kept + 1) = omega arith in
+    subst (λ (j : ℕ). take j (x ∷ xs) ++ outermost (drop j (x ∷ xs)) ≡ x ∷ take kept xs ++ outermost (drop kept xs)) (sym next)
+    (ap (λ (ys : List Cut). x ∷ ys) (next_stays xs kept d (omega arith) (subst (λ (j : ℕ). is_outdone (drop j (x ∷ xs)) (get_or xs kept d) ≡ false) next e)))
+
+-- a settled list keeps the cuts that stay by themselves
+pub settled_remaining : (cover : Option Cover) (least : Option ℕ) (cuts : List Cut) → IsSettled cuts → remaining cover least cuts ≡ filter (stays cover least) cuts
+settled_remaining cover least cuts h =
+    remaining_filters cover least cuts ∙ ap (λ (ks : List Cut). filter (stays cover least) ks) (outermost_same cuts h)

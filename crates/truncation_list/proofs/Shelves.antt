@@ -1,9 +1,9 @@
 -- what is found at the first shelf of a layer and grid
-use Rattle.std.proofs.Common.{ℕ, zero, suc, ◌≡◌, ◌<◌, ◌==◌, ◌&&◌, refl, subst, ap, ◌∙◌, arith, Bool, true, false, cond, List, [], ◌∷◌, ◌++◌, length, take, set, get_or, IsTrue}
-use Rattle.std.specs.List.{All}
+use Rattle.std.proofs.Common.{ℕ, zero, suc, ◌≡◌, ◌<◌, ◌==◌, ◌&&◌, refl, subst, ap, ◌∙◌, sym, arith, Bool, true, false, cond, List, [], ◌∷◌, ◌++◌, length, take, set, get_or, IsTrue}
+use Rattle.std.specs.List.{All, AllZip}
 use Rattle.std.proofs.lemmas.List.Elements.{All-head, All-tail}
 use Rattle.truncation_list.specs.declared.index.Shelf.{Shelf}
-use Rattle.truncation_list.specs.Index.{found, is_of}
+use Rattle.truncation_list.specs.Index.{found, is_of, listed, slots_in}
 use Rattle.truncation_list.proofs.Decided.{both, eq_is}
 
 module _ {A : Type 0} (of : Shelf → A) (none : A) where
@@ -79,3 +79,24 @@ module _ {A : Type 0} (of : Shelf → A) (none : A) where
       other first k =
           let p = both (l == l') (g == g') k in
           subst (λ (n : ℕ). is_of l' n x ≡ false) (eq_is g g' p.1) (subst (λ (n : ℕ). is_of n g x ≡ false) (eq_is l l' p.0) first)
+
+-- EACH LIST OF EACH SHELF
+
+module _ (edit : List ℕ → List ℕ) where
+  pub record Edited (old new : Shelf) : Type 0 where
+    pub layer : new.layer ≡ old.layer
+    pub grid : new.grid ≡ old.grid
+    pub slots : (k : ℕ) → slots_in new.lists.items k ≡ edit (slots_in old.lists.items k)
+
+  either_edited : (v : Bool) (a b c d : List ℕ) → a ≡ edit b → c ≡ edit d → cond v a c ≡ edit (cond v b d)
+  either_edited true a b c d e f = e
+  either_edited false a b c d e f = f
+
+  pub found_edited : edit [] ≡ [] → (old new : List Shelf) → AllZip Edited old new → (l g k : ℕ) → listed new l g k ≡ edit (listed old l g k)
+  unfolding found
+  found_edited e [] [] h l g k = sym e
+  found_edited e [] (y ∷ ys) h l g k = absurd h
+  found_edited e (x ∷ xs) [] h l g k = absurd h
+  found_edited e (x ∷ xs) (y ∷ ys) h l g k =
+      ap (λ (v : Bool). cond v (slots_in y.lists.items k) (listed ys l g k)) (ap (λ (n : ℕ). (n == l) && (y.grid == g)) h.0.layer ∙ ap (λ (n : ℕ). (x.layer == l) && (n == g)) h.0.grid)
+      ∙ either_edited (is_of l g x) (slots_in y.lists.items k) (slots_in x.lists.items k) (listed ys l g k) (listed xs l g k) (h.0.slots k) (found_edited e xs ys h.1 l g k)

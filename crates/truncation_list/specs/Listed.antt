@@ -11,14 +11,15 @@ use Rattle.truncation_list.specs.declared.index.Shelf.{Shelf}
 use Rattle.truncation_list.specs.Index.{HasRoom}
 use Rattle.truncation_list.specs.Purge.{is_outdone}
 
--- for how many more cuts there is memory in the list by number, and the shelves with their lists
+-- for how many more cuts there are slots, and memory in their order, and the shelves with their lists
 pub record Room : Type 0 where
+  pub slots : ℕ
   pub by_number : ℕ
   pub shelves : List Shelf
 
 -- a cut of this cover can be listed with no memory taken
 abbrev pub HasRoomFor : Room → Cover → Type 0
-HasRoomFor room cover = (0 < room.by_number) × HasRoom room.shelves cover
+HasRoomFor room cover = (0 < room.slots) × (0 < room.by_number) × HasRoom room.shelves cover
 
 -- cuts by number in their lists
 pub record Indexed : Type 0 where

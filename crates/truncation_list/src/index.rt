@@ -1,14 +1,16 @@
-//! An index of cuts: in which places of the list by number the cuts of a layer, a grid and a zoom stand.
-ghost use Rattle.std.specs.Prelude.{MatchOption, IfOk, IsTrue, OnOk, ℕ, [], false, length, take, ◌++◌, ◌∷◌, ◌<◌, ◌≡◌, ◌≤◌, ◌^◌, if◌then◌else◌};
+//! An index of cuts: in which slots the cuts of a layer, a grid and a zoom lie.
+ghost use Rattle.std.specs.Prelude.{MatchOption, IfOk, IsTrue, OnOk, ℕ, [], false, length, take, ◌++◌, ◌∷◌, ◌<◌, ◌≡◌, if◌then◌else◌};
 ghost use Rattle.std.specs.List.{All, HoldsAt};
-ghost use Rattle.truncation_list.specs.Index.{HasRoom, IsIndexOf, capacity, first_list, is_of, last_list, listed, standing, stands};
+ghost use Rattle.truncation_list.specs.Index.{HasRoom, capacity, is_of, listed, slots_in, stands};
+ghost use Rattle.truncation_list.specs.Slots.{taken, without};
 
 use crate::book::Cut;
 use crate::cover::Cover;
-use crate::lists::{clear_each, first_list, grow, last_list, list_in, push_place, reserve_each};
+use crate::lists::{first_list, grow, keep_each, last_list, push_slot, reserve_each, take_from};
+use slab::Slab;
 use std::alloc::{AllocError, Global};
 
-/// The lists of a layer and a grid by zoom. Each has places in the list by number, the least first.
+/// The lists of a layer and a grid by zoom. Each has the slots of its cuts by number, the least first.
 #[derive(Drop)]
 pub struct Shelf {
     pub layer: u32,
@@ -38,20 +40,20 @@ fn find(shelves: &[Shelf], layer: u32, grid: u32) -> Option<usize>
 impl Index {
     /// An index of no cut.
     pub fn new(alloc: Global) -> Index
-        ensures index { IsIndexOf result.shelves.items [] 0 }
+        ensures { (layer grid k : ℕ) → listed result.shelves.items layer grid k ≡ [] }
     {
         Index {
             shelves: Vec::new(alloc),
         }
     }
 
-    /// The list of this number of a layer and grid.
-    pub fn list(&self, layer: u32, grid: u32, k: usize) -> &[u32]
-        ensures { result.now ≡ listed self.now.shelves.items layer grid k }
+    /// The lists of a layer and grid.
+    pub fn lists(&self, layer: u32, grid: u32) -> &[Vec<u32>]
+        ensures { (k : ℕ) → slots_in result.now k ≡ listed self.now.shelves.items layer grid k }
     {
         match find(&self.shelves, layer, grid) {
             None => &[],
-            Some(s) => list_in(&self.shelves[s].lists, k),
+            Some(s) => &self.shelves[s].lists,
         }
     }
 
@@ -74,7 +76,7 @@ impl Index {
         }
     }
 
-    /// Makes room for one more place in each list that the cover stands in.
+    /// Makes room for one more slot in each list that the cover stands in.
     pub fn reserve(&mut self, alloc: Global, cover: &Cover) -> Result<(), AllocError>
         ensures listed { (layer grid k : ℕ) → listed self.new.shelves.items layer grid k ≡ listed self.old.shelves.items layer grid k }
         ensures room { OnOk result (HasRoom self.new.shelves.items cover.now) }
@@ -85,45 +87,50 @@ impl Index {
         reserve_each(&mut shelf.lists, first_list(cover), last_list(cover))
     }
 
-    /// Writes a place to the lists that the cover stands in.
-    pub fn stand(&mut self, place: u32, cover: &Cover)
+    /// Writes a slot to the lists that the cover stands in.
+    pub fn stand(&mut self, slot: u32, cover: &Cover)
         requires { HasRoom self.old.shelves.items cover.now }
-        ensures listed { (layer grid k : ℕ) → listed self.new.shelves.items layer grid k ≡ (if stands layer grid k cover.now then listed self.old.shelves.items layer grid k ++ place ∷ [] else listed self.old.shelves.items layer grid k) }
+        ensures listed { (layer grid k : ℕ) → listed self.new.shelves.items layer grid k ≡ (if stands layer grid k cover.now then listed self.old.shelves.items layer grid k ++ slot ∷ [] else listed self.old.shelves.items layer grid k) }
         ensures capacity { (layer grid k : ℕ) → capacity self.new.shelves.items layer grid k ≡ capacity self.old.shelves.items layer grid k }
     {
         match find(&self.shelves, cover.layer, cover.grid) {
             None => return,
             Some(s) => {
-                push_place(
+                push_slot(
                     &mut self.shelves[s].lists,
                     first_list(cover),
                     last_list(cover),
-                    place,
+                    slot,
                 )
             }
         }
     }
 
-    /// Empties each list. Its room stays.
-    fn clear(&mut self)
-        ensures listed { (layer grid k : ℕ) → listed self.new.shelves.items layer grid k ≡ [] }
+    /// Takes a slot out of the lists that the cover stands in.
+    pub fn leave(&mut self, slot: u32, cover: &Cover)
+        ensures listed { (layer grid k : ℕ) → listed self.new.shelves.items layer grid k ≡ (if stands layer grid k cover.now then without slot (listed self.old.shelves.items layer grid k) else listed self.old.shelves.items layer grid k) }
         ensures capacity { (layer grid k : ℕ) → capacity self.new.shelves.items layer grid k ≡ capacity self.old.shelves.items layer grid k }
     {
-        'clearing: for s in 0..self.shelves.len() {
-            clear_each(&mut self.shelves[s].lists);
+        match find(&self.shelves, cover.layer, cover.grid) {
+            None => return,
+            Some(s) => {
+                take_from(
+                    &mut self.shelves[s].lists,
+                    first_list(cover),
+                    last_list(cover),
+                    slot,
+                )
+            }
         }
     }
 
-    /// Makes it the index of these cuts. Its lists have the room for them, and keep it.
-    pub fn refill(&mut self, cuts: &[Cut])
-        requires few { length cuts.now < 2 ^ 32 }
-        requires room { (layer grid k : ℕ) → length (standing layer grid k cuts.now (length cuts.now)) ≤ capacity self.old.shelves.items layer grid k }
-        ensures index { IsIndexOf self.new.shelves.items cuts.now (length cuts.now) }
+    /// Takes the slots that have no cut out of each list.
+    pub fn keep(&mut self, slots: &Slab<Cut>)
+        ensures listed { (layer grid k : ℕ) → listed self.new.shelves.items layer grid k ≡ taken slots.now (listed self.old.shelves.items layer grid k) }
         ensures capacity { (layer grid k : ℕ) → capacity self.new.shelves.items layer grid k ≡ capacity self.old.shelves.items layer grid k }
     {
-        self.clear();
-        'filling: for i in 0..cuts.len() {
-            self.stand(i as u32, &cuts[i].cover);
+        'keeping: for s in 0..self.shelves.len() {
+            keep_each(&mut self.shelves[s].lists, slots);
         }
     }
 }

@@ -1,21 +1,24 @@
 //! The cuts by number with their index.
-ghost use Rattle.std.specs.Prelude.{IsTrue, OnOk, [], false, length, ◌++◌, ◌<◌, ◌^◌, ◌∷◌, ◌≡◌};
-ghost use Rattle.std.specs.List.{All};
+ghost use Rattle.std.specs.Prelude.{IsTrue, MatchOption, OnOk, [], false, filter, length, slice_index_or, true, ◌++◌, ◌<◌, ◌^◌, ◌∷◌, ◌≡◌};
+ghost use Rattle.std.specs.List.{All, remove};
 ghost use Rattle.matrix_geometry.specs.Limits.{IsWithinLimits};
 ghost use Rattle.truncation_list.specs.declared.cover.Cover.{Cover};
 ghost use Rattle.truncation_list.specs.Contains.{contains};
 ghost use Rattle.truncation_list.specs.Covers.{IsWithinReach};
-ghost use Rattle.truncation_list.specs.Listed.{HasRoomFor, IsLastCovering, IsSettled};
-ghost use Rattle.truncation_list.specs.Purge.{IsAbove, IsInOrder, is_within, remaining};
+ghost use Rattle.truncation_list.specs.Listed.{HasRoomFor, IsLastCovering};
+ghost use Rattle.truncation_list.specs.Purge.{IsAbove, IsInOrder};
+ghost use Rattle.truncation_list.specs.Slots.{no_cut, stays};
 
 use crate::book::Cut;
 use crate::cover::Cover;
+use crate::going::is_old;
 use crate::index::Index;
-use crate::lists::{first_list, last_list, list_of};
-use crate::looking::{last_covering, some_within};
-use crate::purge::purge;
+use crate::lists::{list_in, list_of};
+use crate::looking::{last_covering, place_of, some_within};
+use crate::slots::{cut_in, free_going, keep_taken};
 use matrix_geometry::address::Address;
 use matrix_geometry::matrix::Matrix;
+use slab::Slab;
 use std::alloc::{AllocError, Global};
 use std::marker::Model;
 
@@ -23,21 +26,24 @@ use std::marker::Model;
 /// for more.
 #[derive(Drop)]
 pub struct IndexedCuts {
-    cuts: Vec<Cut>,
+    /// Each cut lies in a slot, and stays in it until it is taken out.
+    slots: Slab<Cut>,
+    /// The slots by the numbers of their cuts, the least first.
+    order: Vec<u32>,
     index: Index,
 }
 
 impl Model for IndexedCuts {
-    ghost use Rattle.std.specs.Prelude.{length, min, vec_capacity, vec_len, ◌-◌, ◌^◌, ◌≤◌};
-    ghost use Rattle.truncation_list.specs.Index.{IsIndexOf};
+    ghost use Rattle.std.specs.Prelude.{min, vec_capacity, vec_len, ◌-◌, ◌^◌, ◌≤◌};
+    ghost use Rattle.truncation_list.specs.Index.{IsIndexed};
     ghost use Rattle.truncation_list.specs.Listed.{Indexed};
-    ghost use Rattle.truncation_list.specs.Purge.{IsInOrder};
+    ghost use Rattle.truncation_list.specs.Slots.{cuts_in, free_slots};
 
     ghost Value = { Indexed };
 
-    ghost view = { λ c. record { cuts = c.cuts.items; room = record { by_number = min (vec_capacity c.cuts) (2 ^ 32 - 1) - vec_len c.cuts; shelves = c.index.shelves.items } } };
+    ghost view = { λ c. record { cuts = cuts_in c.slots c.order.items; room = record { slots = free_slots c.slots; by_number = min (vec_capacity c.order) (2 ^ 32 - 1) - vec_len c.order; shelves = c.index.shelves.items } } };
 
-    ghost invariant = { λ c. IsInOrder c.cuts.items × IsIndexOf c.index.shelves.items c.cuts.items (length c.cuts.items) × (vec_len c.cuts ≤ 2 ^ 32 - 1) };
+    ghost invariant = { λ c. IsIndexed c.slots c.order.items c.index.shelves.items × (vec_len c.order ≤ 2 ^ 32 - 1) };
 }
 
 impl IndexedCuts {
@@ -46,29 +52,43 @@ impl IndexedCuts {
         ensures { result.cuts ≡ [] }
     {
         IndexedCuts {
-            cuts: Vec::new(alloc),
+            slots: Slab::new(alloc),
+            order: Vec::new(alloc),
             index: Index::new(alloc),
         }
     }
 
-    /// The cuts by number.
-    pub fn as_slice(&self) -> &[Cut]
-        ensures value { result.now ≡ self.now.cuts }
+    /// How many cuts there are.
+    pub fn len(&self) -> usize
+        ensures value { result ≡ length self.now.cuts }
         ensures order { IsInOrder self.now.cuts }
         ensures few { length self.now.cuts < 2 ^ 32 }
     {
-        &self.cuts
+        self.order.len()
     }
 
-    /// Makes room for a cut of this cover, in the list by number and in each list that it stands in.
+    /// The cut at a place in the order of numbers, counted from 0.
+    pub fn cut(&self, i: usize) -> &Cut
+        requires { i < length self.now.cuts }
+        ensures { result.now ≡ slice_index_or self.now.cuts i no_cut }
+    {
+        cut_in(&self.slots, self.order[i])
+    }
+
+    /// Makes room for a cut of this cover, among the slots, in their order and in each list that it stands in.
     pub fn reserve(&mut self, alloc: Global, cover: &Cover) -> Result<(), AllocError>
         ensures cuts { self.new.cuts ≡ self.old.cuts }
         ensures ready { OnOk result (HasRoomFor self.new.room cover.now) }
     {
-        if self.cuts.len() >= u32::MAX as usize {
+        if self.order.len() >= u32::MAX as usize {
             return Err(AllocError);
         }
-        self.cuts.reserve(1)?;
+        self.order.reserve(1)?;
+        self.slots.reserve(1)?;
+        // The number of a slot has 32 bits.
+        if self.slots.capacity() > u32::MAX as usize {
+            return Err(AllocError);
+        }
         self.index.reserve(alloc, cover)
     }
 
@@ -79,24 +99,33 @@ impl IndexedCuts {
         requires reachable { IsWithinReach cover.now }
         ensures { self.new.cuts ≡ self.old.cuts ++ record { number = number; cover = cover.now } ∷ [] }
     {
-        self.index.stand(self.cuts.len() as u32, cover);
-        self.cuts.push_reserved(Cut {
+        let slot = self.slots.insert_reserved(Cut {
             number,
             cover: *cover,
         });
+        self.index.stand(slot as u32, cover);
+        self.order.push_reserved(slot as u32);
     }
 
-    /// Takes out the cuts that go, and where some went fills the lists anew.
-    pub fn purge(&mut self, cover: &Option<Cover>, least: Option<u64>, is_settled: bool)
-        requires { IsTrue is_settled → IsSettled self.old.cuts }
-        ensures cuts { self.new.cuts ≡ remaining cover.now least self.old.cuts }
+    /// Takes out the cut at a place.
+    pub fn take_out(&mut self, i: usize)
+        requires { i < length self.old.cuts }
+        ensures cuts { self.new.cuts ≡ remove self.old.cuts i }
         ensures ready { (cover : Cover) → HasRoomFor self.old.room cover → HasRoomFor self.new.room cover }
     {
-        let before = self.cuts.len();
-        purge(&mut self.cuts, cover, least, is_settled);
-        if self.cuts.len() < before {
-            self.index.refill(&self.cuts);
-        }
+        let slot = self.order.remove(i);
+        let cut = self.slots.remove(slot as usize);
+        self.index.leave(slot, &cut.cover);
+    }
+
+    /// Takes out the cuts that don't stay by themselves, in one pass over all of them and their lists.
+    pub fn sweep(&mut self, cover: &Option<Cover>, least: Option<u64>)
+        ensures cuts { self.new.cuts ≡ filter (stays cover.now least) self.old.cuts }
+        ensures ready { (cover : Cover) → HasRoomFor self.old.room cover → HasRoomFor self.new.room cover }
+    {
+        free_going(&mut self.slots, cover, least);
+        keep_taken(&mut self.order, &self.slots);
+        self.index.keep(&self.slots);
     }
 
     /// The number of the last cut that covers the tile.
@@ -104,33 +133,38 @@ impl IndexedCuts {
         requires { IsWithinLimits m.now }
         ensures { IsLastCovering self.now.cuts m.now a.now result }
     {
-        let places = self.index.list(a.theme.layer, a.grid, list_of(a.z));
-        last_covering(places, &self.cuts, m, a)
+        let lists = self.index.lists(a.theme.layer, a.grid);
+        last_covering(list_in(lists, list_of(a.z)), &self.slots, m, a)
     }
 
-    /// Whether it is seen that no cut lies within the cover that comes. Where none comes, none does.
-    pub fn none_within(&self, cover: &Option<Cover>) -> bool
-        ensures { IsTrue result → All (λ cut. is_within cover.now cut ≡ false) self.now.cuts }
+    /// The place of a cut that doesn't stay by itself, `None` where each does. It is looked for at the first place, which has the
+    /// least number, and in the lists of the zooms of the cover that comes.
+    pub fn one_that_goes(&self, cover: &Option<Cover>, least: Option<u64>) -> Option<usize>
+        ensures { MatchOption result (All (λ cut. stays cover.now least cut ≡ true) self.now.cuts) (λ i. (i < length self.now.cuts) × (stays cover.now least (slice_index_or self.now.cuts i no_cut) ≡ false)) }
     {
+        if self.len() == 0 {
+            return None;
+        }
+        if is_old(least, self.cut(0)) {
+            return Some(0);
+        }
         match cover {
-            None => true,
-            Some(cover) => self.none_contained(cover),
+            None => None,
+            Some(cover) => self.one_within(cover),
         }
     }
 
-    /// Whether it is seen that the cover contains no cut. The lists of its zooms are looked at as long as they have no more places
-    /// in all than there are cuts; where they have more, it is `false`.
-    fn none_contained(&self, cover: &Cover) -> bool
-        ensures { IsTrue result → All (λ cut. contains cover.now cut.cover ≡ false) self.now.cuts }
+    /// The place of a cut within the cover, `None` where there is none.
+    fn one_within(&self, cover: &Cover) -> Option<usize>
+        ensures { MatchOption result (All (λ cut. contains cover.now cut.cover ≡ false) self.now.cuts) (λ i. (i < length self.now.cuts) × IsTrue (contains cover.now (slice_index_or self.now.cuts i no_cut).cover)) }
     {
-        let mut left = self.cuts.len();
-        'looking: for k in first_list(cover)..last_list(cover) + 1 {
-            let places = self.index.list(cover.layer, cover.grid, k);
-            if left < places.len() || some_within(places, &self.cuts, cover) {
-                return false;
+        let lists = self.index.lists(cover.layer, cover.grid);
+        match some_within(&self.order, lists, &self.slots, cover) {
+            None => None,
+            Some(slot) => {
+                let number = cut_in(&self.slots, slot).number;
+                Some(place_of(&self.order, &self.slots, number))
             }
-            left -= places.len();
         }
-        true
     }
 }

@@ -3,7 +3,7 @@
 //! Promises: a cover covers a tile exactly by the geometry of its box, and hits a block exactly where it covers a tile of
 //! it; a list is purged and its floor rises exactly by the rules of `specs/Purge.antt`, so that it answers for each cut that
 //! it ever listed; the last covering cut is the greatest one. `laws` has what holds of all covers and books.
-//! Stands on matrix_geometry.
+//! Stands on matrix_geometry and slab.
 #![tactic(auto)]
 
 pub mod block;
@@ -12,6 +12,7 @@ pub mod containing;
 pub mod cover;
 pub mod covering;
 pub mod fault;
+mod going;
 mod index;
 mod indexed;
 pub mod laws;
@@ -19,3 +20,4 @@ pub mod list;
 mod lists;
 mod looking;
 mod purge;
+mod slots;

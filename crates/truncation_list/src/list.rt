@@ -9,7 +9,7 @@ ghost use Rattle.truncation_list.specs.Purge.{IsAbove, IsInOrder, added, empty_b
 
 use crate::cover::Cover;
 use crate::indexed::IndexedCuts;
-use crate::purge::{floor_after, none_old, stay_at_least};
+use crate::purge::{floor_after, purge, settled_stay_at_least, stay_at_least};
 use matrix_geometry::address::Address;
 use matrix_geometry::matrix::Matrix;
 use std::alloc::{AllocError, Global};
@@ -19,8 +19,9 @@ use std::marker::Model;
 /// them.
 ///
 /// In the calls below `least` is the least number that is kept or running, `None` where there is none. `last` reads the cuts
-/// of the tile's layer, grid and zoom alone. `full` and `add` read those of the cover's zooms, and go over all cuts only where
-/// one may go. The first purge after an `enter`, and `full` before it, compare each cut with the later ones.
+/// of the tile's layer, grid and zoom alone. `full` and `add` read those of the cover's zooms. `add` goes over all cuts only
+/// where many go, and `full` only where some go and more than `limit` are listed. The first purge after an `enter`, and `full`
+/// before it, compare each cut with the later ones.
 #[derive(Drop)]
 pub struct CutList {
     cuts: IndexedCuts,
@@ -64,24 +65,14 @@ impl CutList {
     pub fn full(&self, cover: &Cover, least: Option<u64>, limit: u32) -> bool
         ensures { IsTrue result ↔ (limit ≤ length (purged (Some cover.now) least self.now.book).cuts) }
     {
-        let cuts = self.cuts.as_slice();
-        if cuts.len() < limit as usize {
+        let cover = Some(*cover);
+        if self.cuts.len() < limit as usize {
             return false;
         }
-        let cover = Some(*cover);
-        if self.none_goes(&cover, least) {
-            return true;
+        if self.is_settled {
+            return settled_stay_at_least(&self.cuts, &cover, least, limit as usize);
         }
-        stay_at_least(cuts, &cover, least, self.is_settled, limit as usize)
-    }
-
-    /// Whether it is seen, with no pass over the cuts, that a purge takes none out.
-    fn none_goes(&self, cover: &Option<Cover>, least: Option<u64>) -> bool
-        ensures book { IsTrue result → purged cover.now least self.now.book ≡ self.now.book }
-        ensures order { IsInOrder self.now.book.cuts }
-    {
-        let cuts = self.cuts.as_slice();
-        self.is_settled && none_old(cuts, least) && self.cuts.none_within(cover)
+        stay_at_least(&self.cuts, &cover, least, false, limit as usize)
     }
 
     /// Takes out the cuts that go, and raises the floor.
@@ -90,11 +81,8 @@ impl CutList {
         ensures order { IsInOrder self.old.book.cuts }
         ensures ready { (cover : Cover) → IsReady self.old cover → IsReady self.new cover }
     {
-        if self.none_goes(cover, least) {
-            return;
-        }
-        self.floor = floor_after(self.cuts.as_slice(), self.floor, least);
-        self.cuts.purge(cover, least, self.is_settled);
+        self.floor = floor_after(&self.cuts, self.floor, least);
+        purge(&mut self.cuts, cover, least, self.is_settled);
         self.is_settled = true;
     }
 
@@ -146,7 +134,7 @@ impl CutList {
         requires { i < length self.now.book.cuts }
         ensures { slice_get self.now.book.cuts i ≡ Some (record { number = result.0; cover = result.1 }) }
     {
-        let cut = self.cuts.as_slice()[i as usize];
+        let cut = self.cuts.cut(i as usize);
         (cut.number, cut.cover)
     }
 
@@ -162,10 +150,11 @@ impl CutList {
     pub fn seen(&self) -> u64
         ensures { result ≡ last_seen self.now.book }
     {
-        match self.cuts.as_slice().last() {
-            None => self.floor,
-            Some(cut) => self.floor.max(cut.number),
+        let count = self.cuts.len();
+        if count == 0 {
+            return self.floor;
         }
+        self.floor.max(self.cuts.cut(count - 1).number)
     }
 
     /// The number up to which each cut is answered for without being listed.
@@ -180,6 +169,6 @@ impl CutList {
         ensures count { result ≡ length self.now.book.cuts }
         ensures order { IsInOrder self.now.book.cuts }
     {
-        self.cuts.as_slice().len() as u32
+        self.cuts.len() as u32
     }
 }

@@ -1,8 +1,12 @@
-//! The lists of one layer and grid: which of them a cover stands in, and places written to them.
-ghost use Rattle.std.specs.Prelude.{OnOk, ℕ, [], length, ◌++◌, ◌∷◌, ◌<◌, ◌≡◌, ◌≤◌, ◌&&◌, nat_le, if◌then◌else◌};
-ghost use Rattle.truncation_list.specs.Index.{capacity_in, first_list, last_list, list_of, places_in};
+//! The lists of one layer and grid: which of them a cover stands in, and slots written to them and taken out.
+ghost use Rattle.std.specs.Prelude.{OnOk, ℕ, [], length, vec_capacity, ◌++◌, ◌∷◌, ◌<◌, ◌≡◌, ◌≤◌, ◌&&◌, nat_le, if◌then◌else◌};
+ghost use Rattle.truncation_list.specs.Index.{capacity_in, first_list, last_list, list_of, slots_in};
+ghost use Rattle.truncation_list.specs.Slots.{taken, without};
 
+use crate::book::Cut;
 use crate::cover::Cover;
+use crate::slots::keep_taken;
+use slab::Slab;
 use std::alloc::{AllocError, Global};
 
 /// The last list, which is for its own zoom and all greater ones.
@@ -35,7 +39,7 @@ pub fn last_list(cover: &Cover) -> usize
 
 /// The list of this number; it is empty where there is none.
 pub fn list_in(lists: &[Vec<u32>], k: usize) -> &[u32]
-    ensures { result.now ≡ places_in lists.now k }
+    ensures { result.now ≡ slots_in lists.now k }
 {
     if k < lists.len() { &lists[k] } else { &[] }
 }
@@ -43,7 +47,7 @@ pub fn list_in(lists: &[Vec<u32>], k: usize) -> &[u32]
 /// Makes empty lists, so that there is one of this number.
 pub fn grow(alloc: Global, lists: &mut Vec<Vec<u32>>, last: usize) -> Result<(), AllocError>
     requires { last ≤ 31 }
-    ensures places { (k : ℕ) → places_in lists.new.items k ≡ places_in lists.old.items k }
+    ensures slots { (k : ℕ) → slots_in lists.new.items k ≡ slots_in lists.old.items k }
     ensures long { OnOk result (last < length lists.new.items) }
 {
     'growing: for _count in lists.len()..last + 1 {
@@ -52,11 +56,11 @@ pub fn grow(alloc: Global, lists: &mut Vec<Vec<u32>>, last: usize) -> Result<(),
     Ok(())
 }
 
-/// Makes room for one more place in each of the lists from the first one to the last one.
+/// Makes room for one more slot in each of the lists from the first one to the last one.
 pub fn reserve_each(lists: &mut [Vec<u32>], first: usize, last: usize) -> Result<(), AllocError>
     requires { last < length lists.old }
-    ensures places { (k : ℕ) → places_in lists.new k ≡ places_in lists.old k }
-    ensures room { OnOk result ((k : ℕ) → first ≤ k → k ≤ last → length (places_in lists.new k) < capacity_in lists.new k) }
+    ensures slots { (k : ℕ) → slots_in lists.new k ≡ slots_in lists.old k }
+    ensures room { OnOk result ((k : ℕ) → first ≤ k → k ≤ last → length (slots_in lists.new k) < capacity_in lists.new k) }
 {
     'reserving: for k in first..last + 1 {
         lists[k].reserve(1)?;
@@ -64,24 +68,59 @@ pub fn reserve_each(lists: &mut [Vec<u32>], first: usize, last: usize) -> Result
     Ok(())
 }
 
-/// Writes a place to the end of each of the lists from the first one to the last one.
-pub fn push_place(lists: &mut [Vec<u32>], first: usize, last: usize, place: u32)
+/// Writes a slot to the end of each of the lists from the first one to the last one.
+pub fn push_slot(lists: &mut [Vec<u32>], first: usize, last: usize, slot: u32)
     requires bound { last ≤ 31 }
-    requires room { (k : ℕ) → first ≤ k → k ≤ last → length (places_in lists.old k) < capacity_in lists.old k }
-    ensures places { (k : ℕ) → places_in lists.new k ≡ (if nat_le first k && nat_le k last then places_in lists.old k ++ place ∷ [] else places_in lists.old k) }
+    requires room { (k : ℕ) → first ≤ k → k ≤ last → length (slots_in lists.old k) < capacity_in lists.old k }
+    ensures slots { (k : ℕ) → slots_in lists.new k ≡ (if nat_le first k && nat_le k last then slots_in lists.old k ++ slot ∷ [] else slots_in lists.old k) }
     ensures capacity { (k : ℕ) → capacity_in lists.new k ≡ capacity_in lists.old k }
 {
     'pushing: for k in first..last + 1 {
-        lists[k].push_reserved(place);
+        lists[k].push_reserved(slot);
     }
 }
 
-/// Empties each list. Its room stays.
-pub fn clear_each(lists: &mut [Vec<u32>])
-    ensures places { (k : ℕ) → places_in lists.new k ≡ [] }
+/// Takes a slot out of a list.
+fn take_out(list: &mut Vec<u32>, slot: u32)
+    ensures items { list.new.items ≡ without slot list.old.items }
+    ensures capacity { vec_capacity list.new ≡ vec_capacity list.old }
+{
+    list.retain(|other| *other != slot);
+}
+
+/// Takes a slot out of each of the lists from the first one to the last one.
+pub fn take_from(lists: &mut [Vec<u32>], first: usize, last: usize, slot: u32)
+    requires { last ≤ 31 }
+    ensures slots { (k : ℕ) → slots_in lists.new k ≡ (if nat_le first k && nat_le k last then without slot (slots_in lists.old k) else slots_in lists.old k) }
     ensures capacity { (k : ℕ) → capacity_in lists.new k ≡ capacity_in lists.old k }
 {
-    'clearing: for k in 0..lists.len() {
-        lists[k].clear();
+    let end = lists.len().min(last + 1);
+    'taking: for k in first..end {
+        take_out(&mut lists[k], slot);
     }
+}
+
+/// Takes the slots that have no cut out of each list.
+pub fn keep_each(lists: &mut [Vec<u32>], slots: &Slab<Cut>)
+    ensures slots { (k : ℕ) → slots_in lists.new k ≡ taken slots.now (slots_in lists.old k) }
+    ensures capacity { (k : ℕ) → capacity_in lists.new k ≡ capacity_in lists.old k }
+{
+    'keeping: for k in 0..lists.len() {
+        keep_taken(&mut lists[k], slots);
+    }
+}
+
+/// Whether the lists from the first one to the last one have more slots in all than `most`.
+pub fn exceed(lists: &[Vec<u32>], first: usize, last: usize, most: usize) -> bool
+    requires { last ≤ 31 }
+{
+    let mut left = most;
+    'counting: for k in first..last + 1 {
+        let count = list_in(lists, k).len();
+        if left < count {
+            return true;
+        }
+        left -= count;
+    }
+    false
 }

@@ -1,31 +1,35 @@
-//! Looks along a list of places: for the last cut that covers a tile, and for one within a cover.
-ghost use Rattle.std.specs.Prelude.{false, length, slice_index_or, ◌<◌, ◌≡◌};
-ghost use Rattle.std.specs.List.{All};
+//! Looks along lists of slots: for the last cut that covers a tile, for one within a cover, and for the place of a number.
+ghost use Rattle.std.specs.Prelude.{IsTrue, MatchOption, ℕ, false, length, slice_index_or, ◌<◌, ◌≡◌, ◌≤◌};
+ghost use Rattle.std.specs.List.{All, Contains};
 ghost use Rattle.matrix_geometry.specs.Limits.{IsWithinLimits};
 ghost use Rattle.truncation_list.specs.Contains.{contains};
-ghost use Rattle.truncation_list.specs.Index.{list_of, no_cut, standing};
+ghost use Rattle.truncation_list.specs.Index.{slots_in, standing};
 ghost use Rattle.truncation_list.specs.Listed.{IsLastCovering};
-ghost use Rattle.truncation_list.specs.Purge.{IsInOrder};
+ghost use Rattle.truncation_list.specs.Purge.{IsByNumber, IsInOrder};
+ghost use Rattle.truncation_list.specs.Slots.{AreTaken, cut_in, cuts_in, no_cut};
 
 use crate::book::Cut;
 use crate::containing::contains;
 use crate::cover::Cover;
 use crate::covering::covers;
+use crate::lists::{exceed, first_list, last_list, list_in};
+use crate::slots::cut_in;
 use matrix_geometry::address::Address;
 use matrix_geometry::matrix::Matrix;
+use slab::Slab;
 
-/// The number of the last cut that covers the tile; `places` is the list of the tile's layer, grid and zoom. It is read from
-/// its end, as far as the first cut that covers.
-pub fn last_covering(places: &[u32], cuts: &[Cut], m: &Matrix, a: &Address) -> Option<u64>
+/// The number of the last cut in these slots that covers the tile. They are read from their end, as far as the first cut that
+/// covers.
+pub fn last_covering(list: &[u32], slots: &Slab<Cut>, m: &Matrix, a: &Address) -> Option<u64>
     requires limits { IsWithinLimits m.now }
-    requires order { IsInOrder cuts.now }
-    requires places { places.now ≡ standing a.now.theme.layer a.now.grid (list_of a.now.z) cuts.now (length cuts.now) }
-    ensures { IsLastCovering cuts.now m.now a.now result }
+    requires taken { AreTaken slots.now list.now }
+    requires order { IsInOrder (cuts_in slots.now list.now) }
+    ensures { IsLastCovering (cuts_in slots.now list.now) m.now a.now result }
 {
-    let mut rest = places.len();
+    let mut rest = list.len();
     'looking: while rest > 0 {
         rest -= 1;
-        let cut = &cuts[places[rest] as usize];
+        let cut = cut_in(slots, list[rest]);
         if covers(&cut.cover, m, a) {
             return Some(cut.number);
         }
@@ -33,15 +37,64 @@ pub fn last_covering(places: &[u32], cuts: &[Cut], m: &Matrix, a: &Address) -> O
     None
 }
 
-/// Whether some cut of these places lies within the cover.
-pub fn some_within(places: &[u32], cuts: &[Cut], cover: &Cover) -> bool
-    requires { All (λ place. place < length cuts.now) places.now }
-    ensures { result ≡ false → All (λ place. contains cover.now (slice_index_or cuts.now place no_cut).cover ≡ false) places.now }
+/// The first of these slots whose cut lies within the cover.
+fn first_within(list: &[u32], slots: &Slab<Cut>, cover: &Cover) -> Option<u32>
+    requires { AreTaken slots.now list.now }
+    ensures { MatchOption result (All (λ slot. contains cover.now (cut_in slots.now slot).cover ≡ false) list.now) (λ slot. Contains list.now slot × IsTrue (contains cover.now (cut_in slots.now slot).cover)) }
 {
-    'looking: for p in 0..places.len() {
-        if contains(cover, &cuts[places[p] as usize].cover) {
-            return true;
+    'looking: for p in 0..list.len() {
+        let slot = list[p];
+        if contains(cover, &cut_in(slots, slot).cover) {
+            return Some(slot);
         }
     }
-    false
+    None
+}
+
+/// A slot of the order whose cut lies within the cover, `None` where there is none; `lists` are those of the cover's layer and
+/// grid. Where those of its zooms have more slots in all than half of the cuts, the order is looked along instead: it has each cut
+/// once, and mostly one behind another.
+pub fn some_within(
+    order: &[u32],
+    lists: &[Vec<u32>],
+    slots: &Slab<Cut>,
+    cover: &Cover,
+) -> Option<u32>
+    requires taken { AreTaken slots.now order.now }
+    requires lists { (k : ℕ) → slots_in lists.now k ≡ standing cover.now.layer cover.now.grid k slots.now order.now }
+    ensures { MatchOption result (All (λ slot. contains cover.now (cut_in slots.now slot).cover ≡ false) order.now) (λ slot. Contains order.now slot × IsTrue (contains cover.now (cut_in slots.now slot).cover)) }
+{
+    let first = first_list(cover);
+    let last = last_list(cover);
+    if exceed(lists, first, last, order.len() / 2) {
+        return first_within(order, slots, cover);
+    }
+    'looking: for k in first..last + 1 {
+        match first_within(list_in(lists, k), slots, cover) {
+            Some(slot) => return Some(slot),
+            None => {}
+        }
+    }
+    None
+}
+
+/// The first place of these slots whose cut has this number or a greater one.
+pub fn place_of(list: &[u32], slots: &Slab<Cut>, number: u64) -> usize
+    requires taken { AreTaken slots.now list.now }
+    requires order { IsByNumber (cuts_in slots.now list.now) }
+    ensures within { result ≤ length list.now }
+    ensures before { (i : ℕ) → i < result → (slice_index_or (cuts_in slots.now list.now) i no_cut).number < number }
+    ensures from { (i : ℕ) → result ≤ i → i < length list.now → number ≤ (slice_index_or (cuts_in slots.now list.now) i no_cut).number }
+{
+    let mut low = 0;
+    let mut high = list.len();
+    'halving: while low < high {
+        let middle = low + (high - low) / 2;
+        if cut_in(slots, list[middle]).number < number {
+            low = middle + 1;
+        } else {
+            high = middle;
+        }
+    }
+    low
 }

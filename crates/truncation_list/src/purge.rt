@@ -1,69 +1,66 @@
-//! The purge of a plain list of cuts: which of them go, how many stay, and the floor after it.
-ghost use Rattle.std.specs.Prelude.{IsTrue, false, filter, fold, length, not, vec_capacity, ◌≡◌, ◌≤◌, ◌↔◌, ◌||◌};
-ghost use Rattle.std.specs.List.{All};
-ghost use Rattle.truncation_list.specs.Listed.{IsSettled, outermost};
-ghost use Rattle.truncation_list.specs.Purge.{IsInOrder, goes, is_old, is_outdone, is_within, raised, remaining};
+//! The purge of cuts by number: which of them go, how many stay, and the floor after it.
+ghost use Rattle.std.specs.Prelude.{IsTrue, ◌+◌, ◌<◌, false, filter, fold, drop, length, slice_index_or, ◌≡◌, ◌≤◌, ◌↔◌};
+ghost use Rattle.truncation_list.specs.declared.cover.Cover.{Cover};
+ghost use Rattle.truncation_list.specs.Listed.{HasRoomFor, IsSettled, outermost};
+ghost use Rattle.truncation_list.specs.Purge.{IsInOrder, goes, is_outdone, raised, remaining};
+ghost use Rattle.truncation_list.specs.Slots.{no_cut, stays};
 
-use crate::book::Cut;
 use crate::containing::contains;
 use crate::cover::Cover;
+use crate::going::{is_old, stays};
+use crate::indexed::IndexedCuts;
 
-fn is_within(cover: &Option<Cover>, cut: &Cut) -> bool
-    ensures { result ≡ is_within cover.now cut.now }
+/// So many cuts are taken out one at a time before the others are taken out in one pass.
+const FEW: u32 = 8;
+
+/// Whether the cover of a later cut contains that of the cut at this place.
+fn is_outdone(cuts: &IndexedCuts, i: usize) -> bool
+    requires { i < length cuts.now.cuts }
+    ensures { result ≡ is_outdone (drop (i + 1) cuts.now.cuts) (slice_index_or cuts.now.cuts i no_cut) }
 {
-    match cover {
-        None => false,
-        Some(outer) => contains(outer, &cut.cover),
+    let cut = cuts.cut(i);
+    let count = cuts.len();
+    'looking: for j in i + 1..count {
+        if contains(&cuts.cut(j).cover, &cut.cover) {
+            return true;
+        }
     }
+    false
 }
 
-fn is_outdone(later: &[Cut], cut: &Cut) -> bool
-    ensures { result ≡ is_outdone later.now cut.now }
-{
-    later.iter().any(|other| contains(&other.cover, &cut.cover))
-}
-
-fn is_old(least: Option<u64>, cut: &Cut) -> bool
-    ensures { result ≡ is_old least cut.now }
-{
-    match least {
-        None => true,
-        Some(least) => cut.number < least,
-    }
-}
-
-/// Whether the cut goes. A settled list is not searched for a later cut that contains it: there is none.
+/// Whether the cut at this place goes. A settled list is not searched for a later cut that contains it: there is none.
 fn goes(
+    cuts: &IndexedCuts,
+    i: usize,
     cover: &Option<Cover>,
     least: Option<u64>,
-    later: &[Cut],
-    cut: &Cut,
     is_settled: bool,
 ) -> bool
-    requires { IsTrue is_settled → is_outdone later.now cut.now ≡ false }
-    ensures { result ≡ goes cover.now least later.now cut.now }
+    requires place { i < length cuts.now.cuts }
+    requires settled { IsTrue is_settled → is_outdone (drop (i + 1) cuts.now.cuts) (slice_index_or cuts.now.cuts i no_cut) ≡ false }
+    ensures { result ≡ goes cover.now least (drop (i + 1) cuts.now.cuts) (slice_index_or cuts.now.cuts i no_cut) }
 {
-    is_within(cover, cut) || is_old(least, cut) || (!is_settled && is_outdone(later, cut))
+    !stays(cover, least, cuts.cut(i)) || (!is_settled && is_outdone(cuts, i))
 }
 
 /// Whether `limit` or more cuts stay. It looks no further than where that is decided.
 #[tactic(auto, using(crate::proofs::Remaining::no_more_remain))]
 pub fn stay_at_least(
-    cuts: &[Cut],
+    cuts: &IndexedCuts,
     cover: &Option<Cover>,
     least: Option<u64>,
     is_settled: bool,
     limit: usize,
 ) -> bool
-    requires { IsTrue is_settled → IsSettled cuts.now }
-    ensures { IsTrue result ↔ (limit ≤ length (remaining cover.now least cuts.now)) }
+    requires { IsTrue is_settled → IsSettled cuts.now.cuts }
+    ensures { IsTrue result ↔ (limit ≤ length (remaining cover.now least cuts.now.cuts)) }
 {
     let mut left = cuts.len();
     if left < limit {
         return false;
     }
     'counting: for i in 0..cuts.len() {
-        if goes(cover, least, &cuts[i + 1..], &cuts[i], is_settled) {
+        if goes(cuts, i, cover, least, is_settled) {
             left -= 1;
             if left < limit {
                 return false;
@@ -73,60 +70,72 @@ pub fn stay_at_least(
     true
 }
 
-/// Whether no cut meets the test on numbers. The first one has the least number.
-pub fn none_old(cuts: &[Cut], least: Option<u64>) -> bool
-    requires { IsInOrder cuts.now }
-    ensures { IsTrue result → All (λ cut. is_old least cut ≡ false) cuts.now }
+/// The same of a settled list. It goes over the cuts only where one goes and more than `limit` are listed.
+pub fn settled_stay_at_least(
+    cuts: &IndexedCuts,
+    cover: &Option<Cover>,
+    least: Option<u64>,
+    limit: usize,
+) -> bool
+    requires { IsSettled cuts.now.cuts }
+    ensures { IsTrue result ↔ (limit ≤ length (remaining cover.now least cuts.now.cuts)) }
 {
-    cuts.is_empty() || !is_old(least, &cuts[0])
+    match cuts.one_that_goes(cover, least) {
+        None => limit <= cuts.len(),
+        Some(_) => limit < cuts.len() && stay_at_least(cuts, cover, least, true, limit),
+    }
 }
 
-/// The floor after a purge: the cuts that meet the test on numbers come first.
-pub fn floor_after(cuts: &[Cut], floor: u64, least: Option<u64>) -> u64
-    requires { IsInOrder cuts.now }
-    ensures { result ≡ fold (raised least) floor cuts.now }
+/// The floor after a purge. The cuts stand by number, so those that meet the test on numbers come first.
+pub fn floor_after(cuts: &IndexedCuts, floor: u64, least: Option<u64>) -> u64
+    ensures floor { result ≡ fold (raised least) floor cuts.now.cuts }
+    ensures order { IsInOrder cuts.now.cuts }
 {
     let mut top = floor;
     'rising: for i in 0..cuts.len() {
-        if !is_old(least, &cuts[i]) {
+        let cut = cuts.cut(i);
+        if !is_old(least, cut) {
             return top;
         }
-        top = top.max(cuts[i].number);
+        top = top.max(cut.number);
     }
     top
 }
 
 /// Takes out the cuts that lie within a later one.
-fn settle(cuts: &mut Vec<Cut>)
-    ensures items { cuts.new.items ≡ outermost cuts.old.items }
-    ensures capacity { vec_capacity cuts.new ≡ vec_capacity cuts.old }
+fn settle(cuts: &mut IndexedCuts)
+    ensures cuts { cuts.new.cuts ≡ outermost cuts.old.cuts }
+    ensures ready { (cover : Cover) → HasRoomFor cuts.old.room cover → HasRoomFor cuts.new.room cover }
 {
     let mut kept = 0;
-    'settling: for i in 0..cuts.len() {
-        if !is_outdone(&cuts[i + 1..], &cuts[i]) {
-            // A cut that stays in its place isn't written again.
-            if kept < i {
-                cuts[kept] = cuts[i];
-            }
+    'settling: for _count in 0..cuts.len() {
+        if is_outdone(cuts, kept) {
+            cuts.take_out(kept);
+        } else {
             kept += 1;
         }
     }
-    cuts.truncate(kept);
 }
 
-/// Takes out the cuts that lie within the cover that comes, and those that meet the test on numbers.
-fn let_go(cuts: &mut Vec<Cut>, cover: &Option<Cover>, least: Option<u64>)
-    ensures items { cuts.new.items ≡ filter (λ cut. not (is_within cover.now cut || is_old least cut)) cuts.old.items }
-    ensures capacity { vec_capacity cuts.new ≡ vec_capacity cuts.old }
+/// Takes out the cuts that don't stay by themselves: a few one at a time, and where more are left the others in one pass.
+fn let_go(cuts: &mut IndexedCuts, cover: &Option<Cover>, least: Option<u64>)
+    ensures cuts { cuts.new.cuts ≡ filter (stays cover.now least) cuts.old.cuts }
+    ensures ready { (cover : Cover) → HasRoomFor cuts.old.room cover → HasRoomFor cuts.new.room cover }
 {
-    cuts.retain(|cut| !(is_within(cover, cut) || is_old(least, cut)));
+    'taking: for _count in 0..FEW {
+        match cuts.one_that_goes(cover, least) {
+            None => return,
+            Some(i) => cuts.take_out(i),
+        }
+    }
+    cuts.sweep(cover, least);
 }
 
 /// Takes out the cuts that go.
-pub fn purge(cuts: &mut Vec<Cut>, cover: &Option<Cover>, least: Option<u64>, is_settled: bool)
-    requires { IsTrue is_settled → IsSettled cuts.old.items }
-    ensures items { cuts.new.items ≡ remaining cover.now least cuts.old.items }
-    ensures capacity { vec_capacity cuts.new ≡ vec_capacity cuts.old }
+pub fn purge(cuts: &mut IndexedCuts, cover: &Option<Cover>, least: Option<u64>, is_settled: bool)
+    requires { IsTrue is_settled → IsSettled cuts.old.cuts }
+    ensures cuts { cuts.new.cuts ≡ remaining cover.now least cuts.old.cuts }
+    ensures ready { (cover : Cover) → HasRoomFor cuts.old.room cover → HasRoomFor cuts.new.room cover }
 {
     if !is_settled {
         settle(cuts);

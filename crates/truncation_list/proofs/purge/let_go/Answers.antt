@@ -1,8 +1,22 @@
-use Rattle.std.proofs.Common.{◌||◌, rules, not}
-use Rattle.std.proofs.lemmas.Fn.{filter_same}
-use Rattle.truncation_list.specs.Purge.{is_old, is_within}
+use Rattle.std.proofs.Common.{◌∙◌, ap, sym, List}
+use Rattle.std.specs.Prelude.{filter}
+use Rattle.truncation_list.specs.declared.book.Cut.{Cut}
+use Rattle.truncation_list.specs.Slots.{no_cut, stays}
+use Rattle.truncation_list.proofs.Filters.{filter_removed, filter_whole}
 use Rattle.truncation_list.proofs.purge.let_go.Goals as goal
 
-pub returns-clause-items : goal.returns-clause-items
-returns-clause-items c =
-    filter_same _ (λ cut. not (is_within c.args.cover.now cut || is_old c.args.least cut)) _ (λ x b f' k. search rules) _ _ c.retain.ensures.filtered
+pub returns-in-None-clause-cuts : goal.returns-in-None-clause-cuts
+returns-in-None-clause-cuts c =
+    sym (filter_whole (stays c.args.cover.now c.args.least) c.taking.cuts.cuts c.in-None.ensures) ∙ c.taking.invariant.cuts
+
+pub taking-preserved : goal.taking-preserved
+taking-preserved c =
+    let test = stays c.args.cover.now c.args.least in
+    let goes = c.in-Some.ensures in
+    record {
+      cuts = ap (λ (cuts : List Cut). filter test cuts) c.take_out.ensures.cuts ∙ filter_removed test c.taking.cuts.cuts c.in-Some.i no_cut goes.0 goes.1 ∙ c.taking.invariant.cuts;
+      ready = λ cover h. c.take_out.ensures.ready cover (c.taking.invariant.ready cover h);
+    }
+
+pub returns-clause-ready : goal.returns-clause-ready
+returns-clause-ready c = λ cover h. c.sweep.ensures.ready cover (c.taking.invariant.ready cover h)

@@ -1,19 +1,25 @@
-use Rattle.std.proofs.Common.{◌≡◌, ◌||◌, ◌∙◌, ap, sym, not, Bool, List, Vec}
+use Rattle.std.proofs.Common.{◌≡◌, ◌∙◌, ap, subst, sym, List}
 use Rattle.std.specs.Prelude.{filter}
-use Rattle.std.specs.declared.alloc.Global.{Global}
 use Rattle.truncation_list.specs.declared.book.Cut.{Cut}
-use Rattle.truncation_list.specs.Listed.{outermost}
-use Rattle.truncation_list.specs.Purge.{is_old, is_within}
+use Rattle.truncation_list.specs.Listed.{HasRoomFor, Indexed, outermost}
+use Rattle.truncation_list.specs.Slots.{stays}
 use Rattle.truncation_list.proofs.Outermost.{outermost_same, remaining_filters}
 use Rattle.truncation_list.proofs.purge.purge.Goals as goal
 use Rattle.truncation_list.proofs.purge.purge.Goals.{else-not-is_settled, then-not-is_settled}
 
-pub returns-clause-items : goal.returns-clause-items
-returns-clause-items c =
-    let test : Cut → Bool = λ cut. not (is_within c.args.cover.now cut || is_old c.args.least cut) in
-    let whole = remaining_filters c.args.cover.now c.args.least c.args.cuts.now.items in
-    let out : c.if-not-is_settled.cuts.items ≡ outermost c.args.cuts.now.items = elim c.if-not-is_settled.branch [
-      | then-not-is_settled w ↦ ap (λ (v : Vec Cut Global). v.items) w.cuts-is ∙ w.settle.ensures.items
-      | else-not-is_settled w ↦ ap (λ (v : Vec Cut Global). v.items) w.cuts-is ∙ sym (outermost_same c.args.cuts.now.items (c.requires w.if-not-is_settled.false))
+pub returns-clause-cuts : goal.returns-clause-cuts
+returns-clause-cuts c =
+    let cuts = c.args.cuts.now.cuts in
+    let out : c.if-not-is_settled.cuts.cuts ≡ outermost cuts = elim c.if-not-is_settled.branch [
+      | then-not-is_settled w ↦ ap (λ (i : Indexed). i.cuts) w.cuts-is ∙ w.settle.ensures.cuts
+      | else-not-is_settled w ↦ ap (λ (i : Indexed). i.cuts) w.cuts-is ∙ sym (outermost_same cuts (c.requires w.if-not-is_settled.false))
     ] in
-    c.let_go.ensures.items ∙ ap (λ (cuts : List Cut). filter test cuts) out ∙ sym whole
+    c.let_go.ensures.cuts
+    ∙ ap (λ (ks : List Cut). filter (stays c.args.cover.now c.args.least) ks) out ∙ sym (remaining_filters c.args.cover.now c.args.least cuts)
+
+pub returns-clause-ready : goal.returns-clause-ready
+returns-clause-ready c =
+    λ cover h. c.let_go.ensures.ready cover (elim c.if-not-is_settled.branch [
+      | then-not-is_settled w ↦ subst (λ (i : Indexed). HasRoomFor i.room cover) (sym w.cuts-is) (w.settle.ensures.ready cover h)
+      | else-not-is_settled w ↦ subst (λ (i : Indexed). HasRoomFor i.room cover) (sym w.cuts-is) h
+    ])

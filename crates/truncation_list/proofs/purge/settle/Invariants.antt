@@ -1,11 +1,12 @@
-use Rattle.std.proofs.Common.{◌≡◌, ◌≤◌, ◌++◌, take, drop, vec_len, vec_capacity}
-use Rattle.truncation_list.specs.Listed.{outermost}
+use Rattle.std.proofs.Common.{◌≡◌, ◌≤◌, ◌+◌, ◌++◌, length, take, drop}
+use Rattle.truncation_list.specs.declared.cover.Cover.{Cover}
+use Rattle.truncation_list.specs.Listed.{HasRoomFor, outermost}
 use Rattle.truncation_list.proofs.purge.settle.Given as goal
 
 abbrev pub invariant-settling : goal.invariant-settling
 invariant-settling l = record {
-  behind : l.kept ≤ l.i;
-  items : take l.kept l.cuts.items ++ outermost (drop l.i l.cuts.items) ≡ outermost l.fn.cuts.items;
-  len : vec_len l.cuts ≡ vec_len l.fn.cuts;
-  capacity : vec_capacity l.cuts ≡ vec_capacity l.fn.cuts;
+  behind : l.kept ≤ l._count;
+  left : length l.cuts.cuts + l._count ≡ l.kept + length l.fn.cuts.cuts;
+  cuts : take l.kept l.cuts.cuts ++ outermost (drop l.kept l.cuts.cuts) ≡ outermost l.fn.cuts.cuts;
+  ready : (cover : Cover) → HasRoomFor l.fn.cuts.room cover → HasRoomFor l.cuts.room cover;
 }

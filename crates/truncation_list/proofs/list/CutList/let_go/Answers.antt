@@ -1,6 +1,7 @@
 use Rattle.std.proofs.Common.{subst, sym, List}
 use Rattle.truncation_list.specs.declared.book.Cut.{Cut}
 use Rattle.truncation_list.specs.Listed.{HasRoomFor, IsSettled, Listed}
+use Rattle.truncation_list.specs.Purge.{IsInOrder}
 use Rattle.truncation_list.proofs.Settled.{remaining_settled}
 use Rattle.truncation_list.proofs.list.CutList.let_go.Goals as goal
 
@@ -11,3 +12,6 @@ invariant_of-self c =
 pub returns-clause-ready : goal.returns-clause-ready
 returns-clause-ready c =
     λ cover h. c.purge.ensures.ready cover (subst (λ (l : Listed). HasRoomFor l.room cover) (sym c.self.view_is) h)
+
+pub returns-clause-order : goal.returns-clause-order
+returns-clause-order c = subst (λ (l : Listed). IsInOrder l.book.cuts) c.self.view_is c.floor_after-self-inside.ensures.order

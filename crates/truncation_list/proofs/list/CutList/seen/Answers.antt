@@ -1,13 +1,16 @@
-use Rattle.std.proofs.Common.{◌≡◌, ◌-◌, ◌∙◌, length, max, sym, ap, ℕ, Some}
-use Rattle.std.specs.Prelude.{slice_get}
+use Rattle.std.proofs.Common.{◌-◌, ◌∙◌, arith, max, sym, ap, ℕ}
+use Rattle.truncation_list.specs.declared.book.Cut.{Cut}
 use Rattle.truncation_list.specs.Books.{last_seen}
 use Rattle.truncation_list.specs.Listed.{Listed}
-use Rattle.truncation_list.proofs.Last.{greatest_is_at_end}
+use Rattle.truncation_list.specs.Slots.{no_cut}
+use Rattle.truncation_list.proofs.Last.{greatest_is_last}
 use Rattle.truncation_list.proofs.list.CutList.seen.Goals as goal
 
-pub returns-in-Some : goal.returns-in-Some
-returns-in-Some c =
+pub returns : goal.returns
+returns c =
     let cuts = c.self.inside.cuts.cuts in
-    let found : Some c.in-Some.cut.now ≡ slice_get cuts (length cuts - 1) = rw (← c.as_slice.ensures.value) c.in-Some.ensures.value in
-    let top = greatest_is_at_end cuts c.in-Some.cut.now c.as_slice.ensures.order.by_number found in
-    c.max.ensures ∙ ap (λ (n : ℕ). max c.self.inside.floor n) (sym top) ∙ ap (λ (l : Listed). last_seen l.book) c.self.view_is
+    let count = c.len-count.result in
+    let top = greatest_is_last cuts (count - 1) no_cut c.len-count.ensures.order.by_number (omega arith) in
+    c.max.ensures
+    ∙ ap (λ (n : ℕ). max c.self.inside.floor n) (ap (λ (cut : Cut). cut.number) c.cut.ensures ∙ sym top)
+    ∙ ap (λ (l : Listed). last_seen l.book) c.self.view_is

@@ -1,0 +1,13 @@
+use Rattle.std.proofs.Common.{ℕ, ◌≡◌, ◌<◌, ◌≤◌, ◌+◌, ◌++◌, ◌∷◌, [], length, max}
+use Rattle.truncation_list.specs.Index.{capacity_in, slots_in}
+use Rattle.truncation_list.proofs.lists.push_slot.Given as goal
+
+abbrev pub invariant-pushing : goal.invariant-pushing
+invariant-pushing l = record {
+  long : length l.lists ≡ length l.fn.lists;
+  end : l.k ≤ max l.first (l.last + 1);
+  capacity : (j : ℕ) → capacity_in l.lists j ≡ capacity_in l.fn.lists j;
+  done : (j : ℕ) → l.first ≤ j → j < l.k → slots_in l.lists j ≡ slots_in l.fn.lists j ++ l.slot ∷ [];
+  before : (j : ℕ) → j < l.first → slots_in l.lists j ≡ slots_in l.fn.lists j;
+  after : (j : ℕ) → l.k ≤ j → slots_in l.lists j ≡ slots_in l.fn.lists j;
+}
