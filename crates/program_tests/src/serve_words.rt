@@ -1,8 +1,8 @@
 //! The words after `serve`: a port, and how many connections.
+use command_words::serve_words::{ServeFault, ServeWords, serve_words};
 use exact_ratio::words::Words;
 use std::alloc::Global;
 use std::test::Fail;
-use command_words::serve_words::{ServeFault, ServeWords, serve_words};
 
 /// What these words, parted by blanks, ask for.
 fn asked(alloc: Global, text: &str) -> Result<Result<ServeWords, ServeFault>, Fail> {
