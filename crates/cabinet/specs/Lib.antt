@@ -4,7 +4,6 @@ pub mod History
 pub mod Fresh
 pub mod State
 pub mod Counted
-pub mod Ordered
 pub mod Shelved
 pub mod Consistent
 pub mod Commands

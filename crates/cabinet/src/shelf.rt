@@ -133,7 +133,8 @@ impl Shelf {
         ensures sifted { Sifts cover.now self.old self.new }
         ensures room { self.old.room ≤ self.new.room }
     {
-        sift(&mut self.store, &mut self.tally, &self.catalogue, cover);
+        let stays = sift(&mut self.store, &mut self.tally, &self.catalogue, cover);
+        self.store.truncate(stays);
     }
 
     /// Drops the first metatile to go of the scope whose quota is exceeded, and tells it; `None` exactly where no quota is
@@ -157,7 +158,7 @@ impl Shelf {
         Some(meta)
     }
 
-    /// The least of the kept numbers and of one that was found before. All that is kept is gone through for it.
+    /// The least of the kept numbers and of one that was found before.
     pub fn least_with(&self, was: Option<u64>) -> Option<u64>
         ensures { result ≡ fold lesser was (map (λ b. b.kept.number) self.now.blobs) }
     {
@@ -179,7 +180,7 @@ impl Shelf {
         self.tally.ledger.used_all()
     }
 
-    /// How many metatiles of a layer are kept. All that is kept is gone through for it.
+    /// How many metatiles of a layer are kept.
     pub fn kept_in(&self, layer: u32) -> u32
         ensures { result ≡ length (filter (λ b. b.kept.meta.theme.layer == layer) self.now.blobs) }
     {

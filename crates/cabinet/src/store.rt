@@ -1,52 +1,40 @@
-//! The kept metatiles with their blobs, in a map by metatile. The blobs lie in memory, beside the entries: no other file knows
-//! where they lie. Contracts see what is kept in the order in which it was kept, though the map's order is another.
-ghost use Rattle.std.specs.Prelude.{[], IfOk, OnOk, Some, filter, find, fold, length, map, not, option_copied, slice_get, take, ◌+◌, ◌++◌, ◌<◌, ◌==◌, ◌≡◌, ◌≤◌, ◌∷◌};
-ghost use Rattle.std.specs.List.{AllByRecursion};
-ghost use Rattle.std.specs.Option.{option_map};
+//! The kept metatiles in the order in which they were kept, and their blobs. The blobs lie in memory, beside the entries:
+//! no other file knows where they lie.
+ghost use Rattle.std.specs.Prelude.{[], IfOk, OnOk, filter, find, fold, length, map, not, option_copied, take, ◌+◌, ◌++◌, ◌<◌, ◌==◌, ◌≡◌, ◌≤◌, ◌∷◌};
+ghost use Rattle.std.specs.List.{AllByRecursion, SwappedAt, slice_index_or};
 ghost use Rattle.catalog.specs.LookUp.{IsTile};
 ghost use Rattle.catalog.specs.Valid.{IsValid};
 ghost use Rattle.cabinet.specs.declared.kept.KeptBlob.{KeptBlob};
-ghost use Rattle.cabinet.specs.Fresh.{ApartBy};
 ghost use Rattle.cabinet.specs.History.{is_of, lesser};
 
 use crate::blob::tile_in;
-use crate::held::{Held, blob_of, count_in, drop_at, drop_of, kept_at, kept_in, least_with, put};
-use crate::kept::{Blob, Kept};
+use crate::kept::{Kept, KeptBlob};
+use crate::kept_list::{drop_of, find_of, least_with};
 use crate::shelving::Found;
 use catalog::catalogue::Catalogue;
 use exact_ratio::words::Words;
-use indexmap::IndexMap;
 use matrix_geometry::address::Address;
 use metatile_plan::metatile::MetaKey;
 use raster_field::layout::block_of;
 use std::alloc::{AllocError, Global};
 use std::marker::Model;
-use trace::Trace;
 
-/// Keeps metatiles with their blobs. Contracts see both, in the order in which they were kept and in an order of which nothing
-/// is said, and for how many more there is room.
+/// Keeps metatiles with their blobs. Contracts see both, and how many more it has room for.
 #[derive(Drop)]
 pub struct Store {
-    held: Held,
-    /// The metatiles in the order in which they were put, which contracts alone read.
-    puts: Trace<MetaKey>,
+    blobs: Vec<KeptBlob>,
 }
 
 impl Model for Store {
-    ghost use Rattle.indexmap.specs.IndexMap.{spare as places};
-    ghost use Rattle.cabinet.specs.Ordered.{IsOrderOf, held_of, in_order, order_of};
+    ghost use Rattle.std.specs.Prelude.{vec_capacity, vec_len, ◌-◌};
     ghost use Rattle.cabinet.specs.Shelved.{Stored};
 
     ghost Value = { Stored };
 
-    ghost view = { λ s. record { blobs = in_order (order_of s.puts.entries) (held_of s.held.entries); held = held_of s.held.entries; spare = places s.held } };
-
-    ghost invariant = { λ s. IsOrderOf (in_order (order_of s.puts.entries) (held_of s.held.entries)) (held_of s.held.entries) };
+    ghost view = { λ s. record { blobs = s.blobs.items; spare = vec_capacity s.blobs - vec_len s.blobs } };
 }
 
 impl Store {
-    ghost use Rattle.std.specs.List.Sorted.{IsPermutation};
-    ghost use Rattle.cabinet.specs.Ordered.{as_kept, held_at};
     ghost use Rattle.cabinet.specs.Shelved.{Reads};
     ghost use Rattle.cabinet.specs.State.{IsLong};
 
@@ -55,8 +43,7 @@ impl Store {
         ensures { result.blobs ≡ [] }
     {
         Store {
-            held: IndexMap::new(alloc),
-            puts: Trace::new(),
+            blobs: Vec::new(alloc),
         }
     }
 
@@ -66,33 +53,29 @@ impl Store {
         ensures no_less { self.old.spare ≤ self.new.spare }
         ensures spare { OnOk result (metatiles ≤ self.new.spare) }
     {
-        self.held.reserve(metatiles)
+        self.blobs.reserve(metatiles)
     }
 
     /// How many are kept.
     pub fn count(&self) -> usize
-        ensures count { result ≡ length self.now.blobs }
-        ensures held { result ≡ length self.now.held }
-        ensures order { IsPermutation self.now.blobs self.now.held }
-        ensures once { ApartBy (λ b. b.kept.meta) self.now.blobs }
+        ensures { result ≡ length self.now.blobs }
     {
-        self.held.len()
+        self.blobs.len()
     }
 
-    /// Which one is held at an index.
+    /// Which one is kept at an index.
     pub fn kept_at(&self, index: usize) -> Kept
-        requires { index < length self.now.held }
-        ensures at { (blob : KeptBlob) × (result ≡ blob.kept) × (slice_get self.now.held index ≡ Some blob) }
-        ensures kept { find (is_of result.meta) (map (λ b. b.kept) self.now.blobs) ≡ Some result }
+        requires { index < length self.now.blobs }
+        ensures { (blob : KeptBlob) × (result ≡ blob.kept) × (blob ≡ slice_index_or self.now.blobs index blob) }
     {
-        kept_at(&self.held, index)
+        self.blobs[index].kept
     }
 
-    /// What is held of a metatile.
-    fn get(&self, meta: &MetaKey) -> Option<&Blob>
-        ensures { option_map (λ b. as_kept (meta.now, b)) (option_copied result) ≡ held_at self.now.blobs meta.now }
+    /// What is kept of a metatile, with its blob. All that is kept is gone through for it.
+    fn get(&self, meta: &MetaKey) -> Option<&KeptBlob>
+        ensures { option_copied result ≡ find (λ b. is_of meta.now b.kept) self.now.blobs }
     {
-        blob_of(&self.held, meta)
+        find_of(self.blobs.as_slice(), meta)
     }
 
     /// Reads a tile out of what is kept of its metatile; `None` exactly where nothing is. `AllocError` where memory runs out.
@@ -111,19 +94,19 @@ impl Store {
         match self.get(&meta) {
             None => Ok(None),
             Some(blob) => {
-                let number = blob.number;
+                let number = blob.kept.number;
                 let text = tile_in(alloc, catalogue, address, blob.text.bytes())?;
                 Ok(Some(Found { number, text }))
             }
         }
     }
 
-    /// Which render of a metatile is kept, and where.
+    /// Which render of a metatile is kept, and where. All that is kept is gone through for it.
     pub fn kept_of(&self, meta: &MetaKey) -> Option<Kept>
         ensures { result ≡ find (is_of meta.now) (map (λ b. b.kept) self.now.blobs) }
     {
         match self.get(meta) {
-            Some(blob) => Some(kept_in(meta, blob)),
+            Some(blob) => Some(blob.kept),
             None => None,
         }
     }
@@ -132,25 +115,21 @@ impl Store {
     pub fn count_others(&self, meta: &MetaKey) -> usize
         ensures { result ≡ length (filter (λ b. not (is_of meta.now b.kept)) self.now.blobs) }
     {
-        let count = self.count();
-        match self.get(meta) {
-            Some(_) => count - 1,
-            None => count,
-        }
+        crate::kept_list::count_others(self.blobs.as_slice(), meta)
     }
 
-    /// How many of a layer are kept. All that is kept is gone through for it.
+    /// How many of a layer are kept.
     pub fn count_in(&self, layer: u32) -> usize
         ensures { result ≡ length (filter (λ b. b.kept.meta.theme.layer == layer) self.now.blobs) }
     {
-        count_in(&self.held, layer)
+        crate::kept_list::count_in(self.blobs.as_slice(), layer)
     }
 
-    /// The least of the kept numbers and of one that was found before. All that is kept is gone through for it.
+    /// The least of the kept numbers and of one that was found before.
     pub fn least_with(&self, was: Option<u64>) -> Option<u64>
         ensures { result ≡ fold lesser was (map (λ b. b.kept.number) self.now.blobs) }
     {
-        least_with(was, &self.held)
+        least_with(was, self.blobs.as_slice())
     }
 
     /// Keeps a metatile in the place of its older render, if there is one. It takes no memory.
@@ -159,8 +138,11 @@ impl Store {
         ensures blobs { self.new.blobs ≡ filter (λ b. not (is_of kept.meta b.kept)) self.old.blobs ++ record { kept = kept; text = text.items } ∷ [] }
         ensures spare { self.old.spare ≤ self.new.spare + 1 }
     {
-        put(&mut self.held, kept, Words::of(text));
-        self.puts = self.puts.and(&kept.meta);
+        drop_of(&mut self.blobs, &kept.meta);
+        self.blobs.push_reserved(KeptBlob {
+            kept,
+            text: Words::of(text),
+        });
     }
 
     /// Drops what is kept of a metatile.
@@ -168,18 +150,25 @@ impl Store {
         ensures blobs { self.new.blobs ≡ filter (λ b. not (is_of meta.now b.kept)) self.old.blobs }
         ensures spare { self.old.spare ≤ self.new.spare }
     {
-        drop_of(&mut self.held, meta);
+        drop_of(&mut self.blobs, meta);
     }
 
-    /// Drops the one that is held at an index, and puts the last one there.
-    pub fn drop_at(&mut self, index: usize)
-        requires { index < length self.old.held }
-        ensures blobs { (blob : KeptBlob) × (slice_get self.old.held index ≡ Some blob) × (self.new.blobs ≡ filter (λ b. not (is_of blob.kept.meta b.kept)) self.old.blobs) }
-        ensures order { IsPermutation self.new.blobs self.new.held }
-        ensures before { take index self.new.held ≡ take index self.old.held }
-        ensures count { length self.new.held + 1 ≡ length self.old.held }
+    /// Lets two that are kept change places.
+    pub fn swap(&mut self, former: usize, latter: usize)
+        requires former { former < length self.old.blobs }
+        requires latter { latter < length self.old.blobs }
+        ensures swapped { SwappedAt self.old.blobs self.new.blobs former latter }
+        ensures count { length self.new.blobs ≡ length self.old.blobs }
+        ensures spare { self.new.spare ≡ self.old.spare }
+    {
+        self.blobs.as_mut_slice().swap(former, latter);
+    }
+
+    /// Drops all but the first so many.
+    pub fn truncate(&mut self, count: usize)
+        ensures blobs { self.new.blobs ≡ take count self.old.blobs }
         ensures spare { self.old.spare ≤ self.new.spare }
     {
-        drop_at(&mut self.held, index);
+        self.blobs.truncate(count);
     }
 }
