@@ -12,13 +12,14 @@ pub mod Rows
 pub mod Regions
 pub mod Disjoint
 pub mod Served
-pub mod Gives
 pub mod Consistent
 pub mod Answered
 pub mod UsesAfter
 pub mod Once
 pub mod Bytes
-pub mod Forgets
 pub mod OnShelf
+pub mod Lookups
+pub mod Orders
+pub mod Told
 pub mod Sifts
 pub mod Limits

@@ -4,6 +4,7 @@ pub mod History
 pub mod Fresh
 pub mod State
 pub mod Counted
+pub mod Ordered
 pub mod Shelved
 pub mod Consistent
 pub mod Commands

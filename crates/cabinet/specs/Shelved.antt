@@ -30,9 +30,10 @@ use Rattle.cabinet.specs.Hits.{hits_of}
 use Rattle.cabinet.specs.Counted.{part_of}
 use Rattle.cabinet.specs.State.{IsLong, blobs_spared, blobs_with, blobs_without}
 
--- what is kept, in the order in which it was kept, and how many more there is room for
+-- what is kept, in the order in which it was kept and in an order of which nothing is said, and how many more there is room for
 pub record Stored : Type 0 where
   pub blobs : List KeptBlob
+  pub held : List KeptBlob
   pub spare : ℕ
 
 -- the catalogue, what is kept with its blobs, the uses of each layer, in an order of which nothing is said, the count of entries

@@ -6,15 +6,15 @@
 //! used counts the metatiles that are kept, and an expiry drops the victim by the layer's policy, exactly where a quota is
 //! exceeded (`specs/Counted.antt`).
 //! Stands on metatile_locks, quota_ledger, expiry_policy, served_covers, truncation_list, extent_map, raster_field,
-//! metatile_plan, catalog, matrix_geometry and trace.
+//! metatile_plan, catalog, matrix_geometry, trace, and indexmap for what is kept.
 #![tactic(auto)]
 
 mod blob;
 pub mod cabinet;
 pub mod entry;
+mod held;
 mod hitting;
 pub mod kept;
-mod kept_list;
 pub mod laws;
 pub mod replies;
 mod room;

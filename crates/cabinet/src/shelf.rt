@@ -133,8 +133,7 @@ impl Shelf {
         ensures sifted { Sifts cover.now self.old self.new }
         ensures room { self.old.room ≤ self.new.room }
     {
-        let stays = sift(&mut self.store, &mut self.tally, &self.catalogue, cover);
-        self.store.truncate(stays);
+        sift(&mut self.store, &mut self.tally, &self.catalogue, cover);
     }
 
     /// Drops the first metatile to go of the scope whose quota is exceeded, and tells it; `None` exactly where no quota is
@@ -158,7 +157,7 @@ impl Shelf {
         Some(meta)
     }
 
-    /// The least of the kept numbers and of one that was found before.
+    /// The least of the kept numbers and of one that was found before. All that is kept is gone through for it.
     pub fn least_with(&self, was: Option<u64>) -> Option<u64>
         ensures { result ≡ fold lesser was (map (λ b. b.kept.number) self.now.blobs) }
     {
@@ -180,7 +179,7 @@ impl Shelf {
         self.tally.ledger.used_all()
     }
 
-    /// How many metatiles of a layer are kept.
+    /// How many metatiles of a layer are kept. All that is kept is gone through for it.
     pub fn kept_in(&self, layer: u32) -> u32
         ensures { result ≡ length (filter (λ b. b.kept.meta.theme.layer == layer) self.now.blobs) }
     {

@@ -1,5 +1,5 @@
-//! One pass over what is kept at a truncation: what the cover hits is forgotten, what it spares moves to the front.
-ghost use Rattle.std.specs.Prelude.{filter, length, map, not, take, ◌≡◌, ◌≤◌};
+//! One pass over what is kept at a truncation: what the cover hits is forgotten and dropped.
+ghost use Rattle.std.specs.Prelude.{filter, not, ◌≡◌, ◌≤◌};
 ghost use Rattle.catalog.specs.Valid.{IsValid};
 ghost use Rattle.served_covers.specs.OfCatalogue.{IsCoverOf};
 ghost use Rattle.cabinet.specs.Hits.{hits_of};
@@ -12,27 +12,26 @@ use crate::tally::Tally;
 use catalog::catalogue::Catalogue;
 use truncation_list::cover::Cover;
 
-/// Forgets each kept metatile of which the cover is for a tile, moves the others to the front in their order, and tells how
-/// many they are. Each is tested once.
-pub fn sift(store: &mut Store, tally: &mut Tally, catalogue: &Catalogue, cover: &Cover) -> usize
+/// Drops each kept metatile of which the cover is for a tile. Each is tested once: the last one that is held goes to the place
+/// of one that is dropped, and is tested there.
+pub fn sift(store: &mut Store, tally: &mut Tally, catalogue: &Catalogue, cover: &Cover)
     requires cover { IsCoverOf catalogue.now cover.now }
     requires shelved { IsShelved catalogue.now store.old.blobs tally.old.extents tally.old.ledger tally.old.uses }
-    ensures spared { take result store.new.blobs ≡ filter (λ b. not (hits_of catalogue.now cover.now b.kept.meta)) store.old.blobs }
-    ensures shelved { IsShelved catalogue.now (take result store.new.blobs) tally.new.extents tally.new.ledger tally.new.uses }
+    ensures spared { store.new.blobs ≡ filter (λ b. not (hits_of catalogue.now cover.now b.kept.meta)) store.old.blobs }
+    ensures shelved { IsShelved catalogue.now store.new.blobs tally.new.extents tally.new.ledger tally.new.uses }
     ensures uses { LeavesUses tally.old.uses tally.old.uses.now (with_spared catalogue.now cover.now (λ m. use_of tally.old.uses m)) tally.new.uses }
-    ensures room { store.new.spare ≡ store.old.spare }
+    ensures room { store.old.spare ≤ store.new.spare }
     ensures regions { tally.old.extents.spare ≤ tally.new.extents.spare }
     ensures keys { tally.old.uses.spare ≤ tally.new.uses.spare }
 {
-    let mut stays = 0;
-    'sifting: for index in 0..store.count() {
+    let mut index = 0;
+    'sifting: for tested in 0..store.count() {
         let kept = store.kept_at(index);
         if is_hit(catalogue, cover, &kept.meta) {
             tally.forget(kept);
+            store.drop_at(index);
         } else {
-            store.swap(stays, index);
-            stays += 1;
+            index += 1;
         }
     }
-    stays
 }

@@ -1,40 +1,52 @@
-//! The kept metatiles in the order in which they were kept, and their blobs. The blobs lie in memory, beside the entries:
-//! no other file knows where they lie.
-ghost use Rattle.std.specs.Prelude.{[], IfOk, OnOk, filter, find, fold, length, map, not, option_copied, take, ◌+◌, ◌++◌, ◌<◌, ◌==◌, ◌≡◌, ◌≤◌, ◌∷◌};
-ghost use Rattle.std.specs.List.{AllByRecursion, SwappedAt, slice_index_or};
+//! The kept metatiles with their blobs, in a map by metatile. The blobs lie in memory, beside the entries: no other file knows
+//! where they lie. Contracts see what is kept in the order in which it was kept, though the map's order is another.
+ghost use Rattle.std.specs.Prelude.{[], IfOk, OnOk, Some, filter, find, fold, length, map, not, option_copied, slice_get, take, ◌+◌, ◌++◌, ◌<◌, ◌==◌, ◌≡◌, ◌≤◌, ◌∷◌};
+ghost use Rattle.std.specs.List.{AllByRecursion};
+ghost use Rattle.std.specs.Option.{option_map};
 ghost use Rattle.catalog.specs.LookUp.{IsTile};
 ghost use Rattle.catalog.specs.Valid.{IsValid};
 ghost use Rattle.cabinet.specs.declared.kept.KeptBlob.{KeptBlob};
+ghost use Rattle.cabinet.specs.Fresh.{ApartBy};
 ghost use Rattle.cabinet.specs.History.{is_of, lesser};
 
 use crate::blob::tile_in;
-use crate::kept::{Kept, KeptBlob};
-use crate::kept_list::{drop_of, find_of, least_with};
+use crate::held::{Held, blob_of, count_in, drop_at, drop_of, kept_at, kept_in, least_with, put};
+use crate::kept::{Blob, Kept};
 use crate::shelving::Found;
 use catalog::catalogue::Catalogue;
 use exact_ratio::words::Words;
+use indexmap::IndexMap;
 use matrix_geometry::address::Address;
 use metatile_plan::metatile::MetaKey;
 use raster_field::layout::block_of;
 use std::alloc::{AllocError, Global};
 use std::marker::Model;
+use trace::Trace;
 
-/// Keeps metatiles with their blobs. Contracts see both, and how many more it has room for.
+/// Keeps metatiles with their blobs. Contracts see both, in the order in which they were kept and in an order of which nothing
+/// is said, and for how many more there is room.
 #[derive(Drop)]
 pub struct Store {
-    blobs: Vec<KeptBlob>,
+    held: Held,
+    /// The metatiles in the order in which they were put, which contracts alone read.
+    puts: Trace<MetaKey>,
 }
 
 impl Model for Store {
-    ghost use Rattle.std.specs.Prelude.{vec_capacity, vec_len, ◌-◌};
+    ghost use Rattle.indexmap.specs.IndexMap.{spare as places};
+    ghost use Rattle.cabinet.specs.Ordered.{IsOrderOf, held_of, in_order, order_of};
     ghost use Rattle.cabinet.specs.Shelved.{Stored};
 
     ghost Value = { Stored };
 
-    ghost view = { λ s. record { blobs = s.blobs.items; spare = vec_capacity s.blobs - vec_len s.blobs } };
+    ghost view = { λ s. record { blobs = in_order (order_of s.puts.entries) (held_of s.held.entries); held = held_of s.held.entries; spare = places s.held } };
+
+    ghost invariant = { λ s. IsOrderOf (in_order (order_of s.puts.entries) (held_of s.held.entries)) (held_of s.held.entries) };
 }
 
 impl Store {
+    ghost use Rattle.std.specs.List.Sorted.{IsPermutation};
+    ghost use Rattle.cabinet.specs.Ordered.{as_kept, held_at};
     ghost use Rattle.cabinet.specs.Shelved.{Reads};
     ghost use Rattle.cabinet.specs.State.{IsLong};
 
@@ -43,7 +55,8 @@ impl Store {
         ensures { result.blobs ≡ [] }
     {
         Store {
-            blobs: Vec::new(alloc),
+            held: IndexMap::new(alloc),
+            puts: Trace::new(),
         }
     }
 
@@ -53,29 +66,33 @@ impl Store {
         ensures no_less { self.old.spare ≤ self.new.spare }
         ensures spare { OnOk result (metatiles ≤ self.new.spare) }
     {
-        self.blobs.reserve(metatiles)
+        self.held.reserve(metatiles)
     }
 
     /// How many are kept.
     pub fn count(&self) -> usize
-        ensures { result ≡ length self.now.blobs }
+        ensures count { result ≡ length self.now.blobs }
+        ensures held { result ≡ length self.now.held }
+        ensures order { IsPermutation self.now.blobs self.now.held }
+        ensures once { ApartBy (λ b. b.kept.meta) self.now.blobs }
     {
-        self.blobs.len()
+        self.held.len()
     }
 
-    /// Which one is kept at an index.
+    /// Which one is held at an index.
     pub fn kept_at(&self, index: usize) -> Kept
-        requires { index < length self.now.blobs }
-        ensures { (blob : KeptBlob) × (result ≡ blob.kept) × (blob ≡ slice_index_or self.now.blobs index blob) }
+        requires { index < length self.now.held }
+        ensures at { (blob : KeptBlob) × (result ≡ blob.kept) × (slice_get self.now.held index ≡ Some blob) }
+        ensures kept { find (is_of result.meta) (map (λ b. b.kept) self.now.blobs) ≡ Some result }
     {
-        self.blobs[index].kept
+        kept_at(&self.held, index)
     }
 
-    /// What is kept of a metatile, with its blob. All that is kept is gone through for it.
-    fn get(&self, meta: &MetaKey) -> Option<&KeptBlob>
-        ensures { option_copied result ≡ find (λ b. is_of meta.now b.kept) self.now.blobs }
+    /// What is held of a metatile.
+    fn get(&self, meta: &MetaKey) -> Option<&Blob>
+        ensures { option_map (λ b. as_kept (meta.now, b)) (option_copied result) ≡ held_at self.now.blobs meta.now }
     {
-        find_of(self.blobs.as_slice(), meta)
+        blob_of(&self.held, meta)
     }
 
     /// Reads a tile out of what is kept of its metatile; `None` exactly where nothing is. `AllocError` where memory runs out.
@@ -94,19 +111,19 @@ impl Store {
         match self.get(&meta) {
             None => Ok(None),
             Some(blob) => {
-                let number = blob.kept.number;
+                let number = blob.number;
                 let text = tile_in(alloc, catalogue, address, blob.text.bytes())?;
                 Ok(Some(Found { number, text }))
             }
         }
     }
 
-    /// Which render of a metatile is kept, and where. All that is kept is gone through for it.
+    /// Which render of a metatile is kept, and where.
     pub fn kept_of(&self, meta: &MetaKey) -> Option<Kept>
         ensures { result ≡ find (is_of meta.now) (map (λ b. b.kept) self.now.blobs) }
     {
         match self.get(meta) {
-            Some(blob) => Some(blob.kept),
+            Some(blob) => Some(kept_in(meta, blob)),
             None => None,
         }
     }
@@ -115,21 +132,25 @@ impl Store {
     pub fn count_others(&self, meta: &MetaKey) -> usize
         ensures { result ≡ length (filter (λ b. not (is_of meta.now b.kept)) self.now.blobs) }
     {
-        crate::kept_list::count_others(self.blobs.as_slice(), meta)
+        let count = self.count();
+        match self.get(meta) {
+            Some(_) => count - 1,
+            None => count,
+        }
     }
 
-    /// How many of a layer are kept.
+    /// How many of a layer are kept. All that is kept is gone through for it.
     pub fn count_in(&self, layer: u32) -> usize
         ensures { result ≡ length (filter (λ b. b.kept.meta.theme.layer == layer) self.now.blobs) }
     {
-        crate::kept_list::count_in(self.blobs.as_slice(), layer)
+        count_in(&self.held, layer)
     }
 
-    /// The least of the kept numbers and of one that was found before.
+    /// The least of the kept numbers and of one that was found before. All that is kept is gone through for it.
     pub fn least_with(&self, was: Option<u64>) -> Option<u64>
         ensures { result ≡ fold lesser was (map (λ b. b.kept.number) self.now.blobs) }
     {
-        least_with(was, self.blobs.as_slice())
+        least_with(was, &self.held)
     }
 
     /// Keeps a metatile in the place of its older render, if there is one. It takes no memory.
@@ -138,11 +159,8 @@ impl Store {
         ensures blobs { self.new.blobs ≡ filter (λ b. not (is_of kept.meta b.kept)) self.old.blobs ++ record { kept = kept; text = text.items } ∷ [] }
         ensures spare { self.old.spare ≤ self.new.spare + 1 }
     {
-        drop_of(&mut self.blobs, &kept.meta);
-        self.blobs.push_reserved(KeptBlob {
-            kept,
-            text: Words::of(text),
-        });
+        put(&mut self.held, kept, Words::of(text));
+        self.puts = self.puts.and(&kept.meta);
     }
 
     /// Drops what is kept of a metatile.
@@ -150,25 +168,18 @@ impl Store {
         ensures blobs { self.new.blobs ≡ filter (λ b. not (is_of meta.now b.kept)) self.old.blobs }
         ensures spare { self.old.spare ≤ self.new.spare }
     {
-        drop_of(&mut self.blobs, meta);
+        drop_of(&mut self.held, meta);
     }
 
-    /// Lets two that are kept change places.
-    pub fn swap(&mut self, former: usize, latter: usize)
-        requires former { former < length self.old.blobs }
-        requires latter { latter < length self.old.blobs }
-        ensures swapped { SwappedAt self.old.blobs self.new.blobs former latter }
-        ensures count { length self.new.blobs ≡ length self.old.blobs }
-        ensures spare { self.new.spare ≡ self.old.spare }
-    {
-        self.blobs.as_mut_slice().swap(former, latter);
-    }
-
-    /// Drops all but the first so many.
-    pub fn truncate(&mut self, count: usize)
-        ensures blobs { self.new.blobs ≡ take count self.old.blobs }
+    /// Drops the one that is held at an index, and puts the last one there.
+    pub fn drop_at(&mut self, index: usize)
+        requires { index < length self.old.held }
+        ensures blobs { (blob : KeptBlob) × (slice_get self.old.held index ≡ Some blob) × (self.new.blobs ≡ filter (λ b. not (is_of blob.kept.meta b.kept)) self.old.blobs) }
+        ensures order { IsPermutation self.new.blobs self.new.held }
+        ensures before { take index self.new.held ≡ take index self.old.held }
+        ensures count { length self.new.held + 1 ≡ length self.old.held }
         ensures spare { self.old.spare ≤ self.new.spare }
     {
-        self.blobs.truncate(count);
+        drop_at(&mut self.held, index);
     }
 }

@@ -1,7 +1,8 @@
 -- What the end of a schedule, of a drill or of a session says of a command.
-use Rattle.std.proofs.Common.{ℕ, List, Ok, inr}
+use Rattle.std.proofs.Common.{ℕ, ◌≡◌, List, Ok, Option, Some, None, inr}
 use Rattle.cabinet.specs.State.{State, IsKnown, fresh_state}
 use Rattle.catalog.specs.declared.catalogue.Catalogue.{Catalogue}
+use Rattle.command_words.specs.declared.words.Word.{Word}
 use Rattle.tile_drill.specs.declared.drill.DrillEnd.{DrillEnd}
 use Rattle.tile_drill.specs.declared.drill.DrillEnd.TheVariants as drill_end
 use Rattle.tile_service.specs.declared.schedule.ScheduleEnd.{ScheduleEnd}
@@ -13,7 +14,35 @@ use Rattle.tile_service.specs.Outside.{Outside}
 use Rattle.tile_service.specs.Run.{World}
 use Rattle.tile_service.specs.Schedules.{Schedules}
 use Rattle.tile_service.specs.SessionEnds.{HasSession}
+use Rattle.tile_command.specs.declared.status.Status.{Status}
+use Rattle.tile_command.specs.declared.status.Status.TheVariants as status
 use Rattle.tile_command.specs.Command.{HasScheduled, HasServedDrill, HasServedReplay, Inputs, IsDocument, IsRead, fresh_world, status_of_drill, status_of_schedule, status_of_session}
+
+-- words that say something are not words that say nothing, and no end of what they say is told as such
+pub not_none : (read : Option Word) (word : Word) → read ≡ Some word → read ≡ None → ⊥
+not_none read word is none = cc
+
+pub other_of_schedule : (e : ScheduleEnd) → status_of_schedule e ≡ status.Usage → ⊥
+other_of_schedule end.Done is = cc
+other_of_schedule (end.Line n) is = cc
+other_of_schedule end.ReadFault is = cc
+other_of_schedule end.WriteFault is = cc
+other_of_schedule end.TooLong is = cc
+other_of_schedule end.OutOfMemory is = cc
+
+pub other_of_drill : (e : DrillEnd) → status_of_drill e ≡ status.Usage → ⊥
+other_of_drill drill_end.Done is = cc
+other_of_drill drill_end.WriteFault is = cc
+other_of_drill drill_end.OutOfMemory is = cc
+
+pub other_of_session : (e : SessionEnd) → status_of_session e ≡ status.Usage → ⊥
+other_of_session session_end.Closed is = cc
+other_of_session session_end.Truncated is = cc
+other_of_session (session_end.Bad code) is = cc
+other_of_session session_end.TooMany is = cc
+other_of_session session_end.ReadFault is = cc
+other_of_session session_end.WriteFault is = cc
+other_of_session session_end.OutOfMemory is = cc
 
 module _ (i : Inputs) (o : Outside) (CapabilitiesStay LinesStay OutputStays SourceStays : Type 0) (c : Catalogue) (text : List ℕ) (read : IsRead i.catalogue (Ok c)) (document : IsDocument i.capabilities text) where
   pub served_schedule : (t : World) → IsKnown t.cabinet → (Untouched : Type 0) → (Untouched → OutputStays × SourceStays) → (e : ScheduleEnd) → Schedules i.lines o Untouched (fresh_world c text) t e

@@ -1,80 +1,76 @@
-use Rattle.std.proofs.Common.{◌<◌, Contains, length, not, ap, sym, subst, ◌∙◌, arith}
-use Rattle.std.specs.Prelude.{IsSome}
+use Rattle.std.proofs.Common.{◌≤◌, Some, length, not, ap, sym, ◌∙◌, arith}
+use Rattle.std.proofs.lemmas.List.Sorted.{length_permutation}
 use Rattle.expiry_policy.specs.Victims.{use_of}
-use Rattle.extent_map.specs.Spaces.{IsTaken}
-use Rattle.quota_ledger.specs.Accounts.{removed}
 use Rattle.cabinet.specs.declared.kept.Kept.{Kept}
-use Rattle.cabinet.specs.Gaps.{region}
 use Rattle.cabinet.specs.Hits.{hits_of}
-use Rattle.cabinet.specs.Shelved.{IsCountedIn, LeavesUses, with_forgotten}
-use Rattle.cabinet.proofs.OnShelf.{turned}
-use Rattle.cabinet.proofs.Sifts.{dropped, may_count_out, may_forget_it, may_give_back, sifted_shelf, sifted_uses, stayed}
+use Rattle.cabinet.proofs.OnShelf.{goes_held, older_in, region_taken, turned}
+use Rattle.cabinet.proofs.Sifts.{dropped_one, one_goes, one_stays, sifted_list, sifted_uses}
 use Rattle.cabinet.proofs.sifting.sift.Goals as goal
 use Rattle.cabinet.proofs.sifting.sift.Goals.{else-is_hit, then-is_hit}
 
 pub forget-requires-clause-region : goal.forget-requires-clause-region
 forget-requires-clause-region c =
-    let within : c.sifting.index < length c.sifting.store.blobs = omega (arith, c.sifting-test.true, c.count-index-end.ensures, c.sifting.invariant.0.moved.long) in
-    let e = c.kept_at-kept.ensures in
-    let off = ap (λ (t : Kept). not (hits_of c.args.catalogue.now c.args.cover.now t.meta)) (sym e.1) ∙ ap not (sym c.is_hit.ensures ∙ c.if-is_hit.true) in
-    subst (λ (t : Kept). Contains c.sifting.tally.extents.parts (region t)) (sym e.1)
-    (may_give_back (λ m. not (hits_of c.args.catalogue.now c.args.cover.now m)) c.args.catalogue.now c.args.store.now.blobs c.sifting.store.blobs c.sifting.stays c.sifting.index c.args.tally.now.extents c.sifting.tally.extents c.args.tally.now.uses
-    c.sifting.tally.uses c.args.tally.now.ledger c.sifting.tally.ledger c.requires.shelved c.sifting.invariant.0 e.0 within e.2 off)
+    let t = c.kept_at-kept.result in
+    region_taken c.args.catalogue.now c.sifting.store.blobs c.sifting.tally.extents c.sifting.tally.ledger c.sifting.tally.uses c.sifting.invariant.0.shelved t.meta t c.kept_at-kept.ensures.kept
 
 pub forget-requires-clause-counted : goal.forget-requires-clause-counted
 forget-requires-clause-counted c =
-    let within : c.sifting.index < length c.sifting.store.blobs = omega (arith, c.sifting-test.true, c.count-index-end.ensures, c.sifting.invariant.0.moved.long) in
-    let e = c.kept_at-kept.ensures in
-    subst (IsCountedIn c.sifting.tally.ledger) (sym e.1)
-    (may_count_out (λ m. not (hits_of c.args.catalogue.now c.args.cover.now m)) c.args.catalogue.now c.args.store.now.blobs c.sifting.store.blobs c.sifting.stays c.sifting.index c.args.tally.now.extents c.sifting.tally.extents c.args.tally.now.uses
-    c.sifting.tally.uses c.args.tally.now.ledger c.sifting.tally.ledger c.requires.shelved c.sifting.invariant.0 e.0 within e.2)
+    let t = c.kept_at-kept.result in
+    older_in c.args.catalogue.now c.sifting.store.blobs c.sifting.tally.extents c.sifting.tally.ledger c.sifting.tally.uses c.sifting.invariant.0.shelved t.meta (Some t) (sym c.kept_at-kept.ensures.kept)
 
 pub forget-requires-clause-held : goal.forget-requires-clause-held
 forget-requires-clause-held c =
-    let within : c.sifting.index < length c.sifting.store.blobs = omega (arith, c.sifting-test.true, c.count-index-end.ensures, c.sifting.invariant.0.moved.long) in
-    let e = c.kept_at-kept.ensures in
-    subst (λ (t : Kept). IsSome (use_of c.sifting.tally.uses t.meta)) (sym e.1)
-    (may_forget_it (λ m. not (hits_of c.args.catalogue.now c.args.cover.now m)) c.args.catalogue.now c.args.store.now.blobs c.sifting.store.blobs c.sifting.stays c.sifting.index c.args.tally.now.extents c.sifting.tally.extents c.args.tally.now.uses
-    c.sifting.tally.uses c.args.tally.now.ledger c.sifting.tally.ledger c.requires.shelved c.sifting.invariant.0 e.0 within e.2)
+    let t = c.kept_at-kept.result in
+    goes_held c.args.catalogue.now c.sifting.store.blobs c.sifting.tally.extents c.sifting.tally.ledger c.sifting.tally.uses c.sifting.invariant.0.shelved t.meta t c.kept_at-kept.ensures.kept
+
+pub overflow_add-index : goal.overflow_add-index
+overflow_add-index c =
+    let s = c.sifting.invariant.0 in
+    omega (arith, c.sifting-test.true, c.count-tested-end.ensures.held, s.looked, length_permutation c.sifting.store.blobs c.sifting.store.held s.order, s.shelved.few, s.shelved.valid.kept_limit_most)
 
 pub sifting-preserved : goal.sifting-preserved
 sifting-preserved c =
-    let within : c.sifting.index < length c.sifting.store.blobs = omega (arith, c.sifting-test.true, c.count-index-end.ensures, c.sifting.invariant.0.moved.long) in
     let e = c.kept_at-kept.ensures in
+    let t = c.kept_at-kept.result in
+    let s = c.sifting.invariant in
+    let cat = c.args.catalogue.now in
+    let cover = c.args.cover.now in
+    let here = c.sifting.store in
+    let tally = c.sifting.tally in
     elim c.if-is_hit.branch [
       | then-is_hit w ↦
-          let off = ap (λ (t : Kept). not (hits_of c.args.catalogue.now c.args.cover.now t.meta)) (sym e.1) ∙ ap not (sym c.is_hit.ensures ∙ w.if-is_hit.true) in
+          let off = ap not (sym c.is_hit.ensures ∙ w.if-is_hit.true) in
           let left = w.forget.new.self in
-          rw (w.store-is, w.tally-is, w.stays-is) (
-            dropped (λ m. not (hits_of c.args.catalogue.now c.args.cover.now m)) c.args.catalogue.now c.args.store.now.blobs c.sifting.store.blobs c.sifting.stays c.sifting.index c.args.tally.now.extents c.sifting.tally.extents c.args.tally.now.uses
-                c.sifting.tally.uses c.args.tally.now.ledger c.sifting.tally.ledger c.requires.shelved c.sifting.invariant.0 e.0 within e.2
-                left.extents left.ledger left.uses off (subst (λ (t : Kept). IsTaken left.extents (region t) c.sifting.tally.extents) e.1 w.forget.ensures.given) w.forget.ensures.sound
-                (w.forget.ensures.bytes ∙ ap (λ (t : Kept). removed t.meta.theme.layer t.length c.sifting.tally.ledger) e.1)
-                (subst (λ (t : Kept). LeavesUses c.sifting.tally.uses c.sifting.tally.uses.now (with_forgotten t.meta (use_of c.sifting.tally.uses)) left.uses) e.1 w.forget.ensures.uses) w.forget.ensures.spare,
-            c.sifting.invariant.1,
+          let then = w.drop_at.new.self in
+          let d = w.drop_at.ensures.blobs in
+          let those = dropped_one t e.at.0 d.0 here.held c.sifting.index here.blobs then.blobs e.at.1 e.at.2 d.1 d.2 in
+          rw (w.store-is, w.tally-is, w.index-is) (
+            one_goes (λ m. not (hits_of cat cover m)) cat c.args.store.now.blobs here.blobs here.held c.sifting.index c.sifting.tested (length c.args.store.now.held) c.args.tally.now.uses tally.uses tally.extents tally.ledger s.0 t
+                left.extents left.ledger left.uses then.blobs then.held off e.kept w.forget.ensures.sound w.forget.ensures.given w.forget.ensures.bytes w.forget.ensures.uses those w.drop_at.ensures.order w.drop_at.ensures.before w.drop_at.ensures.count,
+            omega (arith, s.1, w.drop_at.ensures.spare),
+            omega (arith, s.2, w.forget.ensures.given.one_less),
+            omega (arith, s.3, w.forget.ensures.spare),
           )
       | else-is_hit w ↦
-          let on = ap (λ (t : Kept). not (hits_of c.args.catalogue.now c.args.cover.now t.meta)) (sym e.1) ∙ ap not (sym c.is_hit.ensures ∙ w.if-is_hit.false) in
-          rw (w.store-is, w.tally-is, w.stays-is) (
-            stayed (λ m. not (hits_of c.args.catalogue.now c.args.cover.now m)) c.args.catalogue.now c.args.store.now.blobs c.sifting.store.blobs c.sifting.stays c.sifting.index c.args.tally.now.extents c.sifting.tally.extents c.args.tally.now.uses
-                c.sifting.tally.uses c.args.tally.now.ledger c.sifting.tally.ledger c.requires.shelved c.sifting.invariant.0 e.0 within e.2
-                w.swap.new.self.blobs on w.swap.ensures.swapped,
-            w.swap.ensures.spare ∙ c.sifting.invariant.1,
+          let on = ap (λ (x : Kept). not (hits_of cat cover x.meta)) (sym e.at.1) ∙ ap not (sym c.is_hit.ensures ∙ w.if-is_hit.false) in
+          rw (w.store-is, w.tally-is, w.index-is) (
+            one_stays (λ m. not (hits_of cat cover m)) cat c.args.store.now.blobs here.blobs here.held c.sifting.index c.sifting.tested (length c.args.store.now.held) c.args.tally.now.uses tally.uses tally.extents tally.ledger s.0 e.at.0 on e.at.2,
+            s.1,
+            s.2,
+            s.3,
           )
     ]
 
-pub returns-clause-shelved : goal.returns-clause-shelved
-returns-clause-shelved c =
-    sifted_shelf (λ m. not (hits_of c.args.catalogue.now c.args.cover.now m)) c.args.catalogue.now c.args.store.now.blobs c.sifting.store.blobs c.sifting.stays c.sifting.index c.args.tally.now.extents c.sifting.tally.extents c.args.tally.now.uses
-    c.sifting.tally.uses c.args.tally.now.ledger c.sifting.tally.ledger c.requires.shelved c.sifting.invariant.0
-    (omega (arith, c.sifting-test.false, c.count-index-end.ensures))
+pub returns-clause-spared : goal.returns-clause-spared
+returns-clause-spared c =
+    let done : length c.args.store.now.held ≤ c.sifting.tested = omega (arith, c.sifting-test.false, c.count-tested-end.ensures.held) in
+    sifted_list (λ m. not (hits_of c.args.catalogue.now c.args.cover.now m)) c.args.catalogue.now c.args.store.now.blobs c.sifting.store.blobs c.sifting.store.held c.sifting.index c.sifting.tested (length c.args.store.now.held)
+    c.args.tally.now.uses c.sifting.tally.uses c.sifting.tally.extents c.sifting.tally.ledger c.sifting.invariant.0 done
 
 pub returns-clause-uses : goal.returns-clause-uses
 returns-clause-uses c =
-    let left = sifted_uses (λ m. not (hits_of c.args.catalogue.now c.args.cover.now m)) c.args.catalogue.now c.args.store.now.blobs c.sifting.store.blobs c.sifting.stays c.sifting.index c.args.tally.now.extents c.sifting.tally.extents c.args.tally.now.uses
-    c.sifting.tally.uses c.args.tally.now.ledger c.sifting.tally.ledger c.requires.shelved c.sifting.invariant.0
-    (omega (arith, c.sifting-test.false, c.count-index-end.ensures)) in
-    record { policy = left.policy; layers = left.layers; now = left.now; uses = λ m. left.uses m ∙ turned (hits_of c.args.catalogue.now c.args.cover.now m) (use_of c.args.tally.now.uses m) }
-
-pub returns-clause-room : goal.returns-clause-room
-returns-clause-room c = c.sifting.invariant.1
+    let done : length c.args.store.now.held ≤ c.sifting.tested = omega (arith, c.sifting-test.false, c.count-tested-end.ensures.held) in
+    let s = c.sifting.invariant.0 in
+    let left = sifted_uses (λ m. not (hits_of c.args.catalogue.now c.args.cover.now m)) c.args.catalogue.now c.args.store.now.blobs c.sifting.store.blobs c.sifting.store.held c.sifting.index c.sifting.tested (length c.args.store.now.held)
+    c.args.tally.now.uses c.sifting.tally.uses c.sifting.tally.extents c.sifting.tally.ledger s done in
+    record { policy = s.policy; layers = s.layers; now = s.clock; uses = λ m. left m ∙ turned (hits_of c.args.catalogue.now c.args.cover.now m) (use_of c.args.tally.now.uses m) }

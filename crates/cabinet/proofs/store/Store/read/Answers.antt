@@ -1,13 +1,33 @@
-use Rattle.std.proofs.Common.{rules, ◌≡◌, Some, find, length, ap, subst, ◌∙◌}
+use Rattle.std.proofs.Common.{◌≡◌, Some, find, length, ap, refl, sym, subst, ◌∙◌}
+use Rattle.std.specs.Prelude.{option_copied}
+use Rattle.std.specs.Option.{option_map}
 use Rattle.metatile_plan.specs.declared.metatile.MetaKey.{MetaKey}
-use Rattle.raster_field.specs.Blocks.{block_of}
+use Rattle.raster_field.specs.Blocks.{block_of, tile_part}
+use Rattle.cabinet.specs.declared.kept.Blob.{Blob}
 use Rattle.cabinet.specs.declared.kept.KeptBlob.{KeptBlob}
 use Rattle.cabinet.specs.History.{is_of}
+use Rattle.cabinet.specs.Ordered.{as_kept}
 use Rattle.cabinet.proofs.OnShelf.{found_long}
 use Rattle.cabinet.proofs.store.Store.read.Goals as goal
 
 pub tile_in-requires-clause-blob : goal.tile_in-requires-clause-blob
 tile_in-requires-clause-blob c =
-    let e : find (λ (x : KeptBlob). is_of c.block_of-meta.result x.kept) c.args.self.now.blobs ≡ Some c.in-Some.blob.now = search rules in
-    let f = subst (λ (m : MetaKey). find (λ (x : KeptBlob). is_of m x.kept) c.args.self.now.blobs ≡ Some c.in-Some.blob.now) c.block_of-meta.ensures.meta e in
-    ap length c.bytes.ensures ∙ found_long c.args.catalogue.now c.args.self.now.blobs (block_of c.args.catalogue.now c.args.address.now) c.in-Some.blob.now c.requires.lengths f
+    let m = c.block_of-meta.result in
+    let w = c.in-Some.blob.now in
+    let e = sym c.get.ensures ∙ ap (λ o. option_map (λ (b : Blob). as_kept (m, b)) (option_copied o)) c.in-Some.is in
+    let f = subst (λ (n : MetaKey). find (λ (x : KeptBlob). is_of n x.kept) c.args.self.now.blobs ≡ Some (as_kept (n, w))) c.block_of-meta.ensures.meta e in
+    let block = block_of c.args.catalogue.now c.args.address.now in
+    ap length c.bytes.ensures ∙ found_long c.args.catalogue.now c.args.self.now.blobs block (as_kept (block, w)) c.requires.lengths f
+
+pub returns-in_ok-text-in-Some : goal.returns-in_ok-text-in-Some
+returns-in_ok-text-in-Some c =
+    let m = c.block_of-meta.result in
+    let w = c.in-Some.blob.now in
+    let e = sym c.get.ensures ∙ ap (λ o. option_map (λ (b : Blob). as_kept (m, b)) (option_copied o)) c.in-Some.is in
+    let f = subst (λ (n : MetaKey). find (λ (x : KeptBlob). is_of n x.kept) c.args.self.now.blobs ≡ Some (as_kept (n, w))) c.block_of-meta.ensures.meta e in (
+      as_kept (block_of c.args.catalogue.now c.args.address.now, w),
+      f,
+      refl,
+      c.in_ok-text-in-Some.ensures.part ∙ ap (tile_part c.args.catalogue.now c.args.address.now) c.bytes.ensures,
+      λ k is. c.in_ok-text-in-Some.ensures.sound k (c.bytes.ensures ∙ is),
+    )

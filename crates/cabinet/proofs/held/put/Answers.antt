@@ -1,0 +1,17 @@
+use Rattle.std.proofs.Common.{Some, subst}
+use Rattle.indexmap.specs.IndexMap.{IsUnique, Updates}
+use Rattle.expiry_policy.proofs.Lookups.{derived_is}
+use Rattle.cabinet.specs.declared.kept.Blob.{Blob}
+use Rattle.cabinet.proofs.Lookups.{held_apart, held_updated}
+use Rattle.cabinet.proofs.held.put.Goals as goal
+
+pub returns-clause-once : goal.returns-clause-once
+returns-clause-once c = held_apart c.insert.new.self.entries (subst (λ eq. IsUnique eq c.insert.new.self) derived_is c.insert.ensures.unique)
+
+pub returns-clause-held : goal.returns-clause-held
+returns-clause-held c = λ m.
+    let held = c.args.held.now in
+    let k = c.args.kept.meta in
+    let w : Blob = record { number = c.args.kept.number; place = c.args.kept.place; length = c.args.kept.length; text = c.args.text } in
+    let later = subst (λ eq. Updates eq held c.insert.new.self k (Some w)) derived_is (rw c.unwrap-older.ensures at c.insert.ensures.updates) in
+    held_updated m k held.entries c.insert.new.self.entries (Some w) (later.0 m)
