@@ -1,5 +1,6 @@
 -- The commands of a cabinet, a row for each reply: where it comes, and the cabinet after it.
-use Rattle.std.specs.Prelude.{ℕ, ◌≡◌, ◌≤◌, ◌<◌, ◌⊎◌, List, length, Option, Some, None, IsSome, IfSome, ⊤}
+use Rattle.std.specs.Prelude.{ℕ, ◌≡◌, ◌≤◌, ◌<◌, ◌+◌, ◌⊎◌, Bool, true, nat_le, if◌then◌else◌, List, length, Option, Some, None, IsSome, IfSome, ⊤}
+use Rattle.std.specs.Option.{option_and_then}
 use Rattle.catalog.specs.declared.catalogue.Catalogue.{Catalogue}
 use Rattle.catalog.specs.declared.catalogue.Scope.{Scope}
 use Rattle.matrix_geometry.specs.declared.address.Address.{Address}
@@ -24,12 +25,15 @@ use Rattle.cabinet.specs.declared.replies.CutReply.TheVariants as cut
 use Rattle.cabinet.specs.declared.replies.Expired.{Expired}
 use Rattle.cabinet.specs.declared.replies.Expired.TheVariants as expired
 use Rattle.cabinet.specs.Counted.{scope_exceeded, victim_in}
-use Rattle.cabinet.specs.Fresh.{IsFresh}
+use Rattle.cabinet.specs.Fresh.{IsFresh, limit_for}
 use Rattle.cabinet.specs.Gaps.{gap_for}
 use Rattle.cabinet.specs.History.{kept_of, but, next, numbers, least_of}
-use Rattle.cabinet.specs.State.{State, now, with_entry, with_blob, with_cut, with_dropped, kept_text}
+use Rattle.cabinet.specs.State.{State, now, asked_at, with_entry, with_blob, with_cut, with_dropped, kept_text}
 
 -- ASK AND FORCE
+
+-- Each ask and each force begins at a moment that the clock gave, with the entry At. The rows of its replies speak of the cabinet
+-- after that entry, s.
 
 -- no render of the metatile runs, and the next number is given for it
 pub record IsGiven (s : State) (m : MetaKey) (t : Ticketed) (new : State) : Type 0 where
@@ -46,11 +50,23 @@ IsBusy s m k new = (running_for m (now s).out ≡ Some k) × (new ≡ s)
 abbrev pub IsSpent : State → MetaKey → State → Type 0
 IsSpent s m new = (running_for m (now s).out ≡ None) × (next s.opening (now s) ≡ None) × (new ≡ s)
 
--- the metatile is kept under this number, and these bytes are the tile's part of its blob, which is the one that is kept where blobs are
+-- no more seconds than the age limit lie between the beginning of a render and a moment; where there is no limit, any may
+abbrev pub is_within : Option ℕ → ℕ → ℕ → Bool
+is_within None begun n = true
+is_within (Some limit) begun n = nat_le n (begun + limit)
+
+abbrev pub where_within : Option ℕ → ℕ → Kept → Option Kept
+where_within limit n t = if is_within limit t.moment n then Some t else None
+
+-- what is kept of the tile's metatile, where it is within its age limit at the moment of s
+abbrev pub answering : State → Address → Option Kept
+answering s a = option_and_then (where_within (limit_for s.catalogue a) (now s).moment) (kept_of (block_of s.catalogue a) (now s))
+
+-- the metatile is kept and within its age limit, under this number, and these bytes are the tile's part of its blob, which is the one that is kept where blobs are
 -- modelled, and has the metatile's length in any case
 pub record IsHit (s : State) (a : Address) (k : ℕ) (bytes : List ℕ) (new : State) : Type 0 where
   pub kept : Kept
-  pub is_kept : kept_of (block_of s.catalogue a) (now s) ≡ Some kept
+  pub is_kept : answering s a ≡ Some kept
   pub number : k ≡ kept.number
   pub blob : List ℕ
   pub long : length blob ≡ blob_size s.catalogue (block_of s.catalogue a)
@@ -58,25 +74,33 @@ pub record IsHit (s : State) (a : Address) (k : ℕ) (bytes : List ℕ) (new : S
   pub part : bytes ≡ tile_part s.catalogue a blob
   pub state : new ≡ with_entry s (entry.Used (block_of s.catalogue a))
 
+-- nothing that is kept answers for the tile
 abbrev pub IsUnkept : State → Address → Type 0
-IsUnkept s a = kept_of (block_of s.catalogue a) (now s) ≡ None
+IsUnkept s a = answering s a ≡ None
 
+abbrev pub IsAskedOf : State → Address → Asked → State → Type 0
+IsAskedOf s a (asked.Hit k bytes) new = IsHit s a k bytes.items new
+IsAskedOf s a (asked.Busy k) new = IsUnkept s a × IsBusy s (block_of s.catalogue a) k new
+IsAskedOf s a asked.Spent new = IsUnkept s a × IsSpent s (block_of s.catalogue a) new
+IsAskedOf s a (asked.Ticket t) new = IsUnkept s a × IsGiven s (block_of s.catalogue a) t new
+
+abbrev pub IsForcedOf : State → MetaKey → Forced → State → Type 0
+IsForcedOf s m (forced.Busy k) new = IsBusy s m k new
+IsForcedOf s m forced.Spent new = IsSpent s m new
+IsForcedOf s m (forced.Ticket t) new = IsGiven s m t new
+
+-- the clock was read once, and gave the moment that it shows afterwards
 abbrev pub Asks : State → Address → Asked → State → Type 0
-Asks s a (asked.Hit k bytes) new = IsHit s a k bytes.items new
-Asks s a (asked.Busy k) new = IsUnkept s a × IsBusy s (block_of s.catalogue a) k new
-Asks s a asked.Spent new = IsUnkept s a × IsSpent s (block_of s.catalogue a) new
-Asks s a (asked.Ticket t) new = IsUnkept s a × IsGiven s (block_of s.catalogue a) t new
+Asks s a r new = IsAskedOf (asked_at new.clock.moment s) a r new
 
 abbrev pub Forces : State → MetaKey → Forced → State → Type 0
-Forces s m (forced.Busy k) new = IsBusy s m k new
-Forces s m forced.Spent new = IsSpent s m new
-Forces s m (forced.Ticket t) new = IsGiven s m t new
+Forces s m r new = IsForcedOf (asked_at new.clock.moment s) m r new
 
 -- FINISH AND ABANDON
 
--- the ticket's render runs, with this mark
-abbrev pub Runs : State → Ticketed → Option ℕ → Type 0
-Runs s t mark = render_of t (now s).out ≡ Some (record { number = t.number; meta = t.meta; mark = mark })
+-- the ticket's render runs, begun at this moment and with this mark
+abbrev pub Runs : State → Ticketed → ℕ → Option ℕ → Type 0
+Runs s t n mark = render_of t (now s).out ≡ Some (record { number = t.number; meta = t.meta; moment = n; mark = mark })
 
 -- how many other metatiles are kept
 abbrev pub others : State → MetaKey → ℕ
@@ -86,17 +110,17 @@ others s m = length (but m (now s).kept)
 abbrev pub place_for : State → ℕ → Option ℕ
 place_for s bytes = gap_for s.catalogue (now s).kept bytes
 
-abbrev pub kept_at : Ticketed → ℕ → ℕ → Kept
-kept_at t place bytes = record { number = t.number; meta = t.meta; place = place; length = bytes }
+abbrev pub kept_at : Ticketed → ℕ → ℕ → ℕ → Kept
+kept_at t n place bytes = record { number = t.number; meta = t.meta; place = place; length = bytes; moment = n; uses = 0 }
 
 abbrev pub Finishes : State → Ticketed → List ℕ → Finished → State → Type 0
 Finishes s t blob finished.Stranger new = (render_of t (now s).out ≡ None) × (new ≡ s)
-Finishes s t blob (finished.Overtaken cut) new = Runs s t (Some cut) × (new ≡ with_entry s (entry.Ended t.number))
-Finishes s t blob finished.Full new = Runs s t None × (s.catalogue.kept_limit ≤ others s t.meta) × (new ≡ with_entry s (entry.Ended t.number))
+Finishes s t blob (finished.Overtaken cut) new = (n : ℕ) × Runs s t n (Some cut) × (new ≡ with_entry s (entry.Ended t.number))
+Finishes s t blob finished.Full new = (n : ℕ) × Runs s t n None × (s.catalogue.kept_limit ≤ others s t.meta) × (new ≡ with_entry s (entry.Ended t.number))
 Finishes s t blob finished.NoRoom new =
-    Runs s t None × (others s t.meta < s.catalogue.kept_limit) × (place_for s (length blob) ≡ None) × (new ≡ with_entry s (entry.Ended t.number))
+    (n : ℕ) × Runs s t n None × (others s t.meta < s.catalogue.kept_limit) × (place_for s (length blob) ≡ None) × (new ≡ with_entry s (entry.Ended t.number))
 Finishes s t blob finished.Kept new =
-    Runs s t None × (others s t.meta < s.catalogue.kept_limit) × ((place : ℕ) × (place_for s (length blob) ≡ Some place) × (new ≡ with_blob s (kept_at t place (length blob)) blob))
+    (n : ℕ) × Runs s t n None × (others s t.meta < s.catalogue.kept_limit) × ((place : ℕ) × (place_for s (length blob) ≡ Some place) × (new ≡ with_blob s (kept_at t n place (length blob)) blob))
 
 -- a stranger's ticket changes nothing
 abbrev pub Abandons : State → Ticketed → State → Type 0

@@ -8,7 +8,7 @@ use Rattle.metatile_plan.specs.Keys.{same_meta}
 use Rattle.quota_ledger.specs.Accounts.{Part, accounts, exceeded}
 use Rattle.quota_ledger.specs.Accounts as ledger
 use Rattle.cabinet.specs.declared.entry.Entry.{Entry}
-use Rattle.cabinet.specs.declared.entry.Entry.TheVariants.{Started, Cut, Missed, Stored, Ended, Used, Dropped}
+use Rattle.cabinet.specs.declared.entry.Entry.TheVariants.{At, Started, Cut, Missed, Stored, Ended, Used, Dropped}
 use Rattle.cabinet.specs.declared.kept.Kept.{Kept}
 use Rattle.cabinet.specs.History.{History}
 use Rattle.cabinet.specs.State.{State, now}
@@ -41,10 +41,11 @@ scope_exceeded s = exceeded (accounts s.catalogue (parts_of s))
 
 -- the count of entries that keep or use a metatile, up to the greatest number of 64 bits
 abbrev pub clock_after : ℕ → Entry → ℕ
+clock_after n (At t) = n
 clock_after n (Started k m) = n
 clock_after n (Cut t cover) = n
 clock_after n (Missed t) = n
-clock_after n (Stored k m place length) = one_more n
+clock_after n (Stored k m place length b u) = one_more n
 clock_after n (Ended k) = n
 clock_after n (Used m) = one_more n
 clock_after n (Dropped m) = n
@@ -52,12 +53,13 @@ clock_after n (Dropped m) = n
 abbrev pub clock : History → ℕ
 clock h = fold clock_after 0 h
 
--- the uses of a metatile since it was kept last
+-- the uses of a metatile: those that counted when it was kept last, and those since then
 abbrev pub uses_after : MetaKey → ℕ → Entry → ℕ
+uses_after m n (At t) = n
 uses_after m n (Started k o) = n
 uses_after m n (Cut t cover) = n
 uses_after m n (Missed t) = n
-uses_after m n (Stored k o place length) = if same_meta o m then 0 else n
+uses_after m n (Stored k o place length b u) = if same_meta o m then u else n
 uses_after m n (Ended k) = n
 uses_after m n (Used o) = if same_meta o m then one_more n else n
 uses_after m n (Dropped o) = n
@@ -74,10 +76,11 @@ abbrev pub at_next : MetaKey → MetaKey → Times → Times
 at_next m o t = record { count = one_more t.count; last = if same_meta o m then one_more t.count else t.last }
 
 abbrev pub times_after : MetaKey → Times → Entry → Times
+times_after m t (At n) = t
 times_after m t (Started k o) = t
 times_after m t (Cut n cover) = t
 times_after m t (Missed n) = t
-times_after m t (Stored k o place length) = at_next m o t
+times_after m t (Stored k o place length b u) = at_next m o t
 times_after m t (Ended k) = t
 times_after m t (Used o) = at_next m o t
 times_after m t (Dropped o) = t

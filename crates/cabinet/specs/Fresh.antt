@@ -1,6 +1,9 @@
 -- Which histories are possible, what each of them keeps, and when a render is fresh.
-use Rattle.std.specs.Prelude.{ℕ, ◌≡◌, ◌≢◌, ◌+◌, ◌<◌, ◌≤◌, List, [], ◌∷◌, ◌++◌, length, take, fold, Some, None, ◌⊎◌, IsSome, IsTrue, Contains, ⊤}
+use Rattle.std.specs.Prelude.{ℕ, ◌≡◌, ◌≢◌, ◌+◌, ◌<◌, ◌≤◌, List, [], ◌∷◌, ◌++◌, length, take, fold, Some, None, ◌⊎◌, IsSome, IfSome, IsTrue, Contains, ⊤, if◌then◌else◌, ◌==◌, Option, slice_get}
 use Rattle.std.specs.List.{AllByRecursion}
+use Rattle.std.specs.Option.{option_and_then, option_or}
+use Rattle.catalog.specs.AgeLimits.{age_limit}
+use Rattle.catalog.specs.LookUp.{layer_of}
 use Rattle.catalog.specs.declared.catalogue.Catalogue.{Catalogue}
 use Rattle.matrix_geometry.specs.declared.address.Address.{Address}
 use Rattle.metatile_locks.specs.declared.render.Render.{Render}
@@ -22,12 +25,13 @@ use Rattle.served_covers.specs.OfCatalogue.{IsCoverOf}
 
 -- the entry comes where the commands let it
 abbrev pub May : Catalogue → Standing → Entry → Type 0
+May c s (entry.At n) = ⊤
 May c s (entry.Started k m) = (k ≡ s.front + 1) × (running_for m s.out ≡ None) × IsMeta c m
 May c s (entry.Cut t cover) = (t ≡ s.front + 1) × IsCoverOf c cover × (length (purged (Some cover) (least_of (numbers s.out s.kept)) s.book).cuts < c.cut_limit)
 May c s (entry.Missed t) = t ≡ s.front + 1
-May c s (entry.Stored k m place size) =
-    (render_of (record { number = k; meta = m }) s.out ≡ Some (unmarked k m)) × (size ≡ blob_size c m) × (gap_for c s.kept size ≡ Some place)
-    × (length (but m s.kept) < c.kept_limit)
+May c s (entry.Stored k m place size n uses) =
+    (render_of (record { number = k; meta = m }) s.out ≡ Some (unmarked k m n)) × (size ≡ blob_size c m) × (gap_for c s.kept size ≡ Some place)
+    × (length (but m s.kept) < c.kept_limit) × (uses ≡ 0)
 May c s (entry.Ended k) = ⊤
 May c s (entry.Used m) = IsSome (kept_of m s)
 May c s (entry.Dropped m) = IsSome (kept_of m s)
@@ -40,10 +44,11 @@ Follows c s (e ∷ es) = May c s e × Follows c (after c s e) es
 -- THE CUTS of a history, purged ones too
 
 abbrev pub cuts_after : List Cut → Entry → List Cut
+cuts_after cuts (entry.At n) = cuts
 cuts_after cuts (entry.Started k m) = cuts
 cuts_after cuts (entry.Cut t cover) = cuts ++ record { number = t; cover = cover } ∷ []
 cuts_after cuts (entry.Missed t) = cuts
-cuts_after cuts (entry.Stored k m place length) = cuts
+cuts_after cuts (entry.Stored k m place length n uses) = cuts
 cuts_after cuts (entry.Ended k) = cuts
 cuts_after cuts (entry.Used m) = cuts
 cuts_after cuts (entry.Dropped m) = cuts
@@ -120,10 +125,11 @@ pub record Possible (c : Catalogue) (o : Opening) (later : History) : Type 0 whe
 
 -- the entry begins or keeps the render k of the metatile
 abbrev pub IsRenderOf : ℕ → MetaKey → Entry → Type 0
+IsRenderOf k m (entry.At n) = ⊥
 IsRenderOf k m (entry.Started j n) = (j ≡ k) × (n ≡ m)
 IsRenderOf k m (entry.Cut t cover) = ⊥
 IsRenderOf k m (entry.Missed t) = ⊥
-IsRenderOf k m (entry.Stored j n place length) = (j ≡ k) × (n ≡ m)
+IsRenderOf k m (entry.Stored j n place length b uses) = (j ≡ k) × (n ≡ m)
 IsRenderOf k m (entry.Ended j) = ⊥
 IsRenderOf k m (entry.Used n) = ⊥
 IsRenderOf k m (entry.Dropped n) = ⊥
@@ -134,15 +140,54 @@ Begins k m (e ∷ es) = IsRenderOf k m e ⊎ Begins k m es
 
 -- the render k is newer than the entry, where the entry is a truncation that covers the tile
 abbrev pub IsNoOlder : Catalogue → ℕ → Address → Entry → Type 0
+IsNoOlder c k a (entry.At n) = ⊤
 IsNoOlder c k a (entry.Started j n) = ⊤
 IsNoOlder c k a (entry.Cut t cover) = IsTrue (covers_in c cover a) → t < k
 IsNoOlder c k a (entry.Missed t) = ⊤
-IsNoOlder c k a (entry.Stored j n place length) = ⊤
+IsNoOlder c k a (entry.Stored j n place length b uses) = ⊤
 IsNoOlder c k a (entry.Ended j) = ⊤
 IsNoOlder c k a (entry.Used n) = ⊤
 IsNoOlder c k a (entry.Dropped n) = ⊤
 
+-- the moment of the last ask or force, and that at which a render was begun, none before that
+pub record Beginning : Type 0 where
+  pub moment : ℕ
+  pub begun : Option ℕ
+
+-- the first moment counts
+abbrev pub begun_or : Beginning → Option ℕ → Beginning
+begun_or was begun = record { moment = was.moment; begun = option_or was.begun begun }
+
+-- a render is begun at the moment of the last At before its Started; one that was kept before the opening tells its moment
+abbrev pub begun_after : ℕ → Beginning → Entry → Beginning
+begun_after k was (entry.At n) = record { moment = n; begun = was.begun }
+begun_after k was (entry.Started j m) = begun_or was (if j == k then Some was.moment else None)
+begun_after k was (entry.Cut t cover) = was
+begun_after k was (entry.Missed t) = was
+begun_after k was (entry.Stored j m place length n uses) = begun_or was (if j == k then Some n else None)
+begun_after k was (entry.Ended j) = was
+begun_after k was (entry.Used m) = was
+begun_after k was (entry.Dropped m) = was
+
+-- the moment at which the render k was begun
+abbrev pub moment : History → ℕ → Option ℕ
+moment h k = (fold (begun_after k) (record { moment = 0; begun = None }) h).begun
+
+-- the age limit in seconds of the tile's layer at its zoom
+abbrev pub limit_for : Catalogue → Address → Option ℕ
+limit_for c a = option_and_then (λ l. age_limit l a.z) (layer_of c a.theme)
+
+-- the layer of the tile has no limit at its zoom, or the entry at place p is that of an ask or force, at a moment that is past the
+-- beginning of the render k by no more than the limit
+abbrev pub IsYoung : Catalogue → History → ℕ → Address → ℕ → Type 0
+IsYoung c h p a k = IfSome (limit_for c a) (λ limit. (n b : ℕ) × (slice_get h p ≡ Some (entry.At n)) × (moment h k ≡ Some b) × (n ≤ b + limit))
+
 -- k is a render of the tile's metatile, and newer than each truncation of the first p entries that covers the tile
-pub record IsFresh (c : Catalogue) (h : History) (p : ℕ) (a : Address) (k : ℕ) : Type 0 where
+pub record IsCurrent (c : Catalogue) (h : History) (p : ℕ) (a : Address) (k : ℕ) : Type 0 where
   pub begins : Begins k (block_of c a) h
   pub above : AllByRecursion (IsNoOlder c k a) (take p h)
+
+-- and it is within the age limit at place p
+pub record IsFresh (c : Catalogue) (h : History) (p : ℕ) (a : Address) (k : ℕ) : Type 0 where
+  pub current : IsCurrent c h p a k
+  pub young : IsYoung c h p a k

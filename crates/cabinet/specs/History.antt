@@ -12,7 +12,7 @@ use Rattle.truncation_list.specs.declared.book.Book.{Book}
 use Rattle.truncation_list.specs.declared.cover.Cover.{Cover}
 use Rattle.truncation_list.specs.Purge.{empty_book, added}
 use Rattle.cabinet.specs.declared.entry.Entry.{Entry}
-use Rattle.cabinet.specs.declared.entry.Entry.TheVariants.{Started, Cut, Missed, Stored, Ended, Used, Dropped}
+use Rattle.cabinet.specs.declared.entry.Entry.TheVariants.{At, Started, Cut, Missed, Stored, Ended, Used, Dropped}
 use Rattle.cabinet.specs.declared.kept.Kept.{Kept}
 use Rattle.cabinet.specs.Hits.{hits_of}
 
@@ -21,9 +21,11 @@ History = List Entry
 
 -- WHAT STANDS
 
--- the greatest number that was given, what is kept, the renders that run with the last cut that hit each, and the book
+-- the greatest number that was given, the moment of the last ask or force, what is kept, the renders that run with the last cut
+-- that hit each, and the book
 pub record Standing : Type 0 where
   pub front : ℕ
+  pub moment : ℕ
   pub kept : List Kept
   pub out : List Render
   pub book : Book
@@ -49,11 +51,15 @@ last_number o = o.number * 2 ^ 40 + (2 ^ 40 - 1)
 
 -- what stands at first
 abbrev pub first : Opening → Standing
-first o = record { front = first_front o; kept = o.kept; out = []; book = o.book }
+first o = record { front = first_front o; moment = 0; kept = o.kept; out = []; book = o.book }
+
+-- the entry that keeps it
+abbrev pub stored_entry : Kept → Entry
+stored_entry t = Stored t.number t.meta t.place t.length t.moment t.uses
 
 -- the entries that a history begins with: the cuts of the book by number, then what is kept, in its order
 abbrev pub first_entries : Opening → History
-first_entries o = map (λ k. Cut k.number k.cover) o.book.cuts ++ map (λ t. Stored t.number t.meta t.place t.length) o.kept
+first_entries o = map (λ k. Cut k.number k.cover) o.book.cuts ++ map stored_entry o.kept
 
 -- the history that these later entries make
 abbrev pub whole : Opening → History → History
@@ -85,15 +91,16 @@ spared c cover ts = filter (λ t. not (hits_of c cover t.meta)) ts
 
 -- what one entry does
 abbrev pub after : Catalogue → Standing → Entry → Standing
-after c s (Started k m) = record { front = max s.front k; kept = s.kept; out = begun k m s.out; book = s.book }
+after c s (At n) = record { front = s.front; moment = n; kept = s.kept; out = s.out; book = s.book }
+after c s (Started k m) = record { front = max s.front k; moment = s.moment; kept = s.kept; out = begun k m s.moment s.out; book = s.book }
 after c s (Cut t cover) =
-    record { front = max s.front t; kept = spared c cover s.kept; out = overtaken (hits_of c cover) t s.out; book = added t cover (least_of (numbers s.out s.kept)) s.book }
-after c s (Missed t) = record { front = max s.front t; kept = s.kept; out = s.out; book = s.book }
-after c s (Stored k m place length) =
-    record { front = s.front; kept = but m s.kept ++ record { number = k; meta = m; place = place; length = length } ∷ []; out = without k s.out; book = s.book }
-after c s (Ended k) = record { front = s.front; kept = s.kept; out = without k s.out; book = s.book }
+    record { front = max s.front t; moment = s.moment; kept = spared c cover s.kept; out = overtaken (hits_of c cover) t s.out; book = added t cover (least_of (numbers s.out s.kept)) s.book }
+after c s (Missed t) = record { front = max s.front t; moment = s.moment; kept = s.kept; out = s.out; book = s.book }
+after c s (Stored k m place length n uses) =
+    record { front = s.front; moment = s.moment; kept = but m s.kept ++ record { number = k; meta = m; place = place; length = length; moment = n; uses = uses } ∷ []; out = without k s.out; book = s.book }
+after c s (Ended k) = record { front = s.front; moment = s.moment; kept = s.kept; out = without k s.out; book = s.book }
 after c s (Used m) = s
-after c s (Dropped m) = record { front = s.front; kept = but m s.kept; out = s.out; book = s.book }
+after c s (Dropped m) = record { front = s.front; moment = s.moment; kept = but m s.kept; out = s.out; book = s.book }
 
 abbrev pub standing : Catalogue → Standing → History → Standing
 standing c s h = fold (after c) s h
@@ -110,10 +117,11 @@ next o s = if nat_lt s.front (last_number o) then Some (s.front + 1) else None
 
 -- a metatile is kept from its Stored on, until a later Stored or Dropped of it or a later Cut that hits it
 abbrev pub kept_after : Catalogue → MetaKey → Option Kept → Entry → Option Kept
+kept_after c m was (At n) = was
 kept_after c m was (Started k n) = was
 kept_after c m was (Cut t cover) = if hits_of c cover m then None else was
 kept_after c m was (Missed t) = was
-kept_after c m was (Stored k n place length) = if same_meta n m then Some (record { number = k; meta = n; place = place; length = length }) else was
+kept_after c m was (Stored k n place length b uses) = if same_meta n m then Some (record { number = k; meta = n; place = place; length = length; moment = b; uses = uses }) else was
 kept_after c m was (Ended k) = was
 kept_after c m was (Used n) = was
 kept_after c m was (Dropped n) = if same_meta n m then None else was
@@ -121,18 +129,28 @@ kept_after c m was (Dropped n) = if same_meta n m then None else was
 abbrev pub kept : Catalogue → History → MetaKey → Option Kept
 kept c h m = fold (kept_after c m) None h
 
--- a render runs from its Started on, until its Stored or Ended, with the last Cut since then that hit it
-abbrev pub render_after : Catalogue → ℕ → Option Render → Entry → Option Render
-render_after c k was (Started j n) = if j == k then Some (unmarked k n) else was
-render_after c k was (Cut t cover) = option_map (marked (hits_of c cover) t) was
+-- the moment of the last ask or force, and the render of a number, none where it does not run
+pub record Running : Type 0 where
+  pub moment : ℕ
+  pub render : Option Render
+
+abbrev pub with_render : Running → Option Render → Running
+with_render r x = record { moment = r.moment; render = x }
+
+-- a render runs from its Started on, begun at the moment of the last At before, until its Stored or Ended, with the last Cut since
+-- then that hit it
+abbrev pub render_after : Catalogue → ℕ → Running → Entry → Running
+render_after c k was (At n) = record { moment = n; render = was.render }
+render_after c k was (Started j m) = with_render was (if j == k then Some (unmarked k m was.moment) else was.render)
+render_after c k was (Cut t cover) = with_render was (option_map (marked (hits_of c cover) t) was.render)
 render_after c k was (Missed t) = was
-render_after c k was (Stored j n place length) = if j == k then None else was
-render_after c k was (Ended j) = if j == k then None else was
-render_after c k was (Used n) = was
-render_after c k was (Dropped n) = was
+render_after c k was (Stored j m place length n uses) = with_render was (if j == k then None else was.render)
+render_after c k was (Ended j) = with_render was (if j == k then None else was.render)
+render_after c k was (Used m) = was
+render_after c k was (Dropped m) = was
 
 abbrev pub render : Catalogue → History → ℕ → Option Render
-render c h k = fold (render_after c k) None h
+render c h k = (fold (render_after c k) (record { moment = 0; render = None }) h).render
 
 -- the render of a ticket: none where its number does not run for its metatile
 abbrev pub of_meta : MetaKey → Render → Option Render

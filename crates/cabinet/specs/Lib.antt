@@ -7,4 +7,5 @@ pub mod Counted
 pub mod Ordered
 pub mod Shelved
 pub mod Consistent
+pub mod Turns
 pub mod Commands

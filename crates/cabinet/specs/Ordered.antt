@@ -9,7 +9,7 @@ use Rattle.cabinet.specs.History.{is_of}
 
 -- what an entry of the map holds
 abbrev pub as_kept : MetaKey × Blob → KeptBlob
-as_kept e = record { kept = record { number = e.1.number; meta = e.0; place = e.1.place; length = e.1.length }; text = e.1.text }
+as_kept e = record { kept = record { number = e.1.number; meta = e.0; place = e.1.place; length = e.1.length; moment = e.1.moment; uses = e.1.uses }; text = e.1.text }
 
 abbrev pub held_of : List (MetaKey × Blob) → List KeptBlob
 held_of es = map as_kept es

@@ -105,12 +105,12 @@ pub record LeavesUses (old : Counts) (count : ℕ) (by_key : UsesByKey) (new : C
 
 -- WHAT IS READ
 
--- the number and the tile's part of the blob that is kept of the tile's metatile, which is the encoded tile where the blob is the
+-- the number, the moment and the tile's part of the blob that is kept of the tile's metatile, which is the encoded tile where the blob is the
 -- metatile's; or nothing is kept of it
 abbrev pub Reads : Catalogue → List KeptBlob → Address → Option Found → Type 0
 Reads c blobs a None = find (λ b. is_of (block_of c a) b.kept) blobs ≡ None
 Reads c blobs a (Some f) =
-    (b : KeptBlob) × (find (λ b. is_of (block_of c a) b.kept) blobs ≡ Some b) × (f.number ≡ b.kept.number) × (f.text.items ≡ tile_part c a b.text)
+    (b : KeptBlob) × (find (λ b. is_of (block_of c a) b.kept) blobs ≡ Some b) × (f.number ≡ b.kept.number) × (f.moment ≡ b.kept.moment) × (f.text.items ≡ tile_part c a b.text)
     × ((k : ℕ) → b.text ≡ block_text c k (block_of c a) → f.text.items ≡ tile_text c k a)
 
 -- WHAT CALLS LEAVE
@@ -149,14 +149,14 @@ Sifts cover s new = Leaves s (blobs_spared s.catalogue cover s.blobs) s.clock (w
 abbrev pub Forgets : MetaKey → Shelved → Shelved → Type 0
 Forgets m s new = Leaves s (blobs_without m s.blobs) s.clock (with_forgotten m (use_on s)) new
 
--- a row for each way in which the shelving of a ticket's blob ends
-abbrev pub Shelves : Shelved → Ticketed → List ℕ → Shelving → Shelved → Type 0
-Shelves s t blob shelving.Full new = (s.catalogue.kept_limit ≤ length (but t.meta (listed s.blobs))) × (new ≡ s)
-Shelves s t blob shelving.NoRoom new =
+-- a row for each way in which the shelving of a ticket's blob ends, of a render that was begun at this moment
+abbrev pub Shelves : Shelved → Ticketed → ℕ → List ℕ → Shelving → Shelved → Type 0
+Shelves s t n blob shelving.Full new = (s.catalogue.kept_limit ≤ length (but t.meta (listed s.blobs))) × (new ≡ s)
+Shelves s t n blob shelving.NoRoom new =
     (length (but t.meta (listed s.blobs)) < s.catalogue.kept_limit) × (gap_for s.catalogue (listed s.blobs) (length blob) ≡ None) × (new ≡ s)
-Shelves s t blob (shelving.Kept kept) new =
+Shelves s t n blob (shelving.Kept kept) new =
     (length (but t.meta (listed s.blobs)) < s.catalogue.kept_limit) × (gap_for s.catalogue (listed s.blobs) (length blob) ≡ Some kept.place)
-    × (kept ≡ record { number = t.number; meta = t.meta; place = kept.place; length = length blob }) × Keeps kept blob s new
+    × (kept ≡ record { number = t.number; meta = t.meta; place = kept.place; length = length blob; moment = n; uses = 0 }) × Keeps kept blob s new
 
 -- the scope whose quota is exceeded
 abbrev pub scope_above : Shelved → Option Scope

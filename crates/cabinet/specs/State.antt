@@ -4,6 +4,7 @@ use Rattle.std.specs.List.{AllByRecursion}
 use Rattle.std.specs.Option.{option_and_then, option_map}
 use Rattle.catalog.specs.declared.catalogue.Catalogue.{Catalogue}
 use Rattle.catalog.specs.Valid.{IsValid}
+use Rattle.clock.specs.Readings.{Readings, read}
 use Rattle.metatile_plan.specs.declared.metatile.MetaKey.{MetaKey}
 use Rattle.raster_field.specs.Blocks.{block_text, blob_size}
 use Rattle.truncation_list.specs.declared.book.FrontedBook.{FrontedBook}
@@ -14,18 +15,19 @@ use Rattle.cabinet.specs.declared.entry.Entry.TheVariants as entry
 use Rattle.cabinet.specs.declared.kept.Kept.{Kept}
 use Rattle.cabinet.specs.declared.kept.KeptBlob.{KeptBlob}
 use Rattle.cabinet.specs.Fresh.{Possible}
-use Rattle.cabinet.specs.History.{History, Opening, Standing, bare_opening, first, is_of, last_number, standing}
+use Rattle.cabinet.specs.History.{History, Opening, Standing, bare_opening, first, is_of, last_number, standing, stored_entry}
 use Rattle.cabinet.specs.History as histories
 use Rattle.cabinet.specs.Hits.{hits_of}
 
--- a cabinet: its catalogue, its opening, its history, of that the entries since the opening, and the blobs that it keeps, where
--- these are modelled
+-- a cabinet: its catalogue, its opening, its history, of that the entries since the opening, the blobs that it keeps, where
+-- these are modelled, and what its clock has given
 pub record State : Type 0 where
   pub catalogue : Catalogue
   pub opening : Opening
   pub history : History
   pub since : History
   pub blobs : Option (List KeptBlob)
+  pub clock : Readings
 
 -- what stands now: what stood at the opening, and what happened since
 abbrev pub now : State → Standing
@@ -35,9 +37,9 @@ now s = standing s.catalogue (first s.opening) s.since
 abbrev pub fronted : Standing → FrontedBook
 fronted s = record { book = s.book; front = s.front }
 
--- a cabinet in memory in which nothing has happened
-abbrev pub fresh_state : Catalogue → State
-fresh_state c = record { catalogue = c; opening = bare_opening 0; history = []; since = []; blobs = Some [] }
+-- a cabinet in memory with a clock, in which nothing has happened
+abbrev pub fresh_state : Catalogue → Readings → State
+fresh_state c clock = record { catalogue = c; opening = bare_opening 0; history = []; since = []; blobs = Some []; clock = clock }
 
 -- a blob has its length, which is that of its metatile
 abbrev pub IsLong : Catalogue → KeptBlob → Type 0
@@ -61,7 +63,11 @@ blobs_spared c cover blobs = filter (λ b. not (hits_of c cover b.kept.meta)) bl
 
 -- the cabinet after one more entry, with these blobs
 abbrev pub grown : State → Entry → Option (List KeptBlob) → State
-grown s e blobs = record { catalogue = s.catalogue; opening = s.opening; history = s.history ++ e ∷ []; since = s.since ++ e ∷ []; blobs = blobs }
+grown s e blobs = record { catalogue = s.catalogue; opening = s.opening; history = s.history ++ e ∷ []; since = s.since ++ e ∷ []; blobs = blobs; clock = s.clock }
+
+-- the cabinet after its clock gave a moment to the ask or force that begins there
+abbrev pub asked_at : ℕ → State → State
+asked_at n s = record { catalogue = s.catalogue; opening = s.opening; history = s.history ++ entry.At n ∷ []; since = s.since ++ entry.At n ∷ []; blobs = s.blobs; clock = read n s.clock }
 
 -- the cabinet after an entry that keeps and drops no blob
 abbrev pub with_entry : State → Entry → State
@@ -69,7 +75,7 @@ with_entry s e = grown s e s.blobs
 
 -- the cabinet after a blob is kept
 abbrev pub with_blob : State → Kept → List ℕ → State
-with_blob s t text = grown s (entry.Stored t.number t.meta t.place t.length) (option_map (blobs_with t text) s.blobs)
+with_blob s t text = grown s (stored_entry t) (option_map (blobs_with t text) s.blobs)
 
 -- the cabinet after a truncation
 abbrev pub with_cut : State → ℕ → Cover → State

@@ -6,16 +6,19 @@ ghost use Rattle.catalog.specs.Valid.{IsValid};
 ghost use Rattle.raster_field.specs.Blocks.{IsMeta, blob_size, block_text};
 ghost use Rattle.cabinet.specs.History.{bare_opening, last_number};
 
+use crate::ages::{is_within, limit_for};
 use crate::entry::Entry;
 use crate::hitting::overtake;
 use crate::replies::{Asked, CutReply, Expired, Finished, Forced};
-use crate::room::make_room;
 use crate::shelf::Shelf;
-use crate::shelving::Shelving;
+use crate::shelving::{Found, Shelving};
+use crate::turns::{Turn, taken, turn_for};
 use catalog::catalogue::Catalogue;
+use clock::clock::Clock;
+use clock::watch::Watch;
 use matrix_geometry::address::Address;
 use metatile_locks::locks::Locks;
-use metatile_locks::replies::{Begin, End};
+use metatile_locks::replies::End;
 use metatile_locks::ticket::Ticket;
 use metatile_plan::metatile::MetaKey;
 use raster_field::layout::block_of;
@@ -43,6 +46,9 @@ pub struct Cabinet {
     shelf: Shelf,
     opening: u32,
     last: u64,
+    /// The moment of the last ask or force, in seconds.
+    moment: u64,
+    watch: Watch,
     locks: Locks,
     cuts: CutList,
     past: Trace<Entry>,
@@ -56,9 +62,9 @@ impl Model for Cabinet {
 
     ghost Value = { State };
 
-    ghost view = { λ a. record { catalogue = a.shelf.catalogue; opening = bare_opening a.opening; history = a.past.entries; since = a.past.entries; blobs = Some a.shelf.blobs } };
+    ghost view = { λ a. record { catalogue = a.shelf.catalogue; opening = bare_opening a.opening; history = a.past.entries; since = a.past.entries; blobs = Some a.shelf.blobs; clock = a.watch } };
 
-    ghost invariant = { λ a. IsConsistent (record { opening = bare_opening a.opening; shelf = a.shelf; last = a.last; renders = a.locks.renders; book = a.cuts.book }) a.past.entries };
+    ghost invariant = { λ a. IsConsistent (record { opening = bare_opening a.opening; shelf = a.shelf; last = a.last; moment = a.moment; clock = a.watch; renders = a.locks.renders; book = a.cuts.book }) a.past.entries };
 }
 
 impl Cabinet {
@@ -66,12 +72,19 @@ impl Cabinet {
     ghost use Rattle.served_covers.specs.OfCatalogue.{IsCoverOf};
     ghost use Rattle.cabinet.specs.Commands.{Asks, Forces, Finishes, Abandons, Cuts, Expires, IsTrueHit, IsFreshReply};
     ghost use Rattle.cabinet.specs.Counted.{kept_in, used, used_all};
+    ghost use Rattle.cabinet.specs.History.{next};
+    ghost use Rattle.cabinet.specs.Turns.{IsFoundIn};
 
-    /// A cabinet in memory, in which nothing has happened. `AllocError` where memory runs out.
+    /// A cabinet in memory, in which nothing has happened; its asks and forces take their moments from the clock. `AllocError` where
+    /// memory runs out.
     #[tactic(auto, using(crate::proofs::Consistent::at_first))]
-    pub fn memory(alloc: Global, catalogue: Catalogue) -> Result<Cabinet, AllocError>
+    pub fn memory(
+        alloc: Global,
+        catalogue: Catalogue,
+        clock: Box<dyn Clock + Send>,
+    ) -> Result<Cabinet, AllocError>
         requires { IsValid catalogue }
-        ensures { IfOk result (λ c. c ≡ fresh_state catalogue) }
+        ensures { IfOk result (λ c. c ≡ fresh_state catalogue (readings clock)) }
     {
         let locks = Locks::new(alloc)?;
         let cuts = CutList::new(alloc)?;
@@ -80,6 +93,8 @@ impl Cabinet {
             shelf,
             opening: 0,
             last: 0,
+            moment: 0,
+            watch: Watch::new(clock),
             locks,
             cuts,
             past: Trace::new(),
@@ -101,8 +116,19 @@ impl Cabinet {
         let _ = &self.past;
     }
 
-    /// Asks for a tile. A ticket is given with all the room that `finish` needs. `AllocError` where memory runs out; all is
-    /// then as before.
+    /// The next number, while one of the opening is left.
+    fn next(&self) -> Option<u64>
+        ensures { result ≡ next self.now.opening (now self.now) }
+    {
+        if self.last >= last_number(self.opening) {
+            return None;
+        }
+        Some(self.last + 1)
+    }
+
+    /// Asks for a tile, at a moment of the clock. What is kept answers where it is within the age limit of its layer. A ticket is
+    /// given with all the room that `finish` needs. `AllocError` where memory runs out; all is then as before, and the clock
+    /// was not read.
     pub fn ask(&mut self, alloc: Global, address: &Address) -> Result<Asked, AllocError>
         requires { IsTile self.old.catalogue address.now }
         ensures asked { IfOk result (λ asked. Asks self.old address.now asked self.new) }
@@ -110,45 +136,90 @@ impl Cabinet {
         ensures fresh { IfOk result (λ asked. IsFreshReply self.old address.now asked self.new) }
         ensures err { OnErr result (self.new ≡ self.old) }
     {
-        let meta = block_of(self.shelf.catalogue(), address);
         match self.shelf.read(alloc, address)? {
-            Some(found) => {
-                self.shelf.touch(&meta);
-                self.past = self.past.and(&Entry::Used(meta));
-                return Ok(Asked::Hit(found.number, found.text));
+            Some(found) => self.ask_kept(alloc, address, found),
+            None => {
+                let meta = block_of(self.shelf.catalogue(), address);
+                match self.force(alloc, &meta)? {
+                    Forced::Ticket(ticket) => Ok(Asked::Ticket(ticket)),
+                    Forced::Busy(number) => Ok(Asked::Busy(number)),
+                    Forced::Spent => Ok(Asked::Spent),
+                }
             }
-            None => {}
         }
-        match self.force(alloc, &meta)? {
+    }
+
+    /// Asks for a tile whose metatile is kept, with this part of it.
+    fn ask_kept(
+        &mut self,
+        alloc: Global,
+        address: &Address,
+        found: Found,
+    ) -> Result<Asked, AllocError>
+        requires tile { IsTile self.old.catalogue address.now }
+        requires found { IsFoundIn self.old address.now found }
+        ensures asked { IfOk result (λ asked. Asks self.old address.now asked self.new) }
+        ensures sound { IfOk result (λ asked. IsSound self.old → IsTrueHit self.old.catalogue address.now asked) }
+        ensures err { OnErr result (self.new ≡ self.old) }
+    {
+        let meta = block_of(self.shelf.catalogue(), address);
+        let limit = limit_for(self.shelf.catalogue(), address);
+        let turn = match limit {
+            None => None,
+            Some(_) => Some(turn_for(
+                alloc,
+                &mut self.shelf,
+                &mut self.locks,
+                &meta,
+                self.next(),
+            )?),
+        };
+        self.moment = self.watch.now();
+        self.past = self.past.and(&Entry::At(self.moment));
+        if is_within(limit, found.moment, self.moment) {
+            self.shelf.touch(&meta);
+            self.past = self.past.and(&Entry::Used(meta));
+            return Ok(Asked::Hit(found.number, found.text));
+        }
+        let Some(turn) = turn else { unreachable!() };
+        match taken(
+            &meta,
+            self.moment,
+            turn,
+            &mut self.locks,
+            &mut self.last,
+            &mut self.past,
+        ) {
             Forced::Ticket(ticket) => Ok(Asked::Ticket(ticket)),
             Forced::Busy(number) => Ok(Asked::Busy(number)),
             Forced::Spent => Ok(Asked::Spent),
         }
     }
 
-    /// Asks for a render of a metatile, whether it is kept or not. What is kept stays until the render is kept.
-    /// `AllocError` where memory runs out; all is then as before.
+    /// Asks for a render of a metatile, whether it is kept or not, at a moment of the clock. What is kept stays until the render
+    /// is kept. `AllocError` where memory runs out; all is then as before, and the clock was not read.
     pub fn force(&mut self, alloc: Global, meta: &MetaKey) -> Result<Forced, AllocError>
         requires { IsMeta self.old.catalogue meta.now }
         ensures forced { IfOk result (λ forced. Forces self.old meta.now forced self.new) }
         ensures err { OnErr result (self.new ≡ self.old) }
     {
-        match self.locks.running_for(meta) {
-            Some(number) => return Ok(Forced::Busy(number)),
-            None => {}
-        }
-        if self.last >= last_number(self.opening) {
-            return Ok(Forced::Spent);
-        }
-        make_room(alloc, &mut self.shelf, &mut self.locks)?;
-        let number = self.last + 1;
-        let ticket = match self.locks.begin(meta, number) {
-            Begin::Busy(busy) => return Ok(Forced::Busy(busy)),
-            Begin::Ticket(ticket) => ticket,
-        };
-        self.last = number;
-        self.past = self.past.and(&Entry::Started(number, *meta));
-        Ok(Forced::Ticket(ticket))
+        let turn = turn_for(
+            alloc,
+            &mut self.shelf,
+            &mut self.locks,
+            meta,
+            self.next(),
+        )?;
+        self.moment = self.watch.now();
+        self.past = self.past.and(&Entry::At(self.moment));
+        Ok(taken(
+            meta,
+            self.moment,
+            turn,
+            &mut self.locks,
+            &mut self.last,
+            &mut self.past,
+        ))
     }
 
     /// Ends a render, and keeps its blob unless a truncation overtook it, as many others are kept as may be, or no gap has
@@ -161,15 +232,15 @@ impl Cabinet {
     {
         let number = ticket.number();
         let meta = ticket.meta();
-        match self.locks.end(ticket) {
+        let moment = match self.locks.end(ticket) {
             End::Stranger => return Finished::Stranger,
             End::Overtaken(cut) => {
                 self.past = self.past.and(&Entry::Ended(number));
                 return Finished::Overtaken(cut);
             }
-            End::Whole => {}
-        }
-        match self.shelf.keep(number, meta, blob) {
+            End::Whole(moment) => moment,
+        };
+        match self.shelf.keep(number, meta, moment, blob) {
             Shelving::Full => {
                 self.past = self.past.and(&Entry::Ended(number));
                 Finished::Full
@@ -179,9 +250,14 @@ impl Cabinet {
                 Finished::NoRoom
             }
             Shelving::Kept(kept) => {
-                self.past = self
-                    .past
-                    .and(&Entry::Stored(number, meta, kept.place, kept.length));
+                self.past = self.past.and(&Entry::Stored(
+                    number,
+                    meta,
+                    kept.place,
+                    kept.length,
+                    moment,
+                    0,
+                ));
                 Finished::Kept
             }
         }
@@ -195,7 +271,7 @@ impl Cabinet {
         match self.locks.end(ticket) {
             End::Stranger => return,
             End::Overtaken(_) => {}
-            End::Whole => {}
+            End::Whole(_) => {}
         }
         self.past = self.past.and(&Entry::Ended(number));
     }

@@ -27,6 +27,8 @@ pub fn kept_in(meta: &MetaKey, blob: &Blob) -> Kept
         meta: *meta,
         place: blob.place,
         length: blob.length,
+        moment: blob.moment,
+        uses: blob.uses,
     }
 }
 
@@ -57,6 +59,8 @@ pub fn put(held: &mut Held, kept: Kept, text: Words)
         number: kept.number,
         place: kept.place,
         length: kept.length,
+        moment: kept.moment,
+        uses: kept.uses,
         text,
     };
     let _older = held.insert(kept.meta, blob).unwrap();

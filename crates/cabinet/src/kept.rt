@@ -2,7 +2,7 @@
 use exact_ratio::words::Words;
 use metatile_plan::metatile::MetaKey;
 
-/// A metatile that is kept: the number of its render, and where its blob lies.
+/// A metatile that is kept: the number of its render and when that was begun, where its blob lies, and its uses.
 #[derive(Clone, Copy, Debug, PartialEq, Eq)]
 pub struct Kept {
     pub number: u64,
@@ -11,6 +11,10 @@ pub struct Kept {
     pub place: u64,
     /// How many bytes its region has.
     pub length: u32,
+    /// When its render was begun, in seconds.
+    pub moment: u64,
+    /// The uses that count from before it was kept here.
+    pub uses: u64,
 }
 
 /// A kept metatile with its blob, as contracts see it.
@@ -20,7 +24,8 @@ pub struct KeptBlob {
     pub text: Words,
 }
 
-/// What is held of a metatile that is kept: the number of its render, its region, and its blob, which lies in memory.
+/// What is held of a metatile that is kept: the number of its render and when that was begun, its region, its uses, and its
+/// blob, which lies in memory.
 #[derive(Drop)]
 pub struct Blob {
     pub number: u64,
@@ -28,5 +33,9 @@ pub struct Blob {
     pub place: u64,
     /// How many bytes its region has.
     pub length: u32,
+    /// When its render was begun, in seconds.
+    pub moment: u64,
+    /// The uses that count from before it was kept here.
+    pub uses: u64,
     pub text: Words,
 }

@@ -19,7 +19,7 @@ ghost use Rattle.cabinet.specs.declared.replies.Finished.{Finished};
 ghost use Rattle.cabinet.specs.declared.replies.Forced.{Forced};
 ghost use Rattle.cabinet.specs.Commands.{Abandons, Asks, Cuts, Expires, Finishes, Forces, IsBusy, IsFreshForced, IsFreshReply};
 ghost use Rattle.std.specs.List.{AllByRecursion};
-ghost use Rattle.cabinet.specs.Fresh.{ApartBy, Differ, Holds, IsFresh, IsOfLength, Opens, Possible, cuts_of};
+ghost use Rattle.cabinet.specs.Fresh.{ApartBy, Differ, Holds, IsCurrent, IsFresh, IsOfLength, Opens, Possible, cuts_of, moment};
 ghost use Rattle.cabinet.specs.Gaps.{HaveRegions};
 ghost use Rattle.served_covers.specs.OfCatalogue.{IsCoverOf};
 ghost use Rattle.cabinet.specs.History.{History, Opening, bare_opening, first, kept, kept_of, render, standing, ticket_render, whole};
@@ -27,7 +27,8 @@ ghost use Rattle.cabinet.specs.State.{IsKnown, IsKnownAs, State};
 
 /// In what follows `o` is an opening, `h` what happened since, and `whole o h` the history that they make. An opening with
 /// nothing in it is one. What stands after a history agrees with the sentence on each metatile, each number and each ticket. What is kept for a
-/// tile is fresh at each place of the history, and stays so. Kept and running numbers keep to the cuts, the book answers for
+/// tile is newer than each truncation of the history that covers it, and was begun at the moment that the history tells; what is fresh
+/// stays so. Kept and running numbers keep to the cuts, the book answers for
 /// every cut that there was, and numbers differ. Each metatile is kept once, in a region of its own of the blobs' bytes, which has
 /// its blob's length; no more are kept, and no more cuts listed, than may be, and each listed cover is of the catalogue.
 pub fn laws_of_histories()
@@ -35,9 +36,10 @@ pub fn laws_of_histories()
     ensures kept_is { (c : Catalogue) (o : Opening) (h : History) (m : MetaKey) → Opens c o → kept_of m (standing c (first o) h) ≡ kept c (whole o h) m }
     ensures render_is { (c : Catalogue) (o : Opening) (h : History) (k : ℕ) → Possible c o h → find (has_number k) (standing c (first o) h).out ≡ render c (whole o h) k }
     ensures ticket_is { (c : Catalogue) (o : Opening) (h : History) (t : Ticketed) → Possible c o h → render_of t (standing c (first o) h).out ≡ ticket_render c (whole o h) t }
-    ensures running_is { (c : Catalogue) (o : Opening) (h : History) (m : MetaKey) (k : ℕ) → Possible c o h → render c (whole o h) k ≡ Some (unmarked k m) → running_for m (standing c (first o) h).out ≡ Some k }
-    ensures runs { (c : Catalogue) (o : Opening) (h : History) (m : MetaKey) (k : ℕ) → Possible c o h → running_for m (standing c (first o) h).out ≡ Some k → render c (whole o h) k ≡ Some (unmarked k m) }
-    ensures fresh { (c : Catalogue) (o : Opening) (h : History) (p : ℕ) (a : Address) (t : Kept) → IsValid c → IsTile c a → Possible c o h → kept_of (block_of c a) (standing c (first o) h) ≡ Some t → IsFresh c (whole o h) p a t.number }
+    ensures running_is { (c : Catalogue) (o : Opening) (h : History) (m : MetaKey) (k n : ℕ) → Possible c o h → render c (whole o h) k ≡ Some (unmarked k m n) → running_for m (standing c (first o) h).out ≡ Some k }
+    ensures runs { (c : Catalogue) (o : Opening) (h : History) (m : MetaKey) (k : ℕ) → Possible c o h → running_for m (standing c (first o) h).out ≡ Some k → (n : ℕ) × (render c (whole o h) k ≡ Some (unmarked k m n)) }
+    ensures current { (c : Catalogue) (o : Opening) (h : History) (p : ℕ) (a : Address) (t : Kept) → IsValid c → IsTile c a → Possible c o h → kept_of (block_of c a) (standing c (first o) h) ≡ Some t → IsCurrent c (whole o h) p a t.number }
+    ensures moments { (c : Catalogue) (o : Opening) (h : History) → Possible c o h → AllByRecursion (λ t. moment (whole o h) t.number ≡ Some t.moment) (standing c (first o) h).kept }
     ensures later { (c : Catalogue) (h : History) (more : History) (p : ℕ) (a : Address) (k : ℕ) → p ≤ length h → IsFresh c h p a k → IsFresh c (h ++ more) p a k }
     ensures holds { (c : Catalogue) (o : Opening) (h : History) → Possible c o h → Holds c (cuts_of (whole o h)) (standing c (first o) h) }
     ensures answers { (c : Catalogue) (o : Opening) (h : History) (cut : Cut) → Possible c o h → Contains (cuts_of (whole o h)) cut → AnswersFor (standing c (first o) h).book cut }
@@ -60,7 +62,7 @@ pub fn laws_of_rows()
     ensures abandons { (s : State) (new : State) (t : Ticketed) → IsKnown s → Abandons s t new → IsKnownAs s new }
     ensures cuts { (s : State) (new : State) (cover : Cover) (r : CutReply) → IsKnown s → IsCoverOf s.catalogue cover → Cuts s cover r new → IsKnownAs s new }
     ensures expires { (s : State) (new : State) (r : Expired) → IsKnown s → Expires s r new → IsKnownAs s new }
-    ensures busy { (s : State) (new : State) (m : MetaKey) (k : ℕ) → IsKnown s → IsBusy s m k new → render s.catalogue s.history k ≡ Some (unmarked k m) }
+    ensures busy { (s : State) (new : State) (m : MetaKey) (k : ℕ) → IsKnown s → IsBusy s m k new → (n : ℕ) × (render s.catalogue s.history k ≡ Some (unmarked k m n)) }
     ensures asks_fresh { (s : State) (new : State) (a : Address) (r : Asked) → IsKnown s → IsTile s.catalogue a → Asks s a r new → IsFreshReply s a r new }
     ensures forces_fresh { (s : State) (new : State) (a : Address) (r : Forced) → IsKnown s → IsTile s.catalogue a → Forces s (block_of s.catalogue a) r new → IsFreshForced s a r new }
 {}

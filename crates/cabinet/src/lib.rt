@@ -9,6 +9,7 @@
 //! metatile_plan, catalog, matrix_geometry, trace, and indexmap for what is kept.
 #![tactic(auto)]
 
+mod ages;
 mod blob;
 pub mod cabinet;
 pub mod entry;
@@ -17,9 +18,9 @@ mod hitting;
 pub mod kept;
 pub mod laws;
 pub mod replies;
-mod room;
 mod shelf;
 mod shelving;
 mod sifting;
 mod store;
 mod tally;
+mod turns;

@@ -99,14 +99,14 @@ impl Shelf {
         self.tally.uses.touch(meta);
     }
 
-    /// Keeps a render in the place of its metatile's older one, if there is one, unless as many others are kept as may be, or
-    /// no gap has room for its blob. The region of the older one is still taken while the gap is looked for. It takes no
-    /// memory.
-    pub fn keep(&mut self, number: u64, meta: MetaKey, blob: Vec<u8>) -> Shelving
+    /// Keeps a render that was begun at a moment, in the place of its metatile's older one, if there is one, unless as many
+    /// others are kept as may be, or no gap has room for its blob. The region of the older one is still taken while the gap
+    /// is looked for. It takes no memory.
+    pub fn keep(&mut self, number: u64, meta: MetaKey, moment: u64, blob: Vec<u8>) -> Shelving
         requires meta { IsMeta self.old.catalogue meta }
         requires blob { length blob.items ≡ blob_size self.old.catalogue meta }
         requires room { 1 ≤ self.old.room }
-        ensures shelves { Shelves self.old (record { number = number; meta = meta }) blob.items result self.new }
+        ensures shelves { Shelves self.old (record { number = number; meta = meta }) moment blob.items result self.new }
         ensures room { self.old.room ≤ self.new.room + 1 }
     {
         if self.store.count_others(&meta) >= self.catalogue.kept_limit as usize {
@@ -121,6 +121,8 @@ impl Shelf {
             meta,
             place,
             length,
+            moment,
+            uses: 0,
         };
         self.tally.keep(self.store.kept_of(&meta), kept);
         self.store.put(kept, blob);

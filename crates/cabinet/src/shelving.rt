@@ -6,6 +6,8 @@ use crate::kept::Kept;
 pub struct Found {
     /// The number of its render.
     pub number: u64,
+    /// When that was begun, in seconds.
+    pub moment: u64,
     /// The tile's part of its blob.
     pub text: Vec<u8>,
 }

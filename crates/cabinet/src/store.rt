@@ -111,9 +111,13 @@ impl Store {
         match self.get(&meta) {
             None => Ok(None),
             Some(blob) => {
-                let number = blob.number;
+                let (number, moment) = (blob.number, blob.moment);
                 let text = tile_in(alloc, catalogue, address, blob.text.bytes())?;
-                Ok(Some(Found { number, text }))
+                Ok(Some(Found {
+                    number,
+                    moment,
+                    text,
+                }))
             }
         }
     }

@@ -1,14 +1,14 @@
 -- A request for a tile as single events: an ask or a force, the render, and the finish. What happens by chance in an
--- event, that memory runs out, and which bytes a rendering gives or that it fails, is taken as it happened, and so are the bytes of
--- a kept blob where blobs are not modelled; all else is fixed, and so is how many bytes the blob has.
+-- event, that memory runs out, which moment the clock gives, and which bytes a rendering gives or that it fails, is taken as it
+-- happened, and so are the bytes of a kept blob where blobs are not modelled; all else is fixed, and so is how many bytes the blob has.
 use Rattle.std.specs.Prelude.{ℕ, Bool, true, false, nat_le, List, length, map, Option, Some, None}
 use Rattle.std.specs.List.{range_with_len}
 use Rattle.std.specs.Option.{option_map_or}
 use Rattle.cabinet.specs.declared.entry.Entry.TheVariants as entry
 use Rattle.cabinet.specs.declared.kept.Kept.{Kept}
-use Rattle.cabinet.specs.Commands.{others, place_for, kept_at}
-use Rattle.cabinet.specs.History.{kept_of, next}
-use Rattle.cabinet.specs.State.{State, now, with_entry, with_blob, kept_text}
+use Rattle.cabinet.specs.Commands.{answering, others, place_for, kept_at}
+use Rattle.cabinet.specs.History.{next}
+use Rattle.cabinet.specs.State.{State, now, asked_at, with_entry, with_blob, kept_text}
 use Rattle.catalog.specs.declared.catalogue.Catalogue.{Catalogue}
 use Rattle.matrix_geometry.specs.declared.address.Address.{Address}
 use Rattle.metatile_locks.specs.declared.render.Render.{Render}
@@ -78,12 +78,12 @@ unless_kept s a bytes None = render_wanted s a false
 
 abbrev pub asked : State → Address → Bool → Option (ℕ → ℕ) → Stepped
 asked s a true bytes = render_wanted s a true
-asked s a false bytes = unless_kept s a bytes (kept_of (block_of s.catalogue a) (now s))
+asked s a false bytes = unless_kept s a bytes (answering s a)
 
--- with a force no kept tile is an answer; memory is left, or runs out
-abbrev pub began : State → Address → Bool → Bool → Option (ℕ → ℕ) → Stepped
-began s a force false bytes = ends s outcome.NoMemory
-began s a force true bytes = asked s a force bytes
+-- with a force no kept tile is an answer; memory is left, and the clock gives a moment, or memory runs out
+abbrev pub began : State → Address → Bool → Bool → ℕ → Option (ℕ → ℕ) → Stepped
+began s a force false n bytes = ends s outcome.NoMemory
+began s a force true n bytes = asked (asked_at n s) a force bytes
 
 -- THE END OF A RENDER
 
@@ -95,22 +95,23 @@ off s t (Some r) = with_entry s (entry.Ended t.number)
 abbrev pub abandoned : State → Ticketed → State
 abandoned s t = off s t (render_of t (now s).out)
 
-abbrev pub stored : State → Ticketed → List ℕ → Option ℕ → State
-stored s t blob None = with_entry s (entry.Ended t.number)
-stored s t blob (Some place) = with_blob s (kept_at t place (length blob)) blob
+-- a render that was begun at the moment n
+abbrev pub stored : State → Ticketed → ℕ → List ℕ → Option ℕ → State
+stored s t n blob None = with_entry s (entry.Ended t.number)
+stored s t n blob (Some place) = with_blob s (kept_at t n place (length blob)) blob
 
 -- as many others as may be are kept, or there is no place, or the blob is kept
-abbrev pub with_room : State → Ticketed → List ℕ → Bool → State
-with_room s t blob true = with_entry s (entry.Ended t.number)
-with_room s t blob false = stored s t blob (place_for s (length blob))
+abbrev pub with_room : State → Ticketed → ℕ → List ℕ → Bool → State
+with_room s t n blob true = with_entry s (entry.Ended t.number)
+with_room s t n blob false = stored s t n blob (place_for s (length blob))
 
-abbrev pub unless_overtaken : State → Ticketed → List ℕ → Option ℕ → State
-unless_overtaken s t blob (Some cut) = with_entry s (entry.Ended t.number)
-unless_overtaken s t blob None = with_room s t blob (nat_le s.catalogue.kept_limit (others s t.meta))
+abbrev pub unless_overtaken : State → Ticketed → ℕ → List ℕ → Option ℕ → State
+unless_overtaken s t n blob (Some cut) = with_entry s (entry.Ended t.number)
+unless_overtaken s t n blob None = with_room s t n blob (nat_le s.catalogue.kept_limit (others s t.meta))
 
 abbrev pub ended : State → Ticketed → List ℕ → Option Render → State
 ended s t blob None = s
-ended s t blob (Some r) = unless_overtaken s t blob r.mark
+ended s t blob (Some r) = unless_overtaken s t r.moment blob r.mark
 
 abbrev pub finished : State → Ticketed → List ℕ → State
 finished s t blob = ended s t blob (render_of t (now s).out)
@@ -129,13 +130,14 @@ abbrev pub rendered : State → Ticketed → Address → Bool → Option (ℕ �
 rendered s t a false bytes = ends (abandoned s t) outcome.NoMemory
 rendered s t a true bytes = painted s t a bytes
 
--- THE NEXT EVENT of an actor: memory is left or runs out, and a rendering gives these bytes or fails, or a kept blob has them
-abbrev pub advanced : State → Actor → Bool → Option (ℕ → ℕ) → Stepped
-advanced s Idle left bytes = goes_on s Idle
-advanced s (Waiting a force) left bytes = began s a force left bytes
-advanced s (Holding t a) left bytes = rendered s t a left bytes
-advanced s (Rendered t text tile) left bytes = ends (finished s t text) (outcome.Tile tile)
-advanced s (Failed t) left bytes = ends (abandoned s t) outcome.SourceFailed
+-- THE NEXT EVENT of an actor: memory is left or runs out, the clock gives a moment to one that asks or forces again, and a rendering
+-- gives these bytes or fails, or a kept blob has them
+abbrev pub advanced : State → Actor → Bool → ℕ → Option (ℕ → ℕ) → Stepped
+advanced s Idle left n bytes = goes_on s Idle
+advanced s (Waiting a force) left n bytes = began s a force left n bytes
+advanced s (Holding t a) left n bytes = rendered s t a left bytes
+advanced s (Rendered t text tile) left n bytes = ends (finished s t text) (outcome.Tile tile)
+advanced s (Failed t) left n bytes = ends (abandoned s t) outcome.SourceFailed
 
 -- an actor that gives up abandons its ticket
 abbrev pub given_up : State → Actor → State

@@ -23,9 +23,9 @@ one x y h = grind (arith, nat_tests)
 
 -- NUMBERS
 
-pub rise_begun : (k : ℕ) (m : MetaKey) (rs : List Render) → IsAboveAll k rs → NumbersRise rs → NumbersRise (begun k m rs)
-rise_begun k m [] a n = (tt, tt)
-rise_begun k m (r ∷ rs) a n = (all_joined (λ (x : Render). r.number < x.number) rs (unmarked k m ∷ []) n.0 (a.0, tt), rise_begun k m rs a.1 n.1)
+pub rise_begun : (k : ℕ) (m : MetaKey) (b : ℕ) (rs : List Render) → IsAboveAll k rs → NumbersRise rs → NumbersRise (begun k m b rs)
+rise_begun k m b [] a n = (tt, tt)
+rise_begun k m b (r ∷ rs) a n = (all_joined (λ (x : Render). r.number < x.number) rs (unmarked k m b ∷ []) n.0 (a.0, tt), rise_begun k m b rs a.1 n.1)
 
 pub rise_filter : (p : Render → Bool) (rs : List Render) → NumbersRise rs → NumbersRise (filter p rs)
 rise_filter p [] n = tt
@@ -35,18 +35,19 @@ rise_filter p (r ∷ rs) n = chosen (p r) (rise_filter p rs n.1)
     chosen true rest = (all_filter (λ (x : Render). r.number < x.number) p rs n.0, rest)
     chosen false rest = rest
 
--- a mark changes neither the number nor the metatile, and is never taken away
+-- a mark changes neither the number nor the metatile nor the moment, and is never taken away
 pub record IsMark (r s : Render) : Type 0 where
   pub number : s.number ≡ r.number
   pub meta : s.meta ≡ r.meta
+  pub moment : s.moment ≡ r.moment
   pub mark : s.mark ≡ None → r.mark ≡ None
 
 pub marked_is : (is_hit : MetaKey → Bool) (t : ℕ) (r : Render) → IsMark r (marked is_hit t r)
 marked_is is_hit t r = chosen (is_hit r.meta)
   where
-    chosen : (b : Bool) → IsMark r (cond b (record { number = r.number; meta = r.meta; mark = Some t }) r)
-    chosen true = record { number = refl; meta = refl; mark = λ e. absurd (cc) }
-    chosen false = record { number = refl; meta = refl; mark = λ e. e }
+    chosen : (b : Bool) → IsMark r (cond b (record { number = r.number; meta = r.meta; moment = r.moment; mark = Some t }) r)
+    chosen true = record { number = refl; meta = refl; moment = refl; mark = λ e. absurd (cc) }
+    chosen false = record { number = refl; meta = refl; moment = refl; mark = λ e. e }
 
 pub rise_overtaken : (is_hit : MetaKey → Bool) (t : ℕ) (rs : List Render) → NumbersRise rs → NumbersRise (overtaken is_hit t rs)
 rise_overtaken is_hit t [] n = tt
@@ -65,11 +66,11 @@ Differs r x = same_meta x.meta r.meta ≡ true → r.mark ≡ None → x.mark �
 runs : (m : MetaKey) (r : Render) → same_meta r.meta m ≡ true → r.mark ≡ None → runs_for m r ≡ true
 runs m r s e = rw (s, e) refl
 
-pub one_begun : (k : ℕ) (m : MetaKey) (rs : List Render) → AllByRecursion (λ r. runs_for m r ≡ false) rs → OneRuns rs → OneRuns (begun k m rs)
-one_begun k m [] a o = (tt, tt)
-one_begun k m (r ∷ rs) a o = (
-  all_joined (Differs r) rs (unmarked k m ∷ []) o.0 (λ s e f. let same = same_meta_is m r.meta s in let is = runs m r (subst (λ (x : MetaKey). same_meta r.meta x ≡ true) (sym same) (subst (λ (x : MetaKey). same_meta x r.meta ≡ true) same s)) e in let no = a.0 in absurd (cc), tt),
-  one_begun k m rs a.1 o.1,
+pub one_begun : (k : ℕ) (m : MetaKey) (b : ℕ) (rs : List Render) → AllByRecursion (λ r. runs_for m r ≡ false) rs → OneRuns rs → OneRuns (begun k m b rs)
+one_begun k m b [] a o = (tt, tt)
+one_begun k m b (r ∷ rs) a o = (
+  all_joined (Differs r) rs (unmarked k m b ∷ []) o.0 (λ s e f. let same = same_meta_is m r.meta s in let is = runs m r (subst (λ (x : MetaKey). same_meta r.meta x ≡ true) (sym same) (subst (λ (x : MetaKey). same_meta x r.meta ≡ true) same s)) e in let no = a.0 in absurd (cc), tt),
+  one_begun k m b rs a.1 o.1,
 )
 
 pub one_filter : (p : Render → Bool) (rs : List Render) → OneRuns rs → OneRuns (filter p rs)
@@ -105,17 +106,17 @@ each [] = tt
 each (r ∷ rs) = (tt, each rs)
 
 -- the render that is found is the ticket's
-pub found_is : (t : Ticketed) (rs : List Render) (r : Render) → render_of t rs ≡ Some r → render_of t rs ≡ Some record { number = t.number; meta = t.meta; mark = r.mark }
+pub found_is : (t : Ticketed) (rs : List Render) (r : Render) → render_of t rs ≡ Some r → render_of t rs ≡ Some record { number = t.number; meta = t.meta; moment = r.moment; mark = r.mark }
 found_is t rs r e =
     let p = both (r.number == t.number) (same_meta r.meta t.meta) (found (is_render_of t) (λ (x : Render). Unit {0}) rs r (each rs) e).0 in
     let n : r.number ≡ t.number = one r.number t.number p.0 in
     let k : r.meta ≡ t.meta = same_meta_is r.meta t.meta p.1 in
-    e ∙ (λ i. Some record { number = n i; meta = k i; mark = r.mark })
+    e ∙ (λ i. Some record { number = n i; meta = k i; moment = r.moment; mark = r.mark })
 
 -- what is left of a render that is found and taken off
-pub ends_at : (rs new : List Render) (t : Ticketed) (r : Render) → render_of t rs ≡ Some r → new ≡ without t.number rs → (mark : Option ℕ) → r.mark ≡ mark → Ends rs t (option_map_or (λ cut. ends.Overtaken cut) mark ends.Whole) new
-ends_at rs new t r e out (Some cut) is = (found_is t rs r e ∙ (λ i. Some record { number = t.number; meta = t.meta; mark = is i }), out)
-ends_at rs new t r e out None is = (found_is t rs r e ∙ (λ i. Some record { number = t.number; meta = t.meta; mark = is i }), out)
+pub ends_at : (rs new : List Render) (t : Ticketed) (r : Render) → render_of t rs ≡ Some r → new ≡ without t.number rs → (mark : Option ℕ) → r.mark ≡ mark → Ends rs t (option_map_or (λ cut. ends.Overtaken cut) mark (ends.Whole r.moment)) new
+ends_at rs new t r e out (Some cut) is = (r.moment, found_is t rs r e ∙ (λ i. Some record { number = t.number; meta = t.meta; moment = r.moment; mark = is i }), out)
+ends_at rs new t r e out None is = (found_is t rs r e ∙ (λ i. Some record { number = t.number; meta = t.meta; moment = r.moment; mark = is i }), out)
 
 itself : (k : ℕ) → (k == k) ≡ true
 itself k = grind (arith, nat_tests)

@@ -21,9 +21,9 @@ pub record Locked : Type 0 where
 
 -- WHICH RENDER
 
--- a render that is not overtaken
-abbrev pub unmarked : ℕ → MetaKey → Render
-unmarked k m = record { number = k; meta = m; mark = None }
+-- a render that was begun at a moment and is not overtaken
+abbrev pub unmarked : ℕ → MetaKey → ℕ → Render
+unmarked k m n = record { number = k; meta = m; moment = n; mark = None }
 
 -- the render runs for this metatile and is not overtaken
 abbrev pub runs_for : MetaKey → Render → Bool
@@ -46,8 +46,9 @@ render_of t rs = find (is_render_of t) rs
 
 -- WHAT CALLS DO
 
-abbrev pub begun : ℕ → MetaKey → List Render → List Render
-begun k m rs = rs ++ unmarked k m ∷ []
+-- one more is begun at a moment
+abbrev pub begun : ℕ → MetaKey → ℕ → List Render → List Render
+begun k m n rs = rs ++ unmarked k m n ∷ []
 
 -- the renders but the one with this number
 abbrev pub without : ℕ → List Render → List Render
@@ -67,7 +68,7 @@ IsPlanOn f grid = AllByRecursion (IsPlan f) grid.matrices
 
 -- the render is marked where the cover hits it
 abbrev pub marked : (MetaKey → Bool) → ℕ → Render → Render
-marked is_hit t r = if is_hit r.meta then record { number = r.number; meta = r.meta; mark = Some t } else r
+marked is_hit t r = if is_hit r.meta then record { number = r.number; meta = r.meta; moment = r.moment; mark = Some t } else r
 
 abbrev pub overtaken : (MetaKey → Bool) → ℕ → List Render → List Render
 overtaken is_hit t rs = map (marked is_hit t) rs

@@ -52,11 +52,12 @@ impl Locks {
         self.renders.reserve(1)
     }
 
-    /// Begins a render of a metatile under a number; `Busy` exactly where one runs that is not overtaken.
-    pub fn begin(&mut self, meta: &MetaKey, number: u64) -> Begin
+    /// Begins a render of a metatile under a number, at a moment in seconds; `Busy` exactly where one runs that is not
+    /// overtaken.
+    pub fn begin(&mut self, meta: &MetaKey, number: u64, moment: u64) -> Begin
         requires room { 0 < self.old.spare }
         requires above { IsAboveAll number self.old.renders }
-        ensures begins { Begins self.old.renders meta.now number result self.new.renders }
+        ensures begins { Begins self.old.renders meta.now number moment result self.new.renders }
         ensures room { TakesRoom result self.old.spare self.new.spare }
         ensures one_runs { OneRuns self.new.renders }
     {
@@ -67,6 +68,7 @@ impl Locks {
         self.renders.push_reserved(Render {
             number,
             meta: *meta,
+            moment,
             mark: None,
         });
         Begin::Ticket(Ticket::new(number, meta))
@@ -92,14 +94,14 @@ impl Locks {
         ensures one_runs { OneRuns self.new.renders }
     {
         let (number, meta) = ticket.spend();
-        let mark = match render_of(self.renders.as_slice(), number, &meta) {
+        let ended = match render_of(self.renders.as_slice(), number, &meta) {
             None => return End::Stranger,
-            Some(render) => render.mark,
+            Some(render) => *render,
         };
         take_off(&mut self.renders, number);
-        match mark {
+        match ended.mark {
             Some(cut) => End::Overtaken(cut),
-            None => End::Whole,
+            None => End::Whole(ended.moment),
         }
     }
 

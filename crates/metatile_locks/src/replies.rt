@@ -16,6 +16,6 @@ pub enum End {
     Stranger,
     /// The last truncation that overtook the render has this number.
     Overtaken(u64),
-    /// The render was not overtaken.
-    Whole,
+    /// The render was not overtaken, and was begun at this moment.
+    Whole(u64),
 }

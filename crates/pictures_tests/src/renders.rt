@@ -33,7 +33,7 @@ pub fn rendered<S: Source>(
     let mut raster = Raster::new(alloc, &window)?;
     let mut locks = Locks::new(alloc)?;
     locks.reserve(alloc)?;
-    let ticket = match locks.begin(meta, 1) {
+    let ticket = match locks.begin(meta, 1, 0) {
         Begin::Ticket(ticket) => ticket,
         Begin::Busy(_) => return Err("busy")?,
     };

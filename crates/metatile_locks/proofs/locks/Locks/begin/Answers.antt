@@ -9,11 +9,11 @@ invariant_of-self c =
     let rs : ◌≡◌ {A = List Render} c.self.inside.renders.items c.args.self.now.renders = ap (λ (l : Locked). l.renders) c.self.view_is in
     let none : running_for c.args.meta.now c.self.inside.renders.items ≡ None = search rules in
     rw c.push_reserved.ensures.items (
-      rise_begun c.args.number c.args.meta.now c.self.inside.renders.items (subst (IsAboveAll c.args.number) (sym rs) c.requires.above) c.self.invariant.0,
-      one_begun c.args.number c.args.meta.now c.self.inside.renders.items (none_runs c.args.meta.now c.self.inside.renders.items none) c.self.invariant.1,
+      rise_begun c.args.number c.args.meta.now c.args.moment c.self.inside.renders.items (subst (IsAboveAll c.args.number) (sym rs) c.requires.above) c.self.invariant.0,
+      one_begun c.args.number c.args.meta.now c.args.moment c.self.inside.renders.items (none_runs c.args.meta.now c.self.inside.renders.items none) c.self.invariant.1,
     )
 
 pub returns-clause-one_runs : goal.returns-clause-one_runs
 returns-clause-one_runs c =
     let none : running_for c.args.meta.now c.self.inside.renders.items ≡ None = search rules in
-    rw c.push_reserved.ensures.items (one_begun c.args.number c.args.meta.now c.self.inside.renders.items (none_runs c.args.meta.now c.self.inside.renders.items none) c.self.invariant.1)
+    rw c.push_reserved.ensures.items (one_begun c.args.number c.args.meta.now c.args.moment c.self.inside.renders.items (none_runs c.args.meta.now c.self.inside.renders.items none) c.self.invariant.1)
