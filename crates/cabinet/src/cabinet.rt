@@ -164,6 +164,7 @@ impl Cabinet {
     {
         let meta = block_of(self.shelf.catalogue(), address);
         let limit = limit_for(self.shelf.catalogue(), address);
+        let next = self.next();
         let turn = match limit {
             None => None,
             Some(_) => Some(turn_for(
@@ -171,7 +172,7 @@ impl Cabinet {
                 &mut self.shelf,
                 &mut self.locks,
                 &meta,
-                self.next(),
+                next,
             )?),
         };
         self.moment = self.clock.now();
@@ -203,13 +204,8 @@ impl Cabinet {
         ensures forced { IfOk result (λ forced. Forces self.old meta.now forced self.new) }
         ensures err { OnErr result (self.new ≡ self.old) }
     {
-        let turn = turn_for(
-            alloc,
-            &mut self.shelf,
-            &mut self.locks,
-            meta,
-            self.next(),
-        )?;
+        let next = self.next();
+        let turn = turn_for(alloc, &mut self.shelf, &mut self.locks, meta, next)?;
         self.moment = self.clock.now();
         self.past = self.past.and(&Entry::At(self.moment));
         Ok(taken(
