@@ -65,15 +65,15 @@ record AreKnown (s : Standing) (beginnings : ℕ → Beginning) : Type 0 where
   pub above : (k : ℕ) → s.front < k → (beginnings k).begun ≡ None
 
 -- the beginnings after one more entry
-abbrev then : (ℕ → Beginning) → Entry → ℕ → Beginning
-then beginnings e k = begun_after k (beginnings k) e
+abbrev going_on : (ℕ → Beginning) → Entry → ℕ → Beginning
+going_on beginnings e k = begun_after k (beginnings k) e
 
 module _ (bs : ℕ → Beginning) (e : Entry) where
-  kept_then : (ts : List Kept) → AllByRecursion (λ t. (bs t.number).begun ≡ Some t.moment) ts → AllByRecursion (λ t. (then bs e t.number).begun ≡ Some t.moment) ts
-  kept_then ts a = all_weaker (λ (t : Kept). (bs t.number).begun ≡ Some t.moment) (λ t. (then bs e t.number).begun ≡ Some t.moment) (λ t is. known_step t.number (bs t.number) e t.moment is) ts a
+  kept_then : (ts : List Kept) → AllByRecursion (λ t. (bs t.number).begun ≡ Some t.moment) ts → AllByRecursion (λ t. (going_on bs e t.number).begun ≡ Some t.moment) ts
+  kept_then ts a = all_weaker (λ (t : Kept). (bs t.number).begun ≡ Some t.moment) (λ t. (going_on bs e t.number).begun ≡ Some t.moment) (λ t is. known_step t.number (bs t.number) e t.moment is) ts a
 
-  out_then : (rs : List Render) → AllByRecursion (λ r. (bs r.number).begun ≡ Some r.moment) rs → AllByRecursion (λ r. (then bs e r.number).begun ≡ Some r.moment) rs
-  out_then rs a = all_weaker (λ (r : Render). (bs r.number).begun ≡ Some r.moment) (λ r. (then bs e r.number).begun ≡ Some r.moment) (λ r is. known_step r.number (bs r.number) e r.moment is) rs a
+  out_then : (rs : List Render) → AllByRecursion (λ r. (bs r.number).begun ≡ Some r.moment) rs → AllByRecursion (λ r. (going_on bs e r.number).begun ≡ Some r.moment) rs
+  out_then rs a = all_weaker (λ (r : Render). (bs r.number).begun ≡ Some r.moment) (λ r. (going_on bs e r.number).begun ≡ Some r.moment) (λ r is. known_step r.number (bs r.number) e r.moment is) rs a
 
 marked_known : (bs : ℕ → Beginning) (is_hit : MetaKey → Bool) (t : ℕ) (r : Render) → (bs r.number).begun ≡ Some r.moment → (bs (marked is_hit t r).number).begun ≡ Some (marked is_hit t r).moment
 marked_known bs is_hit t r is = let m = marked_is is_hit t r in ap (λ (k : ℕ). (bs k).begun) m.number ∙ is ∙ ap Some (sym m.moment)
@@ -82,13 +82,13 @@ above_stored : (bs : ℕ → Beginning) (front k n j b : ℕ) → (bs k).begun �
 above_stored bs front k n j b is above over =
     or_other (bs j).begun k j b (above j over) (λ same. let e : (bs k).begun ≡ None = subst (λ (i : ℕ). (bs i).begun ≡ None) (sym same) (above j over) in absurd (cc))
 
-known_after : (c : Catalogue) (s : Standing) (bs : ℕ → Beginning) (e : Entry) → AreKnown s bs → May c s e → AreKnown (after c s e) (then bs e)
+known_after : (c : Catalogue) (s : Standing) (bs : ℕ → Beginning) (e : Entry) → AreKnown s bs → May c s e → AreKnown (after c s e) (going_on bs e)
 known_after c s bs (entry.At n) k may = record { kept = k.kept; out = k.out; moment = λ j. refl; above = k.above }
 known_after c s bs (entry.Started i m) k may =
     let is : i ≡ s.front + 1 = may.0 in
     record {
       kept = kept_then bs (entry.Started i m) s.kept k.kept;
-      out = all_push (λ (r : Render). (then bs (entry.Started i m) r.number).begun ≡ Some r.moment) s.out (unmarked i m s.moment) (out_then bs (entry.Started i m) s.out k.out)
+      out = all_push (λ (r : Render). (going_on bs (entry.Started i m) r.number).begun ≡ Some r.moment) s.out (unmarked i m s.moment) (out_then bs (entry.Started i m) s.out k.out)
           (or_itself (bs i).begun i (bs i).moment (k.above i (omega arith)) ∙ ap Some (k.moment i));
       moment = k.moment;
       above = λ j over. or_other (bs j).begun i j (bs j).moment (k.above j (omega arith)) (λ same. absurd (omega arith));
@@ -105,10 +105,10 @@ known_after c s bs (entry.Stored i m place length n uses) k may =
     let e = entry.Stored i m place length n uses in
     let was = all_found (λ (r : Render). (bs r.number).begun ≡ Some r.moment) (is_render_of (record { number = i; meta = m })) s.out (unmarked i m n) k.out may.0 in
     record {
-      kept = all_push (λ (x : Kept). (then bs (entry.Stored i m place length n uses) x.number).begun ≡ Some x.moment) (but m s.kept) (record { number = i; meta = m; place = place; length = length; moment = n; uses = uses })
-          (all_filter (λ (x : Kept). (then bs (entry.Stored i m place length n uses) x.number).begun ≡ Some x.moment) (λ x. not (is_of m x)) s.kept (kept_then bs (entry.Stored i m place length n uses) s.kept k.kept))
+      kept = all_push (λ (x : Kept). (going_on bs (entry.Stored i m place length n uses) x.number).begun ≡ Some x.moment) (but m s.kept) (record { number = i; meta = m; place = place; length = length; moment = n; uses = uses })
+          (all_filter (λ (x : Kept). (going_on bs (entry.Stored i m place length n uses) x.number).begun ≡ Some x.moment) (λ x. not (is_of m x)) s.kept (kept_then bs (entry.Stored i m place length n uses) s.kept k.kept))
           (known_step i (bs i) (entry.Stored i m place length n uses) n was);
-      out = all_filter (λ (r : Render). (then bs (entry.Stored i m place length n uses) r.number).begun ≡ Some r.moment) (λ r. not (has_number i r)) s.out (out_then bs (entry.Stored i m place length n uses) s.out k.out);
+      out = all_filter (λ (r : Render). (going_on bs (entry.Stored i m place length n uses) r.number).begun ≡ Some r.moment) (λ r. not (has_number i r)) s.out (out_then bs (entry.Stored i m place length n uses) s.out k.out);
       moment = k.moment;
       above = λ j over. above_stored bs s.front i n j n was k.above over;
     }
@@ -128,7 +128,7 @@ known_after c s bs (entry.Dropped m) k may = record {
 
 known_on : (c : Catalogue) (s : Standing) (bs : ℕ → Beginning) (h : History) → AreKnown s bs → Follows c s h → AreKnown (standing c s h) (λ k. fold (begun_after k) (bs k) h)
 known_on c s bs [] k may = k
-known_on c s bs (e ∷ es) k may = known_on c (after c s e) (then bs e) es (known_after c s bs e k may.0) may.1
+known_on c s bs (e ∷ es) k may = known_on c (after c s e) (going_on bs e) es (known_after c s bs e k may.0) may.1
 
 -- AN OPENING
 
@@ -152,8 +152,8 @@ each_stored : (bs : ℕ → Beginning) (ts : List Kept) → AllByRecursion (λ t
 each_stored bs [] none a = tt
 each_stored bs (t ∷ ts) none a = (
   known_run t.number (begun_after t.number (bs t.number) (stored_entry t)) (map stored_entry ts) t.moment (or_itself (bs t.number).begun t.number t.moment none.0),
-  each_stored (then bs (stored_entry t)) ts
-      (all_weaker (λ (x : Kept). ((bs x.number).begun ≡ None) × (t.number ≢ x.number)) (λ x. (then bs (stored_entry t) x.number).begun ≡ None) (λ x h. or_other (bs x.number).begun t.number x.number t.moment h.0 h.1) ts
+  each_stored (going_on bs (stored_entry t)) ts
+      (all_weaker (λ (x : Kept). ((bs x.number).begun ≡ None) × (t.number ≢ x.number)) (λ x. (going_on bs (stored_entry t) x.number).begun ≡ None) (λ x h. or_other (bs x.number).begun t.number x.number t.moment h.0 h.1) ts
       (all_both (λ (x : Kept). (bs x.number).begun ≡ None) (λ x. t.number ≢ x.number) ts none.1 a.0))
       a.1,
 )
@@ -199,6 +199,6 @@ module _ (c : Catalogue) (o : Opening) (h : History) (may : Possible c o h) wher
   pub moment_given : (k : ℕ) (m : MetaKey) → k ≡ (standing c (first o) h).front + 1 → moment (whole o h ++ entry.Started k m ∷ []) k ≡ Some (standing c (first o) h).moment
   moment_given k m is =
       let none : (beginning (whole o h) k).begun ≡ None = subst (λ (b : Beginning). b.begun ≡ None) (whole_is o h k) (known.above k (omega arith)) in
-      let at : (beginning (whole o h) k).moment ≡ (standing c (first o) h).moment = subst (λ (b : Beginning). b.moment ≡ (standing c (first o) h).moment) (whole_is o h k) (known.moment k) in
+      let moment_is : (beginning (whole o h) k).moment ≡ (standing c (first o) h).moment = subst (λ (b : Beginning). b.moment ≡ (standing c (first o) h).moment) (whole_is o h k) (known.moment k) in
       let more : moment (whole o h ++ entry.Started k m ∷ []) k ≡ (begun_after k (beginning (whole o h) k) (entry.Started k m)).begun = rw fold-append refl in
-      more ∙ or_itself (beginning (whole o h) k).begun k (beginning (whole o h) k).moment none ∙ ap Some at
+      more ∙ or_itself (beginning (whole o h) k).begun k (beginning (whole o h) k).moment none ∙ ap Some moment_is
