@@ -1,9 +1,8 @@
 -- Each kept and each running render was begun at the moment that the history tells of its number.
-use Rattle.std.proofs.Common.{ℕ, ◌≡◌, ◌≢◌, ◌<◌, ◌==◌, Bool, true, false, cond, not, List, [], ◌∷◌, ◌++◌, map, fold, Option, Some, None, refl, sym, ap, subst, ◌∙◌, arith}
+use Rattle.std.proofs.Common.{ℕ, ◌≡◌, ◌≢◌, ◌+◌, ◌<◌, ◌==◌, Bool, true, false, cond, not, List, [], ◌∷◌, ◌++◌, map, fold, Option, Some, None, refl, sym, ap, subst, ◌∙◌, arith}
 use Rattle.std.specs.List.{AllByRecursion}
 use Rattle.std.specs.Option.{option_or}
 use Rattle.std.proofs.lemmas.Bool.Decides.{nat_tests}
-use Rattle.std.proofs.lemmas.Grind.{fold-append}
 use Rattle.catalog.specs.declared.catalogue.Catalogue.{Catalogue}
 use Rattle.metatile_plan.specs.declared.metatile.MetaKey.{MetaKey}
 use Rattle.truncation_list.specs.declared.book.Cut.{Cut}
@@ -17,7 +16,7 @@ use Rattle.cabinet.specs.declared.kept.Kept.{Kept}
 use Rattle.cabinet.specs.Fresh.{ApartBy, Beginning, Follows, HoldsOfKept, May, Possible, begun_after, begun_or, moment}
 use Rattle.cabinet.specs.Hits.{hits_of}
 use Rattle.cabinet.specs.History.{History, Opening, Standing, after, but, first, first_entries, is_of, standing, stored_entry, whole}
-use Rattle.cabinet.proofs.Lists.{all_both, all_found, all_push}
+use Rattle.cabinet.proofs.Lists.{all_both, all_found, all_push, fold_more}
 
 abbrev unbegun : Beginning
 unbegun = record { moment = 0; begun = None }
@@ -44,7 +43,7 @@ known_run k was (e ∷ es) n is = known_run k (begun_after k was e) es n (known_
 
 -- the moment of a render is the same in a longer history
 pub moment_longer : (h more : History) (k n : ℕ) → moment h k ≡ Some n → moment (h ++ more) k ≡ Some n
-moment_longer h more k n is = rw fold-append (known_run k (fold (begun_after k) unbegun h) more n is)
+moment_longer h more k n is = ap (λ (b : Beginning). b.begun) (fold_more (begun_after k) unbegun h more) ∙ known_run k (fold (begun_after k) unbegun h) more n is
 
 -- WHAT IS KNOWN OF BEGINNINGS
 
@@ -102,7 +101,6 @@ known_after c s bs (entry.Cut t cover) k may = record {
 }
 known_after c s bs (entry.Missed t) k may = record { kept = k.kept; out = k.out; moment = k.moment; above = λ j over. k.above j (omega arith) }
 known_after c s bs (entry.Stored i m place length n uses) k may =
-    let e = entry.Stored i m place length n uses in
     let was = all_found (λ (r : Render). (bs r.number).begun ≡ Some r.moment) (is_render_of (record { number = i; meta = m })) s.out (unmarked i m n) k.out may.0 in
     record {
       kept = all_push (λ (x : Kept). (going_on bs (entry.Stored i m place length n uses) x.number).begun ≡ Some x.moment) (but m s.kept) (record { number = i; meta = m; place = place; length = length; moment = n; uses = uses })
@@ -185,7 +183,7 @@ abbrev beginning : History → ℕ → Beginning
 beginning h k = fold (begun_after k) unbegun h
 
 whole_is : (o : Opening) (h : History) (k : ℕ) → fold (begun_after k) (fold (begun_after k) unbegun (first_entries o)) h ≡ beginning (whole o h) k
-whole_is o h k = sym (rw fold-append refl)
+whole_is o h k = sym (fold_more (begun_after k) unbegun (first_entries o) h)
 
 module _ (c : Catalogue) (o : Opening) (h : History) (may : Possible c o h) where
   known : AreKnown (standing c (first o) h) (λ k. fold (begun_after k) (fold (begun_after k) unbegun (first_entries o)) h)
@@ -200,5 +198,5 @@ module _ (c : Catalogue) (o : Opening) (h : History) (may : Possible c o h) wher
   moment_given k m is =
       let none : (beginning (whole o h) k).begun ≡ None = subst (λ (b : Beginning). b.begun ≡ None) (whole_is o h k) (known.above k (omega arith)) in
       let moment_is : (beginning (whole o h) k).moment ≡ (standing c (first o) h).moment = subst (λ (b : Beginning). b.moment ≡ (standing c (first o) h).moment) (whole_is o h k) (known.moment k) in
-      let more : moment (whole o h ++ entry.Started k m ∷ []) k ≡ (begun_after k (beginning (whole o h) k) (entry.Started k m)).begun = rw fold-append refl in
+      let more : moment (whole o h ++ entry.Started k m ∷ []) k ≡ (begun_after k (beginning (whole o h) k) (entry.Started k m)).begun = ap (λ (b : Beginning). b.begun) (fold_more (begun_after k) unbegun (whole o h) (entry.Started k m ∷ [])) in
       more ∙ or_itself (beginning (whole o h) k).begun k (beginning (whole o h) k).moment none ∙ ap Some moment_is

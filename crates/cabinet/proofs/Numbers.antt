@@ -8,7 +8,6 @@ use Rattle.catalog.specs.declared.catalogue.Catalogue.{Catalogue}
 use Rattle.metatile_plan.specs.declared.metatile.MetaKey.{MetaKey}
 use Rattle.metatile_plan.specs.Keys.{same_meta}
 use Rattle.metatile_plan.proofs.Same.{same_meta_is, same_meta_self}
-use Rattle.std.proofs.lemmas.Grind.{fold-append}
 use Rattle.truncation_list.specs.declared.book.Cut.{Cut}
 use Rattle.metatile_locks.specs.declared.render.Render.{Render}
 use Rattle.metatile_locks.specs.Running.{overtaken, marked, unmarked, without, has_number, is_render_of, running_for, runs_for, render_of, OneRuns}
@@ -19,10 +18,10 @@ use Rattle.cabinet.specs.declared.entry.Entry.{Entry}
 use Rattle.cabinet.specs.declared.entry.Entry.TheVariants as entry
 use Rattle.cabinet.specs.declared.kept.Kept.{Kept}
 use Rattle.cabinet.specs.Hits.{hits_of}
-use Rattle.cabinet.specs.History.{History, Opening, Running, Standing, after, but, first, is_of, of_meta, render, render_after, spared, standing, stored_entry, ticket_render, whole, with_render}
+use Rattle.cabinet.specs.History.{History, Opening, Running, Standing, after, but, first, first_entries, is_of, of_meta, render, render_after, spared, standing, stored_entry, ticket_render, whole, with_render}
 use Rattle.cabinet.specs.Fresh.{Follows, May, Possible, cuts_after, Holds, HoldsOfRender, HoldsOfKept, ApartBy, Differ}
 use Rattle.cabinet.proofs.Holding.{holds_step}
-use Rattle.cabinet.proofs.Lists.{all_push, all_found, all_both, either_same}
+use Rattle.cabinet.proofs.Lists.{all_push, all_found, all_both, either_same, fold_more}
 
 -- NUMBERS THAT DIFFER
 
@@ -188,7 +187,9 @@ no_first_kept c k [] = refl
 no_first_kept c k (t ∷ ts) = ap (λ (o : Option Render). fold (render_after c k) (with_render unbegun o) (map stored_entry ts)) (either_same None (t.number == k)) ∙ no_first_kept c k ts
 
 render_whole : (c : Catalogue) (o : Opening) (later : History) (k : ℕ) → render c (whole o later) k ≡ (fold (render_after c k) unbegun later).render
-render_whole c o later k = rw fold-append (ap (λ (r : Running). (fold (render_after c k) r later).render) (no_first_cut c k o.book.cuts (map stored_entry o.kept) ∙ no_first_kept c k o.kept))
+render_whole c o later k =
+    ap (λ (r : Running). r.render) (fold_more (render_after c k) unbegun (first_entries o) later)
+    ∙ ap (λ (r : Running). (fold (render_after c k) r later).render) (no_first_cut c k o.book.cuts (map stored_entry o.kept) ∙ no_first_kept c k o.kept)
 
 pub render_is : (c : Catalogue) (o : Opening) (h : History) (k : ℕ) → Possible c o h → find (has_number k) (standing c (first o) h).out ≡ render c (whole o h) k
 render_is c o h k may = ap (λ (r : Running). r.render) (render_run c o.book.cuts k (first o) h may.opens.holds may.follows) ∙ sym (render_whole c o h k)
