@@ -11,7 +11,6 @@ use Rattle.matrix_geometry.specs.declared.address.Address.{Address}
 use Rattle.raster_field.specs.Blocks.{block_of}
 use Rattle.truncation_list.specs.declared.book.Cut.{Cut}
 use Rattle.metatile_locks.proofs.Lists.{all_weaker}
-use Rattle.cabinet.specs.declared.entry.Entry.{Entry}
 use Rattle.cabinet.specs.declared.entry.Entry.TheVariants as entry
 use Rattle.cabinet.specs.declared.kept.Kept.{Kept}
 use Rattle.cabinet.specs.Commands.{is_within}
@@ -19,7 +18,7 @@ use Rattle.cabinet.specs.Hits.{hits_of}
 use Rattle.cabinet.specs.History.{History, Opening, first, kept_of, standing, whole}
 use Rattle.cabinet.specs.Fresh.{Possible, IsCurrent, IsFresh, IsNoOlder, IsNewer, HoldsOfKept, cuts_of, limit_for, moment}
 use Rattle.cabinet.proofs.Holding.{holds_of, kept_has, all_no_older}
-use Rattle.cabinet.proofs.Lists.{all_found, all_push, all_take}
+use Rattle.cabinet.proofs.Lists.{all_push, all_take}
 use Rattle.cabinet.proofs.Modelled.{if_some_so}
 use Rattle.cabinet.proofs.Moments.{moment_given, moment_longer, moments_are}
 use Rattle.cabinet.proofs.Rooted.{begins_left, begins_right, kept_begins}

@@ -162,7 +162,7 @@ render_step : (c : Catalogue) (cuts : List Cut) (k : ℕ) (s : Standing) (e : En
 render_step c cuts k s (entry.At n) h may = refl
 render_step c cuts k s (entry.Started j m) h may =
     let none : (j == k) ≡ true → find (has_number k) s.out ≡ None =
-        λ e. nowhere k s.out (all_weaker (HoldsOfRender c cuts s.front s.book.floor) (λ r. r.number ≢ k) (λ r x n. let g = x.given in let i = may.0 in let q : j ≡ k = one j k e in absurd (omega arith)) s.out h.out) in
+    λ e. nowhere k s.out (all_weaker (HoldsOfRender c cuts s.front s.book.floor) (λ r. r.number ≢ k) (λ r x n. let g = x.given in let i = may.0 in let q : j ≡ k = one j k e in absurd (omega arith)) s.out h.out) in
     let added = find-append (has_number k) s.out (unmarked j m s.moment ∷ []) ∙ begun_at k j m s.moment (find (has_number k) s.out) (j == k) (λ e. one j k e) none in
     ap (λ (o : Option Render). with_render (at_number k s) o) added
 render_step c cuts k s (entry.Cut t cover) h may = ap (λ (o : Option Render). with_render (at_number k s) o) (find_marked (hits_of c cover) t k s.out)
