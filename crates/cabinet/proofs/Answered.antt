@@ -1,6 +1,6 @@
 -- The rows of commands, from what the parts of a cabinet answer.
-use Rattle.std.proofs.Common.{ℕ, ◌≡◌, ◌≢◌, ◌+◌, ◌<◌, ◌≤◌, Bool, true, false, cond, not, List, [], ◌∷◌, ◌==◌, length, map, filter, find, fold, Option, Some, None, IsSome, inl, inr, refl, sym, ap, subst, ◌∙◌, arith, append_assoc}
-use Rattle.std.specs.Prelude.{nat_lt}
+use Rattle.std.proofs.Common.{ℕ, ◌≡◌, ◌≢◌, ◌+◌, ◌<◌, ◌≤◌, Bool, true, false, cond, not, List, [], ◌∷◌, ◌++◌, ◌==◌, length, map, filter, find, fold, Option, Some, None, IsSome, inl, inr, refl, sym, ap, subst, ◌∙◌, arith, append_assoc}
+use Rattle.std.specs.Prelude.{Err, IfOk, Ok, Result, nat_lt}
 use Rattle.std.specs.List.{AllByRecursion}
 use Rattle.std.specs.Option.{option_and_then, option_map}
 use Rattle.std.proofs.lemmas.Bool.{cases_lt}
@@ -9,6 +9,7 @@ use Rattle.std.proofs.lemmas.Grind.{fold-append}
 use Rattle.std.proofs.lemmas.List.{length-map}
 use Rattle.std.proofs.lemmas.List.Sums.{length-filter}
 use Rattle.catalog.specs.declared.catalogue.Scope.{Scope}
+use Rattle.catalog.specs.LookUp.{IsTile}
 use Rattle.expiry_policy.specs.declared.uses.Use.{Use}
 use Rattle.expiry_policy.specs.Victims.{IsVictim, victim}
 use Rattle.expiry_policy.specs.Victims as uses
@@ -29,6 +30,7 @@ use Rattle.metatile_locks.proofs.Runs.{one}
 use Rattle.cabinet.specs.declared.entry.Entry.TheVariants as entry
 use Rattle.cabinet.specs.declared.kept.Kept.{Kept}
 use Rattle.cabinet.specs.declared.kept.KeptBlob.{KeptBlob}
+use Rattle.cabinet.specs.declared.replies.Asked.{Asked}
 use Rattle.cabinet.specs.declared.replies.CutReply.TheVariants as reply
 use Rattle.cabinet.specs.declared.replies.Expired.TheVariants as expired
 use Rattle.cabinet.specs.declared.replies.Finished.TheVariants as finished
@@ -37,21 +39,21 @@ use Rattle.cabinet.specs.declared.turns.Turn.{Turn}
 use Rattle.cabinet.specs.declared.turns.Turn.TheVariants as turn
 use Rattle.cabinet.specs.declared.shelving.Found.{Found}
 use Rattle.cabinet.specs.declared.shelving.Shelving.TheVariants as shelving
-use Rattle.cabinet.specs.Commands.{Cuts, Expires, Finishes, IsForcedOf, IsHit, IsUnkept, answering, is_within, kept_at, others, place_for, where_within}
+use Rattle.cabinet.specs.Commands.{Asks, Cuts, Expires, Finishes, IsForcedOf, IsFreshReply, IsHit, IsUnkept, answering, is_within, kept_at, others, place_for, where_within}
 use Rattle.cabinet.specs.Consistent.{IsConsistent, Parts, seen}
 use Rattle.cabinet.specs.Counted.{kept_in, part_of, scope_exceeded, use_of, uses_of}
 use Rattle.cabinet.specs.Fresh.{ApartBy, limit_for}
 use Rattle.cabinet.specs.Gaps.{gap_for}
 use Rattle.cabinet.specs.History.{History, Standing, after, but, first, first_entries, is_of, kept_of, least_of, lesser, next, numbers, last_number, whole}
 use Rattle.cabinet.specs.Shelved.{Drops, Reads, Shelved, Shelves, listed, scope_above, use_on}
-use Rattle.cabinet.specs.State.{IsLong, IsPictured, IsSound, State, asked_at, blobs_with, blobs_without, now, with_blob, with_cut, with_dropped, with_entry}
+use Rattle.cabinet.specs.State.{IsLong, IsPictured, IsKnown, IsSound, State, asked_at, blobs_with, blobs_without, now, with_blob, with_cut, with_dropped, with_entry}
 use Rattle.cabinet.specs.Turns.{IsTaken, IsTurn, Progress}
 use Rattle.cabinet.proofs.Holding.{least_has, least_most}
 use Rattle.cabinet.proofs.Lists.{all_of_map, all_push, find_map}
 use Rattle.cabinet.proofs.Modelled.{some_and_made}
 use Rattle.cabinet.proofs.Once.{once}
 use Rattle.cabinet.proofs.OnShelf.{listed_filter}
-use Rattle.cabinet.proofs.Rows.{goes_kept, stood_more}
+use Rattle.cabinet.proofs.Rows.{asks_fresh, goes_kept, stood_more}
 use Rattle.raster_field.specs.TileText.{tile_text}
 
 -- THE LEAST NUMBER
@@ -287,6 +289,11 @@ below_limit count limit told off on = elim (cases_lt count limit) [
   | inl under ↦ under
   | inr over ↦ absurd (let t = on over in let f : true ≡ false = sym t ∙ off in cc)
 ]
+
+-- what an ask is answered is fresh
+pub fresh_if : {E : Type 0} (s new : State) (a : Address) (r : Result Asked E) → IsKnown s → IsTile s.catalogue a → IfOk r (λ asked. Asks s a asked new) → IfOk r (λ asked. IsFreshReply s a asked new)
+fresh_if s new a (Ok x) k tile asks = asks_fresh s new a x k tile asks
+fresh_if s new a (Err e) k tile asks = tt
 
 -- SOUND
 
