@@ -138,7 +138,7 @@ returns-in-Kept-clause-finished c =
     let t = c.in-Kept.kept in
     let new : State = record { catalogue = c.keep.new.self.catalogue; opening = bare_opening i.opening; history = c.and-self-inside-in-Kept.result.entries; since = c.and-self-inside-in-Kept.result.entries; blobs = Some c.keep.new.self.blobs; clock = i.clock } in
     let shelves = subst (λ (t : Ticketed). Shelves i.shelf t c.in-Whole.moment c.args.blob.items (shelving.Kept c.in-Kept.kept) c.keep.new.self) (λ j. record { number = c.number-number.ensures j; meta = c.meta-meta.ensures j }) c.in-Kept.ensures.shelves in
-    let told = c.and-self-inside-in-Kept.ensures ∙ (λ j. i.past.entries ++ entry.Stored (c.number-number.ensures j) (c.meta-meta.ensures j) t.place ((shelves.2 j).length) ((shelves.2 j).moment) ((shelves.2 j).uses) ∷ []) in
+    let told = c.and-self-inside-in-Kept.ensures ∙ (λ j. i.past.entries ++ entry.Stored (c.number-number.ensures j) (c.meta-meta.ensures j) t.place ((shelves.2 j).length) c.in-Whole.moment 0 ∷ []) in
     let blobs = shelves.3.blobs ∙ ap (λ (x : Kept). blobs_with x c.args.blob.items i.shelf.blobs) shelves.2 in
     subst (λ (v : State). Finishes v c.args.ticket c.args.blob.items finished.Kept new) c.self.view_is
     (kept_row p h c.self.invariant c.args.ticket c.in-Whole.moment c.args.blob.items c.in-Whole.ensures.ends.0 new c.in-Kept.kept c.keep.new.self shelves
