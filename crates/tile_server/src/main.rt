@@ -7,6 +7,7 @@
 
 mod input;
 
+use clock::system::SystemClock;
 use exact_ratio::words::Words;
 use http_wire::file_source::FileSource;
 use http_wire::inputs::{InputEnd, read_all};
@@ -123,6 +124,9 @@ fn main(rt: HostRuntime) -> ExitCode {
     let mut input = Input::Stdin(StdinSource::new(rt.stdin()));
     let mut output = StdoutSink::new(rt.stdout());
     let mut source = AnySource::open(&rt, CELLS, source);
+    let Ok(clock) = Box::new(rt.alloc(), SystemClock::new(rt)) else {
+        return ended(&rt, Status::OutOfMemory);
+    };
     let status = run_command(
         rt.alloc(),
         words.as_slice(),
@@ -131,6 +135,7 @@ fn main(rt: HostRuntime) -> ExitCode {
         &mut input,
         &mut output,
         &mut source,
+        clock,
     );
     ended(&rt, status)
 }
