@@ -17,9 +17,10 @@ use std::marker::Send;
 use std::test::Fail;
 
 /// A cabinet of the demo catalogue.
-fn new(alloc: Global, clock: Box<dyn Clock + Send>) -> Result<Cabinet, AllocError>
+fn new(alloc: Global) -> Result<Cabinet, AllocError>
     ensures { IfOk result (λ c. c.catalogue ≡ demo) }
 {
+    let clock = Clock::Listed(ListClock::new(Vec::new(alloc)));
     Cabinet::memory(alloc, Catalogue::demo(alloc)?, clock)
 }
 
@@ -93,8 +94,7 @@ fn sent<T: Send>(value: T) -> T
 #[test]
 fn a_render_is_given_up_and_the_next_one_kept(rt: HostRuntime) -> Result<(), Fail> {
     let alloc = rt.alloc();
-    let clock = Box::new(alloc, ListClock::new(Vec::new(alloc)))?;
-    let mut cabinet = sent(new(alloc, clock)?);
+    let mut cabinet = sent(new(alloc)?);
     assert_eq!(rt; asked(alloc, &mut cabinet)?, (false, 1));
     assert_eq!(rt; kept(alloc, &mut cabinet)?, Finished::Kept);
     assert_eq!(rt; asked(alloc, &mut cabinet)?, (true, 2));
@@ -104,10 +104,8 @@ fn a_render_is_given_up_and_the_next_one_kept(rt: HostRuntime) -> Result<(), Fai
 #[test]
 fn the_ticket_of_another_cabinet_is_strange(rt: HostRuntime) -> Result<(), Fail> {
     let alloc = rt.alloc();
-    let clock = Box::new(alloc, ListClock::new(Vec::new(alloc)))?;
-    let mut one = new(alloc, clock)?;
-    let clock = Box::new(alloc, ListClock::new(Vec::new(alloc)))?;
-    let mut other = new(alloc, clock)?;
+    let mut one = new(alloc)?;
+    let mut other = new(alloc)?;
     assert_eq!(rt; handed(alloc, &mut other, &mut one)?, Finished::Stranger);
     assert_eq!(rt; one.kept(), 0);
     assert_eq!(rt; kept(alloc, &mut one)?, Finished::Kept);

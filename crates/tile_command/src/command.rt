@@ -2,6 +2,7 @@
 ghost use Rattle.std.specs.Prelude.{◌≡◌, ◌↔◌, IfOk};
 ghost use Rattle.cabinet.specs.State.{fresh_state};
 ghost use Rattle.catalog.specs.Valid.{IsValid};
+ghost use Rattle.clock.specs.Readings.{readings};
 ghost use Rattle.tile_service.specs.Outside.{InputChange, Outside};
 ghost use Rattle.tile_command.specs.Command.{HasServed, status_of_drill, status_of_schedule, status_of_session};
 ghost use Rattle.command_words.specs.Words.{word_of};
@@ -70,7 +71,7 @@ fn counter_of(
     alloc: Global,
     catalogue: Catalogue,
     capabilities: Words,
-    clock: Box<dyn Clock + Send>,
+    clock: Clock,
 ) -> Result<Counter, AllocError>
     requires { IsValid catalogue }
     ensures { IfOk result (λ c. (c.cabinet ≡ fresh_state catalogue (readings clock)) × (c.capabilities ≡ capabilities)) }
@@ -95,7 +96,7 @@ pub fn run_command<S: Source, I: ByteSource, O: ByteSink>(
     input: &mut I,
     output: &mut O,
     source: &mut S,
-    clock: Box<dyn Clock + Send>,
+    clock: Clock,
 ) -> Status
     ensures usage { (result ≡ Status.Usage) ↔ (word_of words.now ≡ None) }
     ensures served { HasServed

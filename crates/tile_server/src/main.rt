@@ -7,6 +7,7 @@
 
 mod input;
 
+use clock::clock::Clock;
 use clock::system::SystemClock;
 use exact_ratio::words::Words;
 use http_wire::file_source::FileSource;
@@ -124,7 +125,7 @@ fn main(rt: HostRuntime) -> ExitCode {
     let mut input = Input::Stdin(StdinSource::new(rt.stdin()));
     let mut output = StdoutSink::new(rt.stdout());
     let mut source = AnySource::open(&rt, CELLS, source);
-    let Ok(clock) = Box::new(rt.alloc(), SystemClock::new(rt)) else {
+    let Ok(system) = Box::new(rt.alloc(), rt) else {
         return ended(&rt, Status::OutOfMemory);
     };
     let status = run_command(
@@ -135,7 +136,7 @@ fn main(rt: HostRuntime) -> ExitCode {
         &mut input,
         &mut output,
         &mut source,
-        clock,
+        Clock::System(SystemClock::new(system)),
     );
     ended(&rt, status)
 }

@@ -1,5 +1,6 @@
 //! One run of the command over memory forms, and how it differs from what is expected.
 use crate::fakes::{Fake, Fakes};
+use clock::clock::Clock;
 use clock::list::ListClock;
 use exact_ratio::words::Words;
 use http_wire::memory_sink::MemorySink;
@@ -72,7 +73,6 @@ pub fn came_to(alloc: Global, given: Given) -> io::Result<Outcome> {
         number,
         Vec::from_slice(alloc, fakes.source.fails.as_slice())?,
     );
-    let clock = Box::new(alloc, ListClock::new(moments))?;
     let status = run_command(
         alloc,
         words.as_slice(),
@@ -81,7 +81,7 @@ pub fn came_to(alloc: Global, given: Given) -> io::Result<Outcome> {
         &mut input,
         &mut output,
         &mut source,
-        clock,
+        Clock::Listed(ListClock::new(moments)),
     );
     let code = status.code();
     Ok(Outcome {
