@@ -15,7 +15,7 @@ use crate::shelving::{Found, Shelving};
 use crate::turns::{Turn, taken, turn_for};
 use catalog::catalogue::Catalogue;
 use clock::clock::Clock;
-use clock::watch::Watch;
+
 use matrix_geometry::address::Address;
 use metatile_locks::locks::Locks;
 use metatile_locks::replies::End;
@@ -48,7 +48,7 @@ pub struct Cabinet {
     last: u64,
     /// The moment of the last ask or force, in seconds.
     moment: u64,
-    watch: Watch,
+    clock: Clock,
     locks: Locks,
     cuts: CutList,
     past: Trace<Entry>,
@@ -62,9 +62,9 @@ impl Model for Cabinet {
 
     ghost Value = { State };
 
-    ghost view = { λ a. record { catalogue = a.shelf.catalogue; opening = bare_opening a.opening; history = a.past.entries; since = a.past.entries; blobs = Some a.shelf.blobs; clock = a.watch } };
+    ghost view = { λ a. record { catalogue = a.shelf.catalogue; opening = bare_opening a.opening; history = a.past.entries; since = a.past.entries; blobs = Some a.shelf.blobs; clock = a.clock } };
 
-    ghost invariant = { λ a. IsConsistent (record { opening = bare_opening a.opening; shelf = a.shelf; last = a.last; moment = a.moment; clock = a.watch; renders = a.locks.renders; book = a.cuts.book }) a.past.entries };
+    ghost invariant = { λ a. IsConsistent (record { opening = bare_opening a.opening; shelf = a.shelf; last = a.last; moment = a.moment; clock = a.clock; renders = a.locks.renders; book = a.cuts.book }) a.past.entries };
 }
 
 impl Cabinet {
@@ -81,10 +81,10 @@ impl Cabinet {
     pub fn memory(
         alloc: Global,
         catalogue: Catalogue,
-        clock: Box<dyn Clock + Send>,
+        clock: Clock,
     ) -> Result<Cabinet, AllocError>
         requires { IsValid catalogue }
-        ensures { IfOk result (λ c. c ≡ fresh_state catalogue (readings clock)) }
+        ensures { IfOk result (λ c. c ≡ fresh_state catalogue clock) }
     {
         let locks = Locks::new(alloc)?;
         let cuts = CutList::new(alloc)?;
@@ -94,7 +94,7 @@ impl Cabinet {
             opening: 0,
             last: 0,
             moment: 0,
-            watch: Watch::new(clock),
+            clock,
             locks,
             cuts,
             past: Trace::new(),
@@ -174,7 +174,7 @@ impl Cabinet {
                 self.next(),
             )?),
         };
-        self.moment = self.watch.now();
+        self.moment = self.clock.now();
         self.past = self.past.and(&Entry::At(self.moment));
         if is_within(limit, found.moment, self.moment) {
             self.shelf.touch(&meta);
@@ -210,7 +210,7 @@ impl Cabinet {
             meta,
             self.next(),
         )?;
-        self.moment = self.watch.now();
+        self.moment = self.clock.now();
         self.past = self.past.and(&Entry::At(self.moment));
         Ok(taken(
             meta,

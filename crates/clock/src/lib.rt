@@ -7,6 +7,4 @@
 #![tactic(auto)]
 
 pub mod clock;
-pub mod list;
-pub mod system;
-pub mod watch;
+mod moments;

@@ -98,8 +98,9 @@ impl Locks {
             None => return End::Stranger,
             Some(render) => *render,
         };
+        let mark = ended.mark;
         take_off(&mut self.renders, number);
-        match ended.mark {
+        match mark {
             Some(cut) => End::Overtaken(cut),
             None => End::Whole(ended.moment),
         }
