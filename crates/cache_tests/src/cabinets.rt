@@ -7,7 +7,6 @@ use cabinet::cabinet::Cabinet;
 use cabinet::replies::{Asked, Finished, Forced};
 use catalog::catalogue::Catalogue;
 use clock::clock::Clock;
-use clock::list::ListClock;
 use fixtures::tiles::corner_tile;
 use metatile_plan::metatile::MetaKey;
 use raster_field::laws::laws_of_metatiles;
@@ -20,7 +19,7 @@ use std::test::Fail;
 fn new(alloc: Global) -> Result<Cabinet, AllocError>
     ensures { IfOk result (λ c. c.catalogue ≡ demo) }
 {
-    let clock = Clock::Listed(ListClock::new(Vec::new(alloc)));
+    let clock = Clock::listed(Vec::new(alloc));
     Cabinet::memory(alloc, Catalogue::demo(alloc)?, clock)
 }
 

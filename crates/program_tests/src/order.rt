@@ -6,7 +6,6 @@ ghost use Rattle.http_wire.specs.Side.{side};
 use cabinet::cabinet::Cabinet;
 use catalog::catalogue::Catalogue;
 use clock::clock::Clock;
-use clock::list::ListClock;
 use exact_ratio::words::Words;
 use http_wire::links::Link;
 use http_wire::memory_sink::MemorySink;
@@ -60,7 +59,7 @@ impl Link for NotingLink {
 
 /// Serves these bytes as those of a connection, so many at a time, and gives the link and the end.
 fn served(alloc: Global, bytes: &[u8], piece: usize) -> Result<(NotingLink, SessionEnd), Fail> {
-    let clock = Clock::Listed(ListClock::new(Vec::new(alloc)));
+    let clock = Clock::listed(Vec::new(alloc));
     let mut counter = Counter {
         cabinet: Cabinet::memory(alloc, Catalogue::demo(alloc)?, clock)?,
         rest: RestTable::new(alloc)?,

@@ -1,6 +1,5 @@
 //! A connection that ends after each of its bytes.
 use clock::clock::Clock;
-use clock::list::ListClock;
 use exact_ratio::words::Words;
 use http_wire::memory_sink::MemorySink;
 use http_wire::memory_source::MemorySource;
@@ -39,7 +38,7 @@ fn replayed(alloc: Global, bytes: &[u8]) -> Result<(Status, Vec<u8>), Fail> {
         &mut supply(alloc, bytes)?,
         &mut output,
         &mut Numbered::new(0),
-        Clock::Listed(ListClock::new(Vec::new(alloc))),
+        Clock::listed(Vec::new(alloc)),
     );
     Ok((status, Vec::from_slice(alloc, output.taken())?))
 }

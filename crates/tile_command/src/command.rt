@@ -2,7 +2,6 @@
 ghost use Rattle.std.specs.Prelude.{◌≡◌, ◌↔◌, IfOk};
 ghost use Rattle.cabinet.specs.State.{fresh_state};
 ghost use Rattle.catalog.specs.Valid.{IsValid};
-ghost use Rattle.clock.specs.Readings.{readings};
 ghost use Rattle.tile_service.specs.Outside.{InputChange, Outside};
 ghost use Rattle.tile_command.specs.Command.{HasServed, status_of_drill, status_of_schedule, status_of_session};
 ghost use Rattle.command_words.specs.Words.{word_of};
@@ -74,7 +73,7 @@ fn counter_of(
     clock: Clock,
 ) -> Result<Counter, AllocError>
     requires { IsValid catalogue }
-    ensures { IfOk result (λ c. (c.cabinet ≡ fresh_state catalogue (readings clock)) × (c.capabilities ≡ capabilities)) }
+    ensures { IfOk result (λ c. (c.cabinet ≡ fresh_state catalogue clock) × (c.capabilities ≡ capabilities)) }
 {
     Ok(Counter {
         cabinet: Cabinet::memory(alloc, catalogue, clock)?,
@@ -106,7 +105,7 @@ pub fn run_command<S: Source, I: ByteSource, O: ByteSink>(
           lines = record { reads = record { before = I.faults input.old; after = I.faults input.new }; from = I.left input.old; to = I.left input.new };
         })
         (record { told = S.told source.old; renders = record { before = S.faults source.old; after = S.faults source.new }; writes = record { before = O.faults output.old; after = O.faults output.new }; from = O.taken output.old; to = O.taken output.new })
-        (readings clock) (capabilities.new ≡ capabilities.old) (input.new ≡ input.old) (output.new ≡ output.old) (source.new ≡ source.old) (catalogue.new ≡ catalogue.old) (word_of words.now) result }
+        clock (capabilities.new ≡ capabilities.old) (input.new ≡ input.old) (output.new ≡ output.old) (source.new ≡ source.old) (catalogue.new ≡ catalogue.old) (word_of words.now) result }
 {
     let Some(word) = word_of(words) else {
         return Status::Usage;

@@ -8,7 +8,6 @@
 mod input;
 
 use clock::clock::Clock;
-use clock::system::SystemClock;
 use exact_ratio::words::Words;
 use http_wire::file_source::FileSource;
 use http_wire::inputs::{InputEnd, read_all};
@@ -136,7 +135,7 @@ fn main(rt: HostRuntime) -> ExitCode {
         &mut input,
         &mut output,
         &mut source,
-        Clock::System(SystemClock::new(system)),
+        Clock::system(system),
     );
     ended(&rt, status)
 }

@@ -1,7 +1,6 @@
 //! One run of the command over memory forms, and how it differs from what is expected.
 use crate::fakes::{Fake, Fakes};
 use clock::clock::Clock;
-use clock::list::ListClock;
 use exact_ratio::words::Words;
 use http_wire::memory_sink::MemorySink;
 use http_wire::memory_source::MemorySource;
@@ -81,7 +80,7 @@ pub fn came_to(alloc: Global, given: Given) -> io::Result<Outcome> {
         &mut input,
         &mut output,
         &mut source,
-        Clock::Listed(ListClock::new(moments)),
+        Clock::listed(moments),
     );
     let code = status.code();
     Ok(Outcome {
