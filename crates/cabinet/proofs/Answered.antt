@@ -1,8 +1,8 @@
 -- The rows of commands, from what the parts of a cabinet answer.
-use Rattle.std.proofs.Common.{ℕ, ◌≡◌, ◌≢◌, ◌+◌, ◌<◌, ◌≤◌, Bool, true, false, cond, not, List, [], ◌∷◌, ◌==◌, length, map, filter, find, fold, Option, Some, None, IsSome, inl, inr, refl, sym, ap, subst, ◌∙◌, arith}
+use Rattle.std.proofs.Common.{ℕ, ◌≡◌, ◌≢◌, ◌+◌, ◌<◌, ◌≤◌, Bool, true, false, cond, not, List, [], ◌∷◌, ◌==◌, length, map, filter, find, fold, Option, Some, None, IsSome, inl, inr, refl, sym, ap, subst, ◌∙◌, arith, append_assoc}
 use Rattle.std.specs.Prelude.{nat_lt}
 use Rattle.std.specs.List.{AllByRecursion}
-use Rattle.std.specs.Option.{option_map}
+use Rattle.std.specs.Option.{option_and_then, option_map}
 use Rattle.std.proofs.lemmas.Bool.{cases_lt}
 use Rattle.std.proofs.lemmas.Bool.Decides.{nat_tests}
 use Rattle.std.proofs.lemmas.Grind.{fold-append}
@@ -22,7 +22,7 @@ use Rattle.truncation_list.specs.declared.book.Book.{Book}
 use Rattle.truncation_list.specs.declared.cover.Cover.{Cover}
 use Rattle.truncation_list.specs.Purge.{purged}
 use Rattle.metatile_locks.specs.declared.render.Render.{Render}
-use Rattle.metatile_locks.specs.Running.{IsLeast, has_number, render_of, unmarked}
+use Rattle.metatile_locks.specs.Running.{IsLeast, Locked, has_number, render_of, running_for, unmarked}
 use Rattle.metatile_locks.specs.Tickets.{Ticketed}
 use Rattle.metatile_locks.proofs.Lists.{all_filter, all_map, all_weaker, found}
 use Rattle.metatile_locks.proofs.Runs.{one}
@@ -33,22 +33,25 @@ use Rattle.cabinet.specs.declared.replies.CutReply.TheVariants as reply
 use Rattle.cabinet.specs.declared.replies.Expired.TheVariants as expired
 use Rattle.cabinet.specs.declared.replies.Finished.TheVariants as finished
 use Rattle.cabinet.specs.declared.replies.Forced.{Forced}
+use Rattle.cabinet.specs.declared.turns.Turn.{Turn}
+use Rattle.cabinet.specs.declared.turns.Turn.TheVariants as turn
 use Rattle.cabinet.specs.declared.shelving.Found.{Found}
 use Rattle.cabinet.specs.declared.shelving.Shelving.TheVariants as shelving
-use Rattle.cabinet.specs.Commands.{Cuts, Expires, Finishes, Forces, IsHit, kept_at, others, place_for}
+use Rattle.cabinet.specs.Commands.{Cuts, Expires, Finishes, IsForcedOf, IsHit, IsUnkept, answering, is_within, kept_at, others, place_for, where_within}
 use Rattle.cabinet.specs.Consistent.{IsConsistent, Parts, seen}
 use Rattle.cabinet.specs.Counted.{kept_in, part_of, scope_exceeded, use_of, uses_of}
-use Rattle.cabinet.specs.Fresh.{ApartBy}
+use Rattle.cabinet.specs.Fresh.{ApartBy, limit_for}
 use Rattle.cabinet.specs.Gaps.{gap_for}
-use Rattle.cabinet.specs.History.{History, Standing, but, is_of, kept_of, least_of, lesser, next, numbers, last_number, whole}
+use Rattle.cabinet.specs.History.{History, Standing, after, but, first, first_entries, is_of, kept_of, least_of, lesser, next, numbers, last_number, whole}
 use Rattle.cabinet.specs.Shelved.{Drops, Reads, Shelved, Shelves, listed, scope_above, use_on}
-use Rattle.cabinet.specs.State.{IsLong, IsPictured, IsSound, State, blobs_with, blobs_without, now, with_blob, with_cut, with_dropped, with_entry}
+use Rattle.cabinet.specs.State.{IsLong, IsPictured, IsSound, State, asked_at, blobs_with, blobs_without, now, with_blob, with_cut, with_dropped, with_entry}
+use Rattle.cabinet.specs.Turns.{IsTaken, IsTurn, Progress}
 use Rattle.cabinet.proofs.Holding.{least_has, least_most}
 use Rattle.cabinet.proofs.Lists.{all_of_map, all_push, find_map}
 use Rattle.cabinet.proofs.Modelled.{some_and_made}
 use Rattle.cabinet.proofs.Once.{once}
 use Rattle.cabinet.proofs.OnShelf.{listed_filter}
-use Rattle.cabinet.proofs.Rows.{goes_kept}
+use Rattle.cabinet.proofs.Rows.{goes_kept, stood_more}
 use Rattle.raster_field.specs.TileText.{tile_text}
 
 -- THE LEAST NUMBER
@@ -133,21 +136,37 @@ module _ (p : Parts) (h : History) (k : IsConsistent p h) where
       let f = found (λ (x : KeptBlob). is_of m x.kept) (IsLong p.shelf.catalogue) p.shelf.blobs b k.known.lengths e in
       f.1.0 ∙ f.1.1 ∙ ap (blob_size p.shelf.catalogue) (same_meta_is b.kept.meta m f.0)
 
-  pub hit_row : (a : Address) (f : Found) (new : State) → Reads p.shelf.catalogue p.shelf.blobs a (Some f) → new ≡ with_entry here (entry.Used (block_of p.shelf.catalogue a)) → IsHit here a f.number f.text.items new
-  hit_row a f new r is = record {
+  moment_is : (now here).moment ≡ p.moment
+  moment_is = ap (λ (x : Standing). x.moment) k.stands
+
+  -- what is kept answers where it is within its limit at the moment
+  answers : (a : Address) (f : Found) (limit : Option ℕ) (v : Bool) (r : Reads p.shelf.catalogue p.shelf.blobs a (Some f)) → limit ≡ limit_for p.shelf.catalogue a → is_within limit f.moment p.moment ≡ v
+      → answering here a ≡ cond v (Some r.0.kept) None
+  answers a f limit v r of told =
+      let kept : kept_of (block_of p.shelf.catalogue a) (now here) ≡ Some r.0.kept = listed_of (block_of p.shelf.catalogue a) (Some r.0) r.1 in
+      let within : is_within (limit_for p.shelf.catalogue a) r.0.kept.moment (now here).moment ≡ v = (λ i. is_within (sym of i) (sym r.3 i) (moment_is i)) ∙ told in
+      ap (option_and_then (where_within (limit_for p.shelf.catalogue a) (now here).moment)) kept ∙ ap (λ (w : Bool). cond w (Some r.0.kept) None) within
+
+  pub hit_row : (a : Address) (f : Found) (limit : Option ℕ) (new : State) → Reads p.shelf.catalogue p.shelf.blobs a (Some f) → limit ≡ limit_for p.shelf.catalogue a → is_within limit f.moment p.moment ≡ true
+      → new ≡ with_entry here (entry.Used (block_of p.shelf.catalogue a)) → IsHit here a f.number f.text.items new
+  hit_row a f limit new r of told is = record {
     kept = r.0.kept;
-    is_kept = listed_of (block_of p.shelf.catalogue a) (Some r.0) r.1;
+    is_kept = answers a f limit true r of told;
     number = r.2;
     blob = r.0.text;
     long = long_text (block_of p.shelf.catalogue a) r.0 r.1;
     told = rw r.1 refl;
-    part = r.3;
+    part = r.4;
     state = is;
   }
 
+  -- and doesn't where it is older
+  pub older_unkept : (a : Address) (f : Found) (limit : Option ℕ) → Reads p.shelf.catalogue p.shelf.blobs a (Some f) → limit ≡ limit_for p.shelf.catalogue a → is_within limit f.moment p.moment ≡ false → IsUnkept here a
+  older_unkept a f limit r of told = answers a f limit false r of told
+
   -- what is read of a sound cabinet is the encoded tile
   pub hit_sound : (a : Address) (f : Found) → Reads p.shelf.catalogue p.shelf.blobs a (Some f) → IsSound here → f.text.items ≡ tile_text p.shelf.catalogue f.number a
-  hit_sound a f r sound = r.4 f.number (found_text (block_of p.shelf.catalogue a) r.0 r.1 sound ∙ ap (λ (k : ℕ). block_text p.shelf.catalogue k (block_of p.shelf.catalogue a)) (sym r.2))
+  hit_sound a f r sound = r.5 f.number (found_text (block_of p.shelf.catalogue a) r.0 r.1 sound ∙ ap (λ (k : ℕ). block_text p.shelf.catalogue k (block_of p.shelf.catalogue a)) (sym r.2))
 
   -- WHAT IS TOLD
 
@@ -160,17 +179,45 @@ module _ (p : Parts) (h : History) (k : IsConsistent p h) where
 
   -- MISSES
 
-  -- nothing is kept of the tile's metatile, and what its force came to is what the ask comes to
-  pub miss_row : (v : State) (a : Address) (m : MetaKey) (came told : Forced) (t : State) → here ≡ v → m ≡ block_of p.shelf.catalogue a → Reads p.shelf.catalogue p.shelf.blobs a None → came ≡ told → Forces v m came t
-      → (kept_of (block_of v.catalogue a) (now v) ≡ None) × Forces v (block_of v.catalogue a) told t
-  miss_row v a m came told t e is none same forces =
-      let unkept : kept_of (block_of p.shelf.catalogue a) (now here) ≡ None = listed_of (block_of p.shelf.catalogue a) None none in
-      let block : m ≡ block_of v.catalogue a = is ∙ ap (λ (x : State). block_of x.catalogue a) e in
-      (subst (λ (x : State). kept_of (block_of x.catalogue a) (now x) ≡ None) e unkept, subst (λ (x : MetaKey). Forces v x told t) block (subst (λ (x : Forced). Forces v m x t) same forces))
+  -- where nothing is kept of the tile's metatile, nothing answers at any moment
+  pub none_unkept : (a : Address) (n : ℕ) → Reads p.shelf.catalogue p.shelf.blobs a None → IsUnkept (asked_at n here) a
+  none_unkept a n none =
+      let then : now (asked_at n here) ≡ after p.shelf.catalogue (now here) (entry.At n) = stood_more p.shelf.catalogue (first p.opening) h (entry.At n) in
+      let kept : kept_of (block_of p.shelf.catalogue a) (now (asked_at n here)) ≡ None = ap (kept_of (block_of p.shelf.catalogue a)) then ∙ listed_of (block_of p.shelf.catalogue a) None none in
+      ap (option_and_then (where_within (limit_for p.shelf.catalogue a) (now (asked_at n here)).moment)) kept
+
+  -- TURNS
+
+  module _ (m : MetaKey) (next' : Option ℕ) (locks : Locked) (same : locks.renders ≡ p.renders) (from : next' ≡ next p.opening (now here)) where
+    running_is : (o : Option ℕ) → running_for m locks.renders ≡ o → running_for m (now here).out ≡ o
+    running_is o e = ap (running_for m) (sym (same ∙ out_are)) ∙ e
+
+    -- what a turn comes to when it is taken
+    pub taken_row : (came : Turn) (reply : Forced) (new : Progress) (t : State) → IsTurn m next' locks p.shelf came → IsTaken m p.moment (record { renders = locks.renders; last = p.last; past = h }) came reply new
+        → t ≡ record { catalogue = p.shelf.catalogue; opening = p.opening; history = whole p.opening new.past; since = new.past; blobs = Some p.shelf.blobs; clock = p.clock } → IsForcedOf here m reply t
+    taken_row (turn.Busy j) reply new t turns x e = subst (λ (r : Forced). IsForcedOf here m r t) (sym x.0) (
+      running_is (Some j) turns,
+      e ∙ (λ i. record { catalogue = p.shelf.catalogue; opening = p.opening; history = whole p.opening (x.1 i).past; since = (x.1 i).past; blobs = Some p.shelf.blobs; clock = p.clock }),
+    )
+    taken_row turn.Spent reply new t turns x e = subst (λ (r : Forced). IsForcedOf here m r t) (sym x.0) (
+      running_is None turns.0,
+      sym from ∙ turns.1,
+      e ∙ (λ i. record { catalogue = p.shelf.catalogue; opening = p.opening; history = whole p.opening (x.1 i).past; since = (x.1 i).past; blobs = Some p.shelf.blobs; clock = p.clock }),
+    )
+    taken_row (turn.Given j) reply new t turns x e =
+        let past : new.past ≡ h ++ entry.Started j m ∷ [] = ap (λ (w : Progress). w.past) x.1 in
+        let all : whole p.opening new.past ≡ whole p.opening h ++ entry.Started j m ∷ [] = ap (whole p.opening) past ∙ sym (append_assoc (first_entries p.opening) h (entry.Started j m ∷ [])) in
+        subst (λ (r : Forced). IsForcedOf here m r t) (sym x.0)
+        (record {
+          none_runs = running_is None turns.0;
+          number = sym from ∙ turns.1;
+          meta = refl;
+          state = e ∙ (λ i. record { catalogue = p.shelf.catalogue; opening = p.opening; history = all i; since = past i; blobs = Some p.shelf.blobs; clock = p.clock });
+        })
 
   -- FINISHES
 
-  runs_are : (t : Ticketed) (r : Render) → render_of t p.renders ≡ Some r → render_of t (now here).out ≡ Some r
+  pub runs_are : (t : Ticketed) (r : Render) → render_of t p.renders ≡ Some r → render_of t (now here).out ≡ Some r
   runs_are t r e = ap (render_of t) (sym out_are) ∙ e
 
   others_are : (m : MetaKey) → length (but m (listed p.shelf.blobs)) ≡ others here m
@@ -179,16 +226,16 @@ module _ (p : Parts) (h : History) (k : IsConsistent p h) where
   place_is : (bytes : ℕ) (o : Option ℕ) → gap_for p.shelf.catalogue (listed p.shelf.blobs) bytes ≡ o → place_for here bytes ≡ o
   place_is bytes o e = ap (λ (ts : List Kept). gap_for p.shelf.catalogue ts bytes) (sym kept_are) ∙ e
 
-  module _ (t : Ticketed) (blob : List ℕ) (runs : render_of t p.renders ≡ Some (unmarked t.number t.meta)) (new : State) where
-    pub full_row : (shelf' : Shelved) → Shelves p.shelf t blob shelving.Full shelf' → new ≡ with_entry here (entry.Ended t.number) → Finishes here t blob finished.Full new
-    full_row shelf' x is = (runs_are t (unmarked t.number t.meta) runs, subst (λ (n : ℕ). p.shelf.catalogue.kept_limit ≤ n) (others_are t.meta) x.0, is)
+  module _ (t : Ticketed) (n : ℕ) (blob : List ℕ) (runs : render_of t p.renders ≡ Some (unmarked t.number t.meta n)) (new : State) where
+    pub full_row : (shelf' : Shelved) → Shelves p.shelf t n blob shelving.Full shelf' → new ≡ with_entry here (entry.Ended t.number) → Finishes here t blob finished.Full new
+    full_row shelf' x is = (n, runs_are t (unmarked t.number t.meta n) runs, subst (λ (l : ℕ). p.shelf.catalogue.kept_limit ≤ l) (others_are t.meta) x.0, is)
 
-    pub no_room_row : (shelf' : Shelved) → Shelves p.shelf t blob shelving.NoRoom shelf' → new ≡ with_entry here (entry.Ended t.number) → Finishes here t blob finished.NoRoom new
-    no_room_row shelf' x is = (runs_are t (unmarked t.number t.meta) runs, subst (λ (n : ℕ). n < p.shelf.catalogue.kept_limit) (others_are t.meta) x.0, place_is (length blob) None x.1, is)
+    pub no_room_row : (shelf' : Shelved) → Shelves p.shelf t n blob shelving.NoRoom shelf' → new ≡ with_entry here (entry.Ended t.number) → Finishes here t blob finished.NoRoom new
+    no_room_row shelf' x is = (n, runs_are t (unmarked t.number t.meta n) runs, subst (λ (l : ℕ). l < p.shelf.catalogue.kept_limit) (others_are t.meta) x.0, place_is (length blob) None x.1, is)
 
-    pub kept_row : (kept : Kept) (shelf' : Shelved) → Shelves p.shelf t blob (shelving.Kept kept) shelf' → new ≡ with_blob here (kept_at t kept.place (length blob)) blob → Finishes here t blob finished.Kept new
+    pub kept_row : (kept : Kept) (shelf' : Shelved) → Shelves p.shelf t n blob (shelving.Kept kept) shelf' → new ≡ with_blob here (kept_at t n kept.place (length blob)) blob → Finishes here t blob finished.Kept new
     kept_row kept shelf' x is =
-        (runs_are t (unmarked t.number t.meta) runs, subst (λ (n : ℕ). n < p.shelf.catalogue.kept_limit) (others_are t.meta) x.0, (kept.place, place_is (length blob) (Some kept.place) x.1, is))
+        (n, runs_are t (unmarked t.number t.meta n) runs, subst (λ (l : ℕ). l < p.shelf.catalogue.kept_limit) (others_are t.meta) x.0, (kept.place, place_is (length blob) (Some kept.place) x.1, is))
 
   -- CUTS
 

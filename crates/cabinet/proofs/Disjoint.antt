@@ -121,12 +121,13 @@ stored c kept t h some gap =
     }
 
 regions_after : (c : Catalogue) (s : Standing) (e : Entry) → IsValid c → Rooted (λ k m. IsMeta c m) s → May c s e → HaveRegions c.blob_bytes s.kept → HaveRegions c.blob_bytes (after c s e).kept
+regions_after c s (entry.At n) valid r may h = h
 regions_after c s (entry.Started k m) valid r may h = h
 regions_after c s (entry.Cut t cover) valid r may h = fewer c.blob_bytes (λ x. not (hits_of c cover x.meta)) s.kept h
 regions_after c s (entry.Missed t) valid r may h = h
-regions_after c s (entry.Stored k m place length) valid r may h =
-    let meta = all_found (λ (x : Render). IsMeta c x.meta) (is_render_of (record { number = k; meta = m })) s.out (unmarked k m) r.out may.0 in
-    stored c s.kept (record { number = k; meta = m; place = place; length = length }) h (subst (λ (n : ℕ). 1 ≤ n) (sym may.1) (blob_some c m valid meta)) may.2
+regions_after c s (entry.Stored k m place length n uses) valid r may h =
+    let meta = all_found (λ (x : Render). IsMeta c x.meta) (is_render_of (record { number = k; meta = m })) s.out (unmarked k m n) r.out may.0 in
+    stored c s.kept (record { number = k; meta = m; place = place; length = length; moment = n; uses = uses }) h (subst (λ (n : ℕ). 1 ≤ n) (sym may.1) (blob_some c m valid meta)) may.2
 regions_after c s (entry.Ended k) valid r may h = h
 regions_after c s (entry.Used m) valid r may h = h
 regions_after c s (entry.Dropped m) valid r may h = fewer c.blob_bytes (λ x. not (is_of m x)) s.kept h

@@ -27,7 +27,7 @@ use Rattle.cabinet.specs.declared.entry.Entry.{Entry}
 use Rattle.cabinet.specs.declared.entry.Entry.TheVariants as entry
 use Rattle.cabinet.specs.declared.kept.Kept.{Kept}
 use Rattle.cabinet.specs.Hits.{hits_of}
-use Rattle.cabinet.specs.History.{History, Opening, Standing, after, bare_opening, but, first, is_of, kept_of, least_of, lesser, numbers, standing, whole}
+use Rattle.cabinet.specs.History.{History, Opening, Standing, after, bare_opening, but, first, is_of, kept_of, least_of, lesser, numbers, standing, stored_entry, whole}
 use Rattle.cabinet.specs.Fresh.{Follows, May, Possible, cuts_after, cuts_of, IsNewer, HoldsOfKept, HoldsOfRender, Holds, IsNoOlder, Opens}
 use Rattle.cabinet.proofs.Hits.{covered_hit}
 use Rattle.cabinet.proofs.Lists.{all_push, all_left, all_right, all_found, all_contained, all_both, all_of_map}
@@ -54,8 +54,9 @@ out_higher c cuts front more floor le r h = record { given = let g = h.given in 
 given_higher : (front more : ℕ) → front ≤ more → (k : Cut) → k.number ≤ front → k.number ≤ more
 given_higher front more le k h = omega arith
 
-higher : (c : Catalogue) (cuts : List Cut) (s : Standing) (more : ℕ) → s.front ≤ more → Holds c cuts s → Holds c cuts (record { front = more; kept = s.kept; out = s.out; book = s.book })
-higher c cuts s more le h = record {
+-- what is said of a standing doesn't speak of its moment
+higher : (c : Catalogue) (cuts : List Cut) (s : Standing) (more n : ℕ) → s.front ≤ more → Holds c cuts s → Holds c cuts (record { front = more; moment = n; kept = s.kept; out = s.out; book = s.book })
+higher c cuts s more n le h = record {
   given = all_weaker (λ (k : Cut). k.number ≤ s.front) (λ k. k.number ≤ more) (given_higher s.front more le) cuts h.given;
   floor_given = let g = h.floor_given in omega arith;
   listed = h.listed;
@@ -73,7 +74,7 @@ newest c m n cuts a = all_weaker (λ (k : Cut). k.number < n) (λ k. IsTrue (hit
 started : (c : Catalogue) (cuts : List Cut) (s : Standing) (k : ℕ) (m : MetaKey) → Holds c cuts s → k ≡ s.front + 1 → Holds c cuts (after c s (entry.Started k m))
 started c cuts s k m h is =
     let le : s.front ≤ max s.front k = omega arith in
-    let u = higher c cuts s (max s.front k) le h in
+    let u = higher c cuts s (max s.front k) s.moment le h in
     let f = h.floor_given in
     record {
       given = u.given;
@@ -82,7 +83,7 @@ started c cuts s k m h is =
       order = h.order;
       answers = h.answers;
       kept = u.kept;
-      out = all_push (HoldsOfRender c cuts (max s.front k) s.book.floor) s.out (unmarked k m) u.out (record {
+      out = all_push (HoldsOfRender c cuts (max s.front k) s.book.floor) s.out (unmarked k m s.moment) u.out (record {
         given = omega arith;
         above_floor = omega arith;
         newer = λ _. newest c m k cuts (all_weaker (λ (x : Cut). x.number ≤ s.front) (λ x. x.number < k) (λ x l. omega arith) cuts h.given);
@@ -144,7 +145,7 @@ kept_spared c cuts front more floor floor' t cover le x miss h = record {
 }
 
 out_marked_at : (c : Catalogue) (cuts : List Cut) (front more floor floor' t : ℕ) (cover : Cover) → front ≤ more → (r : Render) (v : Bool) → hits_of c cover r.meta ≡ v → HoldsOfRender c cuts front floor r × (floor' < r.number)
-    → HoldsOfRender c (cuts ++ record { number = t; cover = cover } ∷ []) more floor' (cond v (record { number = r.number; meta = r.meta; mark = Some t }) r)
+    → HoldsOfRender c (cuts ++ record { number = t; cover = cover } ∷ []) more floor' (cond v (record { number = r.number; meta = r.meta; moment = r.moment; mark = Some t }) r)
 out_marked_at c cuts front more floor floor' t cover le r true e h = record { given = let g = h.0.given in omega arith; above_floor = h.1; newer = λ none. absurd (cc) }
 out_marked_at c cuts front more floor floor' t cover le r false e h = record {
   given = let g = h.0.given in omega arith;
@@ -207,16 +208,18 @@ out_without c cuts front floor k out a = all_filter (HoldsOfRender c cuts front 
 kept_but : (c : Catalogue) (cuts : List Cut) (front floor : ℕ) (m : MetaKey) (kept : List Kept) → AllByRecursion (HoldsOfKept c cuts front floor) kept → AllByRecursion (HoldsOfKept c cuts front floor) (but m kept)
 kept_but c cuts front floor m kept a = all_filter (HoldsOfKept c cuts front floor) (λ t. not (is_of m t)) kept a
 
-stored : (c : Catalogue) (cuts : List Cut) (s : Standing) (k : ℕ) (m : MetaKey) (place length : ℕ) → Holds c cuts s → render_of (record { number = k; meta = m }) s.out ≡ Some (unmarked k m) → Holds c cuts (after c s (entry.Stored k m place length))
-stored c cuts s k m place length h was =
-    let r = all_found (HoldsOfRender c cuts s.front s.book.floor) (is_render_of (record { number = k; meta = m })) s.out (unmarked k m) h.out was in
+stored : (c : Catalogue) (cuts : List Cut) (s : Standing) (k : ℕ) (m : MetaKey) (place length n uses : ℕ) → Holds c cuts s → render_of (record { number = k; meta = m }) s.out ≡ Some (unmarked k m n)
+    → Holds c cuts (after c s (entry.Stored k m place length n uses))
+stored c cuts s k m place length n uses h was =
+    let r = all_found (HoldsOfRender c cuts s.front s.book.floor) (is_render_of (record { number = k; meta = m })) s.out (unmarked k m n) h.out was in
     record {
       given = h.given;
       floor_given = h.floor_given;
       listed = h.listed;
       order = h.order;
       answers = h.answers;
-      kept = all_push (HoldsOfKept c cuts s.front s.book.floor) (but m s.kept) (record { number = k; meta = m; place = place; length = length }) (kept_but c cuts s.front s.book.floor m s.kept h.kept) (record { given = r.given; above_floor = r.above_floor; newer = r.newer refl });
+      kept = all_push (HoldsOfKept c cuts s.front s.book.floor) (but m s.kept) (record { number = k; meta = m; place = place; length = length; moment = n; uses = uses }) (kept_but c cuts s.front s.book.floor m s.kept h.kept)
+          (record { given = r.given; above_floor = r.above_floor; newer = r.newer refl });
       out = out_without c cuts s.front s.book.floor k s.out h.out;
     }
 
@@ -234,10 +237,11 @@ bare_opens c e = record { holds = holds_bare c e; numbers = tt; once = tt; metas
 -- HISTORIES
 
 pub holds_step : (c : Catalogue) (cuts : List Cut) (s : Standing) (e : Entry) → Holds c cuts s → May c s e → Holds c (cuts_after cuts e) (after c s e)
+holds_step c cuts s (entry.At n) h may = higher c cuts s s.front n (omega arith) h
 holds_step c cuts s (entry.Started k m) h may = started c cuts s k m h may.0
 holds_step c cuts s (entry.Cut t cover) h may = cut c cuts s t cover h may.0 may.1.reach
-holds_step c cuts s (entry.Missed t) h may = higher c cuts s (max s.front t) (omega arith) h
-holds_step c cuts s (entry.Stored k m place length) h may = stored c cuts s k m place length h may.0
+holds_step c cuts s (entry.Missed t) h may = higher c cuts s (max s.front t) s.moment (omega arith) h
+holds_step c cuts s (entry.Stored k m place length n uses) h may = stored c cuts s k m place length n uses h may.0
 holds_step c cuts s (entry.Ended k) h may = ended c cuts s k h
 holds_step c cuts s (entry.Used m) h may = h
 holds_step c cuts s (entry.Dropped m) h may = dropped c cuts s m h
@@ -251,12 +255,12 @@ cuts_run : (before ks : List Cut) (more : History) → fold cuts_after before (m
 cuts_run before [] more = ap (λ (ks : List Cut). fold cuts_after ks more) (sym (append-nil before))
 cuts_run before (k ∷ ks) more = cuts_run (before ++ k ∷ []) ks more ∙ ap (λ (js : List Cut). fold cuts_after js more) (append_assoc before (k ∷ []) ks)
 
-no_cuts : (before : List Cut) (ts : List Kept) → fold cuts_after before (map (λ t. entry.Stored t.number t.meta t.place t.length) ts) ≡ before
+no_cuts : (before : List Cut) (ts : List Kept) → fold cuts_after before (map stored_entry ts) ≡ before
 no_cuts before [] = refl
 no_cuts before (t ∷ ts) = no_cuts before ts
 
 cuts_whole : (o : Opening) (later : History) → cuts_of (whole o later) ≡ fold cuts_after o.book.cuts later
-cuts_whole o later = rw fold-append (ap (λ (ks : List Cut). fold cuts_after ks later) (cuts_run [] o.book.cuts (map (λ t. entry.Stored t.number t.meta t.place t.length) o.kept) ∙ no_cuts o.book.cuts o.kept))
+cuts_whole o later = rw fold-append (ap (λ (ks : List Cut). fold cuts_after ks later) (cuts_run [] o.book.cuts (map stored_entry o.kept) ∙ no_cuts o.book.cuts o.kept))
 
 pub holds_of : (c : Catalogue) (o : Opening) (later : History) → Possible c o later → Holds c (cuts_of (whole o later)) (standing c (first o) later)
 holds_of c o later may =
@@ -270,19 +274,21 @@ kept_has P m s t a e = let f = found (is_of m) P s.kept t a e in (f.1, same_meta
 
 -- an entry that is a cut has it
 abbrev pub IfCut : (Cut → Type 0) → Entry → Type 0
+IfCut P (entry.At n) = Unit {0}
 IfCut P (entry.Started j n) = Unit {0}
 IfCut P (entry.Cut t cover) = P (record { number = t; cover = cover })
 IfCut P (entry.Missed t) = Unit {0}
-IfCut P (entry.Stored j n place length) = Unit {0}
+IfCut P (entry.Stored j n place length b uses) = Unit {0}
 IfCut P (entry.Ended j) = Unit {0}
 IfCut P (entry.Used n) = Unit {0}
 IfCut P (entry.Dropped n) = Unit {0}
 
 cuts_before : (P : Cut → Type 0) (cuts : List Cut) (e : Entry) → AllByRecursion P (cuts_after cuts e) → AllByRecursion P cuts × IfCut P e
+cuts_before P cuts (entry.At n) a = (a, tt)
 cuts_before P cuts (entry.Started j n) a = (a, tt)
 cuts_before P cuts (entry.Cut t cover) a = (all_left P cuts (record { number = t; cover = cover } ∷ []) a, (all_right P cuts (record { number = t; cover = cover } ∷ []) a).0)
 cuts_before P cuts (entry.Missed t) a = (a, tt)
-cuts_before P cuts (entry.Stored j n place length) a = (a, tt)
+cuts_before P cuts (entry.Stored j n place length b uses) a = (a, tt)
 cuts_before P cuts (entry.Ended j) a = (a, tt)
 cuts_before P cuts (entry.Used n) a = (a, tt)
 cuts_before P cuts (entry.Dropped n) a = (a, tt)
@@ -292,10 +298,11 @@ cuts_both P cuts [] a = (a, tt)
 cuts_both P cuts (e ∷ es) a = let r = cuts_both P (cuts_after cuts e) es a in let x = cuts_before P cuts e r.0 in (x.0, (x.1, r.1))
 
 no_older : (c : Catalogue) (k : ℕ) (a : Address) → IsValid c → IsTile c a → (e : Entry) → IfCut (λ x. IsTrue (hits_of c x.cover (block_of c a)) → x.number < k) e → IsNoOlder c k a e
+no_older c k a valid tile (entry.At n) h = tt
 no_older c k a valid tile (entry.Started j m) h = tt
 no_older c k a valid tile (entry.Cut i cover) h = λ covered. h (covered_hit c cover a valid tile covered)
 no_older c k a valid tile (entry.Missed i) h = tt
-no_older c k a valid tile (entry.Stored j m place length) h = tt
+no_older c k a valid tile (entry.Stored j m place length b uses) h = tt
 no_older c k a valid tile (entry.Ended j) h = tt
 no_older c k a valid tile (entry.Used m) h = tt
 no_older c k a valid tile (entry.Dropped m) h = tt

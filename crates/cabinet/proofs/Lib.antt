@@ -5,6 +5,7 @@ pub mod Holding
 pub mod Rooted
 pub mod Sentences
 pub mod Numbers
+pub mod Moments
 pub mod Fresher
 mod Tiles
 pub mod Fronts

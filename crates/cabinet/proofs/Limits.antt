@@ -39,6 +39,7 @@ fewer c s t p kept book l =
     rw (kept, book) (record { lengths = all_filter (IsOfLength c) p s.kept l.lengths; few = omega arith; covers = l.covers; few_cuts = l.few_cuts })
 
 limited_after : (c : Catalogue) (s : Standing) (e : Entry) → May c s e → IsLimited c s → IsLimited c (after c s e)
+limited_after c s (entry.At n) may l = record { lengths = l.lengths; few = l.few; covers = l.covers; few_cuts = l.few_cuts }
 limited_after c s (entry.Started k m) may l = record { lengths = l.lengths; few = l.few; covers = l.covers; few_cuts = l.few_cuts }
 limited_after c s (entry.Cut t cover) may l =
     let least = least_of (numbers s.out s.kept) in
@@ -54,8 +55,8 @@ limited_after c s (entry.Cut t cover) may l =
       few_cuts = omega arith;
     }
 limited_after c s (entry.Missed t) may l = record { lengths = l.lengths; few = l.few; covers = l.covers; few_cuts = l.few_cuts }
-limited_after c s (entry.Stored k m place size) may l =
-    let new : Kept = record { number = k; meta = m; place = place; length = size } in
+limited_after c s (entry.Stored k m place size n uses) may l =
+    let new : Kept = record { number = k; meta = m; place = place; length = size; moment = n; uses = uses } in
     let long = length-append (but m s.kept) (new ∷ []) in
     let room = may.3 in
     record {

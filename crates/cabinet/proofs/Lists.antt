@@ -1,6 +1,6 @@
 -- What holds of each element of a list.
 use Rattle.std.specs.Prelude.{slice_get}
-use Rattle.std.proofs.Common.{ℕ, zero, suc, ◌≡◌, Bool, true, false, cond, ◌||◌, List, [], ◌∷◌, ◌++◌, map, filter, take, length, Some, find, refl, ap, subst}
+use Rattle.std.proofs.Common.{ℕ, zero, suc, ◌≡◌, Bool, true, false, cond, ◌||◌, List, [], ◌∷◌, ◌++◌, map, filter, fold, take, length, Some, find, refl, ap, subst}
 use Rattle.std.specs.List.{AllByRecursion, Contains, list_any}
 use Rattle.std.specs.Option.{option_map}
 use Rattle.std.proofs.lemmas.List.Elements.{All-from_recursion, All-contains, All-contains_itself, recursion_from_All}
@@ -45,6 +45,13 @@ all_of_map f P (x ∷ xs) a = (a.0, all_of_map f P xs a.1)
 -- each element, where it is one of the list
 pub all_of : {X : Type 0} (P : X → Type 0) (xs : List X) → ((x : X) → Contains xs x → P x) → AllByRecursion P xs
 all_of P xs f = recursion_from_All P xs (λ k d l. f _ (All-contains_itself xs k d l))
+
+-- FOLDS
+
+-- a fold over two lists goes over one after the other
+pub fold_more : {X Y : Type 0} (f : Y → X → Y) (y : Y) (xs ys : List X) → fold f y (xs ++ ys) ≡ fold f (fold f y xs) ys
+fold_more f y [] ys = refl
+fold_more f y (x ∷ xs) ys = fold_more f (f y x) xs ys
 
 -- MAPS
 

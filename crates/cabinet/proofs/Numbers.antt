@@ -8,7 +8,6 @@ use Rattle.catalog.specs.declared.catalogue.Catalogue.{Catalogue}
 use Rattle.metatile_plan.specs.declared.metatile.MetaKey.{MetaKey}
 use Rattle.metatile_plan.specs.Keys.{same_meta}
 use Rattle.metatile_plan.proofs.Same.{same_meta_is, same_meta_self}
-use Rattle.std.proofs.lemmas.Grind.{fold-append}
 use Rattle.truncation_list.specs.declared.book.Cut.{Cut}
 use Rattle.metatile_locks.specs.declared.render.Render.{Render}
 use Rattle.metatile_locks.specs.Running.{overtaken, marked, unmarked, without, has_number, is_render_of, running_for, runs_for, render_of, OneRuns}
@@ -19,10 +18,10 @@ use Rattle.cabinet.specs.declared.entry.Entry.{Entry}
 use Rattle.cabinet.specs.declared.entry.Entry.TheVariants as entry
 use Rattle.cabinet.specs.declared.kept.Kept.{Kept}
 use Rattle.cabinet.specs.Hits.{hits_of}
-use Rattle.cabinet.specs.History.{History, Opening, Standing, after, but, first, is_of, of_meta, render, render_after, spared, standing, ticket_render, whole}
+use Rattle.cabinet.specs.History.{History, Opening, Running, Standing, after, but, first, first_entries, is_of, of_meta, render, render_after, spared, standing, stored_entry, ticket_render, whole, with_render}
 use Rattle.cabinet.specs.Fresh.{Follows, May, Possible, cuts_after, Holds, HoldsOfRender, HoldsOfKept, ApartBy, Differ}
 use Rattle.cabinet.proofs.Holding.{holds_step}
-use Rattle.cabinet.proofs.Lists.{all_push, all_found, all_both, either_same}
+use Rattle.cabinet.proofs.Lists.{all_push, all_found, all_both, either_same, fold_more}
 
 -- NUMBERS THAT DIFFER
 
@@ -73,17 +72,17 @@ stored_both t kept out a =
 
 differ_started : (c : Catalogue) (cuts : List Cut) (s : Standing) (k : ℕ) (m : MetaKey) → Holds c cuts s → Differ s → May c s (entry.Started k m) → Differ (after c s (entry.Started k m))
 differ_started c cuts s k m h d may = record {
-  out = apart_push (λ (r : Render). r.number) s.out (unmarked k m) d.out
+  out = apart_push (λ (r : Render). r.number) s.out (unmarked k m s.moment) d.out
       (all_weaker (HoldsOfRender c cuts s.front s.book.floor) (λ r. r.number ≢ k) (λ r x e. let g = x.given in let i = may.0 in absurd (omega arith)) s.out h.out);
   kept = d.kept;
-  both = all_push (λ (r : Render). OffKept s.kept r.number) s.out (unmarked k m) d.both
+  both = all_push (λ (r : Render). OffKept s.kept r.number) s.out (unmarked k m s.moment) d.both
       (all_weaker (HoldsOfKept c cuts s.front s.book.floor) (λ t. k ≢ t.number) (λ t x e. let g = x.given in let i = may.0 in absurd (omega arith)) s.kept h.kept);
-  one_runs = one_begun k m s.out (none_runs m s.out may.1) d.one_runs;
+  one_runs = one_begun k m s.moment s.out (none_runs m s.out may.1) d.one_runs;
 }
 
-differ_stored : (c : Catalogue) (s : Standing) (t : Kept) → Differ s → May c s (entry.Stored t.number t.meta t.place t.length) → Differ (after c s (entry.Stored t.number t.meta t.place t.length))
+differ_stored : (c : Catalogue) (s : Standing) (t : Kept) → Differ s → May c s (stored_entry t) → Differ (after c s (stored_entry t))
 differ_stored c s t d may =
-    let r = all_found (λ (r : Render). OffKept s.kept r.number) (is_render_of (record { number = t.number; meta = t.meta })) s.out (unmarked t.number t.meta) d.both may.0 in
+    let r = all_found (λ (r : Render). OffKept s.kept r.number) (is_render_of (record { number = t.number; meta = t.meta })) s.out (unmarked t.number t.meta t.moment) d.both may.0 in
     let fewer = each_fewer (λ x. not (is_of t.meta x)) s.kept (without t.number s.out) (all_filter (λ (r : Render). OffKept s.kept r.number) (λ r. not (has_number t.number r)) s.out d.both) in
     record {
       out = apart_filter (λ (r : Render). r.number) (λ r. not (has_number t.number r)) s.out d.out;
@@ -94,6 +93,7 @@ differ_stored c s t d may =
     }
 
 differ_step : (c : Catalogue) (cuts : List Cut) (s : Standing) (e : Entry) → Holds c cuts s → Differ s → May c s e → Differ (after c s e)
+differ_step c cuts s (entry.At n) h d may = record { out = d.out; kept = d.kept; both = d.both; one_runs = d.one_runs }
 differ_step c cuts s (entry.Started k m) h d may = differ_started c cuts s k m h d may
 differ_step c cuts s (entry.Cut t cover) h d may = record {
   out = apart_marked (hits_of c cover) t s.out d.out;
@@ -102,7 +102,7 @@ differ_step c cuts s (entry.Cut t cover) h d may = record {
   one_runs = one_overtaken (hits_of c cover) t s.out d.one_runs;
 }
 differ_step c cuts s (entry.Missed t) h d may = record { out = d.out; kept = d.kept; both = d.both; one_runs = d.one_runs }
-differ_step c cuts s (entry.Stored k m place length) h d may = differ_stored c s (record { number = k; meta = m; place = place; length = length }) d may
+differ_step c cuts s (entry.Stored k m place length n uses) h d may = differ_stored c s (record { number = k; meta = m; place = place; length = length; moment = n; uses = uses }) d may
 differ_step c cuts s (entry.Ended k) h d may = record {
   out = apart_filter (λ (r : Render). r.number) (λ r. not (has_number k r)) s.out d.out;
   kept = d.kept;
@@ -139,10 +139,10 @@ nowhere : (k : ℕ) (rs : List Render) → AllByRecursion (λ r. r.number ≢ k)
 nowhere k [] a = refl
 nowhere k (r ∷ rs) a = let n = a.0 in let e : (r.number == k) ≡ false = grind (arith, nat_tests) in rw e (nowhere k rs a.1)
 
-begun_at : (k j : ℕ) (m : MetaKey) (f : Option Render) (v : Bool) → (v ≡ true → j ≡ k) → (v ≡ true → f ≡ None) → option_or f (cond v (Some (unmarked j m)) None) ≡ cond v (Some (unmarked k m)) f
-begun_at k j m f true e n = rw (n refl, e refl) refl
-begun_at k j m None false e n = refl
-begun_at k j m (Some r) false e n = refl
+begun_at : (k j : ℕ) (m : MetaKey) (b : ℕ) (f : Option Render) (v : Bool) → (v ≡ true → j ≡ k) → (v ≡ true → f ≡ None) → option_or f (cond v (Some (unmarked j m b)) None) ≡ cond v (Some (unmarked k m b)) f
+begun_at k j m b f true e n = rw (n refl, e refl) refl
+begun_at k j m b None false e n = refl
+begun_at k j m b (Some r) false e n = refl
 
 off_at : (v : Bool) (f : Option Render) → cond (not v) f None ≡ cond v None f
 off_at true f = refl
@@ -151,37 +151,48 @@ off_at false f = refl
 without_is : (k j : ℕ) (rs : List Render) → find (has_number k) (without j rs) ≡ cond (j == k) None (find (has_number k) rs)
 without_is k j rs = find_filter (has_number k) (λ r. not (has_number j r)) (not (j == k)) (λ r is. let n : r.number ≡ k = one r.number k is in grind (arith, nat_tests)) rs ∙ off_at (j == k) (find (has_number k) rs)
 
-render_step : (c : Catalogue) (cuts : List Cut) (k : ℕ) (s : Standing) (e : Entry) → Holds c cuts s → May c s e → find (has_number k) (after c s e).out ≡ render_after c k (find (has_number k) s.out) e
+-- the moment that stands, and the render of a number
+abbrev at_number : ℕ → Standing → Running
+at_number k s = record { moment = s.moment; render = find (has_number k) s.out }
+
+abbrev unbegun : Running
+unbegun = record { moment = 0; render = None }
+
+render_step : (c : Catalogue) (cuts : List Cut) (k : ℕ) (s : Standing) (e : Entry) → Holds c cuts s → May c s e → at_number k (after c s e) ≡ render_after c k (at_number k s) e
+render_step c cuts k s (entry.At n) h may = refl
 render_step c cuts k s (entry.Started j m) h may =
-    find-append (has_number k) s.out (unmarked j m ∷ [])
-    ∙ begun_at k j m (find (has_number k) s.out) (j == k) (λ e. one j k e) (λ e. nowhere k s.out (all_weaker (HoldsOfRender c cuts s.front s.book.floor) (λ r. r.number ≢ k) (λ r x n. let g = x.given in let i = may.0 in let q : j ≡ k = one j k e in absurd (omega arith)) s.out h.out))
-render_step c cuts k s (entry.Cut t cover) h may = find_marked (hits_of c cover) t k s.out
+    let none : (j == k) ≡ true → find (has_number k) s.out ≡ None =
+    λ e. nowhere k s.out (all_weaker (HoldsOfRender c cuts s.front s.book.floor) (λ r. r.number ≢ k) (λ r x n. let g = x.given in let i = may.0 in let q : j ≡ k = one j k e in absurd (omega arith)) s.out h.out) in
+    let added = find-append (has_number k) s.out (unmarked j m s.moment ∷ []) ∙ begun_at k j m s.moment (find (has_number k) s.out) (j == k) (λ e. one j k e) none in
+    ap (λ (o : Option Render). with_render (at_number k s) o) added
+render_step c cuts k s (entry.Cut t cover) h may = ap (λ (o : Option Render). with_render (at_number k s) o) (find_marked (hits_of c cover) t k s.out)
 render_step c cuts k s (entry.Missed t) h may = refl
-render_step c cuts k s (entry.Stored j m place length) h may = without_is k j s.out
-render_step c cuts k s (entry.Ended j) h may = without_is k j s.out
+render_step c cuts k s (entry.Stored j m place length n uses) h may = ap (λ (o : Option Render). with_render (at_number k s) o) (without_is k j s.out)
+render_step c cuts k s (entry.Ended j) h may = ap (λ (o : Option Render). with_render (at_number k s) o) (without_is k j s.out)
 render_step c cuts k s (entry.Used m) h may = refl
 render_step c cuts k s (entry.Dropped m) h may = refl
 
-render_run : (c : Catalogue) (cuts : List Cut) (k : ℕ) (s : Standing) (h : History) → Holds c cuts s → Follows c s h → find (has_number k) (standing c s h).out ≡ fold (render_after c k) (find (has_number k) s.out) h
+render_run : (c : Catalogue) (cuts : List Cut) (k : ℕ) (s : Standing) (h : History) → Holds c cuts s → Follows c s h → at_number k (standing c s h) ≡ fold (render_after c k) (at_number k s) h
 render_run c cuts k s [] hold may = refl
 render_run c cuts k s (e ∷ es) hold may =
-    render_run c (cuts_after cuts e) k (after c s e) es (holds_step c cuts s e hold may.0) may.1 ∙ ap (λ (o : Option Render). fold (render_after c k) o es) (render_step c cuts k s e hold may.0)
+    render_run c (cuts_after cuts e) k (after c s e) es (holds_step c cuts s e hold may.0) may.1 ∙ ap (λ (r : Running). fold (render_after c k) r es) (render_step c cuts k s e hold may.0)
 
 -- no first entry begins a render
-no_first_cut : (c : Catalogue) (k : ℕ) (ks : List Cut) (more : History) → fold (render_after c k) None (map (λ j. entry.Cut j.number j.cover) ks ++ more) ≡ fold (render_after c k) None more
+no_first_cut : (c : Catalogue) (k : ℕ) (ks : List Cut) (more : History) → fold (render_after c k) unbegun (map (λ j. entry.Cut j.number j.cover) ks ++ more) ≡ fold (render_after c k) unbegun more
 no_first_cut c k [] more = refl
 no_first_cut c k (j ∷ ks) more = no_first_cut c k ks more
 
-no_first_kept : (c : Catalogue) (k : ℕ) (ts : List Kept) → fold (render_after c k) None (map (λ t. entry.Stored t.number t.meta t.place t.length) ts) ≡ None
+no_first_kept : (c : Catalogue) (k : ℕ) (ts : List Kept) → fold (render_after c k) unbegun (map stored_entry ts) ≡ unbegun
 no_first_kept c k [] = refl
-no_first_kept c k (t ∷ ts) = ap (λ (o : Option Render). fold (render_after c k) o (map (λ t. entry.Stored t.number t.meta t.place t.length) ts)) (either_same None (t.number == k)) ∙ no_first_kept c k ts
+no_first_kept c k (t ∷ ts) = ap (λ (o : Option Render). fold (render_after c k) (with_render unbegun o) (map stored_entry ts)) (either_same None (t.number == k)) ∙ no_first_kept c k ts
 
-render_whole : (c : Catalogue) (o : Opening) (later : History) (k : ℕ) → render c (whole o later) k ≡ fold (render_after c k) None later
+render_whole : (c : Catalogue) (o : Opening) (later : History) (k : ℕ) → render c (whole o later) k ≡ (fold (render_after c k) unbegun later).render
 render_whole c o later k =
-    rw fold-append (ap (λ (r : Option Render). fold (render_after c k) r later) (no_first_cut c k o.book.cuts (map (λ t. entry.Stored t.number t.meta t.place t.length) o.kept) ∙ no_first_kept c k o.kept))
+    ap (λ (r : Running). r.render) (fold_more (render_after c k) unbegun (first_entries o) later)
+    ∙ ap (λ (r : Running). (fold (render_after c k) r later).render) (no_first_cut c k o.book.cuts (map stored_entry o.kept) ∙ no_first_kept c k o.kept)
 
 pub render_is : (c : Catalogue) (o : Opening) (h : History) (k : ℕ) → Possible c o h → find (has_number k) (standing c (first o) h).out ≡ render c (whole o h) k
-render_is c o h k may = render_run c o.book.cuts k (first o) h may.opens.holds may.follows ∙ sym (render_whole c o h k)
+render_is c o h k may = ap (λ (r : Running). r.render) (render_run c o.book.cuts k (first o) h may.opens.holds may.follows) ∙ sym (render_whole c o h k)
 
 -- BY NUMBER AND METATILE
 
@@ -213,26 +224,26 @@ none_is : (o : Option ℕ) → is_none o ≡ true → o ≡ None
 none_is None e = refl
 none_is (Some n) e = absurd (cc)
 
-found_runs : (m : MetaKey) (k : ℕ) (rs : List Render) → OneRuns rs → find (has_number k) rs ≡ Some (unmarked k m) → running_for m rs ≡ Some k
-found_runs m k [] o e = absurd (cc)
-found_runs m k (x ∷ xs) o e = at (has_number k x) (runs_for m x) refl refl (λ f. found_runs m k xs o.1 f) e
+found_runs : (m : MetaKey) (k n : ℕ) (rs : List Render) → OneRuns rs → find (has_number k) rs ≡ Some (unmarked k m n) → running_for m rs ≡ Some k
+found_runs m k n [] o e = absurd (cc)
+found_runs m k n (x ∷ xs) o e = at (has_number k x) (runs_for m x) refl refl (λ f. found_runs m k n xs o.1 f) e
   where
-    at : (v w : Bool) → has_number k x ≡ v → runs_for m x ≡ w → (find (has_number k) xs ≡ Some (unmarked k m) → running_for m xs ≡ Some k)
-        → cond v (Some x) (find (has_number k) xs) ≡ Some (unmarked k m) → option_map (λ r. r.number) (cond w (Some x) (find (runs_for m) xs)) ≡ Some k
-    at true true n r ih e = ap Some (one x.number k n)
-    at true false n r ih e =
-        let same : x ≡ unmarked k m = cc in
+    at : (v w : Bool) → has_number k x ≡ v → runs_for m x ≡ w → (find (has_number k) xs ≡ Some (unmarked k m n) → running_for m xs ≡ Some k)
+        → cond v (Some x) (find (has_number k) xs) ≡ Some (unmarked k m n) → option_map (λ r. r.number) (cond w (Some x) (find (runs_for m) xs)) ≡ Some k
+    at true true j r ih e = ap Some (one x.number k j)
+    at true false j r ih e =
+        let same : x ≡ unmarked k m n = cc in
         let t : runs_for m x ≡ true = subst (λ (y : Render). runs_for m y ≡ true) (sym same) (rw (same_meta_self m) refl) in
         absurd (let f : true ≡ false = sym t ∙ r in cc)
-    at false true n r ih e =
+    at false true j r ih e =
         let p = both (same_meta x.meta m) (is_none x.mark) r in
-        let a = all_found (Differs x) (has_number k) xs (unmarked k m) o.0 e in
+        let a = all_found (Differs x) (has_number k) xs (unmarked k m n) o.0 e in
         let same : x.meta ≡ m = same_meta_is x.meta m p.0 in
         absurd (a (subst (λ (y : MetaKey). same_meta m y ≡ true) (sym same) (same_meta_self m)) (none_is x.mark p.1) refl)
-    at false false n r ih e = ih e
+    at false false j r ih e = ih e
 
-pub running_is : (c : Catalogue) (o : Opening) (h : History) (m : MetaKey) (k : ℕ) → Possible c o h → render c (whole o h) k ≡ Some (unmarked k m) → running_for m (standing c (first o) h).out ≡ Some k
-running_is c o h m k may e = found_runs m k (standing c (first o) h).out (differ_is c o h may).one_runs (render_is c o h k may ∙ e)
+pub running_is : (c : Catalogue) (o : Opening) (h : History) (m : MetaKey) (k n : ℕ) → Possible c o h → render c (whole o h) k ≡ Some (unmarked k m n) → running_for m (standing c (first o) h).out ≡ Some k
+running_is c o h m k n may e = found_runs m k n (standing c (first o) h).out (differ_is c o h may).one_runs (render_is c o h k may ∙ e)
 
 -- the first render that passes is the first with its number
 number_of : (q : Render → Bool) (rs : List Render) (r : Render) → ApartBy (λ x. x.number) rs → find q rs ≡ Some r → find (has_number r.number) rs ≡ Some r
@@ -250,20 +261,20 @@ number_of q (x ∷ xs) r a e = at (q x) refl e (λ f. number_of q xs r a.1 f)
         ap (λ (v : Bool). cond v (Some x) (find (has_number r.number) xs)) here ∙ ih e
 
 -- a render that runs for a metatile has no mark
-unmarked_is : (m : MetaKey) (r : Render) → runs_for m r ≡ true → r ≡ unmarked r.number m
+unmarked_is : (m : MetaKey) (r : Render) → runs_for m r ≡ true → r ≡ unmarked r.number m r.moment
 unmarked_is m r is =
     let p = both (same_meta r.meta m) (is_none r.mark) is in
-    λ i. record { number = r.number; meta = same_meta_is r.meta m p.0 i; mark = none_is r.mark p.1 i }
+    λ i. record { number = r.number; meta = same_meta_is r.meta m p.0 i; moment = r.moment; mark = none_is r.mark p.1 i }
 
-runs_found : (m : MetaKey) (k : ℕ) (rs : List Render) → ApartBy (λ r. r.number) rs → running_for m rs ≡ Some k → find (has_number k) rs ≡ Some (unmarked k m)
+runs_found : (m : MetaKey) (k : ℕ) (rs : List Render) → ApartBy (λ r. r.number) rs → running_for m rs ≡ Some k → (n : ℕ) × (find (has_number k) rs ≡ Some (unmarked k m n))
 runs_found m k rs a e = at (find (runs_for m) rs) refl e
   where
-    at : (o : Option Render) → find (runs_for m) rs ≡ o → option_map (λ r. r.number) o ≡ Some k → find (has_number k) rs ≡ Some (unmarked k m)
+    at : (o : Option Render) → find (runs_for m) rs ≡ o → option_map (λ r. r.number) o ≡ Some k → (n : ℕ) × (find (has_number k) rs ≡ Some (unmarked k m n))
     at None f e = absurd (cc)
     at (Some r) f e =
         let number : r.number ≡ k = cc in
         let there = number_of (runs_for m) rs r a f ∙ ap Some (unmarked_is m r (found (runs_for m) (λ (x : Render). Unit {0}) rs r (each_unit rs) f).0) in
-        subst (λ (n : ℕ). find (has_number n) rs ≡ Some (unmarked n m)) number there
+        (r.moment, subst (λ (j : ℕ). find (has_number j) rs ≡ Some (unmarked j m r.moment)) number there)
 
-pub runs_is : (c : Catalogue) (o : Opening) (h : History) (m : MetaKey) (k : ℕ) → Possible c o h → running_for m (standing c (first o) h).out ≡ Some k → render c (whole o h) k ≡ Some (unmarked k m)
-runs_is c o h m k may e = sym (render_is c o h k may) ∙ runs_found m k (standing c (first o) h).out (differ_is c o h may).out e
+pub runs_is : (c : Catalogue) (o : Opening) (h : History) (m : MetaKey) (k : ℕ) → Possible c o h → running_for m (standing c (first o) h).out ≡ Some k → (n : ℕ) × (render c (whole o h) k ≡ Some (unmarked k m n))
+runs_is c o h m k may e = let r = runs_found m k (standing c (first o) h).out (differ_is c o h may).out e in (r.0, sym (render_is c o h k may) ∙ r.1)

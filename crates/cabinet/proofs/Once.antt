@@ -45,11 +45,12 @@ abbrev pub AreOnce : List Kept → Type 0
 AreOnce kept = ApartBy (λ t. t.meta) kept
 
 once_after : (c : Catalogue) (s : Standing) (e : Entry) → AreOnce s.kept → AreOnce (after c s e).kept
+once_after c s (entry.At n) a = a
 once_after c s (entry.Started k m) a = a
 once_after c s (entry.Cut t cover) a = apart_filter (λ (x : Kept). x.meta) (λ x. not (hits_of c cover x.meta)) s.kept a
 once_after c s (entry.Missed t) a = a
-once_after c s (entry.Stored k m place length) a =
-    apart_push (λ (x : Kept). x.meta) (but m s.kept) (record { number = k; meta = m; place = place; length = length }) (apart_filter (λ (x : Kept). x.meta) (λ x. not (is_of m x)) s.kept a) (but_apart m s.kept)
+once_after c s (entry.Stored k m place length n uses) a =
+    apart_push (λ (x : Kept). x.meta) (but m s.kept) (record { number = k; meta = m; place = place; length = length; moment = n; uses = uses }) (apart_filter (λ (x : Kept). x.meta) (λ x. not (is_of m x)) s.kept a) (but_apart m s.kept)
 once_after c s (entry.Ended k) a = a
 once_after c s (entry.Used m) a = a
 once_after c s (entry.Dropped m) a = apart_filter (λ (x : Kept). x.meta) (λ x. not (is_of m x)) s.kept a

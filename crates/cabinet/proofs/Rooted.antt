@@ -12,7 +12,7 @@ use Rattle.cabinet.specs.declared.entry.Entry.{Entry}
 use Rattle.cabinet.specs.declared.entry.Entry.TheVariants as entry
 use Rattle.cabinet.specs.declared.kept.Kept.{Kept}
 use Rattle.cabinet.specs.Hits.{hits_of}
-use Rattle.cabinet.specs.History.{History, Opening, Standing, first, first_entries, is_of, but, after, standing, kept_of, whole}
+use Rattle.cabinet.specs.History.{History, Opening, Standing, first, first_entries, is_of, but, after, standing, stored_entry, kept_of, whole}
 use Rattle.cabinet.specs.Fresh.{Begins, Follows, May, Possible}
 use Rattle.cabinet.proofs.Holding.{kept_has}
 use Rattle.cabinet.proofs.Lists.{all_push, all_found}
@@ -37,15 +37,16 @@ module _ (P : ℕ → MetaKey → Type 0) where
 
   -- an entry but Started leaves what is rooted so
   pub rooted_after : (c : Catalogue) (s : Standing) (e : Entry) → ((k : ℕ) (m : MetaKey) → e ≡ entry.Started k m → P k m) → Rooted P s → May c s e → Rooted P (after c s e)
-  rooted_after c s (entry.Started k m) new r may = record { kept = r.kept; out = all_push (λ (x : Render). P x.number x.meta) s.out (unmarked k m) r.out (new k m refl) }
+  rooted_after c s (entry.At n) new r may = record { kept = r.kept; out = r.out }
+  rooted_after c s (entry.Started k m) new r may = record { kept = r.kept; out = all_push (λ (x : Render). P x.number x.meta) s.out (unmarked k m s.moment) r.out (new k m refl) }
   rooted_after c s (entry.Cut t cover) new r may = record {
     kept = all_filter (λ (x : Kept). P x.number x.meta) (λ x. not (hits_of c cover x.meta)) s.kept r.kept;
     out = all_map (marked (hits_of c cover) t) (λ (x : Render). P x.number x.meta) s.out (all_weaker (λ (x : Render). P x.number x.meta) (λ x. P (marked (hits_of c cover) t x).number (marked (hits_of c cover) t x).meta) (marked_has (hits_of c cover) t) s.out r.out);
   }
   rooted_after c s (entry.Missed t) new r may = record { kept = r.kept; out = r.out }
-  rooted_after c s (entry.Stored k m place length) new r may = record {
-    kept = all_push (λ (x : Kept). P x.number x.meta) (but m s.kept) (record { number = k; meta = m; place = place; length = length }) (all_filter (λ (x : Kept). P x.number x.meta) (λ x. not (is_of m x)) s.kept r.kept)
-        (all_found (λ (x : Render). P x.number x.meta) (is_render_of (record { number = k; meta = m })) s.out (unmarked k m) r.out may.0);
+  rooted_after c s (entry.Stored k m place length n uses) new r may = record {
+    kept = all_push (λ (x : Kept). P x.number x.meta) (but m s.kept) (record { number = k; meta = m; place = place; length = length; moment = n; uses = uses }) (all_filter (λ (x : Kept). P x.number x.meta) (λ x. not (is_of m x)) s.kept r.kept)
+        (all_found (λ (x : Render). P x.number x.meta) (is_render_of (record { number = k; meta = m })) s.out (unmarked k m n) r.out may.0);
     out = all_filter (λ (x : Render). P x.number x.meta) (λ x. not (has_number k x)) s.out r.out;
   }
   rooted_after c s (entry.Ended k) new r may = record { kept = r.kept; out = all_filter (λ (x : Render). P x.number x.meta) (λ x. not (has_number k x)) s.out r.out }
@@ -67,22 +68,22 @@ begun_run c past s (e ∷ es) r may =
     subst (λ (h : History). Rooted (λ k m. Begins k m h) (standing c (after c s e) es)) (append_assoc past (e ∷ []) es)
     (begun_run c (past ++ e ∷ []) (after c s e) es (rooted_after (λ k m. Begins k m (past ++ e ∷ [])) c s e started (longer past e s r) may.0) may.1)
 
--- what is kept of a metatile was begun
 -- what an opening keeps stands in its first entries
-stored_begin : (ts : List Kept) → AllByRecursion (λ t. Begins t.number t.meta (map (λ t. entry.Stored t.number t.meta t.place t.length) ts)) ts
+stored_begin : (ts : List Kept) → AllByRecursion (λ t. Begins t.number t.meta (map stored_entry ts)) ts
 stored_begin [] = tt
 stored_begin (t ∷ ts) = (
   inl (refl, refl),
-  all_weaker (λ (x : Kept). Begins x.number x.meta (map (λ t. entry.Stored t.number t.meta t.place t.length) ts)) (λ x. Begins x.number x.meta (map (λ t. entry.Stored t.number t.meta t.place t.length) (t ∷ ts))) (λ x b. inr b) ts (stored_begin ts),
+  all_weaker (λ (x : Kept). Begins x.number x.meta (map stored_entry ts)) (λ x. Begins x.number x.meta (map stored_entry (t ∷ ts))) (λ x b. inr b) ts (stored_begin ts),
 )
 
 first_begin : (o : Opening) → Rooted (λ k m. Begins k m (first_entries o)) (first o)
 first_begin o = record {
-  kept = all_weaker (λ (x : Kept). Begins x.number x.meta (map (λ t. entry.Stored t.number t.meta t.place t.length) o.kept)) (λ x. Begins x.number x.meta (first_entries o))
-      (λ x b. begins_right x.number x.meta (map (λ k. entry.Cut k.number k.cover) o.book.cuts) (map (λ t. entry.Stored t.number t.meta t.place t.length) o.kept) b) o.kept (stored_begin o.kept);
+  kept = all_weaker (λ (x : Kept). Begins x.number x.meta (map stored_entry o.kept)) (λ x. Begins x.number x.meta (first_entries o))
+      (λ x b. begins_right x.number x.meta (map (λ k. entry.Cut k.number k.cover) o.book.cuts) (map stored_entry o.kept) b) o.kept (stored_begin o.kept);
   out = tt;
 }
 
+-- what is kept of a metatile was begun
 pub kept_begins : (c : Catalogue) (o : Opening) (h : History) (m : MetaKey) (t : Kept) → Possible c o h → kept_of m (standing c (first o) h) ≡ Some t → Begins t.number m (whole o h)
 kept_begins c o h m t may e =
     let r = begun_run c (first_entries o) (first o) h (first_begin o) may.follows in

@@ -1,8 +1,8 @@
 -- Each row of a command leaves a cabinet of which all that is said of cabinets holds, and what it hands out is fresh.
-use Rattle.std.proofs.Common.{ℕ, ◌≡◌, ◌+◌, ◌<◌, ◌≤◌, Bool, true, false, cond, not, List, [], ◌∷◌, ◌++◌, length, map, filter, Option, Some, None, refl, sym, ap, subst, ◌∙◌, inl, inr, arith, append_assoc}
-use Rattle.std.specs.Prelude.{IfSome, IsSome, nat_lt}
+use Rattle.std.proofs.Common.{ℕ, ◌≡◌, ◌+◌, ◌<◌, ◌≤◌, Bool, true, false, cond, not, List, [], ◌∷◌, ◌++◌, length, map, filter, Option, Some, None, refl, sym, ap, subst, ◌∙◌, inl, inr, arith, append_assoc, length-append}
+use Rattle.std.specs.Prelude.{IfSome, IsSome, nat_lt, slice_get}
 use Rattle.std.specs.List.{AllByRecursion}
-use Rattle.std.specs.Option.{option_map}
+use Rattle.std.specs.Option.{option_and_then, option_map}
 use Rattle.std.proofs.lemmas.Bool.Decides.{nat_tests}
 use Rattle.std.proofs.lemmas.Grind.{fold-append}
 use Rattle.std.proofs.lemmas.List.{map-append}
@@ -38,10 +38,10 @@ use Rattle.cabinet.specs.declared.replies.CutReply.{CutReply}
 use Rattle.cabinet.specs.declared.replies.CutReply.TheVariants as reply
 use Rattle.cabinet.specs.Hits.{hits_of}
 use Rattle.served_covers.specs.OfCatalogue.{IsCoverOf}
-use Rattle.cabinet.specs.History.{History, Opening, Standing, after, but, first, first_entries, is_of, kept_of, last_number, next, render, spared, standing, whole}
-use Rattle.cabinet.specs.Fresh.{Follows, IsFresh, May, cuts_of}
-use Rattle.cabinet.specs.State.{IsKnown, IsKnownAs, IsLong, State, blobs_spared, blobs_with, blobs_without, fronted, grown, now, with_entry}
-use Rattle.cabinet.specs.Commands.{Asks, Forces, Finishes, Abandons, Cuts, Expires, IsBusy, IsGiven, IsFreshReply, IsFreshForced, kept_at}
+use Rattle.cabinet.specs.History.{History, Opening, Standing, after, but, first, first_entries, is_of, kept_of, last_number, next, render, spared, standing, stored_entry, whole}
+use Rattle.cabinet.specs.Fresh.{Follows, IsFresh, May, cuts_of, limit_for}
+use Rattle.cabinet.specs.State.{IsKnown, IsKnownAs, IsLong, State, blobs_spared, blobs_with, blobs_without, asked_at, fronted, grown, now, with_entry}
+use Rattle.cabinet.specs.Commands.{Asks, Forces, Finishes, Abandons, Cuts, Expires, IsAskedOf, IsBusy, IsForcedOf, IsGiven, IsHit, IsFreshReply, IsFreshForced, answering, is_within, kept_at, where_within}
 use Rattle.cabinet.proofs.Fronts.{fronted_after}
 use Rattle.cabinet.proofs.Holding.{holds_of}
 use Rattle.cabinet.proofs.Fresher.{begun_fresh, kept_fresh, still_fresh}
@@ -117,16 +117,60 @@ given s m ticket t k meta g =
     let l = n.left in let f = k.left in
     entered s t (entry.Started ticket.number m) k (n.number, g.none_runs, meta) refl (omega arith) g.state
 
+-- AN ASK AND A FORCE
+
+-- a cabinet at the moment of an ask or a force is known, since what is known doesn't speak of its clock; what stands is as before, at
+-- that moment
+pub asked_known : (s : State) (n : ℕ) → IsKnown s → IsKnown (asked_at n s)
+asked_known s n k =
+    let more = one_more_known s (entry.At n) s.blobs k tt k.blobs k.lengths k.left in
+    record { valid = more.valid; number = more.number; whole = more.whole; possible = more.possible; blobs = more.blobs; lengths = more.lengths; left = more.left }
+
+pub now_asked : (s : State) (n : ℕ) → now (asked_at n s) ≡ after s.catalogue (now s) (entry.At n)
+now_asked s n = stood_more s.catalogue (first s.opening) s.since (entry.At n)
+
+-- what is known since the moment of an ask or a force is known since before
+since_ask : (s t : State) (n : ℕ) → IsKnownAs (asked_at n s) t → IsKnownAs s t
+since_ask s t n k = record {
+  known = k.known;
+  same_catalogue = k.same_catalogue;
+  same_opening = k.same_opening;
+  answers = subst (λ (x : Standing). AnswersForFronted (fronted (now t)) (fronted x)) (now_asked s n) k.answers;
+}
+
+-- a kept metatile that answers is kept, and within its age limit
+answers_at : (limit : Option ℕ) (n : ℕ) (o : Option Kept) (t : Kept) → option_and_then (where_within limit n) o ≡ Some t → (o ≡ Some t) × (is_within limit t.moment n ≡ true)
+answers_at limit n None t e = absurd (cc)
+answers_at limit n (Some u) t e = chosen (is_within limit u.moment n) refl e
+  where
+    chosen : (v : Bool) → is_within limit u.moment n ≡ v → cond v (Some u) None ≡ Some t → (Some u ≡ Some t) × (is_within limit t.moment n ≡ true)
+    chosen true is e = let d : u ≡ t = cc in (ap Some d, subst (λ (x : Kept). is_within limit x.moment n ≡ true) d is)
+    chosen false is e = absurd (cc)
+
+answers_is : (s : State) (a : Address) (t : Kept) → answering s a ≡ Some t → (kept_of (block_of s.catalogue a) (now s) ≡ Some t) × (is_within (limit_for s.catalogue a) t.moment (now s).moment ≡ true)
+answers_is s a t e = answers_at (limit_for s.catalogue a) (now s).moment (kept_of (block_of s.catalogue a) (now s)) t e
+
+hit_kept : (s : State) (a : Address) (t : Kept) → answering s a ≡ Some t → IsSome (kept_of (block_of s.catalogue a) (now s))
+hit_kept s a t e = subst IsSome (sym (answers_is s a t e).0) refl
+
+asked_of : (s t : State) (a : Address) (r : Asked) → IsKnown s → IsTile s.catalogue a → IsAskedOf s a r t → IsKnownAs s t
+asked_of s t a (asked.Hit n bytes) k tile r = entered s t (entry.Used (block_of s.catalogue a)) k (hit_kept s a r.kept r.is_kept) refl k.left r.state
+asked_of s t a (asked.Busy n) k tile r = the_same s t k r.1.1
+asked_of s t a asked.Spent k tile r = the_same s t k r.1.2
+asked_of s t a (asked.Ticket ticket) k tile r = given s (block_of s.catalogue a) ticket t k (tile_meta s.catalogue a tile) r.1
+
+forced_of : (s t : State) (m : MetaKey) (r : Forced) → IsKnown s → IsMeta s.catalogue m → IsForcedOf s m r t → IsKnownAs s t
+forced_of s t m (forced.Busy n) k meta r = the_same s t k r.1
+forced_of s t m forced.Spent k meta r = the_same s t k r.2
+forced_of s t m (forced.Ticket ticket) k meta r = given s m ticket t k meta r
+
 pub asks_known : (s t : State) (a : Address) (r : Asked) → IsKnown s → IsTile s.catalogue a → Asks s a r t → IsKnownAs s t
-asks_known s t a (asked.Hit n bytes) k tile r = entered s t (entry.Used (block_of s.catalogue a)) k (rw r.is_kept refl) refl k.left r.state
-asks_known s t a (asked.Busy n) k tile r = the_same s t k r.1.1
-asks_known s t a asked.Spent k tile r = the_same s t k r.1.2
-asks_known s t a (asked.Ticket ticket) k tile r = given s (block_of s.catalogue a) ticket t k (tile_meta s.catalogue a tile) r.1
+asks_known s t a r k tile row = since_ask s t t.clock.moment (asked_of (asked_at t.clock.moment s) t a r (asked_known s t.clock.moment k) tile row)
 
 pub forces_known : (s t : State) (m : MetaKey) (r : Forced) → IsKnown s → IsMeta s.catalogue m → Forces s m r t → IsKnownAs s t
-forces_known s t m (forced.Busy n) k meta r = the_same s t k r.1
-forces_known s t m forced.Spent k meta r = the_same s t k r.2
-forces_known s t m (forced.Ticket ticket) k meta r = given s m ticket t k meta r
+forces_known s t m r k meta row = since_ask s t t.clock.moment (forced_of (asked_at t.clock.moment s) t m r (asked_known s t.clock.moment k) meta row)
+
+-- FINISH
 
 -- what is kept, and another one in the place of its metatile's older one
 pub map_stored : (t : Kept) (text : List ℕ) (blobs : List KeptBlob) (kept : List Kept) → map (λ b. b.kept) blobs ≡ kept → map (λ b. b.kept) (filter (λ b. not (is_of t.meta b.kept)) blobs ++ record { kept = t; text = text } ∷ []) ≡ but t.meta kept ++ t ∷ []
@@ -136,17 +180,17 @@ map_stored t text blobs kept e =
 
 stored : (s t : State) (ticket : Ticketed) (blob : List ℕ) → IsKnown s → length blob ≡ blob_size s.catalogue ticket.meta → Finishes s ticket blob finished.Kept t → IsKnownAs s t
 stored s t ticket blob k long r =
-    let new = kept_at ticket r.2.0 (length blob) in
-    known_more s t (entry.Stored ticket.number ticket.meta r.2.0 (length blob)) (option_map (blobs_with new blob) s.blobs) k (r.0, long, r.2.1, r.1)
+    let new = kept_at ticket r.0 r.3.0 (length blob) in
+    known_more s t (stored_entry new) (option_map (blobs_with new blob) s.blobs) k (r.1, long, r.3.1, r.2, refl)
     (if_some_made _ _ (blobs_with new blob) (λ bs is. map_stored new blob bs (now s).kept is) s.blobs k.blobs)
     (if_some_made _ _ (blobs_with new blob)
-    (λ bs are. all_push (IsLong s.catalogue) (blobs_without new.meta bs) (record { kept = new; text = blob }) (all_filter (IsLong s.catalogue) (λ b. not (is_of new.meta b.kept)) bs are) (refl, long)) s.blobs k.lengths) k.left r.2.2
+    (λ bs are. all_push (IsLong s.catalogue) (blobs_without new.meta bs) (record { kept = new; text = blob }) (all_filter (IsLong s.catalogue) (λ b. not (is_of new.meta b.kept)) bs are) (refl, long)) s.blobs k.lengths) k.left r.3.2
 
 pub finishes_known : (s t : State) (ticket : Ticketed) (blob : List ℕ) (r : Finished) → IsKnown s → length blob ≡ blob_size s.catalogue ticket.meta → Finishes s ticket blob r t → IsKnownAs s t
 finishes_known s t ticket blob finished.Stranger k long r = the_same s t k r.1
-finishes_known s t ticket blob (finished.Overtaken c) k long r = ended s t ticket.number k r.1
-finishes_known s t ticket blob finished.Full k long r = ended s t ticket.number k r.2
-finishes_known s t ticket blob finished.NoRoom k long r = ended s t ticket.number k r.3
+finishes_known s t ticket blob (finished.Overtaken c) k long r = ended s t ticket.number k r.2
+finishes_known s t ticket blob finished.Full k long r = ended s t ticket.number k r.3
+finishes_known s t ticket blob finished.NoRoom k long r = ended s t ticket.number k r.4
 finishes_known s t ticket blob finished.Kept k long r = stored s t ticket blob k long r
 
 pub abandons_known : (s t : State) (ticket : Ticketed) → IsKnown s → Abandons s ticket t → IsKnownAs s t
@@ -193,27 +237,50 @@ expires_known s t (expired.Dropped m) k r = gone s t m k r
 
 -- BUSY
 
-pub busy_runs : (s t : State) (m : MetaKey) (n : ℕ) → IsKnown s → IsBusy s m n t → render s.catalogue s.history n ≡ Some (unmarked n m)
-busy_runs s t m n k r = ap (λ (h : History). render s.catalogue h n) k.whole ∙ runs_is s.catalogue s.opening s.since m n k.possible r.0
+pub busy_runs : (s t : State) (m : MetaKey) (j : ℕ) → IsKnown s → IsBusy s m j t → (n : ℕ) × (render s.catalogue s.history j ≡ Some (unmarked j m n))
+busy_runs s t m j k r = let x = runs_is s.catalogue s.opening s.since m j k.possible r.0 in (x.0, ap (λ (h : History). render s.catalogue h j) k.whole ∙ x.1)
 
 -- FRESH
 
-given_fresh : (s : State) (a : Address) (ticket : Ticketed) (t : State) → IsKnown s → IsTile s.catalogue a → IsGiven s (block_of s.catalogue a) ticket t → IsFresh s.catalogue t.history (length s.history) a ticket.number
-given_fresh s a ticket t k tile g =
+got_last : {X : Type 0} (xs : List X) (x : X) → slice_get (xs ++ x ∷ []) (length xs) ≡ Some x
+got_last [] x = refl
+got_last (y ∷ ys) x = got_last ys x
+
+-- the moment of an ask stands at its place in the history, and after it
+module _ (s : State) (n : ℕ) (k : IsKnown s) where
+  here : slice_get (whole s.opening (asked_at n s).since) (length s.history) ≡ Some (entry.At n)
+  here = subst (λ (h : History). slice_get h (length s.history) ≡ Some (entry.At n)) (asked_known s n k).whole (got_last s.history (entry.At n))
+
+  moment_is : (now (asked_at n s)).moment ≡ n
+  moment_is = ap (λ (x : Standing). x.moment) (now_asked s n)
+
+given_fresh : (s : State) (n : ℕ) (a : Address) (ticket : Ticketed) (t : State) → IsKnown s → IsTile s.catalogue a → IsGiven (asked_at n s) (block_of s.catalogue a) ticket t
+    → IsFresh s.catalogue t.history (length s.history) a ticket.number
+given_fresh s n a ticket t k tile g =
+    let after_ask = asked_known s n k in
+    let next = next_is s.opening (now (asked_at n s)) ticket.number g.number in
     subst (λ (x : State). IsFresh s.catalogue x.history (length s.history) a ticket.number) (sym g.state)
-    (subst (λ (h : History). IsFresh s.catalogue (h ++ entry.Started ticket.number (block_of s.catalogue a) ∷ []) (length h) a ticket.number) (sym k.whole)
-    (begun_fresh s.catalogue s.opening s.since a ticket.number k.valid tile k.possible (next_is s.opening (now s) ticket.number g.number).number))
+    (subst (λ (h : History). IsFresh s.catalogue (h ++ entry.Started ticket.number (block_of s.catalogue a) ∷ []) (length s.history) a ticket.number) (sym after_ask.whole)
+    (begun_fresh s.catalogue s.opening (asked_at n s).since (length s.history) n a ticket.number k.valid tile after_ask.possible next.number (moment_is s n k) (here s n k)))
+
+hit_fresh : (s : State) (n : ℕ) (a : Address) (j : ℕ) (bytes : List ℕ) (t : State) → IsKnown s → IsTile s.catalogue a → IsHit (asked_at n s) a j bytes t → IsFresh s.catalogue t.history (length s.history) a j
+hit_fresh s n a j bytes t k tile r =
+    let after_ask = asked_known s n k in
+    let answer = answers_is (asked_at n s) a r.kept r.is_kept in
+    let within : is_within (limit_for s.catalogue a) r.kept.moment n ≡ true = subst (λ (b : ℕ). is_within (limit_for s.catalogue a) r.kept.moment b ≡ true) (moment_is s n k) answer.1 in
+    let kept = kept_fresh s.catalogue s.opening (asked_at n s).since (length s.history) n a r.kept k.valid tile after_ask.possible answer.0 (here s n k) within in
+    let fresh = subst (λ (h : History). IsFresh s.catalogue h (length s.history) a r.kept.number) (sym after_ask.whole) kept in
+    let long = length-append s.history (entry.At n ∷ []) in
+    let still = still_fresh s.catalogue (asked_at n s).history (entry.Used (block_of s.catalogue a) ∷ []) (length s.history) a r.kept.number (omega arith) fresh in
+    subst (λ (i : ℕ). IsFresh s.catalogue t.history (length s.history) a i) (sym r.number) (subst (λ (x : State). IsFresh s.catalogue x.history (length s.history) a r.kept.number) (sym r.state) still)
 
 pub asks_fresh : (s t : State) (a : Address) (r : Asked) → IsKnown s → IsTile s.catalogue a → Asks s a r t → IsFreshReply s a r t
-asks_fresh s t a (asked.Hit n bytes) k tile r =
-    let h = s.history ++ entry.Used (block_of s.catalogue a) ∷ [] in
-    let f = still_fresh s.catalogue s.history (entry.Used (block_of s.catalogue a) ∷ []) (length s.history) a r.kept.number (omega arith) (subst (λ (h : History). IsFresh s.catalogue h (length s.history) a r.kept.number) (sym k.whole) (kept_fresh s.catalogue s.opening s.since (length s.history) a r.kept k.valid tile k.possible r.is_kept)) in
-    subst (λ (m : ℕ). IsFresh s.catalogue t.history (length s.history) a m) (sym r.number) (subst (λ (x : State). IsFresh s.catalogue x.history (length s.history) a r.kept.number) (sym r.state) f)
-asks_fresh s t a (asked.Busy n) k tile r = tt
+asks_fresh s t a (asked.Hit j bytes) k tile r = hit_fresh s t.clock.moment a j bytes.items t k tile r
+asks_fresh s t a (asked.Busy j) k tile r = tt
 asks_fresh s t a asked.Spent k tile r = tt
-asks_fresh s t a (asked.Ticket ticket) k tile r = given_fresh s a ticket t k tile r.1
+asks_fresh s t a (asked.Ticket ticket) k tile r = given_fresh s t.clock.moment a ticket t k tile r.1
 
 pub forces_fresh : (s t : State) (a : Address) (r : Forced) → IsKnown s → IsTile s.catalogue a → Forces s (block_of s.catalogue a) r t → IsFreshForced s a r t
-forces_fresh s t a (forced.Busy n) k tile r = tt
+forces_fresh s t a (forced.Busy j) k tile r = tt
 forces_fresh s t a forced.Spent k tile r = tt
-forces_fresh s t a (forced.Ticket ticket) k tile r = given_fresh s a ticket t k tile r
+forces_fresh s t a (forced.Ticket ticket) k tile r = given_fresh s t.clock.moment a ticket t k tile r

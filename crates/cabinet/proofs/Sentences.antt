@@ -15,7 +15,7 @@ use Rattle.cabinet.specs.declared.kept.Kept.{Kept}
 use Rattle.cabinet.specs.Fresh.{ApartBy, Opens}
 use Rattle.cabinet.specs.Hits.{hits_of}
 use Rattle.truncation_list.specs.declared.book.Cut.{Cut}
-use Rattle.cabinet.specs.History.{History, Opening, Standing, after, but, first, first_entries, is_of, kept, kept_after, kept_of, standing, whole}
+use Rattle.cabinet.specs.History.{History, Opening, Standing, after, but, first, first_entries, is_of, kept, kept_after, kept_of, standing, stored_entry, whole}
 use Rattle.cabinet.proofs.Lists.{either_same}
 
 truths : (b c : Bool) → (b ≡ true → c ≡ true) → (c ≡ true → b ≡ true) → b ≡ c
@@ -41,12 +41,13 @@ pub but_is : (m n : MetaKey) (ts : List Kept) → find (is_of m) (but n ts) ≡ 
 but_is m n ts = find_filter (is_of m) (λ t. not (is_of n t)) (not (same_meta n m)) (λ t at. ap not (at_both t.meta m n at)) ts
 
 pub kept_step : (c : Catalogue) (m : MetaKey) (s : Standing) (e : Entry) → kept_of m (after c s e) ≡ kept_after c m (kept_of m s) e
+kept_step c m s (entry.At n) = refl
 kept_step c m s (entry.Started k n) = refl
 kept_step c m s (entry.Cut t cover) =
     find_filter (is_of m) (λ x. not (hits_of c cover x.meta)) (not (hits_of c cover m)) (λ x at. ap (λ (n : MetaKey). not (hits_of c cover n)) (same_meta_is x.meta m at)) s.kept ∙ off_at (hits_of c cover m) (find (is_of m) s.kept)
 kept_step c m s (entry.Missed t) = refl
-kept_step c m s (entry.Stored k n place length) =
-    let t : Kept = record { number = k; meta = n; place = place; length = length } in
+kept_step c m s (entry.Stored k n place length b uses) =
+    let t : Kept = record { number = k; meta = n; place = place; length = length; moment = b; uses = uses } in
     find-append (is_of m) (but n s.kept) (t ∷ [])
     ∙ ap (λ (f : Option Kept). option_or f (cond (same_meta n m) (Some t) None)) (but_is m n s.kept)
     ∙ stored_at t (same_meta n m) (find (is_of m) s.kept)
@@ -74,12 +75,12 @@ none_of m t (u ∷ us) is a = off (same_meta u.meta m) refl (none_of m t us is a
     off false e rest = rest
 
 -- what it keeps of a metatile is the last that is stored, since it is stored once
-first_kept : (c : Catalogue) (m : MetaKey) (was : Option Kept) (ts : List Kept) → ApartBy (λ t. t.meta) ts → fold (kept_after c m) was (map (λ t. entry.Stored t.number t.meta t.place t.length) ts) ≡ option_or (find (is_of m) ts) was
+first_kept : (c : Catalogue) (m : MetaKey) (was : Option Kept) (ts : List Kept) → ApartBy (λ t. t.meta) ts → fold (kept_after c m) was (map stored_entry ts) ≡ option_or (find (is_of m) ts) was
 first_kept c m was [] a = refl
 first_kept c m was (t ∷ ts) a = chosen (same_meta t.meta m) refl (λ x. first_kept c m x ts a.1)
   where
     chosen : (v : Bool) → same_meta t.meta m ≡ v
-        → ((x : Option Kept) → fold (kept_after c m) x (map (λ t. entry.Stored t.number t.meta t.place t.length) ts) ≡ option_or (find (is_of m) ts) x) → fold (kept_after c m) (cond v (Some t) was) (map (λ t. entry.Stored t.number t.meta t.place t.length) ts) ≡ option_or (cond v (Some t) (find (is_of m) ts)) was
+        → ((x : Option Kept) → fold (kept_after c m) x (map stored_entry ts) ≡ option_or (find (is_of m) ts) x) → fold (kept_after c m) (cond v (Some t) was) (map stored_entry ts) ≡ option_or (cond v (Some t) (find (is_of m) ts)) was
     chosen true e rest = rest (Some t) ∙ ap (λ (o : Option Kept). option_or o (Some t)) (none_of m t ts e a.0)
     chosen false e rest = rest was
 
@@ -88,7 +89,7 @@ or_none None = refl
 or_none (Some t) = refl
 
 first_is : (c : Catalogue) (o : Opening) (m : MetaKey) → Opens c o → kept c (first_entries o) m ≡ kept_of m (first o)
-first_is c o m opens = first_cuts c m o.book.cuts (map (λ t. entry.Stored t.number t.meta t.place t.length) o.kept) ∙ first_kept c m None o.kept opens.once ∙ or_none (find (is_of m) o.kept)
+first_is c o m opens = first_cuts c m o.book.cuts (map stored_entry o.kept) ∙ first_kept c m None o.kept opens.once ∙ or_none (find (is_of m) o.kept)
 
 pub kept_is : (c : Catalogue) (o : Opening) (h : History) (m : MetaKey) → Opens c o → kept_of m (standing c (first o) h) ≡ kept c (whole o h) m
 kept_is c o h m opens =

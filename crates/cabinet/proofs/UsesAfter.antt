@@ -20,10 +20,11 @@ clock_more h e = rw fold-append refl
 -- the count of times is the clock
 count_is : (m : MetaKey) (t : Times) (h : History) → (fold (times_after m) t h).count ≡ fold clock_after t.count h
 count_is m t [] = refl
+count_is m t (entry.At n ∷ es) = count_is m t es
 count_is m t (entry.Started k o ∷ es) = count_is m t es
 count_is m t (entry.Cut n cover ∷ es) = count_is m t es
 count_is m t (entry.Missed n ∷ es) = count_is m t es
-count_is m t (entry.Stored k o place length ∷ es) = count_is m (times_after m t (entry.Stored k o place length)) es
+count_is m t (entry.Stored k o place length b u ∷ es) = count_is m (times_after m t (entry.Stored k o place length b u)) es
 count_is m t (entry.Ended k ∷ es) = count_is m t es
 count_is m t (entry.Used o ∷ es) = count_is m (times_after m t (entry.Used o)) es
 count_is m t (entry.Dropped o ∷ es) = count_is m t es
@@ -70,15 +71,15 @@ used_more h o m =
 
 -- A STORED ONE
 
-module _ (h : History) (k : ℕ) (o : MetaKey) (place length : ℕ) where
+module _ (h : History) (k : ℕ) (o : MetaKey) (place length b u : ℕ) where
   abbrev storing : Entry
-  storing = entry.Stored k o place length
+  storing = entry.Stored k o place length b u
 
-  pub stored_then : (m : MetaKey) (v : Bool) → same_meta o m ≡ v → use_of (h ++ storing ∷ []) m ≡ record { meta = m; uses = cond v 0 (uses h m); saved = 0; last = cond v (one_more (clock h)) (last_use h m) }
+  pub stored_then : (m : MetaKey) (v : Bool) → same_meta o m ≡ v → use_of (h ++ storing ∷ []) m ≡ record { meta = m; uses = cond v u (uses h m); saved = 0; last = cond v (one_more (clock h)) (last_use h m) }
   stored_then m v e =
-      use_more h (entry.Stored k o place length) m
-      ∙ ap (λ (n : ℕ). record { meta = m; uses = cond (same_meta o m) 0 (uses h m); saved = 0; last = n }) (last_then h m (same_meta o m))
-      ∙ ap (λ (w : Bool). record { meta = m; uses = cond w 0 (uses h m); saved = 0; last = cond w (one_more (clock h)) (last_use h m) }) e
+      use_more h (entry.Stored k o place length b u) m
+      ∙ ap (λ (n : ℕ). record { meta = m; uses = cond (same_meta o m) u (uses h m); saved = 0; last = n }) (last_then h m (same_meta o m))
+      ∙ ap (λ (w : Bool). record { meta = m; uses = cond w u (uses h m); saved = 0; last = cond w (one_more (clock h)) (last_use h m) }) e
 
-  pub stored_here : use_of (h ++ storing ∷ []) o ≡ record { meta = o; uses = 0; saved = 0; last = one_more (clock h) }
+  pub stored_here : use_of (h ++ storing ∷ []) o ≡ record { meta = o; uses = u; saved = 0; last = one_more (clock h) }
   stored_here = stored_then o true (same_meta_self o)

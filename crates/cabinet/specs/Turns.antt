@@ -1,8 +1,8 @@
 -- What an ask comes to where nothing that is kept answers it, and what a force comes to.
-use Rattle.std.specs.Prelude.{ℕ, ◌≡◌, ◌<◌, ◌≤◌, ◌+◌, List, [], ◌∷◌, ◌++◌, length, Option, Some, None}
+use Rattle.std.specs.Prelude.{ℕ, ◌≡◌, ◌<◌, ◌≤◌, ◌+◌, List, [], ◌∷◌, ◌++◌, length, Option, Some, None, ⊤}
 use Rattle.matrix_geometry.specs.declared.address.Address.{Address}
 use Rattle.metatile_locks.specs.declared.render.Render.{Render}
-use Rattle.metatile_locks.specs.Running.{Locked, begun, running_for}
+use Rattle.metatile_locks.specs.Running.{IsAboveAll, Locked, begun, running_for}
 use Rattle.metatile_plan.specs.declared.metatile.MetaKey.{MetaKey}
 use Rattle.cabinet.specs.declared.entry.Entry.TheVariants as entry
 use Rattle.cabinet.specs.declared.kept.KeptBlob.{KeptBlob}
@@ -25,6 +25,12 @@ abbrev pub IsTurn : MetaKey → Option ℕ → Locked → Shelved → Turn → T
 IsTurn m next locks shelf (turn.Busy k) = running_for m locks.renders ≡ Some k
 IsTurn m next locks shelf turn.Spent = (running_for m locks.renders ≡ None) × (next ≡ None)
 IsTurn m next locks shelf (turn.Given k) = (running_for m locks.renders ≡ None) × (next ≡ Some k) × (0 < locks.spare) × (length locks.renders + 1 ≤ shelf.room)
+
+-- a number that is given is above those of all that run, none runs for the metatile, and there is room
+abbrev pub IsReady : MetaKey → Locked → Turn → Type 0
+IsReady m locks (turn.Busy k) = ⊤
+IsReady m locks turn.Spent = ⊤
+IsReady m locks (turn.Given k) = (running_for m locks.renders ≡ None) × IsAboveAll k locks.renders × (0 < locks.spare)
 
 -- the renders that run, the number that was given last, and the entries since the opening
 pub record Progress : Type 0 where

@@ -14,7 +14,7 @@ pub fn limit_for(catalogue: &Catalogue, address: &Address) -> Option<u32>
     requires tile { IsTile catalogue.now address.now }
     ensures { result ≡ limit_for catalogue.now address.now }
 {
-    catalogue.layer(address.theme.layer).age_limit(address.z)
+    catalogue.layer_of(&address.theme).age_limit(address.z)
 }
 
 /// Whether a render that was begun at a moment is within an age limit at another. All are in seconds.

@@ -12,7 +12,7 @@ use crate::hitting::overtake;
 use crate::replies::{Asked, CutReply, Expired, Finished, Forced};
 use crate::shelf::Shelf;
 use crate::shelving::{Found, Shelving};
-use crate::turns::{Turn, taken, turn_for};
+use crate::turns::{as_asked, taken, turn_for, turn_where};
 use catalog::catalogue::Catalogue;
 use clock::clock::Clock;
 
@@ -140,10 +140,9 @@ impl Cabinet {
             Some(found) => self.ask_kept(alloc, address, found),
             None => {
                 let meta = block_of(self.shelf.catalogue(), address);
-                match self.force(alloc, &meta)? {
-                    Forced::Ticket(ticket) => Ok(Asked::Ticket(ticket)),
-                    Forced::Busy(number) => Ok(Asked::Busy(number)),
-                    Forced::Spent => Ok(Asked::Spent),
+                match self.force(alloc, &meta) {
+                    Err(fault) => Err(fault),
+                    Ok(forced) => Ok(as_asked(forced)),
                 }
             }
         }
@@ -164,16 +163,15 @@ impl Cabinet {
     {
         let meta = block_of(self.shelf.catalogue(), address);
         let limit = limit_for(self.shelf.catalogue(), address);
-        let turn = match limit {
-            None => None,
-            Some(_) => Some(turn_for(
-                alloc,
-                &mut self.shelf,
-                &mut self.locks,
-                &meta,
-                self.next(),
-            )?),
-        };
+        let next = self.next();
+        let turn = turn_where(
+            limit,
+            alloc,
+            &mut self.shelf,
+            &mut self.locks,
+            &meta,
+            next,
+        )?;
         self.moment = self.clock.now();
         self.past = self.past.and(&Entry::At(self.moment));
         if is_within(limit, found.moment, self.moment) {
@@ -182,18 +180,15 @@ impl Cabinet {
             return Ok(Asked::Hit(found.number, found.text));
         }
         let Some(turn) = turn else { unreachable!() };
-        match taken(
+        let forced = taken(
             &meta,
             self.moment,
             turn,
             &mut self.locks,
             &mut self.last,
             &mut self.past,
-        ) {
-            Forced::Ticket(ticket) => Ok(Asked::Ticket(ticket)),
-            Forced::Busy(number) => Ok(Asked::Busy(number)),
-            Forced::Spent => Ok(Asked::Spent),
-        }
+        );
+        Ok(as_asked(forced))
     }
 
     /// Asks for a render of a metatile, whether it is kept or not, at a moment of the clock. What is kept stays until the render
@@ -203,12 +198,13 @@ impl Cabinet {
         ensures forced { IfOk result (λ forced. Forces self.old meta.now forced self.new) }
         ensures err { OnErr result (self.new ≡ self.old) }
     {
+        let next = self.next();
         let turn = turn_for(
             alloc,
             &mut self.shelf,
             &mut self.locks,
             meta,
-            self.next(),
+            next,
         )?;
         self.moment = self.clock.now();
         self.past = self.past.and(&Entry::At(self.moment));

@@ -1,11 +1,15 @@
 //! What an ask comes to where nothing that is kept answers it, and what a force comes to.
-ghost use Rattle.std.specs.Prelude.{IfOk, OnOk, length, ◌+◌, ◌<◌, ◌≡◌, ◌≤◌};
-ghost use Rattle.metatile_locks.specs.Running.{IsAboveAll, running_for};
+ghost use Rattle.std.specs.Prelude.{IfOk, IfSome, None, OnOk, length, ◌+◌, ◌<◌, ◌≡◌, ◌≤◌};
+ghost use Rattle.catalog.specs.declared.catalogue.Catalogue.{Catalogue};
+ghost use Rattle.matrix_geometry.specs.declared.address.Address.{Address};
+ghost use Rattle.raster_field.specs.Blocks.{block_of};
+ghost use Rattle.cabinet.specs.Commands.{IsAskedOf, IsForcedOf, IsTrueHit, IsUnkept};
 ghost use Rattle.cabinet.specs.Shelved.{IsAlike};
-ghost use Rattle.cabinet.specs.Turns.{IsTaken, IsTurn};
+ghost use Rattle.cabinet.specs.State.{State};
+ghost use Rattle.cabinet.specs.Turns.{IsReady, IsTaken, IsTurn};
 
 use crate::entry::Entry;
-use crate::replies::Forced;
+use crate::replies::{Asked, Forced};
 use crate::shelf::Shelf;
 use metatile_locks::locks::Locks;
 use metatile_locks::replies::Begin;
@@ -71,6 +75,30 @@ pub fn turn_for(
     }
 }
 
+/// The same where there is an age limit, by which what is kept may be too old to answer.
+pub fn turn_where(
+    limit: Option<u32>,
+    alloc: Global,
+    shelf: &mut Shelf,
+    locks: &mut Locks,
+    meta: &MetaKey,
+    next: Option<u64>,
+) -> Result<Option<Turn>, AllocError>
+    ensures shelf { IsAlike shelf.old shelf.new }
+    ensures renders { locks.new.renders ≡ locks.old.renders }
+    ensures no_less { shelf.old.room ≤ shelf.new.room }
+    ensures turn { IfOk result (λ turn. IfSome turn (IsTurn meta.now next locks.new shelf.new)) }
+    ensures none { IfOk result (λ turn. turn ≡ None → limit ≡ None) }
+{
+    match limit {
+        None => Ok(None),
+        Some(_) => match turn_for(alloc, shelf, locks, meta, next) {
+            Err(fault) => Err(fault),
+            Ok(turn) => Ok(Some(turn)),
+        },
+    }
+}
+
 /// Takes a turn at a moment: begins a render where a number is given for it, which becomes the last one and an entry of the
 /// history. It takes no memory.
 pub fn taken(
@@ -81,9 +109,7 @@ pub fn taken(
     last: &mut u64,
     past: &mut Trace<Entry>,
 ) -> Forced
-    requires turn { (next : _) × (shelf : _) × IsTurn meta.now next locks.old shelf turn }
-    requires above { IsAboveAll (last.old + 1) locks.old.renders }
-    requires next { (k : _) → turn ≡ Turn.Given k → k ≡ last.old + 1 }
+    requires { IsReady meta.now locks.old turn }
     ensures { IsTaken meta.now moment (record { renders = locks.old.renders; last = last.old; past = past.old.entries }) turn result (record { renders = locks.new.renders; last = last.new; past = past.new.entries }) }
 {
     match turn {
@@ -97,5 +123,17 @@ pub fn taken(
                 Forced::Ticket(ticket)
             }
         },
+    }
+}
+
+/// What an ask comes to where nothing that is kept answers it.
+pub fn as_asked(forced: Forced) -> Asked
+    ensures asked { (s : State) (a : Address) (new : State) → IsUnkept s a → IsForcedOf s (block_of s.catalogue a) forced new → IsAskedOf s a result new }
+    ensures no_hit { (c : Catalogue) (a : Address) → IsTrueHit c a result }
+{
+    match forced {
+        Forced::Ticket(ticket) => Asked::Ticket(ticket),
+        Forced::Busy(number) => Asked::Busy(number),
+        Forced::Spent => Asked::Spent,
     }
 }

@@ -5,7 +5,6 @@ ghost use Rattle.clock.specs.Readings.{read, unread};
 use crate::moments::Moments;
 use causes::one_more;
 use std::marker::Model;
-use std::time;
 
 /// Gives moments, in seconds. It doesn't fail, and nothing is said of the order of what it gives. Contracts see how often it was
 /// asked, and the moment that it gave last.
@@ -33,7 +32,7 @@ impl Clock {
     }
 
     /// The time of day of a system, in seconds since 1970. Where that can't be read, the last moment is given again.
-    pub fn system(system: Box<dyn time::Clock + Drop + Send>) -> Clock
+    pub fn system(system: HostRuntime) -> Clock
         ensures { result ≡ unread }
     {
         Clock::of(Moments::System(system))

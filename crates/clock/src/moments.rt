@@ -1,5 +1,5 @@
 //! Where a clock takes its moments from.
-use std::time;
+use std::time::Clock;
 use std::vec::IntoIter;
 
 /// Moments, in seconds.
@@ -8,7 +8,7 @@ pub enum Moments {
     /// Those that were listed beforehand and weren't given yet.
     Listed(IntoIter<u64>),
     /// The time of day.
-    System(Box<dyn time::Clock + Drop + Send>),
+    System(HostRuntime),
 }
 
 impl Moments {

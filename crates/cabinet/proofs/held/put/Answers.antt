@@ -12,6 +12,6 @@ pub returns-clause-held : goal.returns-clause-held
 returns-clause-held c = λ m.
     let held = c.args.held.now in
     let k = c.args.kept.meta in
-    let w : Blob = record { number = c.args.kept.number; place = c.args.kept.place; length = c.args.kept.length; text = c.args.text } in
+    let w : Blob = record { number = c.args.kept.number; place = c.args.kept.place; length = c.args.kept.length; moment = c.args.kept.moment; uses = c.args.kept.uses; text = c.args.text } in
     let later = subst (λ eq. Updates eq held c.insert.new.self k (Some w)) derived_is (rw c.unwrap-older.ensures at c.insert.ensures.updates) in
     held_updated m k held.entries c.insert.new.self.entries (Some w) (later.0 m)

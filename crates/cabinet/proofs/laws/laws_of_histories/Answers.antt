@@ -1,9 +1,10 @@
 use Rattle.truncation_list.specs.Books.{AnswersFor}
 use Rattle.cabinet.specs.History.{first, standing, whole}
 use Rattle.cabinet.specs.Fresh.{cuts_of}
-use Rattle.cabinet.proofs.Fresher.{kept_fresh, still_fresh}
+use Rattle.cabinet.proofs.Fresher.{kept_current, still_fresh}
 use Rattle.cabinet.proofs.Holding.{bare_opens, holds_of}
 use Rattle.cabinet.proofs.Lists.{all_contained}
+use Rattle.cabinet.proofs.Moments.{moments_are}
 use Rattle.cabinet.proofs.Numbers.{differ_is, render_is, running_is, runs_is, ticket_is}
 use Rattle.cabinet.proofs.Disjoint.{regions_are}
 use Rattle.cabinet.proofs.Once.{once}
@@ -19,7 +20,8 @@ returns c = record {
   ticket_is = ticket_is;
   running_is = running_is;
   runs = runs_is;
-  fresh = kept_fresh;
+  current = kept_current;
+  moments = moments_are;
   later = still_fresh;
   holds = holds_of;
   answers = λ c o h cut may has. all_contained (AnswersFor (standing c (first o) h).book) (cuts_of (whole o h)) cut (holds_of c o h may).answers has;

@@ -13,7 +13,7 @@ pub returns-then-count_others-self-clause-shelves : goal.returns-then-count_othe
 returns-then-count_others-self-clause-shelves c =
     let i = c.self.inside in
     let others = c.count_others.ensures ∙ others_are i.catalogue i.store.blobs i.tally.extents i.tally.ledger i.tally.uses c.self.invariant c.args.meta in
-    subst (λ (v : Shelved). Shelves v (record { number = c.args.number; meta = c.args.meta }) c.args.blob.items shelving.Full v) c.self.view_is (subst (λ (n : ℕ). i.catalogue.kept_limit ≤ n) others c.if-count_others-self.true, refl)
+    subst (λ (v : Shelved). Shelves v (record { number = c.args.number; meta = c.args.meta }) c.args.moment c.args.blob.items shelving.Full v) c.self.view_is (subst (λ (n : ℕ). i.catalogue.kept_limit ≤ n) others c.if-count_others-self.true, refl)
 
 pub returns-in_default-clause-shelves : goal.returns-in_default-clause-shelves
 returns-in_default-clause-shelves c =
@@ -22,7 +22,7 @@ returns-in_default-clause-shelves c =
     let long : c.blob_bytes-length.result ≡ length c.args.blob.items = c.blob_bytes-length.ensures.size ∙ ap (λ (v : Shelved). blob_size v.catalogue c.args.meta) c.self.view_is ∙ sym c.requires.blob in
     let gap = gap_none i.catalogue i.store.blobs i.tally.extents i.tally.ledger i.tally.uses c.self.invariant c.blob_bytes-length.result c.take.new.self c.in_default.ensures.none c.in_default.ensures.unchanged c.take.ensures.sound in
     subst
-    (λ (v : Shelved). Shelves v (record { number = c.args.number; meta = c.args.meta }) c.args.blob.items shelving.NoRoom
+    (λ (v : Shelved). Shelves v (record { number = c.args.number; meta = c.args.meta }) c.args.moment c.args.blob.items shelving.NoRoom
     (record { catalogue = i.catalogue; blobs = i.store.blobs; uses = i.tally.uses.uses; clock = i.tally.uses.now; room = min i.store.spare (min c.take.new.self.spare i.tally.uses.spare) }))
     c.self.view_is (
       subst (λ (n : ℕ). n < i.catalogue.kept_limit) others c.if-count_others-self.false,
@@ -45,7 +45,7 @@ keep-requires-clause-key c =
 pub keep-requires-clause-region : goal.keep-requires-clause-region
 keep-requires-clause-region c =
     let i = c.self.inside in
-    let t : Kept = record { number = c.args.number; meta = c.args.meta; place = c.in-Some.place; length = c.blob_bytes-length.result } in
+    let t : Kept = record { number = c.args.number; meta = c.args.meta; place = c.in-Some.place; length = c.blob_bytes-length.result; moment = c.args.moment; uses = 0 } in
     older_taken i.catalogue i.store.blobs i.tally.extents i.tally.ledger i.tally.uses c.self.invariant t c.kept_of.result c.kept_of.ensures c.take.new.self c.in-Some.ensures.taken c.take.ensures.sound
 
 pub keep-requires-clause-counted : goal.keep-requires-clause-counted
@@ -56,13 +56,13 @@ keep-requires-clause-counted c =
 pub keep-requires-clause-fits : goal.keep-requires-clause-fits
 keep-requires-clause-fits c =
     let i = c.self.inside in
-    let t : Kept = record { number = c.args.number; meta = c.args.meta; place = c.in-Some.place; length = c.blob_bytes-length.result } in
+    let t : Kept = record { number = c.args.number; meta = c.args.meta; place = c.in-Some.place; length = c.blob_bytes-length.result; moment = c.args.moment; uses = 0 } in
     fits_beside i.catalogue i.store.blobs i.tally.extents i.tally.ledger i.tally.uses c.self.invariant t c.kept_of.result c.kept_of.ensures c.take.new.self c.in-Some.ensures.taken c.take.ensures.sound
 
 pub invariant_of-self-2 : goal.invariant_of-self-2
 invariant_of-self-2 c =
     let i = c.self.inside in
-    let t : Kept = record { number = c.args.number; meta = c.args.meta; place = c.in-Some.place; length = c.blob_bytes-length.result } in
+    let t : Kept = record { number = c.args.number; meta = c.args.meta; place = c.in-Some.place; length = c.blob_bytes-length.result; moment = c.args.moment; uses = 0 } in
     let left = c.keep.new.self in
     let meta = subst (λ (v : Shelved). IsMeta v.catalogue c.args.meta) (sym c.self.view_is) c.requires.meta in
     let others = c.count_others.ensures ∙ others_are i.catalogue i.store.blobs i.tally.extents i.tally.ledger i.tally.uses c.self.invariant c.args.meta in
@@ -75,17 +75,17 @@ pub returns-clause-shelves : goal.returns-clause-shelves
 returns-clause-shelves c =
     let i = c.self.inside in
     let left = c.keep.new.self in
-    let t : Kept = record { number = c.args.number; meta = c.args.meta; place = c.in-Some.place; length = c.blob_bytes-length.result } in
+    let t : Kept = record { number = c.args.number; meta = c.args.meta; place = c.in-Some.place; length = c.blob_bytes-length.result; moment = c.args.moment; uses = 0 } in
     let room = min c.put.new.self.spare (min left.extents.spare left.uses.spare) in
     let others = c.count_others.ensures ∙ others_are i.catalogue i.store.blobs i.tally.extents i.tally.ledger i.tally.uses c.self.invariant c.args.meta in
     let long : c.blob_bytes-length.result ≡ length c.args.blob.items = c.blob_bytes-length.ensures.size ∙ ap (λ (v : Shelved). blob_size v.catalogue c.args.meta) c.self.view_is ∙ sym c.requires.blob in
     let gap = gap_taken i.catalogue i.store.blobs i.tally.extents i.tally.ledger i.tally.uses c.self.invariant c.blob_bytes-length.result c.in-Some.place c.take.new.self c.in-Some.ensures.free c.in-Some.ensures.lowest c.in-Some.ensures.taken c.take.ensures.sound in
     subst
-    (λ (v : Shelved). Shelves v (record { number = c.args.number; meta = c.args.meta }) c.args.blob.items (shelving.Kept t)
+    (λ (v : Shelved). Shelves v (record { number = c.args.number; meta = c.args.meta }) c.args.moment c.args.blob.items (shelving.Kept t)
     (record { catalogue = i.catalogue; blobs = c.put.new.self.blobs; uses = left.uses.uses; clock = left.uses.now; room = room }))
     c.self.view_is (
       subst (λ (n : ℕ). n < i.catalogue.kept_limit) others c.if-count_others-self.false,
       subst (λ (n : ℕ). gap_for i.catalogue (listed i.store.blobs) n ≡ Some c.in-Some.place) long gap,
-      (λ j. record { number = c.args.number; meta = c.args.meta; place = c.in-Some.place; length = long j }),
+      (λ j. record { number = c.args.number; meta = c.args.meta; place = c.in-Some.place; length = long j; moment = c.args.moment; uses = 0 }),
       record { catalogue = refl; blobs = c.put.ensures.blobs; clock = c.keep.ensures.uses.now; uses = c.keep.ensures.uses.uses },
     )

@@ -28,6 +28,7 @@ returns-in_ok-text-in-Some c =
       as_kept (block_of c.args.catalogue.now c.args.address.now, w),
       f,
       refl,
+      refl,
       c.in_ok-text-in-Some.ensures.part ∙ ap (tile_part c.args.catalogue.now c.args.address.now) c.bytes.ensures,
       λ k is. c.in_ok-text-in-Some.ensures.sound k (c.bytes.ensures ∙ is),
     )
