@@ -124,9 +124,6 @@ fn main(rt: HostRuntime) -> ExitCode {
     let mut input = Input::Stdin(StdinSource::new(rt.stdin()));
     let mut output = StdoutSink::new(rt.stdout());
     let mut source = AnySource::open(&rt, CELLS, source);
-    let Ok(system) = Box::new(rt.alloc(), rt) else {
-        return ended(&rt, Status::OutOfMemory);
-    };
     let status = run_command(
         rt.alloc(),
         words.as_slice(),
@@ -135,7 +132,7 @@ fn main(rt: HostRuntime) -> ExitCode {
         &mut input,
         &mut output,
         &mut source,
-        Clock::system(system),
+        Clock::system(rt),
     );
     ended(&rt, status)
 }
