@@ -1,5 +1,5 @@
 -- The first event of a request: an ask or a force that comes to nothing yet, a ticket that is given, and a hit.
-use Rattle.std.proofs.Common.{◌≡◌, ℕ, Bool, true, false, List, [], ◌∷◌, length, Option, Some, None, refl, sym, ◌∙◌, ap, subst, append_assoc, append-nil}
+use Rattle.std.proofs.Common.{◌≡◌, ℕ, Bool, true, false, List, [], ◌∷◌, length, Option, Some, None, refl, sym, ◌∙◌, ap, subst, append_assoc}
 use Rattle.std.specs.Prelude.{IfSome}
 use Rattle.std.specs.Option.{option_map_or}
 use Rattle.cabinet.specs.Commands.{IsBusy, IsGiven, IsHit, IsSpent, IsUnkept}
@@ -39,31 +39,6 @@ entry_catalogue : (s t : State) (n : ℕ) (e : Entry) → t ≡ with_entry (aske
 entry_catalogue s t n e h = ap (λ u. u.catalogue) h
 
 -- WITHOUT A NUMBER
-
--- memory ran out
-pub no_memory : (s t : State) (a : Address) (force : Bool) (step : Step) → IsTile s.catalogue a → step.actor ≡ Idle → step.outcome ≡ Some outcome.NoMemory → t ≡ s → Begins s a force step t
-no_memory s t a force step tile idle ended same =
-    let P : Actor → Type 0 = IsAtWork s.catalogue a in
-    let Q : Actor → Type 0 = IsTrueActor s.catalogue in
-    let R : Actor → Type 0 = IsFailed in
-    let Truly : Option TileOutcome → Type 0 = IsTrueOutcome s.catalogue a in
-    let Held : Actor → Type 0 = IsFreshActor s.catalogue t.history (length s.history) a in
-    let Answered : Option TileOutcome → Type 0 = IsFreshOutcome s.catalogue t.history (length s.history) a in
-    record {
-      left = false;
-      moment = 0;
-      bytes = None;
-      began = shown_as step t Idle (Some outcome.NoMemory) idle ended ∙ rw same refl;
-      fits = record { tile = tile; work = subst P (sym idle) tt };
-      actor = subst Q (sym idle) tt;
-      not_failed = λ f. subst R idle f;
-      sound = λ sound. subst IsSound (sym same) sound;
-      truth = λ sound. subst Truly (sym ended) tt;
-      held_fresh = subst Held (sym idle) tt;
-      fresh = subst Answered (sym ended) tt;
-      grows = ([], ap (λ u. u.history) same ∙ sym (append-nil s.history));
-      catalogue = ap (λ u. u.catalogue) same;
-    }
 
 -- the clock was read, and nothing else was done
 module _ (s t : State) (n : ℕ) (a : Address) (step : Step) (tile : IsTile s.catalogue a) (same : t ≡ asked_at n s) where
