@@ -21,7 +21,7 @@ use Rattle.cache_core.specs.declared.outcome.TileOutcome.TheVariants as outcome
 use Rattle.cache_core.specs.Begun.{Begins}
 use Rattle.cache_core.specs.Fits.{IsFit, IsAtWork, IsTrueActor, IsTrueOutcome, IsFreshActor, IsFreshOutcome, Extends}
 use Rattle.cache_core.specs.Shown.{shown, IsFailed}
-use Rattle.cache_core.specs.Steps.{Stepped, asked, began, blob_of, unless_kept, render_wanted, unless_busy, given, goes_on, ends, hit, ticket_for, tile_at}
+use Rattle.cache_core.specs.Steps.{asked, began, blob_of, unless_kept, render_wanted, unless_busy, given, goes_on, ends, hit, ticket_for, tile_at}
 use Rattle.cache_core.proofs.Endings.{byte_of, bytes_of_blob}
 
 shown_as : (step : Step) (t : State) (actor : Actor) (o : Option TileOutcome) → step.actor ≡ actor → step.outcome ≡ o → shown step t ≡ record { cabinet = t; actor = actor; outcome = o }

@@ -11,7 +11,6 @@ use Rattle.cache_core.specs.Begun.{Begins}
 use Rattle.cache_core.specs.Shown.{shown}
 use Rattle.cache_core.specs.Steps.{Stepped, began, advanced, unless_kept}
 use Rattle.matrix_geometry.specs.declared.address.Address.{Address}
-use Rattle.raster_field.specs.Blocks.{block_of}
 use Rattle.tile_requests.specs.declared.request.Mode.{Mode}
 use Rattle.tile_requests.specs.declared.request.Mode.TheVariants.{Gets, Asks, Forces}
 use Rattle.tile_requests.specs.Events.{GoesFurther, Opens}
