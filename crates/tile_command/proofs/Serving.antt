@@ -15,7 +15,6 @@ use Rattle.tile_service.specs.Outside.{Outside}
 use Rattle.tile_service.specs.Run.{World}
 use Rattle.tile_service.specs.Schedules.{Schedules}
 use Rattle.tile_service.specs.SessionEnds.{HasSession}
-use Rattle.tile_command.specs.declared.status.Status.{Status}
 use Rattle.tile_command.specs.declared.status.Status.TheVariants as status
 use Rattle.tile_command.specs.Command.{HasScheduled, HasServedDrill, HasServedReplay, Inputs, IsDocument, IsRead, fresh_world, status_of_drill, status_of_schedule, status_of_session}
 
