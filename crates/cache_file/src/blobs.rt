@@ -2,7 +2,7 @@
 ghost use Rattle.std.specs.Prelude.{◌≡◌, ◌+◌, ◌<◌, ◌≤◌, ◌^◌, ℕ, List, IsTrue, OnOk, length, take, drop};
 ghost use Rattle.causes.specs.Causes.{HasCause};
 ghost use Rattle.gate_journal.specs.Sound.{IsSettled, IsSound};
-ghost use Rattle.cache_file.specs.File.{HoldsBlob, IsApart, KeepsBlob, Stays};
+ghost use Rattle.cache_file.specs.File.{Anywhere, HoldsBlob, IsApart, Stays};
 
 use crate::file::CacheFile;
 use blob_store::{putting, reading};
@@ -20,12 +20,9 @@ impl<D: Disk> CacheFile<D> {
         ensures told { D.told self.new.disk ≡ D.told self.old.disk }
         ensures start { self.new.start ≡ self.old.start }
         ensures journal { self.new.journal ≡ self.old.journal }
-        ensures stays { IsTrue (D.told self.old.disk) → Stays self.old.journal (D.state self.old.disk) (D.state self.new.disk) }
+        ensures stays { IsTrue (D.told self.old.disk) → Stays self.old.start (IsApart place (length blob.now))
+            self.old.journal (D.state self.old.disk) (D.state self.new.disk) }
         ensures holds { IsTrue (D.told self.old.disk) → OnOk result (HoldsBlob self.old.start place blob.now (D.state self.new.disk)) }
-        // Whatever comes of it.
-        ensures blobs { IsTrue (D.told self.old.disk) → (at : ℕ) (other : List ℕ) → IsApart place (length blob.now) at (length other)
-            → HoldsBlob self.old.start at other (D.state self.old.disk)
-            → KeepsBlob self.old.start at other (D.state self.old.disk) (D.state self.new.disk) }
         ensures cause { HasCause (D.faults self.old.disk) (D.faults self.new.disk) result }
     {
         putting::put(&mut self.disk, self.start + place, blob)
@@ -42,9 +39,8 @@ impl<D: Disk> CacheFile<D> {
         ensures journal { self.new.journal ≡ self.old.journal }
         ensures part { IsTrue (D.told self.old.disk) → (blob : List ℕ) → HoldsBlob self.old.start place blob (D.state self.old.disk)
             → span.now.start + span.now.length ≤ length blob → OnOk result (into.new ≡ take span.now.length (drop span.now.start blob)) }
-        ensures stays { IsTrue (D.told self.old.disk) → Stays self.old.journal (D.state self.old.disk) (D.state self.new.disk) }
-        ensures blobs { IsTrue (D.told self.old.disk) → (at : ℕ) (blob : List ℕ) → HoldsBlob self.old.start at blob (D.state self.old.disk)
-            → KeepsBlob self.old.start at blob (D.state self.old.disk) (D.state self.new.disk) }
+        ensures stays { IsTrue (D.told self.old.disk) → Stays self.old.start Anywhere
+            self.old.journal (D.state self.old.disk) (D.state self.new.disk) }
         ensures cause { HasCause (D.faults self.old.disk) (D.faults self.new.disk) result }
     {
         reading::read_tile(&mut self.disk, self.start + place, span, into)

@@ -1,9 +1,9 @@
 //! How records are added, and how room for them is made.
-ghost use Rattle.std.specs.Prelude.{◌≡◌, ◌+◌, ◌<◌, [], ◌∷◌, ◌++◌, ℕ, List, IsTrue, OnOk, OnErr, length};
+ghost use Rattle.std.specs.Prelude.{◌≡◌, ◌+◌, ◌<◌, [], ◌∷◌, ◌++◌, IsTrue, OnOk, OnErr, length};
 ghost use Rattle.causes.specs.Causes.{HasCause};
 ghost use Rattle.gate_journal.specs.Opened.{records};
 ghost use Rattle.gate_journal.specs.Sound.{IsAlike, IsSettled, IsSound, kept, room_of, slots_of, version_of};
-ghost use Rattle.cache_file.specs.File.{Brings, HoldsBlob, KeepsBlob, held, readied};
+ghost use Rattle.cache_file.specs.File.{Brings, held, readied};
 
 use crate::file::CacheFile;
 use disk_model::disk::{Disk, Failed};
@@ -19,9 +19,7 @@ impl<D: Disk> CacheFile<D> {
         ensures ok { OnOk result (IsSettled self.new.journal) }
         ensures err { OnErr result (¬ IsSettled self.new.journal) }
         ensures brings { IsTrue (D.told self.old.disk) → Brings result (held self.old.journal (D.state self.old.disk))
-            self.old.journal self.new.journal (D.state self.old.disk) (D.state self.new.disk) }
-        ensures blobs { IsTrue (D.told self.old.disk) → (place : ℕ) (blob : List ℕ) → HoldsBlob self.old.start place blob (D.state self.old.disk)
-            → KeepsBlob self.old.start place blob (D.state self.old.disk) (D.state self.new.disk) }
+            self.old.start self.old.journal self.new.journal (D.state self.old.disk) (D.state self.new.disk) }
         ensures cause { HasCause (D.faults self.old.disk) (D.faults self.new.disk) result }
     {
         if self.journal.settled() {
@@ -42,9 +40,7 @@ impl<D: Disk> CacheFile<D> {
         ensures err { OnErr result (¬ IsSettled self.new.journal) }
         ensures brings { IsTrue (D.told self.old.disk)
             → Brings result (readied (room_of self.old.journal) (held self.old.journal (D.state self.old.disk)) bodies.now)
-            self.old.journal self.new.journal (D.state self.old.disk) (D.state self.new.disk) }
-        ensures blobs { IsTrue (D.told self.old.disk) → (place : ℕ) (blob : List ℕ) → HoldsBlob self.old.start place blob (D.state self.old.disk)
-            → KeepsBlob self.old.start place blob (D.state self.old.disk) (D.state self.new.disk) }
+            self.old.start self.old.journal self.new.journal (D.state self.old.disk) (D.state self.new.disk) }
         ensures cause { HasCause (D.faults self.old.disk) (D.faults self.new.disk) result }
     {
         if self.journal.room() > 0 {
@@ -67,9 +63,7 @@ impl<D: Disk> CacheFile<D> {
         ensures err { OnErr result (¬ IsSettled self.new.journal) }
         ensures brings { IsTrue (D.told self.old.disk)
             → Brings result (readied (room_of self.old.journal) (held self.old.journal (D.state self.old.disk)) bodies.now)
-            self.old.journal self.new.journal (D.state self.old.disk) (D.state self.new.disk) }
-        ensures blobs { IsTrue (D.told self.old.disk) → (place : ℕ) (blob : List ℕ) → HoldsBlob self.old.start place blob (D.state self.old.disk)
-            → KeepsBlob self.old.start place blob (D.state self.old.disk) (D.state self.new.disk) }
+            self.old.start self.old.journal self.new.journal (D.state self.old.disk) (D.state self.new.disk) }
         ensures cause { HasCause (D.faults self.old.disk) (D.faults self.new.disk) result }
     {
         self.settle()?;
@@ -89,9 +83,7 @@ impl<D: Disk> CacheFile<D> {
         ensures err { OnErr result (¬ IsSettled self.new.journal × (room_of self.new.journal ≡ room_of self.old.journal)) }
         ensures brings { IsTrue (D.told self.old.disk) → Brings result
             (records (version_of self.old.journal) (kept self.old.journal (D.state self.old.disk).seen ++ body.now ∷ []))
-            self.old.journal self.new.journal (D.state self.old.disk) (D.state self.new.disk) }
-        ensures blobs { IsTrue (D.told self.old.disk) → (place : ℕ) (blob : List ℕ) → HoldsBlob self.old.start place blob (D.state self.old.disk)
-            → KeepsBlob self.old.start place blob (D.state self.old.disk) (D.state self.new.disk) }
+            self.old.start self.old.journal self.new.journal (D.state self.old.disk) (D.state self.new.disk) }
         ensures cause { HasCause (D.faults self.old.disk) (D.faults self.new.disk) result }
     {
         self.journal.append(&mut self.disk, body)

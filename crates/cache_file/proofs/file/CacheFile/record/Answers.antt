@@ -1,12 +1,16 @@
-use Rattle.std.proofs.Common.{subst, sym, ℕ}
-use Rattle.disk_model.specs.Images.{ChangesBy}
-use Rattle.gate_journal.specs.Sound.{SameFrom}
-use Rattle.cache_file.proofs.Keeping.{keeps_past}
+use Rattle.std.proofs.Common.{List, ℕ, [], ◌∷◌, ◌++◌, refl, inr}
+use Rattle.std.proofs.lemmas.Result.{on_ok_weaker}
+use Rattle.gate_journal.specs.Opened.{records}
+use Rattle.gate_journal.specs.Sound.{kept, version_of}
+use Rattle.gate_journal.proofs.Steps.{on_ok, on_err}
+use Rattle.cache_file.proofs.Bringing.{brings_of}
 use Rattle.cache_file.proofs.file.CacheFile.record.Goals as goal
 
-pub returns-clause-blobs : goal.returns-clause-blobs
-returns-clause-blobs g c told place blob =
+pub returns-clause-brings : goal.returns-clause-brings
+returns-clause-brings g c told =
     let f = c.args.self.now in
     let old = g.D.Disk.state f.disk in
-    let new = g.D.Disk.state c.append.new.disk in
-    keeps_past f.start place blob old new (subst (λ (n : ℕ). ChangesBy (SameFrom n) old new) (sym f.behind) (c.append.ensures.moves told).past)
+    let after : List (List ℕ) = kept f.journal old.seen ++ c.args.body.now ∷ [] in
+    let version = c.append.ensures.version in
+    brings_of after (version_of f.journal) (records (version_of f.journal) after) f.start f.journal c.append.new.self old (g.D.Disk.state c.append.new.disk) f.behind (inr (inr refl)) c.append.result (c.append.ensures.moves told)
+    (on_ok c.append.result version) (on_err c.append.result version) (on_ok_weaker c.append.result (λ done. done.0) c.append.ensures.ok)
