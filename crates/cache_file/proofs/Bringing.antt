@@ -9,7 +9,7 @@ use Rattle.gate_journal.specs.Layout.{journal_length}
 use Rattle.gate_journal.specs.Opened.{Opening, opened, records}
 use Rattle.gate_journal.specs.Sound.{IsAlike, IsSettled, IsSound, SameFrom, kept, slots_of, version_of}
 use Rattle.cache_file.specs.File.{Anywhere, Brings, HasHeld, IsAmong, held, opens_to, readied, unsure}
-use Rattle.cache_file.proofs.Sparing.{leaves_both, past_now, past_then, settled_sure}
+use Rattle.cache_file.proofs.Sparing.{leaves_both, past_now, past_then, settled_sure, whole_now}
 
 -- what an image has at each moment of a call that is to bring this
 abbrev pub AtMoment : Opening → ℕ → Journal → DiskState → Content → Type 0
@@ -17,7 +17,7 @@ AtMoment after start j old c = IsAmong j old after (opens_to j c) × HasHeld sta
 
 -- A call of the journal, which at each moment leaves the records from before or the second.
 module _ (bodies : List (List ℕ)) (version : ℕ) (second : Opening) (start : ℕ) (j j' : Journal) (old new : DiskState)
-    (begins : start ≡ journal_length (slots_of j)) (among : IsAmong j old (records version bodies) second) where
+    (begins : start ≡ journal_length (slots_of j)) (sound : IsSound j old) (among : IsAmong j old (records version bodies) second) where
   abbrev after : Opening
   after = records version bodies
 
@@ -26,7 +26,7 @@ module _ (bodies : List (List ℕ)) (version : ℕ) (second : Opening) (start : 
       leaves_both old new (λ c. IsAmong j old after (opens_to j c)) (HasHeld start Anywhere old)
       (leaves_as old new (λ c. (opens_to j c ≡ held j old) ⊎ (opens_to j c ≡ second)) (λ c. IsAmong j old after (opens_to j c)) moves.any_moment (λ c is.
       elim is [ inl before ↦ inl before | inr other ↦ subst (IsAmong j old after) (sym other) among ]))
-      (past_then start old new (subst (λ (n : ℕ). ChangesBy (SameFrom n) old new) (sym begins) moves.past))
+      (past_then start old new (whole_now start j old begins sound) (subst (λ (n : ℕ). ChangesBy (SameFrom n) old new) (sym begins) moves.past))
 
   pub brings_of : {T E : Type 0} (result : Result T E) → Moves result bodies second j j' old new → OnOk result (version_of j' ≡ version) → OnErr result (version_of j' ≡ version_of j) → OnOk result (IsSettled j')
       → Brings result after start j j' old new
@@ -37,7 +37,7 @@ module _ (bodies : List (List ℕ)) (version : ℕ) (second : Opening) (start : 
         done = done;
         failed = tt;
         then_unsure = inr (inr (settled_sure j' new settled ∙ done));
-        blobs = past_now start old new (subst (λ (n : ℕ). ChangesBy (SameFrom n) old new) (sym begins) moves.past);
+        keeps = past_now start old new (whole_now start j old begins sound) (subst (λ (n : ℕ). ChangesBy (SameFrom n) old new) (sym begins) moves.past);
         any_moment = moments (Ok value) moves;
       }
   brings_of (Err fault) moves is_version same_version settled = record {
@@ -45,18 +45,18 @@ module _ (bodies : List (List ℕ)) (version : ℕ) (second : Opening) (start : 
     done = tt;
     failed = λ k. records (same_version k) (moves.failed k);
     then_unsure = elim moves.undecided [ inl before ↦ inl before | inr other ↦ subst (IsAmong j old after) (sym other) among ];
-    blobs = past_now start old new (subst (λ (n : ℕ). ChangesBy (SameFrom n) old new) (sym begins) moves.past);
+    keeps = past_now start old new (whole_now start j old begins sound) (subst (λ (n : ℕ). ChangesBy (SameFrom n) old new) (sym begins) moves.past);
     any_moment = moments (Err fault) moves;
   }
 
 -- no call
-pub brings_none : {T E : Type 0} (value : T) (start : ℕ) (j : Journal) (disk : DiskState) → IsSound j disk → Brings {T = T} {E = E} (Ok value) (held j disk) start j j disk disk
-brings_none value start j disk sound = record {
+pub brings_none : {T E : Type 0} (value : T) (start : ℕ) (j : Journal) (disk : DiskState) → start ≡ journal_length (slots_of j) → IsSound j disk → Brings {T = T} {E = E} (Ok value) (held j disk) start j j disk disk
+brings_none value start j disk begins sound = record {
   sound = sound;
   done = refl;
   failed = tt;
   then_unsure = inr (inl refl);
-  blobs = λ c now place blob any holds. holds c now;
+  keeps = λ c now. record { whole = whole_now start j disk begins sound c now; blobs = λ place blob any holds. holds c now };
   any_moment = leaves_none disk (AtMoment (held j disk) start j disk);
 }
 
@@ -87,7 +87,7 @@ module _ (after : Opening) (start : ℕ) (j jm : Journal) (old mid : DiskState) 
     done = tt;
     failed = one.failed;
     then_unsure = widen (unsure jm mid) one.then_unsure;
-    blobs = one.blobs;
+    keeps = one.keeps;
     any_moment = leaves_as old mid (AtMoment (held j old) start j old) (AtMoment after start j old) one.any_moment widen_moment;
   }
 
@@ -102,7 +102,7 @@ module _ (after : Opening) (start : ℕ) (j jm : Journal) (old mid : DiskState) 
     same_opens c = λ k. opened (sym alike.same_digest k) (sym alike.same_slots k) c
 
     has_before : (c : Content) → HasHeld start Anywhere mid c → HasHeld start Anywhere old c
-    has_before c has place blob any holds = has place blob any (λ d now. one.blobs d now place blob any holds)
+    has_before c has = record { whole = has.whole; blobs = λ place blob any holds. has.blobs place blob any (λ d now. (one.keeps d now).blobs place blob any holds) }
 
     carry_moment : (c : Content) → AtMoment after start jm mid c → AtMoment after start j old c
     carry_moment c (among, has) = (subst (IsAmong j old after) (sym (same_opens c)) (carry (opens_to jm c) among), has_before c has)
@@ -113,7 +113,7 @@ module _ (after : Opening) (start : ℕ) (j jm : Journal) (old mid : DiskState) 
       done = two.done;
       failed = failed_then result two.failed;
       then_unsure = carry (unsure jn new) two.then_unsure;
-      blobs = λ c now. has_before c (two.blobs c now);
+      keeps = λ c now. has_before c (two.keeps c now);
       any_moment = leaves_then old mid new (AtMoment after start j old)
           (leaves_as old mid (AtMoment (held j old) start j old) (AtMoment after start j old) one.any_moment widen_moment)
           (leaves_as mid new (AtMoment after start jm mid) (AtMoment after start j old) two.any_moment carry_moment);

@@ -46,9 +46,10 @@ Anywhere other m = ⊤
 abbrev pub IsApart : ℕ → ℕ → ℕ → ℕ → Type 0
 IsApart place n other m = (other + m ≤ place) ⊎ (place + n ≤ other)
 
--- an image has each blob that was held before a call, where the call spares its bytes
-abbrev pub HasHeld : ℕ → (ℕ → ℕ → Type 0) → DiskState → Content → Type 0
-HasHeld start spared old c = (place : ℕ) (blob : List ℕ) → spared place (length blob) → HoldsBlob start place blob old → HasBlobAt (start + place) blob c
+-- An image has the journal whole, and each blob that was held before a call, where the call spares its bytes.
+pub record HasHeld (start : ℕ) (spared : ℕ → ℕ → Type 0) (old : DiskState) (c : Content) : Type 0 where
+  pub whole : start ≤ length c
+  pub blobs : (place : ℕ) (blob : List ℕ) → spared place (length blob) → HoldsBlob start place blob old → HasBlobAt (start + place) blob c
 
 -- What a call on the records came to, which is to bring these.
 pub record Brings {T E : Type 0} (result : Result T E) (after : Opening) (start : ℕ) (j j' : Journal) (old new : DiskState) : Type 0 where
@@ -58,7 +59,7 @@ pub record Brings {T E : Type 0} (result : Result T E) (after : Opening) (start 
   pub failed : OnErr result (held j' new ≡ held j old)
   pub then_unsure : IsAmong j old after (unsure j' new)
   -- each blob is still held
-  pub blobs : Every new.may_leave (HasHeld start Anywhere old)
+  pub keeps : Every new.may_leave (HasHeld start Anywhere old)
   -- a crash at any moment leaves the records from before it, what was unsure then, or what it brings, and each blob
   pub any_moment : Leaves old new (λ c. IsAmong j old after (opens_to j c) × HasHeld start Anywhere old c)
 
@@ -68,7 +69,7 @@ pub record Stays (start : ℕ) (spared : ℕ → ℕ → Type 0) (j : Journal) (
   pub sound : IsSound j new
   pub same_records : held j new ≡ held j old
   pub same_unsure : unsure j new ≡ unsure j old
-  pub blobs : Every new.may_leave (HasHeld start spared old)
+  pub keeps : Every new.may_leave (HasHeld start spared old)
   pub any_moment : Leaves old new (λ c. ((opens_to j c ≡ held j old) ⊎ (opens_to j c ≡ unsure j old)) × HasHeld start spared old c)
 
 -- the disk after an opening, which a refusal hands back

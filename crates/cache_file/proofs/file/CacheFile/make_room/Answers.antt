@@ -13,5 +13,5 @@ returns-clause-brings g c told =
     let new = g.D.Disk.state c.compact.new.disk in
     let bodies = c.args.bodies.now in
     subst (λ o. Brings c.compact.result o f.start f.journal c.compact.new.self old new) (sym (readied_none (room_of f.journal) (held f.journal old) bodies (omega (arith, c.room.ensures.room))))
-    (brings_of bodies 2 (records 2 bodies) f.start f.journal c.compact.new.self old new f.behind (inr (inr refl)) c.compact.result (c.compact.ensures.moves told)
+    (brings_of bodies 2 (records 2 bodies) f.start f.journal c.compact.new.self old new f.behind (c.requires.sound told) (inr (inr refl)) c.compact.result (c.compact.ensures.moves told)
     c.compact.ensures.version c.compact.ensures.same_version (on_ok_weaker c.compact.result (λ done. done.0) c.compact.ensures.ok))
