@@ -7,7 +7,7 @@ use Rattle.cabinet.specs.declared.entry.Entry.TheVariants as entry
 use Rattle.cabinet.specs.declared.replies.Finished.{Finished}
 use Rattle.cabinet.specs.declared.replies.Finished.TheVariants as finished
 use Rattle.cabinet.specs.Fresh.{IsFresh}
-use Rattle.cabinet.specs.History.{History}
+use Rattle.cabinet.specs.History.{History, stored_entry}
 use Rattle.cabinet.specs.State.{State, IsSound}
 use Rattle.cabinet.proofs.Fresher.{still_fresh}
 use Rattle.catalog.specs.declared.catalogue.Catalogue.{Catalogue}
@@ -35,11 +35,10 @@ abandons_grow s t k (inr h) = (entry.Ended k.number ∷ [], ap (λ u. u.history)
 
 pub finishes_grow : (s t : State) (k : Ticketed) (blob : List ℕ) (r : Finished) → Finishes s k blob r t → Extends s.history t.history
 finishes_grow s t k blob finished.Stranger h = same_history s t h.1
-finishes_grow s t k blob (finished.Overtaken cut) h = (entry.Ended k.number ∷ [], ap (λ u. u.history) h.1)
-finishes_grow s t k blob finished.Full h = (entry.Ended k.number ∷ [], ap (λ u. u.history) h.2)
-finishes_grow s t k blob finished.NoRoom h = (entry.Ended k.number ∷ [], ap (λ u. u.history) h.3)
-finishes_grow s t k blob finished.Kept h =
-    let kept = kept_at k h.2.0 (length blob) in (entry.Stored kept.number kept.meta kept.place kept.length ∷ [], ap (λ u. u.history) h.2.2)
+finishes_grow s t k blob (finished.Overtaken cut) h = (entry.Ended k.number ∷ [], ap (λ u. u.history) h.2)
+finishes_grow s t k blob finished.Full h = (entry.Ended k.number ∷ [], ap (λ u. u.history) h.3)
+finishes_grow s t k blob finished.NoRoom h = (entry.Ended k.number ∷ [], ap (λ u. u.history) h.4)
+finishes_grow s t k blob finished.Kept h = (stored_entry (kept_at k h.0 h.3.0 (length blob)) ∷ [], ap (λ u. u.history) h.3.2)
 
 pub extends_fresh : (c : Catalogue) (h g : History) (p : ℕ) (a : Address) (k : ℕ) → Extends h g → p ≤ length h → IsFresh c h p a k → IsFresh c g p a k
 extends_fresh c h g p a k more within fresh = let P : History → Type 0 = λ x. IsFresh c x p a k in subst P (sym more.1) (still_fresh c h more.0 p a k within fresh)
@@ -52,15 +51,15 @@ abandons_catalogue s t k (inr h) = ap (λ u. u.catalogue) h.1
 
 pub finishes_catalogue : (s t : State) (k : Ticketed) (blob : List ℕ) (r : Finished) → Finishes s k blob r t → t.catalogue ≡ s.catalogue
 finishes_catalogue s t k blob finished.Stranger h = ap (λ u. u.catalogue) h.1
-finishes_catalogue s t k blob (finished.Overtaken cut) h = ap (λ u. u.catalogue) h.1
-finishes_catalogue s t k blob finished.Full h = ap (λ u. u.catalogue) h.2
-finishes_catalogue s t k blob finished.NoRoom h = ap (λ u. u.catalogue) h.3
-finishes_catalogue s t k blob finished.Kept h = ap (λ u. u.catalogue) h.2.2
+finishes_catalogue s t k blob (finished.Overtaken cut) h = ap (λ u. u.catalogue) h.2
+finishes_catalogue s t k blob finished.Full h = ap (λ u. u.catalogue) h.3
+finishes_catalogue s t k blob finished.NoRoom h = ap (λ u. u.catalogue) h.4
+finishes_catalogue s t k blob finished.Kept h = ap (λ u. u.catalogue) h.3.2
 
--- THE LAST EVENT
+-- THE LAST EVENT, in which no clock is read
 
 pub ending : (told : Option ℕ) (before after : ℕ) → before ≤ after → (s t : State) (actor : Actor) (step : Step) (o : TileOutcome) (left : Bool) (bytes : Option (ℕ → ℕ))
-    → step.actor ≡ Idle → step.outcome ≡ Some o → ends t o ≡ advanced s actor left bytes → Extends s.history t.history → t.catalogue ≡ s.catalogue
+    → step.actor ≡ Idle → step.outcome ≡ Some o → ends t o ≡ advanced s actor left 0 bytes → Extends s.history t.history → t.catalogue ≡ s.catalogue
     → (told ≡ Some s.catalogue.source → IsSound s → IsTrueActor s.catalogue actor → IsSound t)
     → ((a : Address) → IsFit s.catalogue a actor → IsTrueActor s.catalogue actor → IsTrueOutcome s.catalogue a (Some o))
     → ((a : Address) (p : ℕ) → IsFit s.catalogue a actor → p ≤ length s.history → IsFreshActor s.catalogue s.history p a actor → IsFreshOutcome s.catalogue t.history (place_of actor (length s.history) p) a (Some o))
@@ -75,6 +74,7 @@ ending told before after later s t actor step o left bytes idle ended is_step gr
     let Failing : Actor → Type 0 = IsFailed in
     record {
       left = left;
+      moment = 0;
       bytes = bytes;
       advanced = rw idle (rw ended is_step);
       fits = λ a fit. record { tile = fit.tile; work = subst (λ x. Works x a) (sym idle) tt };
@@ -118,6 +118,7 @@ painted_on told before after later s k a blob bytes step fit size part text acto
     let Failing : Actor → Type 0 = IsFailed in
     record {
       left = true;
+      moment = 0;
       bytes = Some (byte_of blob);
       advanced = rw actor (rw going (rw part (ap (holds s k a) (sym (bytes_of_blob c k.meta blob size)))));
       fits = λ b fit_b. record { tile = fit_b.tile; work = subst (λ x. Works x b) (sym actor) (record { ticket = fit_b.work.1; size = size; miss = refl; number = refl; part = part ∙ ap (λ x. tile_part c x blob) fit_b.work.0 }) };

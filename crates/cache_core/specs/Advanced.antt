@@ -11,9 +11,9 @@ use Rattle.cache_core.specs.Steps.{advanced}
 
 -- From s an actor came to t by its next event, while the source, modelled with this number or not, went from one count
 -- of faults to another: memory was left for it or not, the clock gave a moment, a rendering gave some bytes or failed, a kept blob
--- that is not modelled had some bytes, and all else is fixed. An actor that fits a request fits it afterwards. The source has failed at a render only where its count rose. Where the
--- source is modelled as the catalogue's, what is kept, held and answered stays true. What is held and answered
--- is fresh at the request's place.
+-- that is not modelled had some bytes, and all else is fixed. An actor that fits a request fits it afterwards. The source has failed
+-- at a render only where its count rose. Where the source is modelled as the catalogue's, what is kept, held and answered stays true.
+-- What is held and answered is fresh at the request's place.
 pub record Advances (told : Option ℕ) (before after : ℕ) (s : State) (actor : Actor) (step : Step) (t : State) : Type 0 where
   pub left : Bool
   pub moment : ℕ

@@ -7,9 +7,9 @@ use Rattle.cache_core.specs.Fits.{IsFit, IsTrueActor, IsTrueOutcome, IsFreshActo
 use Rattle.cache_core.specs.Shown.{shown, IsFailed}
 use Rattle.cache_core.specs.Steps.{began}
 
--- From s a request for a tile, with force or without, came to t by its first event: memory was left for it or not, the clock gave a moment, a kept blob that
--- is not modelled had some bytes, and all else is fixed. The actor fits the request, the cabinet stays sound, what is answered from a sound one is true, and
--- what is held or answered is fresh at this ask.
+-- From s a request for a tile, with force or without, came to t by its first event: memory was left for it or not, the clock gave a
+-- moment, a kept blob that is not modelled had some bytes, and all else is fixed. The actor fits the request, the cabinet stays sound,
+-- what is answered from a sound one is true, and what is held or answered is fresh at this ask.
 pub record Begins (s : State) (a : Address) (force : Bool) (step : Step) (t : State) : Type 0 where
   pub left : Bool
   pub moment : ℕ

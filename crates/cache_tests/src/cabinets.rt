@@ -6,6 +6,7 @@ ghost use Rattle.raster_field.specs.Blocks.{IsMeta};
 use cabinet::cabinet::Cabinet;
 use cabinet::replies::{Asked, Finished, Forced};
 use catalog::catalogue::Catalogue;
+use clock::clock::Clock;
 use fixtures::tiles::corner_tile;
 use metatile_plan::metatile::MetaKey;
 use raster_field::laws::laws_of_metatiles;
@@ -18,7 +19,8 @@ use std::test::Fail;
 fn new(alloc: Global) -> Result<Cabinet, AllocError>
     ensures { IfOk result (λ c. c.catalogue ≡ demo) }
 {
-    Cabinet::memory(alloc, Catalogue::demo(alloc)?)
+    let clock = Clock::listed(Vec::new(alloc));
+    Cabinet::memory(alloc, Catalogue::demo(alloc)?, clock)
 }
 
 /// The metatile of the corner.

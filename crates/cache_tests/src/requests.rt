@@ -3,6 +3,7 @@ use cabinet::cabinet::Cabinet;
 use cache_core::actor::{Actor, Step};
 use cache_core::steps::{advance, begin, give_up};
 use catalog::catalogue::Catalogue;
+use clock::clock::Clock;
 use fixtures::tiles::first_tile;
 use source_render::numbered::Numbered;
 use std::test::Fail;
@@ -13,7 +14,8 @@ const TEXT: &[u8] = b"P6\n2 2\n255\n\x7f\x7f\x7f\x07\x07\x07\xe7\xe7\xe7\x6f\x6f
 #[test]
 fn a_tile_is_rendered_and_given_up(rt: HostRuntime) -> Result<(), Fail> {
     let alloc = rt.alloc();
-    let mut cabinet = Cabinet::memory(alloc, Catalogue::demo(alloc)?)?;
+    let clock = Clock::listed(Vec::new(alloc));
+    let mut cabinet = Cabinet::memory(alloc, Catalogue::demo(alloc)?, clock)?;
     let mut source = Numbered::new(0);
     let Step { actor, outcome: _ } = begin(alloc, &mut cabinet, &first_tile(), false);
     let Actor::Holding(ticket, address) = actor else {

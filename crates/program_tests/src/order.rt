@@ -5,6 +5,7 @@ ghost use Rattle.http_wire.specs.Side.{side};
 
 use cabinet::cabinet::Cabinet;
 use catalog::catalogue::Catalogue;
+use clock::clock::Clock;
 use exact_ratio::words::Words;
 use http_wire::links::Link;
 use http_wire::memory_sink::MemorySink;
@@ -58,8 +59,9 @@ impl Link for NotingLink {
 
 /// Serves these bytes as those of a connection, so many at a time, and gives the link and the end.
 fn served(alloc: Global, bytes: &[u8], piece: usize) -> Result<(NotingLink, SessionEnd), Fail> {
+    let clock = Clock::listed(Vec::new(alloc));
     let mut counter = Counter {
-        cabinet: Cabinet::memory(alloc, Catalogue::demo(alloc)?)?,
+        cabinet: Cabinet::memory(alloc, Catalogue::demo(alloc)?, clock)?,
         rest: RestTable::new(alloc)?,
         capabilities: Words::of(Vec::new(alloc)),
     };

@@ -1,4 +1,5 @@
 //! A connection that ends after each of its bytes.
+use clock::clock::Clock;
 use exact_ratio::words::Words;
 use http_wire::memory_sink::MemorySink;
 use http_wire::memory_source::MemorySource;
@@ -37,6 +38,7 @@ fn replayed(alloc: Global, bytes: &[u8]) -> Result<(Status, Vec<u8>), Fail> {
         &mut supply(alloc, bytes)?,
         &mut output,
         &mut Numbered::new(0),
+        Clock::listed(Vec::new(alloc)),
     );
     Ok((status, Vec::from_slice(alloc, output.taken())?))
 }

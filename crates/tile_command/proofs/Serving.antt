@@ -2,6 +2,7 @@
 use Rattle.std.proofs.Common.{ℕ, ◌≡◌, List, Ok, Option, Some, None, inr}
 use Rattle.cabinet.specs.State.{State, IsKnown, fresh_state}
 use Rattle.catalog.specs.declared.catalogue.Catalogue.{Catalogue}
+use Rattle.clock.specs.Readings.{Readings}
 use Rattle.command_words.specs.declared.words.Word.{Word}
 use Rattle.tile_drill.specs.declared.drill.DrillEnd.{DrillEnd}
 use Rattle.tile_drill.specs.declared.drill.DrillEnd.TheVariants as drill_end
@@ -44,9 +45,9 @@ other_of_session session_end.ReadFault is = cc
 other_of_session session_end.WriteFault is = cc
 other_of_session session_end.OutOfMemory is = cc
 
-module _ (i : Inputs) (o : Outside) (CapabilitiesStay LinesStay OutputStays SourceStays : Type 0) (c : Catalogue) (text : List ℕ) (read : IsRead i.catalogue (Ok c)) (document : IsDocument i.capabilities text) where
-  pub served_schedule : (t : World) → IsKnown t.cabinet → (Untouched : Type 0) → (Untouched → OutputStays × SourceStays) → (e : ScheduleEnd) → Schedules i.lines o Untouched (fresh_world c text) t e
-      → HasScheduled i o CapabilitiesStay LinesStay OutputStays SourceStays (status_of_schedule e)
+module _ (i : Inputs) (o : Outside) (clock : Readings) (CapabilitiesStay LinesStay OutputStays SourceStays : Type 0) (c : Catalogue) (text : List ℕ) (read : IsRead i.catalogue (Ok c)) (document : IsDocument i.capabilities text) where
+  pub served_schedule : (t : World) → IsKnown t.cabinet → (Untouched : Type 0) → (Untouched → OutputStays × SourceStays) → (e : ScheduleEnd) → Schedules i.lines o Untouched (fresh_world c text clock) t e
+      → HasScheduled i o clock CapabilitiesStay LinesStay OutputStays SourceStays (status_of_schedule e)
   served_schedule t known Untouched stay end.Done h = (c, read, text, document, (t, known, h))
   served_schedule t known Untouched stay (end.Line n) h = (c, read, text, document, (t, known, h))
   served_schedule t known Untouched stay end.WriteFault h = (c, read, text, document, (t, known, h))
@@ -54,12 +55,12 @@ module _ (i : Inputs) (o : Outside) (CapabilitiesStay LinesStay OutputStays Sour
   served_schedule t known Untouched stay end.TooLong h = let s = stay h.1 in (inr (inr (c, read, text, document, h.0)), s.0, s.1)
   served_schedule t known Untouched stay end.OutOfMemory h = let s = stay h in (inr (inr (c, read, text, document, tt)), s.0, s.1)
 
-  pub served_drill : (t : World) → IsKnown t.cabinet → (number : ℕ) → LinesStay → (e : DrillEnd) → Drills o OutputStays number (fresh_world c text) t e → HasServedDrill i o CapabilitiesStay LinesStay OutputStays SourceStays number (status_of_drill e)
+  pub served_drill : (t : World) → IsKnown t.cabinet → (number : ℕ) → LinesStay → (e : DrillEnd) → Drills o OutputStays number (fresh_world c text clock) t e → HasServedDrill i o clock CapabilitiesStay LinesStay OutputStays SourceStays number (status_of_drill e)
   served_drill t known number lines drill_end.Done h = (lines, (c, read, text, document, (t, known, h)))
   served_drill t known number lines drill_end.WriteFault h = (lines, (c, read, text, document, (t, known, h)))
   served_drill t known number lines drill_end.OutOfMemory h = inr (lines, (c, read, text, document, (t, known, h)))
 
-  pub served_replay : (t : State) → IsKnown t → (e : SessionEnd) → HasSession i.lines o text (fresh_state c) t e → HasServedReplay i o CapabilitiesStay LinesStay OutputStays SourceStays (status_of_session e)
+  pub served_replay : (t : State) → IsKnown t → (e : SessionEnd) → HasSession i.lines o text (fresh_state c clock) t e → HasServedReplay i o clock CapabilitiesStay LinesStay OutputStays SourceStays (status_of_session e)
   served_replay t known session_end.Closed h = (c, read, text, document, (t, known, h))
   served_replay t known session_end.Truncated h = (c, read, text, document, (t, known, h))
   served_replay t known (session_end.Bad code) h = (c, read, text, document, (t, known, h))

@@ -5,6 +5,7 @@ use Rattle.cabinet.specs.State.{State, IsKnown, fresh_state}
 use Rattle.catalog.specs.declared.catalogue.Catalogue.{Catalogue}
 use Rattle.catalog.specs.declared.fault.CatalogueFault.{CatalogueFault}
 use Rattle.causes.specs.Causes.{Rose}
+use Rattle.clock.specs.Readings.{Readings}
 use Rattle.config_text.specs.Text.{catalogue_of}
 use Rattle.http_wire.specs.declared.inputs.InputEnd.{InputEnd}
 use Rattle.http_wire.specs.declared.inputs.InputEnd.TheVariants as input_end
@@ -81,9 +82,9 @@ Describes i (Err input_end.OutOfMemory) = ⊤
 
 -- THE COMMAND
 
--- a cabinet in memory of a catalogue, in which nothing has happened, beside the capabilities document; no actor is busy
-abbrev pub fresh_world : Catalogue → List ℕ → World
-fresh_world c text = record { cabinet = fresh_state c; capabilities = text; seats = free_seats }
+-- a cabinet in memory of a catalogue with a clock, in which nothing has happened, beside the capabilities document; no actor is busy
+abbrev pub fresh_world : Catalogue → List ℕ → Readings → World
+fresh_world c text clock = record { cabinet = fresh_state c clock; capabilities = text; seats = free_seats }
 
 -- the inputs of a command: the catalogue's, the capabilities', and the one that the words speak of, which has the lines of a
 -- schedule or the bytes of a connection
@@ -115,23 +116,23 @@ status_of_session session_end.ReadFault = status.ReadFault
 status_of_session session_end.WriteFault = status.WriteFault
 status_of_session session_end.OutOfMemory = status.OutOfMemory
 
--- That an input, the output or the source stays as it was is a fact of its own for each of them.
-module _ (i : Inputs) (o : Outside) (CapabilitiesStay LinesStay OutputStays SourceStays : Type 0) where
+-- The clock has given this before. That an input, the output or the source stays as it was is a fact of its own for each of them.
+module _ (i : Inputs) (o : Outside) (clock : Readings) (CapabilitiesStay LinesStay OutputStays SourceStays : Type 0) where
   -- both files were read, and this holds of the catalogue and of the capabilities document
   abbrev pub BothRead : (Catalogue → List ℕ → Type 0) → Type 0
   BothRead P = (c : Catalogue) × IsRead i.catalogue (Ok c) × (text : List ℕ) × IsDocument i.capabilities text × P c text
 
   -- the schedule was run with them, and ended so; the cabinet after it is one that commands can make
   abbrev pub HasEnded : ScheduleEnd → Type 0
-  HasEnded e = BothRead (λ c text. (t : World) × IsKnown t.cabinet × Schedules i.lines o (OutputStays × SourceStays) (fresh_world c text) t e)
+  HasEnded e = BothRead (λ c text. (t : World) × IsKnown t.cabinet × Schedules i.lines o (OutputStays × SourceStays) (fresh_world c text clock) t e)
 
   -- the drill was run with them, and ended so; so is the cabinet after it
   abbrev pub HasDrilled : ℕ → DrillEnd → Type 0
-  HasDrilled number e = LinesStay × BothRead (λ c text. (t : World) × IsKnown t.cabinet × Drills o OutputStays number (fresh_world c text) t e)
+  HasDrilled number e = LinesStay × BothRead (λ c text. (t : World) × IsKnown t.cabinet × Drills o OutputStays number (fresh_world c text clock) t e)
 
   -- the bytes of a connection were served with them, and the session ended so; so is the cabinet after it
   abbrev pub HasReplayed : SessionEnd → Type 0
-  HasReplayed e = BothRead (λ c text. (t : State) × IsKnown t × HasSession i.lines o text (fresh_state c) t e)
+  HasReplayed e = BothRead (λ c text. (t : State) × IsKnown t × HasSession i.lines o text (fresh_state c clock) t e)
 
   -- the session ended within the stream: in a message, at bytes that are no message, or after as many as it answers
   abbrev pub HasBrokenOff : SessionEnd → Type 0

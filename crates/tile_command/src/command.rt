@@ -12,6 +12,7 @@ use crate::replay::replay;
 use crate::status::Status;
 use cabinet::cabinet::Cabinet;
 use catalog::catalogue::Catalogue;
+use clock::clock::Clock;
 use command_words::words::{Word, word_of};
 use exact_ratio::words::Words;
 use http_wire::inputs::InputEnd;
@@ -64,17 +65,18 @@ fn status_of_session(end: SessionEnd) -> Status
     }
 }
 
-/// A cabinet in memory of a catalogue, beside the capabilities document.
+/// A cabinet in memory of a catalogue with a clock, beside the capabilities document.
 fn counter_of(
     alloc: Global,
     catalogue: Catalogue,
     capabilities: Words,
+    clock: Clock,
 ) -> Result<Counter, AllocError>
     requires { IsValid catalogue }
-    ensures { IfOk result (λ c. (c.cabinet ≡ fresh_state catalogue) × (c.capabilities ≡ capabilities)) }
+    ensures { IfOk result (λ c. (c.cabinet ≡ fresh_state catalogue clock) × (c.capabilities ≡ capabilities)) }
 {
     Ok(Counter {
-        cabinet: Cabinet::memory(alloc, catalogue)?,
+        cabinet: Cabinet::memory(alloc, catalogue, clock)?,
         rest: RestTable::new(alloc)?,
         capabilities,
     })
@@ -83,7 +85,8 @@ fn counter_of(
 /// Does what the words say, on a cabinet in memory of the catalogue that it reads, with the capabilities document. A
 /// catalogue of no bytes is the built-in one. `schedule` runs the lines of the input and writes the answers; `replay` serves
 /// the input as the bytes of one connection and writes the responses; `drill` and a number runs the lines that the number
-/// makes, and writes a summary. `Usage` exactly where the words are none of these; each other status comes as `Status` says.
+/// makes, and writes a summary. Each ask and force takes its moment from the clock. `Usage` exactly where the words are none of
+/// these; each other status comes as `Status` says.
 pub fn run_command<S: Source, I: ByteSource, O: ByteSink>(
     alloc: Global,
     words: &[Words],
@@ -92,6 +95,7 @@ pub fn run_command<S: Source, I: ByteSource, O: ByteSink>(
     input: &mut I,
     output: &mut O,
     source: &mut S,
+    clock: Clock,
 ) -> Status
     ensures usage { (result ≡ Status.Usage) ↔ (word_of words.now ≡ None) }
     ensures served { HasServed
@@ -101,7 +105,7 @@ pub fn run_command<S: Source, I: ByteSource, O: ByteSink>(
           lines = record { reads = record { before = I.faults input.old; after = I.faults input.new }; from = I.left input.old; to = I.left input.new };
         })
         (record { told = S.told source.old; renders = record { before = S.faults source.old; after = S.faults source.new }; writes = record { before = O.faults output.old; after = O.faults output.new }; from = O.taken output.old; to = O.taken output.new })
-        (capabilities.new ≡ capabilities.old) (input.new ≡ input.old) (output.new ≡ output.old) (source.new ≡ source.old) (catalogue.new ≡ catalogue.old) (word_of words.now) result }
+        clock (capabilities.new ≡ capabilities.old) (input.new ≡ input.old) (output.new ≡ output.old) (source.new ≡ source.old) (catalogue.new ≡ catalogue.old) (word_of words.now) result }
 {
     let Some(word) = word_of(words) else {
         return Status::Usage;
@@ -119,7 +123,7 @@ pub fn run_command<S: Source, I: ByteSource, O: ByteSink>(
         Err(InputEnd::TooLong) => return Status::TooLong,
         Err(InputEnd::OutOfMemory) => return Status::OutOfMemory,
     };
-    let Ok(mut counter) = counter_of(alloc, catalogue, capabilities) else {
+    let Ok(mut counter) = counter_of(alloc, catalogue, capabilities, clock) else {
         return Status::OutOfMemory;
     };
     match word {

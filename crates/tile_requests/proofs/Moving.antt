@@ -2,8 +2,9 @@
 use Rattle.std.proofs.Common.{◌≡◌, ℕ, ◌+◌, ◌≤◌, Bool, true, false, ◌++◌, length, Option, Some, None, inl, inr, refl, sym, ap, ◌∙◌, subst, arith, append_assoc}
 use Rattle.std.specs.Prelude.{◌⊎◌}
 use Rattle.std.proofs.lemmas.List.{length-append}
-use Rattle.cabinet.specs.History.{History, kept_of, next}
-use Rattle.cabinet.specs.State.{State, now}
+use Rattle.cabinet.specs.Commands.{answering}
+use Rattle.cabinet.specs.History.{History, next}
+use Rattle.cabinet.specs.State.{State, asked_at, now}
 use Rattle.cabinet.specs.declared.kept.Kept.{Kept}
 use Rattle.cache_core.specs.declared.actor.Actor.{Actor}
 use Rattle.cache_core.specs.declared.actor.Actor.TheVariants as actor
@@ -53,15 +54,15 @@ plain_kept : (s : State) (a : Address) (bytes : Option (ℕ → ℕ)) (t : Optio
 plain_kept s a bytes (Some t) = (refl, refl)
 plain_kept s a bytes None = plain_busy s a false (running_for (block_of s.catalogue a) (now s).out)
 
-plain_began : (s : State) (a : Address) (force left : Bool) (bytes : Option (ℕ → ℕ)) → Plain (began s a force left bytes)
-plain_began s a force false bytes = (refl, refl)
-plain_began s a true true bytes = plain_busy s a true (running_for (block_of s.catalogue a) (now s).out)
-plain_began s a false true bytes = plain_kept s a bytes (kept_of (block_of s.catalogue a) (now s))
+plain_began : (s : State) (a : Address) (force left : Bool) (n : ℕ) (bytes : Option (ℕ → ℕ)) → Plain (began s a force left n bytes)
+plain_began s a force false n bytes = (refl, refl)
+plain_began s a true true n bytes = let u = asked_at n s in plain_busy u a true (running_for (block_of s.catalogue a) (now u).out)
+plain_began s a false true n bytes = let u = asked_at n s in plain_kept u a bytes (answering u a)
 
 pub begun_moves : (told : Option ℕ) (n : ℕ) (s : State) (a : Address) (force : Bool) (step : Step) (t : State) → Begins s a force step t → Moves told n n s actor.Idle a (length s.history) step t
 begun_moves told n s a force step t h =
     let P : Stepped → Type 0 = Plain in
-    let plain : Plain (shown step t) = subst P (sym h.began) (plain_began s a force h.left h.bytes) in
+    let plain : Plain (shown step t) = subst P (sym h.began) (plain_began s a force h.left h.moment h.bytes) in
     let none = plain.1 in
     record {
       fits = h.fits;
@@ -83,20 +84,20 @@ begun_moves told n s a force step t h =
 abbrev Further : Actor → Stepped → Type 0
 Further x r = GoesOn r.actor r.outcome × ((failing r.outcome + owed r.actor ≤ owed x) ⊎ (IsFailed r.actor × (failing r.outcome + owed r.actor ≤ owed x + 1)))
 
-further_after : (s : State) (x : Actor) (left : Bool) (bytes : Option (ℕ → ℕ)) → (IsIdle x → ⊥) → Further x (advanced s x left bytes)
-further_after s actor.Idle left bytes busy = absurd (busy tt)
-further_after s (actor.Waiting a force) left bytes busy = let p = plain_began s a force left bytes in let none = p.1 in (p.0, inl (omega arith))
-further_after s (actor.Holding t a) false bytes busy = (refl, inl (omega arith))
-further_after s (actor.Holding t a) true None busy = (λ idle. idle, inr (tt, omega arith))
-further_after s (actor.Holding t a) true (Some bytes) busy = (λ idle. idle, inl (omega arith))
-further_after s (actor.Rendered t text tile) left bytes busy = (refl, inl (omega arith))
-further_after s (actor.Failed t) left bytes busy = (refl, inl (omega arith))
+further_after : (s : State) (x : Actor) (left : Bool) (n : ℕ) (bytes : Option (ℕ → ℕ)) → (IsIdle x → ⊥) → Further x (advanced s x left n bytes)
+further_after s actor.Idle left n bytes busy = absurd (busy tt)
+further_after s (actor.Waiting a force) left n bytes busy = let p = plain_began s a force left n bytes in let none = p.1 in (p.0, inl (omega arith))
+further_after s (actor.Holding t a) false n bytes busy = (refl, inl (omega arith))
+further_after s (actor.Holding t a) true n None busy = (λ idle. idle, inr (tt, omega arith))
+further_after s (actor.Holding t a) true n (Some bytes) busy = (λ idle. idle, inl (omega arith))
+further_after s (actor.Rendered t text tile) left n bytes busy = (refl, inl (omega arith))
+further_after s (actor.Failed t) left n bytes busy = (refl, inl (omega arith))
 
 -- a request goes on after an event, or has its outcome
 pub advance_goes : (told : Option ℕ) (before after : ℕ) (s : State) (x : Actor) (step : Step) (t : State) → (IsIdle x → ⊥) → Advances told before after s x step t → GoesOn step.actor step.outcome
 advance_goes told before after s x step t busy h =
     let P : Stepped → Type 0 = Further x in
-    let after_it : Further x (shown step t) = subst P (sym h.advanced) (further_after s x h.left h.bytes busy) in
+    let after_it : Further x (shown step t) = subst P (sym h.advanced) (further_after s x h.left h.moment h.bytes busy) in
     after_it.0
 
 place_within : (x : Actor) (here p : ℕ) → p ≤ here → place_of x here p ≤ here
@@ -111,7 +112,7 @@ pub advance_moves : (told : Option ℕ) (before after : ℕ) (s : State) (x : Ac
     → Moves told before after s x a (place_of x (length s.history) p) step t
 advance_moves told before after s x a p step t fit busy within fresh h =
     let P : Stepped → Type 0 = Further x in
-    let after_it : Further x (shown step t) = subst P (sym h.advanced) (further_after s x h.left h.bytes busy) in
+    let after_it : Further x (shown step t) = subst P (sym h.advanced) (further_after s x h.left h.moment h.bytes busy) in
     record {
       fits = h.fits a fit;
       goes_on = after_it.0;

@@ -1,6 +1,6 @@
 -- A request and its events in a line, as a function of the cabinet. What happens by chance in a line, that memory runs out,
--- and which bytes a rendering gives or that it fails, is taken as it happened, and so are the bytes of a kept blob where blobs are not
--- modelled; all else is fixed.
+-- which moment the clock gives, and which bytes a rendering gives or that it fails, is taken as it happened, and so are the bytes of a
+-- kept blob where blobs are not modelled; all else is fixed.
 use Rattle.std.specs.Prelude.{length, nat_lt, ℕ, ◌≡◌, Bool, true, false, if◌then◌else◌, List, Option, Some, None, IfSome, ⊤}
 use Rattle.cabinet.specs.Fresh.{IsFresh}
 use Rattle.cabinet.specs.Commands.{book_before}
@@ -30,19 +30,21 @@ use Rattle.tile_requests.specs.Texts.{usage_text, dropped_text}
 
 -- CHANCES
 
--- what happened by chance in a line: whether memory was left to read its request, for its first ask or force or its
--- truncation, for what follows or the text that it tells, and for the body of its answer, where one is made, and the bytes that the rendering gave, by their
--- places in the blob, or nothing where it failed; where blobs are not modelled they are those of the kept blob that was read
+-- What happened by chance in a line. Memory was left or not: to read its request; for its first ask or force or its truncation; for
+-- what follows, or the text that it tells; and for the body of its answer, where one is made. The moment is the one that the clock
+-- gave to its ask or force, in seconds. The bytes are those that the rendering gave, by their places in the blob, or none where it failed; where
+-- blobs are not modelled they are those of the kept blob that was read.
 pub record Chance : Type 0 where
   pub read : Bool
   pub ask : Bool
+  pub moment : ℕ
   pub work : Bool
   pub bytes : Option (ℕ → ℕ)
   pub left : Bool
 
 -- nothing happened by chance
 abbrev pub calm : Chance
-calm = record { read = true; ask = true; work = true; bytes = None; left = true }
+calm = record { read = true; ask = true; moment = 0; work = true; bytes = None; left = true }
 
 -- THE EVENTS OF A LINE
 
@@ -55,7 +57,7 @@ is_at_work (Rendered t blob tile) = true
 is_at_work (Failed t) = true
 
 abbrev pub further : Chance → Stepped → Stepped
-further c r = if is_at_work r.actor then advanced r.cabinet r.actor c.work c.bytes else r
+further c r = if is_at_work r.actor then advanced r.cabinet r.actor c.work c.moment c.bytes else r
 
 -- the render and the finish follow in the same line
 abbrev pub carried_on : Chance → Stepped → Stepped
@@ -64,9 +66,9 @@ carried_on c r = further c (further c r)
 -- the events of the line that asks for a tile: a GET goes on until it is answered or waits; an ask and a force stay the one
 -- event
 abbrev pub events : Mode → State → Address → Chance → Stepped
-events Gets s a c = carried_on c (began s a false c.ask c.bytes)
-events Asks s a c = began s a false c.ask c.bytes
-events Forces s a c = began s a true c.ask c.bytes
+events Gets s a c = carried_on c (began s a false c.ask c.moment c.bytes)
+events Asks s a c = began s a false c.ask c.moment c.bytes
+events Forces s a c = began s a true c.ask c.moment c.bytes
 
 -- the outcome of a request for a tile as that of a request
 abbrev pub outcome_of : cached.TileOutcome → Outcome

@@ -7,6 +7,7 @@
 
 mod input;
 
+use clock::clock::Clock;
 use exact_ratio::words::Words;
 use http_wire::file_source::FileSource;
 use http_wire::inputs::{InputEnd, read_all};
@@ -131,6 +132,7 @@ fn main(rt: HostRuntime) -> ExitCode {
         &mut input,
         &mut output,
         &mut source,
+        Clock::system(rt),
     );
     ended(&rt, status)
 }

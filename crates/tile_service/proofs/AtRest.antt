@@ -2,14 +2,14 @@
 use Rattle.std.proofs.Common.{◌≡◌, ℕ, Bool, true, false, List, [], ◌∷◌, ◌++◌, length, Option, Some, None, refl, sym, ap, ◌∙◌, subst, if◌then◌else◌}
 use Rattle.std.specs.Prelude.{nat_le, nat_lt}
 use Rattle.std.proofs.lemmas.Bool.{eq-eqb}
-use Rattle.cabinet.specs.Commands.{book_before, others, place_for}
+use Rattle.cabinet.specs.Commands.{answering, book_before, kept_at, others, place_for}
 use Rattle.cabinet.specs.Counted.{scope_exceeded, victim_in}
 use Rattle.cabinet.specs.declared.entry.Entry.{Entry}
 use Rattle.cabinet.specs.declared.entry.Entry.TheVariants as entry
 use Rattle.cabinet.specs.declared.kept.Kept.{Kept}
 use Rattle.cabinet.specs.Hits.{hits_of}
-use Rattle.cabinet.specs.History.{after, kept_of, next}
-use Rattle.cabinet.specs.State.{State, grown, now, with_entry, with_cut}
+use Rattle.cabinet.specs.History.{after, next, stored_entry}
+use Rattle.cabinet.specs.State.{State, asked_at, grown, now, with_entry, with_cut}
 use Rattle.cabinet.proofs.Rows.{now_more}
 use Rattle.cache_core.specs.declared.actor.Actor.TheVariants.{Idle}
 use Rattle.cache_core.specs.declared.outcome.TileOutcome as cached
@@ -35,38 +35,41 @@ use Rattle.truncation_list.specs.declared.cover.Cover.{Cover}
 runs_after : (s : State) (e : Entry) → (now (grown s e None)).out ≡ (after s.catalogue (now s) e).out
 runs_after s e = ap (λ x. x.out) (now_more s e None)
 
+asked_rests : (s : State) (n : ℕ) → IsAtRest s → IsAtRest (asked_at n s)
+asked_rests s n rest = runs_after s (entry.At n) ∙ rest
+
 pub used_rests : (s : State) (m : MetaKey) → IsAtRest s → IsAtRest (with_entry s (entry.Used m))
 used_rests s m rest = runs_after s (entry.Used m) ∙ rest
 
-started_runs : (s : State) (k : ℕ) (m : MetaKey) → IsAtRest s → (now (with_entry s (entry.Started k m))).out ≡ unmarked k m ∷ []
-started_runs s k m rest = runs_after s (entry.Started k m) ∙ ap (λ rs. rs ++ unmarked k m ∷ []) rest
+started_runs : (s : State) (k : ℕ) (m : MetaKey) → IsAtRest s → (now (with_entry s (entry.Started k m))).out ≡ unmarked k m (now s).moment ∷ []
+started_runs s k m rest = runs_after s (entry.Started k m) ∙ ap (λ rs. rs ++ unmarked k m (now s).moment ∷ []) rest
 
 -- THE END OF THE ONE RENDER
 
-taken_off : (k : ℕ) (m : MetaKey) → without k (unmarked k m ∷ []) ≡ []
-taken_off k m = rw (eq-eqb k k refl) refl
+taken_off : (k : ℕ) (m : MetaKey) (n : ℕ) → without k (unmarked k m n ∷ []) ≡ []
+taken_off k m n = rw (eq-eqb k k refl) refl
 
-found : (k : ℕ) (m : MetaKey) → render_of (record { number = k; meta = m }) (unmarked k m ∷ []) ≡ Some (unmarked k m)
-found k m = rw (eq-eqb k k refl, same_meta_self m) refl
+found : (k : ℕ) (m : MetaKey) (n : ℕ) → render_of (record { number = k; meta = m }) (unmarked k m n ∷ []) ≡ Some (unmarked k m n)
+found k m n = rw (eq-eqb k k refl, same_meta_self m) refl
 
-module _ (s : State) (k : ℕ) (m : MetaKey) (one : (now s).out ≡ unmarked k m ∷ []) where
+module _ (s : State) (k : ℕ) (m : MetaKey) (n : ℕ) (one : (now s).out ≡ unmarked k m n ∷ []) where
   abbrev ticket : Ticketed
   ticket = record { number = k; meta = m }
 
   none_left : without k (now s).out ≡ []
-  none_left = ap (without k) one ∙ taken_off k m
+  none_left = ap (without k) one ∙ taken_off k m n
 
-  it_runs : render_of ticket (now s).out ≡ Some (unmarked k m)
-  it_runs = ap (render_of ticket) one ∙ found k m
+  it_runs : render_of ticket (now s).out ≡ Some (unmarked k m n)
+  it_runs = ap (render_of ticket) one ∙ found k m n
 
   ended_rests : IsAtRest (with_entry s (entry.Ended k))
   ended_rests = runs_after s (entry.Ended k) ∙ none_left
 
-  stored_rests : (text : List ℕ) (place : Option ℕ) → IsAtRest (stored s ticket text place)
+  stored_rests : (text : List ℕ) (place : Option ℕ) → IsAtRest (stored s ticket n text place)
   stored_rests text None = ended_rests
-  stored_rests text (Some place) = runs_after s (entry.Stored k m place (length text)) ∙ none_left
+  stored_rests text (Some place) = runs_after s (stored_entry (kept_at ticket n place (length text))) ∙ none_left
 
-  with_room_rests : (text : List ℕ) (full : Bool) → IsAtRest (with_room s ticket text full)
+  with_room_rests : (text : List ℕ) (full : Bool) → IsAtRest (with_room s ticket n text full)
   with_room_rests text true = ended_rests
   with_room_rests text false = stored_rests text (place_for s (length text))
 
@@ -90,14 +93,14 @@ done_at s o rest = record { told = o; is = refl; idle = refl; rests = rest }
 
 module _ (a : Address) (c : Chance) where
   -- the render of a number that was given, and its end
-  rendered_done : (s : State) (k : ℕ) → (now s).out ≡ unmarked k (block_of s.catalogue a) ∷ [] → (left : Bool) (bytes : Option (ℕ → ℕ)) → IsDone (further c (rendered s (ticket_for s a k) a left bytes))
-  rendered_done s k one false bytes = done_at _ core.NoMemory (abandoned_rests s k (block_of s.catalogue a) one)
-  rendered_done s k one true None = done_at _ core.SourceFailed (abandoned_rests s k (block_of s.catalogue a) one)
-  rendered_done s k one true (Some bytes) = done_at _ _ (finished_rests s k (block_of s.catalogue a) one (blob_of s.catalogue (block_of s.catalogue a) bytes))
+  rendered_done : (s : State) (k n : ℕ) → (now s).out ≡ unmarked k (block_of s.catalogue a) n ∷ [] → (left : Bool) (bytes : Option (ℕ → ℕ)) → IsDone (further c (rendered s (ticket_for s a k) a left bytes))
+  rendered_done s k n one false bytes = done_at _ core.NoMemory (abandoned_rests s k (block_of s.catalogue a) n one)
+  rendered_done s k n one true None = done_at _ core.SourceFailed (abandoned_rests s k (block_of s.catalogue a) n one)
+  rendered_done s k n one true (Some bytes) = done_at _ _ (finished_rests s k (block_of s.catalogue a) n one (blob_of s.catalogue (block_of s.catalogue a) bytes))
 
   given_done : (s : State) (n : Option ℕ) → IsAtRest s → IsDone (carried_on c (given s a n))
   given_done s None rest = done_at s core.Spent rest
-  given_done s (Some k) rest = rendered_done (with_entry s (entry.Started k (block_of s.catalogue a))) k (started_runs s k (block_of s.catalogue a) rest) c.work c.bytes
+  given_done s (Some k) rest = rendered_done (with_entry s (entry.Started k (block_of s.catalogue a))) k (now s).moment (started_runs s k (block_of s.catalogue a) rest) c.work c.bytes
 
   wanted_done : (s : State) → IsAtRest s → IsDone (carried_on c (render_wanted s a false))
   wanted_done s rest = subst (λ n. IsDone (carried_on c (unless_busy s a false n))) (sym (ap (running_for (block_of s.catalogue a)) rest)) (given_done s (next s.opening (now s)) rest)
@@ -106,13 +109,13 @@ module _ (a : Address) (c : Chance) where
   kept_done s bytes (Some t) rest = done_at _ _ (used_rests s (block_of s.catalogue a) rest)
   kept_done s bytes None rest = wanted_done s rest
 
-  began_done : (s : State) (left : Bool) (bytes : Option (ℕ → ℕ)) → IsAtRest s → IsDone (carried_on c (began s a false left bytes))
-  began_done s false bytes rest = done_at s core.NoMemory rest
-  began_done s true bytes rest = kept_done s bytes (kept_of (block_of s.catalogue a) (now s)) rest
+  began_done : (s : State) (left : Bool) (n : ℕ) (bytes : Option (ℕ → ℕ)) → IsAtRest s → IsDone (carried_on c (began s a false left n bytes))
+  began_done s false n bytes rest = done_at s core.NoMemory rest
+  began_done s true n bytes rest = kept_done (asked_at n s) bytes (answering (asked_at n s) a) (asked_rests s n rest)
 
   -- where no render runs, a GET has its outcome in one line
   pub get_done : (s : State) → IsAtRest s → IsDone (events Gets s a c)
-  get_done s rest = began_done s c.ask c.bytes rest
+  get_done s rest = began_done s c.ask c.moment c.bytes rest
 
 -- COMMANDS
 

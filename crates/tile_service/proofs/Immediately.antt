@@ -21,11 +21,11 @@ use Rattle.tile_service.proofs.Telling.{Stays, same_stays, usage_stays, cut_stay
 
 -- a chance of which the reading and the answer are chosen
 abbrev pub with_ends : Chance → Bool → Bool → Chance
-with_ends c read left = record { read = read; ask = c.ask; work = c.work; bytes = c.bytes; left = left }
+with_ends c read left = record { read = read; ask = c.ask; moment = c.moment; work = c.work; bytes = c.bytes; left = left }
 
 -- memory for what an immediate answer needs, or none
 abbrev with_memory : Bool → Chance
-with_memory left = record { read = true; ask = left; work = left; bytes = None; left = true }
+with_memory left = record { read = true; ask = left; moment = 0; work = left; bytes = None; left = true }
 
 pub same_events : (mode : Mode) (s : State) (a : Address) (c : Chance) (read left : Bool) → events mode s a c ≡ events mode s a (with_ends c read left)
 same_events Gets s a c read left = refl

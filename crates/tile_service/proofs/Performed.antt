@@ -206,7 +206,7 @@ stepped_by told before after s t document seats n i b step busy k at h =
     let busily : IsPending s.catalogue s.history b = one_of_all (IsSeat s.catalogue s.history) busy i (Some b) at k.world in
     let r : PendingRequest = resumed v b in
     let moves : Moves told before after s b.actor r.address r.place step t = advance_moves told before after s b.actor b.address b.place step t busily.fits busily.busy busily.within busily.fresh h in
-    let c : Bool → Chance = λ l. record { read = true; ask = true; work = h.left; bytes = h.bytes; left = l } in
+    let c : Bool → Chance = λ l. record { read = true; ask = true; moment = h.moment; work = h.left; bytes = h.bytes; left = l } in
     let made : (l : Bool) → line_done v n (c l) (Some (Steps i)) ≡ Some (settled v n (c l) i r (shown step t)) = λ l. rw at (ap (λ x. Some (settled v n (c l) i r x)) (sym h.advanced)) in (
       slice_set busy i (seat_after r step.actor step.outcome),
       set_seats busy seats i r step.actor step.outcome k.same,

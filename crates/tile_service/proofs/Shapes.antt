@@ -4,12 +4,11 @@ use Rattle.std.specs.Prelude.{if◌then◌else◌, nat_le, nat_lt}
 use Rattle.std.specs.Option.{option_map}
 use Rattle.std.proofs.lemmas.List.{length-replicate, map-set}
 use Rattle.std.proofs.lemmas.Option.{slice_get-map}
-use Rattle.cabinet.specs.declared.entry.Entry.TheVariants as entry
 use Rattle.cabinet.specs.declared.kept.Kept.{Kept}
-use Rattle.cabinet.specs.Commands.{others, place_for, book_before}
+use Rattle.cabinet.specs.Commands.{answering, others, place_for, kept_at, book_before}
 use Rattle.cabinet.specs.Counted.{scope_exceeded, victim_in}
-use Rattle.cabinet.specs.History.{kept_of, next}
-use Rattle.cabinet.specs.State.{State, now, with_entry}
+use Rattle.cabinet.specs.History.{next, stored_entry}
+use Rattle.cabinet.specs.State.{State, asked_at, now, with_entry}
 use Rattle.cache_core.specs.declared.actor.Actor.{Actor}
 use Rattle.cache_core.specs.declared.actor.Actor.TheVariants as actor
 use Rattle.cache_core.specs.declared.outcome.TileOutcome as cached
@@ -89,10 +88,10 @@ kept_like : (s : State) (a : Address) (bytes others : Option (ℕ → ℕ)) (x :
 kept_like s a bytes others (Some t) = refl
 kept_like s a bytes others None = busy_like s a false (running_for (block_of s.catalogue a) (now s).out)
 
-began_like : (s : State) (a : Address) (force left : Bool) (bytes others : Option (ℕ → ℕ)) → shape (began s a force left bytes) ≡ shape (began (plain s) a force left others)
-began_like s a force false bytes others = refl
-began_like s a true true bytes others = busy_like s a true (running_for (block_of s.catalogue a) (now s).out)
-began_like s a false true bytes others = kept_like s a bytes others (kept_of (block_of s.catalogue a) (now s))
+began_like : (s : State) (a : Address) (force left : Bool) (n : ℕ) (bytes others : Option (ℕ → ℕ)) → shape (began s a force left n bytes) ≡ shape (began (plain s) a force left n others)
+began_like s a force false n bytes others = refl
+began_like s a true true n bytes others = busy_like (asked_at n s) a true (running_for (block_of s.catalogue a) (now (asked_at n s)).out)
+began_like s a false true n bytes others = kept_like (asked_at n s) a bytes others (answering (asked_at n s) a)
 
 -- THE END
 
@@ -101,21 +100,21 @@ off_like s t None = refl
 off_like s t (Some r) = refl
 
 module _ (s : State) (t : Ticketed) (xs ys : List ℕ) (e : length xs ≡ length ys) where
-  stored_like : (p : Option ℕ) → plain (stored s t xs p) ≡ plain (stored (plain s) t ys p)
-  stored_like None = refl
-  stored_like (Some place) = ap (λ n. plain (with_entry s (entry.Stored t.number t.meta place n))) e
+  stored_like : (n : ℕ) (p : Option ℕ) → plain (stored s t n xs p) ≡ plain (stored (plain s) t n ys p)
+  stored_like n None = refl
+  stored_like n (Some place) = ap (λ (l : ℕ). plain (with_entry s (stored_entry (kept_at t n place l)))) e
 
-  room_like : (full : Bool) → plain (with_room s t xs full) ≡ plain (with_room (plain s) t ys full)
-  room_like true = refl
-  room_like false = stored_like (place_for s (length xs)) ∙ ap (λ n. plain (stored (plain s) t ys (place_for s n))) e
+  room_like : (n : ℕ) (full : Bool) → plain (with_room s t n xs full) ≡ plain (with_room (plain s) t n ys full)
+  room_like n true = refl
+  room_like n false = stored_like n (place_for s (length xs)) ∙ ap (λ (l : ℕ). plain (stored (plain s) t n ys (place_for s l))) e
 
-  mark_like : (mark : Option ℕ) → plain (unless_overtaken s t xs mark) ≡ plain (unless_overtaken (plain s) t ys mark)
-  mark_like (Some cut) = refl
-  mark_like None = room_like (nat_le s.catalogue.kept_limit (others s t.meta))
+  mark_like : (n : ℕ) (mark : Option ℕ) → plain (unless_overtaken s t n xs mark) ≡ plain (unless_overtaken (plain s) t n ys mark)
+  mark_like n (Some cut) = refl
+  mark_like n None = room_like n (nat_le s.catalogue.kept_limit (others s t.meta))
 
   ended_like : (r : Option Render) → plain (ended s t xs r) ≡ plain (ended (plain s) t ys r)
   ended_like None = refl
-  ended_like (Some r) = mark_like r.mark
+  ended_like (Some r) = mark_like r.moment r.mark
 
 -- AN EVENT
 
@@ -123,16 +122,16 @@ module _ (s : State) (t : Ticketed) (xs ys : List ℕ) (e : length xs ≡ length
 abbrev holding : State → Ticketed → ℕ → Stepped
 holding s t n = record { cabinet = plain s; actor = actor.Rendered t (replicate n 0) (record { hit = false; number = t.number; bytes = [] }); outcome = None }
 
-advanced_like : (s : State) (x : Actor) (left : Bool) (bytes : Option (ℕ → ℕ)) → shape (advanced s x left bytes) ≡ shape (advanced (plain s) (plain_actor x) left (any_bytes bytes))
-advanced_like s actor.Idle left bytes = refl
-advanced_like s (actor.Waiting a force) left bytes = began_like s a force left bytes (any_bytes bytes)
-advanced_like s (actor.Holding t a) false bytes = ap (λ u. shape (record { cabinet = u; actor = actor.Idle; outcome = Some core.NoMemory })) (off_like s t (render_of t (now s).out))
-advanced_like s (actor.Holding t a) true None = refl
-advanced_like s (actor.Holding t a) true (Some bytes) =
+advanced_like : (s : State) (x : Actor) (left : Bool) (n : ℕ) (bytes : Option (ℕ → ℕ)) → shape (advanced s x left n bytes) ≡ shape (advanced (plain s) (plain_actor x) left n (any_bytes bytes))
+advanced_like s actor.Idle left n bytes = refl
+advanced_like s (actor.Waiting a force) left n bytes = began_like s a force left n bytes (any_bytes bytes)
+advanced_like s (actor.Holding t a) false n bytes = ap (λ u. shape (record { cabinet = u; actor = actor.Idle; outcome = Some core.NoMemory })) (off_like s t (render_of t (now s).out))
+advanced_like s (actor.Holding t a) true n None = refl
+advanced_like s (actor.Holding t a) true n (Some bytes) =
     ap (holding s t) (blob_long s.catalogue t.meta bytes ∙ sym (blob_long s.catalogue t.meta (λ i. 0)))
-advanced_like s (actor.Rendered t blob tile) left bytes =
+advanced_like s (actor.Rendered t blob tile) left n bytes =
     ap (λ u. shape (record { cabinet = u; actor = actor.Idle; outcome = Some core.NoMemory })) (ended_like s t blob (replicate (length blob) 0) (sym (length-replicate (length blob) 0)) (render_of t (now s).out))
-advanced_like s (actor.Failed t) left bytes = ap (λ u. shape (record { cabinet = u; actor = actor.Idle; outcome = Some core.NoMemory })) (off_like s t (render_of t (now s).out))
+advanced_like s (actor.Failed t) left n bytes = ap (λ u. shape (record { cabinet = u; actor = actor.Idle; outcome = Some core.NoMemory })) (off_like s t (render_of t (now s).out))
 
 works_like : (x : Actor) → is_at_work (plain_actor x) ≡ is_at_work x
 works_like actor.Idle = refl
@@ -145,7 +144,7 @@ further_like : (c : Chance) (r : Stepped) → shape (further c r) ≡ shape (fur
 further_like c r = go (is_at_work r.actor) refl
   where
     go : (b : Bool) → is_at_work r.actor ≡ b → shape (further c r) ≡ shape (further (without_bytes c) (shape r))
-    go true e = rw (works_like r.actor, e) (advanced_like r.cabinet r.actor c.work c.bytes)
+    go true e = rw (works_like r.actor, e) (advanced_like r.cabinet r.actor c.work c.moment c.bytes)
     go false e = rw (works_like r.actor, e) (sym (shape_twice r))
 
 any_twice : (bytes : Option (ℕ → ℕ)) → any_bytes (any_bytes bytes) ≡ any_bytes bytes
@@ -153,7 +152,7 @@ any_twice None = refl
 any_twice (Some b) = refl
 
 without_twice : (c : Chance) → without_bytes (without_bytes c) ≡ without_bytes c
-without_twice c = ap (λ (x : Option (ℕ → ℕ)). let d : Chance = record { read = c.read; ask = c.ask; work = c.work; bytes = x; left = c.left } in d) (any_twice c.bytes)
+without_twice c = ap (λ (x : Option (ℕ → ℕ)). let d : Chance = record { read = c.read; ask = c.ask; moment = c.moment; work = c.work; bytes = x; left = c.left } in d) (any_twice c.bytes)
 
 further_same : (c : Chance) (r : Stepped) → shape (further (without_bytes c) r) ≡ shape (further (without_bytes c) (shape r))
 further_same c r = further_like (without_bytes c) r ∙ ap (λ (d : Chance). shape (further d (shape r))) (without_twice c)
@@ -166,9 +165,9 @@ once_like c r q e =
     first ∙ ap (λ x. shape (further d (shape (further d x)))) e ∙ sym second
 
 events_like : (mode : Mode) (s : State) (a : Address) (c : Chance) → shape (events mode s a c) ≡ shape (events mode (plain s) a (without_bytes c))
-events_like Gets s a c = once_like c (began s a false c.ask c.bytes) (began (plain s) a false c.ask (any_bytes c.bytes)) (began_like s a false c.ask c.bytes (any_bytes c.bytes))
-events_like Asks s a c = began_like s a false c.ask c.bytes (any_bytes c.bytes)
-events_like Forces s a c = began_like s a true c.ask c.bytes (any_bytes c.bytes)
+events_like Gets s a c = once_like c (began s a false c.ask c.moment c.bytes) (began (plain s) a false c.ask c.moment (any_bytes c.bytes)) (began_like s a false c.ask c.moment c.bytes (any_bytes c.bytes))
+events_like Asks s a c = began_like s a false c.ask c.moment c.bytes (any_bytes c.bytes)
+events_like Forces s a c = began_like s a true c.ask c.moment c.bytes (any_bytes c.bytes)
 
 -- WORLDS
 
@@ -273,7 +272,7 @@ stepped_like w n c i None = refl
 stepped_like w n c i (Some None) = refl
 stepped_like w n c i (Some (Some b)) =
     let d : PendingRequest = record { start = b.start; message = b.message; address = b.address; place = b.place; actor = plain_actor b.actor } in
-    ap (λ t. Some t) (settled_like w n i c (resumed w b) (resumed (plain_world w) d) (advanced w.cabinet b.actor c.work c.bytes) (advanced (plain w.cabinet) (plain_actor b.actor) c.work (any_bytes c.bytes)) (advanced_like w.cabinet b.actor c.work c.bytes) (resumed_like w b d refl))
+    ap (λ t. Some t) (settled_like w n i c (resumed w b) (resumed (plain_world w) d) (advanced w.cabinet b.actor c.work c.moment c.bytes) (advanced (plain w.cabinet) (plain_actor b.actor) c.work c.moment (any_bytes c.bytes)) (advanced_like w.cabinet b.actor c.work c.moment c.bytes) (resumed_like w b d refl))
 
 done_like : (w : World) (n : ℕ) (c : Chance) (d : Option Action) → worlds (line_done w n c d) ≡ worlds (line_done (plain_world w) n (without_bytes c) d)
 done_like w n c None = refl

@@ -128,7 +128,7 @@ if_free (Some (Some b)) d = None
 abbrev pub stepped : World → ℕ → Chance → ℕ → Option (Option PendingRequest) → Option (World × List Answer)
 stepped w n c i None = None
 stepped w n c i (Some None) = None
-stepped w n c i (Some (Some b)) = Some (settled w n c i (resumed w b) (advanced w.cabinet b.actor c.work c.bytes))
+stepped w n c i (Some (Some b)) = Some (settled w n c i (resumed w b) (advanced w.cabinet b.actor c.work c.moment c.bytes))
 
 -- what one line does: the world after it and its answers, unless it is refused
 abbrev pub line_done : World → ℕ → Chance → Option Action → Option (World × List Answer)

@@ -7,7 +7,7 @@ ghost use Rattle.tile_service.specs.Run.{World, run};
 ghost use Rattle.tile_service.specs.Session.{session};
 
 /// The history after a run or a session, and so what is kept, and the line that is refused follow from the lines or messages,
-/// from the memory that ran out and from which renderings failed: not from which bytes they gave.
+/// from the memory that ran out, from the moments that the clock gave and from which renderings failed: not from which bytes they gave.
 pub fn laws_of_runs()
     ensures history { (w : World) (n : ℕ) (lines : List (List ℕ)) (chances : List Chance) (others : List Chance) → map without_bytes chances ≡ map without_bytes others → (run w n lines chances).world.cabinet.history ≡ (run w n lines others).world.cabinet.history }
     ensures refused { (w : World) (n : ℕ) (lines : List (List ℕ)) (chances : List Chance) (others : List Chance) → map without_bytes chances ≡ map without_bytes others → (run w n lines chances).refused ≡ (run w n lines others).refused }

@@ -3,11 +3,12 @@
 //!
 //! A case is a folder, and a step of it is a folder with the words of a command, its input and its expected output and
 //! status, as files that `step.rt` names. Promises: none that a clause says; it is a test whose cases are data.
-//! Stands on tile_command, and on the memory forms of its streams and its source.
+//! Stands on tile_command, and on the memory forms of its streams, its source and its clock.
 #![tactic(auto)]
 
 mod fakes;
 mod folders;
+mod moments;
 mod run;
 mod step;
 mod tally;

@@ -1,5 +1,6 @@
 //! One run of the command over memory forms, and how it differs from what is expected.
 use crate::fakes::{Fake, Fakes};
+use clock::clock::Clock;
 use exact_ratio::words::Words;
 use http_wire::memory_sink::MemorySink;
 use http_wire::memory_source::MemorySource;
@@ -10,13 +11,15 @@ use std::io;
 use tile_command::command::run_command;
 use tile_command::configured::source_number;
 
-/// What a command is given: its words, one a line, the bytes that it reads, and how its objects behave.
+/// What a command is given: its words, one a line, the bytes that it reads, the moments that its clock gives, and how its
+/// objects behave.
 #[derive(Drop)]
 pub struct Given {
     pub words: String,
     pub catalogue: Vec<u8>,
     pub capabilities: Vec<u8>,
     pub input: Vec<u8>,
+    pub moments: Vec<u64>,
     pub fakes: Fakes,
 }
 
@@ -53,6 +56,7 @@ pub fn came_to(alloc: Global, given: Given) -> io::Result<Outcome> {
         catalogue,
         capabilities,
         input,
+        moments,
         fakes,
     } = given;
     let words = words_in(alloc, words.as_str())?;
@@ -76,6 +80,7 @@ pub fn came_to(alloc: Global, given: Given) -> io::Result<Outcome> {
         &mut input,
         &mut output,
         &mut source,
+        Clock::listed(moments),
     );
     let code = status.code();
     Ok(Outcome {

@@ -1,6 +1,7 @@
 //! A step: the files that say what a command is given and what has to come of it.
 use crate::fakes::Fakes;
 use crate::folders::{bytes_of, bytes_or_none, repeated};
+use crate::moments::moments_in;
 use crate::run::{Given, came_to};
 use std::fs::File;
 use std::io;
@@ -43,11 +44,12 @@ fn text<R: Files<File = File> + AllocGlobal>(
     String::from_utf8(bytes).map_err(|_| io::Error::from(io::ErrorKind::InvalidData))
 }
 
-/// What a command is given by the files of a step.
+/// What a command is given by the files of a step, beside these moments.
 fn given_by<R: Files<File = File> + AllocGlobal>(
     rt: &R,
     case: &str,
     step: &str,
+    moments: Vec<u64>,
     fakes: Fakes,
 ) -> io::Result<Given> {
     let alloc = rt.alloc();
@@ -59,6 +61,7 @@ fn given_by<R: Files<File = File> + AllocGlobal>(
         catalogue: repeated(alloc, catalogue.as_slice(), fakes.catalogue.times)?,
         capabilities: repeated(alloc, capabilities.as_slice(), fakes.capabilities.times)?,
         input: repeated(alloc, input.as_slice(), fakes.input.times)?,
+        moments,
         fakes,
     })
 }
@@ -87,8 +90,12 @@ pub fn difference_of<R: Files<File = File> + AllocGlobal>(
     let Some(fakes) = Fakes::read(rt.alloc(), lines.as_str())? else {
         return Ok(Some(format!(in rt.alloc(); "its file fakes has a line of another form")?));
     };
+    let numbers = text(rt, case, step, "moments")?;
+    let Some(moments) = moments_in(rt.alloc(), numbers.as_str())? else {
+        return Ok(Some(format!(in rt.alloc(); "its file moments has a word that is no number")?));
+    };
     let times = fakes.expected.times;
-    let given = given_by(rt, case, step, fakes)?;
+    let given = given_by(rt, case, step, moments, fakes)?;
     let status = text(rt, case, step, "status")?;
     let output = expected_of(rt, case, step, times)?;
     let status = match status.as_str().trim_end() {

@@ -8,14 +8,14 @@ returns-in-Schedule-clause-served g c =
     let word = sym c.word_of.ensures ∙ c.in-Some.is ∙ ap (λ w. Some w) c.in-Schedule.is in
     let world = c.in-Ok-counter_of.ensures in
     rw (word, c.status_of_schedule.ensures)
-    (served_schedule _ _ _ _ _ _ c.in-Ok.catalogue c.in-Ok-described.capabilities c.in-Ok.ensures.configures c.in-Ok-described.ensures _ c.known.ensures _ (λ h. (h.0, h.1)) c.run_schedule-end.result (rw (world.0, world.1) at c.run_schedule-end.ensures))
+    (served_schedule _ _ _ _ _ _ _ c.in-Ok.catalogue c.in-Ok-described.capabilities c.in-Ok.ensures.configures c.in-Ok-described.ensures _ c.known.ensures _ (λ h. (h.0, h.1)) c.run_schedule-end.result (rw (world.0, world.1) at c.run_schedule-end.ensures))
 
 pub returns-in-Replay-clause-served : goal.returns-in-Replay-clause-served
 returns-in-Replay-clause-served g c =
     let word = sym c.word_of.ensures ∙ c.in-Some.is ∙ ap (λ w. Some w) c.in-Replay.is in
     let world = c.in-Ok-counter_of.ensures in
     rw (word, c.status_of_session.ensures)
-    (served_replay _ _ _ _ _ _ c.in-Ok.catalogue c.in-Ok-described.capabilities c.in-Ok.ensures.configures c.in-Ok-described.ensures _ c.known-in-Replay.ensures c.replay-end.result (rw (world.0, world.1) at c.replay-end.ensures))
+    (served_replay _ _ _ _ _ _ _ c.in-Ok.catalogue c.in-Ok-described.capabilities c.in-Ok.ensures.configures c.in-Ok-described.ensures _ c.known-in-Replay.ensures c.replay-end.result (rw (world.0, world.1) at c.replay-end.ensures))
 
 pub returns-clause-served : goal.returns-clause-served
 returns-clause-served g c =
@@ -24,7 +24,7 @@ returns-clause-served g c =
     let faults = g.I.ByteSource.faults c.args.input.now in
     let lines : InputChange = record { reads = record { before = faults; after = faults }; from = g.I.ByteSource.left c.args.input.now; to = g.I.ByteSource.left c.args.input.now } in
     rw (word, c.status_of_drill.ensures)
-    (served_drill (record { catalogue = _; capabilities = _; lines = lines }) _ _ _ _ _ c.in-Ok.catalogue c.in-Ok-described.capabilities c.in-Ok.ensures.configures c.in-Ok-described.ensures _ c.known-in-Drill.ensures c.in-Drill.number refl c.run_drill-end.result (rw (world.0, world.1) at c.run_drill-end.ensures))
+    (served_drill (record { catalogue = _; capabilities = _; lines = lines }) _ _ _ _ _ _ c.in-Ok.catalogue c.in-Ok-described.capabilities c.in-Ok.ensures.configures c.in-Ok-described.ensures _ c.known-in-Drill.ensures c.in-Drill.number refl c.run_drill-end.result (rw (world.0, world.1) at c.run_drill-end.ensures))
 
 pub returns-in-Schedule-clause-usage : goal.returns-in-Schedule-clause-usage
 returns-in-Schedule-clause-usage g c =
