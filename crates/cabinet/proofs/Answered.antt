@@ -12,7 +12,7 @@ use Rattle.catalog.specs.declared.catalogue.Catalogue.{Catalogue}
 use Rattle.catalog.specs.declared.catalogue.Scope.{Scope}
 use Rattle.catalog.specs.LookUp.{IsTile}
 use Rattle.expiry_policy.specs.declared.uses.Use.{Use}
-use Rattle.expiry_policy.specs.Victims.{IsVictim, victim}
+use Rattle.expiry_policy.specs.Victims.{IsUnsaved, IsVictim, victim}
 use Rattle.expiry_policy.specs.Victims as uses
 use Rattle.expiry_policy.proofs.OneVictim.{one_victim}
 use Rattle.matrix_geometry.specs.declared.address.Address.{Address}
@@ -36,25 +36,29 @@ use Rattle.cabinet.specs.declared.replies.CutReply.TheVariants as reply
 use Rattle.cabinet.specs.declared.replies.Expired.TheVariants as expired
 use Rattle.cabinet.specs.declared.replies.Finished.TheVariants as finished
 use Rattle.cabinet.specs.declared.replies.Forced.{Forced}
+use Rattle.cabinet.specs.declared.replies.Saved.TheVariants as saved
 use Rattle.cabinet.specs.declared.turns.Turn.{Turn}
 use Rattle.cabinet.specs.declared.turns.Turn.TheVariants as turn
 use Rattle.cabinet.specs.declared.shelving.Found.{Found}
+use Rattle.cabinet.specs.declared.shelving.Saving.{Saving}
 use Rattle.cabinet.specs.declared.shelving.Shelving.TheVariants as shelving
-use Rattle.cabinet.specs.Commands.{Asks, Cuts, Expires, Finishes, IsForcedOf, IsFreshReply, IsHit, IsUnkept, answering, is_within, kept_at, others, place_for, where_within}
+use Rattle.cabinet.specs.Commands.{Asks, Cuts, Expires, Finishes, IsForcedOf, IsFreshReply, IsHit, IsUnkept, Saves, answering, is_within, kept_at, others, place_for, where_within}
 use Rattle.cabinet.specs.Consistent.{IsConsistent, Parts, seen, stood}
-use Rattle.cabinet.specs.Counted.{kept_in, part_of, scope_exceeded, use_of, uses_of}
+use Rattle.cabinet.specs.Counted.{kept_in, part_of, scope_exceeded, unsaved_in, use_of, uses_of}
+use Rattle.cabinet.specs.Counted as counts
 use Rattle.cabinet.specs.Fresh.{ApartBy, limit_for}
 use Rattle.cabinet.specs.Gaps.{gap_for}
 use Rattle.cabinet.specs.History.{History, Standing, after, but, first, first_entries, is_of, kept_of, least_of, lesser, next, numbers, last_number, whole}
-use Rattle.cabinet.specs.Shelved.{Drops, IsAlike, Reads, Shelved, Shelves, listed, scope_above, use_on}
-use Rattle.cabinet.specs.State.{IsLong, IsPictured, IsKnown, IsSound, State, asked_at, blobs_with, blobs_without, now, with_blob, with_cut, with_dropped, with_entry}
+use Rattle.cabinet.specs.Shelved.{Drops, IsAlike, Reads, SavesFirst, Shelved, Shelves, listed, scope_above, use_on}
+use Rattle.cabinet.specs.State.{IsLong, IsPictured, IsKnown, IsSound, State, asked_at, blobs_counted, blobs_with, blobs_without, now, with_blob, with_counted, with_cut, with_dropped, with_entry}
 use Rattle.cabinet.specs.Turns.{IsFoundIn, IsTaken, IsTurn, Progress}
 use Rattle.cabinet.proofs.Holding.{least_has, least_most}
 use Rattle.cabinet.proofs.Lists.{all_of_map, all_push, find_map}
 use Rattle.cabinet.proofs.Modelled.{some_and_made}
 use Rattle.cabinet.proofs.Once.{once}
 use Rattle.cabinet.proofs.OnShelf.{listed_filter}
-use Rattle.cabinet.proofs.Rows.{asks_fresh, goes_kept, stood_more}
+use Rattle.cabinet.proofs.Rows.{asks_fresh, goes_kept, stood_more, unsaved_kept}
+use Rattle.cabinet.proofs.WithUses.{blobs_set}
 use Rattle.raster_field.specs.TileText.{tile_text}
 
 -- THE LEAST NUMBER
@@ -298,6 +302,30 @@ module _ (p : Parts) (h : History) (k : IsConsistent p h) where
   pub goes_listed : (m : MetaKey) (shelf' : Shelved) → Drops p.shelf (Some m) shelf' → IsSome (find (is_of m) (listed p.shelf.blobs))
   goes_listed m shelf' x = subst (λ (ts : List Kept). IsSome (find (is_of m) ts)) (sym kept_are) (goes_kept here x.0 m (victim_is x.0 m x.2))
 
+  -- SAVINGS
+
+  -- what is to be saved on the shelf is so in the history
+  unsaved_is : (o : Option MetaKey) → IsUnsaved (use_on p.shelf) o → unsaved_in here o
+  unsaved_is o first = subst (λ (f : MetaKey → Option Use). IsUnsaved f o) (λ j n. uses_are n j) first
+
+  -- how often the history used it
+  pub count_is : (m : MetaKey) (u : ℕ) → option_map (λ x. x.uses) (use_on p.shelf m) ≡ Some u → u ≡ counts.uses (whole p.opening h) m
+  count_is m u e = at_kept (kept_of m (stood p)) (ap (option_map (λ (x : Use). x.uses)) (sym (k.uses m)) ∙ e)
+    where
+      at_kept : (o : Option Kept) → option_map (λ (x : Use). x.uses) (option_map (λ t. use_of (whole p.opening h) m) o) ≡ Some u → u ≡ counts.uses (whole p.opening h) m
+      at_kept None f = absurd (cc)
+      at_kept (Some t) f = let same : counts.uses (whole p.opening h) m ≡ u = cc in sym same
+
+  pub all_saved_row : (shelf' : Shelved) (new : State) → SavesFirst p.shelf None shelf' → new ≡ here → Saves here saved.Within new
+  all_saved_row shelf' new x is = (unsaved_is None x.0, is)
+
+  pub saved_row : (x : Saving) (shelf' : Shelved) (new : State) → SavesFirst p.shelf (Some x) shelf' → new ≡ with_counted here x.meta x.uses → Saves here (saved.Done x.meta) new
+  saved_row x shelf' new s is = (unsaved_is (Some x.meta) s.0, is ∙ ap (with_counted here x.meta) (count_is x.meta x.uses s.1))
+
+  -- it is kept
+  pub unsaved_listed : (x : Saving) (shelf' : Shelved) → SavesFirst p.shelf (Some x) shelf' → IsSome (find (is_of x.meta) (listed p.shelf.blobs))
+  unsaved_listed x shelf' s = subst (λ (ts : List Kept). IsSome (find (is_of x.meta) ts)) (sym kept_are) (unsaved_kept here x.meta (unsaved_is (Some x.meta) s.0))
+
 -- a count that is not told to be at the limit is below it
 pub below_limit : (count limit : ℕ) (told : Bool) → told ≡ false → (limit ≤ count → told ≡ true) → count < limit
 below_limit count limit told off on = elim (cases_lt count limit) [
@@ -319,3 +347,6 @@ sound_stored s t blob new sound text is =
 
 pub sound_dropped : (s : State) (m : MetaKey) (new : State) → IsSound s → new ≡ with_dropped s m → IsSound new
 sound_dropped s m new sound is = rw is (some_and_made _ _ (blobs_without m) (λ bs are. all_filter (IsPictured s.catalogue) (λ b. not (is_of m b.kept)) bs are) s.blobs sound)
+
+pub sound_counted : (s : State) (m : MetaKey) (u : ℕ) (new : State) → IsSound s → new ≡ with_counted s m u → IsSound new
+sound_counted s m u new sound is = rw is (some_and_made _ _ (blobs_counted m u) (λ bs are. blobs_set m u (IsPictured s.catalogue) (λ b true_blob. true_blob) bs are) s.blobs sound)

@@ -1,5 +1,5 @@
 -- What each command leaves of the parts of a cabinet.
-use Rattle.std.proofs.Common.{ℕ, ◌≡◌, ◌+◌, ◌<◌, ◌≤◌, Bool, true, false, cond, max, not, List, [], ◌∷◌, ◌++◌, length, filter, find, Option, Some, None, refl, sym, ap, subst, ◌∙◌, arith, length-append, append_assoc}
+use Rattle.std.proofs.Common.{ℕ, ◌≡◌, ◌+◌, ◌<◌, ◌≤◌, Bool, true, false, cond, max, not, List, [], ◌∷◌, ◌++◌, length, map, filter, find, Option, Some, None, refl, sym, ap, subst, ◌∙◌, arith, length-append, append_assoc}
 use Rattle.std.specs.Prelude.{IsSome}
 use Rattle.std.specs.List.{AllByRecursion}
 use Rattle.std.specs.Option.{option_map}
@@ -7,7 +7,7 @@ use Rattle.std.proofs.lemmas.List.{length-map}
 use Rattle.catalog.specs.declared.catalogue.Catalogue.{Catalogue}
 use Rattle.clock.specs.Readings.{Readings, read}
 use Rattle.expiry_policy.specs.declared.uses.Use.{Use}
-use Rattle.expiry_policy.specs.Victims.{one_more, used_at}
+use Rattle.expiry_policy.specs.Victims.{all_saved, one_more, used_at}
 use Rattle.metatile_plan.specs.declared.metatile.MetaKey.{MetaKey}
 use Rattle.metatile_plan.specs.Keys.{same_meta}
 use Rattle.metatile_plan.proofs.Same.{same_meta_is}
@@ -26,13 +26,13 @@ use Rattle.cabinet.specs.declared.replies.Forced.{Forced}
 use Rattle.cabinet.specs.declared.turns.Turn.{Turn}
 use Rattle.cabinet.specs.declared.turns.Turn.TheVariants as turn
 use Rattle.cabinet.specs.Consistent.{IsConsistent, Parts, seen, stood}
-use Rattle.cabinet.specs.Counted.{clock, clock_after, use_of}
+use Rattle.cabinet.specs.Counted.{clock, clock_after, use_of, uses}
 use Rattle.cabinet.specs.Gaps.{gap_for}
 use Rattle.cabinet.specs.Hits.{hits_of}
 use Rattle.served_covers.specs.OfCatalogue.{IsCoverOf}
-use Rattle.cabinet.specs.History.{History, Standing, after, but, is_of, kept_after, kept_of, least_of, next, numbers, first_entries, last_number, whole, bare_opening}
+use Rattle.cabinet.specs.History.{History, Standing, after, but, is_of, kept_after, kept_of, least_of, next, numbers, first_entries, last_number, whole, bare_opening, with_uses}
 use Rattle.cabinet.specs.Fresh.{Holds, HoldsOfRender, May, cuts_of}
-use Rattle.cabinet.specs.Shelved.{Forgets, IsAlike, IsBare, Keeps, Shelved, Sifts, Touches, listed, use_on, with_forgotten, with_kept, with_spared, with_used}
+use Rattle.cabinet.specs.Shelved.{Forgets, IsAlike, IsBare, Keeps, Marks, Shelved, Sifts, Touches, listed, use_on, with_forgotten, with_kept, with_saved, with_spared, with_used}
 use Rattle.cabinet.specs.declared.kept.KeptBlob.{KeptBlob}
 use Rattle.cabinet.specs.State.{IsKnown, IsLong, State, asked_at, fresh_state, now, grown}
 use Rattle.cabinet.specs.Turns.{IsReady, IsTaken, IsTurn, Progress}
@@ -41,7 +41,8 @@ use Rattle.cabinet.proofs.Lists.{all_push}
 use Rattle.cabinet.proofs.OnShelf.{listed_filter, listed_put}
 use Rattle.cabinet.proofs.Rows.{next_is, now_more, one_more_known}
 use Rattle.cabinet.proofs.Sentences.{kept_step}
-use Rattle.cabinet.proofs.UsesAfter.{clock_more, same_swap, stored_here, stored_then, use_more, used_more}
+use Rattle.cabinet.proofs.UsesAfter.{clock_more, counted_more, same_swap, stored_here, stored_then, use_more, used_more}
+use Rattle.cabinet.proofs.WithUses.{blobs_set, listed_set}
 use Rattle.catalog.specs.Valid.{IsValid}
 use Rattle.truncation_list.specs.declared.book.Book.{Book}
 
@@ -73,6 +74,11 @@ used_key : (v : Bool) (o : Option Kept) (u : Use) (f : Use → Use) → cond v (
 used_key true None u f = refl
 used_key true (Some t) u f = refl
 used_key false o u f = refl
+
+-- the use doesn't depend on what is kept
+set_key : (f : Kept → Kept) (o : Option Kept) (u : Use) → option_map (λ t. u) o ≡ option_map (λ t. u) (option_map f o)
+set_key f None u = refl
+set_key f (Some t) u = refl
 
 left_key : (v : Bool) (o : Option Kept) (u : Use) → cond v None (option_map (λ t. u) o) ≡ option_map (λ t. u) (cond v None o)
 left_key true o u = refl
@@ -204,6 +210,21 @@ module _ (p : Parts) (h : History) (k : IsConsistent p h) where
       (λ n. l.uses n ∙ (λ i. with_used m (one_more (k.clock_is i)) (λ o. k.uses o i) n) ∙ used_key (same_meta n m) (kept_of n (stood p)) (use_of (whole p.opening h) n) (used_at (one_more (clock (whole p.opening h))))
       ∙ ap (λ (u : Use). option_map (λ t. u) (kept_of n (stood p))) (sym (used_more (whole p.opening h) m n))) (omega arith))
 
+  -- COUNTED
+
+  pub after_counted : (m : MetaKey) (u : ℕ) (g : History) (q : Parts) → g ≡ h ++ entry.Counted m u ∷ [] → Marks m u p.shelf q.shelf → q ≡ record { opening = p.opening; shelf = q.shelf; last = p.last; moment = p.moment; clock = p.clock; renders = p.renders; book = p.book }
+      → u ≡ uses (whole p.opening h) m → IsSome (find (is_of m) (listed p.shelf.blobs)) → p.shelf.room ≤ q.shelf.room → IsConsistent q g
+  after_counted m u g q is l e are some room =
+      let x = k.room in
+      let list = ap listed l.blobs ∙ listed_set m u p.shelf.blobs in
+      subst (λ (x : Parts). IsConsistent x g) (sym e)
+      (one_entry (entry.Counted m u) g (record { opening = p.opening; shelf = q.shelf; last = p.last; moment = p.moment; clock = p.clock; renders = p.renders; book = p.book }) is refl l.catalogue some
+      (λ i. record { front = p.last; moment = p.moment; kept = sym list i; out = p.renders; book = p.book })
+      (all_left_as l.blobs (blobs_set m u (IsLong p.shelf.catalogue) (λ b long. long) p.shelf.blobs k.known.lengths)) front_left (l.clock ∙ k.clock_is)
+      (λ n. l.uses n ∙ (λ i. with_saved m (λ o. k.uses o i) n) ∙ used_key (same_meta n m) (kept_of n (stood p)) (use_of (whole p.opening h) n) all_saved
+      ∙ ap (λ (v : Use). option_map (λ t. v) (kept_of n (stood p))) (sym (counted_more (whole p.opening h) m n u are))
+      ∙ set_key (with_uses m u) (kept_of n (stood p)) (use_of (whole p.opening h ++ entry.Counted m u ∷ []) n)) (omega arith))
+
   -- ENDED
 
   pub after_ended : (n : ℕ) (g : History) (q : Parts) → g ≡ h ++ entry.Ended n ∷ [] → q ≡ record { opening = p.opening; shelf = p.shelf; last = p.last; moment = p.moment; clock = p.clock; renders = without n p.renders; book = p.book } → IsConsistent q g
@@ -228,7 +249,7 @@ module _ (p : Parts) (h : History) (k : IsConsistent p h) where
       let is : t.meta ≡ n = same_meta_is t.meta n e in
       let here : use_of (whole p.opening h ++ entry.Stored t.number t.meta t.place t.length t.moment t.uses ∷ []) n ≡ record { meta = t.meta; uses = 0; saved = 0; last = one_more (clock (whole p.opening h)) } =
       ap (use_of (whole p.opening h ++ entry.Stored t.number t.meta t.place t.length t.moment t.uses ∷ [])) (sym is) ∙ stored_here (whole p.opening h) t.number t.meta t.place t.length t.moment t.uses
-      ∙ ap (λ (u : ℕ). record { meta = t.meta; uses = u; saved = 0; last = one_more (clock (whole p.opening h)) }) new in
+      ∙ ap (λ (u : ℕ). record { meta = t.meta; uses = u; saved = u; last = one_more (clock (whole p.opening h)) }) new in
       rw (same_swap n t.meta, e) (ap Some (sym here))
   kept_key t n false new e =
       rw (same_swap n t.meta, e) (ap (λ (u : Use). option_map (λ x. u) (kept_of n (stood p))) (sym (stored_then (whole p.opening h) t.number t.meta t.place t.length t.moment t.uses n false e)))

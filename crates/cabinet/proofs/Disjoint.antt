@@ -29,6 +29,7 @@ use Rattle.cabinet.specs.Hits.{hits_of}
 use Rattle.cabinet.proofs.Lists.{all_found, all_push}
 use Rattle.cabinet.proofs.Regions.{all_regions, gap_some}
 use Rattle.cabinet.proofs.Rooted.{Rooted, is_meta, rooted_after}
+use Rattle.cabinet.proofs.WithUses.{have_set}
 
 -- A BLOB HAS A BYTE
 
@@ -128,6 +129,7 @@ regions_after c s (entry.Missed t) valid r may h = h
 regions_after c s (entry.Stored k m place length n uses) valid r may h =
     let meta = all_found (λ (x : Render). IsMeta c x.meta) (is_render_of (record { number = k; meta = m })) s.out (unmarked k m n) r.out may.0 in
     stored c s.kept (record { number = k; meta = m; place = place; length = length; moment = n; uses = uses }) h (subst (λ (n : ℕ). 1 ≤ n) (sym may.1) (blob_some c m valid meta)) may.2
+regions_after c s (entry.Counted m u) valid r may h = have_set m u c.blob_bytes s.kept h
 regions_after c s (entry.Ended k) valid r may h = h
 regions_after c s (entry.Used m) valid r may h = h
 regions_after c s (entry.Dropped m) valid r may h = fewer c.blob_bytes (λ x. not (is_of m x)) s.kept h

@@ -21,6 +21,7 @@ fronted_after c cuts s (entry.Cut t cover) h may = record {
 }
 fronted_after c cuts s (entry.Missed t) h may = record { book = answers_itself s.book; front = omega arith }
 fronted_after c cuts s (entry.Stored k m place length n uses) h may = fronted_itself (fronted s)
+fronted_after c cuts s (entry.Counted m u) h may = fronted_itself (fronted s)
 fronted_after c cuts s (entry.Ended k) h may = fronted_itself (fronted s)
 fronted_after c cuts s (entry.Used m) h may = fronted_itself (fronted s)
 fronted_after c cuts s (entry.Dropped m) h may = fronted_itself (fronted s)

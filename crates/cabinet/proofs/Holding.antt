@@ -31,6 +31,7 @@ use Rattle.cabinet.specs.History.{History, Opening, Standing, after, bare_openin
 use Rattle.cabinet.specs.Fresh.{Follows, May, Possible, cuts_after, cuts_of, IsNewer, HoldsOfKept, HoldsOfRender, Holds, IsNoOlder, Opens}
 use Rattle.cabinet.proofs.Hits.{covered_hit}
 use Rattle.cabinet.proofs.Lists.{all_push, all_left, all_right, all_found, all_contained, all_both, all_of_map}
+use Rattle.cabinet.proofs.WithUses.{all_set}
 
 pub holds_bare : (c : Catalogue) (e : ℕ) → Holds c [] (first (bare_opening e))
 holds_bare c e = record {
@@ -200,7 +201,7 @@ cut c cuts s t cover h is reach =
           (all_both (HoldsOfRender c cuts s.front s.book.floor) (λ r. book.floor < r.number) s.out h.out under_out));
     }
 
--- STORED, ENDED, DROPPED
+-- STORED, COUNTED, ENDED, DROPPED
 
 out_without : (c : Catalogue) (cuts : List Cut) (front floor k : ℕ) (out : List Render) → AllByRecursion (HoldsOfRender c cuts front floor) out → AllByRecursion (HoldsOfRender c cuts front floor) (without k out)
 out_without c cuts front floor k out a = all_filter (HoldsOfRender c cuts front floor) (λ r. not (has_number k r)) out a
@@ -223,6 +224,17 @@ stored c cuts s k m place length n uses h was =
       out = out_without c cuts s.front s.book.floor k s.out h.out;
     }
 
+counted : (c : Catalogue) (cuts : List Cut) (s : Standing) (m : MetaKey) (u : ℕ) → Holds c cuts s → Holds c cuts (after c s (entry.Counted m u))
+counted c cuts s m u h = record {
+  given = h.given;
+  floor_given = h.floor_given;
+  listed = h.listed;
+  order = h.order;
+  answers = h.answers;
+  kept = all_set m u (HoldsOfKept c cuts s.front s.book.floor) (λ t k. record { given = k.given; above_floor = k.above_floor; newer = k.newer }) s.kept h.kept;
+  out = h.out;
+}
+
 ended : (c : Catalogue) (cuts : List Cut) (s : Standing) (k : ℕ) → Holds c cuts s → Holds c cuts (after c s (entry.Ended k))
 ended c cuts s k h = record { given = h.given; floor_given = h.floor_given; listed = h.listed; order = h.order; answers = h.answers; kept = h.kept; out = out_without c cuts s.front s.book.floor k s.out h.out }
 
@@ -242,6 +254,7 @@ holds_step c cuts s (entry.Started k m) h may = started c cuts s k m h may.0
 holds_step c cuts s (entry.Cut t cover) h may = cut c cuts s t cover h may.0 may.1.reach
 holds_step c cuts s (entry.Missed t) h may = higher c cuts s (max s.front t) s.moment (omega arith) h
 holds_step c cuts s (entry.Stored k m place length n uses) h may = stored c cuts s k m place length n uses h may.0
+holds_step c cuts s (entry.Counted m u) h may = counted c cuts s m u h
 holds_step c cuts s (entry.Ended k) h may = ended c cuts s k h
 holds_step c cuts s (entry.Used m) h may = h
 holds_step c cuts s (entry.Dropped m) h may = dropped c cuts s m h
@@ -279,6 +292,7 @@ IfCut P (entry.Started j n) = Unit {0}
 IfCut P (entry.Cut t cover) = P (record { number = t; cover = cover })
 IfCut P (entry.Missed t) = Unit {0}
 IfCut P (entry.Stored j n place length b uses) = Unit {0}
+IfCut P (entry.Counted n u) = Unit {0}
 IfCut P (entry.Ended j) = Unit {0}
 IfCut P (entry.Used n) = Unit {0}
 IfCut P (entry.Dropped n) = Unit {0}
@@ -289,6 +303,7 @@ cuts_before P cuts (entry.Started j n) a = (a, tt)
 cuts_before P cuts (entry.Cut t cover) a = (all_left P cuts (record { number = t; cover = cover } ∷ []) a, (all_right P cuts (record { number = t; cover = cover } ∷ []) a).0)
 cuts_before P cuts (entry.Missed t) a = (a, tt)
 cuts_before P cuts (entry.Stored j n place length b uses) a = (a, tt)
+cuts_before P cuts (entry.Counted n u) a = (a, tt)
 cuts_before P cuts (entry.Ended j) a = (a, tt)
 cuts_before P cuts (entry.Used n) a = (a, tt)
 cuts_before P cuts (entry.Dropped n) a = (a, tt)
@@ -303,6 +318,7 @@ no_older c k a valid tile (entry.Started j m) h = tt
 no_older c k a valid tile (entry.Cut i cover) h = λ covered. h (covered_hit c cover a valid tile covered)
 no_older c k a valid tile (entry.Missed i) h = tt
 no_older c k a valid tile (entry.Stored j m place length b uses) h = tt
+no_older c k a valid tile (entry.Counted m u) h = tt
 no_older c k a valid tile (entry.Ended j) h = tt
 no_older c k a valid tile (entry.Used m) h = tt
 no_older c k a valid tile (entry.Dropped m) h = tt

@@ -1,4 +1,5 @@
 pub mod Lists
+pub mod WithUses
 pub mod Modelled
 pub mod Hits
 pub mod Holding
@@ -21,6 +22,7 @@ pub mod Bytes
 pub mod OnShelf
 pub mod Lookups
 pub mod Orders
+pub mod Recounts
 pub mod Told
 pub mod Sifts
 pub mod Limits

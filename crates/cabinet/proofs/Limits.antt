@@ -1,6 +1,7 @@
 -- What is kept has its lengths, the listed covers are of the catalogue, and there are no more of either than may be.
 use Rattle.std.proofs.Common.{ℕ, ◌≡◌, ◌≤◌, Bool, true, false, cond, not, List, [], ◌∷◌, filter, length, Option, Some, refl, arith, length-append}
 use Rattle.std.specs.List.{AllByRecursion}
+use Rattle.std.proofs.lemmas.List.{length-map}
 use Rattle.catalog.specs.declared.catalogue.Catalogue.{Catalogue}
 use Rattle.served_covers.specs.OfCatalogue.{IsCoverOf}
 use Rattle.truncation_list.specs.declared.book.Cut.{Cut}
@@ -11,9 +12,10 @@ use Rattle.cabinet.specs.declared.entry.Entry.{Entry}
 use Rattle.cabinet.specs.declared.entry.Entry.TheVariants as entry
 use Rattle.cabinet.specs.declared.kept.Kept.{Kept}
 use Rattle.cabinet.specs.Hits.{hits_of}
-use Rattle.cabinet.specs.History.{History, Opening, Standing, after, but, first, is_of, least_of, numbers, standing}
+use Rattle.cabinet.specs.History.{History, Opening, Standing, after, but, first, is_of, least_of, numbers, standing, with_uses}
 use Rattle.cabinet.specs.Fresh.{Follows, IsOfLength, May, Possible}
 use Rattle.cabinet.proofs.Lists.{all_push}
+use Rattle.cabinet.proofs.WithUses.{all_set}
 
 -- what remains after a purge passes what all cuts pass
 all_remaining : (P : Cut → Type 0) (cover : Option Cover) (least : Option ℕ) (cuts : List Cut) → AllByRecursion P cuts → AllByRecursion P (remaining cover least cuts)
@@ -65,6 +67,10 @@ limited_after c s (entry.Stored k m place size n uses) may l =
       covers = l.covers;
       few_cuts = l.few_cuts;
     }
+limited_after c s (entry.Counted m u) may l =
+    let same = length-map s.kept (with_uses m u) in
+    let room = l.few in
+    record { lengths = all_set m u (IsOfLength c) (λ t h. h) s.kept l.lengths; few = omega arith; covers = l.covers; few_cuts = l.few_cuts }
 limited_after c s (entry.Ended k) may l = record { lengths = l.lengths; few = l.few; covers = l.covers; few_cuts = l.few_cuts }
 limited_after c s (entry.Used m) may l = l
 limited_after c s (entry.Dropped m) may l = fewer c s (after c s (entry.Dropped m)) (λ x. not (is_of m x)) refl refl l

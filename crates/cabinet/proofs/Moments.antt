@@ -17,6 +17,7 @@ use Rattle.cabinet.specs.Fresh.{ApartBy, Beginning, Follows, HoldsOfKept, May, O
 use Rattle.cabinet.specs.Hits.{hits_of}
 use Rattle.cabinet.specs.History.{History, Opening, Standing, after, but, first, first_entries, is_of, standing, stored_entry, whole}
 use Rattle.cabinet.proofs.Lists.{all_both, all_found, all_push, fold_more}
+use Rattle.cabinet.proofs.WithUses.{all_set}
 
 abbrev unbegun : Beginning
 unbegun = record { moment = 0; begun = None }
@@ -33,6 +34,7 @@ known_step k was (entry.Started j m) n is = or_known was.begun (cond (j == k) (S
 known_step k was (entry.Cut t cover) n is = is
 known_step k was (entry.Missed t) n is = is
 known_step k was (entry.Stored j m place length b uses) n is = or_known was.begun (cond (j == k) (Some b) None) n is
+known_step k was (entry.Counted m u) n is = is
 known_step k was (entry.Ended j) n is = is
 known_step k was (entry.Used m) n is = is
 known_step k was (entry.Dropped m) n is = is
@@ -121,6 +123,7 @@ known_after c s bs (entry.Stored i m place length n uses) k may =
       moment = k.moment;
       above = λ j over. above_stored bs s.front i n j n was k.above over;
     }
+known_after c s bs (entry.Counted m u) k may = record { kept = all_set m u (KeptAt bs) (λ t h. h) s.kept k.kept; out = k.out; moment = k.moment; above = k.above }
 known_after c s bs (entry.Ended i) k may = record {
   kept = k.kept;
   out = all_filter (RunsAt bs) (λ r. not (has_number i r)) s.out k.out;

@@ -18,10 +18,11 @@ use Rattle.cabinet.specs.declared.entry.Entry.{Entry}
 use Rattle.cabinet.specs.declared.entry.Entry.TheVariants as entry
 use Rattle.cabinet.specs.declared.kept.Kept.{Kept}
 use Rattle.cabinet.specs.Hits.{hits_of}
-use Rattle.cabinet.specs.History.{History, Opening, Running, Standing, after, but, first, first_entries, is_of, of_meta, render, render_after, spared, standing, stored_entry, ticket_render, whole, with_render}
+use Rattle.cabinet.specs.History.{History, Opening, Running, Standing, after, but, first, first_entries, is_of, of_meta, render, render_after, spared, standing, stored_entry, ticket_render, whole, with_render, with_uses}
 use Rattle.cabinet.specs.Fresh.{Follows, May, Possible, cuts_after, Holds, HoldsOfRender, HoldsOfKept, ApartBy, Differ}
 use Rattle.cabinet.proofs.Holding.{holds_step}
 use Rattle.cabinet.proofs.Lists.{all_push, all_found, all_both, either_same, fold_more}
+use Rattle.cabinet.proofs.WithUses.{all_set, apart_set}
 
 -- NUMBERS THAT DIFFER
 
@@ -103,6 +104,12 @@ differ_step c cuts s (entry.Cut t cover) h d may = record {
 }
 differ_step c cuts s (entry.Missed t) h d may = record { out = d.out; kept = d.kept; both = d.both; one_runs = d.one_runs }
 differ_step c cuts s (entry.Stored k m place length n uses) h d may = differ_stored c s (record { number = k; meta = m; place = place; length = length; moment = n; uses = uses }) d may
+differ_step c cuts s (entry.Counted m u) h d may = record {
+  out = d.out;
+  kept = apart_set m u (λ (x : Kept). x.number) (λ t. refl) s.kept d.kept;
+  both = all_weaker (λ (r : Render). OffKept s.kept r.number) (λ r. OffKept (map (with_uses m u) s.kept) r.number) (λ r off. all_set m u (λ (t : Kept). r.number ≢ t.number) (λ t h. h) s.kept off) s.out d.both;
+  one_runs = d.one_runs;
+}
 differ_step c cuts s (entry.Ended k) h d may = record {
   out = apart_filter (λ (r : Render). r.number) (λ r. not (has_number k r)) s.out d.out;
   kept = d.kept;
@@ -168,6 +175,7 @@ render_step c cuts k s (entry.Started j m) h may =
 render_step c cuts k s (entry.Cut t cover) h may = ap (λ (o : Option Render). with_render (at_number k s) o) (find_marked (hits_of c cover) t k s.out)
 render_step c cuts k s (entry.Missed t) h may = refl
 render_step c cuts k s (entry.Stored j m place length n uses) h may = ap (λ (o : Option Render). with_render (at_number k s) o) (without_is k j s.out)
+render_step c cuts k s (entry.Counted m u) h may = refl
 render_step c cuts k s (entry.Ended j) h may = ap (λ (o : Option Render). with_render (at_number k s) o) (without_is k j s.out)
 render_step c cuts k s (entry.Used m) h may = refl
 render_step c cuts k s (entry.Dropped m) h may = refl

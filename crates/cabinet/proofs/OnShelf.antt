@@ -10,7 +10,7 @@ use Rattle.catalog.specs.declared.catalogue.Catalogue.{Catalogue}
 use Rattle.catalog.specs.declared.catalogue.Scope.{Scope}
 use Rattle.catalog.specs.Scopes.{is_in}
 use Rattle.expiry_policy.specs.declared.uses.Use.{Use}
-use Rattle.expiry_policy.specs.Victims.{Counts, IsVictim, one_more, use_of}
+use Rattle.expiry_policy.specs.Victims.{Counts, IsUnsaved, IsVictim, one_more, use_of}
 use Rattle.expiry_policy.specs.Victims as victims
 use Rattle.extent_map.specs.declared.part as extent
 use Rattle.extent_map.specs.Parts.{LieInOrder, inserted, part_at}
@@ -27,9 +27,9 @@ use Rattle.cabinet.specs.declared.kept.Kept.{Kept}
 use Rattle.cabinet.specs.declared.kept.KeptBlob.{KeptBlob}
 use Rattle.cabinet.specs.Counted.{part_of}
 use Rattle.cabinet.specs.Gaps.{gap_for, lowest_gap, regions, region}
-use Rattle.cabinet.specs.History.{but, is_of}
-use Rattle.cabinet.specs.Shelved.{IsCountedIn, IsShelved, LeavesUses, listed, with_forgotten, with_kept, with_used, without}
-use Rattle.cabinet.specs.State.{IsLong}
+use Rattle.cabinet.specs.History.{but, is_of, with_uses}
+use Rattle.cabinet.specs.Shelved.{IsCountedIn, IsShelved, LeavesUses, listed, with_forgotten, with_kept, with_saved, with_used, without}
+use Rattle.cabinet.specs.State.{IsLong, blobs_counted}
 use Rattle.cabinet.proofs.Bytes.{bytes_filter, bytes_within, older_counted, older_out}
 use Rattle.cabinet.proofs.Lists.{all_of, all_push, any_map, find_map, map_filter}
 use Rattle.cabinet.proofs.Numbers.{apart_filter, apart_push}
@@ -37,6 +37,7 @@ use Rattle.cabinet.proofs.Once.{AreOnce, but_apart, but_none, one_kept}
 use Rattle.cabinet.proofs.Regions.{alone, gap_at, has_inserted, last_of, no_gap, one_of, taken_out}
 use Rattle.cabinet.proofs.Sentences.{but_is, stored_at}
 use Rattle.cabinet.proofs.UsesAfter.{same_swap}
+use Rattle.cabinet.proofs.WithUses.{all_set, apart_set, blobs_set, found_set, listed_set, map_set, regions_set}
 use Rattle.raster_field.specs.Blocks.{blob_size}
 
 -- the list of those that pass is what passes of the list
@@ -61,6 +62,14 @@ some_used : (v : Bool) (f : Use → Use) (o : Option Use) → is_some (cond v (o
 some_used true f None = refl
 some_used true f (Some u) = refl
 some_used false f o = refl
+
+some_mapped : {X Y : Type 0} (f : X → Y) (o : Option X) → is_some (option_map f o) ≡ is_some o
+some_mapped f None = refl
+some_mapped f (Some x) = refl
+
+-- what has uses that are not saved has uses
+pub unsaved_held : (counts : Counts) (m : MetaKey) → IsUnsaved (use_of counts) (Some m) → IsSome (use_of counts m)
+unsaved_held counts m first = subst IsSome (sym first.1.held) refl
 
 pub turned : {X : Type 0} (v : Bool) (o : Option X) → cond (not v) o None ≡ cond v None o
 turned true o = refl
@@ -160,6 +169,30 @@ module _ (c : Catalogue) (blobs : List KeptBlob) (space : Space) (ledger : Accou
     layers = layers ∙ n.layers;
     keys = λ k. ap is_some (uses k) ∙ some_used (same_meta k m) (victims.used_at at) (use_of counts k) ∙ n.keys k;
   }
+
+  -- THE USES OF ONE ARE SAVED
+
+  pub counted_shelved : (m : MetaKey) (u : ℕ) (counts' : Counts) → counts'.policy ≡ counts.policy → counts'.layers ≡ counts.layers → ((k : MetaKey) → use_of counts' k ≡ with_saved m (use_of counts) k) → IsShelved c (blobs_counted m u blobs) space ledger counts'
+  counted_shelved m u counts' policy layers uses =
+      let list : listed (blobs_counted m u blobs) ≡ map (with_uses m u) (listed blobs) = listed_set m u blobs in
+      let few = n.few in
+      let set : KeptBlob → KeptBlob = λ b. record { kept = with_uses m u b.kept; text = b.text } in
+      let long = length-map blobs set in
+      record {
+        valid = n.valid;
+        once = subst AreOnce (sym list) (apart_set m u (λ (t : Kept). t.meta) (λ t. refl) (listed blobs) n.once);
+        within = subst (AllByRecursion (λ (t : Kept). t.meta.theme.layer < length c.layers)) (sym list) (all_set m u (λ (t : Kept). t.meta.theme.layer < length c.layers) (λ t l. l) (listed blobs) n.within);
+        lengths = blobs_set m u (IsLong c) (λ b long. long) blobs n.lengths;
+        few = omega (arith, long, few);
+        parts = n.parts ∙ sym (regions_set m u (listed blobs)) ∙ ap regions (sym list);
+        size = n.size;
+        order = n.order;
+        bytes = n.bytes ∙ ap (accounts c) (sym (map_set m u part_of (λ t. refl) (listed blobs))) ∙ ap (λ (ts : List Kept). accounts c (map part_of ts)) (sym list);
+        policy = policy ∙ n.policy;
+        layers = layers ∙ n.layers;
+        keys = λ k. ap is_some (uses k) ∙ some_used (same_meta k m) victims.all_saved (use_of counts k) ∙ n.keys k ∙ sym (some_mapped (with_uses m u) (find (is_of k) (listed blobs)))
+            ∙ ap is_some (sym (found_set m u k (listed blobs)) ∙ ap (find (is_of k)) (sym list));
+      }
 
   -- SOME ARE DROPPED
 

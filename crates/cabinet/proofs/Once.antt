@@ -14,6 +14,7 @@ use Rattle.cabinet.specs.Hits.{hits_of}
 use Rattle.cabinet.specs.History.{History, Opening, Standing, after, but, first, is_of, standing}
 use Rattle.cabinet.proofs.Lists.{all_of, all_of_map, all_right}
 use Rattle.cabinet.proofs.Numbers.{apart_filter, apart_push}
+use Rattle.cabinet.proofs.WithUses.{apart_set}
 
 -- WHAT DIFFERS
 
@@ -51,6 +52,7 @@ once_after c s (entry.Cut t cover) a = apart_filter (λ (x : Kept). x.meta) (λ 
 once_after c s (entry.Missed t) a = a
 once_after c s (entry.Stored k m place length n uses) a =
     apart_push (λ (x : Kept). x.meta) (but m s.kept) (record { number = k; meta = m; place = place; length = length; moment = n; uses = uses }) (apart_filter (λ (x : Kept). x.meta) (λ x. not (is_of m x)) s.kept a) (but_apart m s.kept)
+once_after c s (entry.Counted m u) a = apart_set m u (λ (x : Kept). x.meta) (λ t. refl) s.kept a
 once_after c s (entry.Ended k) a = a
 once_after c s (entry.Used m) a = a
 once_after c s (entry.Dropped m) a = apart_filter (λ (x : Kept). x.meta) (λ x. not (is_of m x)) s.kept a

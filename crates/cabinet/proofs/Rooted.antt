@@ -16,6 +16,7 @@ use Rattle.cabinet.specs.History.{History, Opening, Standing, first, first_entri
 use Rattle.cabinet.specs.Fresh.{Begins, Follows, May, Possible}
 use Rattle.cabinet.proofs.Holding.{kept_has}
 use Rattle.cabinet.proofs.Lists.{all_push, all_found}
+use Rattle.cabinet.proofs.WithUses.{all_set}
 
 pub begins_left : (k : ℕ) (m : MetaKey) (h more : History) → Begins k m h → Begins k m (h ++ more)
 begins_left k m [] more s = absurd s
@@ -49,6 +50,7 @@ module _ (P : ℕ → MetaKey → Type 0) where
         (all_found (λ (x : Render). P x.number x.meta) (is_render_of (record { number = k; meta = m })) s.out (unmarked k m n) r.out may.0);
     out = all_filter (λ (x : Render). P x.number x.meta) (λ x. not (has_number k x)) s.out r.out;
   }
+  rooted_after c s (entry.Counted m u) new r may = record { kept = all_set m u (λ (x : Kept). P x.number x.meta) (λ t h. h) s.kept r.kept; out = r.out }
   rooted_after c s (entry.Ended k) new r may = record { kept = r.kept; out = all_filter (λ (x : Render). P x.number x.meta) (λ x. not (has_number k x)) s.out r.out }
   rooted_after c s (entry.Used m) new r may = r
   rooted_after c s (entry.Dropped m) new r may = record { kept = all_filter (λ (x : Kept). P x.number x.meta) (λ x. not (is_of m x)) s.kept r.kept; out = r.out }

@@ -1,5 +1,5 @@
 -- Each row of a command leaves a cabinet of which all that is said of cabinets holds, and what it hands out is fresh.
-use Rattle.std.proofs.Common.{ℕ, ◌≡◌, ◌+◌, ◌<◌, ◌≤◌, Bool, true, false, cond, not, List, [], ◌∷◌, ◌++◌, length, map, filter, Option, Some, None, refl, sym, ap, subst, ◌∙◌, inl, inr, arith, append_assoc, length-append}
+use Rattle.std.proofs.Common.{ℕ, ◌≡◌, ◌+◌, ◌<◌, ◌≤◌, Bool, true, false, cond, not, List, [], ◌∷◌, ◌++◌, length, map, filter, find, Option, Some, None, refl, sym, ap, subst, ◌∙◌, inl, inr, arith, append_assoc, length-append}
 use Rattle.std.specs.Prelude.{IfSome, IsSome, nat_lt, slice_get}
 use Rattle.std.specs.List.{AllByRecursion}
 use Rattle.std.specs.Option.{option_and_then, option_map}
@@ -28,6 +28,8 @@ use Rattle.cabinet.specs.declared.kept.Kept.{Kept}
 use Rattle.cabinet.specs.declared.kept.KeptBlob.{KeptBlob}
 use Rattle.cabinet.specs.declared.replies.Expired.{Expired}
 use Rattle.cabinet.specs.declared.replies.Expired.TheVariants as expired
+use Rattle.cabinet.specs.declared.replies.Saved.{Saved}
+use Rattle.cabinet.specs.declared.replies.Saved.TheVariants as saved
 use Rattle.cabinet.specs.declared.replies.Asked.{Asked}
 use Rattle.cabinet.specs.declared.replies.Asked.TheVariants as asked
 use Rattle.cabinet.specs.declared.replies.Forced.{Forced}
@@ -38,17 +40,18 @@ use Rattle.cabinet.specs.declared.replies.CutReply.{CutReply}
 use Rattle.cabinet.specs.declared.replies.CutReply.TheVariants as reply
 use Rattle.cabinet.specs.Hits.{hits_of}
 use Rattle.served_covers.specs.OfCatalogue.{IsCoverOf}
-use Rattle.cabinet.specs.History.{History, Opening, Standing, after, but, first, first_entries, is_of, kept_of, last_number, next, render, spared, standing, stored_entry, whole}
+use Rattle.cabinet.specs.History.{History, Opening, Standing, after, but, first, first_entries, is_of, kept_of, last_number, next, render, spared, standing, stored_entry, whole, with_uses}
 use Rattle.cabinet.specs.Fresh.{Follows, IsFresh, May, cuts_of, limit_for}
-use Rattle.cabinet.specs.State.{IsKnown, IsKnownAs, IsLong, State, blobs_spared, blobs_with, blobs_without, asked_at, fronted, grown, now, with_entry}
-use Rattle.cabinet.specs.Commands.{Asks, Forces, Finishes, Abandons, Cuts, Expires, IsAskedOf, IsBusy, IsForcedOf, IsGiven, IsHit, IsFreshReply, IsFreshForced, answering, is_within, kept_at, where_within}
+use Rattle.cabinet.specs.State.{IsKnown, IsKnownAs, IsLong, State, blobs_counted, blobs_spared, blobs_with, blobs_without, asked_at, fronted, grown, now, with_entry}
+use Rattle.cabinet.specs.Commands.{Asks, Forces, Finishes, Abandons, Cuts, Expires, Saves, IsAskedOf, IsBusy, IsForcedOf, IsGiven, IsHit, IsFreshReply, IsFreshForced, answering, is_within, kept_at, where_within}
 use Rattle.cabinet.proofs.Fronts.{fronted_after}
 use Rattle.cabinet.proofs.Holding.{holds_of}
 use Rattle.cabinet.proofs.Fresher.{begun_fresh, kept_fresh, still_fresh}
-use Rattle.cabinet.specs.Counted.{use_of, uses_of, victim_in}
+use Rattle.cabinet.specs.Counted.{unsaved_in, use_of, uses, uses_of, victim_in}
 use Rattle.cabinet.proofs.Lists.{all_push, find_map, map_filter}
 use Rattle.cabinet.proofs.Modelled.{if_some_made, if_some_so}
 use Rattle.cabinet.proofs.Numbers.{runs_is}
+use Rattle.cabinet.proofs.WithUses.{blobs_set, listed_set}
 
 follows_more : (c : Catalogue) (s : Standing) (h : History) (e : Entry) → Follows c s h → May c (standing c s h) e → Follows c s (h ++ e ∷ [])
 follows_more c s [] e a b = (b, tt)
@@ -216,15 +219,17 @@ cuts_known s t cover (reply.Done n) k of r = done s t cover n k of r
 map_others : (m : MetaKey) (blobs : List KeptBlob) (kept : List Kept) → map (λ b. b.kept) blobs ≡ kept → map (λ b. b.kept) (filter (λ b. not (is_of m b.kept)) blobs) ≡ but m kept
 map_others m blobs kept e = map_filter (λ (b : KeptBlob). b.kept) (λ t. not (is_of m t)) blobs ∙ ap (but m) e
 
--- a victim is kept
-pub goes_kept : (s : State) (scope : Scope) (m : MetaKey) → victim_in s scope ≡ Some m → IsSome (kept_of m (now s))
-goes_kept s scope m goes =
-    let held = victim_held s.catalogue.policy scope (uses_of s) m goes in
-    some_before (λ (t : Kept). use_of s.history t.meta) (kept_of m (now s)) (subst IsSome (find_map (λ (t : Kept). use_of s.history t.meta) (victims.is_of m) (now s).kept) held)
+-- what has uses is kept
+used_kept : (s : State) (m : MetaKey) → IsSome (find (victims.is_of m) (uses_of s)) → IsSome (kept_of m (now s))
+used_kept s m held = some_before (λ (t : Kept). use_of s.history t.meta) (kept_of m (now s)) (subst IsSome (find_map (λ (t : Kept). use_of s.history t.meta) (victims.is_of m) (now s).kept) held)
   where
     some_before : (f : Kept → Use) (o : Option Kept) → IsSome (option_map f o) → IsSome o
     some_before f (Some t) h = refl
     some_before f None h = absurd (cc)
+
+-- a victim is kept
+pub goes_kept : (s : State) (scope : Scope) (m : MetaKey) → victim_in s scope ≡ Some m → IsSome (kept_of m (now s))
+goes_kept s scope m goes = used_kept s m (victim_held s.catalogue.policy scope (uses_of s) m goes)
 
 gone : (s t : State) (m : MetaKey) → IsKnown s → Expires s (expired.Dropped m) t → IsKnownAs s t
 gone s t m k r =
@@ -234,6 +239,18 @@ gone s t m k r =
 pub expires_known : (s t : State) (r : Expired) → IsKnown s → Expires s r t → IsKnownAs s t
 expires_known s t expired.Within k r = the_same s t k r.1
 expires_known s t (expired.Dropped m) k r = gone s t m k r
+
+-- what is to be saved is of one that is kept
+pub unsaved_kept : (s : State) (m : MetaKey) → unsaved_in s (Some m) → IsSome (kept_of m (now s))
+unsaved_kept s m first = used_kept s m (subst IsSome (sym first.1.held) refl)
+
+pub saves_known : (s t : State) (r : Saved) → IsKnown s → Saves s r t → IsKnownAs s t
+saves_known s t saved.Within k r = the_same s t k r.1
+saves_known s t (saved.Done m) k r =
+    let u = uses s.history m in
+    known_more s t (entry.Counted m u) (option_map (blobs_counted m u) s.blobs) k (unsaved_kept s m r.0)
+    (if_some_made _ _ (blobs_counted m u) (λ bs is. listed_set m u bs ∙ ap (map (with_uses m u)) is) s.blobs k.blobs)
+    (if_some_made _ _ (blobs_counted m u) (λ bs are. blobs_set m u (IsLong s.catalogue) (λ b long. long) bs are) s.blobs k.lengths) k.left r.1
 
 -- BUSY
 

@@ -17,6 +17,7 @@ use Rattle.cabinet.specs.Hits.{hits_of}
 use Rattle.truncation_list.specs.declared.book.Cut.{Cut}
 use Rattle.cabinet.specs.History.{History, Opening, Standing, after, but, first, first_entries, is_of, kept, kept_after, kept_of, standing, stored_entry, whole}
 use Rattle.cabinet.proofs.Lists.{either_same}
+use Rattle.cabinet.proofs.WithUses.{found_set}
 
 truths : (b c : Bool) → (b ≡ true → c ≡ true) → (c ≡ true → b ≡ true) → b ≡ c
 truths true c f g = sym (f refl)
@@ -51,6 +52,7 @@ kept_step c m s (entry.Stored k n place length b uses) =
     find-append (is_of m) (but n s.kept) (t ∷ [])
     ∙ ap (λ (f : Option Kept). option_or f (cond (same_meta n m) (Some t) None)) (but_is m n s.kept)
     ∙ stored_at t (same_meta n m) (find (is_of m) s.kept)
+kept_step c m s (entry.Counted n u) = found_set n u m s.kept
 kept_step c m s (entry.Ended k) = refl
 kept_step c m s (entry.Used n) = refl
 kept_step c m s (entry.Dropped n) = but_is m n s.kept ∙ off_at (same_meta n m) (find (is_of m) s.kept)

@@ -24,11 +24,13 @@ use Rattle.cabinet.specs.declared.replies.CutReply.{CutReply}
 use Rattle.cabinet.specs.declared.replies.CutReply.TheVariants as cut
 use Rattle.cabinet.specs.declared.replies.Expired.{Expired}
 use Rattle.cabinet.specs.declared.replies.Expired.TheVariants as expired
-use Rattle.cabinet.specs.Counted.{scope_exceeded, victim_in}
+use Rattle.cabinet.specs.declared.replies.Saved.{Saved}
+use Rattle.cabinet.specs.declared.replies.Saved.TheVariants as saved
+use Rattle.cabinet.specs.Counted.{scope_exceeded, unsaved_in, uses, victim_in}
 use Rattle.cabinet.specs.Fresh.{IsFresh, limit_for}
 use Rattle.cabinet.specs.Gaps.{gap_for}
 use Rattle.cabinet.specs.History.{kept_of, but, next, numbers, least_of}
-use Rattle.cabinet.specs.State.{State, now, asked_at, with_entry, with_blob, with_cut, with_dropped, kept_text}
+use Rattle.cabinet.specs.State.{State, now, asked_at, with_entry, with_blob, with_counted, with_cut, with_dropped, kept_text}
 
 -- ASK AND FORCE
 
@@ -144,6 +146,13 @@ Cuts s cover cut.Spent new = (next s.opening (now s) ≡ None) × (new ≡ s)
 abbrev pub Expires : State → Expired → State → Type 0
 Expires s (expired.Dropped m) new = (scope : Scope) × (scope_exceeded s ≡ Some scope) × (victim_in s scope ≡ Some m) × (new ≡ with_dropped s m)
 Expires s expired.Within new = (scope_exceeded s ≡ None) × (new ≡ s)
+
+-- SAVE USES
+
+-- the uses of the metatile are marked as saved, and kept with it
+abbrev pub Saves : State → Saved → State → Type 0
+Saves s (saved.Done m) new = unsaved_in s (Some m) × (new ≡ with_counted s m (uses s.history m))
+Saves s saved.Within new = unsaved_in s None × (new ≡ s)
 
 -- WHAT REPLIES PROMISE
 

@@ -1,14 +1,16 @@
--- What is counted of a cabinet: the bytes and the uses of what it keeps, and which metatile an expiry drops.
-use Rattle.std.specs.Prelude.{ℕ, ◌==◌, if◌then◌else◌, List, map, fold, count_by, Option}
+-- What is counted of a cabinet: the bytes and the uses of what it keeps, which metatile an expiry drops, and of which uses are to be
+-- saved.
+use Rattle.std.specs.Prelude.{ℕ, ◌==◌, if◌then◌else◌, List, map, find, fold, count_by, Option}
 use Rattle.catalog.specs.declared.catalogue.Scope.{Scope}
 use Rattle.expiry_policy.specs.declared.uses.Use.{Use}
-use Rattle.expiry_policy.specs.Victims.{one_more, victim}
+use Rattle.expiry_policy.specs.Victims.{IsUnsaved, one_more, victim}
+use Rattle.expiry_policy.specs.Victims as victims
 use Rattle.metatile_plan.specs.declared.metatile.MetaKey.{MetaKey}
 use Rattle.metatile_plan.specs.Keys.{same_meta}
 use Rattle.quota_ledger.specs.Accounts.{Part, accounts, exceeded}
 use Rattle.quota_ledger.specs.Accounts as ledger
 use Rattle.cabinet.specs.declared.entry.Entry.{Entry}
-use Rattle.cabinet.specs.declared.entry.Entry.TheVariants.{At, Started, Cut, Missed, Stored, Ended, Used, Dropped}
+use Rattle.cabinet.specs.declared.entry.Entry.TheVariants.{At, Started, Cut, Missed, Stored, Counted, Ended, Used, Dropped}
 use Rattle.cabinet.specs.declared.kept.Kept.{Kept}
 use Rattle.cabinet.specs.History.{History}
 use Rattle.cabinet.specs.State.{State, now}
@@ -46,6 +48,7 @@ clock_after n (Started k m) = n
 clock_after n (Cut t cover) = n
 clock_after n (Missed t) = n
 clock_after n (Stored k m place length b u) = one_more n
+clock_after n (Counted m u) = n
 clock_after n (Ended k) = n
 clock_after n (Used m) = one_more n
 clock_after n (Dropped m) = n
@@ -60,12 +63,28 @@ uses_after m n (Started k o) = n
 uses_after m n (Cut t cover) = n
 uses_after m n (Missed t) = n
 uses_after m n (Stored k o place length b u) = if same_meta o m then u else n
+uses_after m n (Counted o u) = n
 uses_after m n (Ended k) = n
 uses_after m n (Used o) = if same_meta o m then one_more n else n
 uses_after m n (Dropped o) = n
 
 abbrev pub uses : History → MetaKey → ℕ
 uses h m = fold (uses_after m) 0 h
+
+-- the uses that are saved: those of its last Stored or Counted
+abbrev pub saved_after : MetaKey → ℕ → Entry → ℕ
+saved_after m n (At t) = n
+saved_after m n (Started k o) = n
+saved_after m n (Cut t cover) = n
+saved_after m n (Missed t) = n
+saved_after m n (Stored k o place length b u) = if same_meta o m then u else n
+saved_after m n (Counted o u) = if same_meta o m then u else n
+saved_after m n (Ended k) = n
+saved_after m n (Used o) = n
+saved_after m n (Dropped o) = n
+
+abbrev pub saved : History → MetaKey → ℕ
+saved h m = fold (saved_after m) 0 h
 
 -- a count of entries that keep or use, and what it was at the last one of a metatile
 pub record Times : Type 0 where
@@ -81,6 +100,7 @@ times_after m t (Started k o) = t
 times_after m t (Cut n cover) = t
 times_after m t (Missed n) = t
 times_after m t (Stored k o place length b u) = at_next m o t
+times_after m t (Counted o u) = t
 times_after m t (Ended k) = t
 times_after m t (Used o) = at_next m o t
 times_after m t (Dropped o) = t
@@ -89,9 +109,9 @@ times_after m t (Dropped o) = t
 abbrev pub last_use : History → MetaKey → ℕ
 last_use h m = (fold (times_after m) (record { count = 0; last = 0 }) h).last
 
--- none of its uses is saved, since nothing in memory is
+-- how a metatile was used
 abbrev pub use_of : History → MetaKey → Use
-use_of h m = record { meta = m; uses = uses h m; saved = 0; last = last_use h m }
+use_of h m = record { meta = m; uses = uses h m; saved = saved h m; last = last_use h m }
 
 -- the uses of what is kept
 abbrev pub uses_of : State → List Use
@@ -100,3 +120,7 @@ uses_of s = map (λ t. use_of s.history t.meta) (now s).kept
 -- the metatile of a scope that an expiry drops
 abbrev pub victim_in : State → Scope → Option MetaKey
 victim_in s scope = victim s.catalogue.policy scope (uses_of s)
+
+-- the kept metatile of the least key of those whose uses are not all saved; none exactly where all are
+abbrev pub unsaved_in : State → Option MetaKey → Type 0
+unsaved_in s o = IsUnsaved (λ m. find (victims.is_of m) (uses_of s)) o

@@ -32,6 +32,7 @@ May c s (entry.Missed t) = t ≡ s.front + 1
 May c s (entry.Stored k m place size n uses) =
     (render_of (record { number = k; meta = m }) s.out ≡ Some (unmarked k m n)) × (size ≡ blob_size c m) × (gap_for c s.kept size ≡ Some place)
     × (length (but m s.kept) < c.kept_limit) × (uses ≡ 0)
+May c s (entry.Counted m u) = IsSome (kept_of m s)
 May c s (entry.Ended k) = ⊤
 May c s (entry.Used m) = IsSome (kept_of m s)
 May c s (entry.Dropped m) = IsSome (kept_of m s)
@@ -49,6 +50,7 @@ cuts_after cuts (entry.Started k m) = cuts
 cuts_after cuts (entry.Cut t cover) = cuts ++ record { number = t; cover = cover } ∷ []
 cuts_after cuts (entry.Missed t) = cuts
 cuts_after cuts (entry.Stored k m place length n uses) = cuts
+cuts_after cuts (entry.Counted m u) = cuts
 cuts_after cuts (entry.Ended k) = cuts
 cuts_after cuts (entry.Used m) = cuts
 cuts_after cuts (entry.Dropped m) = cuts
@@ -130,6 +132,7 @@ IsRenderOf k m (entry.Started j n) = (j ≡ k) × (n ≡ m)
 IsRenderOf k m (entry.Cut t cover) = ⊥
 IsRenderOf k m (entry.Missed t) = ⊥
 IsRenderOf k m (entry.Stored j n place length b uses) = (j ≡ k) × (n ≡ m)
+IsRenderOf k m (entry.Counted n u) = ⊥
 IsRenderOf k m (entry.Ended j) = ⊥
 IsRenderOf k m (entry.Used n) = ⊥
 IsRenderOf k m (entry.Dropped n) = ⊥
@@ -145,6 +148,7 @@ IsNoOlder c k a (entry.Started j n) = ⊤
 IsNoOlder c k a (entry.Cut t cover) = IsTrue (covers_in c cover a) → t < k
 IsNoOlder c k a (entry.Missed t) = ⊤
 IsNoOlder c k a (entry.Stored j n place length b uses) = ⊤
+IsNoOlder c k a (entry.Counted n u) = ⊤
 IsNoOlder c k a (entry.Ended j) = ⊤
 IsNoOlder c k a (entry.Used n) = ⊤
 IsNoOlder c k a (entry.Dropped n) = ⊤
@@ -165,6 +169,7 @@ begun_after k was (entry.Started j m) = begun_or was (if j == k then Some was.mo
 begun_after k was (entry.Cut t cover) = was
 begun_after k was (entry.Missed t) = was
 begun_after k was (entry.Stored j m place length n uses) = begun_or was (if j == k then Some n else None)
+begun_after k was (entry.Counted m u) = was
 begun_after k was (entry.Ended j) = was
 begun_after k was (entry.Used m) = was
 begun_after k was (entry.Dropped m) = was

@@ -12,7 +12,7 @@ use Rattle.truncation_list.specs.declared.book.Book.{Book}
 use Rattle.truncation_list.specs.declared.cover.Cover.{Cover}
 use Rattle.truncation_list.specs.Purge.{empty_book, added}
 use Rattle.cabinet.specs.declared.entry.Entry.{Entry}
-use Rattle.cabinet.specs.declared.entry.Entry.TheVariants.{At, Started, Cut, Missed, Stored, Ended, Used, Dropped}
+use Rattle.cabinet.specs.declared.entry.Entry.TheVariants.{At, Started, Cut, Missed, Stored, Counted, Ended, Used, Dropped}
 use Rattle.cabinet.specs.declared.kept.Kept.{Kept}
 use Rattle.cabinet.specs.Hits.{hits_of}
 
@@ -89,6 +89,10 @@ but m ts = filter (λ t. not (is_of m t)) ts
 abbrev pub spared : Catalogue → Cover → List Kept → List Kept
 spared c cover ts = filter (λ t. not (hits_of c cover t.meta)) ts
 
+-- the kept metatile with so many uses, where it is of this one
+abbrev pub with_uses : MetaKey → ℕ → Kept → Kept
+with_uses m uses t = if is_of m t then record { number = t.number; meta = t.meta; place = t.place; length = t.length; moment = t.moment; uses = uses } else t
+
 -- what one entry does
 abbrev pub after : Catalogue → Standing → Entry → Standing
 after c s (At n) = record { front = s.front; moment = n; kept = s.kept; out = s.out; book = s.book }
@@ -98,6 +102,7 @@ after c s (Cut t cover) =
 after c s (Missed t) = record { front = max s.front t; moment = s.moment; kept = s.kept; out = s.out; book = s.book }
 after c s (Stored k m place length n uses) =
     record { front = s.front; moment = s.moment; kept = but m s.kept ++ record { number = k; meta = m; place = place; length = length; moment = n; uses = uses } ∷ []; out = without k s.out; book = s.book }
+after c s (Counted m u) = record { front = s.front; moment = s.moment; kept = map (with_uses m u) s.kept; out = s.out; book = s.book }
 after c s (Ended k) = record { front = s.front; moment = s.moment; kept = s.kept; out = without k s.out; book = s.book }
 after c s (Used m) = s
 after c s (Dropped m) = record { front = s.front; moment = s.moment; kept = but m s.kept; out = s.out; book = s.book }
@@ -115,13 +120,15 @@ next o s = if nat_lt s.front (last_number o) then Some (s.front + 1) else None
 
 -- ONE METATILE AND ONE NUMBER, a sentence each
 
--- a metatile is kept from its Stored on, until a later Stored or Dropped of it or a later Cut that hits it
+-- a metatile is kept from its Stored on, until a later Stored or Dropped of it or a later Cut that hits it; a Counted of it tells its
+-- uses anew
 abbrev pub kept_after : Catalogue → MetaKey → Option Kept → Entry → Option Kept
 kept_after c m was (At n) = was
 kept_after c m was (Started k n) = was
 kept_after c m was (Cut t cover) = if hits_of c cover m then None else was
 kept_after c m was (Missed t) = was
 kept_after c m was (Stored k n place length b uses) = if same_meta n m then Some (record { number = k; meta = n; place = place; length = length; moment = b; uses = uses }) else was
+kept_after c m was (Counted n u) = option_map (with_uses n u) was
 kept_after c m was (Ended k) = was
 kept_after c m was (Used n) = was
 kept_after c m was (Dropped n) = if same_meta n m then None else was
@@ -145,6 +152,7 @@ render_after c k was (Started j m) = with_render was (if j == k then Some (unmar
 render_after c k was (Cut t cover) = with_render was (option_map (marked (hits_of c cover) t) was.render)
 render_after c k was (Missed t) = was
 render_after c k was (Stored j m place length n uses) = with_render was (if j == k then None else was.render)
+render_after c k was (Counted m u) = was
 render_after c k was (Ended j) = with_render was (if j == k then None else was.render)
 render_after c k was (Used m) = was
 render_after c k was (Dropped m) = was

@@ -1,11 +1,11 @@
 -- What is kept, as the entries of a map hold it and in the order in which it was kept.
-use Rattle.std.specs.Prelude.{◌≡◌, not, List, [], ◌∷◌, ◌++◌, map, filter, filter_map, find, fold, Option}
+use Rattle.std.specs.Prelude.{ℕ, ◌≡◌, not, List, [], ◌∷◌, ◌++◌, map, filter, filter_map, find, fold, Option}
 use Rattle.metatile_plan.specs.declared.metatile.MetaKey.{MetaKey}
 use Rattle.metatile_plan.specs.Keys.{same_meta}
 use Rattle.cabinet.specs.declared.kept.Blob.{Blob}
 use Rattle.cabinet.specs.declared.kept.KeptBlob.{KeptBlob}
 use Rattle.cabinet.specs.Fresh.{ApartBy}
-use Rattle.cabinet.specs.History.{is_of}
+use Rattle.cabinet.specs.History.{is_of, with_uses}
 
 -- what an entry of the map holds
 abbrev pub as_kept : MetaKey × Blob → KeptBlob
@@ -31,3 +31,7 @@ pub record IsOrderOf (blobs held : List KeptBlob) : Type 0 where
   pub once : ApartBy (λ b. b.kept.meta) blobs
   pub held_once : ApartBy (λ b. b.kept.meta) held
   pub same : (m : MetaKey) → held_at blobs m ≡ held_at held m
+
+-- where it is of this metatile, with other uses
+abbrev pub recounted : MetaKey → ℕ → KeptBlob → KeptBlob
+recounted m uses b = record { kept = with_uses m uses b.kept; text = b.text }

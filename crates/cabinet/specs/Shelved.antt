@@ -6,7 +6,7 @@ use Rattle.catalog.specs.declared.catalogue.Catalogue.{Catalogue}
 use Rattle.catalog.specs.declared.catalogue.Scope.{Scope}
 use Rattle.catalog.specs.Valid.{IsValid}
 use Rattle.expiry_policy.specs.declared.uses.Use.{Use}
-use Rattle.expiry_policy.specs.Victims.{Counts, IsVictim, one_more, use_of}
+use Rattle.expiry_policy.specs.Victims.{Counts, IsUnsaved, IsVictim, one_more, use_of}
 use Rattle.expiry_policy.specs.Victims as victims
 use Rattle.extent_map.specs.Spaces.{Space, IsSound}
 use Rattle.matrix_geometry.specs.declared.address.Address.{Address}
@@ -21,6 +21,7 @@ use Rattle.truncation_list.specs.declared.cover.Cover.{Cover}
 use Rattle.cabinet.specs.declared.kept.Kept.{Kept}
 use Rattle.cabinet.specs.declared.kept.KeptBlob.{KeptBlob}
 use Rattle.cabinet.specs.declared.shelving.Found.{Found}
+use Rattle.cabinet.specs.declared.shelving.Saving.{Saving}
 use Rattle.cabinet.specs.declared.shelving.Shelving.{Shelving}
 use Rattle.cabinet.specs.declared.shelving.Shelving.TheVariants as shelving
 use Rattle.cabinet.specs.Fresh.{ApartBy}
@@ -28,7 +29,7 @@ use Rattle.cabinet.specs.Gaps.{gap_for, regions}
 use Rattle.cabinet.specs.History.{but, is_of}
 use Rattle.cabinet.specs.Hits.{hits_of}
 use Rattle.cabinet.specs.Counted.{part_of}
-use Rattle.cabinet.specs.State.{IsLong, blobs_spared, blobs_with, blobs_without}
+use Rattle.cabinet.specs.State.{IsLong, blobs_counted, blobs_spared, blobs_with, blobs_without}
 
 -- what is kept, in the order in which it was kept and in an order of which nothing is said, and how many more there is room for
 pub record Stored : Type 0 where
@@ -82,13 +83,17 @@ IsCountedIn a t = (t.meta.theme.layer < length a.layers) × (t.length ≤ used_a
 abbrev pub without : Option Kept → Accounts → Accounts
 without older a = option_map_or (λ t. removed t.meta.theme.layer t.length a) older a
 
--- WHAT BECOMES OF USES at this count: a metatile is kept anew, used or forgotten, or those are that a cover hits
+-- WHAT BECOMES OF USES at this count: a metatile is kept anew, used or forgotten, its uses are saved, or those are forgotten that a
+-- cover hits
 
 abbrev pub with_kept : MetaKey → ℕ → UsesByKey → UsesByKey
 with_kept m count uses n = if same_meta n m then Some (record { meta = m; uses = 0; saved = 0; last = count }) else uses n
 
 abbrev pub with_used : MetaKey → ℕ → UsesByKey → UsesByKey
 with_used m count uses n = if same_meta n m then option_map (victims.used_at count) (uses n) else uses n
+
+abbrev pub with_saved : MetaKey → UsesByKey → UsesByKey
+with_saved m uses n = if same_meta n m then option_map victims.all_saved (uses n) else uses n
 
 abbrev pub with_forgotten : MetaKey → UsesByKey → UsesByKey
 with_forgotten m uses n = if same_meta n m then None else uses n
@@ -149,6 +154,10 @@ Sifts cover s new = Leaves s (blobs_spared s.catalogue cover s.blobs) s.clock (w
 abbrev pub Forgets : MetaKey → Shelved → Shelved → Type 0
 Forgets m s new = Leaves s (blobs_without m s.blobs) s.clock (with_forgotten m (use_on s)) new
 
+-- all uses of one metatile are saved, and they are so many
+abbrev pub Marks : MetaKey → ℕ → Shelved → Shelved → Type 0
+Marks m u s new = Leaves s (blobs_counted m u s.blobs) s.clock (with_saved m (use_on s)) new
+
 -- a row for each way in which the shelving of a ticket's blob ends, of a render that was begun at this moment
 abbrev pub Shelves : Shelved → Ticketed → ℕ → List ℕ → Shelving → Shelved → Type 0
 Shelves s t n blob shelving.Full new = (s.catalogue.kept_limit ≤ length (but t.meta (listed s.blobs))) × (new ≡ s)
@@ -166,6 +175,11 @@ scope_above s = exceeded (accounts s.catalogue (map part_of (listed s.blobs)))
 abbrev pub Drops : Shelved → Option MetaKey → Shelved → Type 0
 Drops s None new = (scope_above s ≡ None) × (new ≡ s)
 Drops s (Some m) new = (scope : Scope) × (scope_above s ≡ Some scope) × IsVictim s.catalogue.policy scope (use_on s) (Some m) × Forgets m s new
+
+-- the uses of the metatile of the least key of those with uses that are not saved are marked as saved
+abbrev pub SavesFirst : Shelved → Option Saving → Shelved → Type 0
+SavesFirst s None new = IsUnsaved (use_on s) None × (new ≡ s)
+SavesFirst s (Some x) new = IsUnsaved (use_on s) (Some x.meta) × (option_map (λ u. u.uses) (use_on s x.meta) ≡ Some x.uses) × Marks x.meta x.uses s new
 
 -- the bytes of a layer, and of all layers
 abbrev pub used_on : Shelved → ℕ → ℕ

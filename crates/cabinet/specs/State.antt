@@ -15,7 +15,7 @@ use Rattle.cabinet.specs.declared.entry.Entry.TheVariants as entry
 use Rattle.cabinet.specs.declared.kept.Kept.{Kept}
 use Rattle.cabinet.specs.declared.kept.KeptBlob.{KeptBlob}
 use Rattle.cabinet.specs.Fresh.{Possible}
-use Rattle.cabinet.specs.History.{History, Opening, Standing, bare_opening, first, is_of, last_number, standing, stored_entry}
+use Rattle.cabinet.specs.History.{History, Opening, Standing, bare_opening, first, is_of, last_number, standing, stored_entry, with_uses}
 use Rattle.cabinet.specs.History as histories
 use Rattle.cabinet.specs.Hits.{hits_of}
 
@@ -59,6 +59,10 @@ blobs_with t text blobs = blobs_without t.meta blobs ++ record { kept = t; text 
 abbrev pub blobs_spared : Catalogue → Cover → List KeptBlob → List KeptBlob
 blobs_spared c cover blobs = filter (λ b. not (hits_of c cover b.kept.meta)) blobs
 
+-- with so many uses of a metatile
+abbrev pub blobs_counted : MetaKey → ℕ → List KeptBlob → List KeptBlob
+blobs_counted m u blobs = map (λ b. record { kept = with_uses m u b.kept; text = b.text }) blobs
+
 -- WHAT BECOMES OF THE CABINET
 
 -- the cabinet after one more entry, with these blobs
@@ -84,6 +88,10 @@ with_cut s t cover = grown s (entry.Cut t cover) (option_map (blobs_spared s.cat
 -- the cabinet after an expiry
 abbrev pub with_dropped : State → MetaKey → State
 with_dropped s m = grown s (entry.Dropped m) (option_map (blobs_without m) s.blobs)
+
+-- the cabinet after so many uses of a metatile were saved
+abbrev pub with_counted : State → MetaKey → ℕ → State
+with_counted s m u = grown s (entry.Counted m u) (option_map (blobs_counted m u) s.blobs)
 
 -- the blob that is kept of a metatile, where blobs are modelled
 abbrev pub kept_text : State → MetaKey → Option (List ℕ)

@@ -9,7 +9,7 @@ ghost use Rattle.cabinet.specs.History.{bare_opening, last_number};
 use crate::ages::{is_within, limit_for};
 use crate::entry::Entry;
 use crate::hitting::overtake;
-use crate::replies::{Asked, CutReply, Expired, Finished, Forced};
+use crate::replies::{Asked, CutReply, Expired, Finished, Forced, Saved};
 use crate::shelf::Shelf;
 use crate::shelving::{Found, Shelving};
 use crate::turns::{as_asked, taken, turn_for, turn_where};
@@ -69,7 +69,7 @@ impl Model for Cabinet {
 impl Cabinet {
     ghost use Rattle.cabinet.specs.State.{fresh_state, now, with_entry, IsKnown, IsSound};
     ghost use Rattle.served_covers.specs.OfCatalogue.{IsCoverOf};
-    ghost use Rattle.cabinet.specs.Commands.{Asks, Forces, Finishes, Abandons, Cuts, Expires, IsTrueHit, IsFreshReply};
+    ghost use Rattle.cabinet.specs.Commands.{Asks, Forces, Finishes, Abandons, Cuts, Expires, Saves, IsTrueHit, IsFreshReply};
     ghost use Rattle.cabinet.specs.Counted.{kept_in, used, used_all};
     ghost use Rattle.cabinet.specs.History.{next};
     ghost use Rattle.cabinet.specs.Turns.{IsFoundIn};
@@ -291,6 +291,21 @@ impl Cabinet {
             Some(meta) => {
                 self.past = self.past.and(&Entry::Dropped(meta));
                 Expired::Dropped(meta)
+            }
+        }
+    }
+
+    /// Marks the uses of one metatile as saved, of the least key, field by field, of those with uses that aren't. It takes no
+    /// memory.
+    pub fn save_uses(&mut self) -> Saved
+        ensures saves { Saves self.old result self.new }
+        ensures sound { IsSound self.old → IsSound self.new }
+    {
+        match self.shelf.save_first() {
+            None => Saved::Within,
+            Some(saving) => {
+                self.past = self.past.and(&Entry::Counted(saving.meta, saving.uses));
+                Saved::Done(saving.meta)
             }
         }
     }

@@ -16,6 +16,8 @@ pub enum Entry {
     /// The render with this number is kept for the metatile, at this place and of so many bytes; it was begun at this moment,
     /// and so many uses of it count from before.
     Stored(u64, MetaKey, u64, u32, u64, u64),
+    /// So many uses of the kept metatile were saved.
+    Counted(MetaKey, u64),
     /// The render with this number ended, and is not kept.
     Ended(u64),
     /// A tile of the kept metatile was handed out.

@@ -17,7 +17,8 @@ ghost use Rattle.cabinet.specs.declared.replies.CutReply.{CutReply};
 ghost use Rattle.cabinet.specs.declared.replies.Expired.{Expired};
 ghost use Rattle.cabinet.specs.declared.replies.Finished.{Finished};
 ghost use Rattle.cabinet.specs.declared.replies.Forced.{Forced};
-ghost use Rattle.cabinet.specs.Commands.{Abandons, Asks, Cuts, Expires, Finishes, Forces, IsBusy, IsFreshForced, IsFreshReply};
+ghost use Rattle.cabinet.specs.declared.replies.Saved.{Saved};
+ghost use Rattle.cabinet.specs.Commands.{Abandons, Asks, Cuts, Expires, Finishes, Forces, IsBusy, IsFreshForced, IsFreshReply, Saves};
 ghost use Rattle.std.specs.List.{AllByRecursion};
 ghost use Rattle.cabinet.specs.Fresh.{ApartBy, Differ, Holds, IsCurrent, IsFresh, IsOfLength, Opens, Possible, cuts_of, moment};
 ghost use Rattle.cabinet.specs.Gaps.{HaveRegions};
@@ -62,6 +63,7 @@ pub fn laws_of_rows()
     ensures abandons { (s : State) (new : State) (t : Ticketed) → IsKnown s → Abandons s t new → IsKnownAs s new }
     ensures cuts { (s : State) (new : State) (cover : Cover) (r : CutReply) → IsKnown s → IsCoverOf s.catalogue cover → Cuts s cover r new → IsKnownAs s new }
     ensures expires { (s : State) (new : State) (r : Expired) → IsKnown s → Expires s r new → IsKnownAs s new }
+    ensures saves { (s : State) (new : State) (r : Saved) → IsKnown s → Saves s r new → IsKnownAs s new }
     ensures busy { (s : State) (new : State) (m : MetaKey) (k : ℕ) → IsKnown s → IsBusy s m k new → (n : ℕ) × (render s.catalogue s.history k ≡ Some (unmarked k m n)) }
     ensures asks_fresh { (s : State) (new : State) (a : Address) (r : Asked) → IsKnown s → IsTile s.catalogue a → Asks s a r new → IsFreshReply s a r new }
     ensures forces_fresh { (s : State) (new : State) (a : Address) (r : Forced) → IsKnown s → IsTile s.catalogue a → Forces s (block_of s.catalogue a) r new → IsFreshForced s a r new }

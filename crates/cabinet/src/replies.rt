@@ -58,3 +58,12 @@ pub enum Expired {
     /// No quota is exceeded; nothing changed.
     Within,
 }
+
+/// What a saving of uses is answered.
+#[derive(Clone, Copy, Debug, PartialEq, Eq)]
+pub enum Saved {
+    /// The uses of this metatile are saved.
+    Done(MetaKey),
+    /// All uses of what is kept are saved; nothing changed.
+    Within,
+}

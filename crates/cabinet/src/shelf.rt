@@ -9,7 +9,7 @@ ghost use Rattle.cabinet.specs.History.{is_of, lesser};
 
 use crate::blob::blob_bytes;
 use crate::kept::Kept;
-use crate::shelving::{Found, Shelving};
+use crate::shelving::{Found, Saving, Shelving};
 use crate::sifting::sift;
 use crate::store::Store;
 use crate::tally::Tally;
@@ -41,7 +41,7 @@ impl Model for Shelf {
 }
 
 impl Shelf {
-    ghost use Rattle.cabinet.specs.Shelved.{Drops, IsAlike, IsBare, Reads, Shelves, Sifts, Touches, used_on, used_on_all};
+    ghost use Rattle.cabinet.specs.Shelved.{Drops, IsAlike, IsBare, Reads, SavesFirst, Shelves, Sifts, Touches, used_on, used_on_all};
 
     /// A shelf on which nothing is kept. `AllocError` where memory runs out.
     pub fn new(alloc: Global, catalogue: Catalogue) -> Result<Shelf, AllocError>
@@ -157,6 +157,21 @@ impl Shelf {
         self.tally.forget(kept);
         self.store.drop_of(&meta);
         Some(meta)
+    }
+
+    /// Marks the uses of one metatile as saved, of the least key, field by field, of those with uses that aren't, and tells how
+    /// many they are; `None` exactly where all uses are saved. It takes no memory.
+    pub fn save_first(&mut self) -> Option<Saving>
+        ensures saves { SavesFirst self.old result self.new }
+        ensures room { self.old.room ≤ self.new.room }
+    {
+        let meta = match self.tally.uses.unsaved() {
+            None => return None,
+            Some(meta) => meta,
+        };
+        let uses = self.tally.uses.saved(&meta);
+        self.store.recount(&meta, uses);
+        Some(Saving { meta, uses })
     }
 
     /// The least of the kept numbers and of one that was found before. All that is kept is gone through for it.

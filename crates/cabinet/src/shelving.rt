@@ -1,5 +1,6 @@
-//! What a shelf can answer: what it reads, and how it keeps a render.
+//! What a shelf can answer: what it reads, how it keeps a render, and which uses it saves.
 use crate::kept::Kept;
+use metatile_plan::metatile::MetaKey;
 
 /// What is read of a kept metatile.
 #[derive(Drop)]
@@ -21,4 +22,13 @@ pub enum Shelving {
     NoRoom,
     /// The render is kept, here.
     Kept(Kept),
+}
+
+/// A saving of uses.
+#[derive(Clone, Copy, Debug, PartialEq, Eq)]
+pub struct Saving {
+    /// The metatile whose uses are saved.
+    pub meta: MetaKey,
+    /// How many they are.
+    pub uses: u64,
 }

@@ -10,7 +10,7 @@ ghost use Rattle.cabinet.specs.Fresh.{ApartBy};
 ghost use Rattle.cabinet.specs.History.{is_of, lesser};
 
 use crate::blob::tile_in;
-use crate::held::{Held, blob_of, count_in, drop_at, drop_of, kept_at, kept_in, least_with, put};
+use crate::held::{Held, blob_of, count_in, drop_at, drop_of, kept_at, kept_in, least_with, put, recount};
 use crate::kept::{Blob, Kept};
 use crate::shelving::Found;
 use catalog::catalogue::Catalogue;
@@ -48,7 +48,7 @@ impl Store {
     ghost use Rattle.std.specs.List.Sorted.{IsPermutation};
     ghost use Rattle.cabinet.specs.Ordered.{as_kept, held_at};
     ghost use Rattle.cabinet.specs.Shelved.{Reads};
-    ghost use Rattle.cabinet.specs.State.{IsLong};
+    ghost use Rattle.cabinet.specs.State.{IsLong, blobs_counted};
 
     /// A store that keeps nothing.
     pub fn new(alloc: Global) -> Store
@@ -165,6 +165,14 @@ impl Store {
     {
         put(&mut self.held, kept, Words::of(text));
         self.puts = self.puts.and(&kept.meta);
+    }
+
+    /// Sets the uses of a metatile, where it is kept. It stays where it is in the order, and no memory is taken.
+    pub fn recount(&mut self, meta: &MetaKey, uses: u64)
+        ensures blobs { self.new.blobs ≡ blobs_counted meta.now uses self.old.blobs }
+        ensures spare { self.old.spare ≤ self.new.spare }
+    {
+        recount(&mut self.held, meta, uses);
     }
 
     /// Drops what is kept of a metatile.
