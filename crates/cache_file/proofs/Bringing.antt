@@ -1,5 +1,5 @@
 -- What the calls on the records bring.
-use Rattle.std.proofs.Common.{◌≡◌, ◌⊎◌, ℕ, zero, suc, ◌<◌, List, refl, sym, ◌∙◌, ap, subst, arith, inl, inr, Result, Ok, Err, OnOk, OnErr}
+use Rattle.std.proofs.Common.{◌≡◌, ◌⊎◌, ℕ, zero, suc, ◌<◌, List, refl, sym, ◌∙◌, subst, arith, inl, inr, Result, Ok, Err, OnOk, OnErr}
 use Rattle.disk_model.specs.Content.{Content}
 use Rattle.disk_model.specs.Images.{DiskState, ChangesBy, Leaves}
 use Rattle.disk_model.specs.Moments.{leaves_as, leaves_none, leaves_then}
@@ -7,7 +7,7 @@ use Rattle.gate_journal.specs.declared.journal.Journal.{Journal}
 use Rattle.gate_journal.specs.Calls.{Moves}
 use Rattle.gate_journal.specs.Layout.{journal_length}
 use Rattle.gate_journal.specs.Opened.{Opening, opened, records}
-use Rattle.gate_journal.specs.Sound.{IsAlike, IsSettled, IsSound, SameFrom, kept, slots_of, version_of}
+use Rattle.gate_journal.specs.Sound.{IsAlike, IsSettled, IsSound, SameFrom, slots_of, version_of}
 use Rattle.cache_file.specs.File.{Anywhere, Brings, HasHeld, IsAmong, held, opens_to, readied, unsure}
 use Rattle.cache_file.proofs.Sparing.{leaves_both, past_now, past_then, settled_sure, whole_now}
 

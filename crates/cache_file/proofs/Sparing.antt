@@ -1,6 +1,6 @@
 -- What the calls of a file leave as it was: blobs, and records where only blobs are written or read.
 use Rattle.std.proofs.Common.{◌≡◌, ◌⊎◌, ℕ, ◌+◌, ◌<◌, ◌≤◌, List, length, sym, ◌∙◌, ap, subst, arith, inl, inr}
-use Rattle.disk_model.specs.Content.{Content, bytes_at, Same, TornWrite, IsOutside}
+use Rattle.disk_model.specs.Content.{Content, Same, TornWrite, IsOutside}
 use Rattle.disk_model.specs.Images.{DiskState, Every, After, Leaves, ChangesBy, Steps}
 use Rattle.disk_model.specs.Moments.{changes_at, leaves_as}
 use Rattle.disk_model.proofs.Reading.{bytes_at-same}
@@ -12,7 +12,7 @@ use Rattle.gate_journal.specs.Opened.{records}
 use Rattle.gate_journal.specs.Sound.{IsSettled, IsSound, IsSoundAs, SameFrom, layout_of, other_as, slots_of, version_of}
 use Rattle.gate_journal.proofs.Behind.{sound_opens, stays_behind, stays_read}
 use Rattle.gate_journal.proofs.Places.{same_here}
-use Rattle.cache_file.specs.File.{Anywhere, HasBlobAt, HasHeld, HoldsBlob, IsApart, Stays, held, opens_to, unsure}
+use Rattle.cache_file.specs.File.{Anywhere, HasBlobAt, HasHeld, IsApart, Stays, held, opens_to, unsure}
 
 -- two facts at each moment are one
 pub leaves_both : (old new : DiskState) (P Q : Content → Type 0) → Leaves old new P → Leaves old new Q → Leaves old new (λ c. P c × Q c)

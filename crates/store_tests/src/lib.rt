@@ -1,8 +1,8 @@
 //! Tests of the crates of the store: layouts to the byte, each moment at which a disk stops, and one real file.
 //!
 //! It has no code of its own and promises nothing: what the crates promise is proved in each of them.
-//! Stands on disk_model, gate_journal, record_text, extent_map and blob_store, and on metatile_plan, truncation_list and
-//! matrix_geometry for the fields of records.
+//! Stands on disk_model, gate_journal, record_text, extent_map, blob_store and cache_file, and on metatile_plan, truncation_list
+//! and matrix_geometry for the fields of records.
 #![tactic(auto)]
 
 #[cfg(test)]
@@ -11,6 +11,8 @@ mod blobs;
 mod disks;
 #[cfg(test)]
 mod extents;
+#[cfg(test)]
+mod files;
 #[cfg(test)]
 mod images;
 #[cfg(test)]
