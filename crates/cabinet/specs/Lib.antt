@@ -8,4 +8,5 @@ pub mod Ordered
 pub mod Shelved
 pub mod Consistent
 pub mod Turns
+pub mod Replay
 pub mod Commands

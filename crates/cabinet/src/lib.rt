@@ -17,6 +17,7 @@ mod held;
 mod hitting;
 pub mod kept;
 pub mod laws;
+pub mod openings;
 pub mod replies;
 mod shelf;
 mod shelving;
