@@ -24,3 +24,5 @@ pub mod Orders
 pub mod Told
 pub mod Sifts
 pub mod Limits
+pub mod Replaying
+pub mod Reopening
