@@ -21,7 +21,7 @@ use Rattle.cabinet.specs.History.{first, least_of}
 use Rattle.cabinet.specs.Replay.{Replayed, Replays, book_after, opening_after, opening_number, opening_of, unplayed}
 use Rattle.cabinet.proofs.Holding.{least_has, least_most}
 use Rattle.cabinet.proofs.Lists.{all_both, all_of, all_of_map}
-use Rattle.cabinet.proofs.Replaying.{IsSound, IsSoundKept, sound_is}
+use Rattle.cabinet.proofs.Replaying.{IsSound, IsSoundIn, sound_is}
 
 -- NUMBERS THAT WERE GIVEN
 
@@ -62,14 +62,14 @@ all_left P r a =
 floor_kept : (c : Catalogue) (r : Replayed) → IsSound c r → AllByRecursion (λ t. (book_after r).floor < t.number) r.kept
 floor_kept c r s =
     all_of_map (λ (t : Kept). t.number) (λ n. (book_after r).floor < n) r.kept (floor_below (map (λ t. t.number) r.kept) (record { cuts = r.cuts; floor = r.floor })
-    (all_map (λ (t : Kept). t.number) (λ n. r.floor < n) r.kept (all_weaker (IsSoundKept c r.cuts (opening_number r) r.floor) (λ t. r.floor < t.number) (λ t h. h.above_floor) r.kept s.kept)))
+    (all_map (λ (t : Kept). t.number) (λ n. r.floor < n) r.kept (all_weaker (IsSoundIn c r) (λ t. r.floor < t.number) (λ t h. h.above_floor) r.kept s.kept)))
 
 -- THE OPENING
 
 below_most : (n front : ℕ) → n < front → n ≤ front
 below_most n front h = omega arith
 
-kept_holds : (c : Catalogue) (r : Replayed) (t : Kept) → IsSoundKept c r.cuts (opening_number r) r.floor t × ((book_after r).floor < t.number) → HoldsOfKept c (book_after r).cuts (front r) (book_after r).floor t
+kept_holds : (c : Catalogue) (r : Replayed) (t : Kept) → IsSoundIn c r t × ((book_after r).floor < t.number) → HoldsOfKept c (book_after r).cuts (front r) (book_after r).floor t
 kept_holds c r t h = record {
   given = below_most t.number (front r) (below_front r t.number h.0.given);
   above_floor = h.1;
@@ -87,14 +87,14 @@ opening_holds c r s =
       listed = all_of (Contains (book_after r).cuts) (book_after r).cuts (λ k has. has);
       order = in_order_remaining None least r.cuts s.order;
       answers = all_of (AnswersFor (book_after r)) (book_after r).cuts (λ k has. inl has);
-      kept = all_weaker (λ t. IsSoundKept c r.cuts (opening_number r) r.floor t × ((book_after r).floor < t.number)) (HoldsOfKept c (book_after r).cuts (front r) (book_after r).floor) (kept_holds c r) r.kept
-          (all_both (IsSoundKept c r.cuts (opening_number r) r.floor) (λ t. (book_after r).floor < t.number) r.kept s.kept (floor_kept c r s));
+      kept = all_weaker (λ t. IsSoundIn c r t × ((book_after r).floor < t.number)) (HoldsOfKept c (book_after r).cuts (front r) (book_after r).floor) (kept_holds c r) r.kept
+          (all_both (IsSoundIn c r) (λ t. (book_after r).floor < t.number) r.kept s.kept (floor_kept c r s));
       out = tt;
     }
 
 opening_is : (c : Catalogue) (r : Replayed) → IsSound c r → length (book_after r).cuts ≤ c.cut_limit → Opens c (opening_after r)
 opening_is c r s few_cuts =
-    let P = IsSoundKept c r.cuts (opening_number r) r.floor in
+    let P = IsSoundIn c r in
     record {
       holds = opening_holds c r s;
       numbers = s.distinct.numbers;

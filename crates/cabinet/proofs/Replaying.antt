@@ -1,5 +1,5 @@
 -- What the records of a journal come to keeps, record by record, to what an opening keeps to.
-use Rattle.std.proofs.Common.{ℕ, ◌≡◌, ◌≢◌, ◌+◌, ◌/◌, ◌<◌, ◌≤◌, max, Bool, true, false, cond, not, List, [], ◌∷◌, ◌++◌, filter, map, length, Option, Some, None, IsTrue, refl, sym, ap, subst, ◌∙◌, inl, inr, arith, length-append}
+use Rattle.std.proofs.Common.{ℕ, ◌≡◌, ◌≢◌, ◌+◌, ◌<◌, ◌≤◌, max, Bool, true, false, cond, not, List, [], ◌∷◌, ◌++◌, filter, map, length, Option, Some, None, IsTrue, refl, sym, ap, subst, ◌∙◌, inl, inr, arith, length-append}
 use Rattle.std.specs.Prelude.{IfSome}
 use Rattle.std.specs.List.{AllByRecursion}
 use Rattle.std.specs.Option.{option_map_or}
@@ -12,7 +12,7 @@ use Rattle.extent_map.specs.declared.part.Part.{Part}
 use Rattle.extent_map.specs.Parts.{AreApart}
 use Rattle.metatile_locks.proofs.Lists.{all_filter, all_map, all_passed, all_weaker, few}
 use Rattle.metatile_plan.specs.declared.metatile.MetaKey.{MetaKey}
-use Rattle.raster_field.specs.Blocks.{IsMeta, blob_size}
+use Rattle.raster_field.specs.Blocks.{IsMeta}
 use Rattle.record_text.specs.declared.entries.Record.{Record}
 use Rattle.record_text.specs.declared.entries.Record.TheVariants as record_of
 use Rattle.served_covers.specs.OfCatalogue.{IsCoverOf}
@@ -24,7 +24,7 @@ use Rattle.truncation_list.proofs.Remaining.{in_order_with}
 use Rattle.cabinet.specs.declared.kept.Kept.{Kept}
 use Rattle.cabinet.specs.Fresh.{ApartBy, IsNewer, IsOfLength}
 use Rattle.cabinet.specs.Gaps.{AreDisjoint, region}
-use Rattle.cabinet.specs.History.{but, is_of, spared}
+use Rattle.cabinet.specs.History.{but, is_of}
 use Rattle.cabinet.specs.Hits.{hits_of}
 use Rattle.cabinet.specs.Replay.{MayCut, MayFollow, MayOpen, MayStore, Replayed, Replays, opening_number, opening_of, replayed, unplayed, with_uses}
 use Rattle.cabinet.proofs.Disjoint.{blob_some}
@@ -45,6 +45,10 @@ pub record IsSoundKept (c : Catalogue) (cuts : List Cut) (e floor : ℕ) (t : Ke
   pub some : 1 ≤ t.length
   pub within : t.place + t.length ≤ c.blob_bytes
 
+-- one that is kept after these records
+abbrev pub IsSoundIn : Catalogue → Replayed → Kept → Type 0
+IsSoundIn c r t = IsSoundKept c r.cuts (opening_number r) r.floor t
+
 -- any two that are kept: they differ in number and metatile, and no byte lies in the regions of both
 pub record AreDistinct (kept : List Kept) : Type 0 where
   pub numbers : ApartBy (λ t. t.number) kept
@@ -58,7 +62,7 @@ pub record IsSound (c : Catalogue) (r : Replayed) : Type 0 where
   pub cuts_given : AllByRecursion (λ k. opening_of k.number ≤ opening_number r) r.cuts
   pub order : IsInOrder r.cuts
   pub covers : AllByRecursion (λ k. IsCoverOf c k.cover) r.cuts
-  pub kept : AllByRecursion (IsSoundKept c r.cuts (opening_number r) r.floor) r.kept
+  pub kept : AllByRecursion (IsSoundIn c r) r.kept
   pub distinct : AreDistinct r.kept
   pub few : length r.kept ≤ c.kept_limit
 
@@ -138,10 +142,11 @@ opened c r e floor s may =
     let up = risen r.opening e may.later in
     record {
       floor_given = greater_has (λ n. opening_of n ≤ e) r.floor floor (given_still (opening_of r.floor) (opening_number r) e up s.floor_given) may.given;
-      cuts_given = all_weaker (λ (k : Cut). opening_of k.number ≤ opening_number r) (λ k. opening_of k.number ≤ e) (λ k given. given_still (opening_of k.number) (opening_number r) e up given) r.cuts s.cuts_given;
+      cuts_given = all_weaker (λ (k : Cut). opening_of k.number ≤ opening_number r) (λ k. opening_of k.number ≤ e)
+          (λ k given. given_still (opening_of k.number) (opening_number r) e up given) r.cuts s.cuts_given;
       order = s.order;
       covers = s.covers;
-      kept = all_weaker (λ t. IsSoundKept c r.cuts (opening_number r) r.floor t × (floor < t.number)) (IsSoundKept c r.cuts e (max r.floor floor))
+      kept = all_weaker (λ t. IsSoundIn c r t × (floor < t.number)) (IsSoundKept c r.cuts e (max r.floor floor))
           (λ t h. record {
             given = given_still (opening_of t.number) (opening_number r) e up h.0.given;
             above_floor = greater_has (λ n. n < t.number) r.floor floor h.0.above_floor h.1;
@@ -150,7 +155,7 @@ opened c r e floor s may =
             long = h.0.long;
             some = h.0.some;
             within = h.0.within;
-          }) r.kept (all_both (IsSoundKept c r.cuts (opening_number r) r.floor) (λ t. floor < t.number) r.kept s.kept may.below);
+          }) r.kept (all_both (IsSoundIn c r) (λ t. floor < t.number) r.kept s.kept may.below);
       distinct = s.distinct;
       few = s.few;
     }
@@ -167,7 +172,7 @@ stored c r t valid s may =
       cuts_given = s.cuts_given;
       order = s.order;
       covers = s.covers;
-      kept = all_push (IsSoundKept c r.cuts (opening_number r) r.floor) (but t.meta r.kept) t (all_filter (IsSoundKept c r.cuts (opening_number r) r.floor) (λ x. not (is_of t.meta x)) r.kept s.kept) (record {
+      kept = all_push (IsSoundIn c r) (but t.meta r.kept) t (all_filter (IsSoundIn c r) (λ x. not (is_of t.meta x)) r.kept s.kept) (record {
         given = may.given;
         above_floor = may.above_floor;
         newer = may.newer;
@@ -177,7 +182,8 @@ stored c r t valid s may =
         within = may.within;
       });
       distinct = record {
-        numbers = apart_push (λ (x : Kept). x.number) (but t.meta r.kept) t rest.numbers (all_weaker (λ (x : Kept). t.number ≢ x.number) (λ x. x.number ≢ t.number) (λ x off e. off (sym e)) (but t.meta r.kept) may.own);
+        numbers = apart_push (λ (x : Kept). x.number) (but t.meta r.kept) t rest.numbers
+            (all_weaker (λ (x : Kept). t.number ≢ x.number) (λ x. x.number ≢ t.number) (λ x off e. off (sym e)) (but t.meta r.kept) may.own);
         once = apart_push (λ (x : Kept). x.meta) (but t.meta r.kept) t rest.once (but_apart t.meta r.kept);
         disjoint = disjoint_push (but t.meta r.kept) t rest.disjoint
             (all_weaker (λ (x : Kept). AreApart (region t) (region x)) (λ x. AreApart (region x) (region t)) (λ x apart. other_side (region t) (region x) apart) (but t.meta r.kept) may.apart);
@@ -194,7 +200,7 @@ dropped c r k m s =
       cuts_given = s.cuts_given;
       order = s.order;
       covers = s.covers;
-      kept = all_filter (IsSoundKept c r.cuts (opening_number r) r.floor) (λ x. not (is_of m x)) r.kept s.kept;
+      kept = all_filter (IsSoundIn c r) (λ x. not (is_of m x)) r.kept s.kept;
       distinct = distinct_filter (λ x. not (is_of m x)) r.kept s.distinct;
       few = omega arith;
     }
@@ -224,7 +230,8 @@ cut c r t cover s may =
       cuts_given = all_push (λ (k : Cut). opening_of k.number ≤ opening_number r) r.cuts new s.cuts_given may.given;
       order = in_order_with r.cuts new s.order above may.cover_of.reach;
       covers = all_push (λ (k : Cut). IsCoverOf c k.cover) r.cuts new s.covers may.cover_of;
-      kept = all_passed (IsSoundKept c r.cuts (opening_number r) r.floor) (IsSoundKept c (r.cuts ++ new ∷ []) (opening_number r) r.floor) (λ x. not (hits_of c cover x.meta)) (missed c r.cuts (opening_number r) r.floor new) r.kept s.kept;
+      kept = all_passed (IsSoundIn c r) (IsSoundKept c (r.cuts ++ new ∷ []) (opening_number r) r.floor) (λ x. not (hits_of c cover x.meta))
+          (missed c r.cuts (opening_number r) r.floor new) r.kept s.kept;
       distinct = distinct_filter (λ x. not (hits_of c cover x.meta)) r.kept s.distinct;
       few = omega arith;
     }
@@ -261,9 +268,9 @@ uses_set c r k m n s =
       cuts_given = s.cuts_given;
       order = s.order;
       covers = s.covers;
-      kept = all_map (with_uses m n) (IsSoundKept c r.cuts (opening_number r) r.floor) r.kept
-          (all_weaker (IsSoundKept c r.cuts (opening_number r) r.floor) (λ t. IsSoundKept c r.cuts (opening_number r) r.floor (with_uses m n t))
-          (set_has (IsSoundKept c r.cuts (opening_number r) r.floor) m n (set_sound c r.cuts (opening_number r) r.floor n)) r.kept s.kept);
+      kept = all_map (with_uses m n) (IsSoundIn c r) r.kept
+          (all_weaker (IsSoundIn c r) (λ t. IsSoundIn c r (with_uses m n t))
+          (set_has (IsSoundIn c r) m n (set_sound c r.cuts (opening_number r) r.floor n)) r.kept s.kept);
       distinct = record {
         numbers = apart_same (λ (t : Kept). t.number) (with_uses m n) (set_same (λ (t : Kept). t.number) m n (λ t. refl)) r.kept s.distinct.numbers;
         once = apart_same (λ (t : Kept). t.meta) (with_uses m n) (set_same (λ (t : Kept). t.meta) m n (λ t. refl)) r.kept s.distinct.once;
