@@ -1,6 +1,6 @@
 -- The rows of commands, from what the parts of a cabinet answer.
-use Rattle.std.proofs.Common.{ℕ, ◌≡◌, ◌≢◌, ◌+◌, ◌<◌, ◌≤◌, Bool, true, false, cond, not, List, [], ◌∷◌, ◌==◌, length, map, filter, find, fold, Option, Some, None, IsSome, inl, inr, refl, sym, ap, subst, ◌∙◌, arith, append_assoc}
-use Rattle.std.specs.Prelude.{nat_lt}
+use Rattle.std.proofs.Common.{ℕ, ◌≡◌, ◌≢◌, ◌+◌, ◌<◌, ◌≤◌, Bool, true, false, cond, not, List, [], ◌∷◌, ◌++◌, ◌==◌, length, map, filter, find, fold, Option, Some, None, IsSome, inl, inr, refl, sym, ap, subst, ◌∙◌, arith, append_assoc}
+use Rattle.std.specs.Prelude.{Err, IfOk, Ok, Result, nat_lt}
 use Rattle.std.specs.List.{AllByRecursion}
 use Rattle.std.specs.Option.{option_and_then, option_map}
 use Rattle.std.proofs.lemmas.Bool.{cases_lt}
@@ -8,7 +8,9 @@ use Rattle.std.proofs.lemmas.Bool.Decides.{nat_tests}
 use Rattle.std.proofs.lemmas.Grind.{fold-append}
 use Rattle.std.proofs.lemmas.List.{length-map}
 use Rattle.std.proofs.lemmas.List.Sums.{length-filter}
+use Rattle.catalog.specs.declared.catalogue.Catalogue.{Catalogue}
 use Rattle.catalog.specs.declared.catalogue.Scope.{Scope}
+use Rattle.catalog.specs.LookUp.{IsTile}
 use Rattle.expiry_policy.specs.declared.uses.Use.{Use}
 use Rattle.expiry_policy.specs.Victims.{IsVictim, victim}
 use Rattle.expiry_policy.specs.Victims as uses
@@ -29,6 +31,7 @@ use Rattle.metatile_locks.proofs.Runs.{one}
 use Rattle.cabinet.specs.declared.entry.Entry.TheVariants as entry
 use Rattle.cabinet.specs.declared.kept.Kept.{Kept}
 use Rattle.cabinet.specs.declared.kept.KeptBlob.{KeptBlob}
+use Rattle.cabinet.specs.declared.replies.Asked.{Asked}
 use Rattle.cabinet.specs.declared.replies.CutReply.TheVariants as reply
 use Rattle.cabinet.specs.declared.replies.Expired.TheVariants as expired
 use Rattle.cabinet.specs.declared.replies.Finished.TheVariants as finished
@@ -37,21 +40,21 @@ use Rattle.cabinet.specs.declared.turns.Turn.{Turn}
 use Rattle.cabinet.specs.declared.turns.Turn.TheVariants as turn
 use Rattle.cabinet.specs.declared.shelving.Found.{Found}
 use Rattle.cabinet.specs.declared.shelving.Shelving.TheVariants as shelving
-use Rattle.cabinet.specs.Commands.{Cuts, Expires, Finishes, IsForcedOf, IsHit, IsUnkept, answering, is_within, kept_at, others, place_for, where_within}
-use Rattle.cabinet.specs.Consistent.{IsConsistent, Parts, seen}
+use Rattle.cabinet.specs.Commands.{Asks, Cuts, Expires, Finishes, IsForcedOf, IsFreshReply, IsHit, IsUnkept, answering, is_within, kept_at, others, place_for, where_within}
+use Rattle.cabinet.specs.Consistent.{IsConsistent, Parts, seen, stood}
 use Rattle.cabinet.specs.Counted.{kept_in, part_of, scope_exceeded, use_of, uses_of}
 use Rattle.cabinet.specs.Fresh.{ApartBy, limit_for}
 use Rattle.cabinet.specs.Gaps.{gap_for}
 use Rattle.cabinet.specs.History.{History, Standing, after, but, first, first_entries, is_of, kept_of, least_of, lesser, next, numbers, last_number, whole}
-use Rattle.cabinet.specs.Shelved.{Drops, Reads, Shelved, Shelves, listed, scope_above, use_on}
-use Rattle.cabinet.specs.State.{IsLong, IsPictured, IsSound, State, asked_at, blobs_with, blobs_without, now, with_blob, with_cut, with_dropped, with_entry}
-use Rattle.cabinet.specs.Turns.{IsTaken, IsTurn, Progress}
+use Rattle.cabinet.specs.Shelved.{Drops, IsAlike, Reads, Shelved, Shelves, listed, scope_above, use_on}
+use Rattle.cabinet.specs.State.{IsLong, IsPictured, IsKnown, IsSound, State, asked_at, blobs_with, blobs_without, now, with_blob, with_cut, with_dropped, with_entry}
+use Rattle.cabinet.specs.Turns.{IsFoundIn, IsTaken, IsTurn, Progress}
 use Rattle.cabinet.proofs.Holding.{least_has, least_most}
 use Rattle.cabinet.proofs.Lists.{all_of_map, all_push, find_map}
 use Rattle.cabinet.proofs.Modelled.{some_and_made}
 use Rattle.cabinet.proofs.Once.{once}
 use Rattle.cabinet.proofs.OnShelf.{listed_filter}
-use Rattle.cabinet.proofs.Rows.{goes_kept, stood_more}
+use Rattle.cabinet.proofs.Rows.{asks_fresh, goes_kept, stood_more}
 use Rattle.raster_field.specs.TileText.{tile_text}
 
 -- THE LEAST NUMBER
@@ -78,6 +81,10 @@ map_numbers (b ∷ bs) = ap (λ (ns : List ℕ). b.kept.number ∷ ns) (map_numb
 -- and with the kept ones
 pub least_is : (least was : Option ℕ) (renders : List Render) (blobs those : List KeptBlob) → IsLeast was renders → least ≡ fold lesser was (map (λ b. b.kept.number) those) → those ≡ blobs → least ≡ least_of (numbers renders (map (λ b. b.kept) blobs))
 least_is least was renders blobs those w e same = e ∙ rw (least_running was renders w, same, fold-append, map_numbers blobs) refl
+
+-- what is read of a shelf is read of one that is alike
+pub alike_reads : (s t : Shelved) (a : Address) (o : Option Found) → IsAlike s t → Reads s.catalogue s.blobs a o → Reads t.catalogue t.blobs a o
+alike_reads s t a o l r = subst (λ (bs : List KeptBlob). Reads t.catalogue bs a o) (sym l.blobs) (subst (λ (c : Catalogue). Reads c s.blobs a o) (sym l.catalogue) r)
 
 -- USES
 
@@ -136,6 +143,13 @@ module _ (p : Parts) (h : History) (k : IsConsistent p h) where
       let f = found (λ (x : KeptBlob). is_of m x.kept) (IsLong p.shelf.catalogue) p.shelf.blobs b k.known.lengths e in
       f.1.0 ∙ f.1.1 ∙ ap (blob_size p.shelf.catalogue) (same_meta_is b.kept.meta m f.0)
 
+  -- what was read of the cabinet was read of the shelf
+  pub found_reads : (a : Address) (f : Found) → IsFoundIn here a f → Reads p.shelf.catalogue p.shelf.blobs a (Some f)
+  found_reads a f x =
+      let e : ◌≡◌ {A = Option (List KeptBlob)} (Some p.shelf.blobs) (Some x.0) = x.1 in
+      let same : x.0 ≡ p.shelf.blobs = cc in
+      subst (λ (bs : List KeptBlob). Reads p.shelf.catalogue bs a (Some f)) same x.2
+
   moment_is : (now here).moment ≡ p.moment
   moment_is = ap (λ (x : Standing). x.moment) k.stands
 
@@ -188,7 +202,10 @@ module _ (p : Parts) (h : History) (k : IsConsistent p h) where
 
   -- TURNS
 
-  module _ (m : MetaKey) (next' : Option ℕ) (locks : Locked) (same : locks.renders ≡ p.renders) (from : next' ≡ next p.opening (now here)) where
+  module _ (m : MetaKey) (next' : Option ℕ) (locks : Locked) (same : locks.renders ≡ p.renders) (from : next' ≡ next p.opening (stood p)) where
+    next_told : next p.opening (now here) ≡ next'
+    next_told = ap (next p.opening) k.stands ∙ sym from
+
     running_is : (o : Option ℕ) → running_for m locks.renders ≡ o → running_for m (now here).out ≡ o
     running_is o e = ap (running_for m) (sym (same ∙ out_are)) ∙ e
 
@@ -201,7 +218,7 @@ module _ (p : Parts) (h : History) (k : IsConsistent p h) where
     )
     taken_row turn.Spent reply new t turns x e = subst (λ (r : Forced). IsForcedOf here m r t) (sym x.0) (
       running_is None turns.0,
-      sym from ∙ turns.1,
+      next_told ∙ turns.1,
       e ∙ (λ i. record { catalogue = p.shelf.catalogue; opening = p.opening; history = whole p.opening (x.1 i).past; since = (x.1 i).past; blobs = Some p.shelf.blobs; clock = p.clock }),
     )
     taken_row (turn.Given j) reply new t turns x e =
@@ -210,7 +227,7 @@ module _ (p : Parts) (h : History) (k : IsConsistent p h) where
         subst (λ (r : Forced). IsForcedOf here m r t) (sym x.0)
         (record {
           none_runs = running_is None turns.0;
-          number = sym from ∙ turns.1;
+          number = next_told ∙ turns.1;
           meta = refl;
           state = e ∙ (λ i. record { catalogue = p.shelf.catalogue; opening = p.opening; history = all i; since = past i; blobs = Some p.shelf.blobs; clock = p.clock });
         })
@@ -287,6 +304,11 @@ below_limit count limit told off on = elim (cases_lt count limit) [
   | inl under ↦ under
   | inr over ↦ absurd (let t = on over in let f : true ≡ false = sym t ∙ off in cc)
 ]
+
+-- what an ask is answered is fresh
+pub fresh_if : {E : Type 0} (s new : State) (a : Address) (r : Result Asked E) → IsKnown s → IsTile s.catalogue a → IfOk r (λ asked. Asks s a asked new) → IfOk r (λ asked. IsFreshReply s a asked new)
+fresh_if s new a (Ok x) k tile asks = asks_fresh s new a x k tile asks
+fresh_if s new a (Err e) k tile asks = tt
 
 -- SOUND
 

@@ -139,21 +139,6 @@ module _ (p : Parts) (h : History) (k : IsConsistent p h) where
       ap (λ (x : Parts). seen x g) e ∙ (λ i. record { catalogue = l.catalogue i; opening = p.opening; history = past i; since = is i; blobs = Some (l.blobs i); clock = read_is i }) in
       there ∙ ap (λ (x : ℕ). asked_at x (seen p h)) at
 
-  -- where nothing is entered and no room is lost
-  pub after_none : (q : Parts) → IsAlike p.shelf q.shelf → q ≡ record { opening = p.opening; shelf = q.shelf; last = p.last; moment = p.moment; clock = p.clock; renders = p.renders; book = p.book } → p.shelf.room ≤ q.shelf.room → IsConsistent q h
-  after_none q l e room =
-      let x = k.room in
-      let same : Parts = record { opening = p.opening; shelf = q.shelf; last = p.last; moment = p.moment; clock = p.clock; renders = p.renders; book = p.book } in
-      let there : seen same h ≡ seen p h = λ i. record { catalogue = l.catalogue i; opening = p.opening; history = whole p.opening h; since = h; blobs = Some (l.blobs i); clock = p.clock } in
-      subst (λ (x : Parts). IsConsistent x h) (sym e)
-      (record {
-        known = subst IsKnown (sym there) k.known;
-        stands = ap now there ∙ k.stands ∙ (λ i. record { front = p.last; moment = p.moment; kept = listed (sym l.blobs i); out = p.renders; book = p.book });
-        clock_is = l.clock ∙ k.clock_is;
-        uses = λ m. l.uses m ∙ k.uses m ∙ (λ i. option_map (λ t. use_of (whole p.opening h) m) (find (is_of m) (listed (sym l.blobs i))));
-        room = omega arith;
-      })
-
   -- STARTED
 
   pub after_started : (m : MetaKey) (g : History) (q : Parts) → g ≡ h ++ entry.Started (p.last + 1) m ∷ [] → IsAlike p.shelf q.shelf

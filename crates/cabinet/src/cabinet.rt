@@ -15,7 +15,6 @@ use crate::shelving::{Found, Shelving};
 use crate::turns::{as_asked, taken, turn_for, turn_where};
 use catalog::catalogue::Catalogue;
 use clock::clock::Clock;
-
 use matrix_geometry::address::Address;
 use metatile_locks::locks::Locks;
 use metatile_locks::replies::End;
@@ -78,11 +77,7 @@ impl Cabinet {
     /// A cabinet in memory, in which nothing has happened; its asks and forces take their moments from the clock. `AllocError` where
     /// memory runs out.
     #[tactic(auto, using(crate::proofs::Consistent::at_first))]
-    pub fn memory(
-        alloc: Global,
-        catalogue: Catalogue,
-        clock: Clock,
-    ) -> Result<Cabinet, AllocError>
+    pub fn memory(alloc: Global, catalogue: Catalogue, clock: Clock) -> Result<Cabinet, AllocError>
         requires { IsValid catalogue }
         ensures { IfOk result (λ c. c ≡ fresh_state catalogue clock) }
     {
@@ -164,14 +159,7 @@ impl Cabinet {
         let meta = block_of(self.shelf.catalogue(), address);
         let limit = limit_for(self.shelf.catalogue(), address);
         let next = self.next();
-        let turn = turn_where(
-            limit,
-            alloc,
-            &mut self.shelf,
-            &mut self.locks,
-            &meta,
-            next,
-        )?;
+        let turn = turn_where(limit, alloc, &mut self.shelf, &mut self.locks, &meta, next)?;
         self.moment = self.clock.now();
         self.past = self.past.and(&Entry::At(self.moment));
         if is_within(limit, found.moment, self.moment) {
@@ -199,13 +187,7 @@ impl Cabinet {
         ensures err { OnErr result (self.new ≡ self.old) }
     {
         let next = self.next();
-        let turn = turn_for(
-            alloc,
-            &mut self.shelf,
-            &mut self.locks,
-            meta,
-            next,
-        )?;
+        let turn = turn_for(alloc, &mut self.shelf, &mut self.locks, meta, next)?;
         self.moment = self.clock.now();
         self.past = self.past.and(&Entry::At(self.moment));
         Ok(taken(

@@ -10,8 +10,8 @@ use Rattle.cabinet.proofs.cabinet.Cabinet.abandon.Goals.{in-Overtaken, in-Whole}
 pub invariant_of-self-2 : goal.invariant_of-self-2
 invariant_of-self-2 c =
     let i = c.self.inside in
-    let p : Parts = record { opening = bare_opening i.opening; shelf = i.shelf; last = i.last; renders = i.locks.renders; book = i.cuts.book } in
+    let p : Parts = record { opening = bare_opening i.opening; shelf = i.shelf; last = i.last; moment = i.moment; clock = i.clock; renders = i.locks.renders; book = i.cuts.book } in
     let h = i.past.entries in
     let told = c.and-self-inside.ensures ∙ ap (λ (n : ℕ). i.past.entries ++ entry.Ended n ∷ []) c.number-number.ensures in
     let off : c.end.new.self.renders ≡ without c.args.ticket.number i.locks.renders = elim c.match-end.branch [ in-Overtaken w ↦ search rules | in-Whole w ↦ search rules ] in
-    after_ended p h c.self.invariant c.args.ticket.number c.and-self-inside.result.entries _ told (λ j. record { opening = bare_opening i.opening; shelf = i.shelf; last = i.last; renders = off j; book = i.cuts.book })
+    after_ended p h c.self.invariant c.args.ticket.number c.and-self-inside.result.entries _ told (λ j. record { opening = bare_opening i.opening; shelf = i.shelf; last = i.last; moment = i.moment; clock = i.clock; renders = off j; book = i.cuts.book })

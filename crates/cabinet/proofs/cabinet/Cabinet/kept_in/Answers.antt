@@ -9,5 +9,5 @@ use Rattle.cabinet.proofs.cabinet.Cabinet.kept_in.Goals as goal
 pub returns : goal.returns
 returns c =
     let i = c.self.inside in
-    let p : Parts = record { opening = bare_opening i.opening; shelf = i.shelf; last = i.last; renders = i.locks.renders; book = i.cuts.book } in
+    let p : Parts = record { opening = bare_opening i.opening; shelf = i.shelf; last = i.last; moment = i.moment; clock = i.clock; renders = i.locks.renders; book = i.cuts.book } in
     c.kept_in.ensures ∙ layer_kept p i.past.entries c.self.invariant c.args.layer ∙ ap (λ (v : State). kept_in v c.args.layer) c.self.view_is
