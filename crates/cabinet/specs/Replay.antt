@@ -1,5 +1,5 @@
 -- What the records of a journal come to: what is kept and which cuts are in force, or the first record that no cache has.
-use Rattle.std.specs.Prelude.{ℕ, ◌≡◌, ◌≢◌, ◌+◌, ◌/◌, ◌^◌, ◌<◌, ◌≤◌, max, List, [], ◌∷◌, ◌++◌, length, map, find, zero, suc, Option, Some, None, IfSome, if◌then◌else◌, ⊤}
+use Rattle.std.specs.Prelude.{ℕ, ◌≡◌, ◌≢◌, ◌+◌, ◌/◌, ◌^◌, ◌<◌, ◌≤◌, max, List, [], ◌∷◌, ◌++◌, length, map, find, drop, slice_get, zero, suc, Bool, true, false, IsTrue, Option, Some, None, IfSome, IsSomeAnd, ◌⊎◌, if◌then◌else◌, ⊤}
 use Rattle.std.specs.List.{AllByRecursion}
 use Rattle.std.specs.Option.{option_map_or}
 use Rattle.catalog.specs.declared.catalogue.Catalogue.{Catalogue}
@@ -7,6 +7,9 @@ use Rattle.extent_map.specs.Parts.{AreApart}
 use Rattle.metatile_plan.specs.declared.metatile.MetaKey.{MetaKey}
 use Rattle.raster_field.specs.Blocks.{IsMeta, blob_size}
 use Rattle.record_text.specs.declared.entries.Record.{Record}
+use Rattle.record_text.specs.Fits.{Fits}
+use Rattle.record_text.specs.Old.{IsOld}
+use Rattle.record_text.specs.Spelling.{spelling}
 use Rattle.record_text.specs.declared.entries.Record.TheVariants.{Opened, Stored, Dropped, Cut, Uses}
 use Rattle.served_covers.specs.OfCatalogue.{IsCoverOf}
 use Rattle.truncation_list.specs.declared.book.Book.{Book}
@@ -103,6 +106,33 @@ IsBadAt c r (None ∷ records) slot = slot ≡ 0
 IsBadAt c r (Some record' ∷ records) zero = MayFollow c r record' → ⊥
 IsBadAt c r (Some record' ∷ records) (suc slot) = MayFollow c r record' × IsBadAt c (replayed c r record') records slot
 
+-- BODIES
+
+-- the body is the spelling of this record in a version of the journal, or that of no record
+abbrev pub IsRecordOf : ℕ → List ℕ → Option Record → Type 0
+IsRecordOf version body (Some record') = Fits record' × (spelling record' ≡ body) × (version ≡ 1 → IsOld record')
+IsRecordOf version body None = (record' : Record) → Fits record' → spelling record' ≡ body → (version ≡ 1 → IsOld record') → ⊥
+
+-- these are the records of the bodies, in order
+abbrev pub AreRecordsOf : ℕ → List (List ℕ) → List (Option Record) → Type 0
+AreRecordsOf version [] [] = ⊤
+AreRecordsOf version [] (record' ∷ records) = ⊥
+AreRecordsOf version (body ∷ bodies) [] = ⊥
+AreRecordsOf version (body ∷ bodies) (record' ∷ records) = IsRecordOf version body record' × AreRecordsOf version bodies records
+
+abbrev pub is_cut : Option Record → Bool
+is_cut None = false
+is_cut (Some (Opened e floor)) = false
+is_cut (Some (Stored k m place length moment uses)) = false
+is_cut (Some (Dropped k m)) = false
+is_cut (Some (Cut t cover)) = true
+is_cut (Some (Uses k m uses)) = false
+
+-- the last cut of the records stands here
+pub record IsLastCut (records : List (Option Record)) (slot : ℕ) : Type 0 where
+  pub there : IsSomeAnd (slice_get records slot) (λ r. IsTrue (is_cut r))
+  pub last : AllByRecursion (λ r. is_cut r ≡ false) (drop (slot + 1) records)
+
 -- WHAT IS OPENED
 
 -- the cuts, purged once, by the least kept number
@@ -112,3 +142,28 @@ book_after r = purged None (least_of (map (λ t. t.number) r.kept)) (record { cu
 -- the opening that follows the records
 abbrev pub opening_after : Replayed → Opening
 opening_after r = record { number = opening_number r + 1; kept = r.kept; book = book_after r }
+
+-- what the bodies of a journal of this version are restored to: the number of their last opening, none before the first, what is kept,
+-- in the order of its records, and the book; or the slot of the first record that no cache has, or of the last cut where too many are
+-- left
+pub record IsRestored (c : Catalogue) (records : List (Option Record)) (opening : Option ℕ) (kept : List Kept) (book : Book) : Type 0 where
+  pub replayed : Replayed
+  pub replays : Replays c unplayed records replayed
+  pub few_cuts : length (book_after replayed).cuts ≤ c.cut_limit
+  pub opening_is : opening ≡ replayed.opening
+  pub kept_is : kept ≡ replayed.kept
+  pub book_is : book ≡ book_after replayed
+
+-- the cuts of the records, purged at their end, are more than may be
+pub record AreTooMany (c : Catalogue) (records : List (Option Record)) : Type 0 where
+  pub replayed : Replayed
+  pub replays : Replays c unplayed records replayed
+  pub many : c.cut_limit < length (book_after replayed).cuts
+
+abbrev pub IsRefusedAt : Catalogue → List (Option Record) → ℕ → Type 0
+IsRefusedAt c records slot = IsBadAt c unplayed records slot ⊎ (AreTooMany c records × IsLastCut records slot)
+
+-- what contracts see of a replay: the catalogue, and the bodies that it was shown
+pub record Shown : Type 0 where
+  pub catalogue : Catalogue
+  pub bodies : List (List ℕ)
