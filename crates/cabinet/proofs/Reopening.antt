@@ -8,17 +8,18 @@ use Rattle.catalog.specs.Valid.{IsValid}
 use Rattle.metatile_locks.proofs.Lists.{all_map, all_weaker}
 use Rattle.raster_field.specs.Blocks.{IsMeta}
 use Rattle.record_text.specs.declared.entries.Record.{Record}
+use Rattle.record_text.specs.declared.entries.Record.TheVariants as record_of
 use Rattle.served_covers.specs.OfCatalogue.{IsCoverOf}
 use Rattle.truncation_list.specs.declared.book.Book.{Book}
 use Rattle.truncation_list.specs.declared.book.Cut.{Cut}
 use Rattle.truncation_list.specs.Books.{AnswersFor}
-use Rattle.truncation_list.specs.Purge.{IsAbove, purged, raised, remaining}
-use Rattle.truncation_list.proofs.Remaining.{all_remaining, floor_below_above, floor_below_least, in_order_remaining}
+use Rattle.truncation_list.specs.Purge.{IsAbove, IsByNumber, purged, raised, remaining}
+use Rattle.truncation_list.proofs.Remaining.{all_remaining, by_number_with, floor_below_above, floor_below_least, in_order_remaining, purged_answers}
 use Rattle.cabinet.specs.declared.kept.Kept.{Kept}
 use Rattle.cabinet.specs.Fresh.{Holds, HoldsOfKept, IsOfLength, Opens}
 use Rattle.cabinet.specs.Hits.{hits_of}
 use Rattle.cabinet.specs.History.{first, least_of}
-use Rattle.cabinet.specs.Replay.{Replayed, Replays, book_after, opening_after, opening_number, opening_of, unplayed}
+use Rattle.cabinet.specs.Replay.{MayFollow, Replayed, Replays, book_after, opening_after, opening_number, opening_of, replayed, unplayed}
 use Rattle.cabinet.proofs.Holding.{least_has, least_most}
 use Rattle.cabinet.proofs.Lists.{all_both, all_of, all_of_map}
 use Rattle.cabinet.proofs.Replaying.{IsSound, IsSoundIn, sound_is}
@@ -113,3 +114,23 @@ opening_is c r s few_cuts =
 
 pub opens_after : (c : Catalogue) (records : List (Option Record)) (r : Replayed) → IsValid c → Replays c unplayed records r → length (book_after r).cuts ≤ c.cut_limit → Opens c (opening_after r)
 opens_after c records r valid h few_cuts = opening_is c r (sound_is c records r valid h) few_cuts
+
+-- EVERY CUT IS ANSWERED FOR
+
+-- the cuts of records stand by number
+by_number_step : (c : Catalogue) (r : Replayed) (x : Record) → IsByNumber r.cuts → MayFollow c r x → IsByNumber (replayed c r x).cuts
+by_number_step c r (record_of.Opened e floor) o may = o
+by_number_step c r (record_of.Stored k m place length moment uses) o may = o
+by_number_step c r (record_of.Dropped k m) o may = o
+by_number_step c r (record_of.Cut t cover) o may = by_number_with r.cuts (record { number = t; cover = cover }) o (All-from_recursion (λ (k : Cut). k.number < t) r.cuts may.above)
+by_number_step c r (record_of.Uses k m uses) o may = o
+
+by_number_run : (c : Catalogue) (r : Replayed) (records : List (Option Record)) (t : Replayed) → IsByNumber r.cuts → Replays c r records t → IsByNumber t.cuts
+by_number_run c r [] t o h = subst (λ (x : Replayed). IsByNumber x.cuts) (sym h) o
+by_number_run c r (None ∷ records) t o h = absurd h
+by_number_run c r (Some x ∷ records) t o h = by_number_run c (replayed c r x) records t (by_number_step c r x o h.0) h.1
+
+pub answers_after : (c : Catalogue) (records : List (Option Record)) (r : Replayed) → Replays c unplayed records r → AllByRecursion (AnswersFor (book_after r)) r.cuts
+answers_after c records r h =
+    let least = least_of (map (λ t. t.number) r.kept) in
+    recursion_from_All (AnswersFor (book_after r)) r.cuts (purged_answers least (record { cuts = r.cuts; floor = r.floor }) (by_number_run c unplayed records r tt h)).cuts
