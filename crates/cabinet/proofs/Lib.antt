@@ -21,6 +21,7 @@ pub mod Bytes
 pub mod OnShelf
 pub mod Lookups
 pub mod Orders
+pub mod Recounts
 pub mod Told
 pub mod Sifts
 pub mod Limits

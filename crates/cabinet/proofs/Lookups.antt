@@ -3,7 +3,7 @@ use Rattle.std.proofs.Common.{ℕ, zero, suc, ◌≡◌, ◌≢◌, ◌-◌, ◌
 use Rattle.std.specs.List.{IsDistinct, swap_remove}
 use Rattle.std.proofs.lemmas.Grind.{fold-append}
 use Rattle.std.proofs.lemmas.List.{map-append}
-use Rattle.std.specs.Map.{keys_of, lookup}
+use Rattle.std.specs.Map.{keys_of, lookup, lookup_key}
 use Rattle.std.specs.Option.{option_map}
 use Rattle.metatile_plan.specs.declared.metatile.MetaKey.{MetaKey}
 use Rattle.metatile_plan.specs.Keys.{same_meta}
@@ -100,3 +100,12 @@ take_map (suc i) (e ∷ es) = ap (λ (bs : List KeptBlob). as_kept e ∷ bs) (ta
 
 pub take_held : (i : ℕ) (es later : Entries) → take i later ≡ take i es → take i (held_of later) ≡ take i (held_of es)
 take_held i es later e = take_map i later ∙ ap held_of e ∙ sym (take_map i es)
+
+-- the key that is found passes
+pub key_passes : (test : MetaKey → Bool) (es : Entries) (k : MetaKey) → lookup_key test es ≡ Some k → test k ≡ true
+key_passes test [] k e = absurd (cc)
+key_passes test (x ∷ xs) k e = chosen (test x.0) refl e (key_passes test xs k)
+  where
+    chosen : (v : Bool) → test x.0 ≡ v → cond v (Some x.0) (lookup_key test xs) ≡ Some k → (lookup_key test xs ≡ Some k → test k ≡ true) → test k ≡ true
+    chosen true is e ih = let same : x.0 ≡ k = cc in ap test (sym same) ∙ is
+    chosen false is e ih = ih e

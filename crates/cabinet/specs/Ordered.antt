@@ -1,5 +1,5 @@
 -- What is kept, as the entries of a map hold it and in the order in which it was kept.
-use Rattle.std.specs.Prelude.{◌≡◌, not, List, [], ◌∷◌, ◌++◌, map, filter, filter_map, find, fold, Option}
+use Rattle.std.specs.Prelude.{ℕ, ◌≡◌, not, if◌then◌else◌, List, [], ◌∷◌, ◌++◌, map, filter, filter_map, find, fold, Option}
 use Rattle.metatile_plan.specs.declared.metatile.MetaKey.{MetaKey}
 use Rattle.metatile_plan.specs.Keys.{same_meta}
 use Rattle.cabinet.specs.declared.kept.Blob.{Blob}
@@ -31,3 +31,8 @@ pub record IsOrderOf (blobs held : List KeptBlob) : Type 0 where
   pub once : ApartBy (λ b. b.kept.meta) blobs
   pub held_once : ApartBy (λ b. b.kept.meta) held
   pub same : (m : MetaKey) → held_at blobs m ≡ held_at held m
+
+-- where it is of this metatile, with other uses
+abbrev pub recounted : MetaKey → ℕ → KeptBlob → KeptBlob
+recounted m uses b =
+    if is_of m b.kept then record { kept = record { number = b.kept.number; meta = b.kept.meta; place = b.kept.place; length = b.kept.length; moment = b.kept.moment; uses = uses }; text = b.text } else b

@@ -7,7 +7,7 @@ ghost use Rattle.metatile_plan.specs.declared.metatile.MetaKey.{MetaKey};
 ghost use Rattle.metatile_plan.specs.Keys.{same_meta};
 ghost use Rattle.cabinet.specs.declared.kept.KeptBlob.{KeptBlob};
 ghost use Rattle.cabinet.specs.Fresh.{ApartBy};
-ghost use Rattle.cabinet.specs.Ordered.{as_kept, held_at, held_of};
+ghost use Rattle.cabinet.specs.Ordered.{as_kept, held_at, held_of, recounted};
 ghost use Rattle.cabinet.specs.History.{lesser};
 
 use crate::kept::{Blob, Kept};
@@ -86,6 +86,18 @@ pub fn drop_at(held: &mut Held, at: usize)
 {
     let _count = held.len();
     let _dropped = held.swap_remove_index(at).unwrap();
+}
+
+/// Sets the uses of a metatile, where it is held.
+pub fn recount(held: &mut Held, meta: &MetaKey, uses: u64)
+    ensures once { ApartBy (λ b. b.kept.meta) (held_of held.new.entries) }
+    ensures held { (m : MetaKey) → held_at (held_of held.new.entries) m ≡ option_map (recounted meta.now uses) (held_at (held_of held.old.entries) m) }
+{
+    let _count = held.len();
+    match held.get_full(meta) {
+        None => {}
+        Some((at, _, _)) => held[at].uses = uses,
+    }
 }
 
 /// How many of a layer are held. All that is held is gone through for it.

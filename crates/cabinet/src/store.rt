@@ -8,9 +8,10 @@ ghost use Rattle.catalog.specs.Valid.{IsValid};
 ghost use Rattle.cabinet.specs.declared.kept.KeptBlob.{KeptBlob};
 ghost use Rattle.cabinet.specs.Fresh.{ApartBy};
 ghost use Rattle.cabinet.specs.History.{is_of, lesser};
+ghost use Rattle.cabinet.specs.Replay.{with_uses};
 
 use crate::blob::tile_in;
-use crate::held::{Held, blob_of, count_in, drop_at, drop_of, kept_at, kept_in, least_with, put};
+use crate::held::{Held, blob_of, count_in, drop_at, drop_of, kept_at, kept_in, least_with, put, recount};
 use crate::kept::{Blob, Kept};
 use crate::shelving::Found;
 use catalog::catalogue::Catalogue;
@@ -165,6 +166,13 @@ impl Store {
     {
         put(&mut self.held, kept, Words::of(text));
         self.puts = self.puts.and(&kept.meta);
+    }
+
+    /// Sets the uses of a metatile, where it is kept. It stays where it is in the order.
+    pub fn recount(&mut self, meta: &MetaKey, uses: u64)
+        ensures { map (λ b. b.kept) self.new.blobs ≡ map (with_uses meta.now uses) (map (λ b. b.kept) self.old.blobs) }
+    {
+        recount(&mut self.held, meta, uses);
     }
 
     /// Drops what is kept of a metatile.
