@@ -22,6 +22,8 @@ pub mod OnShelf
 pub mod Lookups
 pub mod Orders
 pub mod Recounts
+pub mod Tied
+pub mod Allowing
 pub mod Told
 pub mod Sifts
 pub mod Limits

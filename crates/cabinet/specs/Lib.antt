@@ -9,4 +9,6 @@ pub mod Shelved
 pub mod Consistent
 pub mod Turns
 pub mod Replay
+pub mod Placed
+pub mod Played
 pub mod Commands

@@ -10,6 +10,7 @@
 #![tactic(auto)]
 
 mod ages;
+mod allowed;
 mod blob;
 pub mod cabinet;
 pub mod entry;
@@ -17,7 +18,10 @@ mod held;
 mod hitting;
 pub mod kept;
 pub mod laws;
+mod newer;
 pub mod openings;
+mod places;
+mod progress;
 pub mod replay;
 pub mod replies;
 pub mod restored;
