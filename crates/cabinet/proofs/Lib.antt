@@ -24,6 +24,7 @@ pub mod Orders
 pub mod Recounts
 pub mod Tied
 pub mod Allowing
+pub mod Playing
 pub mod Told
 pub mod Sifts
 pub mod Limits

@@ -16,6 +16,7 @@ pub mod cabinet;
 pub mod entry;
 mod held;
 mod hitting;
+mod keeping;
 pub mod kept;
 pub mod laws;
 mod newer;

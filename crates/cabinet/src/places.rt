@@ -2,7 +2,9 @@
 ghost use Rattle.std.specs.Prelude.{None, Some, if◌then◌else◌, ℕ, ◌+◌, ◌<◌, ◌==◌, ◌≡◌, ◌≤◌};
 ghost use Rattle.indexmap.specs.IndexMap.{spare};
 ghost use Rattle.cabinet.specs.Placed.{place_in};
+ghost use Rattle.cabinet.specs.Played.{places_but};
 
+use crate::kept::Kept;
 use indexmap::IndexMap;
 
 /// The place of each number that has one.
