@@ -25,6 +25,7 @@ pub mod Recounts
 pub mod Tied
 pub mod Allowing
 pub mod Playing
+pub mod Spares
 pub mod Told
 pub mod Sifts
 pub mod Limits

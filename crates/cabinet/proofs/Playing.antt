@@ -13,6 +13,7 @@ use Rattle.metatile_plan.specs.declared.metatile.MetaKey.{MetaKey}
 use Rattle.record_text.specs.declared.entries.Record.{Record}
 use Rattle.record_text.specs.declared.entries.Record.TheVariants as record_of
 use Rattle.truncation_list.specs.declared.book.Book.{Book}
+use Rattle.truncation_list.specs.declared.book.Cut.{Cut}
 use Rattle.cabinet.specs.declared.kept.Kept.{Kept}
 use Rattle.cabinet.specs.declared.kept.KeptBlob.{KeptBlob}
 use Rattle.cabinet.specs.declared.progress.Progress.{Progress}
@@ -141,3 +142,6 @@ with_kept r ts = record { opening = r.opening; floor = r.floor; kept = ts; cuts 
 
 abbrev pub with_opening : Replayed → ℕ → ℕ → Replayed
 with_opening r e floor = record { opening = Some e; floor = floor; kept = r.kept; cuts = r.cuts }
+
+abbrev pub with_cuts : Replayed → List Kept → List Cut → Replayed
+with_cuts r ts cuts = record { opening = r.opening; floor = r.floor; kept = ts; cuts = cuts }
