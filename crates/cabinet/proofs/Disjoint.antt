@@ -74,11 +74,11 @@ in_inserted P p (x ∷ xs) h a = chosen (nat_lt p.place x.place) (in_inserted P 
     chosen true rest = (h, (a.0, a.1))
     chosen false rest = (a.0, rest)
 
-of_regions : (P : Part → Type 0) (ts : List Kept) → AllByRecursion (λ t. P (region t)) ts → AllByRecursion P (regions ts)
+pub of_regions : (P : Part → Type 0) (ts : List Kept) → AllByRecursion (λ t. P (region t)) ts → AllByRecursion P (regions ts)
 of_regions P [] a = tt
 of_regions P (t ∷ ts) a = in_inserted P (region t) (regions ts) a.0 (of_regions P ts a.1)
 
-other_side : (p q : Part) → AreApart p q → AreApart q p
+pub other_side : (p q : Part) → AreApart p q → AreApart q p
 other_side p q (inl a) = inr a
 other_side p q (inr b) = inl b
 

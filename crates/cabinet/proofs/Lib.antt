@@ -23,6 +23,12 @@ pub mod OnShelf
 pub mod Lookups
 pub mod Orders
 pub mod Recounts
+pub mod Tied
+pub mod Allowing
+pub mod Playing
+pub mod Spares
 pub mod Told
 pub mod Sifts
 pub mod Limits
+pub mod Replaying
+pub mod Reopening

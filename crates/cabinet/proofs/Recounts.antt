@@ -10,7 +10,7 @@ use Rattle.cabinet.specs.declared.kept.Blob.{Blob}
 use Rattle.cabinet.specs.declared.kept.Kept.{Kept}
 use Rattle.cabinet.specs.declared.kept.KeptBlob.{KeptBlob}
 use Rattle.cabinet.specs.Fresh.{ApartBy}
-use Rattle.cabinet.specs.History.{is_of}
+use Rattle.cabinet.specs.History.{is_of, with_uses}
 use Rattle.cabinet.specs.Ordered.{IsOrderOf, as_kept, held_at, in_order, recounted}
 use Rattle.cabinet.proofs.Orders.{held_key}
 use Rattle.cabinet.proofs.WithUses.{counted, set_same}
@@ -83,3 +83,8 @@ module _ (f : KeptBlob → KeptBlob) (meta : (b : KeptBlob) → (f b).kept.meta 
 
 pub counted_meta : (m : MetaKey) (n : ℕ) (b : KeptBlob) → (recounted m n b).kept.meta ≡ b.kept.meta
 counted_meta m n b = set_same m n (λ (t : Kept). t.meta) (λ t. refl) b.kept
+
+-- without the blobs
+pub counted_list : (m : MetaKey) (n : ℕ) (bs : List KeptBlob) → map (λ b. b.kept) (map (recounted m n) bs) ≡ map (with_uses m n) (map (λ b. b.kept) bs)
+counted_list m n [] = refl
+counted_list m n (b ∷ bs) = ap (λ ts. with_uses m n b.kept ∷ ts) (counted_list m n bs)

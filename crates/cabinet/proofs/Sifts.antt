@@ -39,7 +39,7 @@ pub record IsSifting (keep : MetaKey → Bool) (c : Catalogue) (old now held : L
   pub uses : (m : MetaKey) → cond (keep m) (use_of counts' m) None ≡ cond (keep m) (use_of counts m) None
 
 -- what is kept on of a list without one that is not
-left_out : (keep : MetaKey → Bool) (m : MetaKey) → keep m ≡ false → (bs : List KeptBlob) → filter (λ b. keep b.kept.meta) (others m bs) ≡ filter (λ b. keep b.kept.meta) bs
+pub left_out : (keep : MetaKey → Bool) (m : MetaKey) → keep m ≡ false → (bs : List KeptBlob) → filter (λ b. keep b.kept.meta) (others m bs) ≡ filter (λ b. keep b.kept.meta) bs
 left_out keep m off [] = refl
 left_out keep m off (b ∷ bs) = chosen (same_meta b.kept.meta m) refl (left_out keep m off bs)
   where
@@ -48,7 +48,7 @@ left_out keep m off (b ∷ bs) = chosen (same_meta b.kept.meta m) refl (left_out
     chosen true is ih = let gone : keep b.kept.meta ≡ false = ap keep (same_meta_is b.kept.meta m is) ∙ off in ih ∙ sym (ap (λ (v : Bool). cond v (b ∷ filter (λ b. keep b.kept.meta) bs) (filter (λ b. keep b.kept.meta) bs)) gone)
     chosen false is ih = ap (λ (xs : List KeptBlob). cond (keep b.kept.meta) (b ∷ xs) xs) ih
 
-all_stay : (keep : MetaKey → Bool) (bs : List KeptBlob) → AllByRecursion (λ b. keep b.kept.meta ≡ true) bs → filter (λ b. keep b.kept.meta) bs ≡ bs
+pub all_stay : (keep : MetaKey → Bool) (bs : List KeptBlob) → AllByRecursion (λ b. keep b.kept.meta ≡ true) bs → filter (λ b. keep b.kept.meta) bs ≡ bs
 all_stay keep [] a = refl
 all_stay keep (b ∷ bs) a = rw a.0 (ap (λ xs. b ∷ xs) (all_stay keep bs a.1))
 

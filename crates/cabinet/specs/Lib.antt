@@ -8,4 +8,7 @@ pub mod Ordered
 pub mod Shelved
 pub mod Consistent
 pub mod Turns
+pub mod Replay
+pub mod Placed
+pub mod Played
 pub mod Commands

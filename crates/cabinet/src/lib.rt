@@ -10,17 +10,27 @@
 #![tactic(auto)]
 
 mod ages;
+mod allowed;
 mod blob;
 pub mod cabinet;
+mod cutting;
 pub mod entry;
 mod held;
 mod hitting;
+mod keeping;
 pub mod kept;
 pub mod laws;
+mod newer;
+pub mod openings;
+mod places;
+mod progress;
+pub mod replay;
 pub mod replies;
+pub mod restored;
 mod shelf;
 mod shelving;
 mod sifting;
+mod sparing;
 mod store;
 mod tally;
 mod turns;

@@ -7,7 +7,7 @@ ghost use Rattle.catalog.specs.LookUp.{IsTile};
 ghost use Rattle.catalog.specs.Valid.{IsValid};
 ghost use Rattle.cabinet.specs.declared.kept.KeptBlob.{KeptBlob};
 ghost use Rattle.cabinet.specs.Fresh.{ApartBy};
-ghost use Rattle.cabinet.specs.History.{is_of, lesser};
+ghost use Rattle.cabinet.specs.History.{is_of, lesser, with_uses};
 
 use crate::blob::tile_in;
 use crate::held::{Held, blob_of, count_in, drop_at, drop_of, kept_at, kept_in, least_with, put, recount};
@@ -170,6 +170,7 @@ impl Store {
     /// Sets the uses of a metatile, where it is kept. It stays where it is in the order, and no memory is taken.
     pub fn recount(&mut self, meta: &MetaKey, uses: u64)
         ensures blobs { self.new.blobs ≡ blobs_counted meta.now uses self.old.blobs }
+        ensures kept { map (λ b. b.kept) self.new.blobs ≡ map (with_uses meta.now uses) (map (λ b. b.kept) self.old.blobs) }
         ensures spare { self.old.spare ≤ self.new.spare }
     {
         recount(&mut self.held, meta, uses);

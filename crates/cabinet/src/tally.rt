@@ -28,14 +28,14 @@ pub struct Tally {
 }
 
 /// The taken parts of every space lie in order: a law, called where the proof needs it.
-fn law_of_extents(extents: &Extents)
+pub fn law_of_extents(extents: &Extents)
     ensures { IsSound extents.now }
 {
     let _ = extents.spare();
 }
 
 /// Gives back the region of what was kept, where anything was.
-fn give_back(extents: &mut Extents, older: Option<Kept>)
+pub fn give_back(extents: &mut Extents, older: Option<Kept>)
     requires { IfSome older (λ t. Contains extents.old.parts (region t)) }
     ensures given { IfSome older (λ t. IsTaken extents.new (region t) extents.old) }
     ensures left { IfNone older (extents.new ≡ extents.old) }
