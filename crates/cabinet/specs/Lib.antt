@@ -9,6 +9,7 @@ pub mod Shelved
 pub mod Consistent
 pub mod Turns
 pub mod Replay
+pub mod Recorded
 pub mod Placed
 pub mod Played
 pub mod Commands

@@ -24,6 +24,7 @@ mod newer;
 pub mod openings;
 mod places;
 mod progress;
+pub mod recorded;
 pub mod replay;
 pub mod replies;
 pub mod restored;

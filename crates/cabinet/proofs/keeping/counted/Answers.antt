@@ -19,7 +19,7 @@ returns c = λ next played.
     let m = c.args.meta.now in
     let n = c.args.uses in
     let may : IsKeptUnder c.args.catalogue.now (replayed_of p) c.args.number m = c.is_kept_under.ensures.0 (cc (c.if-not-is_kept_under.false)) in
-    let list = c.recount.ensures in
+    let list = c.recount.ensures.kept in
     let same = ap (with_kept (replayed_of p)) list in
     let new : Progress = record { opening = p.opening; floor = p.floor; store = c.recount.new.self; regions = p.regions; places = p.places; cuts = p.cuts; out = p.out } in
     let tied = counted_tied next (listed p.store.blobs) p.regions (place_in p.places.entries) m n played.tied in
