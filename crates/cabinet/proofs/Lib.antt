@@ -32,3 +32,4 @@ pub mod Sifts
 pub mod Limits
 pub mod Replaying
 pub mod Reopening
+pub mod RecordedOrders
