@@ -33,3 +33,6 @@ pub mod Limits
 pub mod Replaying
 pub mod Reopening
 pub mod RecordedOrders
+pub mod RecordedStanding
+pub mod RecordedKept
+pub mod RecordedCuts
