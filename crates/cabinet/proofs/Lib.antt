@@ -36,3 +36,5 @@ pub mod RecordedOrders
 pub mod RecordedStanding
 pub mod RecordedKept
 pub mod RecordedCuts
+pub mod RecordedOpening
+pub mod RecordedRestored

@@ -43,7 +43,7 @@ by_reason false true outdone P stays = inr (inr (inl refl))
 by_reason false false true P stays = inr (inr (inr refl))
 by_reason false false false P stays = inl (stays refl)
 
-stays_or_goes : (cover : Option Cover) (least : Option ℕ) (cuts : List Cut) (k : Cut) → IsByNumber cuts → Contains cuts k
+pub stays_or_goes : (cover : Option Cover) (least : Option ℕ) (cuts : List Cut) (k : Cut) → IsByNumber cuts → Contains cuts k
     → Contains (remaining cover least cuts) k ⊎ (IsTrue (is_within cover k) ⊎ (IsTrue (is_old least k) ⊎ IsTrue (is_outdone_among cuts k)))
 stays_or_goes cover least cuts k o has =
     by_reason (is_within cover k) (is_old least k) (is_outdone_among cuts k) (Contains (remaining cover least cuts) k)

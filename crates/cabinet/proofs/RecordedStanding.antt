@@ -116,7 +116,7 @@ replays_more c r (Some x ∷ xs) t ys u h k = (h.0, replays_more c (replayed c r
 -- NUMBERS OF AN OPENING
 
 -- a number up to the last one of an opening was given by then
-given_up_to : (n e d : ℕ) → 1 ≤ d → n ≤ e * d + (d - 1) → n / d ≤ e
+pub given_up_to : (n e d : ℕ) → 1 ≤ d → n ≤ e * d + (d - 1) → n / d ≤ e
 given_up_to n e d some most = elim (cases_lt e (n / d)) [
   | inl under ↦
       let low : n / d * d ≤ n = div-mul-le_self n d in
