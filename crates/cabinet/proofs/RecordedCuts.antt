@@ -1,12 +1,11 @@
 -- A cut of the records and what a purge makes of the book: each cut stays accounted for.
-use Rattle.std.proofs.Common.{ℕ, ◌≡◌, ◌+◌, ◌<◌, ◌≤◌, ◌⊎◌, ◌&&◌, ◌||◌, max, Bool, true, false, cond, not, List, [], ◌∷◌, ◌++◌, fold, length, Option, Some, None, IsTrue, refl, sym, ap, subst, ◌∙◌, inl, inr, arith}
+use Rattle.std.proofs.Common.{ℕ, ◌≡◌, ◌+◌, ◌<◌, ◌≤◌, ◌⊎◌, ◌&&◌, ◌||◌, max, Bool, true, false, cond, not, List, [], ◌∷◌, ◌++◌, fold, Option, Some, IsTrue, refl, sym, ap, subst, ◌∙◌, inl, inr, arith}
 use Rattle.std.specs.Prelude.{nat_lt}
 use Rattle.std.specs.List.{AllByRecursion, Contains, list_any}
 use Rattle.std.proofs.lemmas.Bool.{cases_lt}
 use Rattle.std.proofs.lemmas.Bool.Decides.{nat_tests}
-use Rattle.std.proofs.lemmas.List.Elements.{All-from_recursion, All-tail, Contains-append_left, Contains-append_right, Contains-push, recursion_from_All}
+use Rattle.std.proofs.lemmas.List.Elements.{All-from_recursion, Contains-append_left, Contains-append_right, Contains-push, recursion_from_All}
 use Rattle.std.proofs.lemmas.List.Folds.{list_any_at}
-use Rattle.std.proofs.lemmas.List.Sorted.{IsPermutation-refl}
 use Rattle.catalog.specs.declared.catalogue.Catalogue.{Catalogue}
 use Rattle.metatile_locks.proofs.Lists.{all_weaker}
 use Rattle.record_text.specs.declared.entries.Record.{Record}
@@ -16,7 +15,7 @@ use Rattle.truncation_list.specs.declared.book.Book.{Book}
 use Rattle.truncation_list.specs.declared.book.Cut.{Cut}
 use Rattle.truncation_list.specs.declared.cover.Cover.{Cover}
 use Rattle.truncation_list.specs.Contains.{contains}
-use Rattle.truncation_list.specs.Purge.{IsByNumber, added, is_old, is_outdone_among, is_within, purged, raised, remaining}
+use Rattle.truncation_list.specs.Purge.{IsByNumber, added, is_old, is_outdone_among, is_within, raised, remaining}
 use Rattle.truncation_list.proofs.Filters.{filter_keeps}
 use Rattle.truncation_list.proofs.Remaining.{all_remaining, floor_rises, some_of}
 use Rattle.truncation_list.proofs.Rule.{remaining_is_by_rule}
@@ -25,9 +24,9 @@ use Rattle.cabinet.specs.declared.replies.CutReply.TheVariants as reply
 use Rattle.cabinet.specs.Commands.{Cuts}
 use Rattle.cabinet.specs.Fresh.{cuts_of}
 use Rattle.cabinet.specs.Hits.{hits_of}
-use Rattle.cabinet.specs.History.{Opening, Standing, first_front, last_number, least_of, numbers, spared}
+use Rattle.cabinet.specs.History.{Opening, Standing, last_number, least_of, numbers, spared}
 use Rattle.cabinet.specs.Recorded.{IsAccounted, IsFloorOf, IsRecordedIn}
-use Rattle.cabinet.specs.Replay.{MayCut, Replayed, opening_of, replayed, unplayed}
+use Rattle.cabinet.specs.Replay.{MayCut, opening_of, replayed, unplayed}
 use Rattle.cabinet.specs.State.{IsKnown, State, now, with_cut}
 use Rattle.cabinet.proofs.Lists.{all_both, all_contained, all_of, all_push}
 use Rattle.cabinet.proofs.RecordedOrders.{permuted_filter}

@@ -1,6 +1,6 @@
 -- A record that stores, drops or counts does to what the records come to what its command does to what is kept.
 use Rattle.std.proofs.Common.{ℕ, ◌≡◌, ◌≢◌, ◌+◌, ◌<◌, ◌≤◌, Bool, true, false, cond, not, List, [], ◌∷◌, ◌++◌, map, find, length, Option, Some, None, IsTrue, refl, sym, ap, subst, ◌∙◌, inl, inr, arith, length-append}
-use Rattle.std.specs.List.{AllByRecursion, Contains}
+use Rattle.std.specs.List.{AllByRecursion}
 use Rattle.std.specs.List.Sorted.{IsPermutation}
 use Rattle.std.proofs.lemmas.List.Sorted.{IsPermutation-append_left, IsPermutation-map, IsPermutation-sym, length_permutation}
 use Rattle.catalog.specs.declared.catalogue.Catalogue.{Catalogue}
@@ -9,7 +9,6 @@ use Rattle.metatile_locks.specs.Running.{is_render_of}
 use Rattle.metatile_locks.specs.Tickets.{Ticketed}
 use Rattle.metatile_locks.proofs.Lists.{all_weaker, found, none_passes}
 use Rattle.metatile_plan.specs.declared.metatile.MetaKey.{MetaKey}
-use Rattle.metatile_plan.specs.Keys.{same_meta}
 use Rattle.metatile_plan.proofs.Same.{same_meta_is}
 use Rattle.raster_field.specs.Blocks.{IsMeta, blob_size}
 use Rattle.record_text.specs.declared.entries.Record.{Record}
@@ -29,13 +28,13 @@ use Rattle.cabinet.specs.Gaps.{AreDisjoint, region}
 use Rattle.cabinet.specs.History.{Opening, Standing, after, but, first_front, is_of, kept_of, stored_entry, with_uses}
 use Rattle.cabinet.specs.Hits.{hits_of}
 use Rattle.cabinet.specs.Recorded.{IsRecordedIn, stored_record}
-use Rattle.cabinet.specs.Replay.{IsKeptUnder, MayStore, Replayed, opening_of, replayed, unplayed}
+use Rattle.cabinet.specs.Replay.{IsKeptUnder, MayStore, opening_of, replayed, unplayed}
 use Rattle.cabinet.specs.State.{IsKnown, State, now, with_blob, with_counted, with_dropped}
 use Rattle.cabinet.proofs.Holding.{kept_has}
-use Rattle.cabinet.proofs.Lists.{all_contained, all_found, all_left, all_right}
+use Rattle.cabinet.proofs.Lists.{all_contained, all_found, all_right}
 use Rattle.cabinet.proofs.Once.{apart_around}
 use Rattle.cabinet.proofs.RecordedOrders.{permuted_all, permuted_filter}
-use Rattle.cabinet.proofs.RecordedStanding.{IsBefore, IsRecorded, Stands, given_by, number_is, recorded_in, recorded_more, recorded_of, replays_one, stands_in, stands_more}
+use Rattle.cabinet.proofs.RecordedStanding.{IsBefore, IsRecorded, Stands, given_by, number_is, recorded_more, recorded_of, replays_one, stands_in, stands_more}
 use Rattle.cabinet.proofs.Rows.{finishes_known}
 
 -- A NUMBER ABOVE ALL CUTS THAT HIT

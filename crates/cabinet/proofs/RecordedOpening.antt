@@ -1,5 +1,5 @@
 -- What an opening and a compaction leave: the records behind them say what is kept.
-use Rattle.std.proofs.Common.{ℕ, ◌≡◌, ◌≢◌, ◌+◌, ◌*◌, ◌/◌, ◌^◌, ◌<◌, ◌≤◌, ◌||◌, max, Bool, true, false, cond, not, List, [], ◌∷◌, ◌++◌, map, fold, filter, length, Option, Some, None, IsTrue, refl, sym, ap, subst, ◌∙◌, inl, inr, arith, length-append, append_assoc, append-nil}
+use Rattle.std.proofs.Common.{ℕ, ◌≡◌, ◌≢◌, ◌+◌, ◌*◌, ◌/◌, ◌^◌, ◌<◌, ◌≤◌, false, List, [], ◌∷◌, ◌++◌, map, length, Option, Some, None, IsTrue, refl, sym, ap, subst, inl, inr, arith, length-append, append_assoc, append-nil}
 use Rattle.std.specs.Prelude.{IfSome}
 use Rattle.std.specs.List.{AllByRecursion, Contains}
 use Rattle.std.specs.List.Sorted.{IsPermutation}
@@ -12,22 +12,20 @@ use Rattle.catalog.specs.declared.catalogue.Catalogue.{Catalogue}
 use Rattle.catalog.specs.Valid.{IsValid}
 use Rattle.extent_map.specs.Parts.{AreApart}
 use Rattle.metatile_locks.proofs.Lists.{all_weaker}
-use Rattle.metatile_plan.specs.declared.metatile.MetaKey.{MetaKey}
 use Rattle.raster_field.specs.Blocks.{IsMeta}
 use Rattle.record_text.specs.declared.entries.Record.{Record}
 use Rattle.record_text.specs.declared.entries.Record.TheVariants as record_of
 use Rattle.served_covers.specs.OfCatalogue.{IsCoverOf}
-use Rattle.truncation_list.specs.declared.book.Book.{Book}
 use Rattle.truncation_list.specs.declared.book.Cut.{Cut}
 use Rattle.truncation_list.specs.Purge.{IsByNumber, is_old}
 use Rattle.truncation_list.proofs.Remaining.{all_remaining, floor_rises}
 use Rattle.cabinet.specs.declared.kept.Kept.{Kept}
-use Rattle.cabinet.specs.Fresh.{ApartBy, Holds, HoldsOfKept, IsNewer, IsOfLength, Opens, cuts_of}
+use Rattle.cabinet.specs.Fresh.{ApartBy, HoldsOfKept, IsNewer, IsOfLength, Opens, cuts_of}
 use Rattle.cabinet.specs.Gaps.{AreDisjoint, region}
 use Rattle.cabinet.specs.Hits.{hits_of}
 use Rattle.cabinet.specs.History.{History, Opening, Standing, but, first, first_front, is_of, least_of, standing}
 use Rattle.cabinet.specs.Recorded.{IsAccounted, IsRecordedIn, compacted, stored_record}
-use Rattle.cabinet.specs.Replay.{MayCut, MayOpen, MayStore, Replayed, Replays, book_after, opening_after, opening_number, opening_of, replayed, unplayed}
+use Rattle.cabinet.specs.Replay.{MayOpen, Replayed, Replays, book_after, opening_after, opening_number, opening_of, replayed, unplayed}
 use Rattle.cabinet.specs.State.{IsKnown, State, now}
 use Rattle.cabinet.proofs.Lists.{all_both, all_contained, all_of, all_push}
 use Rattle.cabinet.proofs.Once.{but_none, off_of}

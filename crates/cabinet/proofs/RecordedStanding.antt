@@ -1,5 +1,5 @@
 -- What records say of what stands, and what is known of that.
-use Rattle.std.proofs.Common.{ℕ, ◌≡◌, ◌+◌, ◌-◌, ◌*◌, ◌/◌, ◌^◌, ◌<◌, ◌≤◌, ◌⊎◌, max, not, List, [], ◌∷◌, ◌++◌, fold, length, Option, Some, None, refl, sym, ap, subst, ◌∙◌, inl, inr, arith}
+use Rattle.std.proofs.Common.{ℕ, ◌≡◌, ◌+◌, ◌-◌, ◌*◌, ◌/◌, ◌^◌, ◌<◌, ◌≤◌, ◌⊎◌, not, List, [], ◌∷◌, ◌++◌, length, Option, Some, None, refl, sym, ap, subst, inl, inr, arith}
 use Rattle.std.specs.List.{AllByRecursion, Contains}
 use Rattle.std.specs.List.Sorted.{IsPermutation}
 use Rattle.std.specs.Option.{option_map_or}
@@ -34,7 +34,7 @@ use Rattle.cabinet.proofs.Limits.{covers_are, few_cuts, few_kept, lengths_are}
 use Rattle.cabinet.proofs.Lists.{all_push}
 use Rattle.cabinet.proofs.Numbers.{differ_is}
 use Rattle.cabinet.proofs.Once.{once}
-use Rattle.cabinet.proofs.Rooted.{Rooted, metas_of}
+use Rattle.cabinet.proofs.Rooted.{metas_of}
 use Rattle.cabinet.proofs.Rows.{now_more}
 
 -- WHAT RECORDS SAY
