@@ -26,6 +26,7 @@ pub mod Tied
 pub mod Allowing
 pub mod Playing
 pub mod Spares
+pub mod Ranked
 pub mod Told
 pub mod Sifts
 pub mod Limits
