@@ -11,4 +11,5 @@ pub mod Turns
 pub mod Replay
 pub mod Placed
 pub mod Played
+pub mod Shows
 pub mod Commands

@@ -11,6 +11,7 @@
 
 mod ages;
 mod allowed;
+mod beginning;
 mod blob;
 pub mod cabinet;
 mod cutting;
@@ -18,6 +19,7 @@ mod entering;
 pub mod entry;
 mod held;
 mod hitting;
+mod judging;
 mod keeping;
 pub mod kept;
 pub mod laws;
