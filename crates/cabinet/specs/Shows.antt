@@ -65,3 +65,10 @@ pub record IsShown (c : Catalogue) (bodies : List (List ℕ)) (records : List (O
   pub stands : StandsAt c records p bad
   pub late : IsLateAt records later
   pub cut : IsCutAt records last_cut
+
+-- what is held at the end is what the records come to
+pub record IsFinished (c : Catalogue) (records : List (Option Record)) (p : Progress) (limit : ℕ) (last_cut : Option ℕ) : Type 0 where
+  pub replays : Replays c unplayed records (replayed_of p)
+  pub played : IsPlayed c (length records) p
+  pub cut : IsCutAt records last_cut
+  pub limit_is : limit ≡ c.cut_limit

@@ -17,6 +17,7 @@ pub mod cabinet;
 mod cutting;
 mod entering;
 pub mod entry;
+mod finishing;
 mod held;
 mod hitting;
 mod judging;
