@@ -15,9 +15,8 @@ use Rattle.record_text.specs.Reading.{entry_of}
 use Rattle.record_text.specs.Spelling.{spelling}
 use Rattle.record_text.proofs.Back.{entry_back}
 use Rattle.record_text.proofs.Decoded.{same_entry}
-use Rattle.truncation_list.specs.declared.book.Cut.{Cut as ListedCut}
 use Rattle.cabinet.specs.Played.{IsPlayed, replayed_of}
-use Rattle.cabinet.specs.Replay.{AreRecordsOf, IsBadAt, IsLastCut, IsRecordOf, MayFollow, Replayed, Replays, book_after, is_cut, replayed, unplayed}
+use Rattle.cabinet.specs.Replay.{AreRecordsOf, IsBadAt, IsLastCut, IsRecordOf, MayFollow, Replayed, Replays, is_cut, replayed, unplayed}
 use Rattle.cabinet.specs.Shows.{IsCutAt, IsFirstLate, IsLateAt, StandsAt, early_only, first_bad, first_of, is_late, of_version}
 use Rattle.cabinet.specs.declared.progress.Progress.{Progress}
 use Rattle.cabinet.proofs.Lists.{all_push}

@@ -1,5 +1,5 @@
 -- What is held and kept where the uses of a metatile are set.
-use Rattle.std.proofs.Common.{ℕ, ◌≡◌, ◌≢◌, Bool, true, false, cond, List, [], ◌∷◌, map, Option, Some, None, refl, sym, ap, subst, ◌∙◌}
+use Rattle.std.proofs.Common.{ℕ, ◌≡◌, ◌≢◌, Bool, true, false, cond, List, [], ◌∷◌, map, Option, Some, None, refl, sym, ap, ◌∙◌}
 use Rattle.std.specs.List.{cons_option}
 use Rattle.std.specs.Option.{option_map}
 use Rattle.metatile_plan.specs.declared.metatile.MetaKey.{MetaKey}
@@ -94,6 +94,6 @@ counted_list m n (b ∷ bs) = chosen (is_of m b.kept) (counted_list m n bs)
   where
     chosen : (v : Bool) → map (λ b. b.kept) (map (recounted m n) bs) ≡ map (with_uses m n) (map (λ b. b.kept) bs)
         → (cond v (as_kept (b.kept.meta, with_count n (record { number = b.kept.number; place = b.kept.place; length = b.kept.length; moment = b.kept.moment; uses = b.kept.uses; text = b.text }))) b).kept ∷ map (λ b. b.kept) (map (recounted m n) bs)
-          ≡ cond v (record { number = b.kept.number; meta = b.kept.meta; place = b.kept.place; length = b.kept.length; moment = b.kept.moment; uses = n }) b.kept ∷ map (with_uses m n) (map (λ b. b.kept) bs)
+        ≡ cond v (record { number = b.kept.number; meta = b.kept.meta; place = b.kept.place; length = b.kept.length; moment = b.kept.moment; uses = n }) b.kept ∷ map (with_uses m n) (map (λ b. b.kept) bs)
     chosen true ih = ap (λ ts. record { number = b.kept.number; meta = b.kept.meta; place = b.kept.place; length = b.kept.length; moment = b.kept.moment; uses = n } ∷ ts) ih
     chosen false ih = ap (λ ts. b.kept ∷ ts) ih

@@ -1,5 +1,4 @@
-use Rattle.std.proofs.Common.{ℕ, List, Option, ◌≡◌, ◌++◌, ◌∷◌, [], false, true, sym, subst, ◌∙◌}
-use Rattle.record_text.specs.declared.entries.Record.{Record}
+use Rattle.std.proofs.Common.{◌≡◌, ◌++◌, ◌∷◌, [], true, sym, subst, ◌∙◌}
 use Rattle.cabinet.specs.Replay.{IsLastCut, is_cut}
 use Rattle.cabinet.proofs.Judged.{cut_here, none_cut}
 use Rattle.cabinet.proofs.judging.cut_after.Goals as goal

@@ -1,8 +1,7 @@
-use Rattle.std.proofs.Common.{ℕ, Bool, List, Option, Some, None, ◌≡◌, ◌+◌, ◌++◌, ◌∷◌, [], length, false, true, sym, ap, subst, ◌∙◌, arith, length-append}
-use Rattle.std.specs.Prelude.{IfOk}
+use Rattle.std.proofs.Common.{ℕ, Bool, Option, Some, None, ◌≡◌, ◌+◌, ◌++◌, ◌∷◌, [], length, sym, subst, arith, length-append}
 use Rattle.record_text.specs.declared.entries.Record.{Record}
 use Rattle.cabinet.specs.Played.{IsPlayed, Plays, replayed_of}
-use Rattle.cabinet.specs.Replay.{IsBadAt, MayFollow, Replayed, Replays, replayed, unplayed}
+use Rattle.cabinet.specs.Replay.{IsBadAt, Replays, unplayed}
 use Rattle.cabinet.specs.Shows.{StandsAt}
 use Rattle.cabinet.proofs.Judged.{bad_here, bad_more, bad_none}
 use Rattle.cabinet.proofs.Playing.{replays_push}

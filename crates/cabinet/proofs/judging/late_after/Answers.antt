@@ -1,5 +1,4 @@
-use Rattle.std.proofs.Common.{ℕ, List, Option, ◌≡◌, ◌++◌, ◌∷◌, [], false, true, sym, subst, ◌∙◌}
-use Rattle.record_text.specs.declared.entries.Record.{Record}
+use Rattle.std.proofs.Common.{◌≡◌, ◌++◌, ◌∷◌, [], true, sym, subst, ◌∙◌}
 use Rattle.cabinet.specs.Shows.{IsFirstLate, IsLateAt, is_late}
 use Rattle.cabinet.proofs.Judged.{late_here, late_more}
 use Rattle.cabinet.proofs.judging.late_after.Goals as goal

@@ -1,4 +1,4 @@
-use Rattle.std.proofs.Common.{ℕ, List, Option, ◌≡◌, ◌+◌, ◌++◌, ◌∷◌, [], length, sym, subst, arith, length-append}
+use Rattle.std.proofs.Common.{ℕ, List, Option, ◌+◌, ◌++◌, ◌∷◌, [], sym, subst, arith, length-append}
 use Rattle.record_text.specs.declared.entries.Record.{Record}
 use Rattle.cabinet.specs.Shows.{IsShown}
 use Rattle.cabinet.proofs.Judged.{read_record, records_push}
