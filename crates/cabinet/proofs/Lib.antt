@@ -27,6 +27,8 @@ pub mod Tied
 pub mod Allowing
 pub mod Playing
 pub mod Spares
+pub mod Ranked
+pub mod Judged
 pub mod Told
 pub mod Sifts
 pub mod Limits

@@ -1,17 +1,15 @@
 -- What each record comes to in what a replay holds.
-use Rattle.std.proofs.Common.{ℕ, ◌≡◌, ◌≢◌, ◌+◌, ◌<◌, ◌≤◌, ◌==◌, max, Bool, true, false, cond, not, List, [], ◌∷◌, ◌++◌, map, filter, find, length, Option, Some, None, refl, sym, ap, subst, ◌∙◌, arith, length-append}
+use Rattle.std.proofs.Common.{ℕ, ◌≡◌, ◌+◌, ◌≤◌, not, List, [], ◌∷◌, ◌++◌, filter, find, length, Option, Some, None, refl, sym, ap, subst, ◌∙◌, arith, length-append}
 use Rattle.std.specs.Prelude.{IfSome, IfNone, vec_capacity, Contains}
 use Rattle.std.specs.List.{AllByRecursion}
 use Rattle.std.proofs.lemmas.List.{map-append}
 use Rattle.catalog.specs.declared.catalogue.Catalogue.{Catalogue}
 use Rattle.catalog.specs.Valid.{IsValid}
-use Rattle.extent_map.specs.declared.part.Part.{Part}
 use Rattle.extent_map.specs.Parts.{AreApart}
 use Rattle.extent_map.specs.Spaces.{IsFree, IsSound, IsTaken, Space}
 use Rattle.metatile_locks.proofs.Lists.{all_weaker, few, none_passes}
 use Rattle.metatile_plan.specs.declared.metatile.MetaKey.{MetaKey}
 use Rattle.record_text.specs.declared.entries.Record.{Record}
-use Rattle.record_text.specs.declared.entries.Record.TheVariants as record_of
 use Rattle.truncation_list.specs.declared.book.Book.{Book}
 use Rattle.truncation_list.specs.declared.book.Cut.{Cut}
 use Rattle.cabinet.specs.declared.kept.Kept.{Kept}
@@ -21,7 +19,7 @@ use Rattle.cabinet.specs.Fresh.{ApartBy}
 use Rattle.cabinet.specs.Gaps.{region, regions}
 use Rattle.cabinet.specs.History.{but, is_of}
 use Rattle.cabinet.specs.Placed.{ArePlaced, AreTied, place_in}
-use Rattle.cabinet.specs.Played.{AreTiedIn, Claims, IsPlayed, LeavesAll, MayKeep, places_but, replayed_of}
+use Rattle.cabinet.specs.Played.{AreTiedIn, IsPlayed, LeavesAll, MayKeep, places_but, replayed_of}
 use Rattle.cabinet.specs.Replay.{MayFollow, MayStore, Replayed, Replays, replayed, unplayed}
 use Rattle.cabinet.specs.Shelved.{listed}
 use Rattle.cabinet.proofs.Disjoint.{blob_some, of_regions, other_side}

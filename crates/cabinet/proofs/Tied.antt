@@ -1,6 +1,6 @@
 -- What a replay keeps, its regions and the places of its numbers, where one is dropped, kept or counted.
-use Rattle.std.proofs.Common.{ℕ, ◌≡◌, ◌≢◌, ◌+◌, ◌<◌, ◌≤◌, ◌==◌, Bool, true, false, cond, not, List, [], ◌∷◌, ◌++◌, map, filter, find, Option, Some, None, refl, sym, ap, subst, ◌∙◌, arith}
-use Rattle.std.specs.Prelude.{IsSome, IsSomeAnd, is_some, unwrap_or}
+use Rattle.std.proofs.Common.{ℕ, ◌≡◌, ◌≢◌, ◌+◌, ◌<◌, ◌==◌, Bool, true, false, cond, not, List, [], ◌∷◌, ◌++◌, map, filter, find, Option, Some, None, refl, sym, ap, subst, ◌∙◌, arith}
+use Rattle.std.specs.Prelude.{IsSome, IsSomeAnd, unwrap_or}
 use Rattle.std.specs.List.{AllByRecursion, Contains}
 use Rattle.std.specs.Option.{option_or}
 use Rattle.std.proofs.lemmas.Bool.Decides.{nat_tests}
@@ -13,12 +13,11 @@ use Rattle.metatile_plan.specs.declared.metatile.MetaKey.{MetaKey}
 use Rattle.cabinet.specs.declared.kept.Kept.{Kept}
 use Rattle.cabinet.specs.Fresh.{ApartBy}
 use Rattle.cabinet.specs.Gaps.{region, regions}
-use Rattle.cabinet.specs.History.{but, is_of}
+use Rattle.cabinet.specs.History.{but, is_of, with_uses}
 use Rattle.cabinet.specs.Placed.{ArePlaced, AreTied, RisesBy, has_number, place_at}
-use Rattle.cabinet.specs.History.{with_uses}
-use Rattle.cabinet.proofs.Lists.{all_both, all_left, all_push, all_right}
+use Rattle.cabinet.proofs.Lists.{all_both, all_push}
 use Rattle.cabinet.proofs.Numbers.{apart_filter, apart_push}
-use Rattle.cabinet.proofs.Once.{IsOneOf, apart_around, one_kept}
+use Rattle.cabinet.proofs.Once.{apart_around, one_kept}
 use Rattle.cabinet.proofs.Regions.{alone, has_inserted, last_of, one_of, taken_out}
 
 -- WHAT RISES

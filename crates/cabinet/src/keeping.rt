@@ -92,12 +92,7 @@ pub fn stored(
 }
 
 /// Plays a record that drops a metatile.
-pub fn dropped(
-    progress: &mut Progress,
-    catalogue: &Catalogue,
-    number: u64,
-    meta: &MetaKey,
-) -> bool
+pub fn dropped(progress: &mut Progress, catalogue: &Catalogue, number: u64, meta: &MetaKey) -> bool
     requires valid { IsValid catalogue.now }
     requires played { (next : ℕ) × IsPlayed catalogue.now next progress.old }
     ensures { (next : ℕ) → IsPlayed catalogue.now next progress.old → Plays catalogue.now next progress.old (Record.Dropped number meta.now) result progress.new }

@@ -4,22 +4,28 @@
 //! Promises: each command is its row of `specs/Commands.antt`; what is kept stays the picture of its number; a tile that
 //! is answered is fresh, that is, newer than each truncation before its ask that covers it, and within its layer's age
 //! limit (`specs/Fresh.antt`). What is used counts the metatiles that are kept, and an expiry drops the victim by the
-//! layer's policy, exactly where a quota is exceeded (`specs/Counted.antt`).
+//! layer's policy, exactly where a quota is exceeded (`specs/Counted.antt`). A replay of the records of a journal restores what
+//! they come to, or tells the first one that no cache has (`specs/Replay.antt`).
 //! Stands on metatile_locks, quota_ledger, expiry_policy, served_covers, truncation_list, extent_map, raster_field,
-//! metatile_plan, catalog, matrix_geometry, clock, trace, and indexmap for what is kept.
+//! metatile_plan, catalog, matrix_geometry, clock, trace, gate_journal and record_text, and indexmap for what is kept.
 #![tactic(auto)]
 
 mod ages;
 mod allowed;
+mod beginning;
 mod blob;
 pub mod cabinet;
 mod cutting;
+mod entering;
 pub mod entry;
+mod finishing;
 mod held;
 mod hitting;
+mod judging;
 mod keeping;
 pub mod kept;
 pub mod laws;
+mod listing;
 mod newer;
 pub mod openings;
 mod places;

@@ -29,7 +29,14 @@ fn is_newer_at(cuts: &CutList, m: &Matrix, tile: &Address, number: u64) -> bool
 }
 
 /// Whether it is so at each tile of a row of a metatile's tiles.
-fn is_newer_on(cuts: &CutList, m: &Matrix, meta: &MetaKey, tiles: Range, row: u32, number: u64) -> bool
+fn is_newer_on(
+    cuts: &CutList,
+    m: &Matrix,
+    meta: &MetaKey,
+    tiles: Range,
+    row: u32,
+    number: u64,
+) -> bool
     requires limits { IsWithinLimits m.now }
     requires most { tiles.col_max < m.now.cols }
     ensures { (result ≡ true) ↔ ((col : ℕ) → tiles.col_min ≤ col → col ≤ tiles.col_max → IsNewerAt cuts.now.book.cuts m.now (tile_in meta.now row col) number) }

@@ -1,11 +1,11 @@
-use Rattle.std.proofs.Common.{ℕ, ◌≡◌, ◌+◌, ◌<◌, ◌≤◌, List, ◌++◌, ◌∷◌, [], sym, ap, subst, ◌∙◌, arith}
+use Rattle.std.proofs.Common.{◌≡◌, ◌<◌, ◌++◌, ◌∷◌, [], sym, ap, subst, ◌∙◌, arith}
 use Rattle.std.specs.List.{AllByRecursion}
 use Rattle.std.proofs.lemmas.List.Elements.{All-from_recursion}
 use Rattle.record_text.specs.declared.entries.Record.TheVariants as record_of
 use Rattle.truncation_list.specs.declared.book.Book.{Book}
 use Rattle.truncation_list.specs.declared.book.Cut.{Cut}
 use Rattle.cabinet.specs.declared.progress.Progress.{Progress}
-use Rattle.cabinet.specs.Placed.{AreTied, place_in}
+use Rattle.cabinet.specs.Placed.{place_in}
 use Rattle.cabinet.specs.Played.{replayed_of}
 use Rattle.cabinet.specs.Replay.{MayCut, replayed}
 use Rattle.cabinet.specs.Shelved.{listed}

@@ -1,4 +1,4 @@
-use Rattle.std.proofs.Common.{ℕ, ◌≡◌, ◌≤◌, List, length, sym, ap, subst, ◌∙◌, arith}
+use Rattle.std.proofs.Common.{List, length, sym, ap, subst, arith}
 use Rattle.std.proofs.lemmas.List.{length-map}
 use Rattle.record_text.specs.declared.entries.Record.TheVariants as record_of
 use Rattle.cabinet.specs.declared.kept.Kept.{Kept}
@@ -24,8 +24,11 @@ returns c = λ next played.
     let new : Progress = record { opening = p.opening; floor = p.floor; store = c.recount.new.self; regions = p.regions; places = p.places; cuts = p.cuts; out = p.out } in
     let tied = counted_tied next (listed p.store.blobs) p.regions (place_in p.places.entries) m n played.tied in
     let count = ap (λ (ts : List Kept). length ts) list in
-    let room = played.room in
-    (may, same, played_from c.args.catalogue.now next p new (record_of.Uses c.args.number m n) played may same
-        (later_tied next (listed new.store.blobs) new.regions (place_in new.places.entries) (subst (λ ts. AreTied next ts new.regions (place_in new.places.entries)) (sym list) tied))
-        played.size played.floor played.none
-        (omega (arith, room, count, length-map (listed p.store.blobs) (with_uses m n), length-map p.store.blobs (λ (b : KeptBlob). b.kept), length-map new.store.blobs (λ (b : KeptBlob). b.kept))))
+    let room = played.room in (
+      may,
+      same,
+      played_from c.args.catalogue.now next p new (record_of.Uses c.args.number m n) played may same
+          (later_tied next (listed new.store.blobs) new.regions (place_in new.places.entries) (subst (λ ts. AreTied next ts new.regions (place_in new.places.entries)) (sym list) tied))
+          played.size played.floor played.none
+          (omega (arith, room, count, length-map (listed p.store.blobs) (with_uses m n), length-map p.store.blobs (λ (b : KeptBlob). b.kept), length-map new.store.blobs (λ (b : KeptBlob). b.kept))),
+    )

@@ -1,11 +1,10 @@
-use Rattle.std.proofs.Common.{ℕ, ◌≡◌, ◌≤◌, Some, find, sym, ap, subst, ◌∙◌, arith}
+use Rattle.std.proofs.Common.{◌≡◌, Some, find, sym, ap, subst, ◌∙◌, arith}
 use Rattle.record_text.specs.declared.entries.Record.TheVariants as record_of
-use Rattle.cabinet.specs.declared.kept.Kept.{Kept}
 use Rattle.cabinet.specs.History.{is_of}
 use Rattle.cabinet.specs.declared.progress.Progress.{Progress}
 use Rattle.cabinet.specs.Placed.{AreTied, place_in}
 use Rattle.cabinet.specs.Played.{replayed_of}
-use Rattle.cabinet.specs.Replay.{IsKeptUnder, replayed}
+use Rattle.cabinet.specs.Replay.{IsKeptUnder}
 use Rattle.cabinet.specs.Shelved.{listed}
 use Rattle.cabinet.proofs.Playing.{with_kept, dropped_few, dropped_list, played_from}
 use Rattle.cabinet.proofs.Tied.{dropped_tied, later_tied, region_taken}
@@ -28,7 +27,10 @@ returns c = λ next played.
     let tied = dropped_tied next (listed p.store.blobs) p.regions c.give.new.self (place_in p.places.entries) (place_in c.drop_place.new.places.entries) m t played.tied found c.give.ensures.sound c.give.ensures.given c.drop_place.ensures.places in
     let fewer = dropped_few m p.store.blobs c.drop_of.new.self.blobs c.drop_of.ensures.blobs in
     let room = played.room in
-    let new : Progress = record { opening = p.opening; floor = p.floor; store = c.drop_of.new.self; regions = c.give.new.self; places = c.drop_place.new.places; cuts = p.cuts; out = p.out } in
-    (may, same, played_from c.args.catalogue.now next p new (record_of.Dropped c.args.number m) played may same
-        (later_tied next (listed new.store.blobs) new.regions (place_in new.places.entries) (subst (λ ts. AreTied next ts new.regions (place_in new.places.entries)) (sym list) tied))
-        (sym c.give.ensures.given.same_size ∙ played.size) played.floor played.none (omega (arith, fewer, room)))
+    let new : Progress = record { opening = p.opening; floor = p.floor; store = c.drop_of.new.self; regions = c.give.new.self; places = c.drop_place.new.places; cuts = p.cuts; out = p.out } in (
+      may,
+      same,
+      played_from c.args.catalogue.now next p new (record_of.Dropped c.args.number m) played may same
+          (later_tied next (listed new.store.blobs) new.regions (place_in new.places.entries) (subst (λ ts. AreTied next ts new.regions (place_in new.places.entries)) (sym list) tied))
+          (sym c.give.ensures.given.same_size ∙ played.size) played.floor played.none (omega (arith, fewer, room)),
+    )

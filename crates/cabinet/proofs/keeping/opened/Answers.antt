@@ -1,4 +1,4 @@
-use Rattle.std.proofs.Common.{ℕ, ◌≡◌, max, Some, ap}
+use Rattle.std.proofs.Common.{◌≡◌, max, Some, ap}
 use Rattle.record_text.specs.declared.entries.Record.TheVariants as record_of
 use Rattle.cabinet.specs.declared.progress.Progress.{Progress}
 use Rattle.cabinet.specs.Placed.{place_in}

@@ -1,8 +1,7 @@
-use Rattle.std.proofs.Common.{ℕ, ◌≡◌, ◌+◌, ◌≤◌, true, Some, find, sym, ap, subst, ◌∙◌, arith}
+use Rattle.std.proofs.Common.{◌≡◌, ◌+◌, true, sym, ap, subst, ◌∙◌, arith}
 use Rattle.record_text.specs.declared.entries.Record.TheVariants as record_of
-use Rattle.cabinet.specs.declared.kept.Kept.{Kept}
 use Rattle.cabinet.specs.declared.progress.Progress.{Progress}
-use Rattle.cabinet.specs.History.{but, is_of}
+use Rattle.cabinet.specs.History.{but}
 use Rattle.cabinet.specs.Placed.{AreTied, place_in}
 use Rattle.cabinet.specs.Played.{MayKeep, places_but, replayed_of}
 use Rattle.cabinet.specs.Replay.{MayStore, Replayed, replayed}

@@ -1,15 +1,18 @@
-use Rattle.std.proofs.Common.{ℕ, ◌≡◌, ◌<◌, ◌≤◌, true, inl, inr, refl, subst, arith}
+use Rattle.std.proofs.Common.{ℕ, ◌≡◌, ◌≤◌, true, inl, inr, refl, subst, arith}
 use Rattle.std.proofs.lemmas.Bool.{cases_lt}
 use Rattle.raster_field.specs.Blocks.{tile_in}
 use Rattle.cabinet.specs.Played.{IsNewerAt}
 use Rattle.cabinet.proofs.newer.is_newer_in.Goals as goal
 
 pub returns-then-not-is_newer_on : goal.returns-then-not-is_newer_on
-returns-then-not-is_newer_on c = (λ e. absurd (cc), λ all.
-    let l : c.rows.row ≤ c.args.tiles.row_max = omega arith in
-    let low : c.args.tiles.row_min ≤ c.rows.row = omega arith in
-    let f : c.is_newer_on.result ≡ true = c.is_newer_on.ensures.1 (λ col a b. all c.rows.row col low l a b) in
-    cc (f, c.if-not-is_newer_on.true))
+returns-then-not-is_newer_on c = (
+  λ e. absurd (cc),
+  λ all.
+      let l : c.rows.row ≤ c.args.tiles.row_max = omega arith in
+      let low : c.args.tiles.row_min ≤ c.rows.row = omega arith in
+      let f : c.is_newer_on.result ≡ true = c.is_newer_on.ensures.1 (λ col a b. all c.rows.row col low l a b) in
+      cc (f, c.if-not-is_newer_on.true),
+)
 
 pub rows-preserved : goal.rows-preserved
 rows-preserved c = λ row col low high left right. elim (cases_lt row c.rows.row) [

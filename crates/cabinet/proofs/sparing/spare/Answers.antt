@@ -1,4 +1,4 @@
-use Rattle.std.proofs.Common.{◌≤◌, length, not, ap, sym, subst, ◌∙◌, arith}
+use Rattle.std.proofs.Common.{◌≤◌, length, not, ap, sym, ◌∙◌, arith}
 use Rattle.std.proofs.lemmas.List.Sorted.{length_permutation}
 use Rattle.cabinet.specs.declared.kept.Kept.{Kept}
 use Rattle.cabinet.specs.Hits.{hits_of}
@@ -25,15 +25,15 @@ sparing-preserved c =
           let d = w.drop_at.ensures.blobs in
           let those = dropped_one t e.at.0 d.0 here.held c.sparing.index here.blobs then.blobs e.at.1 e.at.2 d.1 d.2 in
           rw (w.store-is, w.regions-is, w.places-is, w.index-is) (
-            one_goes (λ m. not (hits_of cat cover m)) c.args.store.now.blobs here.blobs here.held c.sparing.index c.sparing.tested (length c.args.store.now.held) c.args.regions.now c.sparing.regions (place_in c.args.places.now.entries)
-            (place_in c.sparing.places.entries) s t w.give.new.self (place_in w.drop_place.new.places.entries) then.blobs then.held off e.kept w.give.ensures.sound w.give.ensures.given w.drop_place.ensures.places those w.drop_at.ensures.order
-            w.drop_at.ensures.before w.drop_at.ensures.count
+          one_goes (λ m. not (hits_of cat cover m)) c.args.store.now.blobs here.blobs here.held c.sparing.index c.sparing.tested (length c.args.store.now.held) c.args.regions.now c.sparing.regions (place_in c.args.places.now.entries)
+          (place_in c.sparing.places.entries) s t w.give.new.self (place_in w.drop_place.new.places.entries) then.blobs then.held off e.kept w.give.ensures.sound w.give.ensures.given w.drop_place.ensures.places those w.drop_at.ensures.order
+          w.drop_at.ensures.before w.drop_at.ensures.count
           )
       | else-is_hit w ↦
           let on = ap (λ (x : Kept). not (hits_of cat cover x.meta)) (sym e.at.1) ∙ ap not (sym c.is_hit.ensures ∙ w.if-is_hit.false) in
           rw (w.store-is, w.regions-is, w.places-is, w.index-is) (
-            one_stays (λ m. not (hits_of cat cover m)) c.args.store.now.blobs here.blobs here.held c.sparing.index c.sparing.tested (length c.args.store.now.held) c.args.regions.now c.sparing.regions (place_in c.args.places.now.entries)
-            (place_in c.sparing.places.entries) s e.at.0 on e.at.2
+          one_stays (λ m. not (hits_of cat cover m)) c.args.store.now.blobs here.blobs here.held c.sparing.index c.sparing.tested (length c.args.store.now.held) c.args.regions.now c.sparing.regions (place_in c.args.places.now.entries)
+          (place_in c.sparing.places.entries) s e.at.0 on e.at.2
           )
     ]
 
