@@ -10,7 +10,9 @@ ghost use Rattle.cabinet.specs.Fresh.{ApartBy};
 ghost use Rattle.cabinet.specs.History.{is_of, lesser};
 
 use crate::blob::tile_in;
-use crate::held::{Held, blob_of, count_in, drop_at, drop_of, kept_at, kept_in, least_with, put, recount};
+use crate::held::{
+    Held, blob_of, count_in, drop_at, drop_of, kept_at, kept_in, least_with, put, recount,
+};
 use crate::kept::{Blob, Kept};
 use crate::shelving::Found;
 use catalog::catalogue::Catalogue;
