@@ -1,15 +1,14 @@
 -- What is kept where the uses of a metatile are set: all else of it stays.
-use Rattle.std.proofs.Common.{ℕ, ◌≡◌, ◌≢◌, ◌+◌, ◌≤◌, Bool, true, false, cond, List, [], ◌∷◌, map, find, Option, Some, None, refl, sym, ap, subst, ◌∙◌}
+use Rattle.std.proofs.Common.{ℕ, ◌≡◌, ◌≢◌, ◌+◌, ◌≤◌, Bool, true, false, cond, List, [], ◌∷◌, map, find, refl, sym, ap, subst, ◌∙◌}
 use Rattle.std.specs.List.{AllByRecursion}
 use Rattle.std.specs.Option.{option_map}
 use Rattle.extent_map.specs.declared.part.Part.{Part}
-use Rattle.extent_map.specs.Parts.{AreApart, inserted, part_at}
+use Rattle.extent_map.specs.Parts.{AreApart, inserted}
 use Rattle.metatile_locks.proofs.Lists.{all_map, all_weaker}
 use Rattle.metatile_plan.specs.declared.metatile.MetaKey.{MetaKey}
 use Rattle.metatile_plan.specs.Keys.{same_meta}
 use Rattle.cabinet.specs.declared.kept.Kept.{Kept}
 use Rattle.cabinet.specs.declared.kept.KeptBlob.{KeptBlob}
-use Rattle.cabinet.specs.Counted.{part_of}
 use Rattle.cabinet.specs.Fresh.{ApartBy}
 use Rattle.cabinet.specs.Gaps.{AreDisjoint, HaveRegions, region, regions}
 use Rattle.cabinet.specs.History.{is_of, with_uses}

@@ -4,7 +4,7 @@ ghost use Rattle.catalog.specs.Demo.{demo};
 ghost use Rattle.raster_field.specs.Blocks.{IsMeta};
 
 use cabinet::cabinet::Cabinet;
-use cabinet::replies::{Asked, Finished, Forced};
+use cabinet::replies::{Asked, Finished, Forced, Saved};
 use catalog::catalogue::Catalogue;
 use clock::clock::Clock;
 use fixtures::tiles::corner_tile;
@@ -84,19 +84,35 @@ fn asked(alloc: Global, cabinet: &mut Cabinet) -> Result<(bool, u64), AllocError
     }
 }
 
-fn sent<T: Send>(value: T) -> T
-    ensures { result ≡ value }
-{
+fn sent<T: Send>(value: T) -> T {
     value
+}
+
+#[test]
+fn a_cabinet_may_go_to_another_thread(rt: HostRuntime) -> Result<(), Fail> {
+    assert_eq!(rt; sent(new(rt.alloc())?).kept(), 0);
+    Ok(())
 }
 
 #[test]
 fn a_render_is_given_up_and_the_next_one_kept(rt: HostRuntime) -> Result<(), Fail> {
     let alloc = rt.alloc();
-    let mut cabinet = sent(new(alloc)?);
+    let mut cabinet = new(alloc)?;
     assert_eq!(rt; asked(alloc, &mut cabinet)?, (false, 1));
     assert_eq!(rt; kept(alloc, &mut cabinet)?, Finished::Kept);
     assert_eq!(rt; asked(alloc, &mut cabinet)?, (true, 2));
+    Ok(())
+}
+
+#[test]
+fn a_use_is_saved_once(rt: HostRuntime) -> Result<(), Fail> {
+    let alloc = rt.alloc();
+    let mut cabinet = new(alloc)?;
+    assert_eq!(rt; kept(alloc, &mut cabinet)?, Finished::Kept);
+    assert_eq!(rt; asked(alloc, &mut cabinet)?, (true, 1));
+    let meta = corner(&cabinet);
+    assert_eq!(rt; cabinet.save_uses(), Saved::Done(meta));
+    assert_eq!(rt; cabinet.save_uses(), Saved::Within);
     Ok(())
 }
 
