@@ -1,29 +1,26 @@
 //! The top call: what the words ask for, done.
-ghost use Rattle.std.specs.Prelude.{◌≡◌, ◌↔◌, IfOk};
-ghost use Rattle.cabinet.specs.State.{fresh_state};
+ghost use Rattle.std.specs.Prelude.{◌≡◌, ◌↔◌};
 ghost use Rattle.catalog.specs.Valid.{IsValid};
 ghost use Rattle.tile_service.specs.Outside.{InputChange, Outside};
+ghost use Rattle.tile_service.specs.Session.{IsAtRest};
 ghost use Rattle.tile_command.specs.Command.{HasServed, status_of_drill, status_of_schedule, status_of_session};
+ghost use Rattle.tile_command.specs.Steps.{HasWorked, status_of_refusal};
 ghost use Rattle.command_words.specs.Words.{word_of};
 
-use crate::configured::{Unconfigured, configured};
-use crate::described::described;
+use crate::configured::Unconfigured;
+use crate::prepared::prepared;
 use crate::replay::replay;
 use crate::status::Status;
-use cabinet::cabinet::Cabinet;
-use catalog::catalogue::Catalogue;
 use clock::clock::Clock;
 use command_words::words::{Word, word_of};
 use exact_ratio::words::Words;
-use http_wire::inputs::InputEnd;
 use http_wire::streams::{ByteSink, ByteSource};
 use source_render::source::Source;
-use std::alloc::{AllocError, Global};
+use std::alloc::Global;
 use tile_drill::drill::{DrillEnd, run_drill};
 use tile_service::counter::Counter;
 use tile_service::schedule::{ScheduleEnd, run_schedule};
 use tile_service::session::SessionEnd;
-use wmts_rest::table::RestTable;
 
 /// The status of a schedule's end.
 fn status_of_schedule(end: ScheduleEnd) -> Status
@@ -65,21 +62,52 @@ fn status_of_session(end: SessionEnd) -> Status
     }
 }
 
-/// A cabinet in memory of a catalogue with a clock, beside the capabilities document.
-fn counter_of(
-    alloc: Global,
-    catalogue: Catalogue,
-    capabilities: Words,
-    clock: Clock,
-) -> Result<Counter, AllocError>
-    requires { IsValid catalogue }
-    ensures { IfOk result (λ c. (c.cabinet ≡ fresh_state catalogue clock) × (c.capabilities ≡ capabilities)) }
+/// The status of what was refused before the work.
+fn status_of_refusal(refusal: Unconfigured) -> Status
+    ensures { result ≡ status_of_refusal refusal }
 {
-    Ok(Counter {
-        cabinet: Cabinet::memory(alloc, catalogue, clock)?,
-        rest: RestTable::new(alloc)?,
-        capabilities,
-    })
+    match refusal {
+        Unconfigured::ReadFault => Status::ReadFault,
+        Unconfigured::TooLong => Status::TooLong,
+        Unconfigured::Fault(fault) => Status::Catalogue(fault),
+        Unconfigured::OutOfMemory => Status::OutOfMemory,
+    }
+}
+
+/// Does the work of a word with a counter at which nothing has happened: runs the lines of the input, serves its bytes as those of
+/// one connection, or makes and runs the lines of a number. Each end comes as `Status` says.
+fn worked<S: Source, I: ByteSource, O: ByteSink>(
+    alloc: Global,
+    counter: &mut Counter,
+    word: Word,
+    source: &mut S,
+    input: &mut I,
+    output: &mut O,
+) -> Status
+    requires valid { IsValid counter.old.cabinet.catalogue }
+    requires rest { IsAtRest counter.old.cabinet }
+    ensures { HasWorked
+        (record { reads = record { before = I.faults input.old; after = I.faults input.new }; from = I.left input.old; to = I.left input.new })
+        (record { told = S.told source.old; renders = record { before = S.faults source.old; after = S.faults source.new }; writes = record { before = O.faults output.old; after = O.faults output.new }; from = O.taken output.old; to = O.taken output.new })
+        (input.new ≡ input.old) (output.new ≡ output.old) (source.new ≡ source.old) counter.old.cabinet counter.old.capabilities word result }
+{
+    match word {
+        Word::Schedule => {
+            let end = run_schedule(alloc, counter, source, input, output);
+            counter.cabinet.known();
+            status_of_schedule(end)
+        }
+        Word::Replay => {
+            let end = replay(alloc, counter, source, input, output);
+            counter.cabinet.known();
+            status_of_session(end)
+        }
+        Word::Drill(number) => {
+            let end = run_drill(alloc, counter, source, number, output);
+            counter.cabinet.known();
+            status_of_drill(end)
+        }
+    }
 }
 
 /// Does what the words say, on a cabinet in memory of the catalogue that it reads, with the capabilities document. A
@@ -110,37 +138,12 @@ pub fn run_command<S: Source, I: ByteSource, O: ByteSink>(
     let Some(word) = word_of(words) else {
         return Status::Usage;
     };
-    let catalogue = match configured(alloc, catalogue) {
-        Ok(catalogue) => catalogue,
-        Err(Unconfigured::ReadFault) => return Status::ReadFault,
-        Err(Unconfigured::TooLong) => return Status::TooLong,
-        Err(Unconfigured::Fault(fault)) => return Status::Catalogue(fault),
-        Err(Unconfigured::OutOfMemory) => return Status::OutOfMemory,
-    };
-    let capabilities = match described(alloc, capabilities) {
-        Ok(capabilities) => capabilities,
-        Err(InputEnd::ReadFault) => return Status::ReadFault,
-        Err(InputEnd::TooLong) => return Status::TooLong,
-        Err(InputEnd::OutOfMemory) => return Status::OutOfMemory,
-    };
-    let Ok(mut counter) = counter_of(alloc, catalogue, capabilities, clock) else {
-        return Status::OutOfMemory;
-    };
-    match word {
-        Word::Schedule => {
-            let end = run_schedule(alloc, &mut counter, source, input, output);
-            counter.cabinet.known();
-            status_of_schedule(end)
+    match prepared(alloc, catalogue, capabilities, clock) {
+        Ok(mut counter) => {
+            let status = worked(alloc, &mut counter, word, source, input, output);
+            drop(counter);
+            status
         }
-        Word::Replay => {
-            let end = replay(alloc, &mut counter, source, input, output);
-            counter.cabinet.known();
-            status_of_session(end)
-        }
-        Word::Drill(number) => {
-            let end = run_drill(alloc, &mut counter, source, number, output);
-            counter.cabinet.known();
-            status_of_drill(end)
-        }
+        Err(refusal) => status_of_refusal(refusal),
     }
 }

@@ -8,5 +8,6 @@
 pub mod command;
 pub mod configured;
 pub mod described;
+mod prepared;
 mod replay;
 pub mod status;

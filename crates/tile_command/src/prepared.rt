@@ -1,0 +1,84 @@
+//! What a command works with, made ready: the catalogue and the capabilities document are read, and the cabinet is made.
+ghost use Rattle.std.specs.Prelude.{◌≡◌, IfErr, IfOk};
+ghost use Rattle.cabinet.specs.State.{fresh_state};
+ghost use Rattle.catalog.specs.Valid.{IsValid};
+ghost use Rattle.tile_service.specs.Outside.{InputChange};
+ghost use Rattle.tile_service.specs.Session.{IsAtRest};
+ghost use Rattle.tile_command.specs.Steps.{IsPrepared, IsRefused, refusal_of};
+
+use crate::configured::{Unconfigured, configured};
+use crate::described::described;
+use cabinet::cabinet::Cabinet;
+use catalog::catalogue::Catalogue;
+use clock::clock::Clock;
+use exact_ratio::words::Words;
+use http_wire::inputs::InputEnd;
+use http_wire::streams::ByteSource;
+use std::alloc::{AllocError, Global};
+use tile_service::counter::Counter;
+use wmts_rest::table::RestTable;
+
+/// A cabinet in memory of a catalogue with a clock, beside the capabilities document.
+fn counter_of(
+    alloc: Global,
+    catalogue: Catalogue,
+    capabilities: Words,
+    clock: Clock,
+) -> Result<Counter, AllocError>
+    requires { IsValid catalogue }
+    ensures { IfOk result (λ c. (c.cabinet ≡ fresh_state catalogue clock) × (c.capabilities ≡ capabilities)) }
+{
+    let cabinet = Cabinet::memory(alloc, catalogue, clock)?;
+    let Ok(rest) = RestTable::new(alloc) else {
+        drop(cabinet);
+        return Err(AllocError);
+    };
+    Ok(Counter {
+        cabinet,
+        rest,
+        capabilities,
+    })
+}
+
+/// What is refused where a read of the capabilities document ended so.
+fn refusal_of(end: InputEnd) -> Unconfigured
+    ensures { result ≡ refusal_of end }
+{
+    match end {
+        InputEnd::ReadFault => Unconfigured::ReadFault,
+        InputEnd::TooLong => Unconfigured::TooLong,
+        InputEnd::OutOfMemory => Unconfigured::OutOfMemory,
+    }
+}
+
+/// A cabinet in memory of the catalogue that is read, with a clock, beside the capabilities document, which is read after it.
+pub fn prepared<I: ByteSource>(
+    alloc: Global,
+    catalogue: &mut I,
+    capabilities: &mut I,
+    clock: Clock,
+) -> Result<Counter, Unconfigured>
+    ensures prepared { IfOk result (λ counter. IsPrepared
+        (record { reads = record { before = I.faults catalogue.old; after = I.faults catalogue.new }; from = I.left catalogue.old; to = I.left catalogue.new })
+        (record { reads = record { before = I.faults capabilities.old; after = I.faults capabilities.new }; from = I.left capabilities.old; to = I.left capabilities.new })
+        clock counter.cabinet counter.capabilities) }
+    ensures refused { IfErr result (λ refusal. IsRefused
+        (record { reads = record { before = I.faults catalogue.old; after = I.faults catalogue.new }; from = I.left catalogue.old; to = I.left catalogue.new })
+        (record { reads = record { before = I.faults capabilities.old; after = I.faults capabilities.new }; from = I.left capabilities.old; to = I.left capabilities.new })
+        (capabilities.new ≡ capabilities.old) refusal) }
+    ensures valid { IfOk result (λ counter. IsValid counter.cabinet.catalogue) }
+    ensures rest { IfOk result (λ counter. IsAtRest counter.cabinet) }
+{
+    let catalogue = match configured(alloc, catalogue) {
+        Ok(catalogue) => catalogue,
+        Err(refusal) => return Err(refusal),
+    };
+    let capabilities = match described(alloc, capabilities) {
+        Ok(capabilities) => capabilities,
+        Err(end) => return Err(refusal_of(end)),
+    };
+    match counter_of(alloc, catalogue, capabilities, clock) {
+        Ok(counter) => Ok(counter),
+        Err(_) => Err(Unconfigured::OutOfMemory),
+    }
+}
