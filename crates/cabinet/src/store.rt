@@ -1,6 +1,6 @@
 //! The kept metatiles with their blobs, in a map by metatile. The blobs lie in memory, beside the entries: no other file knows
 //! where they lie. Contracts see what is kept in the order in which it was kept, though the map's order is another.
-ghost use Rattle.std.specs.Prelude.{[], IfOk, OnOk, Some, filter, find, fold, length, map, not, option_copied, slice_get, take, ◌+◌, ◌++◌, ◌<◌, ◌==◌, ◌≡◌, ◌≤◌, ◌∷◌};
+ghost use Rattle.std.specs.Prelude.{[], IfOk, OnOk, Some, filter, find, fold, length, map, not, option_copied, slice_get, take, ◌+◌, ◌++◌, ◌<◌, ◌==◌, ◌^◌, ◌≡◌, ◌≤◌, ◌∷◌};
 ghost use Rattle.std.specs.List.{AllByRecursion};
 ghost use Rattle.std.specs.Option.{option_map};
 ghost use Rattle.catalog.specs.LookUp.{IsTile};
@@ -77,6 +77,7 @@ impl Store {
         ensures held { result ≡ length self.now.held }
         ensures order { IsPermutation self.now.blobs self.now.held }
         ensures once { ApartBy (λ b. b.kept.meta) self.now.blobs }
+        ensures small { result < 2 ^ 63 }
     {
         self.held.len()
     }
