@@ -18,7 +18,7 @@ use Rattle.record_text.proofs.Decoded.{same_entry}
 use Rattle.cabinet.specs.Played.{IsPlayed, replayed_of}
 use Rattle.cabinet.specs.Replay.{AreRecordsOf, IsBadAt, IsLastCut, IsRecordOf, MayFollow, Replayed, Replays, is_cut, replayed, unplayed}
 use Rattle.cabinet.specs.Shows.{IsCutAt, IsFirstLate, IsLateAt, StandsAt, early_only, first_bad, first_of, is_late, of_version}
-use Rattle.cabinet.specs.declared.progress.Progress.{Progress}
+use Rattle.cabinet.specs.declared.replay.progress.Progress.{Progress}
 use Rattle.cabinet.proofs.Lists.{all_push}
 
 abbrev Records : Type 0

@@ -14,7 +14,7 @@ use Rattle.truncation_list.specs.declared.book.Book.{Book}
 use Rattle.truncation_list.specs.declared.book.Cut.{Cut}
 use Rattle.cabinet.specs.declared.kept.Kept.{Kept}
 use Rattle.cabinet.specs.declared.kept.KeptBlob.{KeptBlob}
-use Rattle.cabinet.specs.declared.progress.Progress.{Progress}
+use Rattle.cabinet.specs.declared.replay.progress.Progress.{Progress}
 use Rattle.cabinet.specs.Fresh.{ApartBy}
 use Rattle.cabinet.specs.Gaps.{region, regions}
 use Rattle.cabinet.specs.History.{but, is_of}

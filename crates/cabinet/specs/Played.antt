@@ -13,7 +13,7 @@ use Rattle.record_text.specs.declared.entries.Record.{Record}
 use Rattle.truncation_list.specs.declared.book.Cut.{Cut}
 use Rattle.truncation_list.specs.Covers.{covers}
 use Rattle.cabinet.specs.declared.kept.Kept.{Kept}
-use Rattle.cabinet.specs.declared.progress.Progress.{Progress}
+use Rattle.cabinet.specs.declared.replay.progress.Progress.{Progress}
 use Rattle.cabinet.specs.Fresh.{IsNewer}
 use Rattle.cabinet.specs.Gaps.{region}
 use Rattle.cabinet.specs.History.{but}

@@ -5,7 +5,7 @@ use Rattle.catalog.specs.declared.catalogue.Catalogue.{Catalogue}
 use Rattle.catalog.specs.Valid.{IsValid}
 use Rattle.record_text.specs.declared.entries.Record.{Record}
 use Rattle.record_text.specs.declared.entries.Record.TheVariants.{Opened, Stored, Dropped, Cut, Uses}
-use Rattle.cabinet.specs.declared.progress.Progress.{Progress}
+use Rattle.cabinet.specs.declared.replay.progress.Progress.{Progress}
 use Rattle.cabinet.specs.Played.{IsPlayed, replayed_of}
 use Rattle.cabinet.specs.Replay.{AreRecordsOf, IsBadAt, IsLastCut, Replays, is_cut, unplayed}
 

@@ -11,25 +11,14 @@
 #![tactic(auto)]
 
 mod ages;
-mod allowed;
-mod beginning;
 mod blob;
 pub mod cabinet;
-mod cutting;
-mod entering;
 pub mod entry;
-mod finishing;
 mod held;
 mod hitting;
-mod judging;
-mod keeping;
 pub mod kept;
 pub mod laws;
-mod listing;
-mod newer;
 pub mod openings;
-mod places;
-mod progress;
 pub mod recorded;
 pub mod replay;
 pub mod replies;
@@ -37,7 +26,6 @@ pub mod restored;
 mod shelf;
 mod shelving;
 mod sifting;
-mod sparing;
 mod store;
 mod tally;
 mod turns;

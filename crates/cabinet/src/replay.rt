@@ -4,10 +4,23 @@ ghost use Rattle.catalog.specs.Valid.{IsValid};
 ghost use Rattle.record_text.specs.declared.entries.Record.{Record as Entry};
 ghost use Rattle.cabinet.specs.Replay.{AreRecordsOf, IsRefusedAt, IsRestored};
 
-use crate::beginning::begin;
-use crate::finishing::finish;
-use crate::judging::{cut_after, first_bad, judge, late_after};
-use crate::progress::Progress;
+mod allowed;
+mod beginning;
+mod cutting;
+mod entering;
+mod finishing;
+mod judging;
+mod keeping;
+mod listing;
+mod newer;
+mod places;
+mod progress;
+mod sparing;
+
+use crate::replay::beginning::begin;
+use crate::replay::finishing::finish;
+use crate::replay::judging::{cut_after, first_bad, judge, late_after};
+use crate::replay::progress::Progress;
 use crate::restored::Restored;
 use catalog::catalogue::Catalogue;
 use gate_journal::visit::Visit;

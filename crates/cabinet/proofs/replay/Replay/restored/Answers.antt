@@ -3,7 +3,7 @@ use Rattle.std.specs.Prelude.{IfErr, IfOk, Result}
 use Rattle.std.specs.declared.result.Result.TheVariants.{Ok, Err}
 use Rattle.catalog.specs.declared.catalogue.Catalogue.{Catalogue}
 use Rattle.record_text.specs.declared.entries.Record.{Record}
-use Rattle.cabinet.specs.declared.progress.Progress.{Progress}
+use Rattle.cabinet.specs.declared.replay.progress.Progress.{Progress}
 use Rattle.cabinet.specs.declared.restored.Restored.{Restored}
 use Rattle.cabinet.specs.Replay.{AreRecordsOf, AreTooMany, IsLastCut, IsRefusedAt, IsRestored, Shown}
 use Rattle.cabinet.specs.Shows.{IsFinished, IsShown, first_bad, of_version}
