@@ -2,9 +2,9 @@
 ghost use Rattle.catalog.specs.Valid.{IsValid};
 ghost use Rattle.cabinet.specs.Played.{IsPlayed, Steps};
 
+use crate::kept::Kept;
 use crate::replay::cutting::cut;
 use crate::replay::keeping::{counted, dropped, opened, stored};
-use crate::kept::Kept;
 use crate::replay::progress::Progress;
 use catalog::catalogue::Catalogue;
 use record_text::entries::Record;

@@ -7,8 +7,8 @@ ghost use Rattle.cabinet.specs.Gaps.{region};
 ghost use Rattle.cabinet.specs.Placed.{place_in};
 ghost use Rattle.cabinet.specs.Played.{Claims, HasRoom, IsPlayed, LeavesAll, Plays, Steps, places_but};
 
-use crate::replay::allowed::{is_kept_under, may_keep, may_open};
 use crate::kept::Kept;
+use crate::replay::allowed::{is_kept_under, may_keep, may_open};
 use crate::replay::places::{Places, drop_place, put_place};
 use crate::replay::progress::Progress;
 use crate::tally::{give_back, law_of_extents};
