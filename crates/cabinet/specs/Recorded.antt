@@ -1,6 +1,6 @@
 -- What the records of a journal say of a cabinet: a journal that was written by its commands comes to what it keeps, and to a book that
 -- answers for its own.
-use Rattle.std.specs.Prelude.{ℕ, ◌≡◌, ◌≤◌, List, [], ◌∷◌, ◌++◌, map, Contains, IsTrue, Option, Some, ◌⊎◌}
+use Rattle.std.specs.Prelude.{ℕ, ◌≡◌, ◌≤◌, List, ◌∷◌, ◌++◌, map, Contains, IsTrue, Option, Some, ◌⊎◌}
 use Rattle.std.specs.List.{AllByRecursion}
 use Rattle.std.specs.List.Sorted.{IsPermutation}
 use Rattle.record_text.specs.declared.entries.Record.{Record}

@@ -1,5 +1,5 @@
 -- What the records of a journal come to: what is kept and which cuts are in force, or the first record that no cache has.
-use Rattle.std.specs.Prelude.{ℕ, ◌≡◌, ◌≢◌, ◌+◌, ◌/◌, ◌^◌, ◌<◌, ◌≤◌, max, List, [], ◌∷◌, ◌++◌, length, map, find, drop, slice_get, zero, suc, Bool, true, false, IsTrue, Option, Some, None, IfSome, IsSomeAnd, ◌⊎◌, if◌then◌else◌, ⊤}
+use Rattle.std.specs.Prelude.{ℕ, ◌≡◌, ◌≢◌, ◌+◌, ◌/◌, ◌^◌, ◌<◌, ◌≤◌, max, List, [], ◌∷◌, ◌++◌, length, map, find, drop, slice_get, zero, suc, Bool, true, false, IsTrue, Option, Some, None, IfSome, IsSomeAnd, ◌⊎◌, ⊤}
 use Rattle.std.specs.List.{AllByRecursion}
 use Rattle.std.specs.Option.{option_map_or}
 use Rattle.catalog.specs.declared.catalogue.Catalogue.{Catalogue}
