@@ -1,5 +1,5 @@
 -- What a refusal says of a command, and the end of a schedule, of a drill or of a session.
-use Rattle.std.proofs.Common.{ℕ, ◌≡◌, ◌↔◌, List, Ok, Option, Some, None, Result, Err, inl, inr, refl}
+use Rattle.std.proofs.Common.{ℕ, ◌≡◌, ◌↔◌, List, Ok, Option, Some, None, Err, inl, inr}
 use Rattle.cabinet.specs.State.{State, IsKnown, fresh_state}
 use Rattle.catalog.specs.declared.catalogue.Catalogue.{Catalogue}
 use Rattle.clock.specs.Readings.{Readings}
@@ -15,7 +15,7 @@ use Rattle.tile_service.specs.declared.session.SessionEnd.{SessionEnd}
 use Rattle.tile_service.specs.declared.session.SessionEnd.TheVariants as session_end
 use Rattle.tile_drill.specs.Drill.{Drills}
 use Rattle.tile_service.specs.Outside.{InputChange, Outside}
-use Rattle.tile_service.specs.Run.{World, free_seats, world_of}
+use Rattle.tile_service.specs.Run.{World}
 use Rattle.tile_service.specs.Schedules.{Schedules}
 use Rattle.tile_service.specs.SessionEnds.{HasSession}
 use Rattle.tile_command.specs.declared.configured.Unconfigured.{Unconfigured}
@@ -23,7 +23,7 @@ use Rattle.tile_command.specs.declared.configured.Unconfigured.TheVariants as un
 use Rattle.tile_command.specs.declared.status.Status.{Status}
 use Rattle.tile_command.specs.declared.status.Status.TheVariants as status
 use Rattle.tile_command.specs.Steps.{HasWorked, IsPrepared, IsRefused, OfEither, refusal_of, status_of_refusal}
-use Rattle.tile_command.specs.Command.{Configures, Describes, HasServed, NoneRun, NothingDone, HasScheduled, HasServedDrill, HasServedReplay, Inputs, IsDocument, IsRead, fresh_world, status_of_drill, status_of_schedule, status_of_session}
+use Rattle.tile_command.specs.Command.{Configures, Describes, HasServed, NoneRun, HasScheduled, HasServedDrill, HasServedReplay, Inputs, IsDocument, IsRead, fresh_world, status_of_drill, status_of_schedule, status_of_session}
 
 -- THE REFUSALS
 

@@ -5,12 +5,7 @@ use Rattle.tile_command.proofs.command.run_command.Goals as goal
 pub returns-in-Ok-clause-served : goal.returns-in-Ok-clause-served
 returns-in-Ok-clause-served g c =
     let word = sym c.word_of.ensures ∙ c.in-Some.is in
-    served (record {
-      catalogue = record { reads = record { before = g.I.ByteSource.faults c.args.catalogue.now; after = g.I.ByteSource.faults c.prepared.new.catalogue }; from = g.I.ByteSource.left c.args.catalogue.now; to = g.I.ByteSource.left c.prepared.new.catalogue };
-      capabilities = record { reads = record { before = g.I.ByteSource.faults c.args.capabilities.now; after = g.I.ByteSource.faults c.prepared.new.capabilities }; from = g.I.ByteSource.left c.args.capabilities.now; to = g.I.ByteSource.left c.prepared.new.capabilities };
-      lines = record { reads = record { before = g.I.ByteSource.faults c.args.input.now; after = g.I.ByteSource.faults c.worked-status.new.input }; from = g.I.ByteSource.left c.args.input.now; to = g.I.ByteSource.left c.worked-status.new.input };
-    })
-    _ _ _ _ _ _ _ _ c.in-Some.word word c.in-Ok.counter.cabinet c.in-Ok.counter.capabilities c.in-Ok.ensures.prepared c.worked-status.result c.worked-status.ensures
+    served _ _ _ _ _ _ _ _ _ c.in-Some.word word c.in-Ok.counter.cabinet c.in-Ok.counter.capabilities c.in-Ok.ensures.prepared c.worked-status.result c.worked-status.ensures
 
 pub returns-in-Ok-clause-usage : goal.returns-in-Ok-clause-usage
 returns-in-Ok-clause-usage g c =
@@ -20,13 +15,7 @@ returns-in-Ok-clause-usage g c =
 pub returns-in-Err-clause-served : goal.returns-in-Err-clause-served
 returns-in-Err-clause-served g c =
     let word = sym c.word_of.ensures ∙ c.in-Some.is in
-    rw c.status_of_refusal.ensures
-    (refused (record {
-      catalogue = record { reads = record { before = g.I.ByteSource.faults c.args.catalogue.now; after = g.I.ByteSource.faults c.prepared.new.catalogue }; from = g.I.ByteSource.left c.args.catalogue.now; to = g.I.ByteSource.left c.prepared.new.catalogue };
-      capabilities = record { reads = record { before = g.I.ByteSource.faults c.args.capabilities.now; after = g.I.ByteSource.faults c.prepared.new.capabilities }; from = g.I.ByteSource.left c.args.capabilities.now; to = g.I.ByteSource.left c.prepared.new.capabilities };
-      lines = record { reads = record { before = g.I.ByteSource.faults c.args.input.now; after = g.I.ByteSource.faults c.args.input.now }; from = g.I.ByteSource.left c.args.input.now; to = g.I.ByteSource.left c.args.input.now };
-    })
-    _ _ _ _ _ _ _ _ c.in-Some.word word c.in-Err.refusal c.in-Err.ensures.refused refl refl refl)
+    rw c.status_of_refusal.ensures (refused _ _ _ _ _ _ _ _ _ c.in-Some.word word c.in-Err.refusal c.in-Err.ensures.refused refl refl refl)
 
 pub returns-in-Err-clause-usage : goal.returns-in-Err-clause-usage
 returns-in-Err-clause-usage g c =

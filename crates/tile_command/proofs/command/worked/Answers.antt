@@ -1,5 +1,4 @@
 use Rattle.std.proofs.Common.{refl}
-use Rattle.tile_service.specs.Run.{free_seats, world_of}
 use Rattle.tile_command.proofs.Serving.{less_stays}
 use Rattle.tile_command.proofs.command.worked.Goals as goal
 
