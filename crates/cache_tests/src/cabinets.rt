@@ -92,43 +92,104 @@ fn saved_once(cabinet: &mut Cabinet) -> bool {
     }
 }
 
+/// A render that is given up, one that is kept, and a hit: what the two asks were answered, and the finish between them.
+fn given_up_then_kept(
+    alloc: Global,
+    cabinet: &mut Cabinet,
+) -> Result<((bool, u64), Finished, (bool, u64)), AllocError>
+    requires { cabinet.old.catalogue ≡ demo }
+{
+    let first = asked(alloc, cabinet)?;
+    let finished = kept(alloc, cabinet)?;
+    let second = asked(alloc, cabinet)?;
+    Ok((first, finished, second))
+}
+
+/// A metatile that is kept and hit: whether its use is saved once.
+fn used_then_saved(alloc: Global, cabinet: &mut Cabinet) -> Result<bool, AllocError>
+    requires { cabinet.old.catalogue ≡ demo }
+{
+    let finished = kept(alloc, cabinet)?;
+    let hit = asked(alloc, cabinet)?;
+    if finished != Finished::Kept || hit != (true, 1) {
+        return Ok(false);
+    }
+    Ok(saved_once(cabinet))
+}
+
 fn sent<T: Send>(value: T) -> T {
     value
 }
 
+// In each test a cabinet is dropped before anything else can end it: each place at which it may be dropped has to be proved.
+
 #[test]
 fn a_cabinet_may_go_to_another_thread(rt: HostRuntime) -> Result<(), Fail> {
-    assert_eq!(rt; sent(new(rt.alloc())?).kept(), 0);
+    let cabinet = sent(new(rt.alloc())?);
+    let kept = cabinet.kept();
+    drop(cabinet);
+    assert_eq!(rt; kept, 0);
     Ok(())
 }
 
 #[test]
 fn a_render_is_given_up_and_the_next_one_kept(rt: HostRuntime) -> Result<(), Fail> {
-    let alloc = rt.alloc();
-    let mut cabinet = new(alloc)?;
-    assert_eq!(rt; asked(alloc, &mut cabinet)?, (false, 1));
-    assert_eq!(rt; kept(alloc, &mut cabinet)?, Finished::Kept);
-    assert_eq!(rt; asked(alloc, &mut cabinet)?, (true, 2));
+    let mut cabinet = new(rt.alloc())?;
+    let told = given_up_then_kept(rt.alloc(), &mut cabinet);
+    drop(cabinet);
+    let (first, finished, second) = told?;
+    assert_eq!(rt; first, (false, 1));
+    assert_eq!(rt; finished, Finished::Kept);
+    assert_eq!(rt; second, (true, 2));
     Ok(())
 }
 
 #[test]
 fn a_use_is_saved_once(rt: HostRuntime) -> Result<(), Fail> {
-    let alloc = rt.alloc();
-    let mut cabinet = new(alloc)?;
-    assert_eq!(rt; kept(alloc, &mut cabinet)?, Finished::Kept);
-    assert_eq!(rt; asked(alloc, &mut cabinet)?, (true, 1));
-    assert!(rt; saved_once(&mut cabinet));
+    let mut cabinet = new(rt.alloc())?;
+    let told = used_then_saved(rt.alloc(), &mut cabinet);
+    drop(cabinet);
+    assert!(rt; told?);
     Ok(())
+}
+
+/// A ticket of one cabinet handed to another: what that is answered, how many metatiles it keeps then, and what it is answered
+/// to its own.
+fn strange_then_kept(
+    alloc: Global,
+    one: &mut Cabinet,
+    other: &mut Cabinet,
+) -> Result<(Finished, u32, Finished), AllocError>
+    requires one { one.old.catalogue ≡ demo }
+    requires other { other.old.catalogue ≡ demo }
+{
+    let strange = handed(alloc, other, one)?;
+    let count = one.kept();
+    Ok((strange, count, kept(alloc, one)?))
+}
+
+/// Two cabinets, and a ticket of one handed to the other.
+fn told_of_two(alloc: Global) -> Result<(Finished, u32, Finished), AllocError> {
+    let mut one = new(alloc)?;
+    match new(alloc) {
+        Err(fault) => {
+            drop(one);
+            Err(fault)
+        }
+        Ok(mut other) => {
+            let told = strange_then_kept(alloc, &mut one, &mut other);
+            drop(other);
+            drop(one);
+            told
+        }
+    }
 }
 
 #[test]
 fn the_ticket_of_another_cabinet_is_strange(rt: HostRuntime) -> Result<(), Fail> {
-    let alloc = rt.alloc();
-    let mut one = new(alloc)?;
-    let mut other = new(alloc)?;
-    assert_eq!(rt; handed(alloc, &mut other, &mut one)?, Finished::Stranger);
-    assert_eq!(rt; one.kept(), 0);
-    assert_eq!(rt; kept(alloc, &mut one)?, Finished::Kept);
+    let (strange, count, own) = told_of_two(rt.alloc())?;
+    assert_eq!(rt; strange, Finished::Stranger);
+    assert_eq!(rt; count, 0);
+    assert_eq!(rt; own, Finished::Kept);
     Ok(())
 }
