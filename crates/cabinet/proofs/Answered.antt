@@ -334,8 +334,8 @@ below_limit count limit told off on = elim (cases_lt count limit) [
 ]
 
 -- what an ask is answered is fresh
-pub fresh_if : {E : Type 0} (s new : State) (a : Address) (r : Result Asked E) → IsKnown s → IsTile s.catalogue a → IfOk r (λ asked. Asks s a asked new) → IfOk r (λ asked. IsFreshReply s a asked new)
-fresh_if s new a (Ok x) k tile asks = asks_fresh s new a x k tile asks
+pub fresh_if : {E : Type 0} (s new : State) (a : Address) (r : Result Asked E) → IsKnown s → IsTile s.catalogue a → IfOk r (λ asked. Asks 0 0 s a asked new) → IfOk r (λ asked. IsFreshReply s a asked new)
+fresh_if s new a (Ok x) k tile asks = asks_fresh 0 0 s new a x k tile asks
 fresh_if s new a (Err e) k tile asks = tt
 
 -- SOUND

@@ -11,6 +11,7 @@ pub mod Fresher
 mod Tiles
 pub mod Fronts
 pub mod Rows
+pub mod Sounds
 pub mod Regions
 pub mod Disjoint
 pub mod Served
@@ -23,20 +24,6 @@ pub mod OnShelf
 pub mod Lookups
 pub mod Orders
 pub mod Recounts
-pub mod Tied
-pub mod Allowing
-pub mod Playing
-pub mod Spares
-pub mod Ranked
-pub mod Judged
 pub mod Told
 pub mod Sifts
 pub mod Limits
-pub mod Replaying
-pub mod Reopening
-pub mod RecordedOrders
-pub mod RecordedStanding
-pub mod RecordedKept
-pub mod RecordedCuts
-pub mod RecordedOpening
-pub mod RecordedRestored

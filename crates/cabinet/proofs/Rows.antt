@@ -156,19 +156,19 @@ answers_is s a t e = answers_at (limit_for s.catalogue a) (now s).moment (kept_o
 hit_kept : (s : State) (a : Address) (t : Kept) → answering s a ≡ Some t → IsSome (kept_of (block_of s.catalogue a) (now s))
 hit_kept s a t e = subst IsSome (sym (answers_is s a t e).0) refl
 
-asked_of : (s t : State) (a : Address) (r : Asked) → IsKnown s → IsTile s.catalogue a → IsAskedOf s a r t → IsKnownAs s t
-asked_of s t a (asked.Hit n bytes) k tile r = entered s t (entry.Used (block_of s.catalogue a)) k (hit_kept s a r.kept r.is_kept) refl k.left r.state
-asked_of s t a (asked.Busy n) k tile r = the_same s t k r.1.1
-asked_of s t a asked.Spent k tile r = the_same s t k r.1.2
-asked_of s t a (asked.Ticket ticket) k tile r = given s (block_of s.catalogue a) ticket t k (tile_meta s.catalogue a tile) r.1
+asked_of : (before after : ℕ) (s t : State) (a : Address) (r : Asked) → IsKnown s → IsTile s.catalogue a → IsAskedOf before after s a r t → IsKnownAs s t
+asked_of before after s t a (asked.Hit n bytes) k tile r = entered s t (entry.Used (block_of s.catalogue a)) k (hit_kept s a r.kept r.is_kept) refl k.left r.state
+asked_of before after s t a (asked.Busy n) k tile r = the_same s t k r.1.1
+asked_of before after s t a asked.Spent k tile r = the_same s t k r.1.2
+asked_of before after s t a (asked.Ticket ticket) k tile r = given s (block_of s.catalogue a) ticket t k (tile_meta s.catalogue a tile) r.1
 
 forced_of : (s t : State) (m : MetaKey) (r : Forced) → IsKnown s → IsMeta s.catalogue m → IsForcedOf s m r t → IsKnownAs s t
 forced_of s t m (forced.Busy n) k meta r = the_same s t k r.1
 forced_of s t m forced.Spent k meta r = the_same s t k r.2
 forced_of s t m (forced.Ticket ticket) k meta r = given s m ticket t k meta r
 
-pub asks_known : (s t : State) (a : Address) (r : Asked) → IsKnown s → IsTile s.catalogue a → Asks s a r t → IsKnownAs s t
-asks_known s t a r k tile row = since_ask s t t.clock.moment (asked_of (asked_at t.clock.moment s) t a r (asked_known s t.clock.moment k) tile row)
+pub asks_known : (before after : ℕ) (s t : State) (a : Address) (r : Asked) → IsKnown s → IsTile s.catalogue a → Asks before after s a r t → IsKnownAs s t
+asks_known before after s t a r k tile row = since_ask s t t.clock.moment (asked_of before after (asked_at t.clock.moment s) t a r (asked_known s t.clock.moment k) tile row)
 
 pub forces_known : (s t : State) (m : MetaKey) (r : Forced) → IsKnown s → IsMeta s.catalogue m → Forces s m r t → IsKnownAs s t
 forces_known s t m r k meta row = since_ask s t t.clock.moment (forced_of (asked_at t.clock.moment s) t m r (asked_known s t.clock.moment k) meta row)
@@ -194,6 +194,7 @@ finishes_known s t ticket blob finished.Stranger k long r = the_same s t k r.1
 finishes_known s t ticket blob (finished.Overtaken c) k long r = ended s t ticket.number k r.2
 finishes_known s t ticket blob finished.Full k long r = ended s t ticket.number k r.3
 finishes_known s t ticket blob finished.NoRoom k long r = ended s t ticket.number k r.4
+finishes_known s t ticket blob (finished.DiskFault b a) k long r = ended s t ticket.number k r.5
 finishes_known s t ticket blob finished.Kept k long r = stored s t ticket blob k long r
 
 pub abandons_known : (s t : State) (ticket : Ticketed) → IsKnown s → Abandons s ticket t → IsKnownAs s t
@@ -210,9 +211,17 @@ done s t cover n k of r =
     known_more s t (entry.Cut n cover) (option_map (blobs_spared s.catalogue cover) s.blobs) k (x.number, of, r.1) (if_some_made _ _ (blobs_spared s.catalogue cover) (λ bs is. map_spared s.catalogue cover bs (now s).kept is) s.blobs k.blobs)
     (if_some_made _ _ (blobs_spared s.catalogue cover) (λ bs are. all_filter (IsLong s.catalogue) (λ b. not (hits_of s.catalogue cover b.kept.meta)) bs are) s.blobs k.lengths) (omega arith) r.2
 
+-- a number is spent, and nothing else changes
+missed : (s t : State) (n : ℕ) → IsKnown s → next s.opening (now s) ≡ Some n → t ≡ with_entry s (entry.Missed n) → IsKnownAs s t
+missed s t n k given r =
+    let x = next_is s.opening (now s) n given in
+    let l = x.left in let f = k.left in
+    entered s t (entry.Missed n) k x.number refl (omega arith) r
+
 pub cuts_known : (s t : State) (cover : Cover) (r : CutReply) → IsKnown s → IsCoverOf s.catalogue cover → Cuts s cover r t → IsKnownAs s t
 cuts_known s t cover reply.Spent k of r = the_same s t k r.1
 cuts_known s t cover reply.Full k of r = the_same s t k r.2
+cuts_known s t cover (reply.DiskFault b a) k of r = missed s t r.0 k r.1 r.4
 cuts_known s t cover (reply.Done n) k of r = done s t cover n k of r
 
 -- what is kept but of a metatile
@@ -238,6 +247,7 @@ gone s t m k r =
 
 pub expires_known : (s t : State) (r : Expired) → IsKnown s → Expires s r t → IsKnownAs s t
 expires_known s t expired.Within k r = the_same s t k r.1
+expires_known s t (expired.DiskFault b a) k r = the_same s t k r.2
 expires_known s t (expired.Dropped m) k r = gone s t m k r
 
 -- what is to be saved is of one that is kept
@@ -246,6 +256,7 @@ unsaved_kept s m first = used_kept s m (subst IsSome (sym first.1.held) refl)
 
 pub saves_known : (s t : State) (r : Saved) → IsKnown s → Saves s r t → IsKnownAs s t
 saves_known s t saved.Within k r = the_same s t k r.1
+saves_known s t (saved.DiskFault b a) k r = the_same s t k r.2
 saves_known s t (saved.Done m) k r =
     let u = uses s.history m in
     known_more s t (entry.Counted m u) (option_map (blobs_counted m u) s.blobs) k (unsaved_kept s m r.0)
@@ -291,11 +302,11 @@ hit_fresh s n a j bytes t k tile r =
     let still = still_fresh s.catalogue (asked_at n s).history (entry.Used (block_of s.catalogue a) ∷ []) (length s.history) a r.kept.number (omega arith) fresh in
     subst (λ (i : ℕ). IsFresh s.catalogue t.history (length s.history) a i) (sym r.number) (subst (λ (x : State). IsFresh s.catalogue x.history (length s.history) a r.kept.number) (sym r.state) still)
 
-pub asks_fresh : (s t : State) (a : Address) (r : Asked) → IsKnown s → IsTile s.catalogue a → Asks s a r t → IsFreshReply s a r t
-asks_fresh s t a (asked.Hit j bytes) k tile r = hit_fresh s t.clock.moment a j bytes.items t k tile r
-asks_fresh s t a (asked.Busy j) k tile r = tt
-asks_fresh s t a asked.Spent k tile r = tt
-asks_fresh s t a (asked.Ticket ticket) k tile r = given_fresh s t.clock.moment a ticket t k tile r.1
+pub asks_fresh : (before after : ℕ) (s t : State) (a : Address) (r : Asked) → IsKnown s → IsTile s.catalogue a → Asks before after s a r t → IsFreshReply s a r t
+asks_fresh before after s t a (asked.Hit j bytes) k tile r = hit_fresh s t.clock.moment a j bytes.items t k tile r
+asks_fresh before after s t a (asked.Busy j) k tile r = tt
+asks_fresh before after s t a asked.Spent k tile r = tt
+asks_fresh before after s t a (asked.Ticket ticket) k tile r = given_fresh s t.clock.moment a ticket t k tile r.1
 
 pub forces_fresh : (s t : State) (a : Address) (r : Forced) → IsKnown s → IsTile s.catalogue a → Forces s (block_of s.catalogue a) r t → IsFreshForced s a r t
 forces_fresh s t a (forced.Busy j) k tile r = tt

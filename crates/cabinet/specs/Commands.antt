@@ -1,8 +1,10 @@
--- The commands of a cabinet, a row for each reply: where it comes, and the cabinet after it.
+-- The commands of a cabinet, a row for each reply: where it comes, and the cabinet after it. A cabinet on a disk may meet a fault of
+-- the disk, and tells one only where the disk's count of faults rose; one in memory meets none.
 use Rattle.std.specs.Prelude.{ℕ, ◌≡◌, ◌≤◌, ◌<◌, ◌+◌, ◌⊎◌, Bool, true, nat_le, if◌then◌else◌, List, length, Option, Some, None, IsSome, IfSome, ⊤}
 use Rattle.std.specs.Option.{option_and_then}
 use Rattle.catalog.specs.declared.catalogue.Catalogue.{Catalogue}
 use Rattle.catalog.specs.declared.catalogue.Scope.{Scope}
+use Rattle.causes.specs.Causes.{Rose}
 use Rattle.matrix_geometry.specs.declared.address.Address.{Address}
 use Rattle.metatile_locks.specs.Running.{running_for, render_of}
 use Rattle.metatile_locks.specs.Tickets.{Ticketed}
@@ -80,11 +82,15 @@ pub record IsHit (s : State) (a : Address) (k : ℕ) (bytes : List ℕ) (new : S
 abbrev pub IsUnkept : State → Address → Type 0
 IsUnkept s a = answering s a ≡ None
 
-abbrev pub IsAskedOf : State → Address → Asked → State → Type 0
-IsAskedOf s a (asked.Hit k bytes) new = IsHit s a k bytes.items new
-IsAskedOf s a (asked.Busy k) new = IsUnkept s a × IsBusy s (block_of s.catalogue a) k new
-IsAskedOf s a asked.Spent new = IsUnkept s a × IsSpent s (block_of s.catalogue a) new
-IsAskedOf s a (asked.Ticket t) new = IsUnkept s a × IsGiven s (block_of s.catalogue a) t new
+-- nothing does, or what does was not read, while the disk's count of faults rose from one number to another
+abbrev pub IsUnread : ℕ → ℕ → State → Address → Type 0
+IsUnread before after s a = IsUnkept s a ⊎ Rose before after
+
+abbrev pub IsAskedOf : ℕ → ℕ → State → Address → Asked → State → Type 0
+IsAskedOf before after s a (asked.Hit k bytes) new = IsHit s a k bytes.items new
+IsAskedOf before after s a (asked.Busy k) new = IsUnread before after s a × IsBusy s (block_of s.catalogue a) k new
+IsAskedOf before after s a asked.Spent new = IsUnread before after s a × IsSpent s (block_of s.catalogue a) new
+IsAskedOf before after s a (asked.Ticket t) new = IsUnread before after s a × IsGiven s (block_of s.catalogue a) t new
 
 abbrev pub IsForcedOf : State → MetaKey → Forced → State → Type 0
 IsForcedOf s m (forced.Busy k) new = IsBusy s m k new
@@ -92,8 +98,8 @@ IsForcedOf s m forced.Spent new = IsSpent s m new
 IsForcedOf s m (forced.Ticket t) new = IsGiven s m t new
 
 -- the clock was read once, and gave the moment that it shows afterwards
-abbrev pub Asks : State → Address → Asked → State → Type 0
-Asks s a r new = IsAskedOf (asked_at new.clock.moment s) a r new
+abbrev pub Asks : ℕ → ℕ → State → Address → Asked → State → Type 0
+Asks before after s a r new = IsAskedOf before after (asked_at new.clock.moment s) a r new
 
 abbrev pub Forces : State → MetaKey → Forced → State → Type 0
 Forces s m r new = IsForcedOf (asked_at new.clock.moment s) m r new
@@ -121,6 +127,8 @@ Finishes s t blob (finished.Overtaken cut) new = (n : ℕ) × Runs s t n (Some c
 Finishes s t blob finished.Full new = (n : ℕ) × Runs s t n None × (s.catalogue.kept_limit ≤ others s t.meta) × (new ≡ with_entry s (entry.Ended t.number))
 Finishes s t blob finished.NoRoom new =
     (n : ℕ) × Runs s t n None × (others s t.meta < s.catalogue.kept_limit) × (place_for s (length blob) ≡ None) × (new ≡ with_entry s (entry.Ended t.number))
+Finishes s t blob (finished.DiskFault before after) new =
+    (n : ℕ) × Runs s t n None × (others s t.meta < s.catalogue.kept_limit) × IsSome (place_for s (length blob)) × Rose before after × (new ≡ with_entry s (entry.Ended t.number))
 Finishes s t blob finished.Kept new =
     (n : ℕ) × Runs s t n None × (others s t.meta < s.catalogue.kept_limit) × ((place : ℕ) × (place_for s (length blob) ≡ Some place) × (new ≡ with_blob s (kept_at t n place (length blob)) blob))
 
@@ -138,6 +146,8 @@ book_before s cover = purged (Some cover) (least_of (numbers (now s).out (now s)
 abbrev pub Cuts : State → Cover → CutReply → State → Type 0
 Cuts s cover (cut.Done t) new =
     (next s.opening (now s) ≡ Some t) × (length (book_before s cover).cuts < s.catalogue.cut_limit) × (new ≡ with_cut s t cover)
+Cuts s cover (cut.DiskFault before after) new =
+    (t : ℕ) × (next s.opening (now s) ≡ Some t) × (length (book_before s cover).cuts < s.catalogue.cut_limit) × Rose before after × (new ≡ with_entry s (entry.Missed t))
 Cuts s cover cut.Full new = IsSome (next s.opening (now s)) × (s.catalogue.cut_limit ≤ length (book_before s cover).cuts) × (new ≡ s)
 Cuts s cover cut.Spent new = (next s.opening (now s) ≡ None) × (new ≡ s)
 
@@ -145,6 +155,7 @@ Cuts s cover cut.Spent new = (next s.opening (now s) ≡ None) × (new ≡ s)
 
 abbrev pub Expires : State → Expired → State → Type 0
 Expires s (expired.Dropped m) new = (scope : Scope) × (scope_exceeded s ≡ Some scope) × (victim_in s scope ≡ Some m) × (new ≡ with_dropped s m)
+Expires s (expired.DiskFault before after) new = IsSome (scope_exceeded s) × Rose before after × (new ≡ s)
 Expires s expired.Within new = (scope_exceeded s ≡ None) × (new ≡ s)
 
 -- SAVE USES
@@ -152,9 +163,35 @@ Expires s expired.Within new = (scope_exceeded s ≡ None) × (new ≡ s)
 -- the uses of the metatile are marked as saved, and kept with it
 abbrev pub Saves : State → Saved → State → Type 0
 Saves s (saved.Done m) new = unsaved_in s (Some m) × (new ≡ with_counted s m (uses s.history m))
+Saves s (saved.DiskFault before after) new = ((m : MetaKey) × unsaved_in s (Some m)) × Rose before after × (new ≡ s)
 Saves s saved.Within new = unsaved_in s None × (new ≡ s)
 
 -- WHAT REPLIES PROMISE
+
+-- a fault that is told shows the disk's count of faults from before the command and after it
+abbrev pub IsCountedFinished : ℕ → ℕ → Finished → Type 0
+IsCountedFinished before after finished.Stranger = ⊤
+IsCountedFinished before after (finished.Overtaken cut) = ⊤
+IsCountedFinished before after finished.Full = ⊤
+IsCountedFinished before after finished.NoRoom = ⊤
+IsCountedFinished before after (finished.DiskFault b a) = (b ≡ before) × (a ≡ after)
+IsCountedFinished before after finished.Kept = ⊤
+
+abbrev pub IsCountedCut : ℕ → ℕ → CutReply → Type 0
+IsCountedCut before after (cut.Done t) = ⊤
+IsCountedCut before after cut.Full = ⊤
+IsCountedCut before after (cut.DiskFault b a) = (b ≡ before) × (a ≡ after)
+IsCountedCut before after cut.Spent = ⊤
+
+abbrev pub IsCountedExpired : ℕ → ℕ → Expired → Type 0
+IsCountedExpired before after (expired.Dropped m) = ⊤
+IsCountedExpired before after (expired.DiskFault b a) = (b ≡ before) × (a ≡ after)
+IsCountedExpired before after expired.Within = ⊤
+
+abbrev pub IsCountedSaved : ℕ → ℕ → Saved → Type 0
+IsCountedSaved before after (saved.Done m) = ⊤
+IsCountedSaved before after (saved.DiskFault b a) = (b ≡ before) × (a ≡ after)
+IsCountedSaved before after saved.Within = ⊤
 
 -- the bytes of a hit are the encoded tile
 abbrev pub IsTrueHit : Catalogue → Address → Asked → Type 0

@@ -8,9 +8,4 @@ pub mod Ordered
 pub mod Shelved
 pub mod Consistent
 pub mod Turns
-pub mod Replay
-pub mod Recorded
-pub mod Placed
-pub mod Played
-pub mod Shows
 pub mod Commands

@@ -69,7 +69,7 @@ impl Model for Cabinet {
 impl Cabinet {
     ghost use Rattle.cabinet.specs.State.{fresh_state, now, with_entry, IsKnown, IsSound};
     ghost use Rattle.served_covers.specs.OfCatalogue.{IsCoverOf};
-    ghost use Rattle.cabinet.specs.Commands.{Asks, Forces, Finishes, Abandons, Cuts, Expires, Saves, IsTrueHit, IsFreshReply};
+    ghost use Rattle.cabinet.specs.Commands.{Asks, Forces, Finishes, Abandons, Cuts, Expires, Saves, IsCountedCut, IsCountedExpired, IsCountedFinished, IsCountedSaved, IsTrueHit, IsFreshReply};
     ghost use Rattle.cabinet.specs.Counted.{kept_in, used, used_all};
     ghost use Rattle.cabinet.specs.History.{next};
     ghost use Rattle.cabinet.specs.Turns.{IsFoundIn};
@@ -126,7 +126,7 @@ impl Cabinet {
     /// was not read.
     pub fn ask(&mut self, alloc: Global, address: &Address) -> Result<Asked, AllocError>
         requires { IsTile self.old.catalogue address.now }
-        ensures asked { IfOk result (λ asked. Asks self.old address.now asked self.new) }
+        ensures asked { IfOk result (λ asked. Asks 0 0 self.old address.now asked self.new) }
         ensures sound { IfOk result (λ asked. IsSound self.old → IsTrueHit self.old.catalogue address.now asked) }
         ensures fresh { IfOk result (λ asked. IsFreshReply self.old address.now asked self.new) }
         ensures err { OnErr result (self.new ≡ self.old) }
@@ -152,7 +152,7 @@ impl Cabinet {
     ) -> Result<Asked, AllocError>
         requires tile { IsTile self.old.catalogue address.now }
         requires found { IsFoundIn self.old address.now found }
-        ensures asked { IfOk result (λ asked. Asks self.old address.now asked self.new) }
+        ensures asked { IfOk result (λ asked. Asks 0 0 self.old address.now asked self.new) }
         ensures sound { IfOk result (λ asked. IsSound self.old → IsTrueHit self.old.catalogue address.now asked) }
         ensures err { OnErr result (self.new ≡ self.old) }
     {
@@ -206,6 +206,7 @@ impl Cabinet {
         requires meta { IsMeta self.old.catalogue ticket.meta }
         requires blob { length blob.items ≡ blob_size self.old.catalogue ticket.meta }
         ensures finished { Finishes self.old ticket blob.items result self.new }
+        ensures counted { IsCountedFinished 0 0 result }
         ensures sound { IsSound self.old → blob.items ≡ block_text self.old.catalogue ticket.number ticket.meta → IsSound self.new }
     {
         let number = ticket.number();
@@ -259,6 +260,7 @@ impl Cabinet {
     pub fn cut(&mut self, alloc: Global, cover: &Cover) -> Result<CutReply, AllocError>
         requires { IsCoverOf self.old.catalogue cover.now }
         ensures cuts { IfOk result (λ reply. Cuts self.old cover.now reply self.new) }
+        ensures counted { IfOk result (IsCountedCut 0 0) }
         ensures err { OnErr result (self.new ≡ self.old) }
     {
         if self.last >= last_number(self.opening) {
@@ -284,6 +286,7 @@ impl Cabinet {
     /// Drops the first metatile to go of the scope whose quota is exceeded, if one is. It takes no memory.
     pub fn expire(&mut self) -> Expired
         ensures expires { Expires self.old result self.new }
+        ensures counted { IsCountedExpired 0 0 result }
         ensures sound { IsSound self.old → IsSound self.new }
     {
         match self.shelf.drop_first() {
@@ -299,6 +302,7 @@ impl Cabinet {
     /// memory.
     pub fn save_uses(&mut self) -> Saved
         ensures saves { Saves self.old result self.new }
+        ensures counted { IsCountedSaved 0 0 result }
         ensures sound { IsSound self.old → IsSound self.new }
     {
         match self.shelf.save_first() {

@@ -57,7 +57,7 @@ pub fn laws_of_histories()
 /// book of before. The number of Busy is that of the metatile's render that runs in the history. The number of a hit or a
 /// ticket is fresh at the place of its ask or force.
 pub fn laws_of_rows()
-    ensures asks { (s : State) (new : State) (a : Address) (r : Asked) → IsKnown s → IsTile s.catalogue a → Asks s a r new → IsKnownAs s new }
+    ensures asks { (before after : ℕ) (s : State) (new : State) (a : Address) (r : Asked) → IsKnown s → IsTile s.catalogue a → Asks before after s a r new → IsKnownAs s new }
     ensures forces { (s : State) (new : State) (m : MetaKey) (r : Forced) → IsKnown s → IsMeta s.catalogue m → Forces s m r new → IsKnownAs s new }
     ensures finishes { (s : State) (new : State) (t : Ticketed) (blob : List ℕ) (r : Finished) → IsKnown s → length blob ≡ blob_size s.catalogue t.meta → Finishes s t blob r new → IsKnownAs s new }
     ensures abandons { (s : State) (new : State) (t : Ticketed) → IsKnown s → Abandons s t new → IsKnownAs s new }
@@ -65,6 +65,6 @@ pub fn laws_of_rows()
     ensures expires { (s : State) (new : State) (r : Expired) → IsKnown s → Expires s r new → IsKnownAs s new }
     ensures saves { (s : State) (new : State) (r : Saved) → IsKnown s → Saves s r new → IsKnownAs s new }
     ensures busy { (s : State) (new : State) (m : MetaKey) (k : ℕ) → IsKnown s → IsBusy s m k new → (n : ℕ) × (render s.catalogue s.history k ≡ Some (unmarked k m n)) }
-    ensures asks_fresh { (s : State) (new : State) (a : Address) (r : Asked) → IsKnown s → IsTile s.catalogue a → Asks s a r new → IsFreshReply s a r new }
+    ensures asks_fresh { (before after : ℕ) (s : State) (new : State) (a : Address) (r : Asked) → IsKnown s → IsTile s.catalogue a → Asks before after s a r new → IsFreshReply s a r new }
     ensures forces_fresh { (s : State) (new : State) (a : Address) (r : Forced) → IsKnown s → IsTile s.catalogue a → Forces s (block_of s.catalogue a) r new → IsFreshForced s a r new }
 {}

@@ -4,10 +4,9 @@
 //! Promises: each command is its row of `specs/Commands.antt`; what is kept stays the picture of its number; a tile that
 //! is answered is fresh, that is, newer than each truncation before its ask that covers it, and within its layer's age
 //! limit (`specs/Fresh.antt`). What is used counts the metatiles that are kept, and an expiry drops the victim by the
-//! layer's policy, exactly where a quota is exceeded (`specs/Counted.antt`). A replay of the records of a journal restores what
-//! they come to, or tells the first one that no cache has (`specs/Replay.antt`).
+//! layer's policy, exactly where a quota is exceeded (`specs/Counted.antt`).
 //! Stands on metatile_locks, quota_ledger, expiry_policy, served_covers, truncation_list, extent_map, raster_field,
-//! metatile_plan, catalog, matrix_geometry, clock, trace, gate_journal and record_text, and indexmap for what is kept.
+//! metatile_plan, catalog, matrix_geometry, clock, causes and trace, and indexmap for what is kept.
 #![tactic(auto)]
 
 mod ages;
@@ -15,17 +14,15 @@ mod blob;
 pub mod cabinet;
 pub mod entry;
 mod held;
-mod hitting;
+pub mod hitting;
+pub mod keeper;
 pub mod kept;
 pub mod laws;
-pub mod openings;
-pub mod recorded;
-pub mod replay;
+mod memory;
 pub mod replies;
-pub mod restored;
 mod shelf;
 mod shelving;
 mod sifting;
-mod store;
-mod tally;
+pub mod store;
+pub mod tally;
 mod turns;

@@ -4,7 +4,7 @@ use metatile_plan::metatile::MetaKey;
 
 /// What an ask is answered.
 pub enum Asked {
-    /// The metatile of the tile is kept: the number of its render, and the encoded tile.
+    /// The metatile of the tile is kept and was read: the number of its render, and the encoded tile.
     Hit(u64, Vec<u8>),
     /// The caller is to render the metatile, and then to finish or abandon it.
     Ticket(Ticket),
@@ -35,6 +35,8 @@ pub enum Finished {
     Full,
     /// No gap between the kept regions has room for the blob; nothing is kept of the render.
     NoRoom,
+    /// The disk failed, whose count of faults was the first number before and is the second after; nothing is kept of the render.
+    DiskFault(u64, u64),
     /// The blob is kept.
     Kept,
 }
@@ -46,6 +48,9 @@ pub enum CutReply {
     Done(u64),
     /// As many cuts would stay in force as may be; nothing changed.
     Full,
+    /// The disk failed, whose count of faults was the first number before and is the second after. A number was spent; nothing is
+    /// dropped or overtaken.
+    DiskFault(u64, u64),
     /// No number is left; nothing changed.
     Spent,
 }
@@ -55,6 +60,8 @@ pub enum CutReply {
 pub enum Expired {
     /// This metatile was the first to go in the scope whose quota is exceeded, and is dropped.
     Dropped(MetaKey),
+    /// The disk failed, whose count of faults was the first number before and is the second after; nothing is dropped.
+    DiskFault(u64, u64),
     /// No quota is exceeded; nothing changed.
     Within,
 }
@@ -64,6 +71,8 @@ pub enum Expired {
 pub enum Saved {
     /// The uses of this metatile are saved.
     Done(MetaKey),
+    /// The disk failed, whose count of faults was the first number before and is the second after; nothing is saved.
+    DiskFault(u64, u64),
     /// All uses of what is kept are saved; nothing changed.
     Within,
 }

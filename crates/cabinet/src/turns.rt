@@ -1,9 +1,9 @@
 //! What an ask comes to where nothing that is kept answers it, and what a force comes to.
-ghost use Rattle.std.specs.Prelude.{IfOk, IfSome, None, OnOk, length, ◌+◌, ◌<◌, ◌≡◌, ◌≤◌};
+ghost use Rattle.std.specs.Prelude.{IfOk, IfSome, None, OnOk, length, ℕ, ◌+◌, ◌<◌, ◌≡◌, ◌≤◌};
 ghost use Rattle.catalog.specs.declared.catalogue.Catalogue.{Catalogue};
 ghost use Rattle.matrix_geometry.specs.declared.address.Address.{Address};
 ghost use Rattle.raster_field.specs.Blocks.{block_of};
-ghost use Rattle.cabinet.specs.Commands.{IsAskedOf, IsForcedOf, IsTrueHit, IsUnkept};
+ghost use Rattle.cabinet.specs.Commands.{IsAskedOf, IsForcedOf, IsTrueHit, IsUnread};
 ghost use Rattle.cabinet.specs.Shelved.{IsAlike};
 ghost use Rattle.cabinet.specs.State.{State};
 ghost use Rattle.cabinet.specs.Turns.{IsReady, IsTaken, IsTurn};
@@ -128,7 +128,7 @@ pub fn taken(
 
 /// What an ask comes to where nothing that is kept answers it.
 pub fn as_asked(forced: Forced) -> Asked
-    ensures asked { (s : State) (a : Address) (new : State) → IsUnkept s a → IsForcedOf s (block_of s.catalogue a) forced new → IsAskedOf s a result new }
+    ensures asked { (before after : ℕ) (s : State) (a : Address) (new : State) → IsUnread before after s a → IsForcedOf s (block_of s.catalogue a) forced new → IsAskedOf before after s a result new }
     ensures no_hit { (c : Catalogue) (a : Address) → IsTrueHit c a result }
 {
     match forced {

@@ -1,4 +1,4 @@
-use Rattle.std.proofs.Common.{ap, refl, subst, ◌∙◌}
+use Rattle.std.proofs.Common.{ap, inl, refl, subst, ◌∙◌}
 use Rattle.catalog.specs.declared.catalogue.Catalogue.{Catalogue}
 use Rattle.metatile_plan.specs.declared.metatile.MetaKey.{MetaKey}
 use Rattle.raster_field.specs.Blocks.{block_of}
@@ -23,7 +23,7 @@ returns-in-Some-clause-fresh c =
     fresh_if c.args.self.now c.ask_kept.new.self c.args.address.now c.ask_kept.result (subst IsKnown c.self.view_is c.self.invariant.known) c.requires c.ask_kept.ensures.asked
 
 -- what the ask comes to where nothing is kept
-came : (c : goal.After-as_asked) → Asks c.args.self.now c.args.address.now c.as_asked.result c.force.new.self
+came : (c : goal.After-as_asked) → Asks 0 0 c.args.self.now c.args.address.now c.as_asked.result c.force.new.self
 came c =
     let i = c.self.inside in
     let p : Parts = record { opening = bare_opening i.opening; shelf = i.shelf; last = i.last; moment = i.moment; clock = i.clock; renders = i.locks.renders; book = i.cuts.book } in
@@ -33,7 +33,7 @@ came c =
     let is = c.block_of-meta.ensures.meta ∙ ap (λ (x : Catalogue). block_of x a) c.catalogue.ensures.catalogue ∙ ap (λ (v : State). block_of v.catalogue a) c.self.view_is in
     let unkept = subst (λ (v : State). IsUnkept (asked_at new.clock.moment v) a) c.self.view_is (none_unkept p i.past.entries c.self.invariant a new.clock.moment none) in
     let row = subst (λ (m : MetaKey). IsForcedOf (asked_at new.clock.moment c.args.self.now) m c.in-Ok.forced new) is c.in-Ok.ensures.forced in
-    c.as_asked.ensures.asked (asked_at new.clock.moment c.args.self.now) a new unkept row
+    c.as_asked.ensures.asked 0 0 (asked_at new.clock.moment c.args.self.now) a new (inl unkept) row
 
 pub returns-in-Ok-clause-asked : goal.returns-in-Ok-clause-asked
 returns-in-Ok-clause-asked c = came c
@@ -42,4 +42,4 @@ pub returns-in-Ok-clause-sound : goal.returns-in-Ok-clause-sound
 returns-in-Ok-clause-sound c = λ sound. c.as_asked.ensures.no_hit c.args.self.now.catalogue c.args.address.now
 
 pub returns-in-Ok-clause-fresh : goal.returns-in-Ok-clause-fresh
-returns-in-Ok-clause-fresh c = asks_fresh c.args.self.now c.force.new.self c.args.address.now c.as_asked.result (subst IsKnown c.self.view_is c.self.invariant.known) c.requires (came c)
+returns-in-Ok-clause-fresh c = asks_fresh 0 0 c.args.self.now c.force.new.self c.args.address.now c.as_asked.result (subst IsKnown c.self.view_is c.self.invariant.known) c.requires (came c)

@@ -1,4 +1,4 @@
-use Rattle.std.proofs.Common.{◌≡◌, ◌++◌, ◌∷◌, [], Option, Some, find, ap, refl, sym, subst, ◌∙◌}
+use Rattle.std.proofs.Common.{◌≡◌, ◌++◌, ◌∷◌, [], Option, Some, find, ap, refl, sym, subst, ◌∙◌, inl}
 use Rattle.std.specs.Prelude.{IfSome}
 use Rattle.catalog.specs.declared.catalogue.Catalogue.{Catalogue}
 use Rattle.metatile_plan.specs.declared.metatile.MetaKey.{MetaKey}
@@ -133,7 +133,7 @@ returns-clause-asked c =
     let t : State = record { catalogue = c.turn_where.new.shelf.catalogue; opening = bare_opening i.opening; history = new.past; since = new.past; blobs = Some c.turn_where.new.shelf.blobs; clock = c.now-self-inside.new.self } in
     let row = taken_row q g k c.block_of-meta.result c.next-next.result locks refl from c.in-Some.turn c.taken-forced.result new t turns c.taken-forced.ensures refl in
     let unkept = older_unkept q g k a c.args.found c.limit_for-limit.result reads limit (sym c.is_within.ensures ∙ c.if-is_within.false) in
-    c.as_asked.ensures.asked (asked_at q.clock.moment c.args.self.now) a t (subst (λ (s : State). IsUnkept s a) there unkept)
+    c.as_asked.ensures.asked 0 0 (asked_at q.clock.moment c.args.self.now) a t (inl (subst (λ (s : State). IsUnkept s a) there unkept))
     (subst (λ (s : State). IsForcedOf s (block_of s.catalogue a) c.taken-forced.result t) there (subst (λ (m : MetaKey). IsForcedOf (seen q g) m c.taken-forced.result t) is row))
 
 pub returns-clause-sound : goal.returns-clause-sound

@@ -1,0 +1,14 @@
+pub mod Tied
+pub mod Allowing
+pub mod Playing
+pub mod Spares
+pub mod Ranked
+pub mod Judged
+pub mod Replaying
+pub mod Reopening
+pub mod RecordedOrders
+pub mod RecordedStanding
+pub mod RecordedKept
+pub mod RecordedCuts
+pub mod RecordedOpening
+pub mod RecordedRestored

@@ -1,0 +1,5 @@
+pub mod Replay
+pub mod Recorded
+pub mod Placed
+pub mod Played
+pub mod Shows

@@ -1,0 +1,38 @@
+//! What a replay holds before the first record.
+ghost use Rattle.std.specs.Prelude.{IfOk, ◌≡◌};
+ghost use Rattle.catalog.specs.Valid.{IsValid};
+ghost use Rattle.cabinet_records.specs.Played.{IsPlayed, replayed_of};
+ghost use Rattle.cabinet_records.specs.Replay.{unplayed};
+
+use crate::replay::progress::Progress;
+use cabinet::store::Store;
+use catalog::catalogue::Catalogue;
+use extent_map::extents::Extents;
+use indexmap::IndexMap;
+use std::alloc::{AllocError, Global};
+use truncation_list::list::CutList;
+
+/// Nothing was played yet. `AllocError` where memory runs out.
+pub fn begin(alloc: Global, catalogue: &Catalogue) -> Result<Progress, AllocError>
+    requires { IsValid catalogue.now }
+    ensures none { IfOk result (λ p. replayed_of p ≡ unplayed) }
+    ensures played { IfOk result (λ p. IsPlayed catalogue.now 0 p) }
+{
+    let regions = match Extents::new(alloc, catalogue.blob_bytes) {
+        Err(fault) => return Err(fault),
+        Ok(regions) => regions,
+    };
+    let cuts = match CutList::new(alloc) {
+        Err(fault) => return Err(fault),
+        Ok(cuts) => cuts,
+    };
+    Ok(Progress {
+        opening: None,
+        floor: 0,
+        store: Store::new(alloc),
+        regions,
+        places: IndexMap::new(alloc),
+        cuts,
+        out: Vec::new(alloc),
+    })
+}

@@ -1,0 +1,42 @@
+//! How a record of a cut changes what a replay holds.
+ghost use Rattle.std.specs.Prelude.{ℕ};
+ghost use Rattle.catalog.specs.Valid.{IsValid};
+ghost use Rattle.cabinet_records.specs.Played.{IsPlayed, Steps};
+
+use crate::replay::allowed::may_cut;
+use crate::replay::progress::Progress;
+use crate::replay::sparing::spare;
+use catalog::catalogue::Catalogue;
+use record_text::entries::Record;
+use std::alloc::{AllocError, Global};
+use truncation_list::cover::Cover;
+
+/// Plays a record of a cut. `AllocError` where memory runs out.
+pub fn cut(
+    progress: &mut Progress,
+    alloc: Global,
+    catalogue: &Catalogue,
+    number: u64,
+    cover: &Cover,
+) -> Result<bool, AllocError>
+    requires valid { IsValid catalogue.now }
+    requires played { (next : ℕ) × IsPlayed catalogue.now next progress.old }
+    ensures { (next : ℕ) → IsPlayed catalogue.now next progress.old → Steps catalogue.now next progress.old (Record.Cut number cover.now) result progress.new }
+{
+    if !may_cut(progress, catalogue, number, cover) {
+        return Ok(false);
+    }
+    match progress.cuts.reserve(alloc, cover) {
+        Err(fault) => return Err(fault),
+        Ok(()) => {}
+    }
+    spare(
+        &mut progress.store,
+        &mut progress.regions,
+        &mut progress.places,
+        catalogue,
+        cover,
+    );
+    progress.cuts.enter(number, cover);
+    Ok(true)
+}

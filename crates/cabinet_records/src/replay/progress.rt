@@ -1,0 +1,24 @@
+//! What the records of a journal come to so far, as a replay holds it.
+use cabinet::kept::Kept;
+use crate::replay::places::Places;
+use cabinet::store::Store;
+use extent_map::extents::Extents;
+use truncation_list::list::CutList;
+
+/// What is held while records are played.
+#[derive(Drop)]
+pub struct Progress {
+    /// The number of the last opening.
+    pub opening: Option<u32>,
+    pub floor: u64,
+    /// What is kept. Its blobs have no bytes here.
+    pub store: Store,
+    /// The regions of what is kept.
+    pub regions: Extents,
+    /// The numbers of what is kept, each with the place of its record.
+    pub places: Places,
+    /// All cuts, none of them purged. The floor of this list is 0.
+    pub cuts: CutList,
+    /// Where what is kept will be listed. There is room for all of it.
+    pub out: Vec<Kept>,
+}
