@@ -1,12 +1,13 @@
 -- The first event of a request: an ask or a force that comes to nothing yet, a ticket that is given, and a hit.
-use Rattle.std.proofs.Common.{◌≡◌, ℕ, Bool, true, false, List, [], ◌∷◌, length, Option, Some, None, refl, sym, ◌∙◌, ap, subst, append_assoc}
+use Rattle.std.proofs.Common.{◌≡◌, ◌≤◌, ℕ, Bool, true, false, List, [], ◌∷◌, length, Option, Some, None, inl, inr, refl, sym, ◌∙◌, ap, subst, append_assoc, arith}
 use Rattle.std.specs.Prelude.{IfSome}
 use Rattle.std.specs.Option.{option_map_or}
-use Rattle.cabinet.specs.Commands.{IsBusy, IsGiven, IsHit, IsSpent, IsUnkept}
+use Rattle.cabinet.specs.Commands.{IsBusy, IsGiven, IsHit, IsSpent, IsUnread}
 use Rattle.cabinet.specs.declared.entry.Entry.{Entry}
 use Rattle.cabinet.specs.declared.entry.Entry.TheVariants as entry
 use Rattle.cabinet.specs.Fresh.{IsFresh}
 use Rattle.cabinet.specs.State.{State, asked_at, kept_text, with_entry, IsSound}
+use Rattle.causes.specs.Causes.{RoseBy}
 use Rattle.catalog.specs.LookUp.{IsTile}
 use Rattle.matrix_geometry.specs.declared.address.Address.{Address}
 use Rattle.metatile_locks.specs.Tickets.{Ticketed}
@@ -21,7 +22,7 @@ use Rattle.cache_core.specs.declared.outcome.TileOutcome.TheVariants as outcome
 use Rattle.cache_core.specs.Begun.{Begins}
 use Rattle.cache_core.specs.Fits.{IsFit, IsAtWork, IsTrueActor, IsTrueOutcome, IsFreshActor, IsFreshOutcome, Extends}
 use Rattle.cache_core.specs.Shown.{shown, IsFailed}
-use Rattle.cache_core.specs.Steps.{asked, began, blob_of, unless_kept, render_wanted, unless_busy, given, goes_on, ends, hit, ticket_for, tile_at}
+use Rattle.cache_core.specs.Steps.{asked, began, blob_of, disk_faults, unless_kept, render_wanted, unless_busy, given, goes_on, ends, hit, ticket_for, tile_at}
 use Rattle.cache_core.proofs.Endings.{byte_of, bytes_of_blob}
 
 shown_as : (step : Step) (t : State) (actor : Actor) (o : Option TileOutcome) → step.actor ≡ actor → step.outcome ≡ o → shown step t ≡ record { cabinet = t; actor = actor; outcome = o }
@@ -38,15 +39,30 @@ entry_grows s t n e h = (entry.At n ∷ e ∷ [], ap (λ u. u.history) h ∙ app
 entry_catalogue : (s t : State) (n : ℕ) (e : Entry) → t ≡ with_entry (asked_at n s) e → t.catalogue ≡ s.catalogue
 entry_catalogue s t n e h = ap (λ u. u.catalogue) h
 
+-- NOTHING THAT IS KEPT ANSWERS
+
+-- whether what is kept went unread
+abbrev went_unread : (before after : ℕ) (s : State) (a : Address) → IsUnread before after s a → Bool
+went_unread before after s a (inl unkept) = false
+went_unread before after s a (inr rose) = true
+
+unread_asked : (before after : ℕ) (s : State) (a : Address) (h : IsUnread before after s a) → asked s a false (went_unread before after s a h) None ≡ render_wanted s a false
+unread_asked before after s a (inl unkept) = ap (unless_kept s a None) unkept
+unread_asked before after s a (inr rose) = refl
+
+unread_cause : (before after : ℕ) (s : State) (a : Address) → before ≤ after → (h : IsUnread before after s a) → RoseBy (disk_faults (went_unread before after s a h) false) before after
+unread_cause before after s a later (inl unkept) = omega arith
+unread_cause before after s a later (inr rose) = rose
+
 -- WITHOUT A NUMBER
 
 -- the clock was read, and nothing else was done
-module _ (s t : State) (n : ℕ) (a : Address) (step : Step) (tile : IsTile s.catalogue a) (same : t ≡ asked_at n s) where
-  just_asked : (force : Bool) (actor : Actor) (o : Option TileOutcome) → step.actor ≡ actor → step.outcome ≡ o
-      → asked (asked_at n s) a force None ≡ record { cabinet = asked_at n s; actor = actor; outcome = o }
+module _ (before after : ℕ) (later : before ≤ after) (s t : State) (n : ℕ) (a : Address) (step : Step) (tile : IsTile s.catalogue a) (same : t ≡ asked_at n s) where
+  just_asked : (force unread : Bool) (actor : Actor) (o : Option TileOutcome) → RoseBy (disk_faults unread false) before after → step.actor ≡ actor → step.outcome ≡ o
+      → asked (asked_at n s) a force unread None ≡ record { cabinet = asked_at n s; actor = actor; outcome = o }
       → IsAtWork s.catalogue a actor → IsTrueActor s.catalogue actor → (IsFailed actor → ⊥) → IsTrueOutcome s.catalogue a o
-      → IsFreshActor s.catalogue t.history (length s.history) a actor → IsFreshOutcome s.catalogue t.history (length s.history) a o → Begins s a force step t
-  just_asked force actor o is_actor is_outcome is_asked fits held working truth held_fresh fresh =
+      → IsFreshActor s.catalogue t.history (length s.history) a actor → IsFreshOutcome s.catalogue t.history (length s.history) a o → Begins before after s a force step t
+  just_asked force unread actor o cause is_actor is_outcome is_asked fits held working truth held_fresh fresh =
       let P : Actor → Type 0 = IsAtWork s.catalogue a in
       let Q : Actor → Type 0 = IsTrueActor s.catalogue in
       let R : Actor → Type 0 = IsFailed in
@@ -57,8 +73,11 @@ module _ (s t : State) (n : ℕ) (a : Address) (step : Step) (tile : IsTile s.ca
       record {
         left = true;
         moment = n;
+        unread = unread;
         bytes = None;
         began = shown_as step t actor o is_actor is_outcome ∙ at_end ∙ sym is_asked;
+        later = later;
+        cause = cause;
         fits = record { tile = tile; work = subst P (sym is_actor) fits };
         actor = subst Q (sym is_actor) held;
         not_failed = λ f. working (subst R is_actor f);
@@ -71,37 +90,40 @@ module _ (s t : State) (n : ℕ) (a : Address) (step : Step) (tile : IsTile s.ca
       }
 
   -- where a render is wanted, the actor waits, or no number is left
-  waits : (force : Bool) → asked (asked_at n s) a force None ≡ goes_on (asked_at n s) (Waiting a force) → step.actor ≡ Waiting a force → step.outcome ≡ None → Begins s a force step t
-  waits force is_asked is_actor is_outcome = just_asked force (Waiting a force) None is_actor is_outcome is_asked refl tt (λ f. f) tt tt tt
+  waits : (force unread : Bool) → RoseBy (disk_faults unread false) before after → asked (asked_at n s) a force unread None ≡ goes_on (asked_at n s) (Waiting a force)
+      → step.actor ≡ Waiting a force → step.outcome ≡ None → Begins before after s a force step t
+  waits force unread cause is_asked is_actor is_outcome = just_asked force unread (Waiting a force) None cause is_actor is_outcome is_asked refl tt (λ f. f) tt tt tt
 
-  ends_spent : (force : Bool) → asked (asked_at n s) a force None ≡ ends (asked_at n s) outcome.Spent → step.actor ≡ Idle → step.outcome ≡ Some outcome.Spent → Begins s a force step t
-  ends_spent force is_asked is_actor is_outcome = just_asked force Idle (Some outcome.Spent) is_actor is_outcome is_asked tt tt (λ f. f) tt tt tt
+  ends_spent : (force unread : Bool) → RoseBy (disk_faults unread false) before after → asked (asked_at n s) a force unread None ≡ ends (asked_at n s) outcome.Spent
+      → step.actor ≡ Idle → step.outcome ≡ Some outcome.Spent → Begins before after s a force step t
+  ends_spent force unread cause is_asked is_actor is_outcome = just_asked force unread Idle (Some outcome.Spent) cause is_actor is_outcome is_asked tt tt (λ f. f) tt tt tt
 
-module _ (s t : State) (n : ℕ) (a : Address) (step : Step) (tile : IsTile s.catalogue a) where
-  busy_wanted : (force : Bool) (k : ℕ) → IsBusy (asked_at n s) (block_of s.catalogue a) k t → render_wanted (asked_at n s) a force ≡ goes_on (asked_at n s) (Waiting a force)
-  busy_wanted force k is_busy = ap (unless_busy (asked_at n s) a force) is_busy.0
+busy_wanted : (s t : State) (a : Address) (force : Bool) (k : ℕ) → IsBusy s (block_of s.catalogue a) k t → render_wanted s a force ≡ goes_on s (Waiting a force)
+busy_wanted s t a force k is_busy = ap (unless_busy s a force) is_busy.0
 
-  spent_wanted : (force : Bool) → IsSpent (asked_at n s) (block_of s.catalogue a) t → render_wanted (asked_at n s) a force ≡ ends (asked_at n s) outcome.Spent
-  spent_wanted force is_spent = ap (unless_busy (asked_at n s) a force) is_spent.0 ∙ ap (given (asked_at n s) a) is_spent.1
+spent_wanted : (s t : State) (a : Address) (force : Bool) → IsSpent s (block_of s.catalogue a) t → render_wanted s a force ≡ ends s outcome.Spent
+spent_wanted s t a force is_spent = ap (unless_busy s a force) is_spent.0 ∙ ap (given s a) is_spent.1
 
-  unkept_asked : IsUnkept (asked_at n s) a → asked (asked_at n s) a false None ≡ render_wanted (asked_at n s) a false
-  unkept_asked unkept = ap (unless_kept (asked_at n s) a None) unkept
+module _ (before after : ℕ) (later : before ≤ after) (s t : State) (n : ℕ) (a : Address) (step : Step) (tile : IsTile s.catalogue a) where
+  pub busy_asked : (k : ℕ) → IsUnread before after (asked_at n s) a → IsBusy (asked_at n s) (block_of s.catalogue a) k t → step.actor ≡ Waiting a false → step.outcome ≡ None → Begins before after s a false step t
+  busy_asked k unread is_busy =
+      let u = asked_at n s in
+      waits before after later s t n a step tile is_busy.1 false (went_unread before after u a unread) (unread_cause before after u a later unread) (unread_asked before after u a unread ∙ busy_wanted u t a false k is_busy)
 
-  pub busy_asked : (k : ℕ) → IsUnkept (asked_at n s) a → IsBusy (asked_at n s) (block_of s.catalogue a) k t → step.actor ≡ Waiting a false → step.outcome ≡ None → Begins s a false step t
-  busy_asked k unkept is_busy = waits s t n a step tile is_busy.1 false (unkept_asked unkept ∙ busy_wanted false k is_busy)
+  pub busy_forced : (k : ℕ) → IsBusy (asked_at n s) (block_of s.catalogue a) k t → step.actor ≡ Waiting a true → step.outcome ≡ None → Begins before after s a true step t
+  busy_forced k is_busy = waits before after later s t n a step tile is_busy.1 true false (omega arith) (busy_wanted (asked_at n s) t a true k is_busy)
 
-  pub busy_forced : (k : ℕ) → IsBusy (asked_at n s) (block_of s.catalogue a) k t → step.actor ≡ Waiting a true → step.outcome ≡ None → Begins s a true step t
-  busy_forced k is_busy = waits s t n a step tile is_busy.1 true (busy_wanted true k is_busy)
+  pub spent_asked : IsUnread before after (asked_at n s) a → IsSpent (asked_at n s) (block_of s.catalogue a) t → step.actor ≡ Idle → step.outcome ≡ Some outcome.Spent → Begins before after s a false step t
+  spent_asked unread is_spent =
+      let u = asked_at n s in
+      ends_spent before after later s t n a step tile is_spent.2 false (went_unread before after u a unread) (unread_cause before after u a later unread) (unread_asked before after u a unread ∙ spent_wanted u t a false is_spent)
 
-  pub spent_asked : IsUnkept (asked_at n s) a → IsSpent (asked_at n s) (block_of s.catalogue a) t → step.actor ≡ Idle → step.outcome ≡ Some outcome.Spent → Begins s a false step t
-  spent_asked unkept is_spent = ends_spent s t n a step tile is_spent.2 false (unkept_asked unkept ∙ spent_wanted false is_spent)
-
-  pub spent_forced : IsSpent (asked_at n s) (block_of s.catalogue a) t → step.actor ≡ Idle → step.outcome ≡ Some outcome.Spent → Begins s a true step t
-  spent_forced is_spent = ends_spent s t n a step tile is_spent.2 true (spent_wanted true is_spent)
+  pub spent_forced : IsSpent (asked_at n s) (block_of s.catalogue a) t → step.actor ≡ Idle → step.outcome ≡ Some outcome.Spent → Begins before after s a true step t
+  spent_forced is_spent = ends_spent before after later s t n a step tile is_spent.2 true false (omega arith) (spent_wanted (asked_at n s) t a true is_spent)
 
 -- A TICKET
 
-module _ (s t : State) (n : ℕ) (a : Address) (k : Ticketed) (step : Step) (tile : IsTile s.catalogue a) (is_given : IsGiven (asked_at n s) (block_of s.catalogue a) k t) (actor : step.actor ≡ Holding k a) (no_outcome : step.outcome ≡ None) (fresh : IsFresh s.catalogue t.history (length s.history) a k.number) where
+module _ (before after : ℕ) (later : before ≤ after) (s t : State) (n : ℕ) (a : Address) (k : Ticketed) (step : Step) (tile : IsTile s.catalogue a) (is_given : IsGiven (asked_at n s) (block_of s.catalogue a) k t) (actor : step.actor ≡ Holding k a) (no_outcome : step.outcome ≡ None) (fresh : IsFresh s.catalogue t.history (length s.history) a k.number) where
   ticket_is : ticket_for (asked_at n s) a k.number ≡ k
   ticket_is = rw (sym is_given.meta) refl
 
@@ -129,13 +151,16 @@ module _ (s t : State) (n : ℕ) (a : Address) (k : Ticketed) (step : Step) (til
   goes_well : IsFailed step.actor → ⊥
   goes_well f = let P : Actor → Type 0 = IsFailed in subst P actor f
 
-  module _ (force : Bool) (is_step : shown step t ≡ began s a force true n None) where
-    pub begins_with : Begins s a force step t
+  module _ (force unread : Bool) (cause : RoseBy (disk_faults unread false) before after) (is_step : shown step t ≡ began s a force true n unread None) where
+    pub begins_with : Begins before after s a force step t
     begins_with = record {
       left = true;
       moment = n;
+      unread = unread;
       bytes = None;
       began = is_step;
+      later = later;
+      cause = cause;
       fits = fits;
       actor = is_true;
       not_failed = goes_well;
@@ -147,11 +172,13 @@ module _ (s t : State) (n : ℕ) (a : Address) (k : Ticketed) (step : Step) (til
       catalogue = entry_catalogue s t n (entry.Started k.number (block_of s.catalogue a)) is_given.state;
     }
 
-  pub ticket_forced : Begins s a true step t
-  ticket_forced = begins_with true (step_is true)
+  pub ticket_forced : Begins before after s a true step t
+  ticket_forced = begins_with true false (omega arith) (step_is true)
 
-  pub ticket_asked : IsUnkept (asked_at n s) a → Begins s a false step t
-  ticket_asked unkept = begins_with false (step_is false ∙ sym (ap (unless_kept (asked_at n s) a None) unkept))
+  pub ticket_asked : IsUnread before after (asked_at n s) a → Begins before after s a false step t
+  ticket_asked unread =
+      let u = asked_at n s in
+      begins_with false (went_unread before after u a unread) (unread_cause before after u a later unread) (step_is false ∙ sym (unread_asked before after u a unread))
 
 -- A HIT
 
@@ -161,10 +188,10 @@ blob_is : (s : State) (m : MetaKey) (blob : List ℕ) → length blob ≡ blob_s
 blob_is s m blob long None is = sym (bytes_of_blob s.catalogue m blob long)
 blob_is s m blob long (Some text) is = is
 
-pub hit_asked : (s t : State) (n : ℕ) (a : Address) (k : ℕ) (bytes : List ℕ) (step : Step) → IsTile s.catalogue a → IsHit (asked_at n s) a k bytes t → step.actor ≡ Idle
+pub hit_asked : (before after : ℕ) → before ≤ after → (s t : State) (n : ℕ) (a : Address) (k : ℕ) (bytes : List ℕ) (step : Step) → IsTile s.catalogue a → IsHit (asked_at n s) a k bytes t → step.actor ≡ Idle
     → step.outcome ≡ Some (outcome.Tile (tile_at true k bytes)) → (IsSound s → bytes ≡ tile_text s.catalogue k a)
-    → IsFresh s.catalogue t.history (length s.history) a k → Begins s a false step t
-hit_asked s t n a k bytes step tile is_hit idle ended true_bytes is_fresh =
+    → IsFresh s.catalogue t.history (length s.history) a k → Begins before after s a false step t
+hit_asked before after later s t n a k bytes step tile is_hit idle ended true_bytes is_fresh =
     let P : Actor → Type 0 = IsAtWork s.catalogue a in
     let Q : Actor → Type 0 = IsTrueActor s.catalogue in
     let R : Actor → Type 0 = IsFailed in
@@ -178,8 +205,11 @@ hit_asked s t n a k bytes step tile is_hit idle ended true_bytes is_fresh =
     record {
       left = true;
       moment = n;
+      unread = false;
       bytes = blob;
       began = shown_as step t Idle (Some (outcome.Tile (tile_at true k bytes))) idle ended ∙ same ∙ sym (ap (unless_kept (asked_at n s) a blob) is_hit.is_kept);
+      later = later;
+      cause = omega arith;
       fits = record { tile = tile; work = subst P (sym idle) tt };
       actor = subst Q (sym idle) tt;
       not_failed = λ f. subst R idle f;

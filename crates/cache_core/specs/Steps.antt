@@ -1,7 +1,8 @@
 -- A request for a tile as single events: an ask or a force, the render, and the finish. What happens by chance in an
--- event, that memory runs out, which moment the clock gives, and which bytes a rendering gives or that it fails, is taken as it
--- happened, and so are the bytes of a kept blob where blobs are not modelled; all else is fixed, and so is how many bytes the blob has.
-use Rattle.std.specs.Prelude.{ℕ, Bool, true, false, nat_le, List, length, map, Option, Some, None}
+-- event, that memory runs out, which moment the clock gives, which bytes a rendering gives or that it fails, and that a disk fails, is
+-- taken as it happened, and so are the bytes of a kept blob where blobs are not modelled; all else is fixed, and so is how many bytes
+-- the blob has.
+use Rattle.std.specs.Prelude.{ℕ, ◌+◌, Bool, true, false, nat_le, List, length, map, Option, Some, None}
 use Rattle.std.specs.List.{range_with_len}
 use Rattle.std.specs.Option.{option_map_or}
 use Rattle.cabinet.specs.declared.entry.Entry.TheVariants as entry
@@ -76,14 +77,20 @@ abbrev pub unless_kept : State → Address → Option (ℕ → ℕ) → Option K
 unless_kept s a bytes (Some t) = hit s a bytes t
 unless_kept s a bytes None = render_wanted s a false
 
-abbrev pub asked : State → Address → Bool → Option (ℕ → ℕ) → Stepped
-asked s a true bytes = render_wanted s a true
-asked s a false bytes = unless_kept s a bytes (answering s a)
+-- what went unread answers nothing
+abbrev pub unless_unread : Bool → Option Kept → Option Kept
+unless_unread true kept = None
+unless_unread false kept = kept
 
--- with a force no kept tile is an answer; memory is left, and the clock gives a moment, or memory runs out
-abbrev pub began : State → Address → Bool → Bool → ℕ → Option (ℕ → ℕ) → Stepped
-began s a force false n bytes = ends s outcome.NoMemory
-began s a force true n bytes = asked (asked_at n s) a force bytes
+abbrev pub asked : State → Address → Bool → Bool → Option (ℕ → ℕ) → Stepped
+asked s a true unread bytes = render_wanted s a true
+asked s a false unread bytes = unless_kept s a bytes (unless_unread unread (answering s a))
+
+-- with a force no kept tile is an answer, and nor is one that goes unread; memory is left, and the clock gives a moment, or memory
+-- runs out
+abbrev pub began : State → Address → Bool → Bool → ℕ → Bool → Option (ℕ → ℕ) → Stepped
+began s a force false n unread bytes = ends s outcome.NoMemory
+began s a force true n unread bytes = asked (asked_at n s) a force unread bytes
 
 -- THE END OF A RENDER
 
@@ -95,26 +102,27 @@ off s t (Some r) = with_entry s (entry.Ended t.number)
 abbrev pub abandoned : State → Ticketed → State
 abandoned s t = off s t (render_of t (now s).out)
 
--- a render that was begun at the moment n
-abbrev pub stored : State → Ticketed → ℕ → List ℕ → Option ℕ → State
-stored s t n blob None = with_entry s (entry.Ended t.number)
-stored s t n blob (Some place) = with_blob s (kept_at t n place (length blob)) blob
+-- a render that was begun at the moment n: its blob is kept at its place, unless it went unwritten
+abbrev pub stored : State → Ticketed → ℕ → List ℕ → Option ℕ → Bool → State
+stored s t n blob None unwritten = with_entry s (entry.Ended t.number)
+stored s t n blob (Some place) true = with_entry s (entry.Ended t.number)
+stored s t n blob (Some place) false = with_blob s (kept_at t n place (length blob)) blob
 
--- as many others as may be are kept, or there is no place, or the blob is kept
-abbrev pub with_room : State → Ticketed → ℕ → List ℕ → Bool → State
-with_room s t n blob true = with_entry s (entry.Ended t.number)
-with_room s t n blob false = stored s t n blob (place_for s (length blob))
+-- as many others as may be are kept, or there is no place, or the blob goes unwritten, or it is kept
+abbrev pub with_room : State → Ticketed → ℕ → List ℕ → Bool → Bool → State
+with_room s t n blob unwritten true = with_entry s (entry.Ended t.number)
+with_room s t n blob unwritten false = stored s t n blob (place_for s (length blob)) unwritten
 
-abbrev pub unless_overtaken : State → Ticketed → ℕ → List ℕ → Option ℕ → State
-unless_overtaken s t n blob (Some cut) = with_entry s (entry.Ended t.number)
-unless_overtaken s t n blob None = with_room s t n blob (nat_le s.catalogue.kept_limit (others s t.meta))
+abbrev pub unless_overtaken : State → Ticketed → ℕ → List ℕ → Bool → Option ℕ → State
+unless_overtaken s t n blob unwritten (Some cut) = with_entry s (entry.Ended t.number)
+unless_overtaken s t n blob unwritten None = with_room s t n blob unwritten (nat_le s.catalogue.kept_limit (others s t.meta))
 
-abbrev pub ended : State → Ticketed → List ℕ → Option Render → State
-ended s t blob None = s
-ended s t blob (Some r) = unless_overtaken s t r.moment blob r.mark
+abbrev pub ended : State → Ticketed → List ℕ → Bool → Option Render → State
+ended s t blob unwritten None = s
+ended s t blob unwritten (Some r) = unless_overtaken s t r.moment blob unwritten r.mark
 
-abbrev pub finished : State → Ticketed → List ℕ → State
-finished s t blob = ended s t blob (render_of t (now s).out)
+abbrev pub finished : State → Ticketed → List ℕ → Bool → State
+finished s t blob unwritten = ended s t blob unwritten (render_of t (now s).out)
 
 -- THE RENDER
 
@@ -130,14 +138,14 @@ abbrev pub rendered : State → Ticketed → Address → Bool → Option (ℕ �
 rendered s t a false bytes = ends (abandoned s t) outcome.NoMemory
 rendered s t a true bytes = painted s t a bytes
 
--- THE NEXT EVENT of an actor: memory is left or runs out, the clock gives a moment to one that asks or forces again, and a rendering
--- gives these bytes or fails, or a kept blob has them
-abbrev pub advanced : State → Actor → Bool → ℕ → Option (ℕ → ℕ) → Stepped
-advanced s Idle left n bytes = goes_on s Idle
-advanced s (Waiting a force) left n bytes = began s a force left n bytes
-advanced s (Holding t a) left n bytes = rendered s t a left bytes
-advanced s (Rendered t text tile) left n bytes = ends (finished s t text) (outcome.Tile tile)
-advanced s (Failed t) left n bytes = ends (abandoned s t) outcome.SourceFailed
+-- THE NEXT EVENT of an actor: memory is left or runs out, the clock gives a moment to one that asks or forces again, what is kept may
+-- go unread then, a rendering gives these bytes or fails, or a kept blob has them, and a blob that is handed in may go unwritten
+abbrev pub advanced : State → Actor → Bool → ℕ → Bool → Option (ℕ → ℕ) → Bool → Stepped
+advanced s Idle left n unread bytes unwritten = goes_on s Idle
+advanced s (Waiting a force) left n unread bytes unwritten = began s a force left n unread bytes
+advanced s (Holding t a) left n unread bytes unwritten = rendered s t a left bytes
+advanced s (Rendered t text tile) left n unread bytes unwritten = ends (finished s t text unwritten) (outcome.Tile tile)
+advanced s (Failed t) left n unread bytes unwritten = ends (abandoned s t) outcome.SourceFailed
 
 -- an actor that gives up abandons its ticket
 abbrev pub given_up : State → Actor → State
@@ -146,3 +154,13 @@ given_up s (Waiting a force) = s
 given_up s (Holding t a) = abandoned s t
 given_up s (Rendered t text tile) = abandoned s t
 given_up s (Failed t) = abandoned s t
+
+-- FAULTS OF A DISK that chances name
+
+abbrev pub one_where : Bool → ℕ
+one_where true = 1
+one_where false = 0
+
+-- what went unread, and what went unwritten
+abbrev pub disk_faults : Bool → Bool → ℕ
+disk_faults unread unwritten = one_where unread + one_where unwritten

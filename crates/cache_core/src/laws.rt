@@ -1,5 +1,5 @@
 //! What the bytes of a rendering have no part in.
-ghost use Rattle.std.specs.Prelude.{length, ℕ, ◌≡◌};
+ghost use Rattle.std.specs.Prelude.{Bool, length, ℕ, ◌≡◌};
 ghost use Rattle.cabinet.specs.State.{State};
 ghost use Rattle.catalog.specs.declared.catalogue.Catalogue.{Catalogue};
 ghost use Rattle.metatile_locks.specs.Tickets.{Ticketed};
@@ -11,5 +11,5 @@ ghost use Rattle.cache_core.specs.Steps.{blob_of, finished};
 /// rendered.
 pub fn laws_of_finishes()
     ensures size { (c : Catalogue) (m : MetaKey) (bytes : ℕ → ℕ) → length (blob_of c m bytes) ≡ blob_size c m }
-    ensures alike { (s : State) (t : Ticketed) (bytes : ℕ → ℕ) (others : ℕ → ℕ) → (finished s t (blob_of s.catalogue t.meta bytes)).history ≡ (finished s t (blob_of s.catalogue t.meta others)).history }
+    ensures alike { (s : State) (t : Ticketed) (bytes : ℕ → ℕ) (others : ℕ → ℕ) (unwritten : Bool) → (finished s t (blob_of s.catalogue t.meta bytes) unwritten).history ≡ (finished s t (blob_of s.catalogue t.meta others) unwritten).history }
 {}

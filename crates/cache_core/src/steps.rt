@@ -15,7 +15,7 @@ ghost use Rattle.cache_core.specs.Steps.{advanced, given_up, tile_at};
 use crate::actor::{Actor, Step};
 use crate::outcome::{Tile, TileOutcome};
 use crate::render::{RenderFault, blob_of, tile_in};
-use cabinet::cabinet::Cabinet;
+use cabinet::keeper::Keeper;
 use cabinet::laws::laws_of_rows;
 use cabinet::replies::{Asked, Forced};
 use catalog::catalogue::Catalogue;
@@ -58,9 +58,9 @@ fn hit(number: u64, bytes: Vec<u8>) -> Step
     }))
 }
 
-fn ask(alloc: Global, cabinet: &mut Cabinet, address: &Address) -> Step
-    requires { IsTile cabinet.old.catalogue address.now }
-    ensures { Begins cabinet.old address.now false result cabinet.new }
+fn ask<C: Keeper>(alloc: Global, cabinet: &mut C, address: &Address) -> Step
+    requires { IsTile (C.state cabinet.old).catalogue address.now }
+    ensures { Begins (C.faults cabinet.old) (C.faults cabinet.new) (C.state cabinet.old) address.now false result (C.state cabinet.new) }
 {
     match cabinet.ask(alloc, address) {
         Err(_) => ends(TileOutcome::NoMemory),
@@ -71,9 +71,9 @@ fn ask(alloc: Global, cabinet: &mut Cabinet, address: &Address) -> Step
     }
 }
 
-fn force(alloc: Global, cabinet: &mut Cabinet, address: &Address) -> Step
-    requires { IsTile cabinet.old.catalogue address.now }
-    ensures { Begins cabinet.old address.now true result cabinet.new }
+fn force<C: Keeper>(alloc: Global, cabinet: &mut C, address: &Address) -> Step
+    requires { IsTile (C.state cabinet.old).catalogue address.now }
+    ensures { Begins (C.faults cabinet.old) (C.faults cabinet.new) (C.state cabinet.old) address.now true result (C.state cabinet.new) }
 {
     laws_of_rows();
     cabinet.known();
@@ -87,9 +87,9 @@ fn force(alloc: Global, cabinet: &mut Cabinet, address: &Address) -> Step
 }
 
 /// Asks for a tile, or forces a render of its metatile, as the first event of a request.
-pub fn begin(alloc: Global, cabinet: &mut Cabinet, address: &Address, with_force: bool) -> Step
-    requires { IsTile cabinet.old.catalogue address.now }
-    ensures { Begins cabinet.old address.now with_force result cabinet.new }
+pub fn begin<C: Keeper>(alloc: Global, cabinet: &mut C, address: &Address, with_force: bool) -> Step
+    requires { IsTile (C.state cabinet.old).catalogue address.now }
+    ensures { Begins (C.faults cabinet.old) (C.faults cabinet.new) (C.state cabinet.old) address.now with_force result (C.state cabinet.new) }
 {
     if with_force {
         return force(alloc, cabinet, address);
@@ -98,17 +98,17 @@ pub fn begin(alloc: Global, cabinet: &mut Cabinet, address: &Address, with_force
 }
 
 /// Asks again, or forces again.
-fn ask_again(alloc: Global, cabinet: &mut Cabinet, address: &Address, with_force: bool) -> Step
-    requires { IsTile cabinet.old.catalogue address.now }
-    ensures { (told : Option ℕ) (n : ℕ) → Advances told n n cabinet.old (Actor.Waiting address.now with_force) result cabinet.new }
+fn ask_again<C: Keeper>(alloc: Global, cabinet: &mut C, address: &Address, with_force: bool) -> Step
+    requires { IsTile (C.state cabinet.old).catalogue address.now }
+    ensures { (told : Option ℕ) (n : ℕ) → Advances told n n (C.faults cabinet.old) (C.faults cabinet.new) (C.state cabinet.old) (Actor.Waiting address.now with_force) result (C.state cabinet.new) }
 {
     begin(alloc, cabinet, address, with_force)
 }
 
 /// Hands in the blob of a render, and answers its tile.
-fn hand_in(cabinet: &mut Cabinet, ticket: Ticket, blob: Words, tile: Tile) -> Step
-    requires { (a : Address) × IsFit cabinet.old.catalogue a (Actor.Rendered ticket blob tile) }
-    ensures { (told : Option ℕ) (n : ℕ) → Advances told n n cabinet.old (Actor.Rendered ticket blob tile) result cabinet.new }
+fn hand_in<C: Keeper>(cabinet: &mut C, ticket: Ticket, blob: Words, tile: Tile) -> Step
+    requires { (a : Address) × IsFit (C.state cabinet.old).catalogue a (Actor.Rendered ticket blob tile) }
+    ensures { (told : Option ℕ) (n : ℕ) → Advances told n n (C.faults cabinet.old) (C.faults cabinet.new) (C.state cabinet.old) (Actor.Rendered ticket blob tile) result (C.state cabinet.new) }
 {
     laws_of_metatiles();
     cabinet.known();
@@ -117,16 +117,16 @@ fn hand_in(cabinet: &mut Cabinet, ticket: Ticket, blob: Words, tile: Tile) -> St
 }
 
 /// Gives a ticket back at which the source failed.
-fn give_back(cabinet: &mut Cabinet, ticket: Ticket) -> Step
-    ensures { (told : Option ℕ) (n : ℕ) → Advances told n n cabinet.old (Actor.Failed ticket) result cabinet.new }
+fn give_back<C: Keeper>(cabinet: &mut C, ticket: Ticket) -> Step
+    ensures { (told : Option ℕ) (n : ℕ) → Advances told n n (C.faults cabinet.old) (C.faults cabinet.new) (C.state cabinet.old) (Actor.Failed ticket) result (C.state cabinet.new) }
 {
     cabinet.abandon(ticket);
     ends(TileOutcome::SourceFailed)
 }
 
 /// Gives a ticket back where memory ran out.
-fn run_out(cabinet: &mut Cabinet, ticket: Ticket, _address: &Address) -> Step
-    ensures { (told : Option ℕ) (before after : ℕ) → before ≤ after → Advances told before after cabinet.old (Actor.Holding ticket _address.now) result cabinet.new }
+fn run_out<C: Keeper>(cabinet: &mut C, ticket: Ticket, _address: &Address) -> Step
+    ensures { (told : Option ℕ) (before after : ℕ) → before ≤ after → Advances told before after (C.faults cabinet.old) (C.faults cabinet.new) (C.state cabinet.old) (Actor.Holding ticket _address.now) result (C.state cabinet.new) }
 {
     cabinet.abandon(ticket);
     ends(TileOutcome::NoMemory)
@@ -163,15 +163,15 @@ fn painted<S: Source>(
 }
 
 /// Renders the blob of a ticket.
-fn render<S: Source>(
+fn render<C: Keeper, S: Source>(
     alloc: Global,
-    cabinet: &mut Cabinet,
+    cabinet: &mut C,
     source: &mut S,
     ticket: Ticket,
     address: &Address,
 ) -> Step
-    requires { IsFit cabinet.old.catalogue address.now (Actor.Holding ticket address.now) }
-    ensures advances { Advances (S.told source.old) (S.faults source.old) (S.faults source.new) cabinet.old (Actor.Holding ticket address.now) result cabinet.new }
+    requires { IsFit (C.state cabinet.old).catalogue address.now (Actor.Holding ticket address.now) }
+    ensures advances { Advances (S.told source.old) (S.faults source.old) (S.faults source.new) (C.faults cabinet.old) (C.faults cabinet.new) (C.state cabinet.old) (Actor.Holding ticket address.now) result (C.state cabinet.new) }
     ensures told { S.told source.new ≡ S.told source.old }
 {
     cabinet.known();
@@ -191,15 +191,15 @@ fn render<S: Source>(
 }
 
 /// Makes the next event of an actor. An idle one has none.
-pub fn advance<S: Source>(
+pub fn advance<C: Keeper, S: Source>(
     alloc: Global,
-    cabinet: &mut Cabinet,
+    cabinet: &mut C,
     source: &mut S,
     actor: Actor,
 ) -> Step
     requires busy { IsIdle actor → ⊥ }
-    requires fits { (a : Address) × IsFit cabinet.old.catalogue a actor }
-    ensures advances { Advances (S.told source.old) (S.faults source.old) (S.faults source.new) cabinet.old actor result cabinet.new }
+    requires fits { (a : Address) × IsFit (C.state cabinet.old).catalogue a actor }
+    ensures advances { Advances (S.told source.old) (S.faults source.old) (S.faults source.new) (C.faults cabinet.old) (C.faults cabinet.new) (C.state cabinet.old) actor result (C.state cabinet.new) }
     ensures told { S.told source.new ≡ S.told source.old }
 {
     match actor {
@@ -212,8 +212,9 @@ pub fn advance<S: Source>(
 }
 
 /// Ends a request without an outcome: a ticket that the actor holds is abandoned.
-pub fn give_up(cabinet: &mut Cabinet, actor: Actor)
-    ensures { cabinet.new ≡ given_up cabinet.old actor }
+pub fn give_up<C: Keeper>(cabinet: &mut C, actor: Actor)
+    ensures state { C.state cabinet.new ≡ given_up (C.state cabinet.old) actor }
+    ensures faults { C.faults cabinet.new ≡ C.faults cabinet.old }
 {
     match actor {
         Actor::Idle | Actor::Waiting(_, _) => {}

@@ -88,7 +88,7 @@ fn asked(alloc: Global, cabinet: &mut Cabinet) -> Result<(bool, u64), AllocError
 fn saved_once(cabinet: &mut Cabinet) -> bool {
     match cabinet.save_uses() {
         Saved::Done(_) => cabinet.save_uses() == Saved::Within,
-        Saved::Within => false,
+        Saved::DiskFault(_, _) | Saved::Within => false,
     }
 }
 

@@ -1,7 +1,7 @@
 //! The top call: what the words ask for, done.
 ghost use Rattle.std.specs.Prelude.{◌≡◌, ◌↔◌};
 ghost use Rattle.catalog.specs.Valid.{IsValid};
-ghost use Rattle.tile_service.specs.Outside.{InputChange, Outside};
+ghost use Rattle.tile_service.specs.Outside.{InputChange, Outside, counts};
 ghost use Rattle.tile_service.specs.Session.{IsAtRest};
 ghost use Rattle.tile_command.specs.Command.{HasServed, status_of_drill, status_of_schedule, status_of_session};
 ghost use Rattle.tile_command.specs.Steps.{HasWorked, status_of_refusal};
@@ -11,6 +11,7 @@ use crate::configured::Unconfigured;
 use crate::prepared::prepared;
 use crate::replay::replay;
 use crate::status::Status;
+use cabinet::cabinet::Cabinet;
 use clock::clock::Clock;
 use command_words::words::{Word, word_of};
 use exact_ratio::words::Words;
@@ -78,7 +79,7 @@ fn status_of_refusal(refusal: Unconfigured) -> Status
 /// one connection, or makes and runs the lines of a number. Each end comes as `Status` says.
 fn worked<S: Source, I: ByteSource, O: ByteSink>(
     alloc: Global,
-    counter: &mut Counter,
+    counter: &mut Counter<Cabinet>,
     word: Word,
     source: &mut S,
     input: &mut I,
@@ -88,7 +89,7 @@ fn worked<S: Source, I: ByteSource, O: ByteSink>(
     requires rest { IsAtRest counter.old.cabinet }
     ensures { HasWorked
         (record { reads = record { before = I.faults input.old; after = I.faults input.new }; from = I.left input.old; to = I.left input.new })
-        (record { told = S.told source.old; renders = record { before = S.faults source.old; after = S.faults source.new }; writes = record { before = O.faults output.old; after = O.faults output.new }; from = O.taken output.old; to = O.taken output.new })
+        (record { told = S.told source.old; renders = record { before = S.faults source.old; after = S.faults source.new }; disk = counts 0 0; writes = record { before = O.faults output.old; after = O.faults output.new }; from = O.taken output.old; to = O.taken output.new })
         (input.new ≡ input.old) (output.new ≡ output.old) (source.new ≡ source.old) counter.old.cabinet counter.old.capabilities word result }
 {
     match word {
@@ -132,7 +133,7 @@ pub fn run_command<S: Source, I: ByteSource, O: ByteSink>(
           capabilities = record { reads = record { before = I.faults capabilities.old; after = I.faults capabilities.new }; from = I.left capabilities.old; to = I.left capabilities.new };
           lines = record { reads = record { before = I.faults input.old; after = I.faults input.new }; from = I.left input.old; to = I.left input.new };
         })
-        (record { told = S.told source.old; renders = record { before = S.faults source.old; after = S.faults source.new }; writes = record { before = O.faults output.old; after = O.faults output.new }; from = O.taken output.old; to = O.taken output.new })
+        (record { told = S.told source.old; renders = record { before = S.faults source.old; after = S.faults source.new }; disk = counts 0 0; writes = record { before = O.faults output.old; after = O.faults output.new }; from = O.taken output.old; to = O.taken output.new })
         clock (capabilities.new ≡ capabilities.old) (input.new ≡ input.old) (output.new ≡ output.old) (source.new ≡ source.old) (catalogue.new ≡ catalogue.old) (word_of words.now) result }
 {
     let Some(word) = word_of(words) else {

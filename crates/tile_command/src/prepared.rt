@@ -24,7 +24,7 @@ fn counter_of(
     catalogue: Catalogue,
     capabilities: Words,
     clock: Clock,
-) -> Result<Counter, AllocError>
+) -> Result<Counter<Cabinet>, AllocError>
     requires { IsValid catalogue }
     ensures { IfOk result (λ c. (c.cabinet ≡ fresh_state catalogue clock) × (c.capabilities ≡ capabilities)) }
 {
@@ -57,7 +57,7 @@ pub fn prepared<I: ByteSource>(
     catalogue: &mut I,
     capabilities: &mut I,
     clock: Clock,
-) -> Result<Counter, Unconfigured>
+) -> Result<Counter<Cabinet>, Unconfigured>
     ensures prepared { IfOk result (λ counter. IsPrepared
         (record { reads = record { before = I.faults catalogue.old; after = I.faults catalogue.new }; from = I.left catalogue.old; to = I.left catalogue.new })
         (record { reads = record { before = I.faults capabilities.old; after = I.faults capabilities.new }; from = I.left capabilities.old; to = I.left capabilities.new })

@@ -1,10 +1,11 @@
 //! An input served as the bytes of one connection, with the responses written to an output.
 ghost use Rattle.std.specs.Prelude.{◌≡◌};
 ghost use Rattle.catalog.specs.Valid.{IsValid};
-ghost use Rattle.tile_service.specs.Outside.{InputChange, Outside};
+ghost use Rattle.tile_service.specs.Outside.{InputChange, Outside, counts};
 ghost use Rattle.tile_service.specs.Session.{IsAtRest};
 ghost use Rattle.tile_service.specs.SessionEnds.{HasSession};
 
+use cabinet::cabinet::Cabinet;
 use http_wire::duplex::{Duplex, Ends, Loans};
 use http_wire::streams::{ByteSink, ByteSource};
 use source_render::source::Source;
@@ -17,7 +18,7 @@ use tile_service::session::{SessionEnd, replay_session};
 /// cabinet. Each end comes as `SessionEnd` says.
 pub fn replay<S: Source, I: ByteSource, O: ByteSink>(
     alloc: Global,
-    counter: &mut Counter,
+    counter: &mut Counter<Cabinet>,
     source: &mut S,
     input: &mut I,
     output: &mut O,
@@ -26,7 +27,7 @@ pub fn replay<S: Source, I: ByteSource, O: ByteSink>(
     requires rest { IsAtRest counter.old.cabinet }
     ensures { HasSession
         (record { reads = record { before = I.faults input.old; after = I.faults input.new }; from = I.left input.old; to = I.left input.new })
-        (record { told = S.told source.old; renders = record { before = S.faults source.old; after = S.faults source.new }; writes = record { before = O.faults output.old; after = O.faults output.new }; from = O.taken output.old; to = O.taken output.new })
+        (record { told = S.told source.old; renders = record { before = S.faults source.old; after = S.faults source.new }; disk = counts 0 0; writes = record { before = O.faults output.old; after = O.faults output.new }; from = O.taken output.old; to = O.taken output.new })
         counter.old.capabilities counter.old.cabinet counter.new.cabinet result }
 {
     let ends = Ends { input, output };
@@ -37,7 +38,7 @@ pub fn replay<S: Source, I: ByteSource, O: ByteSink>(
 /// Serves the bytes of one connection over the link of these two, and gives them back.
 fn replay_over<'a, 'b, S: Source, I: ByteSource, O: ByteSink, L: Loans>(
     alloc: Global,
-    counter: &mut Counter,
+    counter: &mut Counter<Cabinet>,
     source: &mut S,
     ends: Ends<'a, 'b, I, O>,
 ) -> (Ends<'a, 'b, I, O>, SessionEnd)
@@ -47,7 +48,7 @@ fn replay_over<'a, 'b, S: Source, I: ByteSource, O: ByteSink, L: Loans>(
     requires output { ends.output.ghost_name ≡ L.output }
     ensures session { HasSession
         (record { reads = record { before = I.faults ends.entry.input.now; after = I.faults result.0.input.now }; from = I.left ends.entry.input.now; to = I.left result.0.input.now })
-        (record { told = S.told source.old; renders = record { before = S.faults source.old; after = S.faults source.new }; writes = record { before = O.faults ends.entry.output.now; after = O.faults result.0.output.now }; from = O.taken ends.entry.output.now; to = O.taken result.0.output.now })
+        (record { told = S.told source.old; renders = record { before = S.faults source.old; after = S.faults source.new }; disk = counts 0 0; writes = record { before = O.faults ends.entry.output.now; after = O.faults result.0.output.now }; from = O.taken ends.entry.output.now; to = O.taken result.0.output.now })
         counter.old.capabilities counter.old.cabinet counter.new.cabinet result.1 }
     ensures same_input { result.0.input.ghost_name ≡ ends.entry.input.ghost_name }
     ensures same_output { result.0.output.ghost_name ≡ ends.entry.output.ghost_name }

@@ -22,13 +22,14 @@ use Rattle.tile_drill.specs.Drilling.{HasMade, HasMadeAll, Makes}
 use Rattle.tile_service.specs.Lines.{action_in}
 use Rattle.tile_drill.specs.Made.{Made as Line, drawn, made_line}
 use Rattle.tile_service.specs.OneLine.{seat_of}
-use Rattle.tile_service.specs.Outside.{Outside}
+use Rattle.tile_service.specs.Outside.{Outside, counts}
 use Rattle.tile_requests.specs.Requests.{Chance, calm}
 use Rattle.tile_service.specs.Run.{Answer, PendingRequest, World, answer_text, free_seats, line_done, output_of, run, world_of}
 use Rattle.tile_service.specs.Seats.{pending_at}
 use Rattle.tile_service.specs.CacheTally.{both, is_hit, is_miss, is_other, one_of, result_of, tally_of, total}
 use Rattle.tile_service.specs.Written.{LineEnds, Writes}
 use Rattle.tile_service.proofs.Far.{Far, ends_done, ends_upheld, far_next, far_start_free, free_same}
+use Rattle.tile_service.proofs.Faultless.{none_named}
 use Rattle.tile_drill.proofs.Speaking.{never_refused}
 
 -- MOMENTS
@@ -44,9 +45,9 @@ pub record Moment : Type 0 where
   pub x : ℕ
   pub text : List ℕ
 
--- what is seen of the source and the output from one moment to another
+-- what is seen of the source, of the output and of a disk, which a cabinet in memory has not, from one moment to another
 abbrev pub seen : Moment → Moment → Outside
-seen a b = record { told = a.told; renders = record { before = a.renders; after = b.renders }; writes = record { before = 0; after = 0 }; from = Some a.text; to = Some b.text }
+seen a b = record { told = a.told; renders = record { before = a.renders; after = b.renders }; disk = counts 0 0; writes = counts 0 0; from = Some a.text; to = Some b.text }
 
 -- the world at a moment, by what the actors are busy with
 abbrev world_at : Moment → List (Option PendingRequest) → World
@@ -105,7 +106,7 @@ pub record HasDrilled (start now : Moment) (lines : ℕ) (tally : CacheTally) : 
   pub few : total tally ≤ lines
   pub written : now.text ≡ flat_map (answer_text start.document) answers
   pub told : now.told ≡ start.told
-  pub far : Far start.told start.renders now.renders (world_at start free_seats) done chances answers lines (world_at now busy)
+  pub far : Far start.told start.renders now.renders (counts 0 0) (world_at start free_seats) done chances answers lines (world_at now busy)
 
 abbrev pub drilled_start : {start : Moment} → start.seats ≡ replicate ACTORS seat.Free → start.text ≡ [] → HasDrilled start start 0 (record { hits = 0; misses = 0; others = 0 })
 drilled_start {start} free empty =
@@ -121,7 +122,7 @@ drilled_start {start} free empty =
       few = omega arith;
       written = empty;
       told = refl;
-      far = far_start_free start.told start.renders start.cabinet start.document;
+      far = far_start_free start.told start.renders 0 start.cabinet start.document;
     }
 
 -- ONE LINE MORE
@@ -200,7 +201,7 @@ module _ {start now : Moment} {lines : ℕ} {tally : CacheTally} (f : HasDrilled
   all_run = ap (λ ls. run (world_at start free_seats) 1 ls f.chances) all_lines ∙ ends_done f.far
 
   pub all_drilled : IsDrilled start.told (record { before = start.renders; after = now.renders }) (world_at start free_seats) start.x lines f.chances (world_at now f.busy)
-  all_drilled = record { ends = ap (λ r. r.refused) all_run; world = sym (ap (λ r. r.world) all_run); upheld = ends_upheld f.far _ None all_run }
+  all_drilled = record { ends = ap (λ r. r.refused) all_run; world = sym (ap (λ r. r.world) all_run); faultless = none_named f.chances f.far.faults; upheld = ends_upheld f.far _ None all_run }
 
   pub drilled_done : lines ≡ line_count → HasEnded start now (made_end.Done tally (sha256 now.text))
   drilled_done e =

@@ -15,7 +15,7 @@ use Rattle.tile_service.specs.declared.cache_tally.CacheResult.TheVariants.{Hit,
 use Rattle.tile_service.specs.declared.cache_tally.CacheTally.{CacheTally}
 use Rattle.tile_drill.specs.Drill.{Drills, counts_text, digest_text, drill_run, line_count, summary}
 use Rattle.tile_drill.specs.Drilling.{HasMade}
-use Rattle.tile_service.specs.Outside.{FaultCounts, Outside}
+use Rattle.tile_service.specs.Outside.{FaultCounts, Outside, counts}
 use Rattle.tile_service.specs.Run.{Answer, Run, World, closed, free_seats, left_by, output_of, world_of}
 use Rattle.tile_requests.specs.Sent.{AppendsFront}
 use Rattle.tile_service.specs.CacheTally.{is_hit, is_miss, is_other, result_of, tally_of, total}
@@ -44,7 +44,7 @@ summary_is document number r tally digest e f = rw (e, f, total_is r.answers) re
 -- ENDS
 
 abbrev outside : Option ℕ → FaultCounts → FaultCounts → Option (List ℕ) → Option (List ℕ) → Outside
-outside told renders writes from to = record { told = told; renders = renders; writes = writes; from = from; to = to }
+outside told renders writes from to = record { told = told; renders = renders; disk = counts 0 0; writes = writes; from = from; to = to }
 
 abbrev no_faults : FaultCounts
 no_faults = record { before = 0; after = 0 }

@@ -1,6 +1,7 @@
 -- The drill: lines that are made one after another, the run of them, and its summary.
 use Rattle.std.specs.Prelude.{ℕ, zero, suc, ◌≡◌, ◌≤◌, ◌+◌, Bool, true, false, List, [], ◌∷◌, ◌++◌, length, decimal, Option, Some, None, slice_get, codes}
 use Rattle.std.specs.Io.KnownBytes.{Appends}
+use Rattle.std.specs.List.{AllByRecursion}
 use Rattle.causes.specs.Causes.{Rose}
 use Rattle.hex.specs.Hex.{encode_lower}
 use Rattle.sha2.specs.Sha256.{sha256}
@@ -11,7 +12,7 @@ use Rattle.tile_service.specs.Lines.{action_in}
 use Rattle.tile_drill.specs.Made.{Made, drawn, made_line}
 use Rattle.tile_service.specs.Outside.{FaultCounts, Outside}
 use Rattle.tile_requests.specs.Requests.{Chance}
-use Rattle.tile_service.specs.Run.{Answer, PendingRequest, Run, World, closed, first_of, line_done, output_of, rest_of, run}
+use Rattle.tile_service.specs.Run.{Answer, IsFaultless, PendingRequest, Run, World, closed, first_of, line_done, output_of, rest_of, run}
 use Rattle.tile_service.specs.Schedules.{IsUpheld}
 use Rattle.tile_requests.specs.Sent.{AppendsFront}
 use Rattle.tile_service.specs.CacheTally.{tally_of}
@@ -51,10 +52,12 @@ drill_lines count w number chances = made_lines count w 1 number chances
 abbrev pub drill_run : ℕ → World → ℕ → List Chance → Run
 drill_run count w number chances = run w 1 (drill_lines count w number chances) chances
 
--- From w so many lines of the drill were run under these chances; none was refused, and what is promised of the answers holds.
+-- From w so many lines of the drill were run under these chances; none was refused, and what is promised of the answers holds. The
+-- cabinet is one in memory: no chance names a fault of a disk.
 pub record IsDrilled (told : Option ℕ) (renders : FaultCounts) (w : World) (number count : ℕ) (chances : List Chance) (t : World) : Type 0 where
   pub ends : (drill_run count w number chances).refused ≡ None
   pub world : t ≡ (drill_run count w number chances).world
+  pub faultless : AllByRecursion IsFaultless chances
   pub upheld : IsUpheld told renders w (drill_run count w number chances)
 
 -- THE SUMMARY

@@ -2,10 +2,12 @@
 ghost use Rattle.std.specs.Prelude.{◌≡◌};
 ghost use Rattle.catalog.specs.Valid.{IsValid};
 ghost use Rattle.tile_drill.specs.Drill.{Drills};
+ghost use Rattle.tile_service.specs.Outside.{counts};
 ghost use Rattle.tile_service.specs.Run.{free_seats, world_of};
 
 use crate::drill_run::{MadeEnd, run_made_lines};
 use crate::summary::send_summary;
+use cabinet::cabinet::Cabinet;
 use http_wire::streams::ByteSink;
 use source_render::source::Source;
 use std::alloc::Global;
@@ -28,14 +30,14 @@ pub enum DrillEnd {
 /// is, the actors that are busy give up.
 pub fn run_drill<S: Source, O: ByteSink>(
     alloc: Global,
-    counter: &mut Counter,
+    counter: &mut Counter<Cabinet>,
     source: &mut S,
     number: u32,
     output: &mut O,
 ) -> DrillEnd
     requires { IsValid counter.old.cabinet.catalogue }
     ensures { Drills
-        (record { told = S.told source.old; renders = record { before = S.faults source.old; after = S.faults source.new }; writes = record { before = O.faults output.old; after = O.faults output.new }; from = O.taken output.old; to = O.taken output.new })
+        (record { told = S.told source.old; renders = record { before = S.faults source.old; after = S.faults source.new }; disk = counts 0 0; writes = record { before = O.faults output.old; after = O.faults output.new }; from = O.taken output.old; to = O.taken output.new })
         (output.new ≡ output.old) number
         (world_of counter.old.cabinet counter.old.capabilities free_seats) (world_of counter.new.cabinet counter.new.capabilities free_seats) result }
 {

@@ -3,11 +3,13 @@ ghost use Rattle.std.specs.Prelude.{◌≡◌, List, Option, Some, IfOk, OnErr, 
 ghost use Rattle.catalog.specs.Valid.{IsValid};
 ghost use Rattle.tile_drill.specs.Drilling.{HasMade, Makes};
 ghost use Rattle.tile_service.specs.OneLine.{IsSeated, seat_of};
+ghost use Rattle.tile_service.specs.Outside.{counts};
 ghost use Rattle.tile_service.specs.Run.{PendingRequest, free_seats, world_of};
 
 use crate::digest_sink::DigestSink;
 use crate::draws::Draws;
 use crate::drill_lines::made_line;
+use cabinet::cabinet::Cabinet;
 use source_render::source::Source;
 use std::alloc::{AllocError, Global};
 use tile_service::cache_tally::CacheTally;
@@ -30,7 +32,7 @@ pub enum MadeEnd {
 /// Makes line `n` and runs it. `AllocError` where memory runs out for its text, and then nothing happened.
 fn run_made_line<S: Source>(
     alloc: Global,
-    counter: &mut Counter,
+    counter: &mut Counter<Cabinet>,
     seats: &mut [Seat],
     source: &mut S,
     output: &mut DigestSink,
@@ -40,7 +42,7 @@ fn run_made_line<S: Source>(
     requires valid { IsValid counter.old.cabinet.catalogue }
     requires seated { (busy : List (Option PendingRequest)) × IsSeated counter.old.cabinet counter.old.capabilities seats.old busy }
     ensures makes { IfOk result (λ end. Makes
-        (record { told = S.told source.old; renders = record { before = S.faults source.old; after = S.faults source.new }; writes = record { before = 0; after = 0 }; from = Some output.old; to = Some output.new })
+        (record { told = S.told source.old; renders = record { before = S.faults source.old; after = S.faults source.new }; disk = counts 0 0; writes = counts 0 0; from = Some output.old; to = Some output.new })
         counter.old.cabinet counter.old.capabilities seats.old n draws.old.x counter.new.cabinet seats.new draws.new.x end) }
     ensures err { OnErr result ((counter.new ≡ counter.old) × (seats.new ≡ seats.old) × (source.new ≡ source.old)) }
     ensures catalogue { counter.new.cabinet.catalogue ≡ counter.old.cabinet.catalogue }
@@ -54,7 +56,7 @@ fn run_made_line<S: Source>(
 /// Makes and runs the lines of the drill of a number, while no actor is busy yet.
 pub fn run_made_lines<S: Source>(
     alloc: Global,
-    counter: &mut Counter,
+    counter: &mut Counter<Cabinet>,
     seats: &mut [Seat],
     source: &mut S,
     number: u32,

@@ -13,7 +13,7 @@ use Rattle.cache_core.specs.Advanced.{Advances}
 use Rattle.cache_core.specs.Begun.{Begins}
 use Rattle.cache_core.specs.Fits.{IsFit, IsFreshActor, Extends, place_of}
 use Rattle.cache_core.specs.Shown.{shown, IsFailed, IsIdle}
-use Rattle.cache_core.specs.Steps.{Stepped, given, unless_busy, unless_kept, began, advanced}
+use Rattle.cache_core.specs.Steps.{Stepped, given, unless_busy, unless_kept, unless_unread, began, advanced}
 use Rattle.causes.specs.Causes.{Rose}
 use Rattle.matrix_geometry.specs.declared.address.Address.{Address}
 use Rattle.metatile_locks.specs.Running.{running_for}
@@ -54,15 +54,15 @@ plain_kept : (s : State) (a : Address) (bytes : Option (ℕ → ℕ)) (t : Optio
 plain_kept s a bytes (Some t) = (refl, refl)
 plain_kept s a bytes None = plain_busy s a false (running_for (block_of s.catalogue a) (now s).out)
 
-plain_began : (s : State) (a : Address) (force left : Bool) (n : ℕ) (bytes : Option (ℕ → ℕ)) → Plain (began s a force left n bytes)
-plain_began s a force false n bytes = (refl, refl)
-plain_began s a true true n bytes = let u = asked_at n s in plain_busy u a true (running_for (block_of s.catalogue a) (now u).out)
-plain_began s a false true n bytes = let u = asked_at n s in plain_kept u a bytes (answering u a)
+plain_began : (s : State) (a : Address) (force left : Bool) (n : ℕ) (unread : Bool) (bytes : Option (ℕ → ℕ)) → Plain (began s a force left n unread bytes)
+plain_began s a force false n unread bytes = (refl, refl)
+plain_began s a true true n unread bytes = let u = asked_at n s in plain_busy u a true (running_for (block_of s.catalogue a) (now u).out)
+plain_began s a false true n unread bytes = let u = asked_at n s in plain_kept u a bytes (unless_unread unread (answering u a))
 
-pub begun_moves : (told : Option ℕ) (n : ℕ) (s : State) (a : Address) (force : Bool) (step : Step) (t : State) → Begins s a force step t → Moves told n n s actor.Idle a (length s.history) step t
-begun_moves told n s a force step t h =
+pub begun_moves : (told : Option ℕ) (n disk_before disk_after : ℕ) (s : State) (a : Address) (force : Bool) (step : Step) (t : State) → Begins disk_before disk_after s a force step t → Moves told n n s actor.Idle a (length s.history) step t
+begun_moves told n disk_before disk_after s a force step t h =
     let P : Stepped → Type 0 = Plain in
-    let plain : Plain (shown step t) = subst P (sym h.began) (plain_began s a force h.left h.moment h.bytes) in
+    let plain : Plain (shown step t) = subst P (sym h.began) (plain_began s a force h.left h.moment h.unread h.bytes) in
     let none = plain.1 in
     record {
       fits = h.fits;
@@ -84,20 +84,20 @@ begun_moves told n s a force step t h =
 abbrev Further : Actor → Stepped → Type 0
 Further x r = GoesOn r.actor r.outcome × ((failing r.outcome + owed r.actor ≤ owed x) ⊎ (IsFailed r.actor × (failing r.outcome + owed r.actor ≤ owed x + 1)))
 
-further_after : (s : State) (x : Actor) (left : Bool) (n : ℕ) (bytes : Option (ℕ → ℕ)) → (IsIdle x → ⊥) → Further x (advanced s x left n bytes)
-further_after s actor.Idle left n bytes busy = absurd (busy tt)
-further_after s (actor.Waiting a force) left n bytes busy = let p = plain_began s a force left n bytes in let none = p.1 in (p.0, inl (omega arith))
-further_after s (actor.Holding t a) false n bytes busy = (refl, inl (omega arith))
-further_after s (actor.Holding t a) true n None busy = (λ idle. idle, inr (tt, omega arith))
-further_after s (actor.Holding t a) true n (Some bytes) busy = (λ idle. idle, inl (omega arith))
-further_after s (actor.Rendered t text tile) left n bytes busy = (refl, inl (omega arith))
-further_after s (actor.Failed t) left n bytes busy = (refl, inl (omega arith))
+further_after : (s : State) (x : Actor) (left : Bool) (n : ℕ) (unread : Bool) (bytes : Option (ℕ → ℕ)) (unwritten : Bool) → (IsIdle x → ⊥) → Further x (advanced s x left n unread bytes unwritten)
+further_after s actor.Idle left n unread bytes unwritten busy = absurd (busy tt)
+further_after s (actor.Waiting a force) left n unread bytes unwritten busy = let p = plain_began s a force left n unread bytes in let none = p.1 in (p.0, inl (omega arith))
+further_after s (actor.Holding t a) false n unread bytes unwritten busy = (refl, inl (omega arith))
+further_after s (actor.Holding t a) true n unread None unwritten busy = (λ idle. idle, inr (tt, omega arith))
+further_after s (actor.Holding t a) true n unread (Some bytes) unwritten busy = (λ idle. idle, inl (omega arith))
+further_after s (actor.Rendered t text tile) left n unread bytes unwritten busy = (refl, inl (omega arith))
+further_after s (actor.Failed t) left n unread bytes unwritten busy = (refl, inl (omega arith))
 
 -- a request goes on after an event, or has its outcome
-pub advance_goes : (told : Option ℕ) (before after : ℕ) (s : State) (x : Actor) (step : Step) (t : State) → (IsIdle x → ⊥) → Advances told before after s x step t → GoesOn step.actor step.outcome
-advance_goes told before after s x step t busy h =
+pub advance_goes : (told : Option ℕ) (before after disk_before disk_after : ℕ) (s : State) (x : Actor) (step : Step) (t : State) → (IsIdle x → ⊥) → Advances told before after disk_before disk_after s x step t → GoesOn step.actor step.outcome
+advance_goes told before after disk_before disk_after s x step t busy h =
     let P : Stepped → Type 0 = Further x in
-    let after_it : Further x (shown step t) = subst P (sym h.advanced) (further_after s x h.left h.moment h.bytes busy) in
+    let after_it : Further x (shown step t) = subst P (sym h.advanced) (further_after s x h.left h.moment h.unread h.bytes h.unwritten busy) in
     after_it.0
 
 place_within : (x : Actor) (here p : ℕ) → p ≤ here → place_of x here p ≤ here
@@ -107,12 +107,12 @@ place_within (actor.Holding t a) here p l = l
 place_within (actor.Rendered t text tile) here p l = l
 place_within (actor.Failed t) here p l = l
 
-pub advance_moves : (told : Option ℕ) (before after : ℕ) (s : State) (x : Actor) (a : Address) (p : ℕ) (step : Step) (t : State)
-    → IsFit s.catalogue a x → (IsIdle x → ⊥) → p ≤ length s.history → IsFreshActor s.catalogue s.history p a x → Advances told before after s x step t
+pub advance_moves : (told : Option ℕ) (before after disk_before disk_after : ℕ) (s : State) (x : Actor) (a : Address) (p : ℕ) (step : Step) (t : State)
+    → IsFit s.catalogue a x → (IsIdle x → ⊥) → p ≤ length s.history → IsFreshActor s.catalogue s.history p a x → Advances told before after disk_before disk_after s x step t
     → Moves told before after s x a (place_of x (length s.history) p) step t
-advance_moves told before after s x a p step t fit busy within fresh h =
+advance_moves told before after disk_before disk_after s x a p step t fit busy within fresh h =
     let P : Stepped → Type 0 = Further x in
-    let after_it : Further x (shown step t) = subst P (sym h.advanced) (further_after s x h.left h.moment h.bytes busy) in
+    let after_it : Further x (shown step t) = subst P (sym h.advanced) (further_after s x h.left h.moment h.unread h.bytes h.unwritten busy) in
     record {
       fits = h.fits a fit;
       goes_on = after_it.0;
@@ -171,9 +171,9 @@ place_stays (actor.Rendered t text tile) here p e = refl
 place_stays (actor.Failed t) here p e = refl
 
 -- the actor goes further, where it has work
-pub moves_further : (told : Option ℕ) (before mid after : ℕ) (s u t : State) (first : Actor) (a : Address) (p : ℕ) (old step : Step) → Moves told before mid s first a p old u → p ≤ length u.history
-    → GoesFurther told mid after u old step t → Moves told before after s first a p step t
-moves_further told before mid after s u t first a p old step m within (inl h) =
+pub moves_further : (told : Option ℕ) (before mid after disk_mid disk_after : ℕ) (s u t : State) (first : Actor) (a : Address) (p : ℕ) (old step : Step) → Moves told before mid s first a p old u → p ≤ length u.history
+    → GoesFurther told mid after disk_mid disk_after u old step t → Moves told before after s first a p step t
+moves_further told before mid after disk_mid disk_after s u t first a p old step m within (inl h) =
     let P : Step → State → Type 0 = λ x y. Moves told before after s first a p x y in
     let stays : Moves told before after s first a p old u =
     record {
@@ -191,8 +191,8 @@ moves_further told before mid after s u t first a p old step m within (inl h) =
       catalogue = m.catalogue;
     } in
     rw (h.1, h.2) stays
-moves_further told before mid after s u t first a p old step m within (inr h) =
+moves_further told before mid after disk_mid disk_after s u t first a p old step m within (inr h) =
     let Q : ℕ → Type 0 = λ q. Moves told mid after u old.actor a q step t in
     joined told before mid after s u t first a p old step m
     (subst Q (place_stays old.actor (length u.history) p h.0)
-    (advance_moves told mid after u old.actor a p step t (rw m.catalogue m.fits) (busy_at_work old.actor h.0) within (rw m.catalogue m.held_fresh) h.1))
+    (advance_moves told mid after disk_mid disk_after u old.actor a p step t (rw m.catalogue m.fits) (busy_at_work old.actor h.0) within (rw m.catalogue m.held_fresh) h.1))

@@ -13,7 +13,7 @@ use Rattle.cache_core.specs.Shown.{shown, IsIdle}
 use Rattle.causes.specs.Causes.{RoseBy}
 use Rattle.matrix_geometry.specs.declared.address.Address.{Address}
 use Rattle.tile_requests.specs.declared.request.Mode.{Mode}
-use Rattle.tile_requests.specs.Requests.{Chance, is_at_work, events, owed}
+use Rattle.tile_requests.specs.Requests.{Chance, disk_faults_in, is_at_work, events, owed}
 
 -- where so many failures, and others beside them, were no more than a count rose by, so many now are no more than it rose by
 abbrev pub StayCovered : ℕ → ℕ → ℕ → ℕ → Type 0
@@ -49,12 +49,14 @@ pub record Moves (told : Option ℕ) (before after : ℕ) (s : State) (first : A
   pub catalogue : t.catalogue ≡ s.catalogue
 
 -- one more event of an actor that has work
-abbrev pub GoesFurther : Option ℕ → ℕ → ℕ → State → Step → Step → State → Type 0
-GoesFurther told before after s old step t =
-    ((is_at_work old.actor ≡ false) × (step ≡ old) × (t ≡ s) × (before ≤ after)) ⊎ ((is_at_work old.actor ≡ true) × Advances told before after s old.actor step t)
+abbrev pub GoesFurther : Option ℕ → ℕ → ℕ → ℕ → ℕ → State → Step → Step → State → Type 0
+GoesFurther told before after disk_before disk_after s old step t =
+    ((is_at_work old.actor ≡ false) × (step ≡ old) × (t ≡ s) × (before ≤ after) × (disk_before ≤ disk_after)) ⊎ ((is_at_work old.actor ≡ true) × Advances told before after disk_before disk_after s old.actor step t)
 
--- the events of the line that asks for the tile, under some chance
-pub record Opens (told : Option ℕ) (before after : ℕ) (s : State) (a : Address) (mode : Mode) (step : Step) (t : State) : Type 0 where
+-- the events of the line that asks for the tile, under some chance, which names no more faults of the disk than its count rose by
+pub record Opens (told : Option ℕ) (before after disk_before disk_after : ℕ) (s : State) (a : Address) (mode : Mode) (step : Step) (t : State) : Type 0 where
   pub chance : Chance
   pub made : shown step t ≡ events mode s a chance
+  pub disk_later : disk_before ≤ disk_after
+  pub disk_cause : RoseBy (disk_faults_in chance) disk_before disk_after
   pub moves : Moves told before after s actor.Idle a (length s.history) step t

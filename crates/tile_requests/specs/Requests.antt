@@ -1,17 +1,18 @@
 -- A request and its events in a line, as a function of the cabinet. What happens by chance in a line, that memory runs out,
--- which moment the clock gives, and which bytes a rendering gives or that it fails, is taken as it happened, and so are the bytes of a
--- kept blob where blobs are not modelled; all else is fixed.
+-- which moment the clock gives, which bytes a rendering gives or that it fails, and that a disk fails, is taken as it happened, and so
+-- are the bytes of a kept blob where blobs are not modelled; all else is fixed.
 use Rattle.std.specs.Prelude.{length, nat_lt, ℕ, ◌≡◌, Bool, true, false, if◌then◌else◌, List, Option, Some, None, IfSome, ⊤}
+use Rattle.cabinet.specs.declared.entry.Entry.TheVariants as entry
 use Rattle.cabinet.specs.Fresh.{IsFresh}
 use Rattle.cabinet.specs.Commands.{book_before}
 use Rattle.cabinet.specs.Counted.{scope_exceeded, victim_in}
 use Rattle.cabinet.specs.History.{History, next}
-use Rattle.cabinet.specs.State.{State, now, with_cut, with_dropped}
+use Rattle.cabinet.specs.State.{State, now, with_cut, with_dropped, with_entry}
 use Rattle.cache_core.specs.declared.actor.Actor.{Actor}
 use Rattle.cache_core.specs.declared.actor.Actor.TheVariants.{Idle, Waiting, Holding, Rendered, Failed}
 use Rattle.cache_core.specs.declared.outcome.TileOutcome.TheVariants as core
 use Rattle.cache_core.specs.declared.outcome.TileOutcome as cached
-use Rattle.cache_core.specs.Steps.{Stepped, began, advanced}
+use Rattle.cache_core.specs.Steps.{Stepped, began, advanced, disk_faults}
 use Rattle.catalog.specs.declared.catalogue.Catalogue.{Catalogue}
 use Rattle.catalog.specs.declared.catalogue.Scope.{Scope}
 use Rattle.catalog.specs.LookUp.{IsTile}
@@ -33,18 +34,25 @@ use Rattle.tile_requests.specs.Texts.{usage_text, dropped_text}
 -- What happened by chance in a line. Memory was left or not: to read its request; for its first ask or force or its truncation; for
 -- what follows, or the text that it tells; and for the body of its answer, where one is made. The moment is the one that the clock
 -- gave to its ask or force, in seconds. The bytes are those that the rendering gave, by their places in the blob, or none where it failed; where
--- blobs are not modelled they are those of the kept blob that was read.
+-- blobs are not modelled they are those of the kept blob that was read. The disk failed or not: what is kept went unread at the ask; and
+-- the blob, the truncation or the expiry went unwritten.
 pub record Chance : Type 0 where
   pub read : Bool
   pub ask : Bool
   pub moment : ℕ
+  pub unread : Bool
   pub work : Bool
   pub bytes : Option (ℕ → ℕ)
+  pub unwritten : Bool
   pub left : Bool
 
 -- nothing happened by chance
 abbrev pub calm : Chance
-calm = record { read = true; ask = true; moment = 0; work = true; bytes = None; left = true }
+calm = record { read = true; ask = true; moment = 0; unread = false; work = true; bytes = None; unwritten = false; left = true }
+
+-- how many faults of the disk a chance names
+abbrev pub disk_faults_in : Chance → ℕ
+disk_faults_in c = disk_faults c.unread c.unwritten
 
 -- THE EVENTS OF A LINE
 
@@ -57,7 +65,7 @@ is_at_work (Rendered t blob tile) = true
 is_at_work (Failed t) = true
 
 abbrev pub further : Chance → Stepped → Stepped
-further c r = if is_at_work r.actor then advanced r.cabinet r.actor c.work c.moment c.bytes else r
+further c r = if is_at_work r.actor then advanced r.cabinet r.actor c.work c.moment c.unread c.bytes c.unwritten else r
 
 -- the render and the finish follow in the same line
 abbrev pub carried_on : Chance → Stepped → Stepped
@@ -66,9 +74,9 @@ carried_on c r = further c (further c r)
 -- the events of the line that asks for a tile: a GET goes on until it is answered or waits; an ask and a force stay the one
 -- event
 abbrev pub events : Mode → State → Address → Chance → Stepped
-events Gets s a c = carried_on c (began s a false c.ask c.moment c.bytes)
-events Asks s a c = began s a false c.ask c.moment c.bytes
-events Forces s a c = began s a true c.ask c.moment c.bytes
+events Gets s a c = carried_on c (began s a false c.ask c.moment c.unread c.bytes)
+events Asks s a c = began s a false c.ask c.moment c.unread c.bytes
+events Forces s a c = began s a true c.ask c.moment c.unread c.bytes
 
 -- the outcome of a request for a tile as that of a request
 abbrev pub outcome_of : cached.TileOutcome → Outcome
@@ -97,6 +105,7 @@ is_made outcome.CutSpent = false
 is_made (outcome.Unformed fault) = true
 is_made (outcome.Dropped text) = false
 is_made outcome.Within = false
+is_made outcome.DiskFault = false
 is_made outcome.NoMemory = false
 
 -- what is answered: where no memory is left for the text that is to be made, that
@@ -110,28 +119,34 @@ answered_at false o = if is_made o then outcome.NoMemory else o
 abbrev pub told_usage : State → Bool → Outcome
 told_usage s left = told_at left (outcome.Usage (usage_text s))
 
+-- the truncation is written down, or goes unwritten, and then its number is spent
+abbrev pub cut_at : State → Cover → ℕ → Bool → State × Outcome
+cut_at s cover t true = (with_entry s (entry.Missed t), outcome.DiskFault)
+cut_at s cover t false = (with_cut s t cover, outcome.Cut t)
+
 -- the cover is cut, unless as many cuts would stay in force as may be, or no number is left
-abbrev pub cut_by : State → Cover → Option ℕ → State × Outcome
-cut_by s cover None = (s, outcome.CutSpent)
-cut_by s cover (Some t) = if nat_lt (length (book_before s cover).cuts) s.catalogue.cut_limit then (with_cut s t cover, outcome.Cut t) else (s, outcome.CutsFull)
+abbrev pub cut_by : State → Cover → Bool → Option ℕ → State × Outcome
+cut_by s cover unwritten None = (s, outcome.CutSpent)
+cut_by s cover unwritten (Some t) = if nat_lt (length (book_before s cover).cuts) s.catalogue.cut_limit then cut_at s cover t unwritten else (s, outcome.CutsFull)
 
 -- a truncation, while memory is left
-abbrev pub cut : State → Cover → Bool → State × Outcome
-cut s cover left = if left then cut_by s cover (next s.opening (now s)) else (s, outcome.NoMemory)
+abbrev pub cut : State → Cover → Bool → Bool → State × Outcome
+cut s cover left unwritten = if left then cut_by s cover unwritten (next s.opening (now s)) else (s, outcome.NoMemory)
 
 -- a metatile is dropped, whether memory is left to tell it or not
 abbrev pub dropped : State → Bool → Option MetaKey → State × Outcome
 dropped s left None = (s, outcome.Within)
 dropped s left (Some m) = (with_dropped s m, told_at left (outcome.Dropped (dropped_text s.catalogue m)))
 
--- that of the scope whose quota is exceeded
-abbrev pub expired_in : State → Bool → Option Scope → State × Outcome
-expired_in s left None = (s, outcome.Within)
-expired_in s left (Some scope) = dropped s left (victim_in s scope)
+-- that of the scope whose quota is exceeded, unless the expiry goes unwritten
+abbrev pub expired_in : State → Bool → Option Scope → Bool → State × Outcome
+expired_in s left None unwritten = (s, outcome.Within)
+expired_in s left (Some scope) true = (s, outcome.DiskFault)
+expired_in s left (Some scope) false = dropped s left (victim_in s scope)
 
 -- an expiry
-abbrev pub expired : State → Bool → State × Outcome
-expired s left = expired_in s left (scope_exceeded s)
+abbrev pub expired : State → Bool → Bool → State × Outcome
+expired s left unwritten = expired_in s left (scope_exceeded s) unwritten
 
 -- WHAT IS SAID OF REQUESTS
 
@@ -171,6 +186,7 @@ tile_in outcome.CutSpent = None
 tile_in (outcome.Unformed fault) = None
 tile_in (outcome.Dropped text) = None
 tile_in outcome.Within = None
+tile_in outcome.DiskFault = None
 tile_in outcome.NoMemory = None
 
 -- a tile that is asked for is of the catalogue, and the cover of a truncation

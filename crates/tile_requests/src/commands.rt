@@ -1,21 +1,22 @@
 //! What is answered in one step from the cabinet.
-ghost use Rattle.std.specs.Prelude.{◌≡◌, Bool};
+ghost use Rattle.std.specs.Prelude.{◌≡◌, ◌≤◌, Bool};
 ghost use Rattle.catalog.specs.Valid.{IsValid};
 ghost use Rattle.served_covers.specs.OfCatalogue.{IsCoverOf};
+ghost use Rattle.tile_requests.specs.Immediate.{IsWritten};
 ghost use Rattle.tile_requests.specs.Requests.{cut, expired, told_usage};
 
 use crate::dropped::dropped_text;
 use crate::outcome::Outcome;
 use crate::usage::usage_text;
-use cabinet::cabinet::Cabinet;
+use cabinet::keeper::Keeper;
 use cabinet::replies::{CutReply, Expired};
 use std::alloc::Global;
 use truncation_list::cover::Cover;
 
 /// What is kept, as text.
-pub fn usage(alloc: Global, cabinet: &Cabinet) -> Outcome
-    requires { IsValid cabinet.now.catalogue }
-    ensures { (left : Bool) × (result ≡ told_usage cabinet.now left) }
+pub fn usage<C: Keeper>(alloc: Global, cabinet: &C) -> Outcome
+    requires { IsValid (C.state cabinet.now).catalogue }
+    ensures { (left : Bool) × (result ≡ told_usage (C.state cabinet.now) left) }
 {
     match usage_text(alloc, cabinet) {
         Ok(text) => Outcome::Usage(text),
@@ -24,12 +25,14 @@ pub fn usage(alloc: Global, cabinet: &Cabinet) -> Outcome
 }
 
 /// A truncation.
-pub fn cut(alloc: Global, cabinet: &mut Cabinet, cover: &Cover) -> Outcome
-    requires { IsCoverOf cabinet.old.catalogue cover.now }
-    ensures { (left : Bool) × ((cabinet.new, result) ≡ cut cabinet.old cover.now left) }
+pub fn cut<C: Keeper>(alloc: Global, cabinet: &mut C, cover: &Cover) -> Outcome
+    requires { IsCoverOf (C.state cabinet.old).catalogue cover.now }
+    ensures done { (left : Bool) × IsWritten (C.faults cabinet.old) (C.faults cabinet.new) (cut (C.state cabinet.old) cover.now left) result (C.state cabinet.new) }
+    ensures later { C.faults cabinet.old ≤ C.faults cabinet.new }
 {
     match cabinet.cut(alloc, cover) {
         Ok(CutReply::Done(number)) => Outcome::Cut(number),
+        Ok(CutReply::DiskFault(_, _)) => Outcome::DiskFault,
         Ok(CutReply::Full) => Outcome::CutsFull,
         Ok(CutReply::Spent) => Outcome::CutSpent,
         Err(_) => Outcome::NoMemory,
@@ -37,11 +40,13 @@ pub fn cut(alloc: Global, cabinet: &mut Cabinet, cover: &Cover) -> Outcome
 }
 
 /// An expiry.
-pub fn expire(alloc: Global, cabinet: &mut Cabinet) -> Outcome
-    ensures { (left : Bool) × ((cabinet.new, result) ≡ expired cabinet.old left) }
+pub fn expire<C: Keeper>(alloc: Global, cabinet: &mut C) -> Outcome
+    ensures done { (left : Bool) × IsWritten (C.faults cabinet.old) (C.faults cabinet.new) (expired (C.state cabinet.old) left) result (C.state cabinet.new) }
+    ensures later { C.faults cabinet.old ≤ C.faults cabinet.new }
 {
     match cabinet.expire() {
         Expired::Within => Outcome::Within,
+        Expired::DiskFault(_, _) => Outcome::DiskFault,
         Expired::Dropped(meta) => match dropped_text(alloc, cabinet.catalogue(), &meta) {
             Ok(text) => Outcome::Dropped(text),
             Err(_) => Outcome::NoMemory,

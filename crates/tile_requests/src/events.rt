@@ -8,7 +8,7 @@ ghost use Rattle.tile_requests.specs.Events.{GoesFurther, Opens};
 ghost use Rattle.tile_requests.specs.Requests.{is_at_work};
 
 use crate::request::Mode;
-use cabinet::cabinet::Cabinet;
+use cabinet::keeper::Keeper;
 use cache_core::actor::{Actor, Step};
 use cache_core::steps::{advance, begin};
 use matrix_geometry::address::Address;
@@ -27,9 +27,9 @@ fn is_at_work(actor: &Actor) -> bool
 }
 
 /// The next event of an actor that has work.
-fn further<S: Source>(alloc: Global, cabinet: &mut Cabinet, source: &mut S, step: Step) -> Step
-    requires { (a : Address) × IsFit cabinet.old.catalogue a step.actor }
-    ensures goes { GoesFurther (S.told source.old) (S.faults source.old) (S.faults source.new) cabinet.old step result cabinet.new }
+fn further<C: Keeper, S: Source>(alloc: Global, cabinet: &mut C, source: &mut S, step: Step) -> Step
+    requires { (a : Address) × IsFit (C.state cabinet.old).catalogue a step.actor }
+    ensures goes { GoesFurther (S.told source.old) (S.faults source.old) (S.faults source.new) (C.faults cabinet.old) (C.faults cabinet.new) (C.state cabinet.old) step result (C.state cabinet.new) }
     ensures told { S.told source.new ≡ S.told source.old }
 {
     if !is_at_work(&step.actor) {
@@ -40,15 +40,15 @@ fn further<S: Source>(alloc: Global, cabinet: &mut Cabinet, source: &mut S, step
 }
 
 /// The events of the line that asks for a tile.
-pub fn events<S: Source>(
+pub fn events<C: Keeper, S: Source>(
     alloc: Global,
-    cabinet: &mut Cabinet,
+    cabinet: &mut C,
     source: &mut S,
     address: &Address,
     mode: Mode,
 ) -> Step
-    requires { IsTile cabinet.old.catalogue address.now }
-    ensures opens { Opens (S.told source.old) (S.faults source.old) (S.faults source.new) cabinet.old address.now mode result cabinet.new }
+    requires { IsTile (C.state cabinet.old).catalogue address.now }
+    ensures opens { Opens (S.told source.old) (S.faults source.old) (S.faults source.new) (C.faults cabinet.old) (C.faults cabinet.new) (C.state cabinet.old) address.now mode result (C.state cabinet.new) }
     ensures told { S.told source.new ≡ S.told source.old }
 {
     match mode {

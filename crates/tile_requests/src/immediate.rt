@@ -1,5 +1,5 @@
 //! Requests that aren't for a tile: each has its outcome in one step.
-ghost use Rattle.std.specs.Prelude.{◌≡◌, None};
+ghost use Rattle.std.specs.Prelude.{◌≡◌, ◌≤◌, None};
 ghost use Rattle.catalog.specs.Valid.{IsValid};
 ghost use Rattle.tile_requests.specs.Immediate.{IsImmediate};
 ghost use Rattle.tile_requests.specs.Requests.{IsOf, tile_of};
@@ -7,16 +7,17 @@ ghost use Rattle.tile_requests.specs.Requests.{IsOf, tile_of};
 use crate::commands::{cut, expire, usage};
 use crate::outcome::Outcome;
 use crate::request::Request;
-use cabinet::cabinet::Cabinet;
+use cabinet::keeper::Keeper;
 use std::alloc::Global;
 
 /// Answers a request that isn't for a tile. Where memory runs out, its outcome says so.
-pub fn immediate(alloc: Global, cabinet: &mut Cabinet, request: Request) -> Outcome
-    requires valid { IsValid cabinet.old.catalogue }
-    requires of { IsOf cabinet.old.catalogue request }
+pub fn immediate<C: Keeper>(alloc: Global, cabinet: &mut C, request: Request) -> Outcome
+    requires valid { IsValid (C.state cabinet.old).catalogue }
+    requires of { IsOf (C.state cabinet.old).catalogue request }
     requires other { tile_of request ≡ None }
-    ensures immediate { IsImmediate cabinet.old request result cabinet.new }
-    ensures catalogue { cabinet.new.catalogue ≡ cabinet.old.catalogue }
+    ensures immediate { IsImmediate (C.faults cabinet.old) (C.faults cabinet.new) (C.state cabinet.old) request result (C.state cabinet.new) }
+    ensures catalogue { (C.state cabinet.new).catalogue ≡ (C.state cabinet.old).catalogue }
+    ensures later { C.faults cabinet.old ≤ C.faults cabinet.new }
 {
     match request {
         Request::Tile(_) => unreachable!(),

@@ -34,6 +34,8 @@ pub enum Outcome {
     Dropped(Words),
     /// No quota is exceeded; nothing was dropped.
     Within,
+    /// The disk failed at a truncation or an expiry, which was not done.
+    DiskFault,
     /// Memory ran out.
     NoMemory,
 }

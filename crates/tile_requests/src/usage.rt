@@ -4,7 +4,7 @@ ghost use Rattle.catalog.specs.Valid.{IsValid};
 ghost use Rattle.tile_requests.specs.Texts.{kept_counts_text, cuts_line, layer_line, layer_lines, quota_text, total_line, usage_text};
 
 use crate::numbers::add_number;
-use cabinet::cabinet::Cabinet;
+use cabinet::keeper::Keeper;
 use catalog::layer::Layer;
 use exact_ratio::words::Words;
 use std::alloc::{AllocError, Global};
@@ -38,14 +38,14 @@ fn add_counts(
 }
 
 /// Adds the line of a layer of this number.
-fn add_layer(
+fn add_layer<C: Keeper>(
     text: &mut Vec<u8>,
-    cabinet: &Cabinet,
+    cabinet: &C,
     number: u32,
     layer: &Layer,
 ) -> Result<(), AllocError>
-    requires { number < length cabinet.now.catalogue.layers }
-    ensures { OnOk result (text.new.items ≡ text.old.items ++ layer_line cabinet.now number layer.now) }
+    requires { number < length (C.state cabinet.now).catalogue.layers }
+    ensures { OnOk result (text.new.items ≡ text.old.items ++ layer_line (C.state cabinet.now) number layer.now) }
 {
     text.extend_from_slice(b"layer ")?;
     text.extend_from_slice(layer.id.bytes())?;
@@ -58,9 +58,9 @@ fn add_layer(
 }
 
 /// The lines of all layers.
-fn layer_lines(alloc: Global, cabinet: &Cabinet) -> Result<Vec<u8>, AllocError>
-    requires { IsValid cabinet.now.catalogue }
-    ensures { IfOk result (λ v. v.items ≡ layer_lines cabinet.now 0 cabinet.now.catalogue.layers) }
+fn layer_lines<C: Keeper>(alloc: Global, cabinet: &C) -> Result<Vec<u8>, AllocError>
+    requires { IsValid (C.state cabinet.now).catalogue }
+    ensures { IfOk result (λ v. v.items ≡ layer_lines (C.state cabinet.now) 0 (C.state cabinet.now).catalogue.layers) }
 {
     let mut text = Vec::new(alloc);
     let mut number = 0;
@@ -73,9 +73,9 @@ fn layer_lines(alloc: Global, cabinet: &Cabinet) -> Result<Vec<u8>, AllocError>
 }
 
 /// What is kept of each layer and of all of them, and how many truncations are in force. `AllocError` where memory runs out.
-pub fn usage_text(alloc: Global, cabinet: &Cabinet) -> Result<Words, AllocError>
-    requires { IsValid cabinet.now.catalogue }
-    ensures { IfOk result (λ text. text ≡ usage_text cabinet.now) }
+pub fn usage_text<C: Keeper>(alloc: Global, cabinet: &C) -> Result<Words, AllocError>
+    requires { IsValid (C.state cabinet.now).catalogue }
+    ensures { IfOk result (λ text. text ≡ usage_text (C.state cabinet.now)) }
 {
     let mut text = layer_lines(alloc, cabinet)?;
     text.extend_from_slice(b"total")?;

@@ -9,12 +9,12 @@ use Rattle.cabinet.specs.declared.entry.Entry.TheVariants as entry
 use Rattle.cabinet.specs.declared.kept.Kept.{Kept}
 use Rattle.cabinet.specs.Hits.{hits_of}
 use Rattle.cabinet.specs.History.{after, next, stored_entry}
-use Rattle.cabinet.specs.State.{State, asked_at, grown, now, with_entry, with_cut}
+use Rattle.cabinet.specs.State.{State, asked_at, grown, now, with_entry}
 use Rattle.cabinet.proofs.Rows.{now_more}
 use Rattle.cache_core.specs.declared.actor.Actor.TheVariants.{Idle}
 use Rattle.cache_core.specs.declared.outcome.TileOutcome as cached
 use Rattle.cache_core.specs.declared.outcome.TileOutcome.TheVariants as core
-use Rattle.cache_core.specs.Steps.{Stepped, abandoned, began, blob_of, ended, ends, finished, given, off, render_wanted, rendered, stored, ticket_for, unless_busy, unless_kept, with_room}
+use Rattle.cache_core.specs.Steps.{Stepped, abandoned, began, blob_of, ended, ends, finished, given, off, render_wanted, rendered, stored, ticket_for, unless_busy, unless_kept, unless_unread, with_room}
 use Rattle.catalog.specs.declared.catalogue.Scope.{Scope}
 use Rattle.matrix_geometry.specs.declared.address.Address.{Address}
 use Rattle.metatile_locks.specs.Running.{overtaken, render_of, running_for, unmarked, without}
@@ -25,7 +25,7 @@ use Rattle.raster_field.specs.Blocks.{block_of}
 use Rattle.tile_requests.specs.declared.outcome.Outcome.{Outcome}
 use Rattle.tile_requests.specs.declared.outcome.Outcome.TheVariants as outcome
 use Rattle.tile_requests.specs.declared.request.Mode.TheVariants.{Gets}
-use Rattle.tile_requests.specs.Requests.{Chance, further, carried_on, events, cut_by, cut, dropped, expired_in, expired}
+use Rattle.tile_requests.specs.Requests.{Chance, further, carried_on, events, cut_at, cut_by, cut, dropped, expired_in, expired}
 use Rattle.tile_service.specs.Session.{IsAtRest}
 use Rattle.truncation_list.specs.declared.cover.Cover.{Cover}
 
@@ -65,19 +65,20 @@ module _ (s : State) (k : ℕ) (m : MetaKey) (n : ℕ) (one : (now s).out ≡ un
   ended_rests : IsAtRest (with_entry s (entry.Ended k))
   ended_rests = runs_after s (entry.Ended k) ∙ none_left
 
-  stored_rests : (text : List ℕ) (place : Option ℕ) → IsAtRest (stored s ticket n text place)
-  stored_rests text None = ended_rests
-  stored_rests text (Some place) = runs_after s (stored_entry (kept_at ticket n place (length text))) ∙ none_left
+  stored_rests : (text : List ℕ) (place : Option ℕ) (unwritten : Bool) → IsAtRest (stored s ticket n text place unwritten)
+  stored_rests text None unwritten = ended_rests
+  stored_rests text (Some place) true = ended_rests
+  stored_rests text (Some place) false = runs_after s (stored_entry (kept_at ticket n place (length text))) ∙ none_left
 
-  with_room_rests : (text : List ℕ) (full : Bool) → IsAtRest (with_room s ticket n text full)
-  with_room_rests text true = ended_rests
-  with_room_rests text false = stored_rests text (place_for s (length text))
+  with_room_rests : (text : List ℕ) (unwritten full : Bool) → IsAtRest (with_room s ticket n text unwritten full)
+  with_room_rests text unwritten true = ended_rests
+  with_room_rests text unwritten false = stored_rests text (place_for s (length text)) unwritten
 
   pub abandoned_rests : IsAtRest (abandoned s ticket)
   abandoned_rests = subst (λ r. IsAtRest (off s ticket r)) (sym it_runs) ended_rests
 
-  pub finished_rests : (text : List ℕ) → IsAtRest (finished s ticket text)
-  finished_rests text = subst (λ r. IsAtRest (ended s ticket text r)) (sym it_runs) (with_room_rests text (nat_le s.catalogue.kept_limit (others s m)))
+  pub finished_rests : (text : List ℕ) (unwritten : Bool) → IsAtRest (finished s ticket text unwritten)
+  finished_rests text unwritten = subst (λ r. IsAtRest (ended s ticket text unwritten r)) (sym it_runs) (with_room_rests text unwritten (nat_le s.catalogue.kept_limit (others s m)))
 
 -- A GET
 
@@ -96,7 +97,7 @@ module _ (a : Address) (c : Chance) where
   rendered_done : (s : State) (k n : ℕ) → (now s).out ≡ unmarked k (block_of s.catalogue a) n ∷ [] → (left : Bool) (bytes : Option (ℕ → ℕ)) → IsDone (further c (rendered s (ticket_for s a k) a left bytes))
   rendered_done s k n one false bytes = done_at _ core.NoMemory (abandoned_rests s k (block_of s.catalogue a) n one)
   rendered_done s k n one true None = done_at _ core.SourceFailed (abandoned_rests s k (block_of s.catalogue a) n one)
-  rendered_done s k n one true (Some bytes) = done_at _ _ (finished_rests s k (block_of s.catalogue a) n one (blob_of s.catalogue (block_of s.catalogue a) bytes))
+  rendered_done s k n one true (Some bytes) = done_at _ _ (finished_rests s k (block_of s.catalogue a) n one (blob_of s.catalogue (block_of s.catalogue a) bytes) c.unwritten)
 
   given_done : (s : State) (n : Option ℕ) → IsAtRest s → IsDone (carried_on c (given s a n))
   given_done s None rest = done_at s core.Spent rest
@@ -109,13 +110,13 @@ module _ (a : Address) (c : Chance) where
   kept_done s bytes (Some t) rest = done_at _ _ (used_rests s (block_of s.catalogue a) rest)
   kept_done s bytes None rest = wanted_done s rest
 
-  began_done : (s : State) (left : Bool) (n : ℕ) (bytes : Option (ℕ → ℕ)) → IsAtRest s → IsDone (carried_on c (began s a false left n bytes))
-  began_done s false n bytes rest = done_at s core.NoMemory rest
-  began_done s true n bytes rest = kept_done (asked_at n s) bytes (answering (asked_at n s) a) (asked_rests s n rest)
+  began_done : (s : State) (left : Bool) (n : ℕ) (unread : Bool) (bytes : Option (ℕ → ℕ)) → IsAtRest s → IsDone (carried_on c (began s a false left n unread bytes))
+  began_done s false n unread bytes rest = done_at s core.NoMemory rest
+  began_done s true n unread bytes rest = kept_done (asked_at n s) bytes (unless_unread unread (answering (asked_at n s) a)) (asked_rests s n rest)
 
   -- where no render runs, a GET has its outcome in one line
   pub get_done : (s : State) → IsAtRest s → IsDone (events Gets s a c)
-  get_done s rest = began_done s c.ask c.moment c.bytes rest
+  get_done s rest = began_done s c.ask c.moment c.unread c.bytes rest
 
 -- COMMANDS
 
@@ -123,25 +124,30 @@ module _ (a : Address) (c : Chance) where
 abbrev pub RestsAfter : State × Outcome → Type 0
 RestsAfter done = IsAtRest done.0
 
-cover_rests : (s : State) (cover : Cover) (n : Option ℕ) → IsAtRest s → RestsAfter (cut_by s cover n)
-cover_rests s cover None rest = rest
-cover_rests s cover (Some t) rest = chosen (nat_lt (length (book_before s cover).cuts) s.catalogue.cut_limit)
+cut_at_rests : (s : State) (cover : Cover) (t : ℕ) (unwritten : Bool) → IsAtRest s → RestsAfter (cut_at s cover t unwritten)
+cut_at_rests s cover t true rest = runs_after s (entry.Missed t) ∙ rest
+cut_at_rests s cover t false rest = runs_after s (entry.Cut t cover) ∙ ap (overtaken (hits_of s.catalogue cover) t) rest
+
+cover_rests : (s : State) (cover : Cover) (unwritten : Bool) (n : Option ℕ) → IsAtRest s → RestsAfter (cut_by s cover unwritten n)
+cover_rests s cover unwritten None rest = rest
+cover_rests s cover unwritten (Some t) rest = chosen (nat_lt (length (book_before s cover).cuts) s.catalogue.cut_limit)
   where
-    chosen : (b : Bool) → RestsAfter (if b then (with_cut s t cover, outcome.Cut t) else (s, outcome.CutsFull))
-    chosen true = runs_after s (entry.Cut t cover) ∙ ap (overtaken (hits_of s.catalogue cover) t) rest
+    chosen : (b : Bool) → RestsAfter (if b then cut_at s cover t unwritten else (s, outcome.CutsFull))
+    chosen true = cut_at_rests s cover t unwritten rest
     chosen false = rest
 
-pub cut_rests : (s : State) (cover : Cover) (left : Bool) → IsAtRest s → RestsAfter (cut s cover left)
-cut_rests s cover true rest = cover_rests s cover (next s.opening (now s)) rest
-cut_rests s cover false rest = rest
+pub cut_rests : (s : State) (cover : Cover) (left unwritten : Bool) → IsAtRest s → RestsAfter (cut s cover left unwritten)
+cut_rests s cover true unwritten rest = cover_rests s cover unwritten (next s.opening (now s)) rest
+cut_rests s cover false unwritten rest = rest
 
 dropped_rests : (s : State) (left : Bool) (m : Option MetaKey) → IsAtRest s → RestsAfter (dropped s left m)
 dropped_rests s left None rest = rest
 dropped_rests s left (Some m) rest = runs_after s (entry.Dropped m) ∙ rest
 
-scope_rests : (s : State) (left : Bool) (o : Option Scope) → IsAtRest s → RestsAfter (expired_in s left o)
-scope_rests s left None rest = rest
-scope_rests s left (Some scope) rest = dropped_rests s left (victim_in s scope) rest
+scope_rests : (s : State) (left : Bool) (o : Option Scope) (unwritten : Bool) → IsAtRest s → RestsAfter (expired_in s left o unwritten)
+scope_rests s left None unwritten rest = rest
+scope_rests s left (Some scope) true rest = rest
+scope_rests s left (Some scope) false rest = dropped_rests s left (victim_in s scope) rest
 
-pub expired_rests : (s : State) (left : Bool) → IsAtRest s → RestsAfter (expired s left)
-expired_rests s left rest = scope_rests s left (scope_exceeded s) rest
+pub expired_rests : (s : State) (left unwritten : Bool) → IsAtRest s → RestsAfter (expired s left unwritten)
+expired_rests s left unwritten rest = scope_rests s left (scope_exceeded s) unwritten rest

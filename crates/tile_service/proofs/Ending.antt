@@ -37,7 +37,7 @@ unbegun {start} =
       answers = [];
       held = [];
       stand = stand_none start.wire.left;
-      served = is_served (served_start start.told start.renders start.document start.cabinet);
+      served = is_served (served_start start.told start.renders start.disk start.document start.cabinet);
       ends = (record { all_open = tt; few = omega arith }, appends_nothing start.wire.taken);
     }
 

@@ -19,7 +19,8 @@ use Rattle.tile_service.specs.declared.seats.TheConstants.{ACTORS}
 use Rattle.tile_service.specs.Lines.{action_in}
 use Rattle.tile_service.specs.OneLine.{IsLine, IsSeat, IsWorld, IsTrueSeat, IsTrueWorld, seat_of}
 use Rattle.tile_requests.specs.Requests.{Chance, calm, tile_of, tile_in, IsFreshTile}
-use Rattle.tile_service.specs.Run.{PendingRequest, free_seats, owed_at, World, Answer, Run, run, behind, line_done, failures, unanswered, IsTrue, IsFresh, IsFreshFor, world_of}
+use Rattle.tile_service.specs.Outside.{FaultCounts, counts}
+use Rattle.tile_service.specs.Run.{PendingRequest, free_seats, owed_at, World, Answer, Run, run, behind, disk_faults, line_done, failures, unanswered, IsTrue, IsFresh, IsFreshFor, world_of}
 use Rattle.tile_service.specs.Schedules.{IsUpheld}
 use Rattle.tile_requests.proofs.Moving.{within_longer}
 
@@ -52,10 +53,11 @@ all_fresh c h (a ∷ answers) all = (all.0.1, all_fresh c h answers all.1)
 -- HOW FAR
 
 -- n lines are done under these chances, and came to these answers
-pub record Far (told : Option ℕ) (before after : ℕ) (w : World) (done : List (List ℕ)) (made : List Chance) (answers : List Answer) (n : ℕ) (t : World) : Type 0 where
+pub record Far (told : Option ℕ) (before after : ℕ) (disk : FaultCounts) (w : World) (done : List (List ℕ)) (made : List Chance) (answers : List Answer) (n : ℕ) (t : World) : Type 0 where
   pub goes : (tail : List (List ℕ)) (more : List Chance) → run w 1 (done ++ tail) (made ++ more) ≡ behind answers (run t (n + 1) tail more)
   pub later : before ≤ after
   pub failed : RoseBy (failures answers + unanswered t.seats) before after
+  pub faults : RoseBy (disk_faults made) disk.before disk.after
   pub world : IsWorld t
   pub free : AllByRecursion (IsTrueSeat w.cabinet.catalogue) w.seats
   pub sound : told ≡ Some w.cabinet.catalogue.source → IsTrueWorld w → IsTrueWorld t
@@ -64,12 +66,13 @@ pub record Far (told : Option ℕ) (before after : ℕ) (w : World) (done : List
   pub catalogue : t.cabinet.catalogue ≡ w.cabinet.catalogue
   pub capabilities : t.capabilities ≡ w.capabilities
 
-far_start : (told : Option ℕ) (n : ℕ) (w : World) → IsWorld w → unanswered w.seats ≡ 0 → AllByRecursion (IsTrueSeat w.cabinet.catalogue) w.seats → Far told n n w [] [] [] 0 w
-far_start told n w world none free =
+far_start : (told : Option ℕ) (n faults : ℕ) (w : World) → IsWorld w → unanswered w.seats ≡ 0 → AllByRecursion (IsTrueSeat w.cabinet.catalogue) w.seats → Far told n n (counts faults faults) w [] [] [] 0 w
+far_start told n faults w world none free =
     record {
       goes = λ tail more. refl;
       later = omega arith;
       failed = omega arith;
+      faults = omega arith;
       world = world;
       free = free;
       sound = λ told is. is;
@@ -91,8 +94,8 @@ one_line : (t u : World) (n : ℕ) (line : List ℕ) (c : Chance) (news : List A
     → (tail : List (List ℕ)) (more : List Chance) → run t n (line ∷ tail) (c ∷ more) ≡ behind news (run u (n + 1) tail more)
 one_line t u n line c news e tail more = rw e refl
 
-module _ {told told' : Option ℕ} {before mid after : ℕ} {w : World} {done : List (List ℕ)} {made : List Chance} {answers : List Answer} {n : ℕ} {line : List ℕ} {t u : World} {news : List Answer}
-    (f : Far told before mid w done made answers n t) (same : told' ≡ told) (l : IsLine told' mid after t (n + 1) line u news) where
+module _ {told told' : Option ℕ} {before mid after disk_before disk_mid disk_after : ℕ} {w : World} {done : List (List ℕ)} {made : List Chance} {answers : List Answer} {n : ℕ} {line : List ℕ} {t u : World} {news : List Answer}
+    (f : Far told before mid (counts disk_before disk_mid) w done made answers n t) (same : told' ≡ told) (l : IsLine told' mid after (counts disk_mid disk_after) t (n + 1) line u news) where
   goes_more : (tail : List (List ℕ)) (more : List Chance) → run w 1 ((done ++ line ∷ []) ++ tail) ((made ++ l.chance ∷ []) ++ more) ≡ behind (answers ++ news) (run u (n + 1 + 1) tail more)
   goes_more tail more =
       rw (append_assoc done (line ∷ []) tail, append_assoc made (l.chance ∷ []) more) (
@@ -106,6 +109,13 @@ module _ {told told' : Option ℕ} {before mid after : ℕ} {w : World} {done : 
       let e : failures (answers ++ news) ≡ failures answers + failures news = sum_by-append _ answers news in
       rw e (omega arith)
 
+  more_faults : RoseBy (disk_faults (made ++ l.chance ∷ [])) disk_before disk_after
+  more_faults =
+      let i = f.faults in
+      let j = l.faults in
+      let e : disk_faults (made ++ l.chance ∷ []) ≡ disk_faults made + disk_faults (l.chance ∷ []) = sum_by-append _ made (l.chance ∷ []) in
+      rw e (omega arith)
+
   -- the source is modelled as the catalogue's, as it was at the start
   tells : told ≡ Some w.cabinet.catalogue.source → told' ≡ Some t.cabinet.catalogue.source
   tells h = same ∙ h ∙ ap (λ c. Some c.source) (sym f.catalogue)
@@ -117,12 +127,13 @@ module _ {told told' : Option ℕ} {before mid after : ℕ} {w : World} {done : 
   more_fresh =
       all_append (IsPlaced w.cabinet.catalogue u.cabinet.history) answers news (answers_later w.cabinet.catalogue t.cabinet.history u.cabinet.history l.keeps.grows answers f.fresh) (rw (sym f.catalogue) (l.keeps.fresh f.world))
 
-  pub far_next : Far told before after w (done ++ line ∷ []) (made ++ l.chance ∷ []) (answers ++ news) (n + 1) u
+  pub far_next : Far told before after (counts disk_before disk_after) w (done ++ line ∷ []) (made ++ l.chance ∷ []) (answers ++ news) (n + 1) u
   far_next =
       record {
         goes = goes_more;
         later = let i = f.later in let j = l.keeps.later in omega arith;
         failed = more_failed;
+        faults = more_faults;
         world = l.keeps.world f.world;
         free = f.free;
         sound = λ h is. l.keeps.sound (tells h) f.world (f.sound h is);
@@ -133,12 +144,14 @@ module _ {told told' : Option ℕ} {before mid after : ℕ} {w : World} {done : 
       }
 
 -- nothing happens while the source goes on
-pub far_waits : {told : Option ℕ} {before mid after : ℕ} {w : World} {done : List (List ℕ)} {made : List Chance} {answers : List Answer} {n : ℕ} {t : World} → Far told before mid w done made answers n t → mid ≤ after → Far told before after w done made answers n t
-far_waits f later =
+pub far_waits : {told : Option ℕ} {before mid after disk_before disk_mid disk_after : ℕ} {w : World} {done : List (List ℕ)} {made : List Chance} {answers : List Answer} {n : ℕ} {t : World} → Far told before mid (counts disk_before disk_mid) w done made answers n t → mid ≤ after → disk_mid ≤ disk_after
+    → Far told before after (counts disk_before disk_after) w done made answers n t
+far_waits f later disk_later =
     record {
       goes = f.goes;
       later = let i = f.later in omega arith;
       failed = let i = f.failed in omega arith;
+      faults = let i = f.faults in omega arith;
       world = f.world;
       free = f.free;
       sound = f.sound;
@@ -150,7 +163,7 @@ far_waits f later =
 
 -- ENDS
 
-module _ {told : Option ℕ} {before after : ℕ} {w : World} {done : List (List ℕ)} {made : List Chance} {answers : List Answer} {n : ℕ} {t : World} (f : Far told before after w done made answers n t) where
+module _ {told : Option ℕ} {before after : ℕ} {disk : FaultCounts} {w : World} {done : List (List ℕ)} {made : List Chance} {answers : List Answer} {n : ℕ} {t : World} (f : Far told before after disk w done made answers n t) where
   abbrev pub came_to : Option ℕ → Run
   came_to refused = record { answers = answers; world = t; refused = refused }
 
@@ -192,5 +205,5 @@ free_same zero = refl
 free_same (suc n) = ap (λ xs. seat.Free ∷ xs) (free_same n)
 
 -- at the start no actor is busy
-pub far_start_free : (told : Option ℕ) (n : ℕ) (s : State) (document : List ℕ) → Far told n n (world_of s document free_seats) [] [] [] 0 (world_of s document free_seats)
-far_start_free told n s document = far_start told n (world_of s document free_seats) (all_free (IsSeat s.catalogue s.history) tt ACTORS) (none_owed ACTORS) (all_free (IsTrueSeat s.catalogue) tt ACTORS)
+pub far_start_free : (told : Option ℕ) (n faults : ℕ) (s : State) (document : List ℕ) → Far told n n (counts faults faults) (world_of s document free_seats) [] [] [] 0 (world_of s document free_seats)
+far_start_free told n faults s document = far_start told n faults (world_of s document free_seats) (all_free (IsSeat s.catalogue s.history) tt ACTORS) (none_owed ACTORS) (all_free (IsTrueSeat s.catalogue) tt ACTORS)

@@ -14,3 +14,4 @@ pub mod SoFar
 pub mod Replaying
 pub mod Ending
 pub mod Shapes
+pub mod Faultless

@@ -1,5 +1,5 @@
 -- What a line does, in the terms of worlds.
-use Rattle.std.proofs.Common.{◌≡◌, zero, suc, ℕ, ◌+◌, ◌<◌, Bool, true, false, List, [], ◌∷◌, length, map, slice_get, slice_set, Option, Some, None, inl, inr, refl, sym, ap, ◌∙◌, subst, arith, append-nil}
+use Rattle.std.proofs.Common.{◌≡◌, ◌≤◌, zero, suc, ℕ, ◌+◌, ◌<◌, Bool, true, false, List, [], ◌∷◌, length, map, slice_get, slice_set, Option, Some, None, inl, inr, refl, sym, ap, ◌∙◌, subst, arith, append-nil}
 use Rattle.std.specs.Option.{option_map}
 use Rattle.std.proofs.lemmas.List.{map-set}
 use Rattle.std.proofs.lemmas.Option.{slice_get-map, slice_get_within}
@@ -11,6 +11,7 @@ use Rattle.cache_core.specs.declared.outcome.TileOutcome as cached
 use Rattle.cache_core.specs.Advanced.{Advances}
 use Rattle.cache_core.specs.Fits.{IsFit, IsTrueActor}
 use Rattle.cache_core.specs.Shown.{shown, IsIdle}
+use Rattle.causes.specs.Causes.{RoseBy}
 use Rattle.http_wire.specs.declared.message.Message.{Message}
 use Rattle.matrix_geometry.specs.declared.address.Address.{Address}
 use Rattle.tile_service.specs.declared.action_end.ActionEnd.{ActionEnd}
@@ -28,8 +29,9 @@ use Rattle.tile_service.specs.Performing.{IsAsked}
 use Rattle.tile_requests.specs.Events.{Moves, Opens}
 use Rattle.tile_service.specs.Lines.{Action, Nothing, Sends, Steps}
 use Rattle.tile_service.specs.OneLine.{IsPending, IsSeat, IsTrueSeat, IsSeated, Keeps, ActionEnds, Performs, seat_of}
-use Rattle.tile_requests.specs.Requests.{owed, Chance, calm}
+use Rattle.tile_requests.specs.Requests.{owed, Chance, calm, disk_faults_in}
 use Rattle.tile_requests.specs.Routes.{request_for}
+use Rattle.tile_service.specs.Outside.{FaultCounts}
 use Rattle.tile_service.specs.Run.{PendingRequest, World, Answer, seat_after, answers_after, owed_at, settled, started, resumed, asked, sent, if_free, stepped, line_done, failures, unanswered, world_of}
 use Rattle.tile_service.specs.Seats.{is_free, pending_at, next_seat, action_end_of}
 use Rattle.tile_service.proofs.Immediately.{immediate_told, read_asks, same_events, with_ends}
@@ -71,17 +73,17 @@ none_pending w n c i (Some (Some b)) e = cc
 
 -- WHAT LINES COME TO
 
-pub refused_performs : (told : Option ℕ) (count : ℕ) (s : State) (document : List ℕ) (seats : List Seat) (n : ℕ) (action : Option Action)
-    → ((busy : List (Option PendingRequest)) → map seat_of busy ≡ seats → line_done (world_of s document busy) n calm action ≡ None) → Performs told count count s document seats n action s seats Refused
-refused_performs told count s document seats n action f busy h = (busy, h.same, (f busy h.same, refl, omega arith))
+pub refused_performs : (told : Option ℕ) (count : ℕ) (disk : FaultCounts) → disk.before ≤ disk.after → (s : State) (document : List ℕ) (seats : List Seat) (n : ℕ) (action : Option Action)
+    → ((busy : List (Option PendingRequest)) → map seat_of busy ≡ seats → line_done (world_of s document busy) n calm action ≡ None) → Performs told count count disk s document seats n action s seats Refused
+refused_performs told count disk later s document seats n action f busy h = (busy, h.same, (f busy h.same, refl, omega arith, later))
 
-pub taken_performs : (told : Option ℕ) (count : ℕ) (s : State) (document : List ℕ) (seats : List Seat) (n : ℕ) (mode : Mode) (i : ℕ) (m : Message) → is_free (slice_get seats i) ≡ false → Performs told count count s document seats n (Some (Sends mode i m)) s seats Refused
-taken_performs told count s document seats n mode i m e =
-    refused_performs told count s document seats n (Some (Sends mode i m)) (λ busy same. is_taken (slice_get busy i) (sent (world_of s document busy) n calm mode i m) (rw (sym (there busy seats i same)) e))
+pub taken_performs : (told : Option ℕ) (count : ℕ) (disk : FaultCounts) → disk.before ≤ disk.after → (s : State) (document : List ℕ) (seats : List Seat) (n : ℕ) (mode : Mode) (i : ℕ) (m : Message) → is_free (slice_get seats i) ≡ false → Performs told count count disk s document seats n (Some (Sends mode i m)) s seats Refused
+taken_performs told count disk later s document seats n mode i m e =
+    refused_performs told count disk later s document seats n (Some (Sends mode i m)) (λ busy same. is_taken (slice_get busy i) (sent (world_of s document busy) n calm mode i m) (rw (sym (there busy seats i same)) e))
 
-pub no_step_performs : (told : Option ℕ) (count : ℕ) (s : State) (document : List ℕ) (seats : List Seat) (n i : ℕ) → pending_at (slice_get seats i) ≡ None → Performs told count count s document seats n (Some (Steps i)) s seats Refused
-no_step_performs told count s document seats n i e =
-    refused_performs told count s document seats n (Some (Steps i)) (λ busy same. none_pending (world_of s document busy) n calm i (slice_get busy i) (rw (sym (there busy seats i same)) e))
+pub no_step_performs : (told : Option ℕ) (count : ℕ) (disk : FaultCounts) → disk.before ≤ disk.after → (s : State) (document : List ℕ) (seats : List Seat) (n i : ℕ) → pending_at (slice_get seats i) ≡ None → Performs told count count disk s document seats n (Some (Steps i)) s seats Refused
+no_step_performs told count disk later s document seats n i e =
+    refused_performs told count disk later s document seats n (Some (Steps i)) (λ busy same. none_pending (world_of s document busy) n calm i (slice_get busy i) (rw (sym (there busy seats i same)) e))
 
 pub nothing_keeps : (told : Option ℕ) (count : ℕ) (w : World) → Keeps told count count w w []
 nothing_keeps told count w =
@@ -97,13 +99,13 @@ nothing_keeps told count w =
       capabilities = refl;
     }
 
-pub idle_performs : (told : Option ℕ) (count : ℕ) (s : State) (document : List ℕ) (seats : List Seat) (n : ℕ) → Performs told count count s document seats n (Some Nothing) s seats Silent
-idle_performs told count s document seats n busy h = (busy, h.same, (calm, refl, nothing_keeps told count (world_of s document busy)))
+pub idle_performs : (told : Option ℕ) (count : ℕ) (disk : FaultCounts) → disk.before ≤ disk.after → (s : State) (document : List ℕ) (seats : List Seat) (n : ℕ) → Performs told count count disk s document seats n (Some Nothing) s seats Silent
+idle_performs told count disk later s document seats n busy h = (busy, h.same, (calm, refl, omega arith, nothing_keeps told count (world_of s document busy)))
 
 -- EVENTS
 
-module _ (told : Option ℕ) (before after : ℕ) (s t : State) (first : Actor) (b : PendingRequest) (step : Step) (m : Moves told before after s first b.address b.place step t) (document : List ℕ) (busy : List (Option PendingRequest)) (i : ℕ) (old : Option PendingRequest)
-    (at : slice_get busy i ≡ Some old) (same : owed_at old ≡ owed first) (was : IsTrueSeat s.catalogue old → IsTrueActor s.catalogue first) (n : ℕ) (action : Option Action) (open_after : b.message.last ≡ false) (c : Bool → Chance) (left : (l : Bool) → (c l).left ≡ l)
+module _ (told : Option ℕ) (before after : ℕ) (disk : FaultCounts) (s t : State) (first : Actor) (b : PendingRequest) (step : Step) (m : Moves told before after s first b.address b.place step t) (document : List ℕ) (busy : List (Option PendingRequest)) (i : ℕ) (old : Option PendingRequest)
+    (at : slice_get busy i ≡ Some old) (same : owed_at old ≡ owed first) (was : IsTrueSeat s.catalogue old → IsTrueActor s.catalogue first) (n : ℕ) (action : Option Action) (open_after : b.message.last ≡ false) (c : Bool → Chance) (left : (l : Bool) → (c l).left ≡ l) (faults : (l : Bool) → RoseBy (disk_faults_in (c l)) disk.before disk.after)
     (made : (l : Bool) → line_done (world_of s document busy) n (c l) action ≡ Some (settled (world_of s document busy) n (c l) i b (shown step t))) where
   abbrev there_after : World
   there_after = world_of t document (slice_set busy i (seat_after b step.actor step.outcome))
@@ -118,8 +120,8 @@ module _ (told : Option ℕ) (before after : ℕ) (s t : State) (first : Actor) 
       let P : Option cached.TileOutcome → Type 0 = λ y. Keeps told before after (world_of s document busy) there_after (answers_after n i l b y) in
       subst P e (settled_keeps told before after s t first b step m (λ none. open_after) document busy i old at same was n l)
 
-  pub settled_ends : (o : Option cached.TileOutcome) → step.outcome ≡ o → ActionEnds told before after (world_of s document busy) n action there_after (action_end_of i b.start o)
-  settled_ends None e = (c true, made_with true None e, kept_with true None e)
+  pub settled_ends : (o : Option cached.TileOutcome) → step.outcome ≡ o → ActionEnds told before after disk (world_of s document busy) n action there_after (action_end_of i b.start o)
+  settled_ends None e = (c true, made_with true None e, faults true, kept_with true None e)
   settled_ends (Some o) e =
       record {
         message = b.message;
@@ -128,12 +130,13 @@ module _ (told : Option ℕ) (before after : ℕ) (s t : State) (first : Actor) 
         open_after = open_after;
         chance = c;
         made = λ l. made_with l (Some o) e;
+        faults = faults;
         keeps = λ l. kept_with l (Some o) e;
       }
 
 -- A REQUEST OF A LINE
 
-module _ (told : Option ℕ) (s : State) (document : List ℕ) (seats : List Seat) (n : ℕ) (mode : Mode) (i : ℕ) (m : Message) (open_after : m.last ≡ false) (free : slice_get seats i ≡ Some seat.Free) where
+module _ (told : Option ℕ) (disk : FaultCounts) (s : State) (document : List ℕ) (seats : List Seat) (n : ℕ) (mode : Mode) (i : ℕ) (m : Message) (open_after : m.last ≡ false) (free : slice_get seats i ≡ Some seat.Free) where
   abbrev action : Option Action
   action = Some (Sends mode i m)
 
@@ -154,10 +157,10 @@ module _ (told : Option ℕ) (s : State) (document : List ℕ) (seats : List Sea
     reads : (c : Chance) (r : Request) (left : Bool) → r ≡ asks → line_done w n (with_ends c true left) action ≡ Some (asked w n (with_ends c true left) mode i m r)
     reads c r left e = goes (with_ends c true left) ∙ ap Some (read_asks w n c mode i m r left e)
 
-  told_performs : (count : ℕ) (r : Option Request) (done : State × Outcome) (c : Bool → Chance) → Stays s done → AsksNoTile r
+  told_performs : (count : ℕ) (r : Option Request) (done : State × Outcome) (c : Bool → Chance) → ((left : Bool) → RoseBy (disk_faults_in (c left)) disk.before disk.after) → Stays s done → AsksNoTile r
       → ((busy : List (Option PendingRequest)) (h : IsSeated s document seats busy) (left : Bool) → line_done (world_of s document busy) n (c left) action ≡ Some (world_of done.0 document busy, told_answer s n i m r done.1 left ∷ []))
-      → Performs told count count s document seats n action done.0 seats (Answers (record { actor = i; start = n; outcome = done.1 }))
-  told_performs count r done c stays other made busy h = (
+      → Performs told count count disk s document seats n action done.0 seats (Answers (record { actor = i; start = n; outcome = done.1 }))
+  told_performs count r done c faults stays other made busy h = (
     busy,
     h.same,
     record {
@@ -167,20 +170,21 @@ module _ (told : Option ℕ) (s : State) (document : List ℕ) (seats : List Sea
       open_after = open_after;
       chance = c;
       made = made busy h;
+      faults = faults;
       keeps = λ left. told_keeps told count s done.0 document busy n i m r done.1 left stays other;
     },
   )
 
-  pub unread_performs : (count : ℕ) → Performs told count count s document seats n action s seats (Answers (record { actor = i; start = n; outcome = outcome.NoMemory }))
-  unread_performs count = told_performs count None (s, outcome.NoMemory) (λ left. with_ends calm false left) (same_stays s outcome.NoMemory refl) tt (λ busy h left. goes busy h (with_ends calm false left))
+  pub unread_performs : (count : ℕ) → disk.before ≤ disk.after → Performs told count count disk s document seats n action s seats (Answers (record { actor = i; start = n; outcome = outcome.NoMemory }))
+  unread_performs count later = told_performs count None (s, outcome.NoMemory) (λ left. with_ends calm false left) (λ left. omega arith) (same_stays s outcome.NoMemory refl) tt (λ busy h left. goes busy h (with_ends calm false left))
 
-  immediate_performs : (count : ℕ) (r : Request) (o : Outcome) (t : State) → r ≡ asks → IsImmediate s r o t → Performs told count count s document seats n action t seats (Answers (record { actor = i; start = n; outcome = o }))
-  immediate_performs count r o t e k =
-      let d = immediate_told s r o t k in
-      told_performs count (Some r) (t, o) (λ left. with_ends d.chance true left) d.stays d.other (λ busy h left. reads busy h d.chance r left e ∙ ap Some (d.made document busy n mode i m left))
+  immediate_performs : (count : ℕ) (r : Request) (o : Outcome) (t : State) → disk.before ≤ disk.after → r ≡ asks → IsImmediate disk.before disk.after s r o t → Performs told count count disk s document seats n action t seats (Answers (record { actor = i; start = n; outcome = o }))
+  immediate_performs count r o t later e k =
+      let d = immediate_told disk later s r o t k in
+      told_performs count (Some r) (t, o) (λ left. with_ends d.chance true left) (λ left. d.faults) d.stays d.other (λ busy h left. reads busy h d.chance r left e ∙ ap Some (d.made document busy n mode i m left))
 
-  tile_performs : (before after : ℕ) (a : Address) (step : Step) (t : State) → request.Tile a ≡ asks → Opens told before after s a mode step t
-      → Performs told before after s document seats n action t (slice_set seats i (next_seat n a step.actor step.outcome)) (action_end_of i n step.outcome)
+  tile_performs : (before after : ℕ) (a : Address) (step : Step) (t : State) → request.Tile a ≡ asks → Opens told before after disk.before disk.after s a mode step t
+      → Performs told before after disk s document seats n action t (slice_set seats i (next_seat n a step.actor step.outcome)) (action_end_of i n step.outcome)
   tile_performs before after a step t e o busy h =
       let v : World = world_of s document busy in
       let b : PendingRequest = started v n m a in
@@ -190,37 +194,37 @@ module _ (told : Option ℕ) (s : State) (document : List ℕ) (seats : List Sea
       reads busy h o.chance (request.Tile a) l e ∙ ap (λ r. Some (settled v n c i b r)) (sym (same_events mode s a o.chance true l) ∙ sym o.made) in (
         slice_set busy i (seat_after b step.actor step.outcome),
         set_seats busy seats i b step.actor step.outcome h.same,
-        settled_ends told before after s t actor.Idle b step o.moves document busy i None (at_seat busy h) refl (λ x. tt) n action open_after (λ l. with_ends o.chance true l) (λ l. refl) made step.outcome refl,
+        settled_ends told before after disk s t actor.Idle b step o.moves document busy i None (at_seat busy h) refl (λ x. tt) n action open_after (λ l. with_ends o.chance true l) (λ l. refl) (λ l. o.disk_cause) made step.outcome refl,
       )
 
-  pub asked_performs : (before after : ℕ) (t : State) (seats' : List Seat) (end : ActionEnd) (r : Request) → r ≡ asks → IsAsked told before after s seats n mode i r t seats' end → Performs told before after s document seats n action t seats' end
+  pub asked_performs : (before after : ℕ) (t : State) (seats' : List Seat) (end : ActionEnd) (r : Request) → r ≡ asks → IsAsked told before after disk s seats n mode i r t seats' end → Performs told before after disk s document seats n action t seats' end
   asked_performs before after t seats' end r e (inl k) = rw (k.4, k.5) (tile_performs before after k.0 k.1 t (sym k.2 ∙ e) k.3)
-  asked_performs before after t seats' end r e (inr k) = rw (k.2, k.3, k.4) (immediate_performs before r k.0 t e k.1)
+  asked_performs before after t seats' end r e (inr k) = rw (k.2, k.3, k.4) (immediate_performs before r k.0 t k.5 e k.1)
 
 -- A STEP
 
-stepped_by : (told : Option ℕ) (before after : ℕ) (s t : State) (document : List ℕ) (seats : List Seat) (n i : ℕ) (b : PendingRequest) (step : Step) (busy : List (Option PendingRequest)) → IsSeated s document seats busy → slice_get busy i ≡ Some (Some b) → Advances told before after s b.actor step t
-    → (later : List (Option PendingRequest)) × (map seat_of later ≡ slice_set seats i (next_seat b.start b.address step.actor step.outcome)) × ActionEnds told before after (world_of s document busy) n (Some (Steps i)) (world_of t document later) (action_end_of i b.start step.outcome)
-stepped_by told before after s t document seats n i b step busy k at h =
+stepped_by : (told : Option ℕ) (before after : ℕ) (disk : FaultCounts) (s t : State) (document : List ℕ) (seats : List Seat) (n i : ℕ) (b : PendingRequest) (step : Step) (busy : List (Option PendingRequest)) → IsSeated s document seats busy → slice_get busy i ≡ Some (Some b) → Advances told before after disk.before disk.after s b.actor step t
+    → (later : List (Option PendingRequest)) × (map seat_of later ≡ slice_set seats i (next_seat b.start b.address step.actor step.outcome)) × ActionEnds told before after disk (world_of s document busy) n (Some (Steps i)) (world_of t document later) (action_end_of i b.start step.outcome)
+stepped_by told before after disk s t document seats n i b step busy k at h =
     let v : World = world_of s document busy in
     let busily : IsPending s.catalogue s.history b = one_of_all (IsSeat s.catalogue s.history) busy i (Some b) at k.world in
     let r : PendingRequest = resumed v b in
-    let moves : Moves told before after s b.actor r.address r.place step t = advance_moves told before after s b.actor b.address b.place step t busily.fits busily.busy busily.within busily.fresh h in
-    let c : Bool → Chance = λ l. record { read = true; ask = true; moment = h.moment; work = h.left; bytes = h.bytes; left = l } in
+    let moves : Moves told before after s b.actor r.address r.place step t = advance_moves told before after disk.before disk.after s b.actor b.address b.place step t busily.fits busily.busy busily.within busily.fresh h in
+    let c : Bool → Chance = λ l. record { read = true; ask = true; moment = h.moment; unread = h.unread; work = h.left; bytes = h.bytes; unwritten = h.unwritten; left = l } in
     let made : (l : Bool) → line_done v n (c l) (Some (Steps i)) ≡ Some (settled v n (c l) i r (shown step t)) = λ l. rw at (ap (λ x. Some (settled v n (c l) i r x)) (sym h.advanced)) in (
       slice_set busy i (seat_after r step.actor step.outcome),
       set_seats busy seats i r step.actor step.outcome k.same,
-      settled_ends told before after s t b.actor r step moves document busy i (Some b) at refl (λ x. x) n (Some (Steps i)) busily.open_after c (λ l. refl) made step.outcome refl,
+      settled_ends told before after disk s t b.actor r step moves document busy i (Some b) at refl (λ x. x) n (Some (Steps i)) busily.open_after c (λ l. refl) (λ l. h.disk_cause) made step.outcome refl,
     )
 
-pub stepped_performs : (told : Option ℕ) (before after : ℕ) (s t : State) (document : List ℕ) (seats : List Seat) (n i : ℕ) (pending : Pending) (step : Step) → pending_at (slice_get seats i) ≡ Some pending → Advances told before after s pending.actor step t
-    → Performs told before after s document seats n (Some (Steps i)) t (slice_set seats i (next_seat pending.start pending.address step.actor step.outcome)) (action_end_of i pending.start step.outcome)
-stepped_performs told before after s t document seats n i pending step is h busy k =
+pub stepped_performs : (told : Option ℕ) (before after : ℕ) (disk : FaultCounts) (s t : State) (document : List ℕ) (seats : List Seat) (n i : ℕ) (pending : Pending) (step : Step) → pending_at (slice_get seats i) ≡ Some pending → Advances told before after disk.before disk.after s pending.actor step t
+    → Performs told before after disk s document seats n (Some (Steps i)) t (slice_set seats i (next_seat pending.start pending.address step.actor step.outcome)) (action_end_of i pending.start step.outcome)
+stepped_performs told before after disk s t document seats n i pending step is h busy k =
     let found = pending_there (slice_get busy i) pending (rw (sym (there busy seats i k.same)) is) in
     let P : Pending → Type 0 = λ d.
-    Advances told before after s d.actor step t
-    → (later : List (Option PendingRequest)) × (map seat_of later ≡ slice_set seats i (next_seat d.start d.address step.actor step.outcome)) × ActionEnds told before after (world_of s document busy) n (Some (Steps i)) (world_of t document later) (action_end_of i d.start step.outcome) in
-    subst P (sym found.2) (λ g. stepped_by told before after s t document seats n i found.0 step busy k found.1 g) h
+    Advances told before after disk.before disk.after s d.actor step t
+    → (later : List (Option PendingRequest)) × (map seat_of later ≡ slice_set seats i (next_seat d.start d.address step.actor step.outcome)) × ActionEnds told before after disk (world_of s document busy) n (Some (Steps i)) (world_of t document later) (action_end_of i d.start step.outcome) in
+    subst P (sym found.2) (λ g. stepped_by told before after disk s t document seats n i found.0 step busy k found.1 g) h
 
 -- the pending request of a busy actor has a next event
 pub pending_fits : (s : State) (document : List ℕ) (seats : List Seat) (i : ℕ) (pending : Pending) (x : Actor) (busy : List (Option PendingRequest)) → IsSeated s document seats busy → pending_at (slice_get seats i) ≡ Some pending → x ≡ pending.actor

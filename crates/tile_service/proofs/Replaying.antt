@@ -14,7 +14,7 @@ use Rattle.tile_requests.specs.declared.outcome.Outcome.{Outcome}
 use Rattle.tile_service.specs.OneLine.{MayTell}
 use Rattle.tile_requests.specs.Requests.{answered_at}
 use Rattle.tile_requests.specs.Response.{response}
-use Rattle.tile_service.specs.Outside.{InputChange, Outside}
+use Rattle.tile_service.specs.Outside.{InputChange, Outside, counts}
 use Rattle.tile_service.specs.Run.{Answer}
 use Rattle.tile_service.specs.Serving.{Serves}
 use Rattle.tile_service.specs.Session.{reply_text, replies}
@@ -33,10 +33,11 @@ pub record Wire : Type 0 where
   pub left : Option (List ℕ)
   pub taken : Option (List ℕ)
 
--- how all stands at a moment of a session: what is modelled of the source, and its faults, the document, the cabinet, the link
+-- how all stands at a moment of a session: what is modelled of the source, its faults and those of the disk, the document, the cabinet, the link
 pub record Moment : Type 0 where
   pub told : Option ℕ
   pub renders : ℕ
+  pub disk : ℕ
   pub document : List ℕ
   pub cabinet : State
   pub wire : Wire
@@ -46,7 +47,7 @@ abbrev pub input : Moment → Moment → InputChange
 input a b = record { reads = record { before = a.wire.reads; after = b.wire.reads }; from = a.wire.left; to = b.wire.left }
 
 abbrev pub outside : Moment → Moment → Outside
-outside a b = record { told = a.told; renders = record { before = a.renders; after = b.renders }; writes = record { before = a.wire.writes; after = b.wire.writes }; from = a.wire.taken; to = b.wire.taken }
+outside a b = record { told = a.told; renders = record { before = a.renders; after = b.renders }; disk = counts a.disk b.disk; writes = record { before = a.wire.writes; after = b.wire.writes }; from = a.wire.taken; to = b.wire.taken }
 
 -- the session was held from one moment to another
 abbrev pub IsHeld : Moment → Moment → SessionEnd → Type 0
@@ -60,7 +61,7 @@ pub record IsUnderWay (start now : Moment) (held : List ℕ) (n : ℕ) : Type 0 
   pub answers : List Answer
   pub all_open : AreOpen messages
   pub stand : StandIn start.wire.left messages (prepend_known held now.wire.left)
-  pub served : HasServed start.told start.renders now.renders start.document start.cabinet now.cabinet messages answers n
+  pub served : HasServed start.told start.renders now.renders (counts start.disk now.disk) start.document start.cabinet now.cabinet messages answers n
   pub text : Appends start.wire.taken now.wire.taken (replies start.document answers)
   pub told : now.told ≡ start.told
   pub document : now.document ≡ start.document
@@ -77,7 +78,7 @@ under_way_start {start} reading e =
       answers = [];
       all_open = tt;
       stand = rw e (stand_none start.wire.left);
-      served = served_start start.told start.renders start.document start.cabinet;
+      served = served_start start.told start.renders start.disk start.document start.cabinet;
       text = appends_nothing start.wire.taken;
       told = refl;
       document = refl;
@@ -93,7 +94,7 @@ Sending = Option (List ℕ) → Option (List ℕ) → List ℕ → Type 0
 pub record Meets (Sends : Sending) (now there : Moment) (held later : List ℕ) (n : ℕ) (m : Message) : Type 0 where
   pub takes : TakesMessage (prepend_known held now.wire.left) m (prepend_known later there.wire.left)
   pub outcome : Outcome
-  pub serves : Serves now.told now.renders there.renders now.document now.cabinet m outcome there.cabinet
+  pub serves : Serves now.told now.renders there.renders (counts now.disk there.disk) now.document now.cabinet m outcome there.cabinet
   pub told : there.told ≡ now.told
   pub document : there.document ≡ now.document
   pub sends : MayTell outcome (λ o. Sends now.wire.taken there.wire.taken (response now.document m (n + 1) o))
@@ -110,7 +111,7 @@ pub record IsAnswered (Sends : Sending) (start now : Moment) (held : List ℕ) (
   pub all_open : AreOpen earlier
   pub many : length earlier ≡ n
   pub stand : StandIn start.wire.left (earlier ++ m ∷ []) (prepend_known held now.wire.left)
-  pub served : HasServed start.told start.renders now.renders start.document start.cabinet now.cabinet (earlier ++ m ∷ []) (before_it ++ answer ∷ []) (n + 1)
+  pub served : HasServed start.told start.renders now.renders (counts start.disk now.disk) start.document start.cabinet now.cabinet (earlier ++ m ∷ []) (before_it ++ answer ∷ []) (n + 1)
   pub between : Option (List ℕ)
   pub text : Appends start.wire.taken between (replies start.document before_it)
   pub sent : Sends between now.wire.taken (reply_text start.document answer)
@@ -121,8 +122,8 @@ which_told o P (inl k) = (true, k)
 which_told o P (inr k) = (false, rw k.0 k.1)
 
 module _ {Sends : Sending} {start now there : Moment} {held later : List ℕ} {n : ℕ} {m : Message} (f : IsUnderWay start now held n) (met : Meets Sends now there held later n m) where
-  serves : Serves now.told now.renders there.renders start.document now.cabinet m met.outcome there.cabinet
-  serves = subst (λ d. Serves now.told now.renders there.renders d now.cabinet m met.outcome there.cabinet) f.document met.serves
+  serves : Serves now.told now.renders there.renders (counts now.disk there.disk) start.document now.cabinet m met.outcome there.cabinet
+  serves = subst (λ d. Serves now.told now.renders there.renders (counts now.disk there.disk) d now.cabinet m met.outcome there.cabinet) f.document met.serves
 
   tells : MayTell met.outcome (λ o. Sends now.wire.taken there.wire.taken (response start.document m (n + 1) o))
   tells = subst (λ d. MayTell met.outcome (λ o. Sends now.wire.taken there.wire.taken (response d m (n + 1) o))) f.document met.sends

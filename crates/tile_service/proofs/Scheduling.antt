@@ -14,7 +14,7 @@ use Rattle.tile_service.specs.declared.cache_tally.CacheResult.{CacheResult}
 use Rattle.tile_service.specs.Written.{LineEnds, Writes}
 use Rattle.tile_service.specs.Lines.{lines_of}
 use Rattle.tile_service.specs.OneLine.{seat_of}
-use Rattle.tile_service.specs.Outside.{Outside}
+use Rattle.tile_service.specs.Outside.{Outside, counts}
 use Rattle.tile_requests.specs.Requests.{Chance}
 use Rattle.tile_service.specs.Run.{PendingRequest, free_seats, World, Answer, answer_text, world_of}
 use Rattle.tile_service.specs.Schedules.{HasRun}
@@ -24,11 +24,12 @@ use Rattle.tile_service.proofs.Far.{Far, far_next, far_start_free, far_waits, so
 
 -- MOMENTS
 
--- how all stands at a moment of a run: what is modelled of the source, its faults and those of the output, what the output
+-- how all stands at a moment of a run: what is modelled of the source, its faults, those of the disk and of the output, what the output
 -- has taken, where it is modelled, the cabinet, the document, and the seats of the code
 pub record Moment : Type 0 where
   pub told : Option ℕ
   pub renders : ℕ
+  pub disk : ℕ
   pub writes : ℕ
   pub taken : Option (List ℕ)
   pub cabinet : State
@@ -37,7 +38,7 @@ pub record Moment : Type 0 where
 
 -- what is seen of the source and the output from one moment to another
 abbrev pub seen : Moment → Moment → Outside
-seen a b = record { told = a.told; renders = record { before = a.renders; after = b.renders }; writes = record { before = a.writes; after = b.writes }; from = a.taken; to = b.taken }
+seen a b = record { told = a.told; renders = record { before = a.renders; after = b.renders }; disk = counts a.disk b.disk; writes = record { before = a.writes; after = b.writes }; from = a.taken; to = b.taken }
 
 -- the world at a moment, by what the actors are busy with
 abbrev pub world_at : Moment → List (Option PendingRequest) → World
@@ -56,7 +57,7 @@ pub record Reads (start now : Moment) (text : List ℕ) (lines : ℕ) (rest : Li
   pub written : Appends start.taken now.taken (flat_map (answer_text start.document) answers)
   pub told : now.told ≡ start.told
   pub later : start.writes ≤ now.writes
-  pub far : Far start.told start.renders now.renders (world_at start free_seats) done made answers lines (world_at now busy)
+  pub far : Far start.told start.renders now.renders (counts start.disk now.disk) (world_at start free_seats) done made answers lines (world_at now busy)
 
 pub reads_start : {start : Moment} {text : List ℕ} → start.seats ≡ replicate ACTORS seat.Free → Reads start start text 0 text
 reads_start {start} free =
@@ -70,7 +71,7 @@ reads_start {start} free =
       written = appends_nothing start.taken;
       told = refl;
       later = omega arith;
-      far = far_start_free start.told start.renders start.cabinet start.document;
+      far = far_start_free start.told start.renders start.disk start.cabinet start.document;
     }
 
 -- ONE LINE MORE
@@ -143,6 +144,7 @@ run_cut {start} {now} {there} f l =
             sent = record { between = now.taken; whole = rw front f.written; part = subst (λ x. AppendsFront now.taken there.taken (answer_text x answer)) f.far.capabilities d.2.2 };
           },
         );
+        faults = more.faults;
         upheld = ends_upheld more _ None all;
       },
     )
@@ -151,15 +153,16 @@ run_cut {start} {now} {there} f l =
 pub run_refused : {start now there : Moment} {text rest : List ℕ} {lines : ℕ} → Reads start now text lines rest → RanLine now there lines rest line_end.Refused → HasEnded start there text (Line (lines + 1))
 run_refused {lines = lines} f l =
     let d = line_ended f l in
-    let waits = far_waits f.far d.2.2 in
+    let waits = far_waits f.far d.2.2 d.2.3 in
     let e = ends_refused waits l.line (lines_of l.next) d.2.0 in (
       d.0,
       d.1,
-      rw (d.2.1, d.2.3) (record {
+      rw (d.2.1, d.2.4) (record {
         lines = f.done ++ l.line ∷ lines_of l.next;
         chances = f.made;
         through = sym (f.split ∙ rw l.split refl);
         ends = rw e (refl, refl, f.written);
+        faults = waits.faults;
         upheld = ends_upheld waits _ (Some (lines + 1)) e;
       }),
     )
@@ -179,6 +182,7 @@ run_done {rest = rest} f none =
         chances = f.made;
         through = sym (f.split ∙ rw (no_rest rest none) (append-nil f.done));
         ends = rw e (refl, refl, f.written);
+        faults = f.far.faults;
         upheld = ends_upheld f.far _ None e;
       },
     )

@@ -1,5 +1,5 @@
 -- One message of a session, served to its end.
-use Rattle.std.proofs.Common.{◌≡◌, ℕ, Bool, true, false, List, [], ◌∷◌, slice_set, Option, Some, None, refl, sym, ap, ◌∙◌, subst}
+use Rattle.std.proofs.Common.{◌≡◌, ◌≤◌, ℕ, Bool, true, false, List, [], ◌∷◌, slice_set, Option, Some, None, refl, sym, ap, ◌∙◌, subst, arith}
 use Rattle.cabinet.specs.State.{State}
 use Rattle.cache_core.specs.declared.actor.Actor.TheVariants as actor
 use Rattle.cache_core.specs.declared.actor.Step.{Step}
@@ -19,6 +19,7 @@ use Rattle.tile_requests.specs.Events.{Opens}
 use Rattle.tile_service.specs.OneLine.{Keeps}
 use Rattle.tile_requests.specs.Requests.{calm, events, outcome_of}
 use Rattle.tile_requests.specs.Routes.{request_for}
+use Rattle.tile_service.specs.Outside.{FaultCounts}
 use Rattle.tile_service.specs.Run.{PendingRequest, World, seat_after, answers_after, settled, started, sent, world_of}
 use Rattle.tile_service.specs.Serving.{Serves}
 use Rattle.tile_service.specs.Session.{IsAtRest, lone}
@@ -30,35 +31,37 @@ use Rattle.tile_service.proofs.Telling.{same_stays, told_keeps}
 -- A MESSAGE IS SERVED
 
 -- what the events of a GET came to, where no render ran
-pub got_done : (told : Option ℕ) (before after : ℕ) (s : State) (a : Address) (step : Step) (t : State) → IsAtRest s → Opens told before after s a Gets step t → IsDone (shown step t)
-got_done told before after s a step t rest h = let P : Stepped → Type 0 = IsDone in subst P (sym h.made) (get_done a h.chance s rest)
+pub got_done : (told : Option ℕ) (before after : ℕ) (disk : FaultCounts) (s : State) (a : Address) (step : Step) (t : State) → IsAtRest s → Opens told before after disk.before disk.after s a Gets step t → IsDone (shown step t)
+got_done told before after disk s a step t rest h = let P : Stepped → Type 0 = IsDone in subst P (sym h.made) (get_done a h.chance s rest)
 
-module _ (told : Option ℕ) (document : List ℕ) (s : State) (m : Message) (rest : IsAtRest s) where
+module _ (told : Option ℕ) (disk : FaultCounts) (document : List ℕ) (s : State) (m : Message) (rest : IsAtRest s) where
   abbrev asks : Request
   asks = request_for s.catalogue m
 
-  pub unread_serves : (count : ℕ) → Serves told count count document s m outcome.NoMemory s
-  unread_serves count =
+  pub unread_serves : (count : ℕ) → disk.before ≤ disk.after → Serves told count count disk document s m outcome.NoMemory s
+  unread_serves count later =
       record {
         request = None;
         chance = λ left. with_ends calm false left;
         made = λ i left. refl;
+        faults = λ left. omega arith;
         keeps = λ i left. told_keeps told count s s document (None ∷ []) i 0 m None outcome.NoMemory left (same_stays s outcome.NoMemory refl) tt;
         rests = rest;
       }
 
-  pub immediate_serves : (count : ℕ) (r : Request) (o : Outcome) (t : State) → r ≡ asks → IsImmediate s r o t → Serves told count count document s m o t
-  immediate_serves count r o t e k =
-      let d = immediate_told s r o t k in
+  pub immediate_serves : (count : ℕ) (r : Request) (o : Outcome) (t : State) → disk.before ≤ disk.after → r ≡ asks → IsImmediate disk.before disk.after s r o t → Serves told count count disk document s m o t
+  immediate_serves count r o t later e k =
+      let d = immediate_told disk later s r o t k in
       record {
         request = Some r;
         chance = λ left. with_ends d.chance true left;
         made = λ i left. read_asks (lone s document) i d.chance Gets 0 m r left e ∙ d.made document (None ∷ []) i Gets 0 m left;
+        faults = λ left. d.faults;
         keeps = λ i left. told_keeps told count s t document (None ∷ []) i 0 m (Some r) o left d.stays d.other;
         rests = d.rests rest;
       }
 
-  module _ (before after : ℕ) (a : Address) (e : request.Tile a ≡ asks) (step : Step) (t : State) (h : Opens told before after s a Gets step t) where
+  module _ (before after : ℕ) (a : Address) (e : request.Tile a ≡ asks) (step : Step) (t : State) (h : Opens told before after disk.before disk.after s a Gets step t) where
     abbrev busy : ℕ → PendingRequest
     busy i = started (lone s document) i m a
 
@@ -77,15 +80,16 @@ module _ (told : Option ℕ) (document : List ℕ) (s : State) (m : Message) (re
         let P : Option cached.TileOutcome → Type 0 = λ y. Keeps told before after (lone s document) (there_after (busy i) y) (answers_after i 0 left (busy i) y) in
         subst P is (settled_keeps told before after s t actor.Idle (busy i) step h.moves (λ none. absurd (ends (sym is ∙ none))) document (None ∷ []) 0 None refl refl (λ x. tt) i left)
 
-    pub tile_serves : (x : cached.TileOutcome) → step.outcome ≡ Some x → Serves told before after document s m (outcome_of x) t
+    pub tile_serves : (x : cached.TileOutcome) → step.outcome ≡ Some x → Serves told before after disk document s m (outcome_of x) t
     tile_serves x is =
         record {
           request = Some (request.Tile a);
           chance = λ left. with_ends h.chance true left;
           made = λ i left. made_with i left (Some x) is;
+          faults = λ left. h.disk_cause;
           keeps = λ i left. kept_with i left (Some x) (λ none. cc) is;
-          rests = (got_done told before after s a step t rest h).rests;
+          rests = (got_done told before after disk s a step t rest h).rests;
         }
 
-  pub got_serves : (before after : ℕ) (a : Address) (o : Outcome) (t : State) → request.Tile a ≡ asks → IsGot told before after s a o t → Serves told before after document s m o t
+  pub got_serves : (before after : ℕ) (a : Address) (o : Outcome) (t : State) → request.Tile a ≡ asks → IsGot told before after disk s a o t → Serves told before after disk document s m o t
   got_serves before after a o t e k = rw k.4 (tile_serves before after a e k.0 t k.2 k.1 k.3)

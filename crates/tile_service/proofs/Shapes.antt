@@ -15,7 +15,7 @@ use Rattle.cache_core.specs.declared.outcome.TileOutcome as cached
 use Rattle.cache_core.specs.declared.outcome.TileOutcome.TheVariants as core
 use Rattle.cache_core.specs.declared.outcome.Tile.{Tile}
 use Rattle.cache_core.specs.Fits.{place_of}
-use Rattle.cache_core.specs.Steps.{Stepped, advanced, began, ended, given, off, stored, unless_busy, unless_kept, unless_overtaken, with_room}
+use Rattle.cache_core.specs.Steps.{Stepped, advanced, began, ended, given, off, stored, unless_busy, unless_kept, unless_overtaken, unless_unread, with_room}
 use Rattle.cache_core.proofs.Alike.{blob_long}
 use Rattle.catalog.specs.declared.catalogue.Scope.{Scope}
 use Rattle.http_wire.specs.declared.message.Message.{Message}
@@ -31,7 +31,7 @@ use Rattle.tile_requests.specs.declared.request.Mode.TheVariants.{Gets, Asks, Fo
 use Rattle.tile_requests.specs.declared.request.Request.{Request}
 use Rattle.tile_requests.specs.declared.request.Request.TheVariants as request
 use Rattle.tile_service.specs.Lines.{Action, Nothing, Sends, Steps, action_in}
-use Rattle.tile_requests.specs.Requests.{Chance, is_at_work, further, carried_on, events, cut, cut_by, dropped, expired_in}
+use Rattle.tile_requests.specs.Requests.{Chance, is_at_work, further, carried_on, events, cut, cut_at, cut_by, dropped, expired_in}
 use Rattle.tile_requests.specs.Routes.{request_for}
 use Rattle.tile_service.specs.Run.{PendingRequest, World, Answer, Run, seat_after, settled, started, resumed, asked, sent, if_free, stepped, line_done, goes_on, first_of, rest_of, run}
 use Rattle.tile_service.specs.Session.{session}
@@ -88,10 +88,10 @@ kept_like : (s : State) (a : Address) (bytes others : Option (ℕ → ℕ)) (x :
 kept_like s a bytes others (Some t) = refl
 kept_like s a bytes others None = busy_like s a false (running_for (block_of s.catalogue a) (now s).out)
 
-began_like : (s : State) (a : Address) (force left : Bool) (n : ℕ) (bytes others : Option (ℕ → ℕ)) → shape (began s a force left n bytes) ≡ shape (began (plain s) a force left n others)
-began_like s a force false n bytes others = refl
-began_like s a true true n bytes others = busy_like (asked_at n s) a true (running_for (block_of s.catalogue a) (now (asked_at n s)).out)
-began_like s a false true n bytes others = kept_like (asked_at n s) a bytes others (answering (asked_at n s) a)
+began_like : (s : State) (a : Address) (force left : Bool) (n : ℕ) (unread : Bool) (bytes others : Option (ℕ → ℕ)) → shape (began s a force left n unread bytes) ≡ shape (began (plain s) a force left n unread others)
+began_like s a force false n unread bytes others = refl
+began_like s a true true n unread bytes others = busy_like (asked_at n s) a true (running_for (block_of s.catalogue a) (now (asked_at n s)).out)
+began_like s a false true n unread bytes others = kept_like (asked_at n s) a bytes others (unless_unread unread (answering (asked_at n s) a))
 
 -- THE END
 
@@ -100,21 +100,22 @@ off_like s t None = refl
 off_like s t (Some r) = refl
 
 module _ (s : State) (t : Ticketed) (xs ys : List ℕ) (e : length xs ≡ length ys) where
-  stored_like : (n : ℕ) (p : Option ℕ) → plain (stored s t n xs p) ≡ plain (stored (plain s) t n ys p)
-  stored_like n None = refl
-  stored_like n (Some place) = ap (λ (l : ℕ). plain (with_entry s (stored_entry (kept_at t n place l)))) e
+  stored_like : (n : ℕ) (p : Option ℕ) (unwritten : Bool) → plain (stored s t n xs p unwritten) ≡ plain (stored (plain s) t n ys p unwritten)
+  stored_like n None unwritten = refl
+  stored_like n (Some place) true = refl
+  stored_like n (Some place) false = ap (λ (l : ℕ). plain (with_entry s (stored_entry (kept_at t n place l)))) e
 
-  room_like : (n : ℕ) (full : Bool) → plain (with_room s t n xs full) ≡ plain (with_room (plain s) t n ys full)
-  room_like n true = refl
-  room_like n false = stored_like n (place_for s (length xs)) ∙ ap (λ (l : ℕ). plain (stored (plain s) t n ys (place_for s l))) e
+  room_like : (n : ℕ) (unwritten full : Bool) → plain (with_room s t n xs unwritten full) ≡ plain (with_room (plain s) t n ys unwritten full)
+  room_like n unwritten true = refl
+  room_like n unwritten false = stored_like n (place_for s (length xs)) unwritten ∙ ap (λ (l : ℕ). plain (stored (plain s) t n ys (place_for s l) unwritten)) e
 
-  mark_like : (n : ℕ) (mark : Option ℕ) → plain (unless_overtaken s t n xs mark) ≡ plain (unless_overtaken (plain s) t n ys mark)
-  mark_like n (Some cut) = refl
-  mark_like n None = room_like n (nat_le s.catalogue.kept_limit (others s t.meta))
+  mark_like : (n : ℕ) (unwritten : Bool) (mark : Option ℕ) → plain (unless_overtaken s t n xs unwritten mark) ≡ plain (unless_overtaken (plain s) t n ys unwritten mark)
+  mark_like n unwritten (Some cut) = refl
+  mark_like n unwritten None = room_like n unwritten (nat_le s.catalogue.kept_limit (others s t.meta))
 
-  ended_like : (r : Option Render) → plain (ended s t xs r) ≡ plain (ended (plain s) t ys r)
-  ended_like None = refl
-  ended_like (Some r) = mark_like r.moment r.mark
+  ended_like : (unwritten : Bool) (r : Option Render) → plain (ended s t xs unwritten r) ≡ plain (ended (plain s) t ys unwritten r)
+  ended_like unwritten None = refl
+  ended_like unwritten (Some r) = mark_like r.moment unwritten r.mark
 
 -- AN EVENT
 
@@ -122,16 +123,17 @@ module _ (s : State) (t : Ticketed) (xs ys : List ℕ) (e : length xs ≡ length
 abbrev holding : State → Ticketed → ℕ → Stepped
 holding s t n = record { cabinet = plain s; actor = actor.Rendered t (replicate n 0) (record { hit = false; number = t.number; bytes = [] }); outcome = None }
 
-advanced_like : (s : State) (x : Actor) (left : Bool) (n : ℕ) (bytes : Option (ℕ → ℕ)) → shape (advanced s x left n bytes) ≡ shape (advanced (plain s) (plain_actor x) left n (any_bytes bytes))
-advanced_like s actor.Idle left n bytes = refl
-advanced_like s (actor.Waiting a force) left n bytes = began_like s a force left n bytes (any_bytes bytes)
-advanced_like s (actor.Holding t a) false n bytes = ap (λ u. shape (record { cabinet = u; actor = actor.Idle; outcome = Some core.NoMemory })) (off_like s t (render_of t (now s).out))
-advanced_like s (actor.Holding t a) true n None = refl
-advanced_like s (actor.Holding t a) true n (Some bytes) =
+advanced_like : (s : State) (x : Actor) (left : Bool) (n : ℕ) (unread : Bool) (bytes : Option (ℕ → ℕ)) (unwritten : Bool)
+    → shape (advanced s x left n unread bytes unwritten) ≡ shape (advanced (plain s) (plain_actor x) left n unread (any_bytes bytes) unwritten)
+advanced_like s actor.Idle left n unread bytes unwritten = refl
+advanced_like s (actor.Waiting a force) left n unread bytes unwritten = began_like s a force left n unread bytes (any_bytes bytes)
+advanced_like s (actor.Holding t a) false n unread bytes unwritten = ap (λ u. shape (record { cabinet = u; actor = actor.Idle; outcome = Some core.NoMemory })) (off_like s t (render_of t (now s).out))
+advanced_like s (actor.Holding t a) true n unread None unwritten = refl
+advanced_like s (actor.Holding t a) true n unread (Some bytes) unwritten =
     ap (holding s t) (blob_long s.catalogue t.meta bytes ∙ sym (blob_long s.catalogue t.meta (λ i. 0)))
-advanced_like s (actor.Rendered t blob tile) left n bytes =
-    ap (λ u. shape (record { cabinet = u; actor = actor.Idle; outcome = Some core.NoMemory })) (ended_like s t blob (replicate (length blob) 0) (sym (length-replicate (length blob) 0)) (render_of t (now s).out))
-advanced_like s (actor.Failed t) left n bytes = ap (λ u. shape (record { cabinet = u; actor = actor.Idle; outcome = Some core.NoMemory })) (off_like s t (render_of t (now s).out))
+advanced_like s (actor.Rendered t blob tile) left n unread bytes unwritten =
+    ap (λ u. shape (record { cabinet = u; actor = actor.Idle; outcome = Some core.NoMemory })) (ended_like s t blob (replicate (length blob) 0) (sym (length-replicate (length blob) 0)) unwritten (render_of t (now s).out))
+advanced_like s (actor.Failed t) left n unread bytes unwritten = ap (λ u. shape (record { cabinet = u; actor = actor.Idle; outcome = Some core.NoMemory })) (off_like s t (render_of t (now s).out))
 
 works_like : (x : Actor) → is_at_work (plain_actor x) ≡ is_at_work x
 works_like actor.Idle = refl
@@ -144,7 +146,7 @@ further_like : (c : Chance) (r : Stepped) → shape (further c r) ≡ shape (fur
 further_like c r = go (is_at_work r.actor) refl
   where
     go : (b : Bool) → is_at_work r.actor ≡ b → shape (further c r) ≡ shape (further (without_bytes c) (shape r))
-    go true e = rw (works_like r.actor, e) (advanced_like r.cabinet r.actor c.work c.moment c.bytes)
+    go true e = rw (works_like r.actor, e) (advanced_like r.cabinet r.actor c.work c.moment c.unread c.bytes c.unwritten)
     go false e = rw (works_like r.actor, e) (sym (shape_twice r))
 
 any_twice : (bytes : Option (ℕ → ℕ)) → any_bytes (any_bytes bytes) ≡ any_bytes bytes
@@ -152,7 +154,7 @@ any_twice None = refl
 any_twice (Some b) = refl
 
 without_twice : (c : Chance) → without_bytes (without_bytes c) ≡ without_bytes c
-without_twice c = ap (λ (x : Option (ℕ → ℕ)). let d : Chance = record { read = c.read; ask = c.ask; moment = c.moment; work = c.work; bytes = x; left = c.left } in d) (any_twice c.bytes)
+without_twice c = ap (λ (x : Option (ℕ → ℕ)). let d : Chance = record { read = c.read; ask = c.ask; moment = c.moment; unread = c.unread; work = c.work; bytes = x; unwritten = c.unwritten; left = c.left } in d) (any_twice c.bytes)
 
 further_same : (c : Chance) (r : Stepped) → shape (further (without_bytes c) r) ≡ shape (further (without_bytes c) (shape r))
 further_same c r = further_like (without_bytes c) r ∙ ap (λ (d : Chance). shape (further d (shape r))) (without_twice c)
@@ -165,9 +167,9 @@ once_like c r q e =
     first ∙ ap (λ x. shape (further d (shape (further d x)))) e ∙ sym second
 
 events_like : (mode : Mode) (s : State) (a : Address) (c : Chance) → shape (events mode s a c) ≡ shape (events mode (plain s) a (without_bytes c))
-events_like Gets s a c = once_like c (began s a false c.ask c.moment c.bytes) (began (plain s) a false c.ask c.moment (any_bytes c.bytes)) (began_like s a false c.ask c.moment c.bytes (any_bytes c.bytes))
-events_like Asks s a c = began_like s a false c.ask c.moment c.bytes (any_bytes c.bytes)
-events_like Forces s a c = began_like s a true c.ask c.moment c.bytes (any_bytes c.bytes)
+events_like Gets s a c = once_like c (began s a false c.ask c.moment c.unread c.bytes) (began (plain s) a false c.ask c.moment c.unread (any_bytes c.bytes)) (began_like s a false c.ask c.moment c.unread c.bytes (any_bytes c.bytes))
+events_like Asks s a c = began_like s a false c.ask c.moment c.unread c.bytes (any_bytes c.bytes)
+events_like Forces s a c = began_like s a true c.ask c.moment c.unread c.bytes (any_bytes c.bytes)
 
 -- WORLDS
 
@@ -205,15 +207,19 @@ settled_like w n i c b d r q e same =
     ap (slice_set (map plain_seat w.seats) i) (same (plain_actor r.actor) (marked r.outcome) ∙ ap (λ x. seat_after d x.actor x.outcome) e) in
     ap (λ x. world_with w x.cabinet (map plain_seat (slice_set w.seats i (seat_after b r.actor r.outcome)))) e ∙ ap (world_with w (plain q.cabinet)) (one ∙ mid ∙ sym two)
 
-cut_like : (s : State) (cover : Cover) (left : Bool) → plain (cut s cover left).0 ≡ plain (cut (plain s) cover left).0
-cut_like s cover false = refl
-cut_like s cover true = by_number (next s.opening (now s))
+cut_at_like : (s : State) (cover : Cover) (t : ℕ) (unwritten : Bool) → plain (cut_at s cover t unwritten).0 ≡ plain (cut_at (plain s) cover t unwritten).0
+cut_at_like s cover t true = refl
+cut_at_like s cover t false = refl
+
+cut_like : (s : State) (cover : Cover) (left unwritten : Bool) → plain (cut s cover left unwritten).0 ≡ plain (cut (plain s) cover left unwritten).0
+cut_like s cover false unwritten = refl
+cut_like s cover true unwritten = by_number (next s.opening (now s))
   where
-    by_room : (t : ℕ) (b : Bool) → nat_lt (length (book_before s cover).cuts) s.catalogue.cut_limit ≡ b → plain (cut_by s cover (Some t)).0 ≡ plain (cut_by (plain s) cover (Some t)).0
-    by_room t true e = rw e refl
+    by_room : (t : ℕ) (b : Bool) → nat_lt (length (book_before s cover).cuts) s.catalogue.cut_limit ≡ b → plain (cut_by s cover unwritten (Some t)).0 ≡ plain (cut_by (plain s) cover unwritten (Some t)).0
+    by_room t true e = rw e (cut_at_like s cover t unwritten)
     by_room t false e = rw e refl
 
-    by_number : (x : Option ℕ) → plain (cut_by s cover x).0 ≡ plain (cut_by (plain s) cover x).0
+    by_number : (x : Option ℕ) → plain (cut_by s cover unwritten x).0 ≡ plain (cut_by (plain s) cover unwritten x).0
     by_number None = refl
     by_number (Some t) = by_room t (nat_lt (length (book_before s cover).cuts) s.catalogue.cut_limit) refl
 
@@ -221,9 +227,10 @@ dropped_like : (s : State) (left : Bool) (m : Option MetaKey) → plain (dropped
 dropped_like s left None = refl
 dropped_like s left (Some m) = refl
 
-expired_like : (s : State) (left : Bool) (x : Option Scope) → plain (expired_in s left x).0 ≡ plain (expired_in (plain s) left x).0
-expired_like s left None = refl
-expired_like s left (Some scope) = dropped_like s left (victim_in s scope)
+expired_like : (s : State) (left : Bool) (x : Option Scope) (unwritten : Bool) → plain (expired_in s left x unwritten).0 ≡ plain (expired_in (plain s) left x unwritten).0
+expired_like s left None unwritten = refl
+expired_like s left (Some scope) true = refl
+expired_like s left (Some scope) false = dropped_like s left (victim_in s scope)
 
 -- LINES
 
@@ -237,9 +244,11 @@ asked_like w n c mode i m (request.Refused code locator) = same_seats w w.cabine
 asked_like w n c mode i m request.NotFound = same_seats w w.cabinet (plain w.cabinet) refl
 asked_like w n c mode i m request.WrongMethod = same_seats w w.cabinet (plain w.cabinet) refl
 asked_like w n c mode i m request.Usage = same_seats w w.cabinet (plain w.cabinet) refl
-asked_like w n c mode i m (request.Truncation cover) = same_seats w (cut w.cabinet cover c.ask).0 (cut (plain w.cabinet) cover c.ask).0 (cut_like w.cabinet cover c.ask)
+asked_like w n c mode i m (request.Truncation cover) = same_seats w (cut w.cabinet cover c.ask c.unwritten).0 (cut (plain w.cabinet) cover c.ask c.unwritten).0 (cut_like w.cabinet cover c.ask c.unwritten)
 asked_like w n c mode i m (request.Unformed fault) = same_seats w w.cabinet (plain w.cabinet) refl
-asked_like w n c mode i m request.Expiry = same_seats w (expired_in w.cabinet c.work (scope_exceeded w.cabinet)).0 (expired_in (plain w.cabinet) c.work (scope_exceeded w.cabinet)).0 (expired_like w.cabinet c.work (scope_exceeded w.cabinet))
+asked_like w n c mode i m request.Expiry =
+    let x = scope_exceeded w.cabinet in
+    same_seats w (expired_in w.cabinet c.work x c.unwritten).0 (expired_in (plain w.cabinet) c.work x c.unwritten).0 (expired_like w.cabinet c.work x c.unwritten)
 
 either_like : (b : Bool) (d e f g : World × List Answer) → world_in d ≡ world_in f → world_in e ≡ world_in g → world_in (if b then d else e) ≡ world_in (if b then f else g)
 either_like true d e f g h k = h
@@ -272,7 +281,8 @@ stepped_like w n c i None = refl
 stepped_like w n c i (Some None) = refl
 stepped_like w n c i (Some (Some b)) =
     let d : PendingRequest = record { start = b.start; message = b.message; address = b.address; place = b.place; actor = plain_actor b.actor } in
-    ap (λ t. Some t) (settled_like w n i c (resumed w b) (resumed (plain_world w) d) (advanced w.cabinet b.actor c.work c.moment c.bytes) (advanced (plain w.cabinet) (plain_actor b.actor) c.work c.moment (any_bytes c.bytes)) (advanced_like w.cabinet b.actor c.work c.moment c.bytes) (resumed_like w b d refl))
+    ap (λ t. Some t) (settled_like w n i c (resumed w b) (resumed (plain_world w) d) (advanced w.cabinet b.actor c.work c.moment c.unread c.bytes c.unwritten) (advanced (plain w.cabinet) (plain_actor b.actor) c.work c.moment c.unread (any_bytes c.bytes) c.unwritten)
+    (advanced_like w.cabinet b.actor c.work c.moment c.unread c.bytes c.unwritten) (resumed_like w b d refl))
 
 done_like : (w : World) (n : ℕ) (c : Chance) (d : Option Action) → worlds (line_done w n c d) ≡ worlds (line_done (plain_world w) n (without_bytes c) d)
 done_like w n c None = refl

@@ -10,26 +10,28 @@ use Rattle.tile_requests.specs.declared.outcome.Outcome.{Outcome}
 use Rattle.tile_requests.specs.declared.request.Mode.TheVariants.{Gets}
 use Rattle.tile_service.specs.OneLine.{IsWorld}
 use Rattle.tile_requests.specs.Requests.{Chance, answered_at}
-use Rattle.tile_service.specs.Run.{World, Answer, sent, failures, IsTrue}
+use Rattle.tile_service.specs.Outside.{FaultCounts, counts}
+use Rattle.tile_service.specs.Run.{World, Answer, disk_faults, sent, failures, IsTrue}
 use Rattle.tile_service.specs.Serving.{answer_to, Serves}
 use Rattle.tile_service.specs.Session.{lone, and_then, session, IsServed}
 use Rattle.tile_service.proofs.Far.{IsPlaced, answers_later, all_fresh, all_append}
 
 -- n messages came to these answers
-pub record HasServed (told : Option ℕ) (before now : ℕ) (document : List ℕ) (s t : State) (messages : List Message) (answers : List Answer) (n : ℕ) : Type 0 where
+pub record HasServed (told : Option ℕ) (before now : ℕ) (disk : FaultCounts) (document : List ℕ) (s t : State) (messages : List Message) (answers : List Answer) (n : ℕ) : Type 0 where
   pub made : List Chance
   pub goes : (tail : List Message) (more : List Chance) → session (lone s document) 1 (messages ++ tail) (made ++ more) ≡ and_then (lone t document, answers) (λ w. session w (n + 1) tail more)
   pub many : length messages ≡ n
   pub each : map (λ a. a.message) answers ≡ messages
   pub later : before ≤ now
   pub failed : RoseBy (failures answers) before now
+  pub faults : RoseBy (disk_faults made) disk.before disk.after
   pub sound : told ≡ Some s.catalogue.source → IsSound s → IsSound t
   pub truth : told ≡ Some s.catalogue.source → IsSound s → AllByRecursion (IsTrue s.catalogue) answers
   pub fresh : AllByRecursion (IsPlaced s.catalogue t.history) answers
   pub catalogue : t.catalogue ≡ s.catalogue
 
-pub served_start : (told : Option ℕ) (count : ℕ) (document : List ℕ) (s : State) → HasServed told count count document s s [] [] 0
-served_start told count document s =
+pub served_start : (told : Option ℕ) (count faults : ℕ) (document : List ℕ) (s : State) → HasServed told count count (counts faults faults) document s s [] [] 0
+served_start told count faults document s =
     record {
       made = [];
       goes = λ tail more. refl;
@@ -37,6 +39,7 @@ served_start told count document s =
       each = refl;
       later = omega arith;
       failed = omega arith;
+      faults = omega arith;
       sound = λ tells is. is;
       truth = λ tells is. tt;
       fresh = tt;
@@ -59,8 +62,8 @@ behind_answers answers r = (r.0, answers ++ r.1)
 behind_both : (answers news : List Answer) (r : World × List Answer) → behind_answers answers (behind_answers news r) ≡ behind_answers (answers ++ news) r
 behind_both answers news r = ap (λ (xs : List Answer). let p : World × List Answer = (r.0, xs) in p) (sym (append_assoc answers news r.1))
 
-module _ {told told' : Option ℕ} {before mid after : ℕ} {document : List ℕ} {s t u : State} {messages : List Message} {answers : List Answer} {n : ℕ} {m : Message} {o : Outcome}
-    (f : HasServed told before mid document s t messages answers n) (same : told' ≡ told) (h : Serves told' mid after document t m o u) (left : Bool) where
+module _ {told told' : Option ℕ} {before mid after disk_before disk_mid disk_after : ℕ} {document : List ℕ} {s t u : State} {messages : List Message} {answers : List Answer} {n : ℕ} {m : Message} {o : Outcome}
+    (f : HasServed told before mid (counts disk_before disk_mid) document s t messages answers n) (same : told' ≡ told) (h : Serves told' mid after (counts disk_mid disk_after) document t m o u) (left : Bool) where
   abbrev pub the_answer : Answer
   the_answer = answer_to (n + 1) m h.request (length t.history) (answered_at left o)
 
@@ -77,6 +80,13 @@ module _ {told told' : Option ℕ} {before mid after : ℕ} {document : List ℕ
       let e : failures (answers ++ the_answer ∷ []) ≡ failures answers + failures (the_answer ∷ []) = sum_by-append _ answers (the_answer ∷ []) in
       rw e (omega arith)
 
+  more_faults : RoseBy (disk_faults (f.made ++ h.chance left ∷ [])) disk_before disk_after
+  more_faults =
+      let i = f.faults in
+      let j = h.faults left in
+      let e : disk_faults (f.made ++ h.chance left ∷ []) ≡ disk_faults f.made + disk_faults (h.chance left ∷ []) = sum_by-append _ f.made (h.chance left ∷ []) in
+      rw e (omega arith)
+
   -- the source is modelled as the catalogue's, as it was at the start
   tells : told ≡ Some s.catalogue.source → told' ≡ Some t.catalogue.source
   tells e = same ∙ e ∙ ap (λ c. Some c.source) (sym f.catalogue)
@@ -89,7 +99,7 @@ module _ {told told' : Option ℕ} {before mid after : ℕ} {document : List ℕ
       let k = h.keeps (n + 1) left in
       all_append (IsPlaced s.catalogue u.history) answers (the_answer ∷ []) (answers_later s.catalogue t.history u.history k.grows answers f.fresh) (rw (sym f.catalogue) (k.fresh (lone_world t document)))
 
-  pub served_next : HasServed told before after document s u (messages ++ m ∷ []) (answers ++ the_answer ∷ []) (n + 1)
+  pub served_next : HasServed told before after (counts disk_before disk_after) document s u (messages ++ m ∷ []) (answers ++ the_answer ∷ []) (n + 1)
   served_next =
       let k = h.keeps (n + 1) left in
       record {
@@ -99,6 +109,7 @@ module _ {told told' : Option ℕ} {before mid after : ℕ} {document : List ℕ
         each = map-append (λ a. a.message) answers (the_answer ∷ []) ∙ rw f.each refl;
         later = let i = f.later in let j = k.later in omega arith;
         failed = more_failed;
+        faults = more_faults;
         sound = λ e is. (k.sound (tells e) (lone_world t document) (f.sound e is, (tt, tt))).0;
         truth = more_truth;
         fresh = more_fresh;
@@ -106,14 +117,15 @@ module _ {told told' : Option ℕ} {before mid after : ℕ} {document : List ℕ
       }
 
 -- that is what is promised
-pub is_served : {told : Option ℕ} {before now : ℕ} {document : List ℕ} {s t : State} {messages : List Message} {answers : List Answer} {n : ℕ}
-    → HasServed told before now document s t messages answers n → IsServed told (record { before = before; after = now }) document s t messages answers
+pub is_served : {told : Option ℕ} {before now : ℕ} {disk : FaultCounts} {document : List ℕ} {s t : State} {messages : List Message} {answers : List Answer} {n : ℕ}
+    → HasServed told before now disk document s t messages answers n → IsServed told (record { before = before; after = now }) disk document s t messages answers
 is_served {s = s} {t} {messages} {answers} f =
     record {
       chances = f.made;
       made = rw (append-nil messages, append-nil f.made, append-nil answers) at (f.goes [] []);
       each = f.each;
       failed = f.failed;
+      faults = f.faults;
       truth = f.truth;
       fresh = all_fresh s.catalogue t.history answers f.fresh;
     }

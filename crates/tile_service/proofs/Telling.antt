@@ -19,7 +19,7 @@ use Rattle.tile_requests.specs.declared.outcome.Outcome.{Outcome}
 use Rattle.tile_requests.specs.declared.outcome.Outcome.TheVariants as outcome
 use Rattle.tile_requests.specs.declared.request.Request.{Request}
 use Rattle.tile_service.specs.OneLine.{Keeps}
-use Rattle.tile_requests.specs.Requests.{answered_at, is_made, told_at, told_usage, cut_by, cut, dropped, expired_in, expired, tile_of}
+use Rattle.tile_requests.specs.Requests.{answered_at, is_made, told_at, told_usage, cut_at, cut_by, cut, dropped, expired_in, expired, tile_of}
 use Rattle.tile_service.specs.Run.{PendingRequest, Answer, is_failed, failures, unanswered, IsTrueFor, IsFreshFor, world_of}
 use Rattle.tile_requests.specs.Texts.{dropped_text, usage_text}
 use Rattle.tile_requests.proofs.Moving.{stay_covered, within_longer}
@@ -50,28 +50,35 @@ answer_succeeds false o e = chosen (is_made o)
 pub usage_stays : (s : State) (left : Bool) → Stays s (s, told_usage s left)
 usage_stays s left = same_stays s (told_usage s left) (none_failed left (outcome.Usage (usage_text s)) refl)
 
-cover_stays : (s : State) (cover : Cover) (o : Option ℕ) → Stays s (cut_by s cover o)
-cover_stays s cover None = same_stays s outcome.CutSpent refl
-cover_stays s cover (Some t) = chosen (nat_lt (length (book_before s cover).cuts) s.catalogue.cut_limit)
+cut_at_stays : (s : State) (cover : Cover) (t : ℕ) (unwritten : Bool) → Stays s (cut_at s cover t unwritten)
+cut_at_stays s cover t true = (refl, (entry.Missed t ∷ [], refl), λ is. is, refl)
+cut_at_stays s cover t false =
+    let kept : IsSound s → IsSound (with_cut s t cover) = λ is. some_and_made _ _ (blobs_spared s.catalogue cover) (λ bs are. all_filter (IsPictured s.catalogue) (λ b. not (hits_of s.catalogue cover b.kept.meta)) bs are) s.blobs is in
+    (refl, (entry.Cut t cover ∷ [], refl), kept, refl)
+
+cover_stays : (s : State) (cover : Cover) (unwritten : Bool) (o : Option ℕ) → Stays s (cut_by s cover unwritten o)
+cover_stays s cover unwritten None = same_stays s outcome.CutSpent refl
+cover_stays s cover unwritten (Some t) = chosen (nat_lt (length (book_before s cover).cuts) s.catalogue.cut_limit)
   where
-    chosen : (b : Bool) → Stays s (if b then (with_cut s t cover, outcome.Cut t) else (s, outcome.CutsFull))
-    chosen true = (refl, (entry.Cut t cover ∷ [], refl), λ is. some_and_made _ _ (blobs_spared s.catalogue cover) (λ bs are. all_filter (IsPictured s.catalogue) (λ b. not (hits_of s.catalogue cover b.kept.meta)) bs are) s.blobs is, refl)
+    chosen : (b : Bool) → Stays s (if b then cut_at s cover t unwritten else (s, outcome.CutsFull))
+    chosen true = cut_at_stays s cover t unwritten
     chosen false = same_stays s outcome.CutsFull refl
 
-pub cut_stays : (s : State) (cover : Cover) (left : Bool) → Stays s (cut s cover left)
-cut_stays s cover true = cover_stays s cover (next s.opening (now s))
-cut_stays s cover false = same_stays s outcome.NoMemory refl
+pub cut_stays : (s : State) (cover : Cover) (left unwritten : Bool) → Stays s (cut s cover left unwritten)
+cut_stays s cover true unwritten = cover_stays s cover unwritten (next s.opening (now s))
+cut_stays s cover false unwritten = same_stays s outcome.NoMemory refl
 
 dropped_stays : (s : State) (left : Bool) (o : Option MetaKey) → Stays s (dropped s left o)
 dropped_stays s left None = same_stays s outcome.Within refl
 dropped_stays s left (Some m) = (refl, (entry.Dropped m ∷ [], refl), λ is. some_and_made _ _ (blobs_without m) (λ bs are. all_filter (IsPictured s.catalogue) (λ b. not (is_of m b.kept)) bs are) s.blobs is, none_failed left (outcome.Dropped (dropped_text s.catalogue m)) refl)
 
-scope_stays : (s : State) (left : Bool) (o : Option Scope) → Stays s (expired_in s left o)
-scope_stays s left None = same_stays s outcome.Within refl
-scope_stays s left (Some scope) = dropped_stays s left (victim_in s scope)
+scope_stays : (s : State) (left : Bool) (o : Option Scope) (unwritten : Bool) → Stays s (expired_in s left o unwritten)
+scope_stays s left None unwritten = same_stays s outcome.Within refl
+scope_stays s left (Some scope) true = same_stays s outcome.DiskFault refl
+scope_stays s left (Some scope) false = dropped_stays s left (victim_in s scope)
 
-pub expired_stays : (s : State) (left : Bool) → Stays s (expired s left)
-expired_stays s left = scope_stays s left (scope_exceeded s)
+pub expired_stays : (s : State) (left unwritten : Bool) → Stays s (expired s left unwritten)
+expired_stays s left unwritten = scope_stays s left (scope_exceeded s) unwritten
 
 -- WHAT HOLDS
 

@@ -8,4 +8,4 @@ any_bytes None = None
 any_bytes (Some bytes) = Some (λ i. 0)
 
 abbrev pub without_bytes : Chance → Chance
-without_bytes c = record { read = c.read; ask = c.ask; moment = c.moment; work = c.work; bytes = any_bytes c.bytes; left = c.left }
+without_bytes c = record { read = c.read; ask = c.ask; moment = c.moment; unread = c.unread; work = c.work; bytes = any_bytes c.bytes; unwritten = c.unwritten; left = c.left }

@@ -7,6 +7,7 @@ use Rattle.cabinet.specs.State.{State, IsSound}
 use Rattle.cache_core.specs.Fits.{IsFit, IsFreshActor, IsTrueActor, Extends}
 use Rattle.cache_core.specs.Shown.{IsIdle}
 use Rattle.catalog.specs.declared.catalogue.Catalogue.{Catalogue}
+use Rattle.causes.specs.Causes.{RoseBy}
 use Rattle.http_wire.specs.declared.message.Message.{Message}
 use Rattle.tile_service.specs.declared.action_end.ActionEnd.{ActionEnd}
 use Rattle.tile_service.specs.declared.action_end.ActionEnd.TheVariants as action_end
@@ -18,7 +19,8 @@ use Rattle.tile_service.specs.declared.seats.Seat.{Seat}
 use Rattle.tile_service.specs.declared.seats.Seat.TheVariants as seat
 use Rattle.tile_requests.specs.Events.{StayCovered}
 use Rattle.tile_service.specs.Lines.{Action, action_in}
-use Rattle.tile_requests.specs.Requests.{Chance, answered_at, calm, is_made}
+use Rattle.tile_requests.specs.Requests.{Chance, answered_at, calm, disk_faults_in, is_made}
+use Rattle.tile_service.specs.Outside.{FaultCounts}
 use Rattle.tile_service.specs.Run.{PendingRequest, World, Answer, line_done, failures, unanswered, IsTrue, IsFresh, world_of}
 
 -- P holds of the outcome, or of that of no memory, where a text would have to be made for the answer
@@ -69,10 +71,11 @@ pub record Keeps (told : Option ℕ) (before after : ℕ) (w t : World) (answers
   pub catalogue : t.cabinet.catalogue ≡ w.cabinet.catalogue
   pub capabilities : t.capabilities ≡ w.capabilities
 
--- from w line n came to t with these answers
-pub record IsLine (told : Option ℕ) (before after : ℕ) (w : World) (n : ℕ) (line : List ℕ) (t : World) (answers : List Answer) : Type 0 where
+-- from w line n came to t with these answers, under a chance that names no more faults of the disk than its count rose by
+pub record IsLine (told : Option ℕ) (before after : ℕ) (disk : FaultCounts) (w : World) (n : ℕ) (line : List ℕ) (t : World) (answers : List Answer) : Type 0 where
   pub chance : Chance
   pub made : line_done w n chance (action_in line) ≡ Some (t, answers)
+  pub faults : RoseBy (disk_faults_in chance) disk.before disk.after
   pub keeps : Keeps told before after w t answers
 
 -- BEFORE THE ANSWER IS WRITTEN
@@ -82,20 +85,21 @@ abbrev pub answer_with : code.Answer → ℕ → Message → Option Request → 
 answer_with r n m request place left = record { line = n; actor = r.actor; start = r.start; message = m; request = request; place = place; outcome = answered_at left r.outcome }
 
 -- the line's one answer is that of the code, or says that memory ran out for its text
-pub record AnswersWith (told : Option ℕ) (before after : ℕ) (w : World) (n : ℕ) (action : Option Action) (t : World) (r : code.Answer) : Type 0 where
+pub record AnswersWith (told : Option ℕ) (before after : ℕ) (disk : FaultCounts) (w : World) (n : ℕ) (action : Option Action) (t : World) (r : code.Answer) : Type 0 where
   pub message : Message
   pub request : Option Request
   pub place : ℕ
   pub open_after : message.last ≡ false
   pub chance : Bool → Chance
   pub made : (left : Bool) → line_done w n (chance left) action ≡ Some (t, answer_with r n message request place left ∷ [])
+  pub faults : (left : Bool) → RoseBy (disk_faults_in (chance left)) disk.before disk.after
   pub keeps : (left : Bool) → Keeps told before after w t (answer_with r n message request place left ∷ [])
 
 -- how an action ends, before its answer is written
-abbrev pub ActionEnds : Option ℕ → ℕ → ℕ → World → ℕ → Option Action → World → ActionEnd → Type 0
-ActionEnds told before after w n action t action_end.Refused = (line_done w n calm action ≡ None) × (t ≡ w) × (before ≤ after)
-ActionEnds told before after w n action t action_end.Silent = (c : Chance) × (line_done w n c action ≡ Some (t, [])) × Keeps told before after w t []
-ActionEnds told before after w n action t (action_end.Answers r) = AnswersWith told before after w n action t r
+abbrev pub ActionEnds : Option ℕ → ℕ → ℕ → FaultCounts → World → ℕ → Option Action → World → ActionEnd → Type 0
+ActionEnds told before after disk w n action t action_end.Refused = (line_done w n calm action ≡ None) × (t ≡ w) × (before ≤ after) × (disk.before ≤ disk.after)
+ActionEnds told before after disk w n action t action_end.Silent = (c : Chance) × (line_done w n c action ≡ Some (t, [])) × RoseBy (disk_faults_in c) disk.before disk.after × Keeps told before after w t []
+ActionEnds told before after disk w n action t (action_end.Answers r) = AnswersWith told before after disk w n action t r
 
 -- SEATS
 
@@ -110,6 +114,6 @@ pub record IsSeated (s : State) (document : List ℕ) (seats : List Seat) (busy 
   pub world : IsWorld (world_of s document busy)
 
 -- whatever the actors were busy with before, they are busy with these now, and the action ended so
-abbrev pub Performs : Option ℕ → ℕ → ℕ → State → List ℕ → List Seat → ℕ → Option Action → State → List Seat → ActionEnd → Type 0
-Performs told before after s document seats n action t seats' end =
-    (busy : List (Option PendingRequest)) → IsSeated s document seats busy → (later : List (Option PendingRequest)) × (map seat_of later ≡ seats') × ActionEnds told before after (world_of s document busy) n action (world_of t document later) end
+abbrev pub Performs : Option ℕ → ℕ → ℕ → FaultCounts → State → List ℕ → List Seat → ℕ → Option Action → State → List Seat → ActionEnd → Type 0
+Performs told before after disk s document seats n action t seats' end =
+    (busy : List (Option PendingRequest)) → IsSeated s document seats busy → (later : List (Option PendingRequest)) × (map seat_of later ≡ seats') × ActionEnds told before after disk (world_of s document busy) n action (world_of t document later) end

@@ -6,11 +6,15 @@ pub record FaultCounts : Type 0 where
   pub before : ℕ
   pub after : ℕ
 
--- what a call saw of its source and its output: the number that is modelled of the source, their faults,
+abbrev pub counts : ℕ → ℕ → FaultCounts
+counts before after = record { before = before; after = after }
+
+-- what a call saw of its source, its output and the disk of its cabinet: the number that is modelled of the source, their faults,
 -- and what the output has taken, where it is modelled
 pub record Outside : Type 0 where
   pub told : Option ℕ
   pub renders : FaultCounts
+  pub disk : FaultCounts
   pub writes : FaultCounts
   pub from : Option (List ℕ)
   pub to : Option (List ℕ)

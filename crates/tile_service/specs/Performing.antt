@@ -1,6 +1,6 @@
 -- What a request comes to in the code: a tile goes through events, and all else has its outcome in one step.
 -- A tie between the code and its definitions: the promise can be read without it.
-use Rattle.std.specs.Prelude.{ℕ, ◌≡◌, ◌⊎◌, List, slice_set, Option, Some}
+use Rattle.std.specs.Prelude.{ℕ, ◌≡◌, ◌≤◌, ◌⊎◌, List, slice_set, Option, Some}
 use Rattle.cabinet.specs.State.{State}
 use Rattle.cache_core.specs.declared.actor.Step.{Step}
 use Rattle.cache_core.specs.declared.outcome.TileOutcome as cached
@@ -16,19 +16,20 @@ use Rattle.tile_service.specs.declared.seats.Seat.{Seat}
 use Rattle.tile_requests.specs.Events.{Opens}
 use Rattle.tile_requests.specs.Immediate.{IsImmediate}
 use Rattle.tile_requests.specs.Requests.{outcome_of}
+use Rattle.tile_service.specs.Outside.{FaultCounts}
 use Rattle.tile_service.specs.Seats.{action_end_of, next_seat}
 
 -- WHERE ONE MESSAGE IS SERVED AT A TIME
 
 -- the tile was asked for, rendered and finished one after the other, and this is its outcome
-abbrev pub IsGot : Option ℕ → ℕ → ℕ → State → Address → Outcome → State → Type 0
-IsGot told before after s a o t = (step : Step) × (ended : cached.TileOutcome) × Opens told before after s a Gets step t × (step.outcome ≡ Some ended) × (o ≡ outcome_of ended)
+abbrev pub IsGot : Option ℕ → ℕ → ℕ → FaultCounts → State → Address → Outcome → State → Type 0
+IsGot told before after disk s a o t = (step : Step) × (ended : cached.TileOutcome) × Opens told before after disk.before disk.after s a Gets step t × (step.outcome ≡ Some ended) × (o ≡ outcome_of ended)
 
 -- WHERE THE CODE'S SEATS ARE
 
 -- a request that an actor starts: a tile comes to its events and the seat after them, all else to its outcome, and nothing
 -- else happens
-abbrev pub IsAsked : Option ℕ → ℕ → ℕ → State → List Seat → ℕ → Mode → ℕ → Request → State → List Seat → ActionEnd → Type 0
-IsAsked told before after s seats n mode i r t seats' end =
-    ((a : Address) × (step : Step) × (r ≡ request.Tile a) × Opens told before after s a mode step t × (end ≡ action_end_of i n step.outcome) × (seats' ≡ slice_set seats i (next_seat n a step.actor step.outcome)))
-    ⊎ ((o : Outcome) × IsImmediate s r o t × (end ≡ Answers (record { actor = i; start = n; outcome = o })) × (seats' ≡ seats) × (after ≡ before))
+abbrev pub IsAsked : Option ℕ → ℕ → ℕ → FaultCounts → State → List Seat → ℕ → Mode → ℕ → Request → State → List Seat → ActionEnd → Type 0
+IsAsked told before after disk s seats n mode i r t seats' end =
+    ((a : Address) × (step : Step) × (r ≡ request.Tile a) × Opens told before after disk.before disk.after s a mode step t × (end ≡ action_end_of i n step.outcome) × (seats' ≡ slice_set seats i (next_seat n a step.actor step.outcome)))
+    ⊎ ((o : Outcome) × IsImmediate disk.before disk.after s r o t × (end ≡ Answers (record { actor = i; start = n; outcome = o })) × (seats' ≡ seats) × (after ≡ before) × (disk.before ≤ disk.after))

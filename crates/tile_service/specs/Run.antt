@@ -1,6 +1,6 @@
 -- The run of a schedule: it goes through the lines with the cabinet and what its actors are busy with, and each line has its
 -- answers. What happens by chance in a line is taken as it happened; all else is fixed.
-use Rattle.std.specs.Prelude.{ℕ, ◌+◌, Bool, true, false, if◌then◌else◌, List, [], ◌∷◌, ◌++◌, length, replicate, fold, slice_get, slice_set, Option, Some, None, IfSome, flat_map, count_by, sum_by}
+use Rattle.std.specs.Prelude.{ℕ, ◌≡◌, ◌+◌, Bool, true, false, if◌then◌else◌, List, [], ◌∷◌, ◌++◌, length, replicate, fold, slice_get, slice_set, Option, Some, None, IfSome, flat_map, count_by, sum_by}
 use Rattle.cabinet.specs.History.{History}
 use Rattle.cabinet.specs.State.{State}
 use Rattle.cache_core.specs.declared.actor.Actor.{Actor}
@@ -12,13 +12,13 @@ use Rattle.catalog.specs.declared.catalogue.Catalogue.{Catalogue}
 use Rattle.http_wire.specs.declared.message.Message.{Message}
 use Rattle.matrix_geometry.specs.declared.address.Address.{Address}
 use Rattle.tile_requests.specs.declared.outcome.Outcome.{Outcome}
-use Rattle.tile_requests.specs.declared.outcome.Outcome.TheVariants.{Tile, Document, Refused, NotFound, WrongMethod, SourceFailed, Spent, Usage, Cut, CutsFull, CutSpent, Unformed, Dropped, Within, NoMemory}
+use Rattle.tile_requests.specs.declared.outcome.Outcome.TheVariants.{Tile, Document, Refused, NotFound, WrongMethod, SourceFailed, Spent, Usage, Cut, CutsFull, CutSpent, Unformed, Dropped, Within, DiskFault, NoMemory}
 use Rattle.tile_requests.specs.declared.request.Mode.{Mode}
 use Rattle.tile_requests.specs.declared.request.Request.{Request}
 use Rattle.tile_requests.specs.declared.request.Request.TheVariants as request
 use Rattle.tile_service.specs.declared.seats.TheConstants.{ACTORS}
 use Rattle.tile_service.specs.Lines.{Action, Nothing, Sends, Steps, action_in}
-use Rattle.tile_requests.specs.Requests.{owed, Chance, calm, events, outcome_of, answered_at, told_usage, cut, expired, IsTrueAnswer, IsFreshAnswer}
+use Rattle.tile_requests.specs.Requests.{owed, Chance, calm, disk_faults_in, events, outcome_of, answered_at, told_usage, cut, expired, IsTrueAnswer, IsFreshAnswer}
 use Rattle.tile_requests.specs.Response.{answered}
 use Rattle.tile_requests.specs.Routes.{request_for}
 
@@ -110,9 +110,9 @@ asked w n c mode i m (request.Refused code locator) = told_in w n c i m (Some (r
 asked w n c mode i m request.NotFound = told_in w n c i m (Some request.NotFound) (w.cabinet, NotFound)
 asked w n c mode i m request.WrongMethod = told_in w n c i m (Some request.WrongMethod) (w.cabinet, WrongMethod)
 asked w n c mode i m request.Usage = told_in w n c i m (Some request.Usage) (w.cabinet, told_usage w.cabinet c.work)
-asked w n c mode i m (request.Truncation cover) = told_in w n c i m (Some (request.Truncation cover)) (cut w.cabinet cover c.ask)
+asked w n c mode i m (request.Truncation cover) = told_in w n c i m (Some (request.Truncation cover)) (cut w.cabinet cover c.ask c.unwritten)
 asked w n c mode i m (request.Unformed fault) = told_in w n c i m (Some (request.Unformed fault)) (w.cabinet, Unformed fault)
-asked w n c mode i m request.Expiry = told_in w n c i m (Some request.Expiry) (expired w.cabinet c.work)
+asked w n c mode i m request.Expiry = told_in w n c i m (Some request.Expiry) (expired w.cabinet c.work c.unwritten)
 
 -- a message is answered; memory may run out before it is read
 abbrev pub sent : World → ℕ → Chance → Mode → ℕ → Message → World × List Answer
@@ -128,7 +128,7 @@ if_free (Some (Some b)) d = None
 abbrev pub stepped : World → ℕ → Chance → ℕ → Option (Option PendingRequest) → Option (World × List Answer)
 stepped w n c i None = None
 stepped w n c i (Some None) = None
-stepped w n c i (Some (Some b)) = Some (settled w n c i (resumed w b) (advanced w.cabinet b.actor c.work c.moment c.bytes))
+stepped w n c i (Some (Some b)) = Some (settled w n c i (resumed w b) (advanced w.cabinet b.actor c.work c.moment c.unread c.bytes c.unwritten))
 
 -- what one line does: the world after it and its answers, unless it is refused
 abbrev pub line_done : World → ℕ → Chance → Option Action → Option (World × List Answer)
@@ -188,11 +188,20 @@ is_failed CutSpent = false
 is_failed (Unformed fault) = false
 is_failed (Dropped text) = false
 is_failed Within = false
+is_failed DiskFault = false
 is_failed NoMemory = false
 
 -- how many answers say that the source failed
 abbrev pub failures : List Answer → ℕ
 failures answers = count_by (λ a. is_failed a.outcome) answers
+
+-- how many faults of the disk these chances name
+abbrev pub disk_faults : List Chance → ℕ
+disk_faults chances = sum_by disk_faults_in chances
+
+-- it names none
+abbrev pub IsFaultless : Chance → Type 0
+IsFaultless c = (c.unread ≡ false) × (c.unwritten ≡ false)
 
 -- how many failures of the source are yet to be answered
 abbrev pub owed_at : Option PendingRequest → ℕ

@@ -12,7 +12,7 @@ use Rattle.tile_service.specs.declared.schedule.TheConstants.{SCHEDULE_LIMIT}
 use Rattle.tile_service.specs.Lines.{lines_of}
 use Rattle.tile_service.specs.Outside.{FaultCounts, Outside, InputChange}
 use Rattle.tile_requests.specs.Requests.{Chance}
-use Rattle.tile_service.specs.Run.{World, Answer, Run, run, answer_text, output_of, failures, unanswered, closed, IsTrue, IsFresh}
+use Rattle.tile_service.specs.Run.{World, Answer, Run, run, answer_text, disk_faults, output_of, failures, unanswered, closed, IsTrue, IsFresh}
 use Rattle.tile_requests.specs.Sent.{AppendsPart}
 
 -- THE LINES OF A TEXT WERE RUN
@@ -51,12 +51,14 @@ pub record IsUpheld (told : Option ℕ) (renders : FaultCounts) (w : World) (r :
   pub truth : told ≡ Some w.cabinet.catalogue.source → IsSound w.cabinet → AllByRecursion (IsTrue w.cabinet.catalogue) r.answers
   pub fresh : AllByRecursion (IsFresh w.cabinet.catalogue r.world.cabinet.history) r.answers
 
--- From w the lines of a text came to t: this is the end of their run, under some chances.
+-- From w the lines of a text came to t: this is the end of their run, under some chances. These name no more faults of the disk than
+-- its count rose by.
 pub record HasRun (o : Outside) (w : World) (text : List ℕ) (t : World) (end : RunEnd) : Type 0 where
   pub lines : List (List ℕ)
   pub chances : List Chance
   pub through : GoesThrough (lines_of text) end lines
   pub ends : Ends o w lines chances t end
+  pub faults : RoseBy (disk_faults chances) o.disk.before o.disk.after
   pub upheld : IsUpheld o.told o.renders w (run w 1 lines chances)
 
 -- A SCHEDULE WAS READ AND RUN

@@ -2,12 +2,14 @@
 -- A tie between the code and its definitions: the promise can be read without it.
 use Rattle.std.specs.Prelude.{ℕ, ◌≡◌, Bool, List, [], ◌∷◌, length, Option}
 use Rattle.cabinet.specs.State.{State}
+use Rattle.causes.specs.Causes.{RoseBy}
 use Rattle.http_wire.specs.declared.message.Message.{Message}
 use Rattle.tile_requests.specs.declared.outcome.Outcome.{Outcome}
 use Rattle.tile_requests.specs.declared.request.Mode.TheVariants.{Gets}
 use Rattle.tile_requests.specs.declared.request.Request.{Request}
 use Rattle.tile_service.specs.OneLine.{Keeps}
-use Rattle.tile_requests.specs.Requests.{Chance, answered_at}
+use Rattle.tile_requests.specs.Requests.{Chance, answered_at, disk_faults_in}
+use Rattle.tile_service.specs.Outside.{FaultCounts}
 use Rattle.tile_service.specs.Run.{Answer, sent}
 use Rattle.tile_service.specs.Session.{IsAtRest, lone}
 
@@ -15,10 +17,12 @@ use Rattle.tile_service.specs.Session.{IsAtRest, lone}
 abbrev pub answer_to : ℕ → Message → Option Request → ℕ → Outcome → Answer
 answer_to i m request place o = record { line = i; actor = 0; start = i; message = m; request = request; place = place; outcome = o }
 
--- From s a message came to t, and this is its outcome, unless no memory is left to answer it. No render runs after it.
-pub record Serves (told : Option ℕ) (before after : ℕ) (document : List ℕ) (s : State) (m : Message) (o : Outcome) (t : State) : Type 0 where
+-- From s a message came to t, and this is its outcome, unless no memory is left to answer it. Its chance names no more faults of the
+-- disk than its count rose by. No render runs after it.
+pub record Serves (told : Option ℕ) (before after : ℕ) (disk : FaultCounts) (document : List ℕ) (s : State) (m : Message) (o : Outcome) (t : State) : Type 0 where
   pub request : Option Request
   pub chance : Bool → Chance
   pub made : (i : ℕ) (left : Bool) → sent (lone s document) i (chance left) Gets 0 m ≡ (lone t document, answer_to i m request (length s.history) (answered_at left o) ∷ [])
+  pub faults : (left : Bool) → RoseBy (disk_faults_in (chance left)) disk.before disk.after
   pub keeps : (i : ℕ) (left : Bool) → Keeps told before after (lone s document) (lone t document) (answer_to i m request (length s.history) (answered_at left o) ∷ [])
   pub rests : IsAtRest t

@@ -71,5 +71,5 @@ pub record HasSession (i : InputChange) (o : Outside) (document : List ℕ) (s t
   pub answers : List Answer
   pub held : List ℕ
   pub stand : StandIn i.from messages (prepend_known held i.to)
-  pub served : IsServed o.told o.renders document s t messages answers
+  pub served : IsServed o.told o.renders o.disk document s t messages answers
   pub ends : Ends i o document messages answers held (prepend_known held i.to) end

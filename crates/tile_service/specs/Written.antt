@@ -17,11 +17,11 @@ use Rattle.tile_service.specs.CacheTally.{one_of, tally_of}
 
 -- how a line ends in a world, what went out of its answers, and what they tell of the cache
 abbrev pub LineEnds : Outside → World → ℕ → List ℕ → World → LineEnd → Type 0
-LineEnds o w n line t line_end.Refused = (line_done w n calm (action_in line) ≡ None) × (t ≡ w) × (o.renders.before ≤ o.renders.after) × (o.to ≡ o.from)
+LineEnds o w n line t line_end.Refused = (line_done w n calm (action_in line) ≡ None) × (t ≡ w) × (o.renders.before ≤ o.renders.after) × (o.disk.before ≤ o.disk.after) × (o.to ≡ o.from)
 LineEnds o w n line t (line_end.Done told) =
-    (answers : List Answer) × IsLine o.told o.renders.before o.renders.after w n line t answers × Appends o.from o.to (flat_map (answer_text w.capabilities) answers) × (tally_of answers ≡ one_of told)
+    (answers : List Answer) × IsLine o.told o.renders.before o.renders.after o.disk w n line t answers × Appends o.from o.to (flat_map (answer_text w.capabilities) answers) × (tally_of answers ≡ one_of told)
 LineEnds o w n line t line_end.WriteFault =
-    (answer : Answer) × IsLine o.told o.renders.before o.renders.after w n line t (answer ∷ []) × AppendsFront o.from o.to (answer_text w.capabilities answer) × Rose o.writes.before o.writes.after
+    (answer : Answer) × IsLine o.told o.renders.before o.renders.after o.disk w n line t (answer ∷ []) × AppendsFront o.from o.to (answer_text w.capabilities answer) × Rose o.writes.before o.writes.after
 
 -- whatever the actors were busy with before, they are busy with these now, and the line ended so
 abbrev pub Writes : Outside → State → List ℕ → List Seat → ℕ → List ℕ → State → List Seat → LineEnd → Type 0

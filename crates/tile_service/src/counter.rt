@@ -1,12 +1,12 @@
 //! What one thread serves with: a cabinet, the reading of paths, and the capabilities document.
-use cabinet::cabinet::Cabinet;
+use cabinet::keeper::Keeper;
 use exact_ratio::words::Words;
 use wmts_rest::table::RestTable;
 
 /// Where one thread is served.
 #[derive(Drop)]
-pub struct Counter {
-    pub cabinet: Cabinet,
+pub struct Counter<C: Keeper> {
+    pub cabinet: C,
     /// How paths of tiles are read.
     pub rest: RestTable,
     /// The document of the service's capabilities, as the operator wrote it.

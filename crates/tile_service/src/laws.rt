@@ -1,9 +1,11 @@
-//! What the bytes of renderings have no part in.
+//! What the bytes of renderings have no part in, and what a cabinet without a disk has no part in.
 ghost use Rattle.std.specs.Prelude.{List, ℕ, map, ◌≡◌};
+ghost use Rattle.std.specs.List.{AllByRecursion};
+ghost use Rattle.causes.specs.Causes.{RoseBy};
 ghost use Rattle.http_wire.specs.declared.message.Message.{Message};
 ghost use Rattle.tile_service.specs.Alike.{without_bytes};
 ghost use Rattle.tile_requests.specs.Requests.{Chance};
-ghost use Rattle.tile_service.specs.Run.{World, run};
+ghost use Rattle.tile_service.specs.Run.{IsFaultless, World, disk_faults, run};
 ghost use Rattle.tile_service.specs.Session.{session};
 
 /// The history after a run or a session, and so what is kept, and the line that is refused follow from the lines or messages,
@@ -12,4 +14,10 @@ pub fn laws_of_runs()
     ensures history { (w : World) (n : ℕ) (lines : List (List ℕ)) (chances : List Chance) (others : List Chance) → map without_bytes chances ≡ map without_bytes others → (run w n lines chances).world.cabinet.history ≡ (run w n lines others).world.cabinet.history }
     ensures refused { (w : World) (n : ℕ) (lines : List (List ℕ)) (chances : List Chance) (others : List Chance) → map without_bytes chances ≡ map without_bytes others → (run w n lines chances).refused ≡ (run w n lines others).refused }
     ensures session { (w : World) (place : ℕ) (messages : List Message) (chances : List Chance) (others : List Chance) → map without_bytes chances ≡ map without_bytes others → (session w place messages chances).0.cabinet.history ≡ (session w place messages others).0.cabinet.history }
+{}
+
+/// A cabinet whose disk's count of faults stays at 0, as that of one in memory does, has no part in faults of a disk: no chance of its
+/// runs names one.
+pub fn laws_of_memory()
+    ensures { (chances : List Chance) → RoseBy (disk_faults chances) 0 0 → AllByRecursion IsFaultless chances }
 {}

@@ -6,7 +6,8 @@
 //! Promises: the answers of a schedule are those of its run (`specs/Run.antt`), in order, each message led by the table of
 //! paths and answered by its response, as `tile_requests` has them; each tile is the picture of its number
 //! and fresh at its last ask or force (`specs/Schedules.antt`). No more answers of the run say that the source failed, and no
-//! more failures are yet to be answered, than the source's count of faults rose by (`failed` there). A session over a link
+//! more failures are yet to be answered, than the source's count of faults rose by (`failed` there); and its chances name no more
+//! faults of the cabinet's disk than that count rose by (`faults` there). A session over a link
 //! answers its messages in order (`specs/Session.antt`), and ends as its stream does, after its last message or at a fault
 //! (`specs/SessionEnds.antt`); of the bytes after the last message it takes less than one take may bring.
 //! Stands on tile_requests, cabinet, cache_core, source_render, schedule_text and http_wire.

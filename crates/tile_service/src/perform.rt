@@ -4,6 +4,7 @@ ghost use Rattle.catalog.specs.Valid.{IsValid};
 ghost use Rattle.tile_service.specs.Performing.{IsAsked};
 ghost use Rattle.tile_service.specs.Lines.{Sends, Steps, action_in};
 ghost use Rattle.tile_service.specs.OneLine.{Performs, IsSeated};
+ghost use Rattle.tile_service.specs.Outside.{counts};
 ghost use Rattle.tile_requests.specs.Requests.{IsOf};
 ghost use Rattle.tile_requests.specs.Shown.{shown_message};
 ghost use Rattle.tile_service.specs.Run.{PendingRequest};
@@ -12,6 +13,7 @@ use crate::action_end::{ActionEnd, Answer};
 use crate::counter::Counter;
 use crate::lines::{Action, action_in};
 use crate::seats::{Pending, Seat, is_free, pending_at, settle};
+use cabinet::keeper::Keeper;
 use cache_core::steps::advance;
 use source_render::source::Source;
 use std::alloc::Global;
@@ -34,9 +36,9 @@ fn answered(actor: u32, line: u64, outcome: Outcome) -> ActionEnd
 }
 
 /// Serves a request that an actor starts in line `n`.
-fn asked<S: Source>(
+fn asked<C: Keeper, S: Source>(
     alloc: Global,
-    counter: &mut Counter,
+    counter: &mut Counter<C>,
     seats: &mut [Seat],
     source: &mut S,
     n: u64,
@@ -44,11 +46,11 @@ fn asked<S: Source>(
     actor: u32,
     request: Request,
 ) -> ActionEnd
-    requires valid { IsValid counter.old.cabinet.catalogue }
-    requires of { IsOf counter.old.cabinet.catalogue request }
+    requires valid { IsValid (C.state counter.old.cabinet).catalogue }
+    requires of { IsOf (C.state counter.old.cabinet).catalogue request }
     requires free { slice_get seats.old actor ≡ Some Seat.Free }
-    ensures asked { IsAsked (S.told source.old) (S.faults source.old) (S.faults source.new) counter.old.cabinet seats.old n mode actor request counter.new.cabinet seats.new result }
-    ensures catalogue { counter.new.cabinet.catalogue ≡ counter.old.cabinet.catalogue }
+    ensures asked { IsAsked (S.told source.old) (S.faults source.old) (S.faults source.new) (counts (C.faults counter.old.cabinet) (C.faults counter.new.cabinet)) (C.state counter.old.cabinet) seats.old n mode actor request (C.state counter.new.cabinet) seats.new result }
+    ensures catalogue { (C.state counter.new.cabinet).catalogue ≡ (C.state counter.old.cabinet).catalogue }
     ensures capabilities { counter.new.capabilities ≡ counter.old.capabilities }
     ensures told { S.told source.new ≡ S.told source.old }
 {
@@ -65,9 +67,9 @@ fn asked<S: Source>(
 }
 
 /// An actor sends a message in line `n`.
-fn sent<S: Source>(
+fn sent<C: Keeper, S: Source>(
     alloc: Global,
-    counter: &mut Counter,
+    counter: &mut Counter<C>,
     seats: &mut [Seat],
     source: &mut S,
     n: u64,
@@ -75,9 +77,9 @@ fn sent<S: Source>(
     actor: u32,
     message: &MessageRef<'_>,
 ) -> ActionEnd
-    requires { IsValid counter.old.cabinet.catalogue }
-    ensures performs { Performs (S.told source.old) (S.faults source.old) (S.faults source.new) counter.old.cabinet counter.old.capabilities seats.old n (Some (Sends mode actor (shown_message message.now))) counter.new.cabinet seats.new result }
-    ensures catalogue { counter.new.cabinet.catalogue ≡ counter.old.cabinet.catalogue }
+    requires { IsValid (C.state counter.old.cabinet).catalogue }
+    ensures performs { Performs (S.told source.old) (S.faults source.old) (S.faults source.new) (counts (C.faults counter.old.cabinet) (C.faults counter.new.cabinet)) (C.state counter.old.cabinet) counter.old.capabilities seats.old n (Some (Sends mode actor (shown_message message.now))) (C.state counter.new.cabinet) seats.new result }
+    ensures catalogue { (C.state counter.new.cabinet).catalogue ≡ (C.state counter.old.cabinet).catalogue }
     ensures capabilities { counter.new.capabilities ≡ counter.old.capabilities }
     ensures told { S.told source.new ≡ S.told source.old }
 {
@@ -92,17 +94,17 @@ fn sent<S: Source>(
 }
 
 /// An actor makes the next event of its pending request.
-fn stepped<S: Source>(
+fn stepped<C: Keeper, S: Source>(
     alloc: Global,
-    counter: &mut Counter,
+    counter: &mut Counter<C>,
     seats: &mut [Seat],
     source: &mut S,
     n: u64,
     actor: u32,
 ) -> ActionEnd
-    requires { (busy : List (Option PendingRequest)) × IsSeated counter.old.cabinet counter.old.capabilities seats.old busy }
-    ensures performs { Performs (S.told source.old) (S.faults source.old) (S.faults source.new) counter.old.cabinet counter.old.capabilities seats.old n (Some (Steps actor)) counter.new.cabinet seats.new result }
-    ensures catalogue { counter.new.cabinet.catalogue ≡ counter.old.cabinet.catalogue }
+    requires { (busy : List (Option PendingRequest)) × IsSeated (C.state counter.old.cabinet) counter.old.capabilities seats.old busy }
+    ensures performs { Performs (S.told source.old) (S.faults source.old) (S.faults source.new) (counts (C.faults counter.old.cabinet) (C.faults counter.new.cabinet)) (C.state counter.old.cabinet) counter.old.capabilities seats.old n (Some (Steps actor)) (C.state counter.new.cabinet) seats.new result }
+    ensures catalogue { (C.state counter.new.cabinet).catalogue ≡ (C.state counter.old.cabinet).catalogue }
     ensures capabilities { counter.new.capabilities ≡ counter.old.capabilities }
     ensures told { S.told source.new ≡ S.told source.old }
 {
@@ -122,18 +124,18 @@ fn stepped<S: Source>(
 }
 
 /// Performs the action that line `n` says.
-pub fn perform<S: Source>(
+pub fn perform<C: Keeper, S: Source>(
     alloc: Global,
-    counter: &mut Counter,
+    counter: &mut Counter<C>,
     seats: &mut [Seat],
     source: &mut S,
     n: u64,
     line: &[u8],
 ) -> ActionEnd
-    requires valid { IsValid counter.old.cabinet.catalogue }
-    requires seated { (busy : List (Option PendingRequest)) × IsSeated counter.old.cabinet counter.old.capabilities seats.old busy }
-    ensures performs { Performs (S.told source.old) (S.faults source.old) (S.faults source.new) counter.old.cabinet counter.old.capabilities seats.old n (action_in line.now) counter.new.cabinet seats.new result }
-    ensures catalogue { counter.new.cabinet.catalogue ≡ counter.old.cabinet.catalogue }
+    requires valid { IsValid (C.state counter.old.cabinet).catalogue }
+    requires seated { (busy : List (Option PendingRequest)) × IsSeated (C.state counter.old.cabinet) counter.old.capabilities seats.old busy }
+    ensures performs { Performs (S.told source.old) (S.faults source.old) (S.faults source.new) (counts (C.faults counter.old.cabinet) (C.faults counter.new.cabinet)) (C.state counter.old.cabinet) counter.old.capabilities seats.old n (action_in line.now) (C.state counter.new.cabinet) seats.new result }
+    ensures catalogue { (C.state counter.new.cabinet).catalogue ≡ (C.state counter.old.cabinet).catalogue }
     ensures capabilities { counter.new.capabilities ≡ counter.old.capabilities }
     ensures told { S.told source.new ≡ S.told source.old }
 {

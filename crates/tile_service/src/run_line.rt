@@ -3,6 +3,7 @@ ghost use Rattle.std.specs.Prelude.{◌≡◌, ◌≤◌, List, None, Option, fl
 ghost use Rattle.std.specs.Io.KnownBytes.{Appends};
 ghost use Rattle.catalog.specs.Valid.{IsValid};
 ghost use Rattle.tile_service.specs.OneLine.{IsSeated};
+ghost use Rattle.tile_service.specs.Outside.{counts};
 ghost use Rattle.tile_service.specs.Written.{Writes};
 ghost use Rattle.tile_service.specs.Run.{PendingRequest};
 
@@ -12,6 +13,7 @@ use crate::cache_tally::CacheResult;
 use crate::counter::Counter;
 use crate::perform::perform;
 use crate::seats::Seat;
+use cabinet::keeper::Keeper;
 use http_wire::streams::ByteSink;
 use source_render::source::Source;
 use std::alloc::Global;
@@ -28,21 +30,21 @@ pub enum LineEnd {
 }
 
 /// Runs line `n`, and writes its answer.
-pub fn run_line<S: Source, O: ByteSink>(
+pub fn run_line<C: Keeper, S: Source, O: ByteSink>(
     alloc: Global,
-    counter: &mut Counter,
+    counter: &mut Counter<C>,
     seats: &mut [Seat],
     source: &mut S,
     output: &mut O,
     n: u64,
     line: &[u8],
 ) -> LineEnd
-    requires valid { IsValid counter.old.cabinet.catalogue }
-    requires seated { (busy : List (Option PendingRequest)) × IsSeated counter.old.cabinet counter.old.capabilities seats.old busy }
+    requires valid { IsValid (C.state counter.old.cabinet).catalogue }
+    requires seated { (busy : List (Option PendingRequest)) × IsSeated (C.state counter.old.cabinet) counter.old.capabilities seats.old busy }
     ensures writes { Writes
-        (record { told = S.told source.old; renders = record { before = S.faults source.old; after = S.faults source.new }; writes = record { before = O.faults output.old; after = O.faults output.new }; from = O.taken output.old; to = O.taken output.new })
-        counter.old.cabinet counter.old.capabilities seats.old n line.now counter.new.cabinet seats.new result }
-    ensures catalogue { counter.new.cabinet.catalogue ≡ counter.old.cabinet.catalogue }
+        (record { told = S.told source.old; renders = record { before = S.faults source.old; after = S.faults source.new }; disk = counts (C.faults counter.old.cabinet) (C.faults counter.new.cabinet); writes = record { before = O.faults output.old; after = O.faults output.new }; from = O.taken output.old; to = O.taken output.new })
+        (C.state counter.old.cabinet) counter.old.capabilities seats.old n line.now (C.state counter.new.cabinet) seats.new result }
+    ensures catalogue { (C.state counter.new.cabinet).catalogue ≡ (C.state counter.old.cabinet).catalogue }
     ensures capabilities { counter.new.capabilities ≡ counter.old.capabilities }
     ensures later { O.faults output.old ≤ O.faults output.new }
     ensures told { S.told source.new ≡ S.told source.old }

@@ -2,6 +2,7 @@
 ghost use Rattle.std.specs.Prelude.{◌≡◌, ◌<◌, ◌^◌, List, Option, length, map, replicate};
 ghost use Rattle.catalog.specs.Valid.{IsValid};
 ghost use Rattle.tile_service.specs.OneLine.{seat_of};
+ghost use Rattle.tile_service.specs.Outside.{counts};
 ghost use Rattle.tile_service.specs.Run.{PendingRequest, free_seats, world_of};
 ghost use Rattle.tile_service.specs.Schedules.{HasRun};
 
@@ -9,6 +10,7 @@ use crate::counter::Counter;
 use crate::lines::split_line;
 use crate::run_line::{LineEnd, run_line};
 use crate::seats::{ACTORS, Seat};
+use cabinet::keeper::Keeper;
 use http_wire::streams::ByteSink;
 use source_render::source::Source;
 use std::alloc::Global;
@@ -23,20 +25,20 @@ pub enum RunEnd {
 }
 
 /// Runs the lines of a schedule, in which no actor is busy yet, and writes the answers.
-pub fn run_lines<S: Source, O: ByteSink>(
+pub fn run_lines<C: Keeper, S: Source, O: ByteSink>(
     alloc: Global,
-    counter: &mut Counter,
+    counter: &mut Counter<C>,
     seats: &mut [Seat],
     source: &mut S,
     text: &[u8],
     output: &mut O,
 ) -> RunEnd
-    requires valid { IsValid counter.old.cabinet.catalogue }
+    requires valid { IsValid (C.state counter.old.cabinet).catalogue }
     requires short { length text.now < 2 ^ 32 }
     requires free { seats.old ≡ replicate ACTORS Seat.Free }
     ensures run { (busy : List (Option PendingRequest)) × (map seat_of busy ≡ seats.new) × HasRun
-        (record { told = S.told source.old; renders = record { before = S.faults source.old; after = S.faults source.new }; writes = record { before = O.faults output.old; after = O.faults output.new }; from = O.taken output.old; to = O.taken output.new })
-        (world_of counter.old.cabinet counter.old.capabilities free_seats) text.now (world_of counter.new.cabinet counter.new.capabilities busy) result }
+        (record { told = S.told source.old; renders = record { before = S.faults source.old; after = S.faults source.new }; disk = counts (C.faults counter.old.cabinet) (C.faults counter.new.cabinet); writes = record { before = O.faults output.old; after = O.faults output.new }; from = O.taken output.old; to = O.taken output.new })
+        (world_of (C.state counter.old.cabinet) counter.old.capabilities free_seats) text.now (world_of (C.state counter.new.cabinet) counter.new.capabilities busy) result }
     ensures capabilities { counter.new.capabilities ≡ counter.old.capabilities }
 {
     let mut rest = text;

@@ -1,12 +1,14 @@
 //! A schedule as a whole: it is read, its lines are run, and the actors that are still busy give up.
 ghost use Rattle.std.specs.Prelude.{◌≡◌};
 ghost use Rattle.catalog.specs.Valid.{IsValid};
+ghost use Rattle.tile_service.specs.Outside.{counts};
 ghost use Rattle.tile_service.specs.Run.{free_seats, world_of};
 ghost use Rattle.tile_service.specs.Schedules.{Schedules, end_of};
 
 use crate::counter::Counter;
 use crate::run_lines::{RunEnd, run_lines};
 use crate::seats::{close, free_seats};
+use cabinet::keeper::Keeper;
 use http_wire::inputs::{InputEnd, read_all};
 use http_wire::streams::{ByteSink, ByteSource};
 use source_render::source::Source;
@@ -34,19 +36,19 @@ pub enum ScheduleEnd {
 
 /// Reads a schedule whole, runs its lines in order, and writes the answers. At the end, whatever it is, the actors that are
 /// busy give up.
-pub fn run_schedule<S: Source, I: ByteSource, O: ByteSink>(
+pub fn run_schedule<C: Keeper, S: Source, I: ByteSource, O: ByteSink>(
     alloc: Global,
-    counter: &mut Counter,
+    counter: &mut Counter<C>,
     source: &mut S,
     input: &mut I,
     output: &mut O,
 ) -> ScheduleEnd
-    requires { IsValid counter.old.cabinet.catalogue }
+    requires { IsValid (C.state counter.old.cabinet).catalogue }
     ensures { Schedules
         (record { reads = record { before = I.faults input.old; after = I.faults input.new }; from = I.left input.old; to = I.left input.new })
-        (record { told = S.told source.old; renders = record { before = S.faults source.old; after = S.faults source.new }; writes = record { before = O.faults output.old; after = O.faults output.new }; from = O.taken output.old; to = O.taken output.new })
+        (record { told = S.told source.old; renders = record { before = S.faults source.old; after = S.faults source.new }; disk = counts (C.faults counter.old.cabinet) (C.faults counter.new.cabinet); writes = record { before = O.faults output.old; after = O.faults output.new }; from = O.taken output.old; to = O.taken output.new })
         ((output.new ≡ output.old) × (source.new ≡ source.old) × (counter.new ≡ counter.old))
-        (world_of counter.old.cabinet counter.old.capabilities free_seats) (world_of counter.new.cabinet counter.new.capabilities free_seats) result }
+        (world_of (C.state counter.old.cabinet) counter.old.capabilities free_seats) (world_of (C.state counter.new.cabinet) counter.new.capabilities free_seats) result }
 {
     let text = match read_all(alloc, input, SCHEDULE_LIMIT) {
         Ok(text) => text,

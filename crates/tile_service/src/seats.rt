@@ -5,7 +5,7 @@ ghost use Rattle.tile_requests.specs.Events.{GoesOn};
 ghost use Rattle.tile_service.specs.Seats.{all_left, action_end_of, pending_at, is_free, next_seat};
 
 use crate::action_end::{ActionEnd, Answer};
-use cabinet::cabinet::Cabinet;
+use cabinet::keeper::Keeper;
 use cache_core::actor::{Actor, Step};
 use cache_core::steps::give_up;
 use matrix_geometry::address::Address;
@@ -79,10 +79,11 @@ pub fn pending_at(seats: &mut [Seat], actor: u32) -> Option<Pending>
 }
 
 /// Puts what an actor is busy with at its free seat.
-fn put(cabinet: &mut Cabinet, seats: &mut [Seat], actor: u32, seat: Seat)
+fn put<C: Keeper>(cabinet: &mut C, seats: &mut [Seat], actor: u32, seat: Seat)
     requires { slice_get seats.old actor ≡ Some Seat.Free }
     ensures seats { seats.new ≡ slice_set seats.old actor seat }
-    ensures cabinet { cabinet.new ≡ cabinet.old }
+    ensures cabinet { C.state cabinet.new ≡ C.state cabinet.old }
+    ensures faults { C.faults cabinet.new ≡ C.faults cabinet.old }
 {
     match mem::replace(&mut seats[actor as usize], seat) {
         Seat::Free => {}
@@ -91,8 +92,8 @@ fn put(cabinet: &mut Cabinet, seats: &mut [Seat], actor: u32, seat: Seat)
 }
 
 /// Puts the free seat of an actor after events of a request that started in line `start`, and says what they answer.
-pub fn settle(
-    cabinet: &mut Cabinet,
+pub fn settle<C: Keeper>(
+    cabinet: &mut C,
     seats: &mut [Seat],
     actor: u32,
     start: u64,
@@ -103,7 +104,8 @@ pub fn settle(
     requires goes_on { GoesOn step.actor step.outcome }
     ensures end { result ≡ action_end_of actor start step.outcome }
     ensures seats { seats.new ≡ slice_set seats.old actor (next_seat start address.now step.actor step.outcome) }
-    ensures cabinet { cabinet.new ≡ cabinet.old }
+    ensures cabinet { C.state cabinet.new ≡ C.state cabinet.old }
+    ensures faults { C.faults cabinet.new ≡ C.faults cabinet.old }
 {
     let Step {
         actor: state,
@@ -132,8 +134,9 @@ pub fn settle(
 }
 
 /// A pending request ends without an outcome.
-fn leave(cabinet: &mut Cabinet, pending: Pending)
-    ensures { cabinet.new ≡ given_up cabinet.old pending.actor }
+fn leave<C: Keeper>(cabinet: &mut C, pending: Pending)
+    ensures cabinet { C.state cabinet.new ≡ given_up (C.state cabinet.old) pending.actor }
+    ensures faults { C.faults cabinet.new ≡ C.faults cabinet.old }
 {
     let Pending {
         start: _,
@@ -144,8 +147,9 @@ fn leave(cabinet: &mut Cabinet, pending: Pending)
 }
 
 /// Gives up all pending requests, in the order of their actors.
-pub fn close(cabinet: &mut Cabinet, mut seats: Vec<Seat>)
-    ensures { cabinet.new ≡ all_left cabinet.old seats.items }
+pub fn close<C: Keeper>(cabinet: &mut C, mut seats: Vec<Seat>)
+    ensures cabinet { C.state cabinet.new ≡ all_left (C.state cabinet.old) seats.items }
+    ensures faults { C.faults cabinet.new ≡ C.faults cabinet.old }
 {
     seats.reverse();
     while !seats.is_empty() {

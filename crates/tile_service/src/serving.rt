@@ -2,12 +2,13 @@
 ghost use Rattle.std.specs.Prelude.{◌≡◌};
 ghost use Rattle.catalog.specs.LookUp.{IsTile};
 ghost use Rattle.catalog.specs.Valid.{IsValid};
+ghost use Rattle.tile_service.specs.Outside.{counts};
 ghost use Rattle.tile_service.specs.Performing.{IsGot};
 ghost use Rattle.tile_service.specs.Serving.{Serves};
 ghost use Rattle.tile_service.specs.Session.{IsAtRest};
 
 use crate::counter::Counter;
-use cabinet::cabinet::Cabinet;
+use cabinet::keeper::Keeper;
 use cache_core::actor::Step;
 use cache_core::steps::give_up;
 use http_wire::message::Message;
@@ -22,15 +23,15 @@ use tile_requests::request::{Mode, Request, outcome_of};
 use tile_requests::routes::read_request;
 
 /// Serves a request for a tile, in a cabinet in which no render runs: it is asked for, rendered and finished.
-fn serve_tile<S: Source>(
+fn serve_tile<C: Keeper, S: Source>(
     alloc: Global,
-    cabinet: &mut Cabinet,
+    cabinet: &mut C,
     source: &mut S,
     address: &Address,
 ) -> Outcome
-    requires tile { IsTile cabinet.old.catalogue address.now }
-    requires rest { IsAtRest cabinet.old }
-    ensures got { IsGot (S.told source.old) (S.faults source.old) (S.faults source.new) cabinet.old address.now result cabinet.new }
+    requires tile { IsTile (C.state cabinet.old).catalogue address.now }
+    requires rest { IsAtRest (C.state cabinet.old) }
+    ensures got { IsGot (S.told source.old) (S.faults source.old) (S.faults source.new) (counts (C.faults cabinet.old) (C.faults cabinet.new)) (C.state cabinet.old) address.now result (C.state cabinet.new) }
     ensures told { S.told source.new ≡ S.told source.old }
 {
     let Step { actor, outcome } = events(alloc, cabinet, source, address, Mode::Gets);
@@ -44,16 +45,16 @@ fn serve_tile<S: Source>(
 }
 
 /// Serves a message of a session: a tile is asked for, rendered and finished. Where memory runs out, its outcome says so.
-pub fn serve<S: Source>(
+pub fn serve<C: Keeper, S: Source>(
     alloc: Global,
-    counter: &mut Counter,
+    counter: &mut Counter<C>,
     source: &mut S,
     message: &Message,
 ) -> Outcome
-    requires valid { IsValid counter.old.cabinet.catalogue }
-    requires rest { IsAtRest counter.old.cabinet }
-    ensures serves { Serves (S.told source.old) (S.faults source.old) (S.faults source.new) counter.old.capabilities counter.old.cabinet message.now result counter.new.cabinet }
-    ensures catalogue { counter.new.cabinet.catalogue ≡ counter.old.cabinet.catalogue }
+    requires valid { IsValid (C.state counter.old.cabinet).catalogue }
+    requires rest { IsAtRest (C.state counter.old.cabinet) }
+    ensures serves { Serves (S.told source.old) (S.faults source.old) (S.faults source.new) (counts (C.faults counter.old.cabinet) (C.faults counter.new.cabinet)) counter.old.capabilities (C.state counter.old.cabinet) message.now result (C.state counter.new.cabinet) }
+    ensures catalogue { (C.state counter.new.cabinet).catalogue ≡ (C.state counter.old.cabinet).catalogue }
     ensures capabilities { counter.new.capabilities ≡ counter.old.capabilities }
     ensures told { S.told source.new ≡ S.told source.old }
 {

@@ -4,7 +4,7 @@ ghost use Rattle.std.specs.Io.KnownBytes.{Appends};
 ghost use Rattle.catalog.specs.Valid.{IsValid};
 ghost use Rattle.causes.specs.Causes.{HasCause};
 ghost use Rattle.tile_service.specs.OneLine.{MayTell};
-ghost use Rattle.tile_service.specs.Outside.{InputChange, Outside};
+ghost use Rattle.tile_service.specs.Outside.{InputChange, Outside, counts};
 ghost use Rattle.tile_requests.specs.Response.{closes, response};
 ghost use Rattle.tile_requests.specs.Sent.{AppendsFront};
 ghost use Rattle.tile_service.specs.Serving.{Serves};
@@ -14,6 +14,7 @@ ghost use Rattle.tile_service.specs.SessionEnds.{HasSession};
 use crate::answer::{write_refusal, write_response};
 use crate::counter::Counter;
 use crate::serving::serve;
+use cabinet::keeper::Keeper;
 use http_wire::links::Link;
 use http_wire::message::{Message, Next, WireFault};
 use http_wire::reader::MessageReader;
@@ -52,24 +53,24 @@ fn closes(message: &Message, place: u64) -> bool
 }
 
 /// Serves the message at a place of its session, counted from 1, and writes its response. `Sent` where a write failed.
-fn respond<S: Source, L: Link>(
+fn respond<C: Keeper, S: Source, L: Link>(
     alloc: Global,
-    counter: &mut Counter,
+    counter: &mut Counter<C>,
     source: &mut S,
     link: &mut L,
     message: &Message,
     place: u64,
 ) -> Result<(), Sent>
-    requires valid { IsValid counter.old.cabinet.catalogue }
-    requires rest { IsAtRest counter.old.cabinet }
-    ensures responds { (o : Outcome) × Serves (S.told source.old) (S.faults source.old) (S.faults source.new) counter.old.capabilities counter.old.cabinet message.now o counter.new.cabinet
+    requires valid { IsValid (C.state counter.old.cabinet).catalogue }
+    requires rest { IsAtRest (C.state counter.old.cabinet) }
+    ensures responds { (o : Outcome) × Serves (S.told source.old) (S.faults source.old) (S.faults source.new) (counts (C.faults counter.old.cabinet) (C.faults counter.new.cabinet)) counter.old.capabilities (C.state counter.old.cabinet) message.now o (C.state counter.new.cabinet)
         × OnOk result (MayTell o (λ x. Appends (L.taken link.old) (L.taken link.new) (response counter.old.capabilities message.now place x)))
         × OnErr result (MayTell o (λ x. AppendsFront (L.taken link.old) (L.taken link.new) (response counter.old.capabilities message.now place x))) }
     ensures cause { HasCause (L.ByteSink.faults link.old) (L.ByteSink.faults link.new) result }
     ensures left { L.left link.new ≡ L.left link.old }
     ensures read_faults { L.ByteSource.faults link.new ≡ L.ByteSource.faults link.old }
-    ensures rests { IsAtRest counter.new.cabinet }
-    ensures catalogue { counter.new.cabinet.catalogue ≡ counter.old.cabinet.catalogue }
+    ensures rests { IsAtRest (C.state counter.new.cabinet) }
+    ensures catalogue { (C.state counter.new.cabinet).catalogue ≡ (C.state counter.old.cabinet).catalogue }
     ensures capabilities { counter.new.capabilities ≡ counter.old.capabilities }
     ensures told { S.told source.new ≡ S.told source.old }
 {
@@ -80,20 +81,20 @@ fn respond<S: Source, L: Link>(
 
 /// Serves the messages of one connection (RFC 9112), in order, each before the next is looked for, at most 10,000 of them. No
 /// render may run in the cabinet, and none runs afterwards. Each end comes as `SessionEnd` says.
-pub fn replay_session<S: Source, L: Link>(
+pub fn replay_session<C: Keeper, S: Source, L: Link>(
     alloc: Global,
-    counter: &mut Counter,
+    counter: &mut Counter<C>,
     source: &mut S,
     link: &mut L,
 ) -> SessionEnd
-    requires valid { IsValid counter.old.cabinet.catalogue }
-    requires rest { IsAtRest counter.old.cabinet }
+    requires valid { IsValid (C.state counter.old.cabinet).catalogue }
+    requires rest { IsAtRest (C.state counter.old.cabinet) }
     ensures session { HasSession
         (record { reads = record { before = L.ByteSource.faults link.old; after = L.ByteSource.faults link.new }; from = L.left link.old; to = L.left link.new })
-        (record { told = S.told source.old; renders = record { before = S.faults source.old; after = S.faults source.new }; writes = record { before = L.ByteSink.faults link.old; after = L.ByteSink.faults link.new }; from = L.taken link.old; to = L.taken link.new })
-        counter.old.capabilities counter.old.cabinet counter.new.cabinet result }
-    ensures rests { IsAtRest counter.new.cabinet }
-    ensures catalogue { counter.new.cabinet.catalogue ≡ counter.old.cabinet.catalogue }
+        (record { told = S.told source.old; renders = record { before = S.faults source.old; after = S.faults source.new }; disk = counts (C.faults counter.old.cabinet) (C.faults counter.new.cabinet); writes = record { before = L.ByteSink.faults link.old; after = L.ByteSink.faults link.new }; from = L.taken link.old; to = L.taken link.new })
+        counter.old.capabilities (C.state counter.old.cabinet) (C.state counter.new.cabinet) result }
+    ensures rests { IsAtRest (C.state counter.new.cabinet) }
+    ensures catalogue { (C.state counter.new.cabinet).catalogue ≡ (C.state counter.old.cabinet).catalogue }
     ensures capabilities { counter.new.capabilities ≡ counter.old.capabilities }
 {
     let Ok(mut reader) = MessageReader::new(alloc) else {

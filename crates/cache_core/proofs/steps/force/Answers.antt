@@ -8,30 +8,30 @@ use Rattle.cache_core.proofs.Beginnings.{busy_forced, spent_forced, ticket_force
 use Rattle.cache_core.proofs.steps.force.Goals as goal
 
 pub returns-in-Ok-Ticket : goal.returns-in-Ok-Ticket
-returns-in-Ok-Ticket c =
+returns-in-Ok-Ticket g c =
     let x = c.in-Ok-Ticket in
-    let s = c.args.cabinet.now in
-    let P : Forced → Type 0 = λ r. Forces s c.block_of-meta.result r c.force.new.self in
-    let Q : MetaKey → Type 0 = λ m. IsGiven (asked_at c.force.new.self.clock.moment s) m x.ticket c.force.new.self in
+    let s = g.C.Keeper.state c.args.cabinet.now in let t = g.C.Keeper.state c.force.new.self in let b = g.C.Keeper.faults c.args.cabinet.now in let a = g.C.Keeper.faults c.force.new.self in
+    let P : Forced → Type 0 = λ r. Forces s c.block_of-meta.result r t in
+    let Q : MetaKey → Type 0 = λ m. IsGiven (asked_at t.clock.moment s) m x.ticket t in
     let row = subst P x.field-0-is x.ensures.forced in
     let at_block = subst Q (search Rattle.std.proofs.Common.rules) row in
-    let fresh = c.laws_of_rows.ensures.forces_fresh s c.force.new.self c.args.address.now (forced.Ticket x.ticket) c.known.ensures c.requires at_block in
-    ticket_forced s c.force.new.self c.force.new.self.clock.moment c.args.address.now x.ticket c.goes_on-in-Ok-Ticket.result c.requires at_block c.goes_on-in-Ok-Ticket.ensures.actor c.goes_on-in-Ok-Ticket.ensures.outcome fresh
+    let fresh = c.laws_of_rows.ensures.forces_fresh s t c.args.address.now (forced.Ticket x.ticket) c.known.ensures c.requires at_block in
+    ticket_forced b a x.ensures.later s t t.clock.moment c.args.address.now x.ticket c.goes_on-in-Ok-Ticket.result c.requires at_block c.goes_on-in-Ok-Ticket.ensures.actor c.goes_on-in-Ok-Ticket.ensures.outcome fresh
 
 pub returns-in-Ok-Busy : goal.returns-in-Ok-Busy
-returns-in-Ok-Busy c =
+returns-in-Ok-Busy g c =
     let x = c.in-Ok-Busy in
-    let s = c.args.cabinet.now in
-    let P : Forced → Type 0 = λ r. Forces s c.block_of-meta.result r c.force.new.self in
-    let Q : MetaKey → Type 0 = λ m. IsBusy (asked_at c.force.new.self.clock.moment s) m x.field-0-0 c.force.new.self in
+    let s = g.C.Keeper.state c.args.cabinet.now in let t = g.C.Keeper.state c.force.new.self in let b = g.C.Keeper.faults c.args.cabinet.now in let a = g.C.Keeper.faults c.force.new.self in
+    let P : Forced → Type 0 = λ r. Forces s c.block_of-meta.result r t in
+    let Q : MetaKey → Type 0 = λ m. IsBusy (asked_at t.clock.moment s) m x.field-0-0 t in
     let at_block = subst Q (search Rattle.std.proofs.Common.rules) (subst P x.field-0-is x.ensures.forced) in
-    busy_forced s c.force.new.self c.force.new.self.clock.moment c.args.address.now c.goes_on.result c.requires x.field-0-0 at_block c.goes_on.ensures.actor c.goes_on.ensures.outcome
+    busy_forced b a x.ensures.later s t t.clock.moment c.args.address.now c.goes_on.result c.requires x.field-0-0 at_block c.goes_on.ensures.actor c.goes_on.ensures.outcome
 
 pub returns-in-Ok-Spent : goal.returns-in-Ok-Spent
-returns-in-Ok-Spent c =
+returns-in-Ok-Spent g c =
     let x = c.in-Ok-Spent in
-    let s = c.args.cabinet.now in
-    let P : Forced → Type 0 = λ r. Forces s c.block_of-meta.result r c.force.new.self in
-    let Q : MetaKey → Type 0 = λ m. IsSpent (asked_at c.force.new.self.clock.moment s) m c.force.new.self in
+    let s = g.C.Keeper.state c.args.cabinet.now in let t = g.C.Keeper.state c.force.new.self in let b = g.C.Keeper.faults c.args.cabinet.now in let a = g.C.Keeper.faults c.force.new.self in
+    let P : Forced → Type 0 = λ r. Forces s c.block_of-meta.result r t in
+    let Q : MetaKey → Type 0 = λ m. IsSpent (asked_at t.clock.moment s) m t in
     let at_block = subst Q (search Rattle.std.proofs.Common.rules) (subst P x.field-0-is x.ensures.forced) in
-    spent_forced s c.force.new.self c.force.new.self.clock.moment c.args.address.now c.ends-in-Ok-Spent.result c.requires at_block c.ends-in-Ok-Spent.ensures.actor c.ends-in-Ok-Spent.ensures.outcome
+    spent_forced b a x.ensures.later s t t.clock.moment c.args.address.now c.ends-in-Ok-Spent.result c.requires at_block c.ends-in-Ok-Spent.ensures.actor c.ends-in-Ok-Spent.ensures.outcome

@@ -1,4 +1,4 @@
-use Rattle.std.proofs.Common.{rules, refl, ap, ◌∙◌}
+use Rattle.std.proofs.Common.{arith, rules, refl, ap, ◌∙◌}
 use Rattle.tile_requests.specs.Routes.{request_for}
 use Rattle.tile_requests.specs.Shown.{shown_message}
 use Rattle.tile_service.proofs.Performed.{unread_performs, asked_performs}
@@ -6,9 +6,9 @@ use Rattle.tile_service.proofs.perform.sent.Goals as goal
 
 pub returns-in_default-clause-performs : goal.returns-in_default-clause-performs
 returns-in_default-clause-performs g c =
-    rw c.answered.ensures (unread_performs _ c.args.counter.now.cabinet c.args.counter.now.capabilities c.args.seats.now c.args.n c.args.mode c.args.actor (shown_message c.args.message.now) refl (search rules) _)
+    rw c.answered.ensures (unread_performs _ _ (g.C.Keeper.state c.args.counter.now.cabinet) c.args.counter.now.capabilities c.args.seats.now c.args.n c.args.mode c.args.actor (shown_message c.args.message.now) refl (search rules) _ (omega arith))
 
 pub returns-clause-performs : goal.returns-clause-performs
 returns-clause-performs g c =
-    asked_performs _ c.args.counter.now.cabinet c.args.counter.now.capabilities c.args.seats.now c.args.n c.args.mode c.args.actor (shown_message c.args.message.now) refl (search rules)
-    _ _ c.asked.new.counter.cabinet c.asked.new.seats c.asked.result c.in-Ok.request (c.in-Ok.ensures.value ∙ ap (λ k. request_for k (shown_message c.args.message.now)) c.catalogue-catalogue.ensures) c.asked.ensures.asked
+    asked_performs _ _ (g.C.Keeper.state c.args.counter.now.cabinet) c.args.counter.now.capabilities c.args.seats.now c.args.n c.args.mode c.args.actor (shown_message c.args.message.now) refl (search rules)
+    _ _ (g.C.Keeper.state c.asked.new.counter.cabinet) c.asked.new.seats c.asked.result c.in-Ok.request (c.in-Ok.ensures.value ∙ ap (λ k. request_for k (shown_message c.args.message.now)) c.catalogue-catalogue.ensures) c.asked.ensures.asked

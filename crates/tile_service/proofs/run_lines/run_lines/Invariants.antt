@@ -8,9 +8,10 @@ invariant-loop-rest g l =
     record {
       told = g.S.Source.told l.initial.source;
       renders = g.S.Source.faults l.initial.source;
+      disk = g.C.Keeper.faults l.initial.counter.cabinet;
       writes = g.O.ByteSink.faults l.initial.output;
       taken = g.O.ByteSink.taken l.initial.output;
-      cabinet = l.initial.counter.cabinet;
+      cabinet = g.C.Keeper.state l.initial.counter.cabinet;
       document = l.initial.counter.capabilities;
       seats = l.initial.seats;
     } in
@@ -18,15 +19,16 @@ invariant-loop-rest g l =
     record {
       told = g.S.Source.told l.source;
       renders = g.S.Source.faults l.source;
+      disk = g.C.Keeper.faults l.counter.cabinet;
       writes = g.O.ByteSink.faults l.output;
       taken = g.O.ByteSink.taken l.output;
-      cabinet = l.counter.cabinet;
+      cabinet = g.C.Keeper.state l.counter.cabinet;
       document = l.counter.capabilities;
       seats = l.seats;
     } in
     record {
       so_far : Reads start now l.text l.lines l.rest;
-      valid : l.counter.cabinet.catalogue ≡ l.initial.counter.cabinet.catalogue;
+      valid : (g.C.Keeper.state l.counter.cabinet).catalogue ≡ (g.C.Keeper.state l.initial.counter.cabinet).catalogue;
       capabilities : l.counter.capabilities ≡ l.initial.counter.capabilities;
       few : l.lines + length l.rest ≤ length l.text;
     }

@@ -3,9 +3,10 @@ use Rattle.tile_service.specs.Seats.{all_left}
 use Rattle.tile_service.proofs.seats.close.Given as goal
 
 abbrev pub invariant-loop-seats : goal.invariant-loop-seats
-invariant-loop-seats l = record {
-  rest : all_left l.cabinet (reverse l.seats.items) ≡ all_left l.initial.cabinet (reverse l.initial.seats.items);
+invariant-loop-seats g l = record {
+  rest : all_left (g.C.Keeper.state l.cabinet) (reverse l.seats.items) ≡ all_left (g.C.Keeper.state l.initial.cabinet) (reverse l.initial.seats.items);
+  faults : g.C.Keeper.faults l.cabinet ≡ g.C.Keeper.faults l.initial.cabinet;
 }
 
 abbrev pub decreases-loop-seats : goal.decreases-loop-seats
-decreases-loop-seats l = length l.seats.items
+decreases-loop-seats g l = length l.seats.items

@@ -10,24 +10,26 @@ invariant-serving g l =
     record {
       told = g.S.Source.told l.initial.source;
       renders = g.S.Source.faults l.initial.source;
+      disk = g.C.Keeper.faults l.initial.counter.cabinet;
       document = l.initial.counter.capabilities;
-      cabinet = l.initial.counter.cabinet;
+      cabinet = g.C.Keeper.state l.initial.counter.cabinet;
       wire = record { reads = g.L.ByteSource.faults l.initial.link; writes = g.L.ByteSink.faults l.initial.link; left = g.L.ByteSource.left l.initial.link; taken = g.L.ByteSink.taken l.initial.link };
     } in
     let now : Moment =
     record {
       told = g.S.Source.told l.source;
       renders = g.S.Source.faults l.source;
+      disk = g.C.Keeper.faults l.counter.cabinet;
       document = l.counter.capabilities;
-      cabinet = l.counter.cabinet;
+      cabinet = g.C.Keeper.state l.counter.cabinet;
       wire = record { reads = g.L.ByteSource.faults l.link; writes = g.L.ByteSink.faults l.link; left = g.L.ByteSource.left l.link; taken = g.L.ByteSink.taken l.link };
     } in
     record {
       under_way : IsUnderWay start now l.reader.held l.answered;
       going : l.reader.ended ≡ None;
       surplus : IsPartOfTake l.reader.held;
-      rests : IsAtRest l.counter.cabinet;
-      catalogue : l.counter.cabinet.catalogue ≡ l.initial.counter.cabinet.catalogue;
+      rests : IsAtRest (g.C.Keeper.state l.counter.cabinet);
+      catalogue : (g.C.Keeper.state l.counter.cabinet).catalogue ≡ (g.C.Keeper.state l.initial.counter.cabinet).catalogue;
       capabilities : l.counter.capabilities ≡ l.initial.counter.capabilities;
       reads : g.L.ByteSource.faults l.initial.link ≤ g.L.ByteSource.faults l.link;
       writes : g.L.ByteSink.faults l.initial.link ≤ g.L.ByteSink.faults l.link;
