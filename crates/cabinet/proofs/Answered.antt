@@ -1,10 +1,9 @@
 -- The rows of commands, from what the parts of a cabinet answer.
-use Rattle.std.proofs.Common.{ℕ, ◌≡◌, ◌≢◌, ◌+◌, ◌<◌, ◌≤◌, Bool, true, false, cond, not, List, [], ◌∷◌, ◌++◌, ◌==◌, length, map, filter, find, fold, Option, Some, None, IsSome, inl, inr, refl, sym, ap, subst, ◌∙◌, arith, append_assoc}
-use Rattle.std.specs.Prelude.{Err, IfOk, Ok, Result, nat_lt}
+use Rattle.std.proofs.Common.{ℕ, ◌≡◌, ◌≢◌, ◌<◌, ◌≤◌, Bool, true, false, cond, not, List, [], ◌∷◌, ◌++◌, ◌==◌, length, map, filter, find, fold, Option, Some, None, IsSome, inl, inr, refl, sym, ap, subst, ◌∙◌, arith, append_assoc}
+use Rattle.std.specs.Prelude.{Err, IfOk, Ok, Result}
 use Rattle.std.specs.List.{AllByRecursion}
 use Rattle.std.specs.Option.{option_and_then, option_map}
 use Rattle.std.proofs.lemmas.Bool.{cases_lt}
-use Rattle.std.proofs.lemmas.Bool.Decides.{nat_tests}
 use Rattle.std.proofs.lemmas.Grind.{fold-append}
 use Rattle.std.proofs.lemmas.List.{length-map}
 use Rattle.std.proofs.lemmas.List.Sums.{length-filter}
@@ -116,20 +115,10 @@ module _ (p : Parts) (h : History) (k : IsConsistent p h) where
   out_are : p.renders ≡ (now here).out
   out_are = ap (λ (x : Standing). x.out) (sym k.stands)
 
-  -- NUMBERS
-
-  pub next_some : p.last < last_number p.opening → next p.opening (now here) ≡ Some (p.last + 1)
-  next_some left =
-      let lt : nat_lt p.last (last_number p.opening) ≡ true = grind (arith, nat_tests) in
-      ap (next p.opening) k.stands ∙ ap (λ (v : Bool). cond v (Some (p.last + 1)) None) lt
-
   -- HITS
 
   listed_of : (m : MetaKey) (o : Option KeptBlob) → find (λ b. is_of m b.kept) p.shelf.blobs ≡ o → kept_of m (now here) ≡ option_map (λ b. b.kept) o
   listed_of m o e = ap (find (is_of m)) (sym kept_are) ∙ find_map (λ (x : KeptBlob). x.kept) (is_of m) p.shelf.blobs ∙ ap (option_map (λ (x : KeptBlob). x.kept)) e
-
-  pub some_listed : (m : MetaKey) (b : KeptBlob) → find (λ b. is_of m b.kept) p.shelf.blobs ≡ Some b → IsSome (find (is_of m) (listed p.shelf.blobs))
-  some_listed m b e = rw (find_map (λ (x : KeptBlob). x.kept) (is_of m) p.shelf.blobs, e) refl
 
   moment_is : (now here).moment ≡ p.moment
   moment_is = ap (λ (x : Standing). x.moment) k.stands

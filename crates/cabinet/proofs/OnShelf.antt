@@ -67,10 +67,6 @@ some_mapped : {X Y : Type 0} (f : X → Y) (o : Option X) → is_some (option_ma
 some_mapped f None = refl
 some_mapped f (Some x) = refl
 
--- what has uses that are not saved has uses
-pub unsaved_held : (counts : Counts) (m : MetaKey) → IsUnsaved (use_of counts) (Some m) → IsSome (use_of counts m)
-unsaved_held counts m first = subst IsSome (sym first.1.held) refl
-
 pub turned : {X : Type 0} (v : Bool) (o : Option X) → cond (not v) o None ≡ cond v None o
 turned true o = refl
 turned false o = refl
