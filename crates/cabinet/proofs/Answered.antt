@@ -1,14 +1,12 @@
 -- The rows of commands, from what the parts of a cabinet answer.
-use Rattle.std.proofs.Common.{ℕ, ◌≡◌, ◌≢◌, ◌+◌, ◌<◌, ◌≤◌, Bool, true, false, cond, not, List, [], ◌∷◌, ◌++◌, ◌==◌, length, map, filter, find, fold, Option, Some, None, IsSome, inl, inr, refl, sym, ap, subst, ◌∙◌, arith, append_assoc}
-use Rattle.std.specs.Prelude.{Err, IfOk, Ok, Result, nat_lt}
+use Rattle.std.proofs.Common.{ℕ, ◌≡◌, ◌≢◌, ◌<◌, ◌≤◌, Bool, true, false, cond, not, List, [], ◌∷◌, ◌++◌, ◌==◌, length, map, filter, find, fold, Option, Some, None, IsSome, inl, inr, refl, sym, ap, subst, ◌∙◌, arith, append_assoc}
+use Rattle.std.specs.Prelude.{Err, IfOk, Ok, Result}
 use Rattle.std.specs.List.{AllByRecursion}
 use Rattle.std.specs.Option.{option_and_then, option_map}
 use Rattle.std.proofs.lemmas.Bool.{cases_lt}
-use Rattle.std.proofs.lemmas.Bool.Decides.{nat_tests}
 use Rattle.std.proofs.lemmas.Grind.{fold-append}
 use Rattle.std.proofs.lemmas.List.{length-map}
 use Rattle.std.proofs.lemmas.List.Sums.{length-filter}
-use Rattle.catalog.specs.declared.catalogue.Catalogue.{Catalogue}
 use Rattle.catalog.specs.declared.catalogue.Scope.{Scope}
 use Rattle.catalog.specs.LookUp.{IsTile}
 use Rattle.expiry_policy.specs.declared.uses.Use.{Use}
@@ -24,42 +22,43 @@ use Rattle.truncation_list.specs.declared.book.Book.{Book}
 use Rattle.truncation_list.specs.declared.cover.Cover.{Cover}
 use Rattle.truncation_list.specs.Purge.{purged}
 use Rattle.metatile_locks.specs.declared.render.Render.{Render}
-use Rattle.metatile_locks.specs.Running.{IsLeast, Locked, has_number, render_of, running_for, unmarked}
+use Rattle.metatile_locks.specs.declared.replies.End.{End}
+use Rattle.metatile_locks.specs.declared.replies.End.TheVariants as ends
+use Rattle.metatile_locks.specs.Calls.{Ends}
+use Rattle.metatile_locks.specs.Running.{IsLeast, Locked, has_number, render_of, running_for, unmarked, without}
 use Rattle.metatile_locks.specs.Tickets.{Ticketed}
 use Rattle.metatile_locks.proofs.Lists.{all_filter, all_map, all_weaker, found}
 use Rattle.metatile_locks.proofs.Runs.{one}
 use Rattle.cabinet.specs.declared.entry.Entry.TheVariants as entry
+use Rattle.cabinet.specs.declared.judged.Admitted.TheVariants as admitted
+use Rattle.cabinet.specs.declared.judged.Judged.{Judged}
+use Rattle.cabinet.specs.declared.judged.Judged.TheVariants as judged
+use Rattle.cabinet.specs.declared.judged.Unsaved.{Unsaved}
 use Rattle.cabinet.specs.declared.kept.Kept.{Kept}
 use Rattle.cabinet.specs.declared.kept.KeptBlob.{KeptBlob}
 use Rattle.cabinet.specs.declared.replies.Asked.{Asked}
-use Rattle.cabinet.specs.declared.replies.CutReply.TheVariants as reply
-use Rattle.cabinet.specs.declared.replies.Expired.TheVariants as expired
-use Rattle.cabinet.specs.declared.replies.Finished.TheVariants as finished
 use Rattle.cabinet.specs.declared.replies.Forced.{Forced}
-use Rattle.cabinet.specs.declared.replies.Saved.TheVariants as saved
 use Rattle.cabinet.specs.declared.turns.Turn.{Turn}
 use Rattle.cabinet.specs.declared.turns.Turn.TheVariants as turn
-use Rattle.cabinet.specs.declared.shelving.Found.{Found}
-use Rattle.cabinet.specs.declared.shelving.Saving.{Saving}
-use Rattle.cabinet.specs.declared.shelving.Shelving.TheVariants as shelving
-use Rattle.cabinet.specs.Commands.{Asks, Cuts, Expires, Finishes, IsForcedOf, IsFreshReply, IsHit, IsUnkept, Saves, answering, is_within, kept_at, others, place_for, where_within}
+use Rattle.cabinet.specs.Commands.{Asks, IsForcedOf, IsFreshReply, IsUnkept, answering, is_within, others, place_for, where_within}
 use Rattle.cabinet.specs.Consistent.{IsConsistent, Parts, seen, stood}
 use Rattle.cabinet.specs.Counted.{kept_in, part_of, scope_exceeded, unsaved_in, use_of, uses_of}
 use Rattle.cabinet.specs.Counted as counts
 use Rattle.cabinet.specs.Fresh.{ApartBy, limit_for}
 use Rattle.cabinet.specs.Gaps.{gap_for}
-use Rattle.cabinet.specs.History.{History, Standing, after, but, first, first_entries, is_of, kept_of, least_of, lesser, next, numbers, last_number, whole}
-use Rattle.cabinet.specs.Shelved.{Drops, IsAlike, Reads, SavesFirst, Shelved, Shelves, listed, scope_above, use_on}
-use Rattle.cabinet.specs.State.{IsLong, IsPictured, IsKnown, IsSound, State, asked_at, blobs_counted, blobs_with, blobs_without, now, with_blob, with_counted, with_cut, with_dropped, with_entry}
-use Rattle.cabinet.specs.Turns.{IsFoundIn, IsTaken, IsTurn, Progress}
+use Rattle.cabinet.specs.History.{History, Standing, but, first, first_entries, is_of, kept_of, least_of, lesser, next, numbers, last_number, whole}
+use Rattle.cabinet.specs.Shelved.{GoesOn, IsUnsavedOn, JudgesOn, listed, scope_above, use_on}
+use Rattle.cabinet.specs.State.{IsPictured, IsKnown, IsSound, State, blobs_counted, blobs_with, blobs_without, now, with_blob, with_counted, with_dropped, with_entry}
+use Rattle.cabinet.specs.Steps.{Admits, GoesFirst, IsUnsavedFirst, Judges}
+use Rattle.cabinet.specs.Turns.{IsTaken, IsTurn, Progress}
 use Rattle.cabinet.proofs.Holding.{least_has, least_most}
 use Rattle.cabinet.proofs.Lists.{all_of_map, all_push, find_map}
 use Rattle.cabinet.proofs.Modelled.{some_and_made}
 use Rattle.cabinet.proofs.Once.{once}
 use Rattle.cabinet.proofs.OnShelf.{listed_filter}
-use Rattle.cabinet.proofs.Rows.{asks_fresh, goes_kept, stood_more, unsaved_kept}
+use Rattle.cabinet.proofs.Consistent.{one_less}
+use Rattle.cabinet.proofs.Rows.{IsNext, asks_fresh, next_is}
 use Rattle.cabinet.proofs.WithUses.{blobs_set}
-use Rattle.raster_field.specs.TileText.{tile_text}
 
 -- THE LEAST NUMBER
 
@@ -85,10 +84,6 @@ map_numbers (b ∷ bs) = ap (λ (ns : List ℕ). b.kept.number ∷ ns) (map_numb
 -- and with the kept ones
 pub least_is : (least was : Option ℕ) (renders : List Render) (blobs those : List KeptBlob) → IsLeast was renders → least ≡ fold lesser was (map (λ b. b.kept.number) those) → those ≡ blobs → least ≡ least_of (numbers renders (map (λ b. b.kept) blobs))
 least_is least was renders blobs those w e same = e ∙ rw (least_running was renders w, same, fold-append, map_numbers blobs) refl
-
--- what is read of a shelf is read of one that is alike
-pub alike_reads : (s t : Shelved) (a : Address) (o : Option Found) → IsAlike s t → Reads s.catalogue s.blobs a o → Reads t.catalogue t.blobs a o
-alike_reads s t a o l r = subst (λ (bs : List KeptBlob). Reads t.catalogue bs a o) (sym l.blobs) (subst (λ (c : Catalogue). Reads c s.blobs a o) (sym l.catalogue) r)
 
 -- USES
 
@@ -120,71 +115,39 @@ module _ (p : Parts) (h : History) (k : IsConsistent p h) where
   out_are : p.renders ≡ (now here).out
   out_are = ap (λ (x : Standing). x.out) (sym k.stands)
 
-  -- NUMBERS
-
-  pub next_some : p.last < last_number p.opening → next p.opening (now here) ≡ Some (p.last + 1)
-  next_some left =
-      let lt : nat_lt p.last (last_number p.opening) ≡ true = grind (arith, nat_tests) in
-      ap (next p.opening) k.stands ∙ ap (λ (v : Bool). cond v (Some (p.last + 1)) None) lt
-
   -- HITS
 
   listed_of : (m : MetaKey) (o : Option KeptBlob) → find (λ b. is_of m b.kept) p.shelf.blobs ≡ o → kept_of m (now here) ≡ option_map (λ b. b.kept) o
   listed_of m o e = ap (find (is_of m)) (sym kept_are) ∙ find_map (λ (x : KeptBlob). x.kept) (is_of m) p.shelf.blobs ∙ ap (option_map (λ (x : KeptBlob). x.kept)) e
 
-  pub some_listed : (m : MetaKey) (b : KeptBlob) → find (λ b. is_of m b.kept) p.shelf.blobs ≡ Some b → IsSome (find (is_of m) (listed p.shelf.blobs))
-  some_listed m b e = rw (find_map (λ (x : KeptBlob). x.kept) (is_of m) p.shelf.blobs, e) refl
-
-  -- what is found in a sound cabinet is the metatile's blob
-  pub found_text : (m : MetaKey) (b : KeptBlob) → find (λ b. is_of m b.kept) p.shelf.blobs ≡ Some b → IsSound here → b.text ≡ block_text p.shelf.catalogue b.kept.number m
-  found_text m b e sound =
-      let f = found (λ (x : KeptBlob). is_of m x.kept) (λ x. x.text ≡ block_text p.shelf.catalogue x.kept.number x.kept.meta) p.shelf.blobs b sound e in
-      f.1 ∙ ap (block_text p.shelf.catalogue b.kept.number) (same_meta_is b.kept.meta m f.0)
-
-  -- and has its length
-  long_text : (m : MetaKey) (b : KeptBlob) → find (λ b. is_of m b.kept) p.shelf.blobs ≡ Some b → length b.text ≡ blob_size p.shelf.catalogue m
-  long_text m b e =
-      let f = found (λ (x : KeptBlob). is_of m x.kept) (IsLong p.shelf.catalogue) p.shelf.blobs b k.known.lengths e in
-      f.1.0 ∙ f.1.1 ∙ ap (blob_size p.shelf.catalogue) (same_meta_is b.kept.meta m f.0)
-
-  -- what was read of the cabinet was read of the shelf
-  pub found_reads : (a : Address) (f : Found) → IsFoundIn here a f → Reads p.shelf.catalogue p.shelf.blobs a (Some f)
-  found_reads a f x =
-      let e : ◌≡◌ {A = Option (List KeptBlob)} (Some p.shelf.blobs) (Some x.0) = x.1 in
-      let same : x.0 ≡ p.shelf.blobs = cc in
-      subst (λ (bs : List KeptBlob). Reads p.shelf.catalogue bs a (Some f)) same x.2
-
   moment_is : (now here).moment ≡ p.moment
   moment_is = ap (λ (x : Standing). x.moment) k.stands
 
   -- what is kept answers where it is within its limit at the moment
-  answers : (a : Address) (f : Found) (limit : Option ℕ) (v : Bool) (r : Reads p.shelf.catalogue p.shelf.blobs a (Some f)) → limit ≡ limit_for p.shelf.catalogue a → is_within limit f.moment p.moment ≡ v
-      → answering here a ≡ cond v (Some r.0.kept) None
-  answers a f limit v r of told =
-      let kept : kept_of (block_of p.shelf.catalogue a) (now here) ≡ Some r.0.kept = listed_of (block_of p.shelf.catalogue a) (Some r.0) r.1 in
-      let within : is_within (limit_for p.shelf.catalogue a) r.0.kept.moment (now here).moment ≡ v = (λ i. is_within (sym of i) (sym r.3 i) (moment_is i)) ∙ told in
-      ap (option_and_then (where_within (limit_for p.shelf.catalogue a) (now here).moment)) kept ∙ ap (λ (w : Bool). cond w (Some r.0.kept) None) within
+  answers : (a : Address) (t : Kept) (limit : Option ℕ) (v : Bool) → find (is_of (block_of p.shelf.catalogue a)) (listed p.shelf.blobs) ≡ Some t → limit ≡ limit_for p.shelf.catalogue a → is_within limit t.moment p.moment ≡ v
+      → answering here a ≡ cond v (Some t) None
+  answers a t limit v at of told =
+      let kept : kept_of (block_of p.shelf.catalogue a) (now here) ≡ Some t = ap (find (is_of (block_of p.shelf.catalogue a))) (sym kept_are) ∙ at in
+      let within : is_within (limit_for p.shelf.catalogue a) t.moment (now here).moment ≡ v = (λ i. is_within (sym of i) t.moment (moment_is i)) ∙ told in
+      ap (option_and_then (where_within (limit_for p.shelf.catalogue a) (now here).moment)) kept ∙ ap (λ (w : Bool). cond w (Some t) None) within
 
-  pub hit_row : (a : Address) (f : Found) (limit : Option ℕ) (new : State) → Reads p.shelf.catalogue p.shelf.blobs a (Some f) → limit ≡ limit_for p.shelf.catalogue a → is_within limit f.moment p.moment ≡ true
-      → new ≡ with_entry here (entry.Used (block_of p.shelf.catalogue a)) → IsHit here a f.number f.text.items new
-  hit_row a f limit new r of told is = record {
-    kept = r.0.kept;
-    is_kept = answers a f limit true r of told;
-    number = r.2;
-    blob = r.0.text;
-    long = long_text (block_of p.shelf.catalogue a) r.0 r.1;
-    told = rw r.1 refl;
-    part = r.4;
-    state = is;
-  }
+  pub some_answers : (a : Address) (t : Kept) (limit : Option ℕ) → find (is_of (block_of p.shelf.catalogue a)) (listed p.shelf.blobs) ≡ Some t → limit ≡ limit_for p.shelf.catalogue a → is_within limit t.moment p.moment ≡ true
+      → IsSome (answering here a)
+  some_answers a t limit at of told = rw (answers a t limit true at of told) refl
 
   -- and doesn't where it is older
-  pub older_unkept : (a : Address) (f : Found) (limit : Option ℕ) → Reads p.shelf.catalogue p.shelf.blobs a (Some f) → limit ≡ limit_for p.shelf.catalogue a → is_within limit f.moment p.moment ≡ false → IsUnkept here a
-  older_unkept a f limit r of told = answers a f limit false r of told
+  pub older_unkept : (a : Address) (t : Kept) (limit : Option ℕ) → find (is_of (block_of p.shelf.catalogue a)) (listed p.shelf.blobs) ≡ Some t → limit ≡ limit_for p.shelf.catalogue a → is_within limit t.moment p.moment ≡ false
+      → IsUnkept here a
+  older_unkept a t limit at of told = answers a t limit false at of told
 
-  -- what is read of a sound cabinet is the encoded tile
-  pub hit_sound : (a : Address) (f : Found) → Reads p.shelf.catalogue p.shelf.blobs a (Some f) → IsSound here → f.text.items ≡ tile_text p.shelf.catalogue f.number a
-  hit_sound a f r sound = r.5 f.number (found_text (block_of p.shelf.catalogue a) r.0 r.1 sound ∙ ap (λ (k : ℕ). block_text p.shelf.catalogue k (block_of p.shelf.catalogue a)) (sym r.2))
+  -- it is used
+  pub used_row : (a : Address) (m : MetaKey) (new : State) (more : History) → m ≡ block_of p.shelf.catalogue a → more ≡ h ++ entry.Used m ∷ []
+      → new ≡ record { catalogue = p.shelf.catalogue; opening = p.opening; history = whole p.opening more; since = more; blobs = Some p.shelf.blobs; clock = p.clock } → new ≡ with_entry here (entry.Used (block_of p.shelf.catalogue a))
+  used_row a m new more is e f =
+      let past : more ≡ h ++ entry.Used (block_of p.shelf.catalogue a) ∷ [] = e ∙ ap (λ (o : MetaKey). h ++ entry.Used o ∷ []) is in
+      let all : whole p.opening more ≡ whole p.opening h ++ entry.Used (block_of p.shelf.catalogue a) ∷ [] =
+      ap (whole p.opening) past ∙ sym (append_assoc (first_entries p.opening) h (entry.Used (block_of p.shelf.catalogue a) ∷ [])) in
+      f ∙ (λ i. record { catalogue = p.shelf.catalogue; opening = p.opening; history = all i; since = past i; blobs = Some p.shelf.blobs; clock = p.clock })
 
   -- WHAT IS TOLD
 
@@ -194,15 +157,6 @@ module _ (p : Parts) (h : History) (k : IsConsistent p h) where
       ∙ ap length (listed_filter (λ t. t.meta.theme.layer == layer) p.shelf.blobs)
       ∙ ap (λ (ts : List Kept). length (filter (λ t. t.meta.theme.layer == layer) ts)) kept_are
       ∙ length-filter (λ t. t.meta.theme.layer == layer) (now here).kept
-
-  -- MISSES
-
-  -- where nothing is kept of the tile's metatile, nothing answers at any moment
-  pub none_unkept : (a : Address) (n : ℕ) → Reads p.shelf.catalogue p.shelf.blobs a None → IsUnkept (asked_at n here) a
-  none_unkept a n none =
-      let then : now (asked_at n here) ≡ after p.shelf.catalogue (now here) (entry.At n) = stood_more p.shelf.catalogue (first p.opening) h (entry.At n) in
-      let kept : kept_of (block_of p.shelf.catalogue a) (now (asked_at n here)) ≡ None = ap (kept_of (block_of p.shelf.catalogue a)) then ∙ listed_of (block_of p.shelf.catalogue a) None none in
-      ap (option_and_then (where_within (limit_for p.shelf.catalogue a) (now (asked_at n here)).moment)) kept
 
   -- TURNS
 
@@ -247,16 +201,56 @@ module _ (p : Parts) (h : History) (k : IsConsistent p h) where
   place_is : (bytes : ℕ) (o : Option ℕ) → gap_for p.shelf.catalogue (listed p.shelf.blobs) bytes ≡ o → place_for here bytes ≡ o
   place_is bytes o e = ap (λ (ts : List Kept). gap_for p.shelf.catalogue ts bytes) (sym kept_are) ∙ e
 
-  module _ (t : Ticketed) (n : ℕ) (blob : List ℕ) (runs : render_of t p.renders ≡ Some (unmarked t.number t.meta n)) (new : State) where
-    pub full_row : (shelf' : Shelved) → Shelves p.shelf t n blob shelving.Full shelf' → new ≡ with_entry here (entry.Ended t.number) → Finishes here t blob finished.Full new
-    full_row shelf' x is = (n, runs_are t (unmarked t.number t.meta n) runs, subst (λ (l : ℕ). p.shelf.catalogue.kept_limit ≤ l) (others_are t.meta) x.0, is)
+  -- what is to come of a render that was not overtaken
+  pub judges_row : (t : Ticketed) (n : ℕ) (told : Judged) → render_of t p.renders ≡ Some (unmarked t.number t.meta n) → JudgesOn p.shelf t n told → Judges here t told
+  judges_row t n judged.Stranger runs x = absurd x
+  judges_row t n (judged.Overtaken cut) runs x = absurd x
+  judges_row t n judged.Full runs x = (n, runs_are t (unmarked t.number t.meta n) runs, subst (λ (l : ℕ). p.shelf.catalogue.kept_limit ≤ l) (others_are t.meta) x)
+  judges_row t n judged.NoRoom runs x =
+      (n, runs_are t (unmarked t.number t.meta n) runs, subst (λ (l : ℕ). l < p.shelf.catalogue.kept_limit) (others_are t.meta) x.0, place_is (blob_size p.shelf.catalogue t.meta) None x.1)
+  judges_row t n (judged.Fits kept) runs x =
+      (n, runs_are t (unmarked t.number t.meta n) runs, subst (λ (l : ℕ). l < p.shelf.catalogue.kept_limit) (others_are t.meta) x.0, place_is (blob_size p.shelf.catalogue t.meta) (Some kept.place) x.1, x.2)
 
-    pub no_room_row : (shelf' : Shelved) → Shelves p.shelf t n blob shelving.NoRoom shelf' → new ≡ with_entry here (entry.Ended t.number) → Finishes here t blob finished.NoRoom new
-    no_room_row shelf' x is = (n, runs_are t (unmarked t.number t.meta n) runs, subst (λ (l : ℕ). l < p.shelf.catalogue.kept_limit) (others_are t.meta) x.0, place_is (length blob) None x.1, is)
+  -- a render that runs takes one of the places that there is room for
+  pub some_room : (t : Ticketed) (r : Render) → render_of t p.renders ≡ Some r → 1 ≤ p.shelf.room
+  some_room t r runs = let less = one_less p h k t r runs in let room = k.room in omega arith
 
-    pub kept_row : (kept : Kept) (shelf' : Shelved) → Shelves p.shelf t n blob (shelving.Kept kept) shelf' → new ≡ with_blob here (kept_at t n kept.place (length blob)) blob → Finishes here t blob finished.Kept new
-    kept_row kept shelf' x is =
-        (n, runs_are t (unmarked t.number t.meta n) runs, subst (λ (l : ℕ). l < p.shelf.catalogue.kept_limit) (others_are t.meta) x.0, (kept.place, place_is (length blob) (Some kept.place) x.1, is))
+  -- what fits, of the shelf
+  module _ (t : Ticketed) (kept : Kept) (fits : Judges here t (judged.Fits kept)) where
+    pub fits_runs : render_of (record { number = kept.number; meta = kept.meta }) p.renders ≡ Some (unmarked kept.number kept.meta kept.moment)
+    fits_runs =
+        subst (λ (x : Kept). render_of (record { number = x.number; meta = x.meta }) p.renders ≡ Some (unmarked x.number x.meta x.moment)) (sym fits.4) (ap (render_of t) out_are ∙ fits.1)
+
+    pub fits_few : length (but kept.meta (listed p.shelf.blobs)) < p.shelf.catalogue.kept_limit
+    fits_few = subst (λ (x : Kept). length (but x.meta (listed p.shelf.blobs)) < p.shelf.catalogue.kept_limit) (sym fits.4) (subst (λ (l : ℕ). l < p.shelf.catalogue.kept_limit) (sym (others_are t.meta)) fits.2)
+
+    pub fits_size : kept.length ≡ blob_size p.shelf.catalogue kept.meta
+    fits_size = subst (λ (x : Kept). x.length ≡ blob_size p.shelf.catalogue x.meta) (sym fits.4) refl
+
+    pub fits_new : kept.uses ≡ 0
+    fits_new = ap (λ (x : Kept). x.uses) fits.4
+
+    -- it is off once it ended
+    pub ended_off : (told : End) (rs : List Render) → Ends p.renders t told rs → rs ≡ without t.number p.renders
+    ended_off ends.Stranger rs x = absurd (let e = sym x.0 ∙ ap (render_of t) out_are ∙ fits.1 in cc)
+    ended_off (ends.Overtaken cut) rs x = x.2
+    ended_off (ends.Whole n) rs x = x.1
+
+    fits_place : gap_for p.shelf.catalogue (listed p.shelf.blobs) (blob_size p.shelf.catalogue t.meta) ≡ Some kept.place
+    fits_place = ap (λ (ts : List Kept). gap_for p.shelf.catalogue ts (blob_size p.shelf.catalogue t.meta)) kept_are ∙ fits.3
+
+    fits_meta : t.meta ≡ kept.meta
+    fits_meta = ap (λ (x : Kept). x.meta) (sym fits.4)
+
+    pub fits_gap : gap_for p.shelf.catalogue (listed p.shelf.blobs) kept.length ≡ Some kept.place
+    fits_gap = ap (λ (x : Kept). gap_for p.shelf.catalogue (listed p.shelf.blobs) x.length) fits.4 ∙ fits_place
+
+    pub fits_on : JudgesOn p.shelf (record { number = kept.number; meta = kept.meta }) kept.moment (judged.Fits kept)
+    fits_on = (
+      fits_few,
+      subst (λ (m : MetaKey). gap_for p.shelf.catalogue (listed p.shelf.blobs) (blob_size p.shelf.catalogue m) ≡ Some kept.place) fits_meta fits_place,
+      (λ j. record { number = kept.number; meta = kept.meta; place = kept.place; length = fits_size j; moment = kept.moment; uses = fits_new j }),
+    )
 
   -- CUTS
 
@@ -267,12 +261,18 @@ module _ (p : Parts) (h : History) (k : IsConsistent p h) where
       let there : listed' ≡ (now here).book = b ∙ ap (λ (x : Standing). x.book) (sym k.stands) in
       λ i. purged (Some cover) (whole i) (there i)
 
-  module _ (cover : Cover) (least : Option ℕ) (book : Book) (left : p.last < last_number p.opening) (low : least ≡ least_of (numbers p.renders (listed p.shelf.blobs))) (same : book ≡ p.book) (new : State) where
-    pub cut_full_row : p.shelf.catalogue.cut_limit ≤ length (purged (Some cover) least book).cuts → new ≡ here → Cuts here cover reply.Full new
-    cut_full_row full is = (rw (next_some left) refl, subst (λ (x : Book). p.shelf.catalogue.cut_limit ≤ length x.cuts) (before_is cover least book low same) full, is)
+  module _ (cover : Cover) (least : Option ℕ) (book : Book) (number : ℕ) (next_is : next p.opening (now here) ≡ Some number) (low : least ≡ least_of (numbers p.renders (listed p.shelf.blobs))) (same : book ≡ p.book) where
+    pub admits_full : p.shelf.catalogue.cut_limit ≤ length (purged (Some cover) least book).cuts → Admits here cover admitted.Full
+    admits_full full = (rw next_is refl, subst (λ (x : Book). p.shelf.catalogue.cut_limit ≤ length x.cuts) (before_is cover least book low same) full)
 
-    pub cut_done_row : length (purged (Some cover) least book).cuts < p.shelf.catalogue.cut_limit → new ≡ with_cut here (p.last + 1) cover → Cuts here cover (reply.Done (p.last + 1)) new
-    cut_done_row room_left is = (next_some left, subst (λ (x : Book). length x.cuts < p.shelf.catalogue.cut_limit) (before_is cover least book low same) room_left, is)
+    pub admits_number : length (purged (Some cover) least book).cuts < p.shelf.catalogue.cut_limit → Admits here cover (admitted.Number number)
+    admits_number room_left = (next_is, subst (λ (x : Book). length x.cuts < p.shelf.catalogue.cut_limit) (before_is cover least book low same) room_left)
+
+    pub admitted_few : Admits here cover (admitted.Number number) → length (purged (Some cover) least book).cuts < p.shelf.catalogue.cut_limit
+    admitted_few x = subst (λ (x : Book). length x.cuts < p.shelf.catalogue.cut_limit) (sym (before_is cover least book low same)) x.1
+
+  pub number_is : (number : ℕ) → next p.opening (now here) ≡ Some number → IsNext p.last (last_number p.opening) number
+  number_is number e = next_is p.opening (stood p) number (ap (next p.opening) (sym k.stands) ∙ e)
 
   -- EXPIRES
 
@@ -292,15 +292,13 @@ module _ (p : Parts) (h : History) (k : IsConsistent p h) where
       let apart = uses_apart (use_of (whole p.opening h)) (λ n. refl) (now here).kept (once p.shelf.catalogue p.opening h k.known.possible.opens) in
       sym (one_victim p.shelf.catalogue.policy scope (uses_of here) (Some m) apart (subst (λ (f : MetaKey → Option Use). IsVictim p.shelf.catalogue.policy scope f (Some m)) (λ j n. uses_are n j) goes))
 
-  pub within_row : (shelf' : Shelved) (new : State) → Drops p.shelf None shelf' → new ≡ here → Expires here expired.Within new
-  within_row shelf' new x is = (scope_is None x.0, is)
+  pub goes_row : (o : Option Kept) → GoesOn p.shelf o → GoesFirst here o
+  goes_row None x = scope_is None x
+  goes_row (Some t) x = (x.0, scope_is (Some x.0) x.1, victim_is x.0 t.meta x.2, ap (find (is_of t.meta)) (sym kept_are) ∙ x.3)
 
-  pub dropped_row : (m : MetaKey) (shelf' : Shelved) (new : State) → Drops p.shelf (Some m) shelf' → new ≡ with_dropped here m → Expires here (expired.Dropped m) new
-  dropped_row m shelf' new x is = (x.0, scope_is (Some x.0) x.1, victim_is x.0 m x.2, is)
-
-  -- what goes is kept
-  pub goes_listed : (m : MetaKey) (shelf' : Shelved) → Drops p.shelf (Some m) shelf' → IsSome (find (is_of m) (listed p.shelf.blobs))
-  goes_listed m shelf' x = subst (λ (ts : List Kept). IsSome (find (is_of m) ts)) (sym kept_are) (goes_kept here x.0 m (victim_is x.0 m x.2))
+  -- what is kept in the history is on the shelf
+  pub on_shelf : (m : MetaKey) → IsSome (kept_of m (now here)) → IsSome (find (is_of m) (listed p.shelf.blobs))
+  on_shelf m some = subst (λ (ts : List Kept). IsSome (find (is_of m) ts)) (sym kept_are) some
 
   -- SAVINGS
 
@@ -316,15 +314,9 @@ module _ (p : Parts) (h : History) (k : IsConsistent p h) where
       at_kept None f = absurd (cc)
       at_kept (Some t) f = let same : counts.uses (whole p.opening h) m ≡ u = cc in sym same
 
-  pub all_saved_row : (shelf' : Shelved) (new : State) → SavesFirst p.shelf None shelf' → new ≡ here → Saves here saved.Within new
-  all_saved_row shelf' new x is = (unsaved_is None x.0, is)
-
-  pub saved_row : (x : Saving) (shelf' : Shelved) (new : State) → SavesFirst p.shelf (Some x) shelf' → new ≡ with_counted here x.meta x.uses → Saves here (saved.Done x.meta) new
-  saved_row x shelf' new s is = (unsaved_is (Some x.meta) s.0, is ∙ ap (with_counted here x.meta) (count_is x.meta x.uses s.1))
-
-  -- it is kept
-  pub unsaved_listed : (x : Saving) (shelf' : Shelved) → SavesFirst p.shelf (Some x) shelf' → IsSome (find (is_of x.meta) (listed p.shelf.blobs))
-  unsaved_listed x shelf' s = subst (λ (ts : List Kept). IsSome (find (is_of x.meta) ts)) (sym kept_are) (unsaved_kept here x.meta (unsaved_is (Some x.meta) s.0))
+  pub unsaved_row : (o : Option Unsaved) → IsUnsavedOn p.shelf o → IsUnsavedFirst here o
+  unsaved_row None x = unsaved_is None x
+  unsaved_row (Some x) s = (unsaved_is (Some x.kept.meta) s.0, ap (find (is_of x.kept.meta)) (sym kept_are) ∙ s.1, count_is x.kept.meta x.uses s.2)
 
 -- a count that is not told to be at the limit is below it
 pub below_limit : (count limit : ℕ) (told : Bool) → told ≡ false → (limit ≤ count → told ≡ true) → count < limit

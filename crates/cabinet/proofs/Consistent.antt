@@ -235,6 +235,17 @@ module _ (p : Parts) (h : History) (k : IsConsistent p h) where
       (one_entry (entry.Ended n) g (record { opening = p.opening; shelf = p.shelf; last = p.last; moment = p.moment; clock = p.clock; renders = without n p.renders; book = p.book }) is refl refl tt refl k.known.lengths front_left k.clock_is
       (as_before (entry.Ended n) (use_more (whole p.opening h) (entry.Ended n))) (omega arith))
 
+  -- MISSED
+
+  pub after_missed : (n : ℕ) (g : History) (q : Parts) → g ≡ h ++ entry.Missed n ∷ [] → q ≡ record { opening = p.opening; shelf = p.shelf; last = n; moment = p.moment; clock = p.clock; renders = p.renders; book = p.book }
+      → n ≡ p.last + 1 → n ≤ last_number p.opening → IsConsistent q g
+  after_missed n g q is e next' left =
+      let higher : max p.last n ≡ n = omega (arith, next') in
+      subst (λ (x : Parts). IsConsistent x g) (sym e)
+      (one_entry (entry.Missed n) g (record { opening = p.opening; shelf = p.shelf; last = n; moment = p.moment; clock = p.clock; renders = p.renders; book = p.book }) is refl refl next'
+      (λ i. record { front = higher i; moment = p.moment; kept = listed p.shelf.blobs; out = p.renders; book = p.book }) k.known.lengths left k.clock_is
+      (as_before (entry.Missed n) (use_more (whole p.opening h) (entry.Missed n))) k.room)
+
   -- STORED
 
   -- the render of a ticket is one less

@@ -17,6 +17,7 @@ pub mod Disjoint
 pub mod Served
 pub mod Consistent
 pub mod Answered
+pub mod Found
 pub mod UsesAfter
 pub mod Once
 pub mod Bytes

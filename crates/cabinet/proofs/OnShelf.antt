@@ -28,7 +28,7 @@ use Rattle.cabinet.specs.declared.kept.KeptBlob.{KeptBlob}
 use Rattle.cabinet.specs.Counted.{part_of}
 use Rattle.cabinet.specs.Gaps.{gap_for, lowest_gap, regions, region}
 use Rattle.cabinet.specs.History.{but, is_of, with_uses}
-use Rattle.cabinet.specs.Shelved.{IsCountedIn, IsShelved, LeavesUses, listed, with_forgotten, with_kept, with_saved, with_used, without}
+use Rattle.cabinet.specs.Shelved.{IsCountedIn, IsShelved, LeavesUses, listed, with_forgotten, with_saved, with_used, without}
 use Rattle.cabinet.specs.State.{IsLong, blobs_counted}
 use Rattle.cabinet.proofs.Bytes.{bytes_filter, bytes_within, older_counted, older_out}
 use Rattle.cabinet.proofs.Lists.{all_of, all_push, any_map, find_map, map_filter}
@@ -67,10 +67,6 @@ some_mapped : {X Y : Type 0} (f : X → Y) (o : Option X) → is_some (option_ma
 some_mapped f None = refl
 some_mapped f (Some x) = refl
 
--- what has uses that are not saved has uses
-pub unsaved_held : (counts : Counts) (m : MetaKey) → IsUnsaved (use_of counts) (Some m) → IsSome (use_of counts m)
-unsaved_held counts m first = subst IsSome (sym first.1.held) refl
-
 pub turned : {X : Type 0} (v : Bool) (o : Option X) → cond (not v) o None ≡ cond v None o
 turned true o = refl
 turned false o = refl
@@ -100,6 +96,14 @@ pub found_long : (c : Catalogue) (blobs : List KeptBlob) (m : MetaKey) (b : Kept
 found_long c blobs m b long e =
     let f = found (λ (x : KeptBlob). is_of m x.kept) (IsLong c) blobs b long e in
     f.1.0 ∙ f.1.1 ∙ ap (blob_size c) (same_meta_is b.kept.meta m f.0)
+
+-- what is listed is there with its blob
+pub some_blob : (m : MetaKey) (blobs : List KeptBlob) (t : Kept) → find (is_of m) (listed blobs) ≡ Some t → IsSome (find (λ b. is_of m b.kept) blobs)
+some_blob m blobs t e = some_at (find (λ b. is_of m b.kept) blobs) (sym (find_map (λ (b : KeptBlob). b.kept) (is_of m) blobs) ∙ e)
+  where
+    some_at : (o : Option KeptBlob) → option_map (λ b. b.kept) o ≡ Some t → IsSome o
+    some_at None e = absurd (cc)
+    some_at (Some b) e = refl
 
 module _ (c : Catalogue) (blobs : List KeptBlob) (space : Space) (ledger : Accounts) (counts : Counts) (n : IsShelved c blobs space ledger counts) where
   pub its_account : (layer : ℕ) → layer < length c.layers → layer < length ledger.layers
@@ -233,17 +237,23 @@ module _ (c : Catalogue) (blobs : List KeptBlob) (space : Space) (ledger : Accou
 
   -- ONE MORE IS KEPT
 
-  -- the gap that was taken, and where there is none
+  -- the gap, and where there is none
   gap_of : (bytes : ℕ) (o : Option ℕ) → lowest_gap 0 space.parts space.size bytes ≡ o → gap_for c (listed blobs) bytes ≡ o
   gap_of bytes o e = (λ i. lowest_gap 0 (sym n.parts i) (sym n.size i) bytes) ∙ e
 
-  pub gap_taken : (bytes x : ℕ) (taken : Space) → IsFree space.parts space.size (part_at x bytes) → NoneFreeBelow space.parts space.size bytes x → IsTaken space (part_at x bytes) taken → LieInOrder 0 taken.parts taken.size → gap_for c (listed blobs) bytes ≡ Some x
-  gap_taken bytes x taken free below took sound =
-      let ordered = alone 0 (part_at x bytes) space.parts taken.size (subst (λ (ps : List extent.Part.Part). LieInOrder 0 ps taken.size) took.entered sound) in
-      gap_of bytes (Some x) (gap_at space.parts space.size bytes x (subst (LieInOrder 0 space.parts) took.same_size ordered.order) free below)
+  pub gap_free : (bytes x : ℕ) → IsFree space.parts space.size (part_at x bytes) → NoneFreeBelow space.parts space.size bytes x → gap_for c (listed blobs) bytes ≡ Some x
+  gap_free bytes x free below = gap_of bytes (Some x) (gap_at space.parts space.size bytes x n.order free below)
 
-  pub gap_none : (bytes : ℕ) (after : Space) → NoneFree space.parts space.size bytes → after ≡ space → LieInOrder 0 after.parts after.size → gap_for c (listed blobs) bytes ≡ None
-  gap_none bytes after none same sound = gap_of bytes None (no_gap space.parts space.size bytes (subst (λ (e : Space). LieInOrder 0 e.parts e.size) same sound) none)
+  pub gap_nowhere : (bytes : ℕ) → NoneFree space.parts space.size bytes → gap_for c (listed blobs) bytes ≡ None
+  gap_nowhere bytes none = gap_of bytes None (no_gap space.parts space.size bytes n.order none)
+
+  -- what fits is taken where it was to be
+  pub taken_there : (t : Kept) (x : ℕ) (taken : Space) → gap_for c (listed blobs) t.length ≡ Some t.place → IsFree space.parts space.size (part_at x t.length) → NoneFreeBelow space.parts space.size t.length x → IsTaken space (part_at x t.length) taken
+      → IsTaken space (region t) taken
+  taken_there t x taken gap free below took =
+      let both : Some x ≡ Some t.place = sym (gap_free t.length x free below) ∙ gap in
+      let same : x ≡ t.place = cc in
+      subst (λ (y : ℕ). IsTaken space (part_at y t.length) taken) same took
 
   pub others_are : (m : MetaKey) → length (filter (λ b. not (is_of m b.kept)) blobs) ≡ length (but m (listed blobs))
   others_are m = sym (length-map (filter (λ b. not (is_of m b.kept)) blobs) (λ (b : KeptBlob). b.kept)) ∙ ap length (listed_filter (λ t. not (is_of m t)) blobs)
@@ -294,9 +304,9 @@ module _ (c : Catalogue) (blobs : List KeptBlob) (space : Space) (ledger : Accou
           spare_at (Some o) gave left = omega (arith, took.one_less, gave.one_less)
 
       -- the shelf with one more
-      pub kept_shelved : (text : List ℕ) (ledger' : Accounts) (counts' : Counts) → length text ≡ t.length → t.length ≡ blob_size c t.meta → t.meta.theme.layer < length c.layers → length (but t.meta (listed blobs)) < c.kept_limit → ledger' ≡ added t.meta.theme.layer t.length (without older ledger)
-          → LeavesUses counts (one_more counts.now) (with_kept t.meta (one_more counts.now) (use_of counts)) counts' → IsShelved c (filter (λ b. not (is_of t.meta b.kept)) blobs ++ record { kept = t; text = text } ∷ []) given ledger' counts'
-      kept_shelved text ledger' counts' long_text long_blob layer others bytes uses =
+      pub kept_shelved : (text : List ℕ) (u : Use) (ledger' : Accounts) (counts' : Counts) → length text ≡ t.length → t.length ≡ blob_size c t.meta → t.meta.theme.layer < length c.layers → length (but t.meta (listed blobs)) < c.kept_limit → ledger' ≡ added t.meta.theme.layer t.length (without older ledger)
+          → LeavesUses counts (one_more counts.now) (λ k. cond (same_meta k t.meta) (Some u) (use_of counts k)) counts' → IsShelved c (filter (λ b. not (is_of t.meta b.kept)) blobs ++ record { kept = t; text = text } ∷ []) given ledger' counts'
+      kept_shelved text u ledger' counts' long_text long_blob layer others bytes uses =
           let list = listed_put t text blobs in
           let rest = but t.meta (listed blobs) in
           let ordered : LieInOrder 0 (regions (t ∷ but t.meta (listed blobs))) given.size = subst (λ (ps : List extent.Part.Part). LieInOrder 0 ps given.size) given_parts sound in
@@ -318,8 +328,8 @@ module _ (c : Catalogue) (blobs : List KeptBlob) (space : Space) (ledger : Accou
             policy = uses.policy ∙ n.policy;
             layers = uses.layers ∙ n.layers;
             keys = λ k. ap is_some (uses.uses k)
-                ∙ ap (λ (v : Bool). is_some (cond v (Some (record { meta = t.meta; uses = 0; saved = 0; last = one_more counts.now })) (use_of counts k))) (same_swap k t.meta)
-                ∙ some_either (same_meta t.meta k) (record { meta = t.meta; uses = 0; saved = 0; last = one_more counts.now }) t (use_of counts k) (find (is_of k) (listed blobs)) (n.keys k)
+                ∙ ap (λ (v : Bool). is_some (cond v (Some u) (use_of counts k))) (same_swap k t.meta)
+                ∙ some_either (same_meta t.meta k) u t (use_of counts k) (find (is_of k) (listed blobs)) (n.keys k)
                 ∙ ap is_some (sym (put_is k t (listed blobs)) ∙ ap (find (is_of k)) (sym list));
           }
 

@@ -1,7 +1,6 @@
 -- What each row of a command leaves of what is sound.
-use Rattle.std.proofs.Common.{ℕ, ◌≡◌, List, Some, filter, not, sym, subst, inl, inr}
+use Rattle.std.proofs.Common.{ℕ, ◌≡◌, not, sym, subst, inl, inr}
 use Rattle.std.specs.Prelude.{IfOk, OnErr, Result, Ok, Err}
-use Rattle.std.specs.List.{AllByRecursion}
 use Rattle.matrix_geometry.specs.declared.address.Address.{Address}
 use Rattle.metatile_locks.proofs.Lists.{all_filter}
 use Rattle.metatile_locks.specs.Tickets.{Ticketed}
@@ -16,7 +15,7 @@ use Rattle.cabinet.specs.declared.replies.CutReply.{CutReply}
 use Rattle.cabinet.specs.declared.replies.CutReply.TheVariants as reply
 use Rattle.cabinet.specs.declared.replies.Forced.{Forced}
 use Rattle.cabinet.specs.declared.replies.Forced.TheVariants as forced
-use Rattle.cabinet.specs.Commands.{Abandons, Asks, Cuts, Forces, IsForcedOf}
+use Rattle.cabinet.specs.Commands.{Abandons, Asks, Cuts, Forces}
 use Rattle.cabinet.specs.Hits.{hits_of}
 use Rattle.cabinet.specs.State.{IsPictured, IsSound, State, asked_at, blobs_spared, with_cut, with_entry}
 use Rattle.cabinet.proofs.Modelled.{some_and_made}

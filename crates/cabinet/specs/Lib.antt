@@ -9,3 +9,5 @@ pub mod Shelved
 pub mod Consistent
 pub mod Turns
 pub mod Commands
+pub mod Started
+pub mod Steps

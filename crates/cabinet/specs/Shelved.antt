@@ -15,15 +15,15 @@ use Rattle.metatile_plan.specs.declared.metatile.MetaKey.{MetaKey}
 use Rattle.metatile_plan.specs.Keys.{same_meta}
 use Rattle.quota_ledger.specs.Accounts.{Accounts, accounts, exceeded, removed, used_at}
 use Rattle.quota_ledger.specs.Accounts as ledger
-use Rattle.raster_field.specs.Blocks.{block_of, block_text, tile_part}
+use Rattle.raster_field.specs.Blocks.{blob_size, block_of, block_text, tile_part}
 use Rattle.raster_field.specs.TileText.{tile_text}
 use Rattle.truncation_list.specs.declared.cover.Cover.{Cover}
+use Rattle.cabinet.specs.declared.judged.Judged.{Judged}
+use Rattle.cabinet.specs.declared.judged.Judged.TheVariants as judged
+use Rattle.cabinet.specs.declared.judged.Unsaved.{Unsaved}
 use Rattle.cabinet.specs.declared.kept.Kept.{Kept}
 use Rattle.cabinet.specs.declared.kept.KeptBlob.{KeptBlob}
 use Rattle.cabinet.specs.declared.shelving.Found.{Found}
-use Rattle.cabinet.specs.declared.shelving.Saving.{Saving}
-use Rattle.cabinet.specs.declared.shelving.Shelving.{Shelving}
-use Rattle.cabinet.specs.declared.shelving.Shelving.TheVariants as shelving
 use Rattle.cabinet.specs.Fresh.{ApartBy}
 use Rattle.cabinet.specs.Gaps.{gap_for, regions}
 use Rattle.cabinet.specs.History.{but, is_of}
@@ -158,28 +158,30 @@ Forgets m s new = Leaves s (blobs_without m s.blobs) s.clock (with_forgotten m (
 abbrev pub Marks : MetaKey → ℕ → Shelved → Shelved → Type 0
 Marks m u s new = Leaves s (blobs_counted m u s.blobs) s.clock (with_saved m (use_on s)) new
 
--- a row for each way in which the shelving of a ticket's blob ends, of a render that was begun at this moment
-abbrev pub Shelves : Shelved → Ticketed → ℕ → List ℕ → Shelving → Shelved → Type 0
-Shelves s t n blob shelving.Full new = (s.catalogue.kept_limit ≤ length (but t.meta (listed s.blobs))) × (new ≡ s)
-Shelves s t n blob shelving.NoRoom new =
-    (length (but t.meta (listed s.blobs)) < s.catalogue.kept_limit) × (gap_for s.catalogue (listed s.blobs) (length blob) ≡ None) × (new ≡ s)
-Shelves s t n blob (shelving.Kept kept) new =
-    (length (but t.meta (listed s.blobs)) < s.catalogue.kept_limit) × (gap_for s.catalogue (listed s.blobs) (length blob) ≡ Some kept.place)
-    × (kept ≡ record { number = t.number; meta = t.meta; place = kept.place; length = length blob; moment = n; uses = 0 }) × Keeps kept blob s new
+-- what is to come of a ticket's render that was begun at this moment and was not overtaken: as many others are kept as may be, or no gap
+-- has room for its blob, or it fits
+abbrev pub JudgesOn : Shelved → Ticketed → ℕ → Judged → Type 0
+JudgesOn s t n judged.Stranger = ⊥
+JudgesOn s t n (judged.Overtaken cut) = ⊥
+JudgesOn s t n judged.Full = s.catalogue.kept_limit ≤ length (but t.meta (listed s.blobs))
+JudgesOn s t n judged.NoRoom = (length (but t.meta (listed s.blobs)) < s.catalogue.kept_limit) × (gap_for s.catalogue (listed s.blobs) (blob_size s.catalogue t.meta) ≡ None)
+JudgesOn s t n (judged.Fits kept) =
+    (length (but t.meta (listed s.blobs)) < s.catalogue.kept_limit) × (gap_for s.catalogue (listed s.blobs) (blob_size s.catalogue t.meta) ≡ Some kept.place)
+    × (kept ≡ record { number = t.number; meta = t.meta; place = kept.place; length = blob_size s.catalogue t.meta; moment = n; uses = 0 })
 
 -- the scope whose quota is exceeded
 abbrev pub scope_above : Shelved → Option Scope
 scope_above s = exceeded (accounts s.catalogue (map part_of (listed s.blobs)))
 
--- the first metatile to go of the scope whose quota is exceeded is dropped
-abbrev pub Drops : Shelved → Option MetaKey → Shelved → Type 0
-Drops s None new = (scope_above s ≡ None) × (new ≡ s)
-Drops s (Some m) new = (scope : Scope) × (scope_above s ≡ Some scope) × IsVictim s.catalogue.policy scope (use_on s) (Some m) × Forgets m s new
+-- the first metatile to go of the scope whose quota is exceeded, none exactly where no quota is
+abbrev pub GoesOn : Shelved → Option Kept → Type 0
+GoesOn s None = scope_above s ≡ None
+GoesOn s (Some t) = (scope : Scope) × (scope_above s ≡ Some scope) × IsVictim s.catalogue.policy scope (use_on s) (Some t.meta) × (find (is_of t.meta) (listed s.blobs) ≡ Some t)
 
--- the uses of the metatile of the least key of those with uses that are not saved are marked as saved
-abbrev pub SavesFirst : Shelved → Option Saving → Shelved → Type 0
-SavesFirst s None new = IsUnsaved (use_on s) None × (new ≡ s)
-SavesFirst s (Some x) new = IsUnsaved (use_on s) (Some x.meta) × (option_map (λ u. u.uses) (use_on s x.meta) ≡ Some x.uses) × Marks x.meta x.uses s new
+-- the metatile of the least key of those with uses that are not all saved, and how many uses it has, none exactly where all are
+abbrev pub IsUnsavedOn : Shelved → Option Unsaved → Type 0
+IsUnsavedOn s None = IsUnsaved (use_on s) None
+IsUnsavedOn s (Some x) = IsUnsaved (use_on s) (Some x.kept.meta) × (find (is_of x.kept.meta) (listed s.blobs) ≡ Some x.kept) × (option_map (λ u. u.uses) (use_on s x.kept.meta) ≡ Some x.uses)
 
 -- the bytes of a layer, and of all layers
 abbrev pub used_on : Shelved → ℕ → ℕ

@@ -15,9 +15,9 @@ use Rattle.cabinet.specs.History.{History}
 use Rattle.cabinet.specs.Shelved.{Reads, Shelved}
 use Rattle.cabinet.specs.State.{State}
 
--- what was read of the tile in a cabinet whose blobs are modelled
-abbrev pub IsFoundIn : State → Address → Found → Type 0
-IsFoundIn s a found = (blobs : List KeptBlob) × (s.blobs ≡ Some blobs) × Reads s.catalogue blobs a (Some found)
+-- what was read of the tile in a cabinet whose blobs are modelled, or that nothing is kept of its metatile
+abbrev pub FindsIn : State → Address → Option Found → Type 0
+FindsIn s a found = (blobs : List KeptBlob) × (s.blobs ≡ Some blobs) × Reads s.catalogue blobs a found
 
 -- a render of the metatile runs that is not overtaken, or no number is left, or one is given, with room for one more render that is
 -- kept with all that run

@@ -1,98 +1,55 @@
-//! The cabinet: its commands, and the counts that it tells. The work of a command on what is kept is the shelf's, that on
-//! renders the locks'; here each command changes the parts and the history together.
-ghost use Rattle.std.specs.Prelude.{IfOk, OnErr, length, ◌<◌, ◌^◌, ◌≡◌};
+//! The cabinet in memory: its commands, and the counts that it tells. Each command is a composition of the core's steps.
+ghost use Rattle.std.specs.Prelude.{IfOk, None, OnErr, Some, length, ◌<◌, ◌≡◌};
 ghost use Rattle.catalog.specs.LookUp.{IsTile};
 ghost use Rattle.catalog.specs.Valid.{IsValid};
 ghost use Rattle.raster_field.specs.Blocks.{IsMeta, blob_size, block_text};
-ghost use Rattle.cabinet.specs.History.{bare_opening, last_number};
 
-use crate::ages::{is_within, limit_for};
-use crate::entry::Entry;
-use crate::hitting::overtake;
+use crate::cabinet_core::Core;
+use crate::judged::{Admitted, Judged};
 use crate::replies::{Asked, CutReply, Expired, Finished, Forced, Saved};
-use crate::shelf::Shelf;
-use crate::shelving::{Found, Shelving};
-use crate::turns::{as_asked, taken, turn_for, turn_where};
+use crate::shelving::Found;
+use crate::text::Text;
+use crate::turns::as_asked;
 use catalog::catalogue::Catalogue;
 use clock::clock::Clock;
 use matrix_geometry::address::Address;
-use metatile_locks::locks::Locks;
-use metatile_locks::replies::End;
 use metatile_locks::ticket::Ticket;
 use metatile_plan::metatile::MetaKey;
 use raster_field::layout::block_of;
 use std::alloc::{AllocError, Global};
 use std::marker::Model;
-use trace::Trace;
 use truncation_list::cover::Cover;
-use truncation_list::list::CutList;
-
-/// The numbers of the opening e are e * 2^40 + c, with c from 1 to this.
-const LAST: u64 = (1 << 40) - 1;
-
-/// The last number of an opening.
-fn last_number(opening: u32) -> u64
-    requires { opening < 2 ^ 24 }
-    ensures { result ≡ last_number (bare_opening opening) }
-{
-    u64::from(opening) * (LAST + 1) + LAST
-}
 
 /// Keeps metatiles, gives the numbers of renders, and drops what truncations hit. Contracts see its catalogue, its opening
 /// number, its history and the blobs that it keeps, which are modelled in a cabinet in memory.
 #[derive(Drop)]
 pub struct Cabinet {
-    shelf: Shelf,
-    opening: u32,
-    last: u64,
-    /// The moment of the last ask or force, in seconds.
-    moment: u64,
-    clock: Clock,
-    locks: Locks,
-    cuts: CutList,
-    past: Trace<Entry>,
+    core: Core,
 }
 
 impl Model for Cabinet {
-    ghost use Rattle.std.specs.Prelude.{Some};
-    ghost use Rattle.cabinet.specs.Consistent.{IsConsistent};
-    ghost use Rattle.cabinet.specs.History.{bare_opening};
     ghost use Rattle.cabinet.specs.State.{State};
 
     ghost Value = { State };
 
-    ghost view = { λ a. record { catalogue = a.shelf.catalogue; opening = bare_opening a.opening; history = a.past.entries; since = a.past.entries; blobs = Some a.shelf.blobs; clock = a.clock } };
-
-    ghost invariant = { λ a. IsConsistent (record { opening = bare_opening a.opening; shelf = a.shelf; last = a.last; moment = a.moment; clock = a.clock; renders = a.locks.renders; book = a.cuts.book }) a.past.entries };
+    ghost view = { λ c. c.core.state };
 }
 
 impl Cabinet {
-    ghost use Rattle.cabinet.specs.State.{fresh_state, now, with_entry, IsKnown, IsSound};
+    ghost use Rattle.cabinet.specs.State.{fresh_state, now, IsKnown, IsSound};
     ghost use Rattle.served_covers.specs.OfCatalogue.{IsCoverOf};
     ghost use Rattle.cabinet.specs.Commands.{Asks, Forces, Finishes, Abandons, Cuts, Expires, Saves, IsCountedCut, IsCountedExpired, IsCountedFinished, IsCountedSaved, IsTrueHit, IsFreshReply};
     ghost use Rattle.cabinet.specs.Counted.{kept_in, used, used_all};
-    ghost use Rattle.cabinet.specs.History.{next};
-    ghost use Rattle.cabinet.specs.Turns.{IsFoundIn};
+    ghost use Rattle.cabinet.specs.Turns.{FindsIn};
 
     /// A cabinet in memory, in which nothing has happened; its asks and forces take their moments from the clock. `AllocError` where
     /// memory runs out.
-    #[tactic(auto, using(crate::proofs::Consistent::at_first))]
     pub fn memory(alloc: Global, catalogue: Catalogue, clock: Clock) -> Result<Cabinet, AllocError>
         requires { IsValid catalogue }
         ensures { IfOk result (λ c. c ≡ fresh_state catalogue clock) }
     {
-        let locks = Locks::new(alloc)?;
-        let cuts = CutList::new(alloc)?;
-        let shelf = Shelf::new(alloc, catalogue)?;
         Ok(Cabinet {
-            shelf,
-            opening: 0,
-            last: 0,
-            moment: 0,
-            clock,
-            locks,
-            cuts,
-            past: Trace::new(),
+            core: Core::new(alloc, catalogue, clock)?,
         })
     }
 
@@ -100,25 +57,14 @@ impl Cabinet {
     pub fn catalogue(&self) -> &Catalogue
         ensures { result.now ≡ self.now.catalogue }
     {
-        self.shelf.catalogue()
+        self.core.catalogue()
     }
 
     /// What holds of every cabinet: its history is one that commands can make, so that the laws of histories hold of it.
     pub fn known(&self)
         ensures { IsKnown self.now }
     {
-        // The body reads a field, so that the proof has the invariant.
-        let _ = &self.past;
-    }
-
-    /// The next number, while one of the opening is left.
-    fn next(&self) -> Option<u64>
-        ensures { result ≡ next self.now.opening (now self.now) }
-    {
-        if self.last >= last_number(self.opening) {
-            return None;
-        }
-        Some(self.last + 1)
+        self.core.known()
     }
 
     /// Asks for a tile, at a moment of the clock. What is kept answers where it is within the age limit of its layer. A ticket is
@@ -131,16 +77,29 @@ impl Cabinet {
         ensures fresh { IfOk result (λ asked. IsFreshReply self.old address.now asked self.new) }
         ensures err { OnErr result (self.new ≡ self.old) }
     {
-        match self.shelf.read(alloc, address)? {
-            Some(found) => self.ask_kept(alloc, address, found),
-            None => {
-                let meta = block_of(self.shelf.catalogue(), address);
-                match self.force(alloc, &meta) {
-                    Err(fault) => Err(fault),
-                    Ok(forced) => Ok(as_asked(forced)),
-                }
-            }
+        self.core.known();
+        match self.core.read(alloc, address) {
+            Err(fault) => Err(fault),
+            Ok(None) => self.ask_unkept(alloc, address),
+            Ok(Some(found)) => self.ask_kept(alloc, address, found),
         }
+    }
+
+    /// Asks for a tile of whose metatile nothing is kept.
+    fn ask_unkept(&mut self, alloc: Global, address: &Address) -> Result<Asked, AllocError>
+        requires tile { IsTile self.old.catalogue address.now }
+        requires none { FindsIn self.old address.now None }
+        ensures asked { IfOk result (λ asked. Asks 0 0 self.old address.now asked self.new) }
+        ensures sound { IfOk result (λ asked. IsTrueHit self.old.catalogue address.now asked) }
+        ensures err { OnErr result (self.new ≡ self.old) }
+    {
+        self.core.known();
+        let meta = block_of(self.core.catalogue(), address);
+        let forced = match self.core.force(alloc, &meta) {
+            Err(fault) => return Err(fault),
+            Ok(forced) => forced,
+        };
+        Ok(as_asked(forced))
     }
 
     /// Asks for a tile whose metatile is kept, with this part of it.
@@ -151,32 +110,20 @@ impl Cabinet {
         found: Found,
     ) -> Result<Asked, AllocError>
         requires tile { IsTile self.old.catalogue address.now }
-        requires found { IsFoundIn self.old address.now found }
+        requires found { FindsIn self.old address.now (Some found) }
         ensures asked { IfOk result (λ asked. Asks 0 0 self.old address.now asked self.new) }
         ensures sound { IfOk result (λ asked. IsSound self.old → IsTrueHit self.old.catalogue address.now asked) }
         ensures err { OnErr result (self.new ≡ self.old) }
     {
-        let meta = block_of(self.shelf.catalogue(), address);
-        let limit = limit_for(self.shelf.catalogue(), address);
-        let next = self.next();
-        let turn = turn_where(limit, alloc, &mut self.shelf, &mut self.locks, &meta, next)?;
-        self.moment = self.clock.now();
-        self.past = self.past.and(&Entry::At(self.moment));
-        if is_within(limit, found.moment, self.moment) {
-            self.shelf.touch(&meta);
-            self.past = self.past.and(&Entry::Used(meta));
-            return Ok(Asked::Hit(found.number, found.text));
+        self.core.known();
+        let forced = match self.core.ask_kept(alloc, address) {
+            Err(fault) => return Err(fault),
+            Ok(forced) => forced,
+        };
+        match forced {
+            None => Ok(Asked::Hit(found.number, found.text)),
+            Some(forced) => Ok(as_asked(forced)),
         }
-        let Some(turn) = turn else { unreachable!() };
-        let forced = taken(
-            &meta,
-            self.moment,
-            turn,
-            &mut self.locks,
-            &mut self.last,
-            &mut self.past,
-        );
-        Ok(as_asked(forced))
     }
 
     /// Asks for a render of a metatile, whether it is kept or not, at a moment of the clock. What is kept stays until the render
@@ -186,18 +133,7 @@ impl Cabinet {
         ensures forced { IfOk result (λ forced. Forces self.old meta.now forced self.new) }
         ensures err { OnErr result (self.new ≡ self.old) }
     {
-        let next = self.next();
-        let turn = turn_for(alloc, &mut self.shelf, &mut self.locks, meta, next)?;
-        self.moment = self.clock.now();
-        self.past = self.past.and(&Entry::At(self.moment));
-        Ok(taken(
-            meta,
-            self.moment,
-            turn,
-            &mut self.locks,
-            &mut self.last,
-            &mut self.past,
-        ))
+        self.core.force(alloc, meta)
     }
 
     /// Ends a render, and keeps its blob unless a truncation overtook it, as many others are kept as may be, or no gap has
@@ -209,34 +145,25 @@ impl Cabinet {
         ensures counted { IsCountedFinished 0 0 result }
         ensures sound { IsSound self.old → blob.items ≡ block_text self.old.catalogue ticket.number ticket.meta → IsSound self.new }
     {
-        let number = ticket.number();
-        let meta = ticket.meta();
-        let moment = match self.locks.end(ticket) {
-            End::Stranger => return Finished::Stranger,
-            End::Overtaken(cut) => {
-                self.past = self.past.and(&Entry::Ended(number));
-                return Finished::Overtaken(cut);
+        match self.core.judge(&ticket) {
+            Judged::Stranger => {
+                self.core.abandon(ticket);
+                Finished::Stranger
             }
-            End::Whole(moment) => moment,
-        };
-        match self.shelf.keep(number, meta, moment, blob) {
-            Shelving::Full => {
-                self.past = self.past.and(&Entry::Ended(number));
+            Judged::Overtaken(cut) => {
+                self.core.abandon(ticket);
+                Finished::Overtaken(cut)
+            }
+            Judged::Full => {
+                self.core.abandon(ticket);
                 Finished::Full
             }
-            Shelving::NoRoom => {
-                self.past = self.past.and(&Entry::Ended(number));
+            Judged::NoRoom => {
+                self.core.abandon(ticket);
                 Finished::NoRoom
             }
-            Shelving::Kept(kept) => {
-                self.past = self.past.and(&Entry::Stored(
-                    number,
-                    meta,
-                    kept.place,
-                    kept.length,
-                    moment,
-                    0,
-                ));
+            Judged::Fits(kept) => {
+                self.core.keep(ticket, kept, Text::of(blob));
                 Finished::Kept
             }
         }
@@ -246,13 +173,7 @@ impl Cabinet {
     pub fn abandon(&mut self, ticket: Ticket)
         ensures { Abandons self.old ticket self.new }
     {
-        let number = ticket.number();
-        match self.locks.end(ticket) {
-            End::Stranger => return,
-            End::Overtaken(_) => {}
-            End::Whole(_) => {}
-        }
-        self.past = self.past.and(&Entry::Ended(number));
+        self.core.abandon(ticket)
     }
 
     /// Truncates: drops each kept metatile, and overtakes each running render, of which the cover is for a tile.
@@ -263,24 +184,15 @@ impl Cabinet {
         ensures counted { IfOk result (IsCountedCut 0 0) }
         ensures err { OnErr result (self.new ≡ self.old) }
     {
-        if self.last >= last_number(self.opening) {
-            return Ok(CutReply::Spent);
+        match self.core.admit(alloc, cover) {
+            Err(fault) => Err(fault),
+            Ok(Admitted::Spent) => Ok(CutReply::Spent),
+            Ok(Admitted::Full) => Ok(CutReply::Full),
+            Ok(Admitted::Number(number)) => {
+                self.core.cut(number, cover);
+                Ok(CutReply::Done(number))
+            }
         }
-        self.cuts.reserve(alloc, cover)?;
-        let least = self.shelf.least_with(self.locks.least());
-        if self
-            .cuts
-            .full(cover, least, self.shelf.catalogue().cut_limit)
-        {
-            return Ok(CutReply::Full);
-        }
-        let number = self.last + 1;
-        self.shelf.drop_hit(cover);
-        overtake(&mut self.locks, self.shelf.catalogue(), cover, number);
-        self.cuts.add(number, cover, least);
-        self.last = number;
-        self.past = self.past.and(&Entry::Cut(number, *cover));
-        Ok(CutReply::Done(number))
     }
 
     /// Drops the first metatile to go of the scope whose quota is exceeded, if one is. It takes no memory.
@@ -289,11 +201,11 @@ impl Cabinet {
         ensures counted { IsCountedExpired 0 0 result }
         ensures sound { IsSound self.old → IsSound self.new }
     {
-        match self.shelf.drop_first() {
+        match self.core.first_to_go() {
             None => Expired::Within,
-            Some(meta) => {
-                self.past = self.past.and(&Entry::Dropped(meta));
-                Expired::Dropped(meta)
+            Some(kept) => {
+                self.core.drop_kept(&kept.meta);
+                Expired::Dropped(kept.meta)
             }
         }
     }
@@ -305,11 +217,11 @@ impl Cabinet {
         ensures counted { IsCountedSaved 0 0 result }
         ensures sound { IsSound self.old → IsSound self.new }
     {
-        match self.shelf.save_first() {
+        match self.core.first_unsaved() {
             None => Saved::Within,
-            Some(saving) => {
-                self.past = self.past.and(&Entry::Counted(saving.meta, saving.uses));
-                Saved::Done(saving.meta)
+            Some(unsaved) => {
+                self.core.save(&unsaved.kept.meta);
+                Saved::Done(unsaved.kept.meta)
             }
         }
     }
@@ -319,34 +231,34 @@ impl Cabinet {
         requires { layer < length self.now.catalogue.layers }
         ensures { result ≡ used self.now layer }
     {
-        self.shelf.used(layer)
+        self.core.used(layer)
     }
 
     /// The bytes that all kept metatiles take.
     pub fn used_all(&self) -> u64
         ensures { result ≡ used_all self.now }
     {
-        self.shelf.used_all()
+        self.core.used_all()
     }
 
     /// How many metatiles of a layer are kept.
     pub fn kept_in(&self, layer: u32) -> u32
         ensures { result ≡ kept_in self.now layer }
     {
-        self.shelf.kept_in(layer)
+        self.core.kept_in(layer)
     }
 
     /// How many metatiles are kept.
     pub fn kept(&self) -> u32
         ensures { result ≡ length (now self.now).kept }
     {
-        self.shelf.count()
+        self.core.kept()
     }
 
     /// How many cuts are in force.
     pub fn cuts(&self) -> u32
         ensures { result ≡ length (now self.now).book.cuts }
     {
-        self.cuts.count()
+        self.core.cuts().count()
     }
 }

@@ -11,7 +11,7 @@ ghost use Rattle.cabinet.specs.Ordered.{as_kept, held_at, held_of, recounted};
 ghost use Rattle.cabinet.specs.History.{lesser};
 
 use crate::kept::{Blob, Kept};
-use exact_ratio::words::Words;
+use crate::text::Text;
 use indexmap::IndexMap;
 use metatile_plan::metatile::MetaKey;
 
@@ -49,7 +49,7 @@ pub fn kept_at(held: &Held, at: usize) -> Kept
 }
 
 /// Holds a render in the place of its metatile's older one, if there is one. It takes no memory.
-pub fn put(held: &mut Held, kept: Kept, text: Words)
+pub fn put(held: &mut Held, kept: Kept, text: Text)
     requires { 0 < spare held.old }
     ensures once { ApartBy (λ b. b.kept.meta) (held_of held.new.entries) }
     ensures held { (m : MetaKey) → held_at (held_of held.new.entries) m ≡ (if same_meta m kept.meta then Some (record { kept = kept; text = text }) else held_at (held_of held.old.entries) m) }

@@ -1,4 +1,5 @@
 //! A kept metatile: the number of its render and its region, alone and with its blob.
+use crate::text::Text;
 use exact_ratio::words::Words;
 use metatile_plan::metatile::MetaKey;
 
@@ -25,7 +26,7 @@ pub struct KeptBlob {
 }
 
 /// What is held of a metatile that is kept: the number of its render and when that was begun, its region, its uses, and its
-/// blob, which lies in memory.
+/// blob, which lies in memory or elsewhere.
 #[derive(Drop)]
 pub struct Blob {
     pub number: u64,
@@ -37,5 +38,5 @@ pub struct Blob {
     pub moment: u64,
     /// The uses that count from before it was kept here.
     pub uses: u64,
-    pub text: Words,
+    pub text: Text,
 }

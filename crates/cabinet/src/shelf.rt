@@ -1,18 +1,23 @@
 //! The shelf of a cabinet: what is kept, and all that this takes up, which change together.
 ghost use Rattle.std.specs.Prelude.{IfOk, OnErr, OnOk, filter, find, fold, length, map, not, ◌+◌, ◌<◌, ◌==◌, ◌≡◌, ◌≤◌};
-ghost use Rattle.std.specs.Prelude.{IsSome};
+ghost use Rattle.std.specs.Prelude.{IsSome, Some};
+ghost use Rattle.std.specs.Option.{option_map};
+ghost use Rattle.std.specs.List.Sorted.{IsPermutation};
 ghost use Rattle.catalog.specs.LookUp.{IsTile};
 ghost use Rattle.catalog.specs.Valid.{IsValid};
-ghost use Rattle.raster_field.specs.Blocks.{IsMeta, blob_size};
+ghost use Rattle.raster_field.specs.Blocks.{IsMeta};
 ghost use Rattle.served_covers.specs.OfCatalogue.{IsCoverOf};
 ghost use Rattle.cabinet.specs.History.{is_of, lesser};
 
 use crate::blob::blob_bytes;
+use crate::judged::{Judged, Unsaved};
 use crate::kept::Kept;
-use crate::shelving::{Found, Saving, Shelving};
+use crate::ranking::{Ranking, rank};
+use crate::shelving::Found;
 use crate::sifting::sift;
 use crate::store::Store;
 use crate::tally::Tally;
+use crate::text::Text;
 use catalog::catalogue::Catalogue;
 use matrix_geometry::address::Address;
 use metatile_plan::metatile::MetaKey;
@@ -41,7 +46,7 @@ impl Model for Shelf {
 }
 
 impl Shelf {
-    ghost use Rattle.cabinet.specs.Shelved.{Drops, IsAlike, IsBare, Reads, SavesFirst, Shelves, Sifts, Touches, used_on, used_on_all};
+    ghost use Rattle.cabinet.specs.Shelved.{Forgets, GoesOn, IsAlike, IsBare, IsUnsavedOn, JudgesOn, Keeps, Marks, Reads, Sifts, Touches, listed, use_on, used_on, used_on_all};
 
     /// A shelf on which nothing is kept. `AllocError` where memory runs out.
     pub fn new(alloc: Global, catalogue: Catalogue) -> Result<Shelf, AllocError>
@@ -99,34 +104,51 @@ impl Shelf {
         self.tally.uses.touch(meta);
     }
 
-    /// Keeps a render that was begun at a moment, in the place of its metatile's older one, if there is one, unless as many
-    /// others are kept as may be, or no gap has room for its blob. The region of the older one is still taken while the gap
-    /// is looked for. It takes no memory.
-    pub fn keep(&mut self, number: u64, meta: MetaKey, moment: u64, blob: Vec<u8>) -> Shelving
-        requires meta { IsMeta self.old.catalogue meta }
-        requires blob { length blob.items ≡ blob_size self.old.catalogue meta }
+    /// Which render of a metatile is kept, and where.
+    pub fn kept_of(&self, meta: &MetaKey) -> Option<Kept>
+        ensures { result ≡ find (is_of meta.now) (listed self.now.blobs) }
+    {
+        self.store.kept_of(meta)
+    }
+
+    /// What is to come of a render that was begun at a moment: whether it fits, in the place of its metatile's older one, if there
+    /// is one, and where. The region of the older one is still taken while the gap is looked for.
+    pub fn judge(&self, number: u64, meta: &MetaKey, moment: u64) -> Judged
+        requires meta { IsMeta self.now.catalogue meta.now }
+        requires room { 1 ≤ self.now.room }
+        ensures { JudgesOn self.now (record { number = number; meta = meta.now }) moment result }
+    {
+        if self.store.count_others(meta) >= self.catalogue.kept_limit as usize {
+            return Judged::Full;
+        }
+        let length = blob_bytes(&self.catalogue, meta);
+        match self.tally.extents.lowest(length) {
+            None => Judged::NoRoom,
+            Some(place) => Judged::Fits(Kept {
+                number,
+                meta: *meta,
+                place,
+                length,
+                moment,
+                uses: 0,
+            }),
+        }
+    }
+
+    /// Keeps a render that fits, with its text. It takes no memory.
+    pub fn keep(&mut self, kept: Kept, text: Text)
+        requires meta { IsMeta self.old.catalogue kept.meta }
+        requires fits { JudgesOn self.old (record { number = kept.number; meta = kept.meta }) kept.moment (Judged.Fits kept) }
+        requires text { length text ≡ kept.length }
         requires room { 1 ≤ self.old.room }
-        ensures shelves { Shelves self.old (record { number = number; meta = meta }) moment blob.items result self.new }
+        ensures keeps { Keeps kept text self.old self.new }
         ensures room { self.old.room ≤ self.new.room + 1 }
     {
-        if self.store.count_others(&meta) >= self.catalogue.kept_limit as usize {
-            return Shelving::Full;
-        }
-        let length = blob_bytes(&self.catalogue, &meta);
-        let Some(place) = self.tally.extents.take(length) else {
-            return Shelving::NoRoom;
+        let Some(_place) = self.tally.extents.take(kept.length) else {
+            unreachable!()
         };
-        let kept = Kept {
-            number,
-            meta,
-            place,
-            length,
-            moment,
-            uses: 0,
-        };
-        self.tally.keep(self.store.kept_of(&meta), kept);
-        self.store.put(kept, blob);
-        Shelving::Kept(kept)
+        self.tally.keep(self.store.kept_of(&kept.meta), kept);
+        self.store.put(kept, text);
     }
 
     /// Drops each metatile of which the cover is for a tile. It takes no memory, and tests each once.
@@ -138,11 +160,9 @@ impl Shelf {
         sift(&mut self.store, &mut self.tally, &self.catalogue, cover);
     }
 
-    /// Drops the first metatile to go of the scope whose quota is exceeded, and tells it; `None` exactly where no quota is
-    /// exceeded. It takes no memory.
-    pub fn drop_first(&mut self) -> Option<MetaKey>
-        ensures drops { Drops self.old result self.new }
-        ensures room { self.old.room ≤ self.new.room }
+    /// The first metatile to go of the scope whose quota is exceeded; `None` exactly where no quota is.
+    pub fn first_to_go(&self) -> Option<Kept>
+        ensures { GoesOn self.now result }
     {
         let scope = match self.tally.ledger.exceeded() {
             None => return None,
@@ -154,24 +174,61 @@ impl Shelf {
         let Some(kept) = self.store.kept_of(&meta) else {
             unreachable!()
         };
-        self.tally.forget(kept);
-        self.store.drop_of(&meta);
-        Some(meta)
+        Some(kept)
     }
 
-    /// Marks the uses of one metatile as saved, of the least key, field by field, of those with uses that aren't, and tells how
-    /// many they are; `None` exactly where all uses are saved. It takes no memory.
-    pub fn save_first(&mut self) -> Option<Saving>
-        ensures saves { SavesFirst self.old result self.new }
+    /// Drops a metatile that is kept. It takes no memory.
+    pub fn drop_kept(&mut self, meta: &MetaKey)
+        requires { IsSome (find (is_of meta.now) (listed self.old.blobs)) }
+        ensures forgets { Forgets meta.now self.old self.new }
         ensures room { self.old.room ≤ self.new.room }
+    {
+        let Some(kept) = self.store.kept_of(meta) else {
+            unreachable!()
+        };
+        self.tally.forget(kept);
+        self.store.drop_of(meta);
+    }
+
+    /// The metatile of the least key, field by field, of those with uses that aren't all saved; `None` exactly where all are.
+    pub fn first_unsaved(&self) -> Option<Unsaved>
+        ensures { IsUnsavedOn self.now result }
     {
         let meta = match self.tally.uses.unsaved() {
             None => return None,
             Some(meta) => meta,
         };
-        let uses = self.tally.uses.saved(&meta);
-        self.store.recount(&meta, uses);
-        Some(Saving { meta, uses })
+        let Some(uses) = self.tally.uses.uses_of(&meta) else {
+            unreachable!()
+        };
+        let Some(kept) = self.store.kept_of(&meta) else {
+            unreachable!()
+        };
+        Some(Unsaved { kept, uses })
+    }
+
+    /// Marks all uses of a metatile that is kept as saved, and tells how many they are. It takes no memory.
+    pub fn save(&mut self, meta: &MetaKey) -> u64
+        requires { IsSome (find (is_of meta.now) (listed self.old.blobs)) }
+        ensures uses { option_map (λ u. u.uses) (use_on self.old meta.now) ≡ Some result }
+        ensures marks { Marks meta.now result self.old self.new }
+        ensures room { self.old.room ≤ self.new.room }
+    {
+        let uses = self.tally.uses.saved(meta);
+        self.store.recount(meta, uses);
+        uses
+    }
+
+    /// Lists what is kept, in the order of its last use and then of its key, field by field, in the place of what the list has. It
+    /// takes no memory.
+    pub fn list_kept(&self, list: &mut Ranking)
+        requires { length self.now.blobs ≤ list.old.room }
+        ensures { IsPermutation list.new.kept (listed self.now.blobs) }
+    {
+        let _count = self.store.count();
+        list.clear();
+        rank(&self.store, &self.tally.uses, list);
+        list.sort();
     }
 
     /// The least of the kept numbers and of one that was found before. All that is kept is gone through for it.

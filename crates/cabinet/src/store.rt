@@ -1,5 +1,5 @@
-//! The kept metatiles with their blobs, in a map by metatile. The blobs lie in memory, beside the entries: no other file knows
-//! where they lie. Contracts see what is kept in the order in which it was kept, though the map's order is another.
+//! The kept metatiles with their blobs, in a map by metatile. The blobs lie in memory, beside the entries, or elsewhere.
+//! Contracts see what is kept in the order in which it was kept, though the map's order is another.
 ghost use Rattle.std.specs.Prelude.{[], IfOk, OnOk, Some, filter, find, fold, length, map, not, option_copied, slice_get, take, ◌+◌, ◌++◌, ◌<◌, ◌==◌, ◌^◌, ◌≡◌, ◌≤◌, ◌∷◌};
 ghost use Rattle.std.specs.List.{AllByRecursion};
 ghost use Rattle.std.specs.Option.{option_map};
@@ -9,14 +9,13 @@ ghost use Rattle.cabinet.specs.declared.kept.KeptBlob.{KeptBlob};
 ghost use Rattle.cabinet.specs.Fresh.{ApartBy};
 ghost use Rattle.cabinet.specs.History.{is_of, lesser, with_uses};
 
-use crate::blob::tile_in;
 use crate::held::{
     Held, blob_of, count_in, drop_at, drop_of, kept_at, kept_in, least_with, put, recount,
 };
 use crate::kept::{Blob, Kept};
 use crate::shelving::Found;
+use crate::text::Text;
 use catalog::catalogue::Catalogue;
-use exact_ratio::words::Words;
 use indexmap::IndexMap;
 use matrix_geometry::address::Address;
 use metatile_plan::metatile::MetaKey;
@@ -115,7 +114,7 @@ impl Store {
             None => Ok(None),
             Some(blob) => {
                 let (number, moment) = (blob.number, blob.moment);
-                let text = tile_in(alloc, catalogue, address, blob.text.bytes())?;
+                let text = blob.text.tile(alloc, catalogue, address)?;
                 Ok(Some(Found {
                     number,
                     moment,
@@ -161,12 +160,12 @@ impl Store {
     }
 
     /// Keeps a metatile in the place of its older render, if there is one. It takes no memory.
-    pub fn put(&mut self, kept: Kept, text: Vec<u8>)
+    pub fn put(&mut self, kept: Kept, text: Text)
         requires { 1 ≤ self.old.spare }
-        ensures blobs { self.new.blobs ≡ filter (λ b. not (is_of kept.meta b.kept)) self.old.blobs ++ record { kept = kept; text = text.items } ∷ [] }
+        ensures blobs { self.new.blobs ≡ filter (λ b. not (is_of kept.meta b.kept)) self.old.blobs ++ record { kept = kept; text = text } ∷ [] }
         ensures spare { self.old.spare ≤ self.new.spare + 1 }
     {
-        put(&mut self.held, kept, Words::of(text));
+        put(&mut self.held, kept, text);
         self.puts = self.puts.and(&kept.meta);
     }
 

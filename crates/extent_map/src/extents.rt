@@ -115,6 +115,21 @@ impl Extents {
         Some(place)
     }
 
+    /// The lowest place where so many bytes are free, which is the one that `take` would give; `None` exactly where they are free
+    /// nowhere.
+    pub fn lowest(&self, length: u32) -> Option<u64>
+        requires some { 1 ≤ length }
+        requires spare { 0 < self.now.spare }
+        ensures free { IfSome result (λ place. IsFree self.now.parts self.now.size (part_at place length)) }
+        ensures lowest { IfSome result (λ place. NoneFreeBelow self.now.parts self.now.size length place) }
+        ensures none { IfNone result (NoneFree self.now.parts self.now.size length) }
+    {
+        match lowest_hole(self.chunks.as_slice(), self.size, length) {
+            None => None,
+            Some(found) => Some(found.place),
+        }
+    }
+
     /// Gives a part back that is taken just so.
     pub fn give(&mut self, place: u64, length: u32)
         requires taken { Contains self.old.parts (part_at place length) }

@@ -32,7 +32,7 @@ impl Model for Locks {
 
 impl Locks {
     ghost use Rattle.metatile_locks.specs.Calls.{Begins, Ends, TakesRoom};
-    ghost use Rattle.metatile_locks.specs.Running.{IsAboveAll, IsLeast, IsPlanOn, NumbersRise, OneRuns, hits_in, overtaken, running_for};
+    ghost use Rattle.metatile_locks.specs.Running.{IsAboveAll, IsLeast, IsPlanOn, NumbersRise, OneRuns, hits_in, overtaken, render_of, running_for};
 
     /// A table in which no render runs. `AllocError` where memory runs out.
     pub fn new(alloc: Global) -> Result<Locks, AllocError>
@@ -103,6 +103,16 @@ impl Locks {
         match mark {
             Some(cut) => End::Overtaken(cut),
             None => End::Whole(ended.moment),
+        }
+    }
+
+    /// The render of a ticket, as it runs; `None` exactly where the ticket is a stranger's.
+    pub fn render(&self, ticket: &Ticket) -> Option<Render>
+        ensures { result ≡ render_of ticket.now self.now.renders }
+    {
+        match render_of(self.renders.as_slice(), ticket.number(), &ticket.meta()) {
+            None => None,
+            Some(render) => Some(*render),
         }
     }
 

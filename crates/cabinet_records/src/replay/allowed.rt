@@ -8,10 +8,10 @@ ghost use Rattle.cabinet_records.specs.Played.{AreTiedIn, MayKeep, replayed_of};
 ghost use Rattle.cabinet_records.specs.Replay.{IsKeptUnder, MayCut, MayOpen, opening_of};
 ghost use Rattle.cabinet.specs.Shelved.{listed};
 
-use cabinet::kept::Kept;
 use crate::replay::newer::is_newer;
 use crate::replay::places::place_of;
 use crate::replay::progress::Progress;
+use cabinet::kept::Kept;
 use cabinet::store::Store;
 use catalog::catalogue::Catalogue;
 use metatile_plan::metatile::MetaKey;

@@ -2,10 +2,10 @@
 ghost use Rattle.catalog.specs.Valid.{IsValid};
 ghost use Rattle.cabinet_records.specs.Played.{IsPlayed, Steps};
 
-use cabinet::kept::Kept;
 use crate::replay::cutting::cut;
 use crate::replay::keeping::{counted, dropped, opened, stored};
 use crate::replay::progress::Progress;
+use cabinet::kept::Kept;
 use catalog::catalogue::Catalogue;
 use record_text::entries::Record;
 use std::alloc::{AllocError, Global};

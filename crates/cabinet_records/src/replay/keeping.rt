@@ -7,11 +7,12 @@ ghost use Rattle.cabinet.specs.Gaps.{region};
 ghost use Rattle.cabinet_records.specs.Placed.{place_in};
 ghost use Rattle.cabinet_records.specs.Played.{Claims, HasRoom, IsPlayed, LeavesAll, Plays, Steps, places_but};
 
-use cabinet::kept::Kept;
 use crate::replay::allowed::{is_kept_under, may_keep, may_open};
 use crate::replay::places::{Places, drop_place, put_place};
 use crate::replay::progress::Progress;
+use cabinet::kept::Kept;
 use cabinet::tally::{give_back, law_of_extents};
+use cabinet::text::Text;
 use catalog::catalogue::Catalogue;
 use extent_map::extents::Extents;
 use metatile_plan::metatile::MetaKey;
@@ -86,7 +87,7 @@ pub fn stored(
     if !claim(&mut progress.regions, older, &kept) {
         return Ok(false);
     }
-    progress.store.put(kept, Vec::new(alloc));
+    progress.store.put(kept, Text::away(0));
     move_place(&mut progress.places, older, kept.number, place);
     Ok(true)
 }

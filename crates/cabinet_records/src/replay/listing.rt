@@ -7,10 +7,10 @@ ghost use Rattle.cabinet_records.specs.Played.{IsPlayed, replayed_of};
 ghost use Rattle.cabinet_records.specs.Replay.{book_after};
 ghost use Rattle.cabinet.specs.Shelved.{listed};
 
-use cabinet::kept::Kept;
 use crate::replay::places::{Places, place_of};
 use crate::replay::progress::Progress;
 use crate::restored::Restored;
+use cabinet::kept::Kept;
 use cabinet::store::Store;
 
 /// The place of a number, 0 where it has none.

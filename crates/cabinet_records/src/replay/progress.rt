@@ -1,6 +1,6 @@
 //! What the records of a journal come to so far, as a replay holds it.
-use cabinet::kept::Kept;
 use crate::replay::places::Places;
+use cabinet::kept::Kept;
 use cabinet::store::Store;
 use extent_map::extents::Extents;
 use truncation_list::list::CutList;

@@ -6,8 +6,8 @@ ghost use Rattle.cabinet.specs.History.{spared};
 ghost use Rattle.cabinet_records.specs.Placed.{AreTied, place_in};
 ghost use Rattle.cabinet.specs.Shelved.{listed};
 
-use cabinet::hitting::is_hit;
 use crate::replay::places::{Places, drop_place};
+use cabinet::hitting::is_hit;
 use cabinet::store::Store;
 use catalog::catalogue::Catalogue;
 use extent_map::extents::Extents;

@@ -1,7 +1,6 @@
-use Rattle.std.proofs.Common.{List, [], ◌∷◌, ◌++◌, filter, not, ap, sym, subst, ◌∙◌, ℕ}
+use Rattle.std.proofs.Common.{List, [], ◌∷◌, ◌++◌, ap, sym, subst, ◌∙◌}
 use Rattle.metatile_plan.specs.declared.metatile.MetaKey.{MetaKey}
 use Rattle.cabinet.specs.declared.kept.KeptBlob.{KeptBlob}
-use Rattle.cabinet.specs.History.{is_of}
 use Rattle.cabinet.specs.Ordered.{IsOrderOf, held_of, in_order, order_of}
 use Rattle.cabinet.specs.Shelved.{Stored}
 use Rattle.cabinet.proofs.Orders.{others, put_last, put_order}
@@ -12,7 +11,7 @@ invariant_of-self c =
     let i = c.self.inside in
     let held = held_of i.held.entries in
     let later = held_of c.put.new.held.entries in
-    let b : KeptBlob = record { kept = c.args.kept; text = c.of.result } in
+    let b : KeptBlob = record { kept = c.args.kept; text = c.args.text } in
     let are = ap (λ (ps : List MetaKey). in_order (order_of ps) later) c.and-self-inside.ensures ∙ put_last b i.puts.entries held later c.put.ensures.held in
     subst (λ (bs : List KeptBlob). IsOrderOf bs later) (sym are) (put_order b (in_order (order_of i.puts.entries) held) held later c.self.invariant c.put.ensures.once c.put.ensures.held)
 
@@ -21,7 +20,6 @@ returns-clause-blobs c =
     let i = c.self.inside in
     let held = held_of i.held.entries in
     let later = held_of c.put.new.held.entries in
-    let b : KeptBlob = record { kept = c.args.kept; text = c.of.result } in
+    let b : KeptBlob = record { kept = c.args.kept; text = c.args.text } in
     ap (λ (ps : List MetaKey). in_order (order_of ps) later) c.and-self-inside.ensures ∙ put_last b i.puts.entries held later c.put.ensures.held
     ∙ ap (λ (v : Stored). others c.args.kept.meta v.blobs ++ b ∷ []) c.self.view_is
-    ∙ ap (λ (text : List ℕ). filter (λ x. not (is_of c.args.kept.meta x.kept)) c.args.self.now.blobs ++ record { kept = c.args.kept; text = text } ∷ []) c.of.ensures

@@ -63,11 +63,11 @@ returns c =
     let is : c.claim.result ≡ true = cc (c.if-not-claim.false) in
     let may : MayStore cat (replayed_of p) t = free_stored cat (replayed_of p) t e.given keep tied.parts size (e.free.0 is) in
     let x = record_of.Stored t.number t.meta t.place t.length t.moment t.uses in
-    let list = stored_list t c.new.result.items p.store.blobs c.put.new.self.blobs c.put.ensures.blobs in
+    let list = stored_list t c.away.result p.store.blobs c.put.new.self.blobs c.put.ensures.blobs in
     let same : replayed_of (later c) ≡ replayed cat (replayed_of p) x = ap (with_kept (replayed_of p)) list in
     let taken = e.taken is in
     let pushed = pushed_tied c.args.place (but t.meta (listed p.store.blobs)) e.given c.claim.new.regions (places_but older (place_in p.places.entries)) (place_in c.move_place.new.places.entries) t tied keep.own (but_apart t.meta (listed p.store.blobs)) e.order taken c.move_place.ensures in
-    let more = stored_few t c.new.result.items p.store.blobs c.put.new.self.blobs c.put.ensures.blobs in
+    let more = stored_few t c.away.result p.store.blobs c.put.new.self.blobs c.put.ensures.blobs in
     let room = c.in-Ok.ensures.room in
     record {
       played = (

@@ -1,0 +1,80 @@
+//! The text of a kept blob: it lies in memory, or elsewhere.
+ghost use Rattle.std.specs.Prelude.{IfOk, length, replicate, ℕ, ◌≡◌};
+ghost use Rattle.catalog.specs.LookUp.{IsTile};
+ghost use Rattle.catalog.specs.Valid.{IsValid};
+ghost use Rattle.raster_field.specs.Blocks.{blob_size, block_of, block_text, tile_part};
+ghost use Rattle.raster_field.specs.TileText.{tile_text};
+
+use crate::blob::tile_in;
+use catalog::catalogue::Catalogue;
+use exact_ratio::words::Words;
+use matrix_geometry::address::Address;
+use std::alloc::{AllocError, Global};
+use std::marker::Model;
+
+/// The text of a blob. Contracts see its bytes; one that lies elsewhere is seen as zeros of its length.
+#[derive(Drop)]
+pub struct Text {
+    here: Option<Words>,
+    length: u32,
+}
+
+impl Model for Text {
+    ghost use Rattle.std.specs.Prelude.{List, replicate, ℕ};
+    ghost use Rattle.std.specs.Option.{option_map_or};
+
+    ghost Value = { List ℕ };
+
+    ghost view = { λ t. option_map_or (λ words. words) t.here (replicate t.length 0) };
+}
+
+/// So many zeros. `AllocError` where memory runs out.
+fn zeros(alloc: Global, length: u32) -> Result<Vec<u8>, AllocError>
+    ensures { IfOk result (λ made. made.items ≡ replicate length 0) }
+{
+    let mut made = Vec::new(alloc);
+    made.resize(length as usize, 0)?;
+    Ok(made)
+}
+
+impl Text {
+    /// A text in memory.
+    pub fn of(bytes: Vec<u8>) -> Text
+        ensures { result ≡ bytes.items }
+    {
+        Text {
+            here: Some(Words::of(bytes)),
+            length: 0,
+        }
+    }
+
+    /// A text of so many bytes that lies elsewhere.
+    pub fn away(length: u32) -> Text
+        ensures { result ≡ replicate length 0 }
+    {
+        Text { here: None, length }
+    }
+
+    /// The tile's part of the blob of its metatile, of which this is the text. One that lies elsewhere is read as zeros: who keeps
+    /// blobs elsewhere reads them there. `AllocError` where memory runs out.
+    pub fn tile(
+        &self,
+        alloc: Global,
+        catalogue: &Catalogue,
+        address: &Address,
+    ) -> Result<Vec<u8>, AllocError>
+        requires valid { IsValid catalogue.now }
+        requires tile { IsTile catalogue.now address.now }
+        requires blob { length self.now ≡ blob_size catalogue.now (block_of catalogue.now address.now) }
+        ensures part { IfOk result (λ text. text.items ≡ tile_part catalogue.now address.now self.now) }
+        ensures sound { IfOk result (λ text. (k : ℕ) → self.now ≡ block_text catalogue.now k (block_of catalogue.now address.now) → text.items ≡ tile_text catalogue.now k address.now) }
+    {
+        match &self.here {
+            Some(words) => tile_in(alloc, catalogue, address, words.bytes()),
+            None => {
+                let blob = zeros(alloc, self.length)?;
+                tile_in(alloc, catalogue, address, blob.as_slice())
+            }
+        }
+    }
+}
