@@ -25,23 +25,6 @@ use Rattle.tile_command.specs.declared.status.Status.TheVariants as status
 use Rattle.tile_command.specs.Steps.{HasWorked, IsPrepared, IsRefused, OfEither, refusal_of, status_of_refusal}
 use Rattle.tile_command.specs.Command.{Configures, Describes, HasServed, NoneRun, HasScheduled, HasServedDrill, HasServedReplay, Inputs, IsDocument, IsRead, fresh_world, status_of_drill, status_of_schedule, status_of_session}
 
--- THE REFUSALS
-
--- a capabilities document that wasn't read, after the catalogue was
-pub undescribed : (catalogue capabilities : InputChange) (CapabilitiesStay : Type 0) (c : Catalogue) → IsRead catalogue (Ok c) → (e : InputEnd) → Describes capabilities (Err e)
-    → IsRefused catalogue capabilities CapabilitiesStay (refusal_of e)
-undescribed catalogue capabilities CapabilitiesStay c read input_end.ReadFault h = inr (c, read, h)
-undescribed catalogue capabilities CapabilitiesStay c read input_end.TooLong h = inr (c, read, h)
-undescribed catalogue capabilities CapabilitiesStay c read input_end.OutOfMemory h = inr (c, read, tt)
-
--- a catalogue that wasn't read
-pub unconfigured_first : (catalogue capabilities : InputChange) (CapabilitiesStay : Type 0) → CapabilitiesStay → (e : Unconfigured) → Configures catalogue (Err e)
-    → IsRefused catalogue capabilities CapabilitiesStay e
-unconfigured_first catalogue capabilities CapabilitiesStay stay unconfigured.ReadFault h = inl (h, stay)
-unconfigured_first catalogue capabilities CapabilitiesStay stay unconfigured.TooLong h = inl (h, stay)
-unconfigured_first catalogue capabilities CapabilitiesStay stay (unconfigured.Fault fault) h = (h, stay)
-unconfigured_first catalogue capabilities CapabilitiesStay stay unconfigured.OutOfMemory h = inl (tt, stay)
-
 -- STATUSES THAT AREN'T TOLD OF WORDS
 
 -- no refusal, and no end of what words ask for, is told as if they were no command

@@ -21,33 +21,6 @@ use Rattle.tile_command.specs.declared.status.Status.{Status}
 use Rattle.tile_command.specs.declared.status.Status.TheVariants as status
 use Rattle.tile_command.specs.Command.{HasRisen, IsDocument, IsRead, IsTooLongDocument, IsTooLongText, status_of_drill, status_of_schedule, status_of_session}
 
--- WHAT IS MADE READY
-
--- both files were read, and nothing has happened in the cabinet, which is one of the catalogue with the clock
-pub record IsPrepared (catalogue capabilities : InputChange) (clock : Readings) (cabinet : State) (document : List ℕ) : Type 0 where
-  pub of : Catalogue
-  pub read : IsRead catalogue (Ok of)
-  pub describes : IsDocument capabilities document
-  pub fresh : cabinet ≡ fresh_state of clock
-
--- this holds of the catalogue's input, and the capabilities' stayed as it was; or the catalogue was read, and this holds of the capabilities'
-abbrev pub OfEither : InputChange → Type 0 → Type 0 → Type 0 → Type 0
-OfEither catalogue CapabilitiesStay OfCatalogue OfCapabilities =
-    (OfCatalogue × CapabilitiesStay) ⊎ ((c : Catalogue) × IsRead catalogue (Ok c) × OfCapabilities)
-
--- what each refusal says of the two inputs
-abbrev pub IsRefused : InputChange → InputChange → Type 0 → Unconfigured → Type 0
-IsRefused catalogue capabilities CapabilitiesStay unconfigured.ReadFault = OfEither catalogue CapabilitiesStay (HasRisen catalogue) (HasRisen capabilities)
-IsRefused catalogue capabilities CapabilitiesStay unconfigured.TooLong = OfEither catalogue CapabilitiesStay (IsTooLongText catalogue) (IsTooLongDocument capabilities)
-IsRefused catalogue capabilities CapabilitiesStay (unconfigured.Fault fault) = IsRead catalogue (Err fault) × CapabilitiesStay
-IsRefused catalogue capabilities CapabilitiesStay unconfigured.OutOfMemory = OfEither catalogue CapabilitiesStay ⊤ ⊤
-
--- the refusal of a capabilities document, by the end of its reading
-abbrev pub refusal_of : InputEnd → Unconfigured
-refusal_of input_end.ReadFault = unconfigured.ReadFault
-refusal_of input_end.TooLong = unconfigured.TooLong
-refusal_of input_end.OutOfMemory = unconfigured.OutOfMemory
-
 -- the status of a refusal
 abbrev pub status_of_refusal : Unconfigured → Status
 status_of_refusal unconfigured.ReadFault = status.ReadFault

@@ -3,7 +3,7 @@ ghost use Rattle.std.specs.Prelude.{◌≡◌, IfOk};
 ghost use Rattle.catalog.specs.Valid.{IsValid};
 ghost use Rattle.config_text.specs.Text.{catalogue_of};
 ghost use Rattle.tile_service.specs.Outside.{InputChange};
-ghost use Rattle.tile_command.specs.Command.{Configures, Comes};
+ghost use Rattle.command_setup.specs.Setup.{Configures, Comes};
 
 use catalog::catalogue::Catalogue;
 use catalog::fault::CatalogueFault;

@@ -1,7 +1,7 @@
 //! The capabilities document that a command serves, read as it is.
 ghost use Rattle.std.specs.Prelude.{◌≡◌};
 ghost use Rattle.tile_service.specs.Outside.{InputChange};
-ghost use Rattle.tile_command.specs.Command.{Describes};
+ghost use Rattle.command_setup.specs.Setup.{Describes};
 
 use exact_ratio::words::Words;
 use http_wire::inputs::{InputEnd, read_all};

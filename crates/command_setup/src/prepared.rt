@@ -4,7 +4,7 @@ ghost use Rattle.cabinet.specs.State.{fresh_state};
 ghost use Rattle.catalog.specs.Valid.{IsValid};
 ghost use Rattle.tile_service.specs.Outside.{InputChange};
 ghost use Rattle.tile_service.specs.Session.{IsAtRest};
-ghost use Rattle.tile_command.specs.Steps.{IsPrepared, IsRefused, refusal_of};
+ghost use Rattle.command_setup.specs.Setup.{IsPrepared, IsRefused, refusal_of};
 
 use crate::configured::{Unconfigured, configured};
 use crate::described::described;
