@@ -45,7 +45,7 @@ blob_some c m valid is = let p = parts c m is in subst (λ (n : ℕ). 1 ≤ n) (
 
 -- FEWER AND ONE MORE
 
-disjoint_filter : (p : Kept → Bool) (ts : List Kept) → AreDisjoint ts → AreDisjoint (filter p ts)
+pub disjoint_filter : (p : Kept → Bool) (ts : List Kept) → AreDisjoint ts → AreDisjoint (filter p ts)
 disjoint_filter p [] a = tt
 disjoint_filter p (t ∷ ts) a = chosen (p t) (disjoint_filter p ts a.1)
   where
@@ -53,7 +53,7 @@ disjoint_filter p (t ∷ ts) a = chosen (p t) (disjoint_filter p ts a.1)
     chosen true rest = (all_filter (λ u. AreApart (region t) (region u)) p ts a.0, rest)
     chosen false rest = rest
 
-disjoint_push : (ts : List Kept) (u : Kept) → AreDisjoint ts → AllByRecursion (λ t. AreApart (region t) (region u)) ts → AreDisjoint (ts ++ u ∷ [])
+pub disjoint_push : (ts : List Kept) (u : Kept) → AreDisjoint ts → AllByRecursion (λ t. AreApart (region t) (region u)) ts → AreDisjoint (ts ++ u ∷ [])
 disjoint_push [] u a b = (tt, tt)
 disjoint_push (t ∷ ts) u a b = (all_push (λ x. AreApart (region t) (region x)) ts u a.0 b.0, disjoint_push ts u a.1 b.1)
 
@@ -83,7 +83,7 @@ other_side p q (inl a) = inr a
 other_side p q (inr b) = inl b
 
 -- a free part goes in between those in order
-inserted_order : (low : ℕ) (p : Part) (xs : List Part) (high : ℕ) → LieInOrder low xs high → low ≤ p.place → 1 ≤ p.length → IsFree xs high p → LieInOrder low (inserted p xs) high
+pub inserted_order : (low : ℕ) (p : Part) (xs : List Part) (high : ℕ) → LieInOrder low xs high → low ≤ p.place → 1 ≤ p.length → IsFree xs high p → LieInOrder low (inserted p xs) high
 inserted_order low p [] high o l some free = (l, some, free.0)
 inserted_order low p (x ∷ xs) high o l some free = chosen (nat_lt p.place x.place) refl (λ over. inserted_order (end_of x) p xs high o.2 over some (free.0, free.1.1))
   where
@@ -101,7 +101,7 @@ inserted_order low p (x ∷ xs) high o l some free = chosen (nat_lt p.place x.pl
           | inr b ↦ absurd (omega arith)
         ]
 
-in_order : (bytes : ℕ) (ts : List Kept) → HaveRegions bytes ts → LieInOrder 0 (regions ts) bytes
+pub in_order : (bytes : ℕ) (ts : List Kept) → HaveRegions bytes ts → LieInOrder 0 (regions ts) bytes
 in_order bytes [] h = omega arith
 in_order bytes (t ∷ ts) h =
     let rest = in_order bytes ts (record { some = h.some.1; within = h.within.1; disjoint = h.disjoint.1 }) in

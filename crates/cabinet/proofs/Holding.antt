@@ -124,7 +124,7 @@ least_most (n ∷ ns) o was e =
     (rest.0, rest.1, (let a = rest.2 in omega arith), ((let a = rest.2 in let b = one.2 in omega arith), rest.3))
 
 -- the floor stays below all the numbers
-floor_below : (cover : Cover) (ns : List ℕ) (book : Book) → AllByRecursion (λ n. book.floor < n) ns → AllByRecursion (λ n. (purged (Some cover) (least_of ns) book).floor < n) ns
+pub floor_below : (cover : Cover) (ns : List ℕ) (book : Book) → AllByRecursion (λ n. book.floor < n) ns → AllByRecursion (λ n. (purged (Some cover) (least_of ns) book).floor < n) ns
 floor_below cover [] book a = tt
 floor_below cover (n ∷ ns) book a =
     let l = least_most ns (Some n) n refl in

@@ -16,6 +16,8 @@ pub mod Regions
 pub mod Disjoint
 pub mod Served
 pub mod Consistent
+pub mod Entering
+pub mod Writing
 pub mod Answered
 pub mod Found
 pub mod UsesAfter

@@ -10,4 +10,6 @@ pub mod Consistent
 pub mod Turns
 pub mod Commands
 pub mod Started
+pub mod Entered
 pub mod Steps
+pub mod Writing

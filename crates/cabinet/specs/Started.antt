@@ -4,6 +4,7 @@ use Rattle.catalog.specs.declared.catalogue.Catalogue.{Catalogue}
 use Rattle.clock.specs.Readings.{Readings}
 use Rattle.cabinet.specs.declared.kept.Kept.{Kept}
 use Rattle.cabinet.specs.declared.kept.KeptBlob.{KeptBlob}
+use Rattle.cabinet.specs.declared.ranking.Ranked.{Ranked}
 use Rattle.cabinet.specs.declared.start.Start.{Start}
 use Rattle.cabinet.specs.History.{Opening, whole}
 use Rattle.cabinet.specs.State.{State}
@@ -19,7 +20,8 @@ away t = record { kept = t; text = replicate t.length 0 }
 abbrev pub opened_state : Catalogue → Opening → Readings → State
 opened_state c o clock = record { catalogue = c; opening = o; history = whole o []; since = []; blobs = Some (map away o.kept); clock = clock }
 
--- a list of what is kept, and how many it has room for in all
+-- a list of what is kept, alone and with the count of each last use, and how many it has room for in all
 pub record Listing : Type 0 where
   pub kept : List Kept
+  pub ranked : List Ranked
   pub room : ℕ

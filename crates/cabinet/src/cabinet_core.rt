@@ -1,8 +1,7 @@
 //! The core of a cabinet: what is kept, what runs, which cuts are in force, and the history, without the place where blobs lie. Each
 //! command is in two steps: what is to come of it is told first, and then it is done, in steps that can't fail. So a cabinet on a
 //! disk writes it down in between.
-ghost use Rattle.std.specs.Prelude.{IfOk, IsSome, None, OnErr, Some, find, length, ◌<◌, ◌^◌, ◌≡◌, ◌≤◌};
-ghost use Rattle.std.specs.List.Sorted.{IsPermutation};
+ghost use Rattle.std.specs.Prelude.{IfOk, IsSome, None, OnErr, Some, find, length, ℕ, ◌<◌, ◌^◌, ◌≡◌, ◌≤◌};
 ghost use Rattle.catalog.specs.LookUp.{IsTile};
 ghost use Rattle.catalog.specs.Valid.{IsValid};
 ghost use Rattle.raster_field.specs.Blocks.{IsMeta, block_of};
@@ -13,7 +12,6 @@ use crate::entry::Entry;
 use crate::hitting::overtake;
 use crate::judged::{Admitted, Judged, Unsaved};
 use crate::kept::Kept;
-use crate::ranking::Ranking;
 use crate::replies::Forced;
 use crate::shelf::Shelf;
 use crate::shelving::Found;
@@ -49,15 +47,15 @@ fn last_number(opening: u32) -> u64
 /// lies elsewhere is seen as zeros of its length, and the room of its list of cuts.
 #[derive(Drop)]
 pub struct Core {
-    shelf: Shelf,
-    start: Start,
-    last: u64,
+    pub(crate) shelf: Shelf,
+    pub(crate) start: Start,
+    pub(crate) last: u64,
     /// The moment of the last ask or force, in seconds.
-    moment: u64,
-    clock: Clock,
-    locks: Locks,
-    cuts: CutList,
-    past: Trace<Entry>,
+    pub(crate) moment: u64,
+    pub(crate) clock: Clock,
+    pub(crate) locks: Locks,
+    pub(crate) cuts: CutList,
+    pub(crate) past: Trace<Entry>,
 }
 
 impl Model for Core {
@@ -76,7 +74,7 @@ impl Model for Core {
 
 impl Core {
     ghost use Rattle.cabinet.specs.Commands.{Abandons, Forces, place_for};
-    ghost use Rattle.cabinet.specs.Counted.{kept_in, uses, used, used_all};
+    ghost use Rattle.cabinet.specs.Counted.{uses};
     ghost use Rattle.cabinet.specs.Fresh.{Opens};
     ghost use Rattle.cabinet.specs.History.{Opening, kept_of, next};
     ghost use Rattle.cabinet.specs.Started.{opened_state};
@@ -120,8 +118,19 @@ impl Core {
         requires opens { Opens catalogue (record { number = number; kept = kept.items; book = cuts.book }) }
         ensures { IfOk result (λ c. c.state ≡ opened_state catalogue (record { number = number; kept = kept.items; book = cuts.book }) clock) }
     {
-        let _ = (alloc, catalogue, clock, number, kept, cuts);
-        Err(AllocError)
+        let start = Start::of(number, kept.as_slice(), &cuts);
+        let locks = Locks::new(alloc)?;
+        let shelf = Shelf::restored(alloc, catalogue, kept.as_slice())?;
+        Ok(Core {
+            shelf,
+            start,
+            last: u64::from(number) * (LAST + 1),
+            moment: 0,
+            clock,
+            locks,
+            cuts,
+            past: Trace::new(),
+        })
     }
 
     /// The catalogue that it was made with.
@@ -144,6 +153,13 @@ impl Core {
         ensures { result ≡ self.now.state.opening.number }
     {
         self.start.number
+    }
+
+    /// Takes the core apart, and gives its clock back.
+    pub fn into_clock(self) -> Clock
+        ensures { result ≡ self.state.clock }
+    {
+        self.clock
     }
 
     /// The next number, while one of the opening is left.
@@ -278,19 +294,22 @@ impl Core {
         self.past = self.past.and(&Entry::Ended(number));
     }
 
-    /// What is to come of a truncation, with room made where it may be done. `AllocError` where memory runs out; all is then as
-    /// before.
+    /// What is to come of a truncation, with room made where it may be done. That no number is left is told before any memory is
+    /// taken. `AllocError` where memory runs out; all is then as before.
     pub fn admit(&mut self, alloc: Global, cover: &Cover) -> Result<Admitted, AllocError>
         requires { IsCoverOf self.old.state.catalogue cover.now }
         ensures same { IsSame self.old self.new }
         ensures admits { IfOk result (Admits self.old.state cover.now) }
-        ensures ready { IfOk result (λ _. IsReadyFor self.new cover.now) }
+        ensures ready { IfOk result (λ r. (t : ℕ) → r ≡ Admitted.Number t → IsReadyFor self.new cover.now) }
     {
-        self.cuts.reserve(alloc, cover)?;
         let number = match self.next() {
             None => return Ok(Admitted::Spent),
             Some(number) => number,
         };
+        match self.cuts.reserve(alloc, cover) {
+            Err(fault) => return Err(fault),
+            Ok(()) => {}
+        }
         let lowest = self.shelf.least_with(self.locks.least());
         if self
             .cuts
@@ -356,57 +375,5 @@ impl Core {
     {
         let uses = self.shelf.save(meta);
         self.past = self.past.and(&Entry::Counted(*meta, uses));
-    }
-
-    /// The bytes that the kept metatiles of a layer take.
-    pub fn used(&self, layer: u32) -> u64
-        requires { layer < length self.now.state.catalogue.layers }
-        ensures { result ≡ used self.now.state layer }
-    {
-        self.shelf.used(layer)
-    }
-
-    /// The bytes that all kept metatiles take.
-    pub fn used_all(&self) -> u64
-        ensures { result ≡ used_all self.now.state }
-    {
-        self.shelf.used_all()
-    }
-
-    /// How many metatiles of a layer are kept.
-    pub fn kept_in(&self, layer: u32) -> u32
-        ensures { result ≡ kept_in self.now.state layer }
-    {
-        self.shelf.kept_in(layer)
-    }
-
-    /// How many metatiles are kept.
-    pub fn kept(&self) -> u32
-        ensures { result ≡ length (now self.now.state).kept }
-    {
-        self.shelf.count()
-    }
-
-    /// How many renders run.
-    pub fn running(&self) -> usize
-        ensures { result ≡ length (now self.now.state).out }
-    {
-        self.locks.count()
-    }
-
-    /// The cuts in force, with the floor.
-    pub fn cuts(&self) -> &CutList
-        ensures { result.now.book ≡ (now self.now.state).book }
-    {
-        &self.cuts
-    }
-
-    /// Lists what is kept, in the order of its last use and then of its key, field by field, in the place of what the list has. The
-    /// list has room for it, so that no memory is taken.
-    pub fn list_kept(&self, list: &mut Ranking)
-        requires { length (now self.now.state).kept ≤ list.old.room }
-        ensures { IsPermutation list.new.kept (now self.now.state).kept }
-    {
-        self.shelf.list_kept(list)
     }
 }

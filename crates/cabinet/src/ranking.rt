@@ -1,13 +1,18 @@
 //! What is kept, in the order in which a compaction writes it.
 ghost use Rattle.std.specs.Prelude.{[], OnOk, Some, length, map, slice_get, ◌++◌, ◌<◌, ◌≡◌, ◌≤◌, ◌∷◌};
+ghost use Rattle.std.specs.Cmp.Lexicographic.{slice_cmp};
 ghost use Rattle.std.specs.List.Sorted.{IsPermutation};
+ghost use Rattle.std.specs.Ordering.{nat_cmp};
+ghost use Rattle.expiry_policy.specs.Victims.{fields, use_of};
 ghost use Rattle.cabinet.specs.Shelved.{listed};
+ghost use Rattle.cabinet.specs.Writing.{IsInOrderBy, last_of, rank_of, ranked_by};
 
 use crate::kept::Kept;
 use crate::store::Store;
 use expiry_policy::uses::Uses;
 use metatile_plan::metatile::MetaKey;
 use std::alloc::{AllocError, Global};
+use std::cmp::Ordering;
 use std::marker::Model;
 
 /// A kept metatile with the count of its last use.
@@ -29,18 +34,40 @@ impl Model for Ranking {
 
     ghost Value = { Listing };
 
-    ghost view = { λ r. record { kept = map (λ x. x.kept) r.ranked.items; room = vec_capacity r.ranked } };
+    ghost view = { λ r. record { kept = map (λ x. x.kept) r.ranked.items; ranked = r.ranked.items; room = vec_capacity r.ranked } };
 }
 
-/// Sorts by last use, and then by the key, field by field.
-fn sort(ranked: &mut [Ranked])
-    ensures { IsPermutation ranked.old ranked.new }
+/// Two keys, field by field.
+fn cmp_keys(a: &MetaKey, b: &MetaKey) -> Ordering
+    ensures { result ≡ slice_cmp nat_cmp (fields a.now) (fields b.now) }
 {
-    ranked.sort_unstable_by_key(|one| (one.last, one.kept.meta));
+    // As slices the values of both are known to be as many, and the derived order then goes by the fields one by one.
+    let (_values, _others): (&[u32], &[u32]) = (&a.theme.dims, &b.theme.dims);
+    a.cmp(b)
+}
+
+/// Two of a list, by their last use, and by their keys where that is one.
+fn cmp_ranked(a: &Ranked, b: &Ranked) -> Ordering
+    ensures { result ≡ slice_cmp nat_cmp (rank_of a.now) (rank_of b.now) }
+{
+    match a.last.cmp(&b.last) {
+        Ordering::Equal => cmp_keys(&a.kept.meta, &b.kept.meta),
+        unequal => unequal,
+    }
+}
+
+/// Sorts by last use, and then by the key, field by field. It takes no memory.
+fn sort(ranked: &mut [Ranked])
+    ensures permutation { IsPermutation ranked.old ranked.new }
+    ensures sorted { IsInOrderBy rank_of ranked.new }
+{
+    ranked.sort_unstable_by(|a, b| cmp_ranked(a, b));
 }
 
 /// The count of the last use of a metatile, 0 where it has none.
-fn last_use(uses: &Uses, meta: &MetaKey) -> u64 {
+fn last_use(uses: &Uses, meta: &MetaKey) -> u64
+    ensures { result ≡ last_of (use_of uses.now meta.now) }
+{
     match uses.last_use(meta) {
         None => 0,
         Some(last) => last,
@@ -49,9 +76,10 @@ fn last_use(uses: &Uses, meta: &MetaKey) -> u64 {
 
 /// Puts all that is kept behind what a list has. It takes no memory.
 pub fn rank(store: &Store, uses: &Uses, list: &mut Ranking)
-    requires none { list.old.kept ≡ [] }
+    requires none { list.old.ranked ≡ [] }
     requires room { length store.now.blobs ≤ list.old.room }
-    ensures { list.new.kept ≡ listed store.now.held }
+    ensures ranked { list.new.ranked ≡ map (ranked_by (λ m. use_of uses.now m)) (listed store.now.held) }
+    ensures same { list.new.room ≡ list.old.room }
 {
     'ranking: for at in 0..store.count() {
         let kept = store.kept_at(at);
@@ -86,6 +114,7 @@ impl Ranking {
     /// Takes all off the list. The room stays.
     pub fn clear(&mut self)
         ensures kept { self.new.kept ≡ [] }
+        ensures ranked { self.new.ranked ≡ [] }
         ensures room { self.new.room ≡ self.old.room }
     {
         self.ranked.truncate(0);
@@ -93,8 +122,8 @@ impl Ranking {
 
     /// Puts one behind the others. It takes no memory.
     pub fn push(&mut self, ranked: Ranked)
-        requires { length self.old.kept < self.old.room }
-        ensures kept { self.new.kept ≡ self.old.kept ++ ranked.kept ∷ [] }
+        requires { length self.old.ranked < self.old.room }
+        ensures ranked { self.new.ranked ≡ self.old.ranked ++ ranked ∷ [] }
         ensures room { self.new.room ≡ self.old.room }
     {
         self.ranked.push_reserved(ranked);
@@ -102,7 +131,9 @@ impl Ranking {
 
     /// Sorts by last use, and then by the key, field by field. It takes no memory.
     pub fn sort(&mut self)
-        ensures kept { IsPermutation self.old.kept self.new.kept }
+        ensures ranked { IsPermutation self.old.ranked self.new.ranked }
+        ensures kept { self.new.kept ≡ map (λ x. x.kept) self.new.ranked }
+        ensures sorted { IsInOrderBy rank_of self.new.ranked }
         ensures room { self.new.room ≡ self.old.room }
     {
         sort(self.ranked.as_mut_slice());

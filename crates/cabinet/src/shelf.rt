@@ -46,7 +46,9 @@ impl Model for Shelf {
 }
 
 impl Shelf {
+    ghost use Rattle.cabinet.specs.Entered.{CanEnter, Enters};
     ghost use Rattle.cabinet.specs.Shelved.{Forgets, GoesOn, IsAlike, IsBare, IsUnsavedOn, JudgesOn, Keeps, Marks, Reads, Sifts, Touches, listed, use_on, used_on, used_on_all};
+    ghost use Rattle.cabinet.specs.Writing.{IsInOrderBy, rank_on};
 
     /// A shelf on which nothing is kept. `AllocError` where memory runs out.
     pub fn new(alloc: Global, catalogue: Catalogue) -> Result<Shelf, AllocError>
@@ -151,6 +153,19 @@ impl Shelf {
         self.store.put(kept, text);
     }
 
+    /// Keeps a metatile of which nothing is kept, with a blob that lies elsewhere, and with its uses. It takes no memory.
+    pub fn enter(&mut self, kept: Kept)
+        requires can { CanEnter self.old.catalogue self.old.blobs kept }
+        requires room { 1 ≤ self.old.room }
+        ensures enters { Enters kept self.old self.new }
+        ensures room { self.old.room ≤ self.new.room + 1 }
+    {
+        let _free = self.tally.extents.claim_at(kept.place, kept.length);
+        self.tally.ledger.add(kept.meta.theme.layer, kept.length);
+        self.tally.uses.enter(&kept.meta, kept.uses);
+        self.store.put(kept, Text::away(kept.length));
+    }
+
     /// Drops each metatile of which the cover is for a tile. It takes no memory, and tests each once.
     pub fn drop_hit(&mut self, cover: &Cover)
         requires { IsCoverOf self.old.catalogue cover.now }
@@ -223,7 +238,9 @@ impl Shelf {
     /// takes no memory.
     pub fn list_kept(&self, list: &mut Ranking)
         requires { length self.now.blobs ≤ list.old.room }
-        ensures { IsPermutation list.new.kept (listed self.now.blobs) }
+        ensures all { IsPermutation list.new.kept (listed self.now.blobs) }
+        ensures order { IsInOrderBy (rank_on self.now) list.new.kept }
+        ensures room { list.new.room ≡ list.old.room }
     {
         let _count = self.store.count();
         list.clear();

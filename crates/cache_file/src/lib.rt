@@ -14,3 +14,4 @@ pub mod laws;
 pub mod opening;
 mod queries;
 mod recording;
+mod replacing;

@@ -16,6 +16,7 @@ impl<D: Disk> CacheFile<D> {
         ensures start { self.new.start ≡ self.old.start }
         ensures alike { IsAlike self.old.journal self.new.journal }
         ensures room { room_of self.new.journal ≡ room_of self.old.journal }
+        ensures version { version_of self.new.journal ≡ version_of self.old.journal }
         ensures ok { OnOk result (IsSettled self.new.journal) }
         ensures err { OnErr result (¬ IsSettled self.new.journal) }
         ensures brings { IsTrue (D.told self.old.disk) → Brings result (held self.old.journal (D.state self.old.disk))
@@ -36,6 +37,7 @@ impl<D: Disk> CacheFile<D> {
         ensures told { D.told self.new.disk ≡ D.told self.old.disk }
         ensures start { self.new.start ≡ self.old.start }
         ensures alike { IsAlike self.old.journal self.new.journal }
+        ensures version { version_of self.old.journal ≡ 2 → version_of self.new.journal ≡ 2 }
         ensures ok { OnOk result (IsSettled self.new.journal × (0 < room_of self.new.journal)) }
         ensures err { OnErr result (¬ IsSettled self.new.journal) }
         ensures brings { IsTrue (D.told self.old.disk)
@@ -59,6 +61,7 @@ impl<D: Disk> CacheFile<D> {
         ensures told { D.told self.new.disk ≡ D.told self.old.disk }
         ensures start { self.new.start ≡ self.old.start }
         ensures alike { IsAlike self.old.journal self.new.journal }
+        ensures version { version_of self.old.journal ≡ 2 → version_of self.new.journal ≡ 2 }
         ensures ok { OnOk result (IsSettled self.new.journal × (0 < room_of self.new.journal)) }
         ensures err { OnErr result (¬ IsSettled self.new.journal) }
         ensures brings { IsTrue (D.told self.old.disk)
@@ -79,6 +82,7 @@ impl<D: Disk> CacheFile<D> {
         ensures told { D.told self.new.disk ≡ D.told self.old.disk }
         ensures start { self.new.start ≡ self.old.start }
         ensures alike { IsAlike self.old.journal self.new.journal }
+        ensures version { version_of self.new.journal ≡ version_of self.old.journal }
         ensures ok { OnOk result (IsSettled self.new.journal × (room_of self.new.journal + 1 ≡ room_of self.old.journal)) }
         ensures err { OnErr result (¬ IsSettled self.new.journal × (room_of self.new.journal ≡ room_of self.old.journal)) }
         ensures brings { IsTrue (D.told self.old.disk) → Brings result
