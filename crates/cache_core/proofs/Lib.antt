@@ -2,3 +2,4 @@ pub mod Truth
 pub mod Beginnings
 pub mod Endings
 pub mod Alike
+pub mod Lasting

@@ -3,3 +3,4 @@ pub mod Shown
 pub mod Fits
 pub mod Begun
 pub mod Advanced
+pub mod Lasting

@@ -9,10 +9,12 @@ ghost use Rattle.raster_field.specs.Blocks.{blob_size, block_text, tile_part};
 ghost use Rattle.cache_core.specs.Fits.{IsTicketFor, IsFit, IsTrueActor, IsTrueOutcome, IsFreshActor, IsFreshOutcome};
 ghost use Rattle.cache_core.specs.Advanced.{Advances};
 ghost use Rattle.cache_core.specs.Begun.{Begins};
+ghost use Rattle.cache_core.specs.Lasting.{Lasting};
 ghost use Rattle.cache_core.specs.Shown.{shown, IsFailed, IsIdle};
 ghost use Rattle.cache_core.specs.Steps.{advanced, given_up, tile_at};
 
 use crate::actor::{Actor, Step};
+use crate::laws::laws_of_lasting;
 use crate::outcome::{Tile, TileOutcome};
 use crate::render::{RenderFault, blob_of, tile_in};
 use cabinet::keeper::Keeper;
@@ -60,8 +62,10 @@ fn hit(number: u64, bytes: Vec<u8>) -> Step
 
 fn ask<C: Keeper>(alloc: Global, cabinet: &mut C, address: &Address) -> Step
     requires { IsTile (C.state cabinet.old).catalogue address.now }
-    ensures { Begins (C.faults cabinet.old) (C.faults cabinet.new) (C.state cabinet.old) address.now false result (C.state cabinet.new) }
+    ensures begins { Begins (C.faults cabinet.old) (C.faults cabinet.new) (C.state cabinet.old) address.now false result (C.state cabinet.new) }
+    ensures lasts { Lasting (C.outlasts cabinet.old cabinet.new) (C.state cabinet.old) (C.state cabinet.new) }
 {
+    cabinet.known();
     match cabinet.ask(alloc, address) {
         Err(_) => ends(TileOutcome::NoMemory),
         Ok(Asked::Spent) => ends(TileOutcome::Spent),
@@ -73,7 +77,8 @@ fn ask<C: Keeper>(alloc: Global, cabinet: &mut C, address: &Address) -> Step
 
 fn force<C: Keeper>(alloc: Global, cabinet: &mut C, address: &Address) -> Step
     requires { IsTile (C.state cabinet.old).catalogue address.now }
-    ensures { Begins (C.faults cabinet.old) (C.faults cabinet.new) (C.state cabinet.old) address.now true result (C.state cabinet.new) }
+    ensures begins { Begins (C.faults cabinet.old) (C.faults cabinet.new) (C.state cabinet.old) address.now true result (C.state cabinet.new) }
+    ensures lasts { Lasting (C.outlasts cabinet.old cabinet.new) (C.state cabinet.old) (C.state cabinet.new) }
 {
     laws_of_rows();
     cabinet.known();
@@ -89,7 +94,8 @@ fn force<C: Keeper>(alloc: Global, cabinet: &mut C, address: &Address) -> Step
 /// Asks for a tile, or forces a render of its metatile, as the first event of a request.
 pub fn begin<C: Keeper>(alloc: Global, cabinet: &mut C, address: &Address, with_force: bool) -> Step
     requires { IsTile (C.state cabinet.old).catalogue address.now }
-    ensures { Begins (C.faults cabinet.old) (C.faults cabinet.new) (C.state cabinet.old) address.now with_force result (C.state cabinet.new) }
+    ensures begins { Begins (C.faults cabinet.old) (C.faults cabinet.new) (C.state cabinet.old) address.now with_force result (C.state cabinet.new) }
+    ensures lasts { Lasting (C.outlasts cabinet.old cabinet.new) (C.state cabinet.old) (C.state cabinet.new) }
 {
     if with_force {
         return force(alloc, cabinet, address);
@@ -100,7 +106,8 @@ pub fn begin<C: Keeper>(alloc: Global, cabinet: &mut C, address: &Address, with_
 /// Asks again, or forces again.
 fn ask_again<C: Keeper>(alloc: Global, cabinet: &mut C, address: &Address, with_force: bool) -> Step
     requires { IsTile (C.state cabinet.old).catalogue address.now }
-    ensures { (told : Option ℕ) (n : ℕ) → Advances told n n (C.faults cabinet.old) (C.faults cabinet.new) (C.state cabinet.old) (Actor.Waiting address.now with_force) result (C.state cabinet.new) }
+    ensures advances { (told : Option ℕ) (n : ℕ) → Advances told n n (C.faults cabinet.old) (C.faults cabinet.new) (C.state cabinet.old) (Actor.Waiting address.now with_force) result (C.state cabinet.new) }
+    ensures lasts { Lasting (C.outlasts cabinet.old cabinet.new) (C.state cabinet.old) (C.state cabinet.new) }
 {
     begin(alloc, cabinet, address, with_force)
 }
@@ -108,7 +115,8 @@ fn ask_again<C: Keeper>(alloc: Global, cabinet: &mut C, address: &Address, with_
 /// Hands in the blob of a render, and answers its tile.
 fn hand_in<C: Keeper>(cabinet: &mut C, ticket: Ticket, blob: Words, tile: Tile) -> Step
     requires { (a : Address) × IsFit (C.state cabinet.old).catalogue a (Actor.Rendered ticket blob tile) }
-    ensures { (told : Option ℕ) (n : ℕ) → Advances told n n (C.faults cabinet.old) (C.faults cabinet.new) (C.state cabinet.old) (Actor.Rendered ticket blob tile) result (C.state cabinet.new) }
+    ensures advances { (told : Option ℕ) (n : ℕ) → Advances told n n (C.faults cabinet.old) (C.faults cabinet.new) (C.state cabinet.old) (Actor.Rendered ticket blob tile) result (C.state cabinet.new) }
+    ensures lasts { Lasting (C.outlasts cabinet.old cabinet.new) (C.state cabinet.old) (C.state cabinet.new) }
 {
     laws_of_metatiles();
     cabinet.known();
@@ -118,16 +126,20 @@ fn hand_in<C: Keeper>(cabinet: &mut C, ticket: Ticket, blob: Words, tile: Tile) 
 
 /// Gives a ticket back at which the source failed.
 fn give_back<C: Keeper>(cabinet: &mut C, ticket: Ticket) -> Step
-    ensures { (told : Option ℕ) (n : ℕ) → Advances told n n (C.faults cabinet.old) (C.faults cabinet.new) (C.state cabinet.old) (Actor.Failed ticket) result (C.state cabinet.new) }
+    ensures advances { (told : Option ℕ) (n : ℕ) → Advances told n n (C.faults cabinet.old) (C.faults cabinet.new) (C.state cabinet.old) (Actor.Failed ticket) result (C.state cabinet.new) }
+    ensures lasts { Lasting (C.outlasts cabinet.old cabinet.new) (C.state cabinet.old) (C.state cabinet.new) }
 {
+    cabinet.known();
     cabinet.abandon(ticket);
     ends(TileOutcome::SourceFailed)
 }
 
 /// Gives a ticket back where memory ran out.
 fn run_out<C: Keeper>(cabinet: &mut C, ticket: Ticket, _address: &Address) -> Step
-    ensures { (told : Option ℕ) (before after : ℕ) → before ≤ after → Advances told before after (C.faults cabinet.old) (C.faults cabinet.new) (C.state cabinet.old) (Actor.Holding ticket _address.now) result (C.state cabinet.new) }
+    ensures advances { (told : Option ℕ) (before after : ℕ) → before ≤ after → Advances told before after (C.faults cabinet.old) (C.faults cabinet.new) (C.state cabinet.old) (Actor.Holding ticket _address.now) result (C.state cabinet.new) }
+    ensures lasts { Lasting (C.outlasts cabinet.old cabinet.new) (C.state cabinet.old) (C.state cabinet.new) }
 {
+    cabinet.known();
     cabinet.abandon(ticket);
     ends(TileOutcome::NoMemory)
 }
@@ -173,7 +185,9 @@ fn render<C: Keeper, S: Source>(
     requires { IsFit (C.state cabinet.old).catalogue address.now (Actor.Holding ticket address.now) }
     ensures advances { Advances (S.told source.old) (S.faults source.old) (S.faults source.new) (C.faults cabinet.old) (C.faults cabinet.new) (C.state cabinet.old) (Actor.Holding ticket address.now) result (C.state cabinet.new) }
     ensures told { S.told source.new ≡ S.told source.old }
+    ensures lasts { Lasting (C.outlasts cabinet.old cabinet.new) (C.state cabinet.old) (C.state cabinet.new) }
 {
+    laws_of_lasting::<C>();
     cabinet.known();
     match painted(alloc, cabinet.catalogue(), source, &ticket, address) {
         Ok(Sliced { blob, bytes }) => {
@@ -201,7 +215,9 @@ pub fn advance<C: Keeper, S: Source>(
     requires fits { (a : Address) × IsFit (C.state cabinet.old).catalogue a actor }
     ensures advances { Advances (S.told source.old) (S.faults source.old) (S.faults source.new) (C.faults cabinet.old) (C.faults cabinet.new) (C.state cabinet.old) actor result (C.state cabinet.new) }
     ensures told { S.told source.new ≡ S.told source.old }
+    ensures lasts { Lasting (C.outlasts cabinet.old cabinet.new) (C.state cabinet.old) (C.state cabinet.new) }
 {
+    laws_of_lasting::<C>();
     match actor {
         Actor::Idle => goes_on(Actor::Idle),
         Actor::Waiting(address, with_force) => ask_again(alloc, cabinet, &address, with_force),
@@ -215,7 +231,10 @@ pub fn advance<C: Keeper, S: Source>(
 pub fn give_up<C: Keeper>(cabinet: &mut C, actor: Actor)
     ensures state { C.state cabinet.new ≡ given_up (C.state cabinet.old) actor }
     ensures faults { C.faults cabinet.new ≡ C.faults cabinet.old }
+    ensures lasts { Lasting (C.outlasts cabinet.old cabinet.new) (C.state cabinet.old) (C.state cabinet.new) }
 {
+    laws_of_lasting::<C>();
+    cabinet.known();
     match actor {
         Actor::Idle | Actor::Waiting(_, _) => {}
         Actor::Holding(ticket, _) | Actor::Failed(ticket) => cabinet.abandon(ticket),

@@ -1,5 +1,6 @@
 //! What is answered in one step from the cabinet.
 ghost use Rattle.std.specs.Prelude.{◌≡◌, ◌≤◌, Bool};
+ghost use Rattle.cache_core.specs.Lasting.{Lasting};
 ghost use Rattle.catalog.specs.Valid.{IsValid};
 ghost use Rattle.served_covers.specs.OfCatalogue.{IsCoverOf};
 ghost use Rattle.tile_requests.specs.Immediate.{IsWritten};
@@ -9,7 +10,9 @@ use crate::dropped::dropped_text;
 use crate::outcome::Outcome;
 use crate::usage::usage_text;
 use cabinet::keeper::Keeper;
+use cabinet::laws::laws_of_rows;
 use cabinet::replies::{CutReply, Expired};
+use cache_core::laws::laws_of_lasting;
 use std::alloc::Global;
 use truncation_list::cover::Cover;
 
@@ -29,7 +32,11 @@ pub fn cut<C: Keeper>(alloc: Global, cabinet: &mut C, cover: &Cover) -> Outcome
     requires { IsCoverOf (C.state cabinet.old).catalogue cover.now }
     ensures done { (left : Bool) × IsWritten (C.faults cabinet.old) (C.faults cabinet.new) (cut (C.state cabinet.old) cover.now left) result (C.state cabinet.new) }
     ensures later { C.faults cabinet.old ≤ C.faults cabinet.new }
+    ensures lasts { Lasting (C.outlasts cabinet.old cabinet.new) (C.state cabinet.old) (C.state cabinet.new) }
 {
+    laws_of_lasting::<C>();
+    laws_of_rows();
+    cabinet.known();
     match cabinet.cut(alloc, cover) {
         Ok(CutReply::Done(number)) => Outcome::Cut(number),
         Ok(CutReply::DiskFault(_, _)) => Outcome::DiskFault,
@@ -43,7 +50,11 @@ pub fn cut<C: Keeper>(alloc: Global, cabinet: &mut C, cover: &Cover) -> Outcome
 pub fn expire<C: Keeper>(alloc: Global, cabinet: &mut C) -> Outcome
     ensures done { (left : Bool) × IsWritten (C.faults cabinet.old) (C.faults cabinet.new) (expired (C.state cabinet.old) left) result (C.state cabinet.new) }
     ensures later { C.faults cabinet.old ≤ C.faults cabinet.new }
+    ensures lasts { Lasting (C.outlasts cabinet.old cabinet.new) (C.state cabinet.old) (C.state cabinet.new) }
 {
+    laws_of_lasting::<C>();
+    laws_of_rows();
+    cabinet.known();
     match cabinet.expire() {
         Expired::Within => Outcome::Within,
         Expired::DiskFault(_, _) => Outcome::DiskFault,

@@ -1,5 +1,6 @@
 //! Which events of a request for a tile are made in the line that starts it.
 ghost use Rattle.std.specs.Prelude.{◌≡◌, true};
+ghost use Rattle.cache_core.specs.Lasting.{Lasting};
 ghost use Rattle.cache_core.specs.Shown.{IsIdle};
 ghost use Rattle.cache_core.specs.Fits.{IsFit};
 ghost use Rattle.catalog.specs.LookUp.{IsTile};
@@ -10,6 +11,7 @@ ghost use Rattle.tile_requests.specs.Requests.{is_at_work};
 use crate::request::Mode;
 use cabinet::keeper::Keeper;
 use cache_core::actor::{Actor, Step};
+use cache_core::laws::laws_of_lasting;
 use cache_core::steps::{advance, begin};
 use matrix_geometry::address::Address;
 use source_render::source::Source;
@@ -31,7 +33,9 @@ fn further<C: Keeper, S: Source>(alloc: Global, cabinet: &mut C, source: &mut S,
     requires { (a : Address) × IsFit (C.state cabinet.old).catalogue a step.actor }
     ensures goes { GoesFurther (S.told source.old) (S.faults source.old) (S.faults source.new) (C.faults cabinet.old) (C.faults cabinet.new) (C.state cabinet.old) step result (C.state cabinet.new) }
     ensures told { S.told source.new ≡ S.told source.old }
+    ensures lasts { Lasting (C.outlasts cabinet.old cabinet.new) (C.state cabinet.old) (C.state cabinet.new) }
 {
+    laws_of_lasting::<C>();
     if !is_at_work(&step.actor) {
         return step;
     }
@@ -50,7 +54,9 @@ pub fn events<C: Keeper, S: Source>(
     requires { IsTile (C.state cabinet.old).catalogue address.now }
     ensures opens { Opens (S.told source.old) (S.faults source.old) (S.faults source.new) (C.faults cabinet.old) (C.faults cabinet.new) (C.state cabinet.old) address.now mode result (C.state cabinet.new) }
     ensures told { S.told source.new ≡ S.told source.old }
+    ensures lasts { Lasting (C.outlasts cabinet.old cabinet.new) (C.state cabinet.old) (C.state cabinet.new) }
 {
+    laws_of_lasting::<C>();
     match mode {
         Mode::Asks => begin(alloc, cabinet, address, false),
         Mode::Forces => begin(alloc, cabinet, address, true),

@@ -1,5 +1,6 @@
 //! Requests that aren't for a tile: each has its outcome in one step.
 ghost use Rattle.std.specs.Prelude.{◌≡◌, ◌≤◌, None};
+ghost use Rattle.cache_core.specs.Lasting.{Lasting};
 ghost use Rattle.catalog.specs.Valid.{IsValid};
 ghost use Rattle.tile_requests.specs.Immediate.{IsImmediate};
 ghost use Rattle.tile_requests.specs.Requests.{IsOf, tile_of};
@@ -8,6 +9,7 @@ use crate::commands::{cut, expire, usage};
 use crate::outcome::Outcome;
 use crate::request::Request;
 use cabinet::keeper::Keeper;
+use cache_core::laws::laws_of_lasting;
 use std::alloc::Global;
 
 /// Answers a request that isn't for a tile. Where memory runs out, its outcome says so.
@@ -18,7 +20,9 @@ pub fn immediate<C: Keeper>(alloc: Global, cabinet: &mut C, request: Request) ->
     ensures immediate { IsImmediate (C.faults cabinet.old) (C.faults cabinet.new) (C.state cabinet.old) request result (C.state cabinet.new) }
     ensures catalogue { (C.state cabinet.new).catalogue ≡ (C.state cabinet.old).catalogue }
     ensures later { C.faults cabinet.old ≤ C.faults cabinet.new }
+    ensures lasts { Lasting (C.outlasts cabinet.old cabinet.new) (C.state cabinet.old) (C.state cabinet.new) }
 {
+    laws_of_lasting::<C>();
     match request {
         Request::Tile(_) => unreachable!(),
         Request::Capabilities => Outcome::Document,

@@ -1,5 +1,6 @@
 //! The action of a line is performed: its actor sends a message, or makes the next event of its pending request.
 ghost use Rattle.std.specs.Prelude.{◌≡◌, List, Option, Some, slice_get};
+ghost use Rattle.cache_core.specs.Lasting.{Lasting};
 ghost use Rattle.catalog.specs.Valid.{IsValid};
 ghost use Rattle.tile_service.specs.Performing.{IsAsked};
 ghost use Rattle.tile_service.specs.Lines.{Sends, Steps, action_in};
@@ -14,6 +15,7 @@ use crate::counter::Counter;
 use crate::lines::{Action, action_in};
 use crate::seats::{Pending, Seat, is_free, pending_at, settle};
 use cabinet::keeper::Keeper;
+use cache_core::laws::laws_of_lasting;
 use cache_core::steps::advance;
 use source_render::source::Source;
 use std::alloc::Global;
@@ -53,7 +55,9 @@ fn asked<C: Keeper, S: Source>(
     ensures catalogue { (C.state counter.new.cabinet).catalogue ≡ (C.state counter.old.cabinet).catalogue }
     ensures capabilities { counter.new.capabilities ≡ counter.old.capabilities }
     ensures told { S.told source.new ≡ S.told source.old }
+    ensures lasts { Lasting (C.outlasts counter.old.cabinet counter.new.cabinet) (C.state counter.old.cabinet) (C.state counter.new.cabinet) }
 {
+    laws_of_lasting::<C>();
     match request {
         Request::Tile(address) => {
             let step = events(alloc, &mut counter.cabinet, source, &address, mode);
@@ -82,7 +86,9 @@ fn sent<C: Keeper, S: Source>(
     ensures catalogue { (C.state counter.new.cabinet).catalogue ≡ (C.state counter.old.cabinet).catalogue }
     ensures capabilities { counter.new.capabilities ≡ counter.old.capabilities }
     ensures told { S.told source.new ≡ S.told source.old }
+    ensures lasts { Lasting (C.outlasts counter.old.cabinet counter.new.cabinet) (C.state counter.old.cabinet) (C.state counter.new.cabinet) }
 {
+    laws_of_lasting::<C>();
     if !is_free(seats, actor) {
         return ActionEnd::Refused;
     }
@@ -107,7 +113,9 @@ fn stepped<C: Keeper, S: Source>(
     ensures catalogue { (C.state counter.new.cabinet).catalogue ≡ (C.state counter.old.cabinet).catalogue }
     ensures capabilities { counter.new.capabilities ≡ counter.old.capabilities }
     ensures told { S.told source.new ≡ S.told source.old }
+    ensures lasts { Lasting (C.outlasts counter.old.cabinet counter.new.cabinet) (C.state counter.old.cabinet) (C.state counter.new.cabinet) }
 {
+    laws_of_lasting::<C>();
     match pending_at(seats, actor) {
         None => ActionEnd::Refused,
         Some(
@@ -138,7 +146,9 @@ pub fn perform<C: Keeper, S: Source>(
     ensures catalogue { (C.state counter.new.cabinet).catalogue ≡ (C.state counter.old.cabinet).catalogue }
     ensures capabilities { counter.new.capabilities ≡ counter.old.capabilities }
     ensures told { S.told source.new ≡ S.told source.old }
+    ensures lasts { Lasting (C.outlasts counter.old.cabinet counter.new.cabinet) (C.state counter.old.cabinet) (C.state counter.new.cabinet) }
 {
+    laws_of_lasting::<C>();
     match action_in(line) {
         None => ActionEnd::Refused,
         Some(Action::Nothing) => ActionEnd::Silent,

@@ -1,6 +1,7 @@
 //! One line of a schedule, run and answered.
 ghost use Rattle.std.specs.Prelude.{◌≡◌, ◌≤◌, List, None, Option, flat_map, map};
 ghost use Rattle.std.specs.Io.KnownBytes.{Appends};
+ghost use Rattle.cache_core.specs.Lasting.{Lasting};
 ghost use Rattle.catalog.specs.Valid.{IsValid};
 ghost use Rattle.tile_service.specs.OneLine.{IsSeated};
 ghost use Rattle.tile_service.specs.Outside.{counts};
@@ -14,6 +15,7 @@ use crate::counter::Counter;
 use crate::perform::perform;
 use crate::seats::Seat;
 use cabinet::keeper::Keeper;
+use cache_core::laws::laws_of_lasting;
 use http_wire::streams::ByteSink;
 use source_render::source::Source;
 use std::alloc::Global;
@@ -48,7 +50,9 @@ pub fn run_line<C: Keeper, S: Source, O: ByteSink>(
     ensures capabilities { counter.new.capabilities ≡ counter.old.capabilities }
     ensures later { O.faults output.old ≤ O.faults output.new }
     ensures told { S.told source.new ≡ S.told source.old }
+    ensures lasts { Lasting (C.outlasts counter.old.cabinet counter.new.cabinet) (C.state counter.old.cabinet) (C.state counter.new.cabinet) }
 {
+    laws_of_lasting::<C>();
     match perform(alloc, counter, seats, source, n, line) {
         ActionEnd::Refused => LineEnd::Refused,
         ActionEnd::Silent => LineEnd::Done(None),

@@ -1,5 +1,6 @@
 //! The lines of a schedule, run one after the other up to the first that is refused or whose answer can't be written.
 ghost use Rattle.std.specs.Prelude.{◌≡◌, ◌<◌, ◌^◌, List, Option, length, map, replicate};
+ghost use Rattle.cache_core.specs.Lasting.{Lasting};
 ghost use Rattle.catalog.specs.Valid.{IsValid};
 ghost use Rattle.tile_service.specs.OneLine.{seat_of};
 ghost use Rattle.tile_service.specs.Outside.{counts};
@@ -11,6 +12,7 @@ use crate::lines::split_line;
 use crate::run_line::{LineEnd, run_line};
 use crate::seats::{ACTORS, Seat};
 use cabinet::keeper::Keeper;
+use cache_core::laws::laws_of_lasting;
 use http_wire::streams::ByteSink;
 use source_render::source::Source;
 use std::alloc::Global;
@@ -40,7 +42,9 @@ pub fn run_lines<C: Keeper, S: Source, O: ByteSink>(
         (record { told = S.told source.old; renders = record { before = S.faults source.old; after = S.faults source.new }; disk = counts (C.faults counter.old.cabinet) (C.faults counter.new.cabinet); writes = record { before = O.faults output.old; after = O.faults output.new }; from = O.taken output.old; to = O.taken output.new })
         (world_of (C.state counter.old.cabinet) counter.old.capabilities free_seats) text.now (world_of (C.state counter.new.cabinet) counter.new.capabilities busy) result }
     ensures capabilities { counter.new.capabilities ≡ counter.old.capabilities }
+    ensures lasts { Lasting (C.outlasts counter.old.cabinet counter.new.cabinet) (C.state counter.old.cabinet) (C.state counter.new.cabinet) }
 {
+    laws_of_lasting::<C>();
     let mut rest = text;
     let mut lines = 0;
     while !rest.is_empty() {

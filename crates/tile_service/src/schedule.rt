@@ -1,5 +1,6 @@
 //! A schedule as a whole: it is read, its lines are run, and the actors that are still busy give up.
 ghost use Rattle.std.specs.Prelude.{◌≡◌};
+ghost use Rattle.cache_core.specs.Lasting.{Lasting};
 ghost use Rattle.catalog.specs.Valid.{IsValid};
 ghost use Rattle.tile_service.specs.Outside.{counts};
 ghost use Rattle.tile_service.specs.Run.{free_seats, world_of};
@@ -9,6 +10,7 @@ use crate::counter::Counter;
 use crate::run_lines::{RunEnd, run_lines};
 use crate::seats::{close, free_seats};
 use cabinet::keeper::Keeper;
+use cache_core::laws::laws_of_lasting;
 use http_wire::inputs::{InputEnd, read_all};
 use http_wire::streams::{ByteSink, ByteSource};
 use source_render::source::Source;
@@ -44,12 +46,14 @@ pub fn run_schedule<C: Keeper, S: Source, I: ByteSource, O: ByteSink>(
     output: &mut O,
 ) -> ScheduleEnd
     requires { IsValid (C.state counter.old.cabinet).catalogue }
-    ensures { Schedules
+    ensures schedules { Schedules
         (record { reads = record { before = I.faults input.old; after = I.faults input.new }; from = I.left input.old; to = I.left input.new })
         (record { told = S.told source.old; renders = record { before = S.faults source.old; after = S.faults source.new }; disk = counts (C.faults counter.old.cabinet) (C.faults counter.new.cabinet); writes = record { before = O.faults output.old; after = O.faults output.new }; from = O.taken output.old; to = O.taken output.new })
         ((output.new ≡ output.old) × (source.new ≡ source.old) × (counter.new ≡ counter.old))
         (world_of (C.state counter.old.cabinet) counter.old.capabilities free_seats) (world_of (C.state counter.new.cabinet) counter.new.capabilities free_seats) result }
+    ensures lasts { Lasting (C.outlasts counter.old.cabinet counter.new.cabinet) (C.state counter.old.cabinet) (C.state counter.new.cabinet) }
 {
+    laws_of_lasting::<C>();
     let text = match read_all(alloc, input, SCHEDULE_LIMIT) {
         Ok(text) => text,
         Err(InputEnd::ReadFault) => return ScheduleEnd::ReadFault,

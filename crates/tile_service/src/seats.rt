@@ -1,5 +1,6 @@
 //! The seats of the actors, and the pending request of each busy one.
 ghost use Rattle.std.specs.Prelude.{◌≡◌, IfOk, IsSome, None, ◌<◌, is_some, length, replicate, slice_get, slice_set};
+ghost use Rattle.cache_core.specs.Lasting.{Lasting};
 ghost use Rattle.cache_core.specs.Steps.{given_up};
 ghost use Rattle.tile_requests.specs.Events.{GoesOn};
 ghost use Rattle.tile_service.specs.Seats.{all_left, action_end_of, pending_at, is_free, next_seat};
@@ -7,6 +8,7 @@ ghost use Rattle.tile_service.specs.Seats.{all_left, action_end_of, pending_at, 
 use crate::action_end::{ActionEnd, Answer};
 use cabinet::keeper::Keeper;
 use cache_core::actor::{Actor, Step};
+use cache_core::laws::laws_of_lasting;
 use cache_core::steps::give_up;
 use matrix_geometry::address::Address;
 use std::alloc::{AllocError, Global};
@@ -84,7 +86,9 @@ fn put<C: Keeper>(cabinet: &mut C, seats: &mut [Seat], actor: u32, seat: Seat)
     ensures seats { seats.new ≡ slice_set seats.old actor seat }
     ensures cabinet { C.state cabinet.new ≡ C.state cabinet.old }
     ensures faults { C.faults cabinet.new ≡ C.faults cabinet.old }
+    ensures lasts { Lasting (C.outlasts cabinet.old cabinet.new) (C.state cabinet.old) (C.state cabinet.new) }
 {
+    laws_of_lasting::<C>();
     match mem::replace(&mut seats[actor as usize], seat) {
         Seat::Free => {}
         Seat::Busy(pending) => leave(cabinet, pending),
@@ -106,7 +110,9 @@ pub fn settle<C: Keeper>(
     ensures seats { seats.new ≡ slice_set seats.old actor (next_seat start address.now step.actor step.outcome) }
     ensures cabinet { C.state cabinet.new ≡ C.state cabinet.old }
     ensures faults { C.faults cabinet.new ≡ C.faults cabinet.old }
+    ensures lasts { Lasting (C.outlasts cabinet.old cabinet.new) (C.state cabinet.old) (C.state cabinet.new) }
 {
+    laws_of_lasting::<C>();
     let Step {
         actor: state,
         outcome,
@@ -137,7 +143,9 @@ pub fn settle<C: Keeper>(
 fn leave<C: Keeper>(cabinet: &mut C, pending: Pending)
     ensures cabinet { C.state cabinet.new ≡ given_up (C.state cabinet.old) pending.actor }
     ensures faults { C.faults cabinet.new ≡ C.faults cabinet.old }
+    ensures lasts { Lasting (C.outlasts cabinet.old cabinet.new) (C.state cabinet.old) (C.state cabinet.new) }
 {
+    laws_of_lasting::<C>();
     let Pending {
         start: _,
         address: _,
@@ -150,7 +158,9 @@ fn leave<C: Keeper>(cabinet: &mut C, pending: Pending)
 pub fn close<C: Keeper>(cabinet: &mut C, mut seats: Vec<Seat>)
     ensures cabinet { C.state cabinet.new ≡ all_left (C.state cabinet.old) seats.items }
     ensures faults { C.faults cabinet.new ≡ C.faults cabinet.old }
+    ensures lasts { Lasting (C.outlasts cabinet.old cabinet.new) (C.state cabinet.old) (C.state cabinet.new) }
 {
+    laws_of_lasting::<C>();
     seats.reverse();
     while !seats.is_empty() {
         match seats.take_last() {

@@ -1,5 +1,6 @@
 //! A message of a session, served to its outcome, since no render runs beside it.
 ghost use Rattle.std.specs.Prelude.{◌≡◌};
+ghost use Rattle.cache_core.specs.Lasting.{Lasting};
 ghost use Rattle.catalog.specs.LookUp.{IsTile};
 ghost use Rattle.catalog.specs.Valid.{IsValid};
 ghost use Rattle.tile_service.specs.Outside.{counts};
@@ -10,6 +11,7 @@ ghost use Rattle.tile_service.specs.Session.{IsAtRest};
 use crate::counter::Counter;
 use cabinet::keeper::Keeper;
 use cache_core::actor::Step;
+use cache_core::laws::laws_of_lasting;
 use cache_core::steps::give_up;
 use http_wire::message::Message;
 use matrix_geometry::address::Address;
@@ -33,7 +35,9 @@ fn serve_tile<C: Keeper, S: Source>(
     requires rest { IsAtRest (C.state cabinet.old) }
     ensures got { IsGot (S.told source.old) (S.faults source.old) (S.faults source.new) (counts (C.faults cabinet.old) (C.faults cabinet.new)) (C.state cabinet.old) address.now result (C.state cabinet.new) }
     ensures told { S.told source.new ≡ S.told source.old }
+    ensures lasts { Lasting (C.outlasts cabinet.old cabinet.new) (C.state cabinet.old) (C.state cabinet.new) }
 {
+    laws_of_lasting::<C>();
     let Step { actor, outcome } = events(alloc, cabinet, source, address, Mode::Gets);
     match outcome {
         None => unreachable!(),
@@ -57,7 +61,9 @@ pub fn serve<C: Keeper, S: Source>(
     ensures catalogue { (C.state counter.new.cabinet).catalogue ≡ (C.state counter.old.cabinet).catalogue }
     ensures capabilities { counter.new.capabilities ≡ counter.old.capabilities }
     ensures told { S.told source.new ≡ S.told source.old }
+    ensures lasts { Lasting (C.outlasts counter.old.cabinet counter.new.cabinet) (C.state counter.old.cabinet) (C.state counter.new.cabinet) }
 {
+    laws_of_lasting::<C>();
     let catalogue = counter.cabinet.catalogue();
     let parts = MessageRef::of(message);
     let Ok(request) = read_request(alloc, catalogue, &counter.rest, &parts) else {

@@ -1,6 +1,7 @@
 //! The messages of one connection, served in order, and how a session ends.
 ghost use Rattle.std.specs.Prelude.{◌≡◌, OnOk, OnErr};
 ghost use Rattle.std.specs.Io.KnownBytes.{Appends};
+ghost use Rattle.cache_core.specs.Lasting.{Lasting};
 ghost use Rattle.catalog.specs.Valid.{IsValid};
 ghost use Rattle.causes.specs.Causes.{HasCause};
 ghost use Rattle.tile_service.specs.OneLine.{MayTell};
@@ -15,6 +16,7 @@ use crate::answer::{write_refusal, write_response};
 use crate::counter::Counter;
 use crate::serving::serve;
 use cabinet::keeper::Keeper;
+use cache_core::laws::laws_of_lasting;
 use http_wire::links::Link;
 use http_wire::message::{Message, Next, WireFault};
 use http_wire::reader::MessageReader;
@@ -73,7 +75,9 @@ fn respond<C: Keeper, S: Source, L: Link>(
     ensures catalogue { (C.state counter.new.cabinet).catalogue ≡ (C.state counter.old.cabinet).catalogue }
     ensures capabilities { counter.new.capabilities ≡ counter.old.capabilities }
     ensures told { S.told source.new ≡ S.told source.old }
+    ensures lasts { Lasting (C.outlasts counter.old.cabinet counter.new.cabinet) (C.state counter.old.cabinet) (C.state counter.new.cabinet) }
 {
+    laws_of_lasting::<C>();
     let outcome = serve(alloc, counter, source, message);
     let document = counter.capabilities.bytes();
     write_response(alloc, document, link, closes(message, place), &outcome)
@@ -96,7 +100,9 @@ pub fn replay_session<C: Keeper, S: Source, L: Link>(
     ensures rests { IsAtRest (C.state counter.new.cabinet) }
     ensures catalogue { (C.state counter.new.cabinet).catalogue ≡ (C.state counter.old.cabinet).catalogue }
     ensures capabilities { counter.new.capabilities ≡ counter.old.capabilities }
+    ensures lasts { Lasting (C.outlasts counter.old.cabinet counter.new.cabinet) (C.state counter.old.cabinet) (C.state counter.new.cabinet) }
 {
+    laws_of_lasting::<C>();
     let Ok(mut reader) = MessageReader::new(alloc) else {
         return SessionEnd::OutOfMemory;
     };

@@ -5,10 +5,11 @@ use Rattle.cache_core.proofs.Endings.{ending, extends_fresh, finish_cause, finis
 use Rattle.cabinet.specs.State.{State}
 use Rattle.cache_core.specs.Steps.{ends, finished}
 use Rattle.cache_core.proofs.Truth.{part_true}
+use Rattle.cache_core.proofs.Lasting.{finish_lasts}
 use Rattle.cache_core.proofs.steps.hand_in.Goals as goal
 
-pub returns : goal.returns
-returns g c told n =
+pub returns-clause-advances : goal.returns-clause-advances
+returns-clause-advances g c told n =
     let s = g.C.Keeper.state c.args.cabinet.now in let t = g.C.Keeper.state c.finish.new.self in let b = g.C.Keeper.faults c.args.cabinet.now in let a = g.C.Keeper.faults c.finish.new.self in let k = c.args.ticket in let x = c.args.tile in
     let blob = c.into_vec.result.items in let row = c.finish.ensures.finished in
     let r = c.finish.result in
@@ -20,3 +21,9 @@ returns g c told n =
     grows (finishes_catalogue s t k blob c.finish.result row) (search Rattle.std.proofs.Common.rules)
     (λ a fit l. part_true s.catalogue a k c.args.blob x c.known.ensures.valid fit.tile fit.work (c.laws_of_metatiles.ensures.part s.catalogue a x.number c.known.ensures.valid fit.tile) l)
     (λ a p fit within young. extends_fresh s.catalogue s.history t.history p a x.number grows within young)
+
+pub returns-clause-lasts : goal.returns-clause-lasts
+returns-clause-lasts g c =
+    let K = g.C.Keeper in
+    finish_lasts (K.outlasts c.args.cabinet.now c.finish.new.self) (K.state c.args.cabinet.now) (K.state c.finish.new.self) c.finish.ensures.lasts c.known.ensures c.args.ticket c.into_vec.result.items c.finish.result
+    (search Rattle.std.proofs.Common.rules) c.finish.ensures.finished

@@ -9,7 +9,7 @@ returns-in-Ok-clause-advances g c =
     (g.C.Keeper.state c.args.cabinet.now) c.args.ticket c.args.address.now x.blob x.bytes c.goes_on.result c.requires (search rules) (search rules) (search rules) (search rules) (search rules)
 
 pub returns-in-Err-Memory-clause-advances : goal.returns-in-Err-Memory-clause-advances
-returns-in-Err-Memory-clause-advances g c = c.run_out.ensures (g.S.Source.told c.args.source.now) (g.S.Source.faults c.args.source.now) (g.S.Source.faults c.painted.new.source) c.painted.ensures.later
+returns-in-Err-Memory-clause-advances g c = c.run_out.ensures.advances (g.S.Source.told c.args.source.now) (g.S.Source.faults c.args.source.now) (g.S.Source.faults c.painted.new.source) c.painted.ensures.later
 
 pub returns-in-Err-Source-clause-advances : goal.returns-in-Err-Source-clause-advances
 returns-in-Err-Source-clause-advances g c =

@@ -3,7 +3,7 @@ use Rattle.tile_service.proofs.Scheduling.{reads_start, reads_next, run_cut, run
 use Rattle.tile_service.proofs.run_lines.run_lines.Goals as goal
 
 pub loop-rest-init : goal.loop-rest-init
-loop-rest-init g c = record { so_far = reads_start c.requires.free; valid = refl; capabilities = refl; few = omega arith }
+loop-rest-init g c = record { so_far = reads_start c.requires.free; valid = refl; capabilities = refl; lasts = c.laws_of_lasting.ensures.itself c.args.counter.now.cabinet; few = omega arith }
 
 pub returns-in-Refused-clause-run : goal.returns-in-Refused-clause-run
 returns-in-Refused-clause-run g c =
@@ -44,6 +44,7 @@ loop-rest-preserved g c =
       });
       valid = c.run_line.ensures.catalogue ∙ i.valid;
       capabilities = c.run_line.ensures.capabilities ∙ i.capabilities;
+      lasts = c.laws_of_lasting.ensures.on _ _ _ i.lasts c.run_line.ensures.lasts;
       few = omega (arith, i.few, c.split_line.ensures.shorter);
     }
 

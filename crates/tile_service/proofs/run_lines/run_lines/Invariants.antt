@@ -1,4 +1,5 @@
 use Rattle.std.proofs.Common.{◌≡◌, ◌+◌, ◌≤◌, length}
+use Rattle.cache_core.specs.Lasting.{Lasting}
 use Rattle.tile_service.proofs.Scheduling.{Moment, Reads}
 use Rattle.tile_service.proofs.run_lines.run_lines.Given as goal
 
@@ -30,6 +31,7 @@ invariant-loop-rest g l =
       so_far : Reads start now l.text l.lines l.rest;
       valid : (g.C.Keeper.state l.counter.cabinet).catalogue ≡ (g.C.Keeper.state l.initial.counter.cabinet).catalogue;
       capabilities : l.counter.capabilities ≡ l.initial.counter.capabilities;
+      lasts : Lasting (g.C.Keeper.outlasts l.initial.counter.cabinet l.counter.cabinet) (g.C.Keeper.state l.initial.counter.cabinet) (g.C.Keeper.state l.counter.cabinet);
       few : l.lines + length l.rest ≤ length l.text;
     }
 

@@ -3,8 +3,8 @@ use Rattle.tile_service.specs.Run.{world_of}
 use Rattle.tile_service.proofs.Closing.{closes_at, schedules_to}
 use Rattle.tile_service.proofs.schedule.run_schedule.Goals as goal
 
-pub returns : goal.returns
-returns g c =
+pub returns-clause-schedules : goal.returns-clause-schedules
+returns-clause-schedules g c =
     let r = c.run_lines-end.ensures.run in
     rw c.end_of.ensures (schedules_to _ _ _ _ _ c.run_lines-end.result (record {
       text = c.in-Ok.text.items;

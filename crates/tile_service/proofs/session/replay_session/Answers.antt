@@ -16,6 +16,7 @@ serving-init g c =
       rests = c.requires.rest;
       catalogue = refl;
       capabilities = refl;
+      lasts = c.laws_of_lasting.ensures.itself c.args.counter.now.cabinet;
       reads = omega arith;
       writes = omega arith;
     }
@@ -110,6 +111,7 @@ serving-preserved g c =
       rests = c.respond.ensures.rests;
       catalogue = c.respond.ensures.catalogue ∙ i.catalogue;
       capabilities = c.respond.ensures.capabilities ∙ i.capabilities;
+      lasts = c.laws_of_lasting.ensures.on _ _ _ i.lasts c.respond.ensures.lasts;
       reads = omega (arith, i.reads, read, c.respond.ensures.read_faults);
       writes = omega (arith, i.writes, c.next.ensures.put_faults, written);
     }

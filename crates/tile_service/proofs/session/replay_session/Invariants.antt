@@ -1,4 +1,5 @@
 use Rattle.std.proofs.Common.{◌≡◌, ◌≤◌, None}
+use Rattle.cache_core.specs.Lasting.{Lasting}
 use Rattle.http_wire.specs.Answers.{IsPartOfTake}
 use Rattle.tile_service.specs.Session.{IsAtRest}
 use Rattle.tile_service.proofs.Replaying.{IsUnderWay, Moment}
@@ -31,6 +32,7 @@ invariant-serving g l =
       rests : IsAtRest (g.C.Keeper.state l.counter.cabinet);
       catalogue : (g.C.Keeper.state l.counter.cabinet).catalogue ≡ (g.C.Keeper.state l.initial.counter.cabinet).catalogue;
       capabilities : l.counter.capabilities ≡ l.initial.counter.capabilities;
+      lasts : Lasting (g.C.Keeper.outlasts l.initial.counter.cabinet l.counter.cabinet) (g.C.Keeper.state l.initial.counter.cabinet) (g.C.Keeper.state l.counter.cabinet);
       reads : g.L.ByteSource.faults l.initial.link ≤ g.L.ByteSource.faults l.link;
       writes : g.L.ByteSink.faults l.initial.link ≤ g.L.ByteSink.faults l.link;
     }
