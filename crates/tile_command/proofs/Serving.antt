@@ -5,8 +5,6 @@ use Rattle.catalog.specs.declared.catalogue.Catalogue.{Catalogue}
 use Rattle.clock.specs.Readings.{Readings}
 use Rattle.command_words.specs.declared.words.Word.{Word}
 use Rattle.command_words.specs.declared.words.Word.TheVariants as word
-use Rattle.http_wire.specs.declared.inputs.InputEnd.{InputEnd}
-use Rattle.http_wire.specs.declared.inputs.InputEnd.TheVariants as input_end
 use Rattle.tile_drill.specs.declared.drill.DrillEnd.{DrillEnd}
 use Rattle.tile_drill.specs.declared.drill.DrillEnd.TheVariants as drill_end
 use Rattle.tile_service.specs.declared.schedule.ScheduleEnd.{ScheduleEnd}
@@ -18,12 +16,13 @@ use Rattle.tile_service.specs.Outside.{InputChange, Outside}
 use Rattle.tile_service.specs.Run.{World}
 use Rattle.tile_service.specs.Schedules.{Schedules}
 use Rattle.tile_service.specs.SessionEnds.{HasSession}
-use Rattle.tile_command.specs.declared.configured.Unconfigured.{Unconfigured}
-use Rattle.tile_command.specs.declared.configured.Unconfigured.TheVariants as unconfigured
+use Rattle.command_setup.specs.declared.configured.Unconfigured.{Unconfigured}
+use Rattle.command_setup.specs.declared.configured.Unconfigured.TheVariants as unconfigured
 use Rattle.tile_command.specs.declared.status.Status.{Status}
 use Rattle.tile_command.specs.declared.status.Status.TheVariants as status
-use Rattle.tile_command.specs.Steps.{HasWorked, IsPrepared, IsRefused, OfEither, refusal_of, status_of_refusal}
-use Rattle.tile_command.specs.Command.{Configures, Describes, HasServed, NoneRun, HasScheduled, HasServedDrill, HasServedReplay, Inputs, IsDocument, IsRead, fresh_world, status_of_drill, status_of_schedule, status_of_session}
+use Rattle.tile_command.specs.Steps.{HasWorked, status_of_refusal}
+use Rattle.command_setup.specs.Setup.{IsDocument, IsPrepared, IsRead, IsRefused, OfEither}
+use Rattle.tile_command.specs.Command.{HasServed, NoneRun, HasScheduled, HasServedDrill, HasServedReplay, Inputs, fresh_world, status_of_drill, status_of_schedule, status_of_session}
 
 -- STATUSES THAT AREN'T TOLD OF WORDS
 

@@ -1,14 +1,8 @@
 -- What a command came to.
-use Rattle.std.specs.Prelude.{ℕ, ◌≡◌, ◌≤◌, ◌+◌, ◌⊎◌, List, length, Option, Some, None, Result, Ok, Err, ⊤}
-use Rattle.std.specs.Io.KnownBytes.{Consumes, IsAtEnd}
+use Rattle.std.specs.Prelude.{ℕ, ◌⊎◌, List, Option, Some, None, Ok, Err, ⊤}
 use Rattle.cabinet.specs.State.{State, IsKnown, fresh_state}
 use Rattle.catalog.specs.declared.catalogue.Catalogue.{Catalogue}
-use Rattle.catalog.specs.declared.fault.CatalogueFault.{CatalogueFault}
-use Rattle.causes.specs.Causes.{Rose}
 use Rattle.clock.specs.Readings.{Readings}
-use Rattle.config_text.specs.Text.{catalogue_of}
-use Rattle.http_wire.specs.declared.inputs.InputEnd.{InputEnd}
-use Rattle.http_wire.specs.declared.inputs.InputEnd.TheVariants as input_end
 use Rattle.tile_service.specs.declared.schedule.ScheduleEnd.{ScheduleEnd}
 use Rattle.tile_service.specs.declared.schedule.ScheduleEnd.TheVariants as end
 use Rattle.tile_drill.specs.declared.drill.DrillEnd.{DrillEnd}
@@ -22,12 +16,9 @@ use Rattle.tile_service.specs.Schedules.{IsTooLong, Schedules}
 use Rattle.tile_service.specs.SessionEnds.{HasSession}
 use Rattle.tile_command.specs.declared.status.Status.{Status}
 use Rattle.tile_command.specs.declared.status.Status.TheVariants as status
-use Rattle.tile_command.specs.declared.configured.Unconfigured.{Unconfigured}
-use Rattle.tile_command.specs.declared.configured.Unconfigured.TheVariants as unconfigured
-use Rattle.tile_command.specs.declared.configured.TheConstants.{CATALOGUE_LIMIT}
+use Rattle.command_setup.specs.Setup.{HasRisen, IsDocument, IsRead, IsTooLongDocument, IsTooLongText}
 use Rattle.command_words.specs.declared.words.Word.{Word}
 use Rattle.command_words.specs.declared.words.Word.TheVariants as word
-use Rattle.tile_command.specs.declared.described.TheConstants.{CAPABILITIES_LIMIT}
 
 -- THE COMMAND
 

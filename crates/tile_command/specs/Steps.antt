@@ -1,12 +1,8 @@
--- What the steps of a command come to: what is made ready for the work, and the work.
-use Rattle.std.specs.Prelude.{◌≡◌, ◌⊎◌, List, ℕ, Ok, Err, ⊤}
-use Rattle.cabinet.specs.State.{State, IsKnown, fresh_state}
-use Rattle.catalog.specs.declared.catalogue.Catalogue.{Catalogue}
-use Rattle.clock.specs.Readings.{Readings}
+-- What the steps of a command come to: a refusal before the work, and the work.
+use Rattle.std.specs.Prelude.{◌≡◌, List, ℕ}
+use Rattle.cabinet.specs.State.{State, IsKnown}
 use Rattle.command_words.specs.declared.words.Word.{Word}
 use Rattle.command_words.specs.declared.words.Word.TheVariants as word
-use Rattle.http_wire.specs.declared.inputs.InputEnd.{InputEnd}
-use Rattle.http_wire.specs.declared.inputs.InputEnd.TheVariants as input_end
 use Rattle.tile_drill.specs.declared.drill.DrillEnd.{DrillEnd}
 use Rattle.tile_drill.specs.Drill.{Drills}
 use Rattle.tile_service.specs.declared.schedule.ScheduleEnd.{ScheduleEnd}
@@ -15,11 +11,11 @@ use Rattle.tile_service.specs.Outside.{InputChange, Outside}
 use Rattle.tile_service.specs.Run.{World, free_seats, world_of}
 use Rattle.tile_service.specs.Schedules.{Schedules}
 use Rattle.tile_service.specs.SessionEnds.{HasSession}
-use Rattle.tile_command.specs.declared.configured.Unconfigured.{Unconfigured}
-use Rattle.tile_command.specs.declared.configured.Unconfigured.TheVariants as unconfigured
+use Rattle.command_setup.specs.declared.configured.Unconfigured.{Unconfigured}
+use Rattle.command_setup.specs.declared.configured.Unconfigured.TheVariants as unconfigured
 use Rattle.tile_command.specs.declared.status.Status.{Status}
 use Rattle.tile_command.specs.declared.status.Status.TheVariants as status
-use Rattle.tile_command.specs.Command.{HasRisen, IsDocument, IsRead, IsTooLongDocument, IsTooLongText, status_of_drill, status_of_schedule, status_of_session}
+use Rattle.tile_command.specs.Command.{status_of_drill, status_of_schedule, status_of_session}
 
 -- the status of a refusal
 abbrev pub status_of_refusal : Unconfigured → Status

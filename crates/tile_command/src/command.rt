@@ -7,12 +7,12 @@ ghost use Rattle.tile_command.specs.Command.{HasServed, status_of_drill, status_
 ghost use Rattle.tile_command.specs.Steps.{HasWorked, status_of_refusal};
 ghost use Rattle.command_words.specs.Words.{word_of};
 
-use crate::configured::Unconfigured;
-use crate::prepared::prepared;
 use crate::replay::replay;
 use crate::status::Status;
 use cabinet::cabinet::Cabinet;
 use clock::clock::Clock;
+use command_setup::configured::Unconfigured;
+use command_setup::prepared::prepared;
 use command_words::words::{Word, word_of};
 use exact_ratio::words::Words;
 use http_wire::streams::{ByteSink, ByteSource};

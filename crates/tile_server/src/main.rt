@@ -8,6 +8,7 @@
 mod input;
 
 use clock::clock::Clock;
+use command_setup::configured::{CATALOGUE_LIMIT, source_number};
 use exact_ratio::words::Words;
 use http_wire::file_source::FileSource;
 use http_wire::inputs::{InputEnd, read_all};
@@ -22,7 +23,6 @@ use std::process::ExitCode;
 use std::rt::{Env, Files};
 use std::{env, io};
 use tile_command::command::run_command;
-use tile_command::configured::{CATALOGUE_LIMIT, source_number};
 use tile_command::status::Status;
 
 const HELP: &str = "tile_server: a cache of map tiles (the tile part of OGC WMTS 1.0.0)

@@ -1,6 +1,7 @@
 //! One run of the command over memory forms, and how it differs from what is expected.
 use crate::fakes::{Fake, Fakes};
 use clock::clock::Clock;
+use command_setup::configured::source_number;
 use exact_ratio::words::Words;
 use http_wire::memory_sink::MemorySink;
 use http_wire::memory_source::MemorySource;
@@ -9,7 +10,6 @@ use source_render::scripted::Scripted;
 use std::alloc::{AllocError, Global};
 use std::io;
 use tile_command::command::run_command;
-use tile_command::configured::source_number;
 
 /// What a command is given: its words, one a line, the bytes that it reads, the moments that its clock gives, and how its
 /// objects behave.

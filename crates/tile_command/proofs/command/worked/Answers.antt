@@ -5,7 +5,7 @@ use Rattle.tile_command.proofs.command.worked.Goals as goal
 pub returns-in-Schedule : goal.returns-in-Schedule
 returns-in-Schedule g c =
     rw c.in-Schedule.is
-    (c.run_schedule-end.result, c.status_of_schedule.ensures, _, c.known.ensures, less_stays _ _ _ _ (λ h. (h.0, h.1)) _ _ c.run_schedule-end.result c.run_schedule-end.ensures)
+    (c.run_schedule-end.result, c.status_of_schedule.ensures, _, c.known.ensures, less_stays _ _ _ _ (λ h. (h.0, h.1)) _ _ c.run_schedule-end.result c.run_schedule-end.ensures.schedules)
 
 pub returns-in-Replay : goal.returns-in-Replay
 returns-in-Replay g c = rw c.in-Replay.is (c.replay-end.result, c.status_of_session.ensures, _, c.known-in-Replay.ensures, c.replay-end.ensures)
