@@ -52,7 +52,6 @@ pub fn expire<C: Keeper>(alloc: Global, cabinet: &mut C) -> Outcome
     ensures later { C.faults cabinet.old ≤ C.faults cabinet.new }
     ensures lasts { Lasting (C.outlasts cabinet.old cabinet.new) (C.state cabinet.old) (C.state cabinet.new) }
 {
-    laws_of_lasting::<C>();
     laws_of_rows();
     cabinet.known();
     match cabinet.expire() {

@@ -15,7 +15,6 @@ use crate::counter::Counter;
 use crate::perform::perform;
 use crate::seats::Seat;
 use cabinet::keeper::Keeper;
-use cache_core::laws::laws_of_lasting;
 use http_wire::streams::ByteSink;
 use source_render::source::Source;
 use std::alloc::Global;
@@ -52,7 +51,6 @@ pub fn run_line<C: Keeper, S: Source, O: ByteSink>(
     ensures told { S.told source.new ≡ S.told source.old }
     ensures lasts { Lasting (C.outlasts counter.old.cabinet counter.new.cabinet) (C.state counter.old.cabinet) (C.state counter.new.cabinet) }
 {
-    laws_of_lasting::<C>();
     match perform(alloc, counter, seats, source, n, line) {
         ActionEnd::Refused => LineEnd::Refused,
         ActionEnd::Silent => LineEnd::Done(None),

@@ -145,7 +145,6 @@ fn leave<C: Keeper>(cabinet: &mut C, pending: Pending)
     ensures faults { C.faults cabinet.new ≡ C.faults cabinet.old }
     ensures lasts { Lasting (C.outlasts cabinet.old cabinet.new) (C.state cabinet.old) (C.state cabinet.new) }
 {
-    laws_of_lasting::<C>();
     let Pending {
         start: _,
         address: _,

@@ -77,7 +77,6 @@ fn respond<C: Keeper, S: Source, L: Link>(
     ensures told { S.told source.new ≡ S.told source.old }
     ensures lasts { Lasting (C.outlasts counter.old.cabinet counter.new.cabinet) (C.state counter.old.cabinet) (C.state counter.new.cabinet) }
 {
-    laws_of_lasting::<C>();
     let outcome = serve(alloc, counter, source, message);
     let document = counter.capabilities.bytes();
     write_response(alloc, document, link, closes(message, place), &outcome)
