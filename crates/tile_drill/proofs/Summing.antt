@@ -61,6 +61,11 @@ module _ {told : Option ℕ} {renders : FaultCounts} {number : ℕ} {w last t : 
       → Drills (outside told renders (record { before = before; after = after }) from to) ⊤ number w t WriteFault
   drills_cut from to before after sent rose = (h.0, last, h.1, closes, subst (AppendsFront from to) its_text sent, rose)
 
+-- memory ran out for a line
+pub drills_short : {Stays : Type 0} {told : Option ℕ} {renders : FaultCounts} {number : ℕ} {w last t : World} → HasMade told renders w number last made_end.OutOfMemory → t ≡ closed last → Stays
+    → Drills (outside told renders no_faults None None) Stays number w t OutOfMemory
+drills_short {last = last} h closes stays = (h.0, h.1, h.2, last, h.3, closes, stays)
+
 none_left : (s : State) (n : ℕ) → fold left_by s (replicate n None) ≡ s
 none_left s zero = refl
 none_left s (suc n) = none_left s n
