@@ -68,11 +68,15 @@ Describes i (Err input_end.OutOfMemory) = ⊤
 
 -- WHAT IS MADE READY
 
--- both files were read, and nothing has happened in the cabinet, which is one of the catalogue with the clock
-pub record IsPrepared (catalogue capabilities : InputChange) (clock : Readings) (cabinet : State) (document : List ℕ) : Type 0 where
-  pub of : Catalogue
+-- both files were read: the catalogue, and after it the capabilities document
+pub record AreRead (catalogue capabilities : InputChange) (of : Catalogue) (document : List ℕ) : Type 0 where
   pub read : IsRead catalogue (Ok of)
   pub describes : IsDocument capabilities document
+
+-- so they were, and nothing has happened in the cabinet, which is one of the catalogue with the clock
+pub record IsPrepared (catalogue capabilities : InputChange) (clock : Readings) (cabinet : State) (document : List ℕ) : Type 0 where
+  pub of : Catalogue
+  pub are : AreRead catalogue capabilities of document
   pub fresh : cabinet ≡ fresh_state of clock
 
 -- this holds of the catalogue's input, and the capabilities' stayed as it was; or the catalogue was read, and this holds of the capabilities'

@@ -1,10 +1,10 @@
-//! What a command works with, made ready: the catalogue and the capabilities document are read, and the cabinet is made.
+//! What a command works with, made ready: the catalogue and the capabilities document are read, and a cabinet in memory is made.
 ghost use Rattle.std.specs.Prelude.{◌≡◌, IfErr, IfOk};
 ghost use Rattle.cabinet.specs.State.{fresh_state};
 ghost use Rattle.catalog.specs.Valid.{IsValid};
 ghost use Rattle.tile_service.specs.Outside.{InputChange};
 ghost use Rattle.tile_service.specs.Session.{IsAtRest};
-ghost use Rattle.command_setup.specs.Setup.{IsPrepared, IsRefused, refusal_of};
+ghost use Rattle.command_setup.specs.Setup.{AreRead, IsPrepared, IsRefused, refusal_of};
 
 use crate::configured::{Unconfigured, configured};
 use crate::described::described;
@@ -51,6 +51,32 @@ fn refusal_of(end: InputEnd) -> Unconfigured
     }
 }
 
+/// The catalogue that is read, and the capabilities document, which is read after it.
+pub fn both_read<I: ByteSource>(
+    alloc: Global,
+    catalogue: &mut I,
+    capabilities: &mut I,
+) -> Result<(Catalogue, Words), Unconfigured>
+    ensures read { IfOk result (λ both. AreRead
+        (record { reads = record { before = I.faults catalogue.old; after = I.faults catalogue.new }; from = I.left catalogue.old; to = I.left catalogue.new })
+        (record { reads = record { before = I.faults capabilities.old; after = I.faults capabilities.new }; from = I.left capabilities.old; to = I.left capabilities.new })
+        both.0 both.1) }
+    ensures refused { IfErr result (λ refusal. IsRefused
+        (record { reads = record { before = I.faults catalogue.old; after = I.faults catalogue.new }; from = I.left catalogue.old; to = I.left catalogue.new })
+        (record { reads = record { before = I.faults capabilities.old; after = I.faults capabilities.new }; from = I.left capabilities.old; to = I.left capabilities.new })
+        (capabilities.new ≡ capabilities.old) refusal) }
+    ensures valid { IfOk result (λ both. IsValid both.0) }
+{
+    let catalogue = match configured(alloc, catalogue) {
+        Ok(catalogue) => catalogue,
+        Err(refusal) => return Err(refusal),
+    };
+    match described(alloc, capabilities) {
+        Ok(capabilities) => Ok((catalogue, capabilities)),
+        Err(end) => Err(refusal_of(end)),
+    }
+}
+
 /// A cabinet in memory of the catalogue that is read, with a clock, beside the capabilities document, which is read after it.
 pub fn prepared<I: ByteSource>(
     alloc: Global,
@@ -69,13 +95,9 @@ pub fn prepared<I: ByteSource>(
     ensures valid { IfOk result (λ counter. IsValid counter.cabinet.catalogue) }
     ensures rest { IfOk result (λ counter. IsAtRest counter.cabinet) }
 {
-    let catalogue = match configured(alloc, catalogue) {
-        Ok(catalogue) => catalogue,
+    let (catalogue, capabilities) = match both_read(alloc, catalogue, capabilities) {
+        Ok(both) => both,
         Err(refusal) => return Err(refusal),
-    };
-    let capabilities = match described(alloc, capabilities) {
-        Ok(capabilities) => capabilities,
-        Err(end) => return Err(refusal_of(end)),
     };
     match counter_of(alloc, catalogue, capabilities, clock) {
         Ok(counter) => Ok(counter),

@@ -1,7 +1,7 @@
 //! The words of the command line: what they ask for.
 //!
-//! Promises: `word_of` reads the words of `schedule`, `replay` and `drill` (`specs/Words.antt`); `serve_words` reads those of a
-//! server (`specs/ServeWords.antt`). It does nothing with them.
+//! Promises: `word_of` reads the words of a command that runs once, in memory or on the cache of a disk (`specs/Words.antt`);
+//! `serve_words` reads those of a server (`specs/ServeWords.antt`). It does nothing with them.
 //! Stands on wmts_kvp for numbers, and on `clap` for the words of a server.
 #![tactic(auto)]
 

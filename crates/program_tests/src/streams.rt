@@ -3,6 +3,7 @@ use clock::clock::Clock;
 use exact_ratio::words::Words;
 use http_wire::memory_sink::MemorySink;
 use http_wire::memory_source::MemorySource;
+use silent_disk::SilentDisk;
 use source_render::numbered::Numbered;
 use std::alloc::Global;
 use std::test::Fail;
@@ -38,6 +39,7 @@ fn replayed(alloc: Global, bytes: &[u8]) -> Result<(Status, Vec<u8>), Fail> {
         &mut supply(alloc, bytes)?,
         &mut output,
         &mut Numbered::new(0),
+        &mut SilentDisk::new(alloc, Vec::new(alloc), Vec::new(alloc)),
         Clock::listed(Vec::new(alloc)),
     );
     Ok((status, Vec::from_slice(alloc, output.taken())?))

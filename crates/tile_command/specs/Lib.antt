@@ -1,2 +1,5 @@
+pub mod Statuses
+pub mod Change
+pub mod Memory
+pub mod Kept
 pub mod Command
-pub mod Steps

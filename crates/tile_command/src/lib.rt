@@ -1,10 +1,15 @@
-//! The commands of `tile_server`: what its words ask for, done over streams and a source that are handed in.
+//! The commands of `tile_server`: what its words ask for, done over streams, a source and a disk that are handed in.
 //!
-//! Promises: `run_command` does what its words say, and each of its statuses has its cause (`specs/Command.antt`). It stands in
-//! a library, so that the program, the worked cases and tests call the same function.
-//! Stands on command_setup, command_words, tile_service and tile_drill, and on the crates whose types its calls name.
+//! Promises: `run_command` does what its words say, and each of its statuses has its cause (`specs/Command.antt`); at every moment of
+//! every word but `make` a crash leaves all truncations that were in force, and after it those that were acknowledged too. It stands
+//! in a library, so that the program, the worked cases and tests call the same function.
+//! Stands on command_setup, command_words, tile_service, tile_drill and kept_words, and on the crates whose types its calls name.
 #![tactic(auto)]
 
 pub mod command;
+mod ends;
+mod kept;
+mod memory;
 mod replay;
 pub mod status;
+mod upkeep;

@@ -1,9 +1,11 @@
 //! How a command ended, and how that is told to the operator: the code that the process ends with, and a line.
 use catalog::fault::CatalogueFault;
+use gate_journal::fault::OpenFault;
+use job_forms::fault::JobFault;
 use std::fmt;
 use tile_service::session::SessionEnd;
 
-/// How a command ended.
+/// How a command ended. Each means the same for all words (`specs/Statuses.antt`).
 #[derive(Clone, Copy, Debug, PartialEq, Eq)]
 pub enum Status {
     /// The input, where the words take one, was read to its end, or to the last message of its connection, and all was
@@ -17,16 +19,26 @@ pub enum Status {
     ReadFault,
     /// A write of the output failed.
     WriteFault,
+    /// The disk failed: at the opening or the making of the cache, at the one cut, or at an expiry. Within a schedule or a
+    /// connection a fault of the disk ends nothing.
+    DiskFault,
     /// This line of the schedule was refused, counted from 1; the lines before it were run and answered.
     Line(u64),
-    /// Memory ran out: before the first line of a schedule, before or between the lines of a drill, before or at the reading
-    /// of a message of a connection.
+    /// The cache isn't opened for this cause, which is neither a fault of the disk nor want of memory; or no number is left for
+    /// a cut.
+    Cache(OpenFault),
+    /// As many cuts would stay in force as may be; the cut was not made.
+    CutsFull,
+    /// Memory ran out: before the work, before the first line of a schedule, between the lines of a drill, at the reading of a
+    /// message of a connection, or at the one cut.
     OutOfMemory,
     /// The bytes of a connection ended within a message, held bytes that are no message, or went on after as many messages
     /// as a session answers. The messages before that were answered.
     Stream(SessionEnd),
-    /// The catalogue, the capabilities document or the schedule has more bytes than it may have.
+    /// The catalogue, the capabilities document, the schedule or the cover has more bytes than it may have.
     TooLong,
+    /// The cover has this fault.
+    Form(JobFault),
 }
 
 impl Status {
@@ -38,10 +50,14 @@ impl Status {
             Status::Catalogue(_) => 3,
             Status::ReadFault => 4,
             Status::WriteFault => 5,
+            Status::DiskFault => 6,
             Status::Line(_) => 7,
+            Status::Cache(_) => 8,
+            Status::CutsFull => 9,
             Status::OutOfMemory => 10,
             Status::Stream(_) => 11,
             Status::TooLong => 12,
+            Status::Form(_) => 13,
         }
     }
 }
@@ -55,10 +71,14 @@ impl fmt::Display for Status {
             Status::Catalogue(fault) => write_fault(f, *fault),
             Status::ReadFault => write!(f, "read fault"),
             Status::WriteFault => write!(f, "write fault"),
+            Status::DiskFault => write!(f, "disk fault"),
             Status::Line(line) => write!(f, "line {line}"),
+            Status::Cache(fault) => write_refusal(f, fault),
+            Status::CutsFull => write!(f, "cuts full"),
             Status::OutOfMemory => write!(f, "out of memory"),
             Status::Stream(end) => write_end(f, *end),
             Status::TooLong => write!(f, "too long"),
+            Status::Form(fault) => write_form(f, *fault),
         }
     }
 }
@@ -72,6 +92,42 @@ fn write_fault<W: fmt::Write>(f: &mut fmt::Formatter<W>, fault: CatalogueFault) 
         CatalogueFault::Duplicate(field, at) => write!(f, "catalogue duplicate {field:?} {at}"),
         CatalogueFault::Limit(field, at) => write!(f, "catalogue limit {field:?} {at}"),
         CatalogueFault::OutOfMemory => write!(f, "out of memory"),
+    }
+}
+
+/// Writes why a cache isn't opened.
+fn write_refusal<W: fmt::Write>(f: &mut fmt::Formatter<W>, fault: &OpenFault) -> fmt::Result {
+    match fault {
+        OpenFault::NotACache => write!(f, "not a cache"),
+        OpenFault::CatalogueDiffers(kept, asked) => {
+            write!(f, "catalogue differs ")?;
+            write_hex(f, kept)?;
+            write!(f, " ")?;
+            write_hex(f, asked)
+        }
+        OpenFault::BadRecord(slot) => write!(f, "bad record {slot}"),
+        OpenFault::Spent => write!(f, "openings spent"),
+        OpenFault::DiskFault => write!(f, "disk fault"),
+        OpenFault::OutOfMemory => write!(f, "out of memory"),
+    }
+}
+
+/// Writes a digest, two hexadecimal digits a byte.
+fn write_hex<W: fmt::Write>(f: &mut fmt::Formatter<W>, digest: &[u8; 32]) -> fmt::Result {
+    for byte in digest {
+        write!(f, "{byte:02x}")?;
+    }
+    Ok(())
+}
+
+/// Writes a cover's fault: its kind and its member.
+fn write_form<W: fmt::Write>(f: &mut fmt::Formatter<W>, fault: JobFault) -> fmt::Result {
+    match fault {
+        JobFault::NotJson => write!(f, "form not json "),
+        JobFault::Missing(field) => write!(f, "form missing {field:?}"),
+        JobFault::Bad(field) => write!(f, "form bad {field:?}"),
+        JobFault::Limit(field) => write!(f, "form limit {field:?}"),
+        JobFault::OutOfMemory => write!(f, "out of memory"),
     }
 }
 

@@ -1,5 +1,7 @@
--- how often an input of the program has failed
+-- How often an input of the program has failed, and its disk.
 use Rattle.std.specs.Prelude.{ℕ}
+use Rattle.tile_server.specs.declared.cache_disk.CacheDisk.{CacheDisk}
+use Rattle.tile_server.specs.declared.cache_disk.CacheDisk.TheVariants.{Absent, File as FileOfCache, Shut}
 use Rattle.tile_server.specs.declared.input.Input.{Input}
 use Rattle.tile_server.specs.declared.input.Input.TheVariants.{File, Read, Stdin}
 
@@ -7,3 +9,8 @@ abbrev pub faults_of : Input → ℕ
 faults_of (File file) = file.faults
 faults_of (Read bytes) = bytes.faults
 faults_of (Stdin stdin) = stdin.faults
+
+abbrev pub faults_of_disk : CacheDisk → ℕ
+faults_of_disk (FileOfCache file) = file.faults
+faults_of_disk (Absent faults) = faults
+faults_of_disk (Shut faults) = faults

@@ -5,10 +5,13 @@
 //! Stands on tile_command, and on the crates whose files and streams it opens.
 #![tactic(auto)]
 
+mod cache_disk;
 mod input;
 
+use cache_disk::CacheDisk;
 use clock::clock::Clock;
 use command_setup::configured::{CATALOGUE_LIMIT, source_number};
+use command_words::words::{UpkeepWord, Word, word_of};
 use exact_ratio::words::Words;
 use http_wire::file_source::FileSource;
 use http_wire::inputs::{InputEnd, read_all};
@@ -27,23 +30,32 @@ use tile_command::status::Status;
 
 const HELP: &str = "tile_server: a cache of map tiles (the tile part of OGC WMTS 1.0.0)
 
-tile_server schedule < LINES    runs the lines of a schedule on a cabinet in memory, and writes the answers
-tile_server replay < BYTES      serves the bytes as those of one connection on such a cabinet, and writes the responses
-tile_server drill NUMBER        runs 4096 lines that the number makes on such a cabinet, and writes a summary
-tile_server --help              writes this text
-tile_server --version           writes the version
+tile_server schedule < LINES         runs the lines of a schedule on a cabinet in memory, and writes the answers
+tile_server replay < BYTES           serves the bytes as those of one connection on such a cabinet, and writes the responses
+tile_server drill NUMBER             runs 4096 lines that the number makes on such a cabinet, and writes a summary
+tile_server make                     makes an empty cache, whatever stood in its file
+tile_server schedule --kept < LINES  runs the lines on that cache
+tile_server replay --kept < BYTES    serves the bytes on that cache
+tile_server truncate < COVER         makes one truncation, of the cover, and writes its number
+tile_server expire                   drops metatiles until no quota is exceeded, and writes how many
+tile_server usage                    writes what is kept, layer by layer, and how many truncations are in force
+tile_server --help                   writes this text
+tile_server --version                writes the version
 
-It reads three files of the folder in which it is run:
+It works with these files of the folder in which it is run:
   catalogue.json     layers, grids, styles, limits; where it is absent, the built-in catalogue of one layer, demo
   capabilities.xml   the capabilities document that GetCapabilities answers; where it is absent, one of no bytes
   source.grid        the cells of which pictures are made; where it is absent, the pictures of a formula
+  cache.disk         the cache; `make` makes it, and one program at a time may work on it
 
 It ends with a code, and all but the first are told by a line on standard error:
-   0  done                                    7  line N: this line of the schedule was refused
-   2  usage: the words are no command        10  out of memory
-   3  catalogue KIND FIELD INDEX: its fault  11  stream ..: the connection's bytes broke off
-   4  read fault                             12  too long: a file or the input is above its limit
-   5  write fault
+   0  done                                    8  not a cache, catalogue differs KEPT ASKED,
+   2  usage: the words are no command            bad record SLOT, openings spent
+   3  catalogue KIND FIELD INDEX: its fault   9  cuts full: the truncation was not made
+   4  read fault                             10  out of memory
+   5  write fault                            11  stream ..: the connection's bytes broke off
+   6  disk fault                             12  too long: a file or the input is above its limit
+   7  line N: this line was refused          13  form KIND FIELD: the cover's fault
 
 docs/OPERATING.md of its repository has the files, the lines and what to do at each fault; docs/PROMISES.md what is proved.
 ";
@@ -58,6 +70,9 @@ const CAPABILITIES: &str = "capabilities.xml";
 
 /// The file of cells of that folder, which makes the pictures where it is there.
 const CELLS: &str = "source.grid";
+
+/// The cache, a file of that folder.
+const CACHE: &str = "cache.disk";
 
 /// The most bytes of the catalogue that the command takes at a time.
 const PIECE: usize = 4_096;
@@ -95,6 +110,15 @@ fn words_of(rt: &(impl Env + AllocGlobal)) -> io::Result<Vec<Words>> {
     Ok(words)
 }
 
+/// The cache's file, opened for the words that work on it, and made by those that make it.
+fn cache_for(rt: &impl Files<File = File>, words: &[Words]) -> CacheDisk {
+    match word_of(words) {
+        Some(Word::Kept(_)) => CacheDisk::open(rt, CACHE, false),
+        Some(Word::Upkeep(word)) => CacheDisk::open(rt, CACHE, word == UpkeepWord::Make),
+        Some(Word::InMemory(_)) | None => CacheDisk::Absent(0),
+    }
+}
+
 fn main(rt: HostRuntime) -> ExitCode {
     let words = match words_of(&rt) {
         Ok(words) => words,
@@ -124,6 +148,7 @@ fn main(rt: HostRuntime) -> ExitCode {
     let mut input = Input::Stdin(StdinSource::new(rt.stdin()));
     let mut output = StdoutSink::new(rt.stdout());
     let mut source = AnySource::open(&rt, CELLS, source);
+    let mut disk = cache_for(&rt, words.as_slice());
     let status = run_command(
         rt.alloc(),
         words.as_slice(),
@@ -132,6 +157,7 @@ fn main(rt: HostRuntime) -> ExitCode {
         &mut input,
         &mut output,
         &mut source,
+        &mut disk,
         Clock::system(rt),
     );
     ended(&rt, status)

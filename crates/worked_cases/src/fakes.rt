@@ -1,11 +1,12 @@
 //! How the objects that a command is handed behave, as the lines of a step's file `fakes` say.
+use crate::disk_fake::DiskFake;
 use std::alloc::{AllocError, Global};
 
 /// The most bytes of a take, where a step doesn't say it.
 const USUAL_PIECE: u64 = 4_096;
 
 /// How a stream of bytes behaves.
-#[derive(Debug, Drop)]
+#[derive(Drop)]
 pub struct Fake {
     /// The most bytes of a take.
     pub piece: u64,
@@ -45,25 +46,27 @@ impl Fake {
 }
 
 /// How the objects of a step behave.
-#[derive(Debug, Drop)]
+#[derive(Drop)]
 pub struct Fakes {
     pub catalogue: Fake,
     pub capabilities: Fake,
     pub input: Fake,
     pub output: Fake,
     pub source: Fake,
+    pub disk: DiskFake,
     pub expected: Fake,
 }
 
 impl Fakes {
     /// Objects of which none fails.
-    fn new(alloc: Global) -> Fakes {
+    pub fn new(alloc: Global) -> Fakes {
         Fakes {
             catalogue: Fake::new(alloc),
             capabilities: Fake::new(alloc),
             input: Fake::new(alloc),
             output: Fake::new(alloc),
             source: Fake::new(alloc),
+            disk: DiskFake::new(alloc),
             expected: Fake::new(alloc),
         }
     }
@@ -98,6 +101,7 @@ impl Fakes {
             "input" => self.input.take_in(verb, number),
             "output" => self.output.take_in(verb, number),
             "source" => self.source.take_in(verb, number),
+            "disk" => self.disk.take_in(verb, number),
             "expected" => self.expected.take_in(verb, number),
             _ => Ok(false),
         }

@@ -2,15 +2,18 @@
 //! what differs from what the step's files expect. The folder is the one that its first word names, or else the current one.
 //!
 //! A case is a folder, and a step of it is a folder with the words of a command, its input and its expected output and
-//! status, as files that `step.rt` names. Promises: none that a clause says; it is a test whose cases are data.
-//! Stands on tile_command, and on the memory forms of its streams, its source and its clock.
+//! status, as files that `step.rt` names. The steps of a case have one disk, which each of them finds as the one before it left it.
+//! Promises: none that a clause says; it is a test whose cases are data.
+//! Stands on tile_command, and on the memory forms of its streams, its source, its disk and its clock.
 #![tactic(auto)]
 
+mod disk_fake;
 mod fakes;
 mod folders;
 mod moments;
 mod run;
 mod step;
+mod stops;
 mod tally;
 
 use std::fs::File;
@@ -18,9 +21,11 @@ use std::io::Print;
 use std::process::ExitCode;
 use std::rt::{Env, Files};
 use std::{env, io};
+use step::{Ran, run_step};
 use tally::Tally;
 
-/// Runs the steps of a case in the order of their names, prints the line of each that differs, and counts them.
+/// Runs the steps of a case in the order of their names, prints the line of each that differs, and counts them. The first one finds
+/// the disk that the case's file has, or else an empty one.
 fn run_case<R: Files<File = File> + Print + AllocGlobal + Clone + Drop>(
     rt: &R,
     folder: &str,
@@ -28,12 +33,15 @@ fn run_case<R: Files<File = File> + Print + AllocGlobal + Clone + Drop>(
 ) -> io::Result<Tally> {
     let mut tally = Tally::new();
     let inside = format!(in rt.alloc(); "{folder}/{case}")?;
+    let first = format!(in rt.alloc(); "{inside}/disk")?;
+    let mut left = folders::bytes_or_none(rt, first.as_str())?;
     for step in folders::names_in(rt, inside.as_str())? {
-        let differs = step::difference_of(rt, inside.as_str(), step.as_str())?;
-        tally.count(differs.is_none());
-        if let Some(difference) = differs {
+        let Ran { difference, disk } = run_step(rt, inside.as_str(), step.as_str(), left)?;
+        tally.count(difference.is_none());
+        if let Some(difference) = difference {
             println!(rt; "{case}/{step}: {difference}")?;
         }
+        left = disk;
     }
     println!(rt; "{case}: {tally}")?;
     Ok(tally)

@@ -2,17 +2,20 @@
 use crate::fakes::{Fake, Fakes};
 use clock::clock::Clock;
 use command_setup::configured::source_number;
+use disk_model::disk::Disk;
+use disk_model::pick::Pick;
 use exact_ratio::words::Words;
 use http_wire::memory_sink::MemorySink;
 use http_wire::memory_source::MemorySource;
 use http_wire::streams::ByteSource;
+use silent_disk::SilentDisk;
 use source_render::scripted::Scripted;
 use std::alloc::{AllocError, Global};
 use std::io;
 use tile_command::command::run_command;
 
-/// What a command is given: its words, one a line, the bytes that it reads, the moments that its clock gives, and how its
-/// objects behave.
+/// What a command is given beside its disk: its words, one a line, the bytes that it reads, the moments that its clock gives, and how
+/// its objects behave.
 #[derive(Drop)]
 pub struct Given {
     pub words: String,
@@ -23,14 +26,27 @@ pub struct Given {
     pub fakes: Fakes,
 }
 
+/// What has to come of a command.
+#[derive(Drop)]
+pub struct Expected {
+    /// The code and the line of its status.
+    pub status: String,
+    pub output: Vec<u8>,
+    /// The bytes with which its disk has to begin.
+    pub front: Vec<u8>,
+}
+
 /// What a command came to.
 #[derive(Drop)]
 pub struct Outcome {
     /// The code and the line of its status.
     status: String,
-    output: Vec<u8>,
+    pub output: Vec<u8>,
     /// Whether a take of the input was due to fail next, and didn't.
     took_more: bool,
+    disk: SilentDisk,
+    /// How many bytes the disk has to hold, where that is said.
+    length: Option<u64>,
 }
 
 /// The words of a command, one a line.
@@ -43,65 +59,53 @@ fn words_in(alloc: Global, text: &str) -> Result<Vec<Words>, AllocError> {
 }
 
 /// A stream of these bytes that behaves so.
-fn stream(alloc: Global, bytes: Vec<u8>, fake: &Fake) -> Result<MemorySource, AllocError> {
+fn stream(alloc: Global, bytes: &[u8], fake: &Fake) -> Result<MemorySource, AllocError> {
+    let bytes = Vec::from_slice(alloc, bytes)?;
     let fails = Vec::from_slice(alloc, fake.fails.as_slice())?;
     let piece = usize::try_from(fake.piece).unwrap_or(usize::MAX);
     Ok(MemorySource::new(bytes, piece, fails))
 }
 
-/// Runs the command.
-pub fn came_to(alloc: Global, given: Given) -> io::Result<Outcome> {
-    let Given {
-        words,
-        catalogue,
-        capabilities,
-        input,
-        moments,
-        fakes,
-    } = given;
-    let words = words_in(alloc, words.as_str())?;
-    let number = source_number(alloc, catalogue.as_slice());
-    let mut catalogue = stream(alloc, catalogue, &fakes.catalogue)?;
-    let mut capabilities = stream(alloc, capabilities, &fakes.capabilities)?;
-    let mut input = stream(alloc, input, &fakes.input)?;
-    let mut output = MemorySink::new(
-        alloc,
-        Vec::from_slice(alloc, fakes.output.fails.as_slice())?,
-    );
-    let mut source = Scripted::new(
-        number,
-        Vec::from_slice(alloc, fakes.source.fails.as_slice())?,
-    );
+/// Runs the command over a disk.
+pub fn came_to(alloc: Global, given: &Given, disk: SilentDisk) -> io::Result<Outcome> {
+    let fakes = &given.fakes;
+    let words = words_in(alloc, given.words.as_str())?;
+    let mut input = stream(alloc, given.input.as_slice(), &fakes.input)?;
+    let output_fails = Vec::from_slice(alloc, fakes.output.fails.as_slice())?;
+    let mut output = MemorySink::new(alloc, output_fails);
+    let number = source_number(alloc, given.catalogue.as_slice());
+    let source_fails = Vec::from_slice(alloc, fakes.source.fails.as_slice())?;
+    let mut disk = disk;
     let status = run_command(
         alloc,
         words.as_slice(),
-        &mut catalogue,
-        &mut capabilities,
+        &mut stream(alloc, given.catalogue.as_slice(), &fakes.catalogue)?,
+        &mut stream(alloc, given.capabilities.as_slice(), &fakes.capabilities)?,
         &mut input,
         &mut output,
-        &mut source,
-        Clock::listed(moments),
+        &mut Scripted::new(number, source_fails),
+        &mut disk,
+        Clock::listed(Vec::from_slice(alloc, given.moments.as_slice())?),
     );
     let code = status.code();
     Ok(Outcome {
         status: format!(in alloc; "{code} {status}")?,
         output: Vec::from_slice(alloc, output.taken())?,
         took_more: fakes.input.fails_next && input.take(&mut [0]).is_ok(),
+        disk,
+        length: fakes.disk.length,
     })
 }
 
 impl Outcome {
-    /// How this differs from an expected status and output; `None` where it doesn't.
-    pub fn differs_from(
-        &self,
-        alloc: Global,
-        status: &str,
-        output: &[u8],
-    ) -> io::Result<Option<String>> {
+    /// How this differs from what is expected; `None` where it doesn't.
+    pub fn differs_from(&self, alloc: Global, expected: &Expected) -> io::Result<Option<String>> {
         let came = self.status.as_str().trim_end();
+        let status = expected.status.as_str();
         if came != status {
             return Ok(Some(format!(in alloc; "the status is {came}, and not {status}")?));
         }
+        let output = expected.output.as_slice();
         if let Some(at) = first_difference(self.output.as_slice(), output) {
             let (wrote, expected) = (self.output.len(), output.len());
             return Ok(Some(format!(in alloc;
@@ -113,8 +117,48 @@ impl Outcome {
                 "the input was not taken to the call that fails next"
             )?));
         }
+        self.disk_differs(alloc, expected.front.as_slice())
+    }
+
+    /// How the disk differs from its expected length and from the bytes with which it has to begin.
+    fn disk_differs(&self, alloc: Global, front: &[u8]) -> io::Result<Option<String>> {
+        let bytes = self.disk.bytes();
+        let length = bytes.len() as u64;
+        let expected = self.length.unwrap_or(length);
+        if length != expected {
+            return Ok(Some(format!(in alloc;
+                "the disk holds {length} bytes, and not {expected}"
+            )?));
+        }
+        let same = count_same(bytes, front);
+        if same < front.len() {
+            let at = same.saturating_add(1);
+            return Ok(Some(format!(in alloc; "byte {at} of the disk differs first")?));
+        }
         Ok(None)
     }
+
+    /// Whether a call of the disk failed.
+    pub fn has_failed(&self) -> bool {
+        self.disk.fault_count() > 0
+    }
+
+    /// The bytes that the disk is left with: what this crash leaves, or where there is none what a read gives.
+    pub fn left(self, alloc: Global, crash: Option<Pick>) -> Result<Vec<u8>, AllocError> {
+        let Outcome { disk, .. } = self;
+        match crash {
+            Some(pick) => disk.left(alloc, pick),
+            None => Vec::from_slice(alloc, disk.bytes()),
+        }
+    }
+}
+
+/// How many bytes two texts begin with alike.
+fn count_same(one: &[u8], other: &[u8]) -> usize {
+    one.iter()
+        .zip(other.iter())
+        .take_while(|(a, b)| a == b)
+        .count()
 }
 
 /// The place of the first byte in which two texts differ, counted from 1; `None` where they are equal.
@@ -122,10 +166,5 @@ fn first_difference(one: &[u8], other: &[u8]) -> Option<usize> {
     if one == other {
         return None;
     }
-    let same = one
-        .iter()
-        .zip(other.iter())
-        .take_while(|(a, b)| a == b)
-        .count();
-    Some(same.saturating_add(1))
+    Some(count_same(one, other).saturating_add(1))
 }

@@ -2,10 +2,24 @@
 use crate::fakes::Fakes;
 use crate::folders::{bytes_of, bytes_or_none, repeated};
 use crate::moments::moments_in;
-use crate::run::{Given, came_to};
+use crate::run::{Expected, Given, came_to};
+use crate::stops::Table;
+use std::alloc::{AllocError, Global};
 use std::fs::File;
 use std::io;
 use std::rt::Files;
+
+/// The most images of a table of stops.
+const MOST_IMAGES: u32 = 1_000;
+
+/// What came of a step.
+#[derive(Drop)]
+pub struct Ran {
+    /// How it differs from what its files expect; `None` where it doesn't.
+    pub difference: Option<String>,
+    /// The bytes that its disk is left with.
+    pub disk: Vec<u8>,
+}
 
 /// Reads a file of a step; where the step has none, that of its case.
 fn shared<R: Files<File = File> + AllocGlobal>(
@@ -66,41 +80,121 @@ fn given_by<R: Files<File = File> + AllocGlobal>(
     })
 }
 
-/// What a step has to write.
+/// What has to come of a step, whose output stands so many times.
 fn expected_of<R: Files<File = File> + AllocGlobal>(
     rt: &R,
     case: &str,
     step: &str,
     times: u64,
-) -> io::Result<Vec<u8>> {
-    let output = own(rt, case, step, "output")?;
+) -> io::Result<Expected> {
+    let told = text(rt, case, step, "status")?;
+    let status = match told.as_str().trim_end() {
+        "" => "0",
+        status => status,
+    };
+    let once = own(rt, case, step, "output")?;
     let ending = own(rt, case, step, "ending")?;
-    let mut expected = repeated(rt.alloc(), output.as_slice(), times)?;
-    expected.extend_from_slice(ending.as_slice())?;
-    Ok(expected)
+    let mut output = repeated(rt.alloc(), once.as_slice(), times)?;
+    output.extend_from_slice(ending.as_slice())?;
+    Ok(Expected {
+        status: String::from_str(rt.alloc(), status)?,
+        output,
+        front: own(rt, case, step, "disk_front")?,
+    })
 }
 
-/// Runs a step, and tells how what it came to differs from what its files expect; `None` where it doesn't.
-pub fn difference_of<R: Files<File = File> + AllocGlobal>(
+/// The images of a step, as its files `image_1`, `image_2` and so on have them.
+fn images_of<R: Files<File = File> + AllocGlobal>(
     rt: &R,
     case: &str,
     step: &str,
-) -> io::Result<Option<String>> {
+) -> io::Result<Vec<Vec<u8>>> {
+    let mut images = Vec::new(rt.alloc());
+    for number in 1..MOST_IMAGES {
+        let path = format!(in rt.alloc(); "{case}/{step}/image_{number}")?;
+        match bytes_of(rt, path.as_str())? {
+            Some(image) => images.push(image)?,
+            None => return Ok(images),
+        }
+    }
+    Ok(images)
+}
+
+/// The table of stops of a step, which works with this catalogue. It has no image where the step has none.
+fn table_of<R: Files<File = File> + AllocGlobal>(
+    rt: &R,
+    case: &str,
+    step: &str,
+    catalogue: &[u8],
+) -> io::Result<Table> {
+    let alloc = rt.alloc();
+    let told = text(rt, case, step, "look")?;
+    let words = match told.as_str() {
+        "" => "usage",
+        words => words,
+    };
+    let look = Given {
+        words: String::from_str(alloc, words)?,
+        catalogue: Vec::from_slice(alloc, catalogue)?,
+        capabilities: Vec::new(alloc),
+        input: own(rt, case, step, "look_input")?,
+        moments: Vec::new(alloc),
+        fakes: Fakes::new(alloc),
+    };
+    Ok(Table {
+        look,
+        images: images_of(rt, case, step)?,
+    })
+}
+
+/// Runs what a step gives over a disk, and tells what came of it.
+fn judged(
+    alloc: Global,
+    given: &Given,
+    disk: &[u8],
+    expected: &Expected,
+    table: &Table,
+) -> io::Result<Ran> {
+    let faked = &given.fakes.disk;
+    let outcome = came_to(alloc, given, faked.over(alloc, disk)?)?;
+    let difference = match outcome.differs_from(alloc, expected)? {
+        Some(difference) => Some(difference),
+        None => table.difference_of(alloc, given, disk)?,
+    };
+    Ok(Ran {
+        difference,
+        disk: outcome.left(alloc, faked.crash)?,
+    })
+}
+
+/// What came of a step one of whose files isn't of its form; the disk stays.
+fn unread(alloc: Global, disk: Vec<u8>, fault: &str) -> Result<Ran, AllocError> {
+    Ok(Ran {
+        difference: Some(String::from_str(alloc, fault)?),
+        disk,
+    })
+}
+
+/// Runs a step over the disk that its own file has, or else over the one that the step before it left.
+pub fn run_step<R: Files<File = File> + AllocGlobal>(
+    rt: &R,
+    case: &str,
+    step: &str,
+    left: Vec<u8>,
+) -> io::Result<Ran> {
+    let alloc = rt.alloc();
     let lines = text(rt, case, step, "fakes")?;
-    let Some(fakes) = Fakes::read(rt.alloc(), lines.as_str())? else {
-        return Ok(Some(format!(in rt.alloc(); "its file fakes has a line of another form")?));
+    let Some(fakes) = Fakes::read(alloc, lines.as_str())? else {
+        return Ok(unread(alloc, left, "its file fakes has a line of another form")?);
     };
     let numbers = text(rt, case, step, "moments")?;
-    let Some(moments) = moments_in(rt.alloc(), numbers.as_str())? else {
-        return Ok(Some(format!(in rt.alloc(); "its file moments has a word that is no number")?));
+    let Some(moments) = moments_in(alloc, numbers.as_str())? else {
+        return Ok(unread(alloc, left, "its file moments has a word that is no number")?);
     };
-    let times = fakes.expected.times;
+    let expected = expected_of(rt, case, step, fakes.expected.times)?;
     let given = given_by(rt, case, step, moments, fakes)?;
-    let status = text(rt, case, step, "status")?;
-    let output = expected_of(rt, case, step, times)?;
-    let status = match status.as_str().trim_end() {
-        "" => "0",
-        told => told,
-    };
-    came_to(rt.alloc(), given)?.differs_from(rt.alloc(), status, output.as_slice())
+    let table = table_of(rt, case, step, given.catalogue.as_slice())?;
+    let path = format!(in alloc; "{case}/{step}/disk")?;
+    let disk = bytes_of(rt, path.as_str())?.unwrap_or(left);
+    Ok(judged(alloc, &given, disk.as_slice(), &expected, &table)?)
 }

@@ -1,0 +1,22 @@
+use Rattle.std.proofs.Common.{◌++◌, ◌∷◌, [], ◌∙◌, ap, arith, List, ℕ}
+use Rattle.std.proofs.lemmas.Option.{slice_get_within}
+use Rattle.record_text.specs.Fits.{Fits}
+use Rattle.record_text.specs.Spelling.{spelling}
+use Rattle.cabinet_records.specs.Recorded.{stored_record}
+use Rattle.durable_cabinet.proofs.DraftingLists.{fit_more, put_more}
+use Rattle.durable_cabinet.proofs.draft.put_kept.Goals as goal
+
+pub putting-preserved : goal.putting-preserved
+putting-preserved c =
+    let xs = c.args.ranking.now.kept in
+    let at = c.putting.at in
+    let t = c.get-kept.result in
+    let body = c.stored_body.result in
+    let within = slice_get_within xs at t c.get-kept.ensures in
+    record {
+      bodies = c.push_reserved.ensures.items ∙ ap (λ (l : List (List ℕ)). l ++ body ∷ []) c.putting.invariant.bodies
+          ∙ put_more stored_record spelling c.args.bodies.now.items xs at t body c.get-kept.ensures c.stored_body.ensures.body;
+      fits = fit_more stored_record Fits xs at t c.get-kept.ensures c.stored_body.ensures.fits c.putting.invariant.fits;
+      within = omega (arith, within);
+      room = c.push_reserved.ensures.capacity ∙ c.putting.invariant.room;
+    }

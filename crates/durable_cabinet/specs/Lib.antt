@@ -1,0 +1,10 @@
+pub mod Images
+pub mod Filed
+pub mod Backing
+pub mod Outlasting
+pub mod Ends
+pub mod Drafts
+pub mod Openings
+pub mod Tiles
+pub mod Alike
+pub mod Hot

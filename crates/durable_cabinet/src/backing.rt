@@ -1,0 +1,120 @@
+//! How a command is written down: the file is made ready for its record, and then the record is entered. What contracts say of it
+//! holds of each cabinet that the record leads to.
+ghost use Rattle.std.specs.Prelude.{ℕ, ◌≡◌, ◌<◌, IsTrue, OnOk, Some, length};
+ghost use Rattle.cabinet.specs.Commands.{place_for};
+ghost use Rattle.cabinet_records.specs.Recorded.{stored_record};
+ghost use Rattle.raster_field.specs.Blocks.{IsMeta};
+ghost use Rattle.std.specs.List.{AllByRecursion};
+ghost use Rattle.cabinet.specs.State.{State, now};
+ghost use Rattle.causes.specs.Causes.{HasCause};
+ghost use Rattle.durable_cabinet.specs.Backing.{AreRegionsOf, Enters, Leads, Rests, Stores, Writes, with_away};
+ghost use Rattle.durable_cabinet.specs.Drafts.{HasRoom};
+ghost use Rattle.durable_cabinet.specs.Filed.{IsFiled, IsHeldOn};
+ghost use Rattle.gate_journal.specs.Sound.{IsSettled, room_of};
+ghost use Rattle.record_text.specs.Fits.{Fits};
+
+use crate::draft::Draft;
+use crate::entries::stored;
+use cabinet::cabinet_core::Core;
+use cabinet::kept::Kept;
+use cache_file::file::CacheFile;
+use disk_model::disk::{Disk, Failed};
+use record_text::entries::Record;
+use record_text::writing::encode;
+
+/// Makes the file ready for a record: settled, and with room, for which its records are replaced where there is none.
+pub(crate) fn ready<D: Disk>(
+    core: &Core,
+    file: &mut CacheFile<D>,
+    draft: &mut Draft,
+) -> Result<(), Failed>
+    requires filed { IsFiled core.now.state (D.told file.old.disk) file.old.start file.old.journal (D.state file.old.disk) }
+    requires room { HasRoom core.now.state draft.old }
+    ensures told { D.told file.new.disk ≡ D.told file.old.disk }
+    ensures room { draft.new.room ≡ draft.old.room }
+    ensures filed { IsFiled core.now.state (D.told file.old.disk) file.new.start file.new.journal (D.state file.new.disk) }
+    ensures ok { OnOk result (IsSettled file.new.journal × (0 < room_of file.new.journal)) }
+    ensures rests { Rests (D.told file.old.disk) core.now.state file.old.journal (D.state file.old.disk) (D.state file.new.disk) }
+    ensures cause { HasCause (D.faults file.old.disk) (D.faults file.new.disk) result }
+{
+    core.known();
+    if file.room() > 0 {
+        return file.ready(&[]);
+    }
+    draft.fill(core);
+    file.ready(draft.bodies())
+}
+
+/// Enters a record in a file that is ready.
+pub(crate) fn enter<D: Disk>(
+    core: &Core,
+    file: &mut CacheFile<D>,
+    entry: &Record,
+) -> Result<(), Failed>
+    requires filed { IsFiled core.now.state (D.told file.old.disk) file.old.start file.old.journal (D.state file.old.disk) }
+    requires settled { IsSettled file.old.journal }
+    requires room { 0 < room_of file.old.journal }
+    requires fits { Fits entry.now }
+    ensures told { D.told file.new.disk ≡ D.told file.old.disk }
+    ensures settled { OnOk result (IsSettled file.new.journal) }
+    ensures enters { (u : State) → Leads core.now.state u entry.now
+        → (IsTrue (D.told file.old.disk) → AllByRecursion (IsHeldOn core.now.state.catalogue (D.state file.old.disk)) (now u).kept)
+        → Enters result (D.told file.old.disk) core.now.state u file.new.start file.new.journal (D.state file.old.disk) (D.state file.new.disk) }
+    ensures cause { HasCause (D.faults file.old.disk) (D.faults file.new.disk) result }
+{
+    core.known();
+    file.record(&encode(entry))
+}
+
+/// Makes the file ready for a record, and enters it.
+pub(crate) fn write<D: Disk>(
+    core: &Core,
+    file: &mut CacheFile<D>,
+    draft: &mut Draft,
+    entry: &Record,
+) -> Result<(), Failed>
+    requires filed { IsFiled core.now.state (D.told file.old.disk) file.old.start file.old.journal (D.state file.old.disk) }
+    requires room { HasRoom core.now.state draft.old }
+    requires fits { Fits entry.now }
+    ensures told { D.told file.new.disk ≡ D.told file.old.disk }
+    ensures room { draft.new.room ≡ draft.old.room }
+    ensures settled { OnOk result (IsSettled file.new.journal) }
+    ensures writes { (u : State) → Leads core.now.state u entry.now → AreRegionsOf core.now.state u
+        → Writes result (D.told file.old.disk) core.now.state u file.new.start file.old.journal file.new.journal (D.state file.old.disk) (D.state file.new.disk) }
+    ensures cause { HasCause (D.faults file.old.disk) (D.faults file.new.disk) result }
+{
+    match ready(core, file, draft) {
+        Err(fault) => Err(fault),
+        Ok(()) => enter(core, file, entry),
+    }
+}
+
+/// Puts the blob of what is to be kept into its gap, and then enters its record.
+pub(crate) fn keep<D: Disk>(
+    core: &Core,
+    file: &mut CacheFile<D>,
+    draft: &mut Draft,
+    kept: Kept,
+    blob: &[u8],
+) -> Result<(), Failed>
+    requires filed { IsFiled core.now.state (D.told file.old.disk) file.old.start file.old.journal (D.state file.old.disk) }
+    requires room { HasRoom core.now.state draft.old }
+    requires meta { IsMeta core.now.state.catalogue kept.meta }
+    requires long { length blob.now ≡ kept.length }
+    requires gap { place_for core.now.state kept.length ≡ Some kept.place }
+    ensures told { D.told file.new.disk ≡ D.told file.old.disk }
+    ensures room { draft.new.room ≡ draft.old.room }
+    ensures settled { OnOk result (IsSettled file.new.journal) }
+    ensures stores { Leads core.now.state (with_away core.now.state kept) (stored_record kept)
+        → Stores result (D.told file.old.disk) core.now.state kept blob.now file.new.start file.old.journal file.new.journal (D.state file.old.disk) (D.state file.new.disk) }
+    ensures cause { HasCause (D.faults file.old.disk) (D.faults file.new.disk) result }
+{
+    core.known();
+    match ready(core, file, draft) {
+        Err(fault) => Err(fault),
+        Ok(()) => match file.put(kept.place, blob) {
+            Err(fault) => Err(fault),
+            Ok(()) => enter(core, file, &stored(core, kept)),
+        },
+    }
+}

@@ -1,0 +1,77 @@
+//! How an opening is written down.
+ghost use Rattle.std.specs.Prelude.{◌≡◌, ◌+◌, ◌<◌, ◌≤◌, ◌^◌, [], false, IfNone, IfOk, IfSome, IsTrue, OnErr, OnOk, length};
+ghost use Rattle.std.specs.Option.{option_map_or};
+ghost use Rattle.cabinet.specs.State.{now};
+ghost use Rattle.causes.specs.Causes.{HasCause};
+ghost use Rattle.gate_journal.specs.Sound.{IsAlike, IsSettled, room_of, version_of};
+ghost use Rattle.durable_cabinet.specs.Drafts.{HasRoom};
+ghost use Rattle.durable_cabinet.specs.Openings.{Enters, IsBegun};
+
+use crate::draft::{Draft, opened_body};
+use cabinet::cabinet_core::Core;
+use cache_file::file::CacheFile;
+use disk_model::disk::{Disk, Failed};
+use std::alloc::{AllocError, Global};
+
+/// The number of the opening that follows the last one; `None` where it would not fit 24 bits.
+pub(crate) fn number_after(opening: Option<u32>) -> Option<u32>
+    ensures some { IfSome result (λ n. (n ≡ option_map_or (λ e. e) opening 0 + 1) × (n < 2 ^ 24)) }
+    ensures none { IfNone result (2 ^ 24 ≤ option_map_or (λ e. e) opening 0 + 1) }
+{
+    let last = match opening {
+        Some(number) => number,
+        None => 0,
+    };
+    if last < 0x00ff_ffff {
+        return Some(last + 1);
+    }
+    None
+}
+
+/// A draft with room for a compaction of a core that was just opened.
+pub(crate) fn drafted(alloc: Global, core: &Core) -> Result<Draft, AllocError>
+    requires { core.now.state.since ≡ [] }
+    ensures { IfOk result (HasRoom core.now.state) }
+{
+    let mut draft = Draft::new(alloc)?;
+    let count = 1 + core.cuts().count() as usize + core.kept() as usize;
+    draft.reserve(alloc, count)?;
+    Ok(draft)
+}
+
+/// Whether the records of a file are to be replaced before others are added: they are of version 1, or there is no room.
+fn is_to_move<D: Disk>(file: &CacheFile<D>) -> bool
+    ensures moves { result ≡ false → version_of file.now.journal ≡ 2 }
+    ensures room { result ≡ false → 0 < room_of file.now.journal }
+{
+    if file.version() != 2 {
+        return true;
+    }
+    file.room() == 0
+}
+
+/// Makes an opening durable. Where its journal is of version 1 or has no room, what is opened is written anew, with the opening as its
+/// first record; else the record of the opening is added.
+pub(crate) fn write_opening<D: Disk>(
+    core: &Core,
+    draft: &mut Draft,
+    file: &mut CacheFile<D>,
+) -> Result<(), Failed>
+    requires begun { IsBegun (D.told file.old.disk) core.now.state (D.state file.old.disk) file.old.start file.old.journal }
+    requires room { HasRoom core.now.state draft.old }
+    ensures told { D.told file.new.disk ≡ D.told file.old.disk }
+    ensures start { file.new.start ≡ file.old.start }
+    ensures alike { IsAlike file.old.journal file.new.journal }
+    ensures version { OnOk result (version_of file.new.journal ≡ 2) }
+    ensures ok { OnOk result (IsSettled file.new.journal) }
+    ensures room { HasRoom core.now.state draft.new }
+    ensures enters { IsTrue (D.told file.old.disk) → Enters core.now.state result file.old.start file.old.journal file.new.journal (D.state file.old.disk) (D.state file.new.disk) }
+    ensures cause { HasCause (D.faults file.old.disk) (D.faults file.new.disk) result }
+{
+    core.known();
+    if is_to_move(file) {
+        draft.fill(core);
+        return file.replace(draft.bodies());
+    }
+    file.record(&opened_body(core.opening(), core.cuts().floor()))
+}

@@ -1,0 +1,97 @@
+//! How a cabinet begins with what its records are restored to.
+ghost use Rattle.std.specs.Prelude.{◌≡◌, ◌⊎◌, ◌≤◌, [], IfErr, IfOk, IsTrue};
+ghost use Rattle.cabinet_records.specs.Replay.{Replayed};
+ghost use Rattle.catalog.specs.Valid.{IsValid};
+ghost use Rattle.causes.specs.Causes.{Rose};
+ghost use Rattle.disk_model.specs.Images.{Leaves};
+ghost use Rattle.gate_journal.specs.Sound.{IsSettled};
+ghost use Rattle.durable_cabinet.specs.Drafts.{HasRoom};
+ghost use Rattle.durable_cabinet.specs.Ends.{disk_of};
+ghost use Rattle.durable_cabinet.specs.Filed.{IsRefusedAs, OpensLike, on_disk, opened_as};
+ghost use Rattle.durable_cabinet.specs.Images.{IsOurs, OpensTo};
+ghost use Rattle.durable_cabinet.specs.Openings.{IsBegun, IsReplayed, OpensWith};
+
+use crate::beginning::{drafted, number_after, write_opening};
+use crate::draft::Draft;
+use crate::durable::Cabinet;
+use crate::hot::HotTier;
+use cabinet::cabinet_core::Core;
+use cabinet_records::openings::laws_of_replays;
+use cabinet_records::restored::Restored;
+use cache_file::file::CacheFile;
+use catalog::catalogue::Catalogue;
+use clock::clock::Clock;
+use disk_model::disk::Disk;
+use gate_journal::fault::OpenFault;
+use std::alloc::Global;
+
+/// Makes the opening of a core durable, and ties it to its file, with nothing in the hot tier.
+fn enter<D: Disk>(
+    core: Core,
+    draft: Draft,
+    hot: HotTier,
+    file: CacheFile<D>,
+) -> Result<Cabinet<D>, (OpenFault, D)>
+    requires begun { IsBegun (D.told file.disk) core.state (D.state file.disk) file.start file.journal }
+    requires room { HasRoom core.state draft }
+    requires cold { hot ≡ [] }
+    ensures told { D.told (disk_of result) ≡ D.told file.disk }
+    ensures state { IfOk result (λ c. c.state ≡ on_disk (D.told file.disk) (D.state file.disk).seen core.state) }
+    ensures settled { IfOk result (λ c. IsSettled c.file.journal) }
+    ensures refused { IfErr result (λ r. (r.0 ≡ OpenFault.DiskFault) × Rose (D.faults file.disk) (D.faults r.1)) }
+    ensures later { D.faults file.disk ≤ D.faults (disk_of result) }
+    ensures images { IsTrue (D.told file.disk) → Leaves (D.state file.disk) (D.state (disk_of result)) (OpensWith core.state (D.state file.disk).seen) }
+{
+    core.known();
+    let mut file = file;
+    let mut draft = draft;
+    match write_opening(&core, &mut draft, &mut file) {
+        Ok(()) => Ok(Cabinet {
+            core,
+            file,
+            draft,
+            hot,
+        }),
+        Err(_) => Err((OpenFault::DiskFault, file.into_disk())),
+    }
+}
+
+/// Opens a cabinet with what its records are restored to, under the next number. A refusal hands the disk back.
+pub(crate) fn begin<D: Disk>(
+    alloc: Global,
+    catalogue: Catalogue,
+    clock: Clock,
+    file: CacheFile<D>,
+    restored: Restored,
+) -> Result<Cabinet<D>, (OpenFault, D)>
+    requires valid { IsValid catalogue }
+    requires replayed { IsReplayed (D.told file.disk) catalogue (D.state file.disk) file.journal restored.opening restored.kept.items restored.cuts.book }
+    requires ours { IsTrue (D.told file.disk) → IsOurs catalogue (D.state file.disk).seen }
+    ensures told { D.told (disk_of result) ≡ D.told file.disk }
+    ensures opened { IfOk result (λ c. (r : Replayed) × (c.state ≡ opened_as (D.told file.disk) (D.state file.disk).seen catalogue clock r) × (IsTrue (D.told file.disk) → OpensTo catalogue (D.state file.disk).seen r)) }
+    ensures settled { IfOk result (λ c. IsSettled c.file.journal) }
+    ensures refused { IfErr result (λ r. IsRefusedAs (D.told file.disk) catalogue (D.state file.disk).seen (D.faults file.disk) (D.faults r.1) r.0) }
+    ensures later { D.faults file.disk ≤ D.faults (disk_of result) }
+    ensures images { IsTrue (D.told file.disk) → Leaves (D.state file.disk) (D.state (disk_of result)) (λ image. (r : Replayed) × OpensTo catalogue (D.state file.disk).seen r × OpensLike catalogue r (D.state file.disk).seen image × IsOurs catalogue image) }
+{
+    laws_of_replays();
+    let Restored {
+        opening,
+        kept,
+        cuts,
+    } = restored;
+    let number = match number_after(opening) {
+        Some(number) => number,
+        None => return Err((OpenFault::Spent, file.into_disk())),
+    };
+    match Core::opened(alloc, catalogue, clock, number, kept, cuts) {
+        Err(_) => Err((OpenFault::OutOfMemory, file.into_disk())),
+        Ok(core) => match drafted(alloc, &core) {
+            Err(_) => Err((OpenFault::OutOfMemory, file.into_disk())),
+            Ok(draft) => match HotTier::new(alloc) {
+                Err(_) => Err((OpenFault::OutOfMemory, file.into_disk())),
+                Ok(hot) => enter(core, draft, hot, file),
+            },
+        },
+    }
+}

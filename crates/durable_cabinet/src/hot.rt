@@ -1,0 +1,117 @@
+//! The hot tier: the texts of the tiles that were read from the disk lately. An ask that it serves reads no disk.
+ghost use Rattle.std.specs.Prelude.{◌≡◌, ◌⊎◌, [], Contains, IfOk, IfSome, OnOk};
+ghost use Rattle.std.specs.List.{AllByRecursion};
+ghost use Rattle.durable_cabinet.specs.Hot.{address_of, hot_tile};
+
+use crate::texts::{HotText, TileKey};
+use lru::LruCache;
+use matrix_geometry::address::Address;
+use std::alloc::{AllocError, Global};
+use std::marker::Model;
+use std::num::NonZeroUsize;
+
+/// The texts of the 128 tiles that were put or served last, each with the number of its render. Contracts see them in the order of
+/// their last use.
+#[derive(Drop)]
+pub struct HotTier {
+    texts: LruCache<TileKey, HotText>,
+}
+
+impl Model for HotTier {
+    ghost use Rattle.std.specs.Prelude.{List, map};
+    ghost use Rattle.durable_cabinet.specs.Hot.{HotTile, tile_of};
+
+    ghost Value = { List HotTile };
+
+    ghost view = { λ h. map tile_of h.texts.entries };
+}
+
+/// The key of a tile.
+fn key_of(address: &Address) -> TileKey
+    ensures { address_of result ≡ address.now }
+{
+    TileKey {
+        theme: address.theme,
+        grid: address.grid,
+        z: address.z,
+        row: address.row,
+        col: address.col,
+    }
+}
+
+/// A copy of a text, where it is of the render of this number. `AllocError` where memory runs out.
+fn copy_of(alloc: Global, found: &HotText, number: u64) -> Result<Option<Vec<u8>>, AllocError>
+    ensures { IfOk result (λ copy. IfSome copy (λ text. (found.now.number ≡ number) × (text.items ≡ found.now.text.items))) }
+{
+    if found.number != number {
+        return Ok(None);
+    }
+    match Vec::from_slice(alloc, &found.text) {
+        Err(fault) => Err(fault),
+        Ok(copy) => Ok(Some(copy)),
+    }
+}
+
+impl HotTier {
+    /// A tier that holds nothing. `AllocError` where memory runs out.
+    pub fn new(alloc: Global) -> Result<HotTier, AllocError>
+        ensures { IfOk result (λ tier. tier ≡ []) }
+    {
+        match LruCache::new(alloc, NonZeroUsize::new(128).unwrap()) {
+            Err(fault) => Err(fault),
+            Ok(texts) => Ok(HotTier { texts }),
+        }
+    }
+
+    /// A copy of the text of a tile, where one of the render of this number is there. `AllocError` where memory runs out.
+    pub fn text_of(
+        &mut self,
+        alloc: Global,
+        address: &Address,
+        number: u64,
+    ) -> Result<Option<Vec<u8>>, AllocError>
+        ensures found { IfOk result (λ found. IfSome found (λ text. Contains self.old (hot_tile address.now number text.items))) }
+        ensures among { AllByRecursion (Contains self.old) self.new }
+    {
+        let key = key_of(address);
+        self.texts.promote(&key);
+        self.copy_at(alloc, &key, number)
+    }
+
+    /// A copy of the text that is there by a key, where it is of the render of this number. `AllocError` where memory runs out.
+    fn copy_at(
+        &self,
+        alloc: Global,
+        key: &TileKey,
+        number: u64,
+    ) -> Result<Option<Vec<u8>>, AllocError>
+        ensures { IfOk result (λ found. IfSome found (λ text. Contains self.now (hot_tile (address_of key.now) number text.items))) }
+    {
+        match self.texts.peek(key) {
+            None => Ok(None),
+            Some(found) => copy_of(alloc, found, number),
+        }
+    }
+
+    /// Puts a copy of the text of a tile, in place of an older one of the tile, or of the text whose last use is longest ago where the
+    /// tier is full. `AllocError` where memory runs out; nothing is put then.
+    pub fn put(
+        &mut self,
+        alloc: Global,
+        address: &Address,
+        number: u64,
+        text: &[u8],
+    ) -> Result<(), AllocError>
+        ensures among { AllByRecursion (λ x. Contains self.old x ⊎ (x ≡ hot_tile address.now number text.now)) self.new }
+        ensures there { OnOk result (Contains self.new (hot_tile address.now number text.now)) }
+    {
+        let text = match Vec::from_slice(alloc, text) {
+            Err(fault) => return Err(fault),
+            Ok(copy) => copy,
+        };
+        match self.texts.put(key_of(address), HotText { number, text }) {
+            Err(_) => Err(AllocError),
+            Ok(_) => Ok(()),
+        }
+    }
+}

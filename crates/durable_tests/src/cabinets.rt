@@ -1,0 +1,177 @@
+//! A cabinet of the demo catalogue on a disk: its calls on their happy path.
+ghost use Rattle.std.specs.Prelude.{IfOk, ◌≡◌};
+ghost use Rattle.catalog.specs.Demo.{demo};
+
+use cabinet::keeper::Keeper;
+use cabinet::replies::{Asked, CutReply, Expired, Finished, Forced, Saved};
+use catalog::catalogue::Catalogue;
+use clock::clock::Clock;
+use disk_model::pick::Pick;
+use durable_cabinet::durable::Cabinet;
+use durable_cabinet::opening::make;
+use durable_cabinet::parts::Parts;
+use fixtures::tiles::corner_tile;
+use matrix_geometry::theme::Filter;
+use raster_field::laws::laws_of_metatiles;
+use raster_field::layout::{blob_size, block_of};
+use served_covers::of_catalogue::is_cover_of;
+use silent_disk::SilentDisk;
+use std::alloc::{AllocError, Global};
+use std::test::Fail;
+use truncation_list::cover::Cover;
+
+/// A cover of all zooms of the demo layer.
+const ALL: Cover = Cover {
+    layer: 0,
+    grid: 0,
+    z_start: 0,
+    z_stop: 2,
+    bounds: None,
+    filter: Filter {
+        style: None,
+        dims: [None; 4],
+    },
+};
+
+/// A cabinet on a disk of which contracts know the count of faults alone.
+pub type OnDisk = Cabinet<SilentDisk>;
+
+/// The bytes of an empty cache.
+pub fn made(alloc: Global) -> Result<Vec<u8>, Fail> {
+    let mut disk = SilentDisk::new(alloc, Vec::new(alloc), Vec::new(alloc));
+    if make(&Catalogue::demo(alloc)?, &mut disk).is_err() {
+        return Err(Fail::from("the cache is not made"));
+    }
+    Ok(Vec::from_slice(alloc, disk.bytes())?)
+}
+
+/// A cabinet that is opened from a disk, or the disk where it is refused.
+pub fn opened(alloc: Global, disk: SilentDisk) -> Result<Result<OnDisk, SilentDisk>, AllocError>
+    ensures { IfOk result (λ c. IfOk c (λ c. c.state.catalogue ≡ demo)) }
+{
+    let clock = Clock::listed(Vec::new(alloc));
+    match Cabinet::open(alloc, Catalogue::demo(alloc)?, clock, disk) {
+        Ok(cabinet) => Ok(Ok(cabinet)),
+        Err(refusal) => {
+            let (_fault, disk) = refusal;
+            Ok(Err(disk))
+        }
+    }
+}
+
+/// Begins a render of the corner, and hands in a blob of its length, all of one byte.
+pub fn kept(alloc: Global, cabinet: &mut OnDisk, byte: u8) -> Result<Finished, AllocError>
+    requires { cabinet.old.state.catalogue ≡ demo }
+    ensures { cabinet.new.state.catalogue ≡ demo }
+{
+    cabinet.known();
+    laws_of_metatiles();
+    let meta = block_of(cabinet.catalogue(), &corner_tile());
+    let size = blob_size(cabinet.catalogue(), &meta);
+    let blob = vec![in alloc; byte; size as usize]?;
+    match cabinet.force(alloc, &meta)? {
+        Forced::Ticket(ticket) => Ok(cabinet.finish(ticket, blob)),
+        Forced::Busy(_) => Ok(Finished::Stranger),
+        Forced::Spent => Ok(Finished::Stranger),
+    }
+}
+
+/// Asks for the corner: the byte that all of it is and the number of its render, where it is a hit.
+pub fn asked(alloc: Global, cabinet: &mut OnDisk) -> Result<Option<(u8, u64)>, AllocError>
+    requires { cabinet.old.state.catalogue ≡ demo }
+    ensures { cabinet.new.state.catalogue ≡ demo }
+{
+    match cabinet.ask(alloc, &corner_tile())? {
+        Asked::Hit(number, text) => Ok(Some((all_of(text.as_slice()), number))),
+        Asked::Ticket(ticket) => {
+            cabinet.abandon(ticket);
+            Ok(None)
+        }
+        Asked::Busy(_) => Ok(None),
+        Asked::Spent => Ok(None),
+    }
+}
+
+/// The byte that all bytes of a tile are; 0 where they differ.
+fn all_of(text: &[u8]) -> u8 {
+    let first = text.first().copied().unwrap_or(0);
+    if text.iter().all(|byte| *byte == first) {
+        return first;
+    }
+    0
+}
+
+/// A tile that is kept, asked for, and asked for again: whether it is a hit both times, and its use is then saved once.
+fn kept_used_and_saved(alloc: Global, cabinet: &mut OnDisk) -> Result<bool, AllocError>
+    requires { cabinet.old.state.catalogue ≡ demo }
+    ensures { cabinet.new.state.catalogue ≡ demo }
+{
+    let finished = kept(alloc, cabinet, 7)?;
+    let hit = asked(alloc, cabinet)?;
+    if finished != Finished::Kept || hit.map(|(byte, _)| byte) != Some(7) {
+        return Ok(false);
+    }
+    match cabinet.save_uses() {
+        Saved::Done(_) => Ok(cabinet.save_uses() == Saved::Within),
+        Saved::DiskFault(_, _) | Saved::Within => Ok(false),
+    }
+}
+
+/// A hit, and then a truncation of all zooms, after which nothing is kept and no quota is exceeded.
+fn found_and_cut(alloc: Global, cabinet: &mut OnDisk) -> Result<bool, AllocError>
+    requires { cabinet.old.state.catalogue ≡ demo }
+    ensures { cabinet.new.state.catalogue ≡ demo }
+{
+    let hit = asked(alloc, cabinet)?;
+    if hit.map(|(byte, _)| byte) != Some(7) || !cut(alloc, cabinet)? {
+        return Ok(false);
+    }
+    let gone = asked(alloc, cabinet)?.is_none() && cabinet.kept() == 0;
+    Ok(gone && cabinet.expire() == Expired::Within)
+}
+
+/// Truncates all zooms of the demo layer: whether that was done.
+pub fn cut(alloc: Global, cabinet: &mut OnDisk) -> Result<bool, AllocError>
+    requires { cabinet.old.state.catalogue ≡ demo }
+    ensures { cabinet.new.state.catalogue ≡ demo }
+{
+    cabinet.known();
+    if !is_cover_of(cabinet.catalogue(), &ALL) {
+        return Ok(false);
+    }
+    match cabinet.cut(alloc, &ALL)? {
+        CutReply::Done(_) => Ok(true),
+        CutReply::Full | CutReply::Spent | CutReply::DiskFault(_, _) => Ok(false),
+    }
+}
+
+/// The bytes that a cabinet leaves on its disk.
+fn left_by(alloc: Global, cabinet: OnDisk) -> Result<Vec<u8>, AllocError> {
+    let Parts { clock, disk } = cabinet.take_apart();
+    drop(clock);
+    disk.left(alloc, Pick::New)
+}
+
+fn disk_of(alloc: Global, bytes: Vec<u8>) -> SilentDisk {
+    SilentDisk::new(alloc, bytes, Vec::new(alloc))
+}
+
+#[test]
+fn a_tile_is_kept_over_an_opening_and_truncated(rt: HostRuntime) -> Result<(), Fail> {
+    let alloc = rt.alloc();
+    let Ok(mut cabinet) = opened(alloc, disk_of(alloc, made(alloc)?))? else {
+        return Err(Fail::from("the cache is not opened"));
+    };
+    let first = kept_used_and_saved(alloc, &mut cabinet);
+    let bytes = left_by(alloc, cabinet)?;
+    assert!(rt; first?);
+    let Ok(mut cabinet) = opened(alloc, disk_of(alloc, bytes))? else {
+        return Err(Fail::from("the cache is not opened again"));
+    };
+    let (counted, bytes) = (cabinet.kept(), cabinet.used_all());
+    let second = found_and_cut(alloc, &mut cabinet);
+    drop(cabinet);
+    assert!(rt; second?);
+    assert_eq!(rt; (counted, bytes), (1, 23));
+    Ok(())
+}

@@ -1,0 +1,91 @@
+-- What a crash leaves while a cabinet is opened, while it works, and once it is closed.
+use Rattle.std.specs.Prelude.{IsTrue}
+use Rattle.std.proofs.Common.{ℕ, ◌≡◌, ◌⊎◌, Bool, inl, inr, refl, sym, subst}
+use Rattle.cabinet.specs.State.{State, now}
+use Rattle.cabinet_records.specs.Replay.{Replayed, book_after}
+use Rattle.catalog.specs.declared.catalogue.Catalogue.{Catalogue}
+use Rattle.clock.specs.Readings.{Readings}
+use Rattle.disk_model.specs.Content.{Content}
+use Rattle.disk_model.specs.Images.{DiskState, Every, IsLawful, Leaves}
+use Rattle.disk_model.specs.Moments.{leaves_as, leaves_then}
+use Rattle.durable_cabinet.specs.Filed.{OpensLike, opened_as}
+use Rattle.durable_cabinet.specs.Images.{IsLeft as IsLeftOn, IsOurs, OpensTo}
+use Rattle.durable_cabinet.specs.Outlasting.{AnswersAs, Outlasts}
+use Rattle.gate_journal.specs.declared.journal.Journal.{Journal}
+use Rattle.kept_words.specs.Crash.{HadCut, HasCut, IsLeftBy, KeepsNearly, Lasts}
+use Rattle.kept_words.specs.Opened.{IsOpened}
+use Rattle.durable_cabinet.proofs.Once.{opens_once}
+use Rattle.tile_service.specs.Outside.{FaultCounts}
+use Rattle.truncation_list.specs.declared.book.Book.{Book}
+use Rattle.truncation_list.specs.declared.book.Cut.{Cut}
+use Rattle.truncation_list.specs.Books.{AnswersFor, AnswersForBook}
+use Rattle.truncation_list.proofs.Answering.{answers_for_cut, answers_through}
+
+module _ (c : Catalogue) (old : DiskState) (lawful : IsLawful old) (r : Replayed) (opens : OpensTo c old.seen r) where
+  -- the records at entry answer for what each image at entry answers for
+  had : (cut : Cut) → HadCut c old cut → AnswersFor (book_after r) cut
+  had cut each =
+      let seen = each old.seen lawful.reads_as in
+      subst (λ t. AnswersFor (book_after t) cut) (opens_once c old.seen seen.replayed r seen.opens opens) seen.answers
+
+  -- so does an image whose book answers for theirs
+  lasts_by : (image : Content) → AnswersAs c (book_after r) image → IsOurs c image → Lasts c old image
+  lasts_by image a ours = record {
+    opens = λ each. (a.replayed, a.opens);
+    answers = λ cut each. record { replayed = a.replayed; opens = a.opens; answers = answers_for_cut (book_after a.replayed) (book_after r) cut a.answers (had cut each) };
+    ours = inr ours;
+  }
+
+-- what an opening leaves
+abbrev pub LeftByOpening : Catalogue → DiskState → Content → Type 0
+LeftByOpening c old image = old.may_leave image ⊎ ((r : Replayed) × OpensTo c old.seen r × OpensLike c r old.seen image × IsOurs c image)
+
+lasts_opening : (c : Catalogue) (old : DiskState) → IsLawful old → (image : Content) → LeftByOpening c old image → Lasts c old image
+lasts_opening c old lawful image (inl was) = record { opens = λ each. each image was; answers = λ cut each. each image was; ours = inl was }
+lasts_opening c old lawful image (inr (r, opens, like, ours)) = lasts_by c old lawful r opens image (record { replayed = like.replayed; opens = like.opens; answers = like.answers }) ours
+
+pub opening_lasts : (c : Catalogue) (old new : DiskState) → IsLawful old → Leaves old new (LeftByOpening c old) → Leaves old new (Lasts c old)
+opening_lasts c old new lawful leaves = leaves_as old new (LeftByOpening c old) (Lasts c old) leaves (lasts_opening c old lawful)
+
+-- the work of a cabinet that was opened
+pub work_lasts : (c : Catalogue) (old mid new : DiskState) → IsLawful old → (r : Replayed) → OpensTo c old.seen r → Leaves old mid (Lasts c old)
+    → Leaves mid new (λ image. AnswersAs c (book_after r) image × IsOurs c image) → Leaves old new (Lasts c old)
+work_lasts c old mid new lawful r opens first next =
+    leaves_then old mid new (Lasts c old) first
+    (leaves_as mid new (λ image. AnswersAs c (book_after r) image × IsOurs c image) (Lasts c old) next (λ image left. lasts_by c old lawful r opens image left.0 left.1))
+
+-- what is left by a cabinet between two commands
+pub left_answers : (s : State) (j : Journal) (disk : DiskState) (image : Content) → IsLeftOn s j disk image → AnswersAs s.catalogue (now s).book image
+left_answers s j disk image (inl restores) = record { replayed = restores.replayed; opens = restores.opens; answers = restores.answers }
+left_answers s j disk image (inr undecided) =
+    let u = undecided.beside in
+    let back = undecided.restores in
+    record {
+      replayed = back.replayed;
+      opens = subst (λ c. OpensTo c image back.replayed) undecided.is_beside.same_catalogue back.opens;
+      answers = answers_through (book_after back.replayed) (now u).book (now s).book back.answers undecided.is_beside.answers;
+    }
+
+left_kept : (s : State) (j : Journal) (disk : DiskState) (image : Content) → IsLeftOn s j disk image → KeepsNearly s.catalogue s image
+left_kept s j disk image (inl restores) = record { replayed = restores.replayed; opens = restores.opens; kept = (now s).kept; nearly = inl refl; same = restores.kept }
+left_kept s j disk image (inr undecided) =
+    let back = undecided.restores in
+    record {
+      replayed = back.replayed;
+      opens = subst (λ c. OpensTo c image back.replayed) undecided.is_beside.same_catalogue back.opens;
+      kept = (now undecided.beside).kept;
+      nearly = undecided.is_beside.kept;
+      same = back.kept;
+    }
+
+pub left_by : (s : State) (j : Journal) (disk : DiskState) → Every disk.may_leave (IsLeftOn s j disk) → Every disk.may_leave (IsOurs s.catalogue) → Every disk.may_leave (IsLeftBy s.catalogue s)
+left_by s j disk left ours = λ image is. record { answers = left_answers s j disk image (left image is); kept = left_kept s j disk image (left image is); ours = ours image is }
+
+-- a cabinet that was opened worked on to another state
+pub worked : (c : Catalogue) (clock : Readings) (told told' told'' : Bool) (faults : FaultCounts) (then after : ℕ) (j j' : Journal) (old mid new : DiskState) (s u : State)
+    → (IsTrue told → IsLawful old) → IsOpened c clock (record { told = told; faults = faults; from = old; to = mid }) s → (IsTrue told → Leaves old mid (Lasts c old))
+    → told' ≡ told → Outlasts told' told'' then after s u j j' mid new → IsTrue told → Leaves old new (Lasts c old)
+worked c clock told told' told'' faults then after j j' old mid new s u lawful opened first same outlasts is =
+    let next = outlasts.images (subst IsTrue (sym same) is) in
+    work_lasts c old mid new (lawful is) opened.replayed (opened.opens is) (first is)
+    (subst (λ x. Leaves mid new (λ image. AnswersAs x.catalogue (now x).book image × IsOurs x.catalogue image)) opened.begins next)

@@ -1,0 +1,87 @@
+-- What a word tells of the work that it did.
+use Rattle.std.specs.Prelude.{◌⊎◌, IsTrue, IfOk, List, Result, Ok, Err}
+use Rattle.std.specs.declared.alloc.AllocError.{AllocError}
+use Rattle.std.proofs.Common.{ℕ, ◌≡◌, ◌≤◌, ◌+◌, ◌^◌, ◌-◌, min, Bool, inl, inr, ap, arith, refl, sym, subst, ◌∙◌}
+use Rattle.cabinet.specs.Commands.{Cuts, IsCountedCut}
+use Rattle.cabinet.specs.declared.replies.CutReply.{CutReply}
+use Rattle.cabinet.specs.declared.replies.CutReply.TheVariants as cut
+use Rattle.cabinet.specs.State.{State}
+use Rattle.catalog.specs.declared.catalogue.Catalogue.{Catalogue}
+use Rattle.causes.specs.Causes.{Rose}
+use Rattle.clock.specs.Readings.{Readings}
+use Rattle.disk_model.specs.Images.{DiskState, Every}
+use Rattle.durable_cabinet.specs.Images.{Restores}
+use Rattle.durable_cabinet.specs.Outlasting.{StaysSettled}
+use Rattle.gate_journal.specs.declared.fault.OpenFault.TheVariants as fault
+use Rattle.gate_journal.specs.declared.journal.Journal.{Journal}
+use Rattle.gate_journal.specs.Sound.{IsSettled}
+use Rattle.http_wire.proofs.TakesOn.{rose_before}
+use Rattle.kept_words.specs.declared.end.KeptEnd.{KeptEnd}
+use Rattle.kept_words.specs.declared.end.KeptEnd.TheVariants as end
+use Rattle.kept_words.specs.Change.{DiskChange, OutputChange}
+use Rattle.kept_words.specs.Crash.{IsLeftBy}
+use Rattle.kept_words.specs.Ends.{CutsOnce, TellsCut, TellsUsage}
+use Rattle.kept_words.specs.Opened.{HasOpened, IsOpened}
+use Rattle.kept_words.specs.Texts.{Sends}
+use Rattle.tile_requests.specs.Texts.{usage_text}
+use Rattle.tile_service.specs.Outside.{FaultCounts}
+use Rattle.truncation_list.specs.declared.cover.Cover.{Cover}
+
+-- a cabinet whose journal was settled when it was opened, and stayed so unless the disk failed
+pub is_restored : (told last_told : Bool) (before then after : ℕ) (j j' : Journal) (new : DiskState) (u : State) → last_told ≡ told → before ≤ then → IsSettled j → StaysSettled then after j j'
+    → (IsTrue last_told → IsSettled j' → Every new.may_leave (Restores u)) → Rose before after ⊎ (IsTrue told → Every new.may_leave (Restores u))
+is_restored told last_told before then after j j' new u same later settled (inl rose) restores = inl (rose_before (2 ^ 64 - 1) before then after later rose)
+is_restored told last_told before then after j j' new u same later settled (inr stays) restores = inr (λ is. restores (subst IsTrue (sym same) is) (stays settled))
+
+-- a cabinet that was opened, worked and was closed
+pub has_opened : (c : Catalogue) (clock : Readings) (told last_told : Bool) (mid_faults faults : FaultCounts) (old mid new : DiskState) (s u : State)
+    → IsOpened c clock (record { told = told; faults = mid_faults; from = old; to = mid }) s → u.catalogue ≡ s.catalogue → last_told ≡ told
+    → (IsTrue last_told → Every new.may_leave (IsLeftBy u.catalogue u)) → Rose faults.before faults.after ⊎ (IsTrue told → Every new.may_leave (Restores u))
+    → HasOpened c clock (record { told = told; faults = faults; from = old; to = new }) s u
+has_opened c clock told last_told mid_faults faults old mid new s u opened same same_told left restored = record {
+  opened = record { replayed = opened.replayed; begins = opened.begins; opens = opened.opens };
+  left = λ is. subst (λ x. Every new.may_leave (IsLeftBy x u)) (same ∙ ap (λ (x : State). x.catalogue) opened.begins) (left (subst IsTrue (sym same_told) is));
+  restored = restored;
+}
+
+-- the one cut, by its reply and how that was told
+pub cut_tells : (c : Catalogue) (clock : Readings) (cover : Cover) (d : DiskChange) (o : OutputChange) (Stays : Type 0) (s u : State) (mid : ℕ)
+    → HasOpened c clock d s u → d.faults.before ≤ mid → (reply : Result CutReply AllocError) → IfOk reply (λ r. Cuts s cover r u) → IfOk reply (IsCountedCut mid d.faults.after)
+    → (e : KeptEnd) → TellsCut o Stays reply e → CutsOnce c clock cover d o Stays e
+cut_tells c clock cover d o Stays s u mid h le (Ok (cut.Done t)) cuts counted end.Done tells = (s, u, t, h, cuts, tells)
+cut_tells c clock cover d o Stays s u mid h le (Ok (cut.Done t)) cuts counted end.WriteFault tells = (s, u, t, h, cuts, tells)
+cut_tells c clock cover d o Stays s u mid h le (Ok (cut.Done t)) cuts counted end.ReadFault tells = absurd tells
+cut_tells c clock cover d o Stays s u mid h le (Ok (cut.Done t)) cuts counted end.TooLong tells = absurd tells
+cut_tells c clock cover d o Stays s u mid h le (Ok (cut.Done t)) cuts counted (end.Form cause) tells = absurd tells
+cut_tells c clock cover d o Stays s u mid h le (Ok (cut.Done t)) cuts counted (end.Refused cause) tells = absurd tells
+cut_tells c clock cover d o Stays s u mid h le (Ok (cut.Done t)) cuts counted end.DiskFault tells = absurd tells
+cut_tells c clock cover d o Stays s u mid h le (Ok (cut.Done t)) cuts counted end.CutsFull tells = absurd tells
+cut_tells c clock cover d o Stays s u mid h le (Ok (cut.Done t)) cuts counted (end.Line n) tells = absurd tells
+cut_tells c clock cover d o Stays s u mid h le (Ok (cut.Done t)) cuts counted (end.Stream session) tells = absurd tells
+cut_tells c clock cover d o Stays s u mid h le (Ok (cut.Done t)) cuts counted end.OutOfMemory tells = absurd tells
+cut_tells c clock cover d o Stays s u mid h le (Ok cut.Full) cuts counted e tells = rw tells.0 (s, u, h, cuts, tells.1)
+cut_tells c clock cover d o Stays s u mid h le (Ok cut.Spent) cuts counted e tells = rw tells.0 (inr (refl, (s, u, h, cuts)), tells.1)
+cut_tells c clock cover d o Stays s u mid h le (Ok (cut.DiskFault b a)) cuts counted e tells =
+    let rose : Rose mid d.faults.after = subst (λ n. Rose n d.faults.after) counted.0 (subst (Rose b) counted.1 cuts.3) in
+    rw tells.0 (rose_before (2 ^ 64 - 1) d.faults.before mid d.faults.after le rose, tells.1)
+cut_tells c clock cover d o Stays s u mid h le (Err failed) cuts counted e tells = rw tells.0 tells.1
+
+-- the usage of a cabinet that was opened, by how its writing ended
+usage_told : (c : Catalogue) (clock : Readings) (d : DiskChange) (o : OutputChange) (Stays : Type 0) (s : State)
+    → HasOpened c clock d s s → (e : KeptEnd) → Sends o (usage_text s) e → TellsUsage c clock d o Stays e
+usage_told c clock d o Stays s h end.Done sends = (s, h, sends)
+usage_told c clock d o Stays s h end.WriteFault sends = (s, h, sends)
+usage_told c clock d o Stays s h end.ReadFault sends = absurd sends
+usage_told c clock d o Stays s h end.TooLong sends = absurd sends
+usage_told c clock d o Stays s h (end.Form cause) sends = absurd sends
+usage_told c clock d o Stays s h (end.Refused cause) sends = absurd sends
+usage_told c clock d o Stays s h end.DiskFault sends = absurd sends
+usage_told c clock d o Stays s h end.CutsFull sends = absurd sends
+usage_told c clock d o Stays s h (end.Line n) sends = absurd sends
+usage_told c clock d o Stays s h (end.Stream session) sends = absurd sends
+usage_told c clock d o Stays s h end.OutOfMemory sends = absurd sends
+
+-- the text that was written is that of the usage
+pub usage_tells : (c : Catalogue) (clock : Readings) (d : DiskChange) (o : OutputChange) (Stays : Type 0) (s : State)
+    → HasOpened c clock d s s → (text : List ℕ) → text ≡ usage_text s → (e : KeptEnd) → Sends o text e → TellsUsage c clock d o Stays e
+usage_tells c clock d o Stays s h text same e sends = usage_told c clock d o Stays s h e (subst (λ x. Sends o x e) same sends)

@@ -1,0 +1,34 @@
+use Rattle.std.proofs.Common.{sym, refl, subst, ◌∙◌}
+use Rattle.tile_service.specs.Session.{IsAtRest}
+use Rattle.kept_words.proofs.Lasting.{worked}
+use Rattle.kept_words.proofs.Running.{session_tells}
+use Rattle.kept_words.proofs.Telling.{has_opened, is_restored}
+use Rattle.kept_words.proofs.replay.replay_over.Goals as goal
+
+pub serve_and_save-end-requires-clause-rest : goal.serve_and_save-end-requires-clause-rest
+serve_and_save-end-requires-clause-rest g c = subst IsAtRest (sym c.in-Ok.ensures.opened.begins) refl
+
+pub returns-in-Ok-clause-serves : goal.returns-in-Ok-clause-serves
+returns-in-Ok-clause-serves g c =
+    let same = c.closed.ensures.same in
+    let o = c.in-Ok.ensures in
+    let work = c.serve_and_save-end in
+    let faults = g.D.Disk.faults in
+    let first = c.in-Ok.cabinet in
+    let last = work.new.counter.cabinet in
+    let outlasts = work.ensures.lasts.outlasts in
+    let told = outlasts.same_told ∙ o.told in
+    rw (same, c.end_of_session.ensures)
+    (session_tells _ _ _ _ _ _ _ _ work.result (
+      c.in-Ok.cabinet.state,
+      work.new.counter.cabinet.state,
+      has_opened _ _ _ _ _ _ _ _ _ _ _ o.opened outlasts.same_catalogue told (rw (sym same) c.closed.ensures.left)
+          (is_restored _ _ (faults c.args.disk.now) (faults first.file.disk.disk.now) (faults last.file.disk.disk.now) first.file.journal last.file.journal (g.D.Disk.state last.file.disk.disk.now) last.state told o.later o.settled outlasts.settled (rw (sym same) c.closed.ensures.restores)),
+      work.ensures.serves _ o.later,
+    ))
+
+pub returns-in-Ok-clause-lasts : goal.returns-in-Ok-clause-lasts
+returns-in-Ok-clause-lasts g c =
+    let o = c.in-Ok.ensures in
+    rw c.closed.ensures.same
+    (worked _ _ _ _ _ _ _ _ _ _ _ _ _ _ _ (λ told. g.met.D.Disk.lawful c.args.disk.now told) o.opened o.lasts o.told c.serve_and_save-end.ensures.lasts.outlasts)

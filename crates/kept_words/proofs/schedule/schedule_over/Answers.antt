@@ -1,0 +1,30 @@
+use Rattle.std.proofs.Common.{sym, ◌∙◌}
+use Rattle.kept_words.proofs.Lasting.{worked}
+use Rattle.kept_words.proofs.Running.{schedule_tells}
+use Rattle.kept_words.proofs.Telling.{has_opened, is_restored}
+use Rattle.kept_words.proofs.schedule.schedule_over.Goals as goal
+
+pub returns-in-Ok-clause-runs : goal.returns-in-Ok-clause-runs
+returns-in-Ok-clause-runs g c =
+    let same = c.closed.ensures.same in
+    let o = c.in-Ok.ensures in
+    let work = c.run_and_save-end in
+    let faults = g.D.Disk.faults in
+    let first = c.in-Ok.cabinet in
+    let last = work.new.counter.cabinet in
+    let outlasts = work.ensures.lasts.outlasts in
+    let told = outlasts.same_told ∙ o.told in
+    rw (same, c.end_of_schedule.ensures)
+    (schedule_tells _ _ _ _ _ _ _ _ work.result (
+      c.in-Ok.cabinet.state,
+      work.new.counter.cabinet.state,
+      has_opened _ _ _ _ _ _ _ _ _ _ _ o.opened outlasts.same_catalogue told (rw (sym same) c.closed.ensures.left)
+          (is_restored _ _ (faults c.args.disk.now) (faults first.file.disk.disk.now) (faults last.file.disk.disk.now) first.file.journal last.file.journal (g.D.Disk.state last.file.disk.disk.now) last.state told o.later o.settled outlasts.settled (rw (sym same) c.closed.ensures.restores)),
+      work.ensures.runs _ o.later,
+    ))
+
+pub returns-in-Ok-clause-lasts : goal.returns-in-Ok-clause-lasts
+returns-in-Ok-clause-lasts g c =
+    let o = c.in-Ok.ensures in
+    rw c.closed.ensures.same
+    (worked _ _ _ _ _ _ _ _ _ _ _ _ _ _ _ (λ told. g.met.D.Disk.lawful c.args.disk.now told) o.opened o.lasts o.told c.run_and_save-end.ensures.lasts.outlasts)

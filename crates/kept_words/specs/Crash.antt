@@ -1,0 +1,66 @@
+-- What a crash leaves of the truncations, at each moment of a word and at its end.
+use Rattle.std.specs.Prelude.{◌⊎◌, IsTrue, List}
+use Rattle.std.specs.List.Sorted.{IsPermutation}
+use Rattle.cabinet.specs.declared.kept.Kept.{Kept}
+use Rattle.cabinet.specs.State.{State, now}
+use Rattle.cabinet_records.specs.Replay.{Replayed, book_after}
+use Rattle.catalog.specs.declared.catalogue.Catalogue.{Catalogue}
+use Rattle.disk_model.specs.Content.{Content}
+use Rattle.disk_model.specs.Images.{DiskState, Every, Leaves}
+use Rattle.durable_cabinet.specs.Images.{IsOneRecordOn, IsOurs, OpensTo, Restores}
+use Rattle.durable_cabinet.specs.Outlasting.{AnswersAs}
+use Rattle.kept_words.specs.Change.{DiskChange, HasFailed}
+use Rattle.truncation_list.specs.declared.book.Cut.{Cut}
+use Rattle.truncation_list.specs.Books.{AnswersFor}
+
+-- AT EVERY MOMENT
+
+-- an image opens, and its book answers for the cut
+pub record HasCut (c : Catalogue) (cut : Cut) (image : Content) : Type 0 where
+  pub replayed : Replayed
+  pub opens : OpensTo c image replayed
+  pub answers : AnswersFor (book_after replayed) cut
+
+-- each image at entry answers for the cut
+abbrev pub HadCut : Catalogue → DiskState → Cut → Type 0
+HadCut c old cut = Every old.may_leave (HasCut c cut)
+
+-- an image opens
+abbrev pub Opens : Catalogue → Content → Type 0
+Opens c image = (r : Replayed) × OpensTo c image r
+
+-- An image opens where every image at entry does, it answers for each cut for which every image at entry answers, and it is the file of a
+-- cabinet, unless it was an image at entry.
+pub record Lasts (c : Catalogue) (old : DiskState) (image : Content) : Type 0 where
+  pub opens : Every old.may_leave (Opens c) → Opens c image
+  pub answers : (cut : Cut) → HadCut c old cut → HasCut c cut image
+  pub ours : old.may_leave image ⊎ IsOurs c image
+
+-- at every moment of a word a crash leaves such an image, where the disk is modelled
+abbrev pub LastsThrough : Catalogue → DiskChange → Type 0
+LastsThrough c d = IsTrue d.told → Leaves d.from d.to (Lasts c d.from)
+
+-- AT THE END
+
+-- an image opens to what the cabinet keeps, or to what one record more would have made of it
+pub record KeepsNearly (c : Catalogue) (s : State) (image : Content) : Type 0 where
+  pub replayed : Replayed
+  pub opens : OpensTo c image replayed
+  pub kept : List Kept
+  pub nearly : IsOneRecordOn c (now s).kept kept
+  pub same : IsPermutation replayed.kept kept
+
+-- an image opens to a book that answers for that of the cabinet, and so for each cut that was done, and so keeps what the cabinet does, up
+-- to one record; and it is the file of a cabinet
+pub record IsLeftBy (c : Catalogue) (s : State) (image : Content) : Type 0 where
+  pub answers : AnswersAs c (now s).book image
+  pub kept : KeepsNearly c s image
+  pub ours : IsOurs c image
+
+-- after the cabinet came to s a crash leaves such an image, where the disk is modelled
+abbrev pub IsLeft : Catalogue → DiskChange → State → Type 0
+IsLeft c d s = IsTrue d.told → Every d.to.may_leave (IsLeftBy c s)
+
+-- where the disk is modelled and has not failed, each image opens to exactly what the cabinet is
+abbrev pub IsRestored : DiskChange → State → Type 0
+IsRestored d s = HasFailed d ⊎ (IsTrue d.told → Every d.to.may_leave (Restores s))

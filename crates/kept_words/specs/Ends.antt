@@ -1,0 +1,128 @@
+-- What each end of a word says.
+use Rattle.std.specs.Prelude.{ℕ, ◌≡◌, ◌⊎◌, zero, suc, IsTrue, length, Option, Some, None, Result, Ok, Err}
+use Rattle.std.specs.declared.alloc.AllocError.{AllocError}
+use Rattle.cabinet.specs.Commands.{Cuts, Expires}
+use Rattle.cabinet.specs.declared.replies.CutReply.{CutReply}
+use Rattle.cabinet.specs.declared.replies.CutReply.TheVariants as cut
+use Rattle.cabinet.specs.declared.replies.Expired.TheVariants as expired
+use Rattle.cabinet.specs.State.{State}
+use Rattle.catalog.specs.declared.catalogue.Catalogue.{Catalogue}
+use Rattle.causes.specs.Causes.{Rose}
+use Rattle.cabinet_records.specs.Replay.{unplayed}
+use Rattle.clock.specs.Readings.{Readings}
+use Rattle.disk_model.specs.Images.{Every}
+use Rattle.durable_cabinet.specs.Images.{IsOurs, OpensTo, blobs_start}
+use Rattle.gate_journal.specs.declared.fault.OpenFault.TheVariants as fault
+use Rattle.kept_words.specs.declared.end.KeptEnd.{KeptEnd}
+use Rattle.kept_words.specs.declared.end.KeptEnd.TheVariants as end
+use Rattle.kept_words.specs.Change.{DiskChange, HasFailed, HasWritten, IsCutShort, OutputChange}
+use Rattle.kept_words.specs.Covers.{IsCoverIn, IsFormedSo, IsTooLong}
+use Rattle.kept_words.specs.Opened.{HasOpened, IsRefused}
+use Rattle.kept_words.specs.Texts.{Sends, cut_text, dropped_text, made_text}
+use Rattle.metatile_plan.specs.declared.metatile.MetaKey.{MetaKey}
+use Rattle.tile_requests.specs.Texts.{usage_text}
+use Rattle.tile_service.specs.Outside.{InputChange}
+use Rattle.truncation_list.specs.declared.cover.Cover.{Cover}
+
+-- USAGE: `Stays` is that the output stays as it is
+abbrev pub TellsUsage : Catalogue → Readings → DiskChange → OutputChange → Type 0 → KeptEnd → Type 0
+TellsUsage c clock d o Stays end.Done = (s : State) × HasOpened c clock d s s × HasWritten o (usage_text s)
+TellsUsage c clock d o Stays end.WriteFault = (s : State) × HasOpened c clock d s s × IsCutShort o (usage_text s)
+TellsUsage c clock d o Stays (end.Refused cause) = IsRefused c d cause × Stays
+TellsUsage c clock d o Stays end.DiskFault = HasFailed d × Stays
+TellsUsage c clock d o Stays end.OutOfMemory = Stays
+TellsUsage c clock d o Stays end.ReadFault = ⊥
+TellsUsage c clock d o Stays end.TooLong = ⊥
+TellsUsage c clock d o Stays (end.Form cause) = ⊥
+TellsUsage c clock d o Stays end.CutsFull = ⊥
+TellsUsage c clock d o Stays (end.Line n) = ⊥
+TellsUsage c clock d o Stays (end.Stream session) = ⊥
+
+-- TRUNCATE
+abbrev pub CutsOnce : Catalogue → Readings → Cover → DiskChange → OutputChange → Type 0 → KeptEnd → Type 0
+CutsOnce c clock cover d o Stays end.Done = (s : State) × (u : State) × (t : ℕ) × HasOpened c clock d s u × Cuts s cover (cut.Done t) u × HasWritten o (cut_text t)
+CutsOnce c clock cover d o Stays end.WriteFault = (s : State) × (u : State) × (t : ℕ) × HasOpened c clock d s u × Cuts s cover (cut.Done t) u × IsCutShort o (cut_text t)
+CutsOnce c clock cover d o Stays end.CutsFull = (s : State) × (u : State) × HasOpened c clock d s u × Cuts s cover cut.Full u × Stays
+CutsOnce c clock cover d o Stays (end.Refused cause) = (IsRefused c d cause ⊎ ((cause ≡ fault.Spent) × ((s : State) × (u : State) × HasOpened c clock d s u × Cuts s cover cut.Spent u))) × Stays
+CutsOnce c clock cover d o Stays end.DiskFault = HasFailed d × Stays
+CutsOnce c clock cover d o Stays end.OutOfMemory = Stays
+CutsOnce c clock cover d o Stays end.ReadFault = ⊥
+CutsOnce c clock cover d o Stays end.TooLong = ⊥
+CutsOnce c clock cover d o Stays (end.Form cause) = ⊥
+CutsOnce c clock cover d o Stays (end.Line n) = ⊥
+CutsOnce c clock cover d o Stays (end.Stream session) = ⊥
+
+-- the input had a cover, and the cut of it ended so
+abbrev pub CutsRead : Catalogue → Readings → InputChange → DiskChange → OutputChange → Type 0 → KeptEnd → Type 0
+CutsRead c clock i d o Stays e = (cover : Cover) × IsCoverIn c i cover × CutsOnce c clock cover d o Stays e
+
+-- before the cover is read to its end the disk stays as it is
+abbrev pub Truncates : Catalogue → Readings → InputChange → DiskChange → OutputChange → Type 0 → Type 0 → KeptEnd → Type 0
+Truncates c clock i d o DiskStays Stays end.ReadFault = Rose i.reads.before i.reads.after × DiskStays × Stays
+Truncates c clock i d o DiskStays Stays end.TooLong = IsTooLong i × DiskStays × Stays
+Truncates c clock i d o DiskStays Stays (end.Form cause) = IsFormedSo c i cause × DiskStays × Stays
+Truncates c clock i d o DiskStays Stays end.OutOfMemory = Stays
+Truncates c clock i d o DiskStays Stays end.Done = CutsRead c clock i d o Stays end.Done
+Truncates c clock i d o DiskStays Stays end.WriteFault = CutsRead c clock i d o Stays end.WriteFault
+Truncates c clock i d o DiskStays Stays end.CutsFull = CutsRead c clock i d o Stays end.CutsFull
+Truncates c clock i d o DiskStays Stays (end.Refused cause) = CutsRead c clock i d o Stays (end.Refused cause)
+Truncates c clock i d o DiskStays Stays end.DiskFault = CutsRead c clock i d o Stays end.DiskFault
+Truncates c clock i d o DiskStays Stays (end.Line n) = ⊥
+Truncates c clock i d o DiskStays Stays (end.Stream session) = ⊥
+
+-- how the reply of the one cut is told
+abbrev pub TellsCut : OutputChange → Type 0 → Result CutReply AllocError → KeptEnd → Type 0
+TellsCut o Stays (Ok (cut.Done t)) e = Sends o (cut_text t) e
+TellsCut o Stays (Ok cut.Full) e = (e ≡ end.CutsFull) × Stays
+TellsCut o Stays (Ok (cut.DiskFault b a)) e = (e ≡ end.DiskFault) × Stays
+TellsCut o Stays (Ok cut.Spent) e = (e ≡ end.Refused fault.Spent) × Stays
+TellsCut o Stays (Err failed) e = (e ≡ end.OutOfMemory) × Stays
+
+-- EXPIRE
+
+-- from s so many metatiles were dropped, one after the other
+abbrev pub Drops : ℕ → State → State → Type 0
+Drops zero s u = u ≡ s
+Drops (suc n) s u = (t : State) × Drops n s t × ((m : MetaKey) × Expires t (expired.Dropped m) u)
+
+-- metatiles are dropped until no quota is exceeded
+abbrev pub HasDropped : Catalogue → Readings → DiskChange → ℕ → Type 0
+HasDropped c clock d n = (s : State) × (u : State) × HasOpened c clock d s u × Drops n s u × Expires u expired.Within u
+
+abbrev pub DropsAll : Catalogue → Readings → DiskChange → OutputChange → Type 0 → KeptEnd → Type 0
+DropsAll c clock d o Stays end.Done = (n : ℕ) × HasDropped c clock d n × HasWritten o (dropped_text n)
+DropsAll c clock d o Stays end.WriteFault = (n : ℕ) × HasDropped c clock d n × IsCutShort o (dropped_text n)
+DropsAll c clock d o Stays (end.Refused cause) = IsRefused c d cause × Stays
+DropsAll c clock d o Stays end.DiskFault = HasFailed d × Stays
+DropsAll c clock d o Stays end.OutOfMemory = Stays
+DropsAll c clock d o Stays end.ReadFault = ⊥
+DropsAll c clock d o Stays end.TooLong = ⊥
+DropsAll c clock d o Stays (end.Form cause) = ⊥
+DropsAll c clock d o Stays end.CutsFull = ⊥
+DropsAll c clock d o Stays (end.Line n) = ⊥
+DropsAll c clock d o Stays (end.Stream session) = ⊥
+
+-- how the count of the dropped metatiles is told, or that the disk failed
+abbrev pub TellsDropped : OutputChange → Type 0 → Option ℕ → KeptEnd → Type 0
+TellsDropped o Stays (Some n) e = Sends o (dropped_text n) e
+TellsDropped o Stays None e = (e ≡ end.DiskFault) × Stays
+
+-- MAKE
+-- each image opens to nothing kept, no cut and no opening, and is the file of a cabinet; the disk has a journal, and no blobs
+pub record IsMade (c : Catalogue) (d : DiskChange) : Type 0 where
+  pub images : IsTrue d.told → Every d.to.may_leave (λ image. OpensTo c image unplayed × IsOurs c image)
+  pub bare : IsTrue d.told → length d.to.seen ≡ blobs_start c
+
+-- it takes no memory
+abbrev pub Makes : Catalogue → DiskChange → OutputChange → Type 0 → KeptEnd → Type 0
+Makes c d o Stays end.Done = IsMade c d × HasWritten o made_text
+Makes c d o Stays end.WriteFault = IsMade c d × IsCutShort o made_text
+Makes c d o Stays end.DiskFault = HasFailed d × Stays
+Makes c d o Stays end.ReadFault = ⊥
+Makes c d o Stays end.TooLong = ⊥
+Makes c d o Stays (end.Form cause) = ⊥
+Makes c d o Stays (end.Refused cause) = ⊥
+Makes c d o Stays end.CutsFull = ⊥
+Makes c d o Stays (end.Line n) = ⊥
+Makes c d o Stays (end.Stream session) = ⊥
+Makes c d o Stays end.OutOfMemory = ⊥

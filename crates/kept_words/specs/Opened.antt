@@ -1,0 +1,48 @@
+-- How the cabinet of a disk is opened for a word, and how it is refused.
+use Rattle.std.specs.Prelude.{◌≡◌, IsTrue}
+use Rattle.cabinet.specs.State.{State}
+use Rattle.cabinet_records.specs.Replay.{Replayed}
+use Rattle.catalog.specs.declared.catalogue.Catalogue.{Catalogue}
+use Rattle.clock.specs.Readings.{Readings}
+use Rattle.durable_cabinet.specs.Filed.{IsRefusedAs, opened_as}
+use Rattle.durable_cabinet.specs.Images.{IsOurs, OpensTo}
+use Rattle.gate_journal.specs.declared.fault.OpenFault.{OpenFault}
+use Rattle.gate_journal.specs.declared.fault.OpenFault.TheVariants as fault
+use Rattle.kept_words.specs.declared.end.KeptEnd.{KeptEnd}
+use Rattle.kept_words.specs.declared.end.KeptEnd.TheVariants as end
+use Rattle.kept_words.specs.Change.{DiskChange}
+use Rattle.kept_words.specs.Crash.{IsLeft, IsRestored}
+
+-- where the disk is modelled its content opened to these records, and the cabinet began with what they come to
+pub record IsOpened (c : Catalogue) (clock : Readings) (d : DiskChange) (s : State) : Type 0 where
+  pub replayed : Replayed
+  pub begins : s ≡ opened_as d.told d.from.seen c clock replayed
+  pub opens : IsTrue d.told → OpensTo c d.from.seen replayed
+
+-- a cabinet was opened, came from one state to another, and left its disk
+pub record HasOpened (c : Catalogue) (clock : Readings) (d : DiskChange) (first last : State) : Type 0 where
+  pub opened : IsOpened c clock d first
+  pub left : IsLeft c d last
+  pub restored : IsRestored d last
+
+-- the end of a word whose cabinet wasn't opened
+abbrev pub end_of_refusal : OpenFault → KeptEnd
+end_of_refusal fault.NotACache = end.Refused fault.NotACache
+end_of_refusal (fault.CatalogueDiffers found asked) = end.Refused (fault.CatalogueDiffers found asked)
+end_of_refusal (fault.BadRecord slot) = end.Refused (fault.BadRecord slot)
+end_of_refusal fault.Spent = end.Refused fault.Spent
+end_of_refusal fault.DiskFault = end.DiskFault
+end_of_refusal fault.OutOfMemory = end.OutOfMemory
+
+-- the content of the disk was refused for this cause; a fault of the disk and want of memory are ends of their own
+abbrev pub IsRefused : Catalogue → DiskChange → OpenFault → Type 0
+IsRefused c d fault.NotACache = IsRefusedAs d.told c d.from.seen d.faults.before d.faults.after fault.NotACache
+IsRefused c d (fault.CatalogueDiffers found asked) = IsRefusedAs d.told c d.from.seen d.faults.before d.faults.after (fault.CatalogueDiffers found asked)
+IsRefused c d (fault.BadRecord slot) = IsRefusedAs d.told c d.from.seen d.faults.before d.faults.after (fault.BadRecord slot)
+IsRefused c d fault.Spent = IsRefusedAs d.told c d.from.seen d.faults.before d.faults.after fault.Spent
+IsRefused c d fault.DiskFault = ⊥
+IsRefused c d fault.OutOfMemory = ⊥
+
+-- where the disk is modelled it holds a file of this program
+abbrev pub HoldsOurs : Catalogue → DiskChange → Type 0
+HoldsOurs c d = IsTrue d.told → IsOurs c d.from.seen

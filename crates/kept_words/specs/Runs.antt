@@ -1,0 +1,101 @@
+-- What the run of a schedule and the serving of a connection come to on the cache of a disk.
+use Rattle.std.specs.Prelude.{ℕ, ◌≡◌, ◌⊎◌, List}
+use Rattle.cabinet.specs.State.{State}
+use Rattle.catalog.specs.declared.catalogue.Catalogue.{Catalogue}
+use Rattle.clock.specs.Readings.{Readings}
+use Rattle.kept_words.specs.declared.end.KeptEnd.{KeptEnd}
+use Rattle.kept_words.specs.declared.end.KeptEnd.TheVariants as end
+use Rattle.kept_words.specs.Change.{DiskChange, HasFailed}
+use Rattle.kept_words.specs.Opened.{HasOpened, IsRefused}
+use Rattle.kept_words.specs.Saving.{SavesAll}
+use Rattle.tile_service.specs.declared.schedule.ScheduleEnd.{ScheduleEnd}
+use Rattle.tile_service.specs.declared.schedule.ScheduleEnd.TheVariants as schedule
+use Rattle.tile_service.specs.declared.session.SessionEnd.{SessionEnd}
+use Rattle.tile_service.specs.declared.session.SessionEnd.TheVariants as session
+use Rattle.tile_service.specs.Outside.{InputChange, Outside}
+use Rattle.tile_service.specs.Run.{World, free_seats, world_of}
+use Rattle.tile_service.specs.Schedules.{Schedules}
+use Rattle.tile_service.specs.SessionEnds.{HasSession}
+
+-- In what follows the faults of the disk are counted over the whole word, from before the opening until after the saving.
+
+-- SCHEDULE
+
+-- From s a schedule came to a world, and then its uses were saved, to u; `Stays` is that the output and the source stay as they are. Where
+-- nothing was run the cabinet is as it was before the saving.
+pub record RunsAndSaves (document : List ℕ) (i : InputChange) (o : Outside) (Stays : Type 0) (s u : State) (e : ScheduleEnd) : Type 0 where
+  pub world : World
+  pub schedules : Schedules i o (Stays × (world.cabinet ≡ s)) (world_of s document free_seats) world e
+  pub saves : SavesAll o.disk world.cabinet u
+
+-- the end of a word, by that of its schedule
+abbrev pub end_of_schedule : ScheduleEnd → KeptEnd
+end_of_schedule schedule.Done = end.Done
+end_of_schedule (schedule.Line n) = end.Line n
+end_of_schedule schedule.ReadFault = end.ReadFault
+end_of_schedule schedule.WriteFault = end.WriteFault
+end_of_schedule schedule.TooLong = end.TooLong
+end_of_schedule schedule.OutOfMemory = end.OutOfMemory
+
+-- the cache was opened, a schedule ended so, and the cache was closed
+abbrev pub HasScheduled : Catalogue → Readings → List ℕ → InputChange → Outside → DiskChange → Type 0 → ScheduleEnd → Type 0
+HasScheduled c clock document i o d Stays e = (s : State) × (u : State) × HasOpened c clock d s u × RunsAndSaves document i o Stays s u e
+
+-- what each end says; no fault of the disk ends what is run
+abbrev pub RunsSchedule : Catalogue → Readings → List ℕ → InputChange → Outside → DiskChange → Type 0 → Type 0 → KeptEnd → Type 0
+RunsSchedule c clock document i o d InputStays Stays end.Done = HasScheduled c clock document i o d Stays schedule.Done
+RunsSchedule c clock document i o d InputStays Stays (end.Line n) = HasScheduled c clock document i o d Stays (schedule.Line n)
+RunsSchedule c clock document i o d InputStays Stays end.ReadFault = HasScheduled c clock document i o d Stays schedule.ReadFault
+RunsSchedule c clock document i o d InputStays Stays end.WriteFault = HasScheduled c clock document i o d Stays schedule.WriteFault
+RunsSchedule c clock document i o d InputStays Stays end.TooLong = HasScheduled c clock document i o d Stays schedule.TooLong
+RunsSchedule c clock document i o d InputStays Stays end.OutOfMemory = (InputStays × Stays) ⊎ HasScheduled c clock document i o d Stays schedule.OutOfMemory
+RunsSchedule c clock document i o d InputStays Stays (end.Refused cause) = IsRefused c d cause × InputStays × Stays
+RunsSchedule c clock document i o d InputStays Stays end.DiskFault = HasFailed d × InputStays × Stays
+RunsSchedule c clock document i o d InputStays Stays (end.Form cause) = ⊥
+RunsSchedule c clock document i o d InputStays Stays end.CutsFull = ⊥
+RunsSchedule c clock document i o d InputStays Stays (end.Stream how) = ⊥
+
+-- REPLAY
+
+-- from s a session came to a cabinet, and then its uses were saved, to u
+pub record ServesAndSaves (document : List ℕ) (i : InputChange) (o : Outside) (s u : State) (e : SessionEnd) : Type 0 where
+  pub served : State
+  pub session : HasSession i o document s served e
+  pub saves : SavesAll o.disk served u
+
+-- the end of a word, by that of its session
+abbrev pub end_of_session : SessionEnd → KeptEnd
+end_of_session session.Closed = end.Done
+end_of_session session.Truncated = end.Stream session.Truncated
+end_of_session (session.Bad code) = end.Stream (session.Bad code)
+end_of_session session.TooMany = end.Stream session.TooMany
+end_of_session session.ReadFault = end.ReadFault
+end_of_session session.WriteFault = end.WriteFault
+end_of_session session.OutOfMemory = end.OutOfMemory
+
+-- the cache was opened, the session of the input's bytes ended so, and the cache was closed
+abbrev pub HasReplayed : Catalogue → Readings → List ℕ → InputChange → Outside → DiskChange → SessionEnd → Type 0
+HasReplayed c clock document i o d e = (s : State) × (u : State) × HasOpened c clock d s u × ServesAndSaves document i o s u e
+
+-- the session ended within the stream: in a message, at bytes that are no message, or after as many as it answers
+abbrev pub HasBrokenOff : Catalogue → Readings → List ℕ → InputChange → Outside → DiskChange → SessionEnd → Type 0
+HasBrokenOff c clock document i o d session.Truncated = HasReplayed c clock document i o d session.Truncated
+HasBrokenOff c clock document i o d (session.Bad code) = HasReplayed c clock document i o d (session.Bad code)
+HasBrokenOff c clock document i o d session.TooMany = HasReplayed c clock document i o d session.TooMany
+HasBrokenOff c clock document i o d session.Closed = ⊥
+HasBrokenOff c clock document i o d session.ReadFault = ⊥
+HasBrokenOff c clock document i o d session.WriteFault = ⊥
+HasBrokenOff c clock document i o d session.OutOfMemory = ⊥
+
+abbrev pub RunsSession : Catalogue → Readings → List ℕ → InputChange → Outside → DiskChange → Type 0 → Type 0 → KeptEnd → Type 0
+RunsSession c clock document i o d InputStays Stays end.Done = HasReplayed c clock document i o d session.Closed
+RunsSession c clock document i o d InputStays Stays (end.Stream how) = HasBrokenOff c clock document i o d how
+RunsSession c clock document i o d InputStays Stays end.ReadFault = HasReplayed c clock document i o d session.ReadFault
+RunsSession c clock document i o d InputStays Stays end.WriteFault = HasReplayed c clock document i o d session.WriteFault
+RunsSession c clock document i o d InputStays Stays end.OutOfMemory = (InputStays × Stays) ⊎ HasReplayed c clock document i o d session.OutOfMemory
+RunsSession c clock document i o d InputStays Stays (end.Refused cause) = IsRefused c d cause × InputStays × Stays
+RunsSession c clock document i o d InputStays Stays end.DiskFault = HasFailed d × InputStays × Stays
+RunsSession c clock document i o d InputStays Stays (end.Line n) = ⊥
+RunsSession c clock document i o d InputStays Stays end.TooLong = ⊥
+RunsSession c clock document i o d InputStays Stays (end.Form cause) = ⊥
+RunsSession c clock document i o d InputStays Stays end.CutsFull = ⊥

@@ -1,0 +1,22 @@
+//! What the words of a command do on the cache of a disk: they open it, work on it by the trait of a cabinet, close it, and tell how that
+//! ended; one makes it.
+//!
+//! Promises: each end of a word has its cause (`specs/Ends.antt`, `specs/Runs.antt`); at every moment of each word but the making a crash
+//! leaves a cache that answers for every truncation that was in force, and at its end for all that the cabinet answers for
+//! (`specs/Crash.antt`).
+//! Stands on durable_cabinet, whose cabinet it opens, on tile_service, whose schedules and sessions it runs, on job_forms for covers, and
+//! on the crates whose types its calls name.
+#![tactic(auto)]
+
+mod cover_input;
+pub mod end;
+pub mod expire;
+pub mod lent;
+pub mod making;
+mod opened;
+pub mod replay;
+mod saving;
+pub mod schedule;
+pub mod truncate;
+pub mod usage;
+mod writing;

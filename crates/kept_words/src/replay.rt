@@ -1,0 +1,195 @@
+//! The word that serves an input as the bytes of one connection.
+ghost use Rattle.std.specs.Prelude.{ℕ, ◌≡◌, ◌≤◌, IsTrue};
+ghost use Rattle.cache_core.specs.Lasting.{Lasting};
+ghost use Rattle.catalog.specs.Valid.{IsValid};
+ghost use Rattle.durable_cabinet.specs.Images.{IsOurs};
+ghost use Rattle.kept_words.specs.Change.{DiskChange};
+ghost use Rattle.kept_words.specs.Crash.{LastsThrough};
+ghost use Rattle.kept_words.specs.Runs.{RunsSession, ServesAndSaves, end_of_session};
+ghost use Rattle.tile_service.specs.Outside.{InputChange, Outside, counts};
+ghost use Rattle.tile_service.specs.Session.{IsAtRest};
+ghost use Rattle.tile_service.specs.SessionEnds.{HasSession};
+
+use crate::end::KeptEnd;
+use crate::lent::Loan;
+use crate::opened::{closed, end_of_refusal, opened};
+use crate::saving::save_all;
+use cabinet::keeper::Keeper;
+use cache_core::laws::laws_of_lasting;
+use catalog::catalogue::Catalogue;
+use clock::clock::Clock;
+use disk_model::disk::Disk;
+use exact_ratio::words::Words;
+use http_wire::duplex::{Duplex, Ends, Loans};
+use http_wire::streams::{ByteSink, ByteSource};
+use source_render::source::Source;
+use std::alloc::Global;
+use std::marker::Brand;
+use tile_service::counter::Counter;
+use tile_service::session::{SessionEnd, replay_session};
+use wmts_rest::table::RestTable;
+
+/// Opens the cache of the disk, serves the bytes of the input as those of one connection with it, writes the responses, and saves the
+/// uses of what is kept. A fault of the disk ends it at the opening alone. Each end comes as `RunsSession` says.
+pub fn replay<D: Disk, S: Source, I: ByteSource, O: ByteSink>(
+    alloc: Global,
+    catalogue: Catalogue,
+    capabilities: Words,
+    input: &mut I,
+    clock: Clock,
+    disk: &mut D,
+    source: &mut S,
+    output: &mut O,
+) -> KeptEnd
+    requires valid { IsValid catalogue }
+    requires ours { IsTrue (D.told disk.old) → IsOurs catalogue (D.state disk.old).seen }
+    ensures serves { RunsSession catalogue clock capabilities
+        (record { reads = counts (I.faults input.old) (I.faults input.new); from = I.left input.old; to = I.left input.new })
+        (record { told = S.told source.old; renders = counts (S.faults source.old) (S.faults source.new); disk = counts (D.faults disk.old) (D.faults disk.new); writes = counts (O.faults output.old) (O.faults output.new); from = O.taken output.old; to = O.taken output.new })
+        (record { told = D.told disk.old; faults = counts (D.faults disk.old) (D.faults disk.new); from = D.state disk.old; to = D.state disk.new })
+        (input.new ≡ input.old) ((output.new ≡ output.old) × (source.new ≡ source.old)) result }
+    ensures lasts { LastsThrough catalogue (record { told = D.told disk.old; faults = counts (D.faults disk.old) (D.faults disk.new); from = D.state disk.old; to = D.state disk.new }) }
+    ensures told { D.told disk.new ≡ D.told disk.old }
+{
+    match RestTable::new(alloc) {
+        Ok(rest) => {
+            replay_over::<D, S, I, O, Brand>(
+                alloc,
+                catalogue,
+                capabilities,
+                rest,
+                input,
+                clock,
+                disk,
+                source,
+                output,
+            )
+            .1
+        }
+        Err(_) => KeptEnd::OutOfMemory,
+    }
+}
+
+/// The end of a word whose session ended so.
+fn end_of_session(end: SessionEnd) -> KeptEnd
+    ensures { result ≡ end_of_session end }
+{
+    match end {
+        SessionEnd::Closed => KeptEnd::Done,
+        SessionEnd::Truncated => KeptEnd::Stream(SessionEnd::Truncated),
+        SessionEnd::Bad(code) => KeptEnd::Stream(SessionEnd::Bad(code)),
+        SessionEnd::TooMany => KeptEnd::Stream(SessionEnd::TooMany),
+        SessionEnd::ReadFault => KeptEnd::ReadFault,
+        SessionEnd::WriteFault => KeptEnd::WriteFault,
+        SessionEnd::OutOfMemory => KeptEnd::OutOfMemory,
+    }
+}
+
+/// Serves the bytes of one connection over the link of these two, and gives them back.
+fn serve_over<'a, 'b, C: Keeper, S: Source, I: ByteSource, O: ByteSink, L: Loans>(
+    alloc: Global,
+    counter: &mut Counter<C>,
+    source: &mut S,
+    ends: Ends<'a, 'b, I, O>,
+) -> (Ends<'a, 'b, I, O>, SessionEnd)
+    requires valid { IsValid (C.state counter.old.cabinet).catalogue }
+    requires rest { IsAtRest (C.state counter.old.cabinet) }
+    requires input { ends.input.ghost_name ≡ L.input }
+    requires output { ends.output.ghost_name ≡ L.output }
+    ensures session { HasSession
+        (record { reads = counts (I.faults ends.entry.input.now) (I.faults result.0.input.now); from = I.left ends.entry.input.now; to = I.left result.0.input.now })
+        (record { told = S.told source.old; renders = counts (S.faults source.old) (S.faults source.new); disk = counts (C.faults counter.old.cabinet) (C.faults counter.new.cabinet); writes = counts (O.faults ends.entry.output.now) (O.faults result.0.output.now); from = O.taken ends.entry.output.now; to = O.taken result.0.output.now })
+        counter.old.capabilities (C.state counter.old.cabinet) (C.state counter.new.cabinet) result.1 }
+    ensures lasts { Lasting (C.outlasts counter.old.cabinet counter.new.cabinet) (C.state counter.old.cabinet) (C.state counter.new.cabinet) }
+    ensures same_input { result.0.input.ghost_name ≡ ends.entry.input.ghost_name }
+    ensures same_output { result.0.output.ghost_name ≡ ends.entry.output.ghost_name }
+{
+    let mut link = Duplex::<I, O, L>::new(ends);
+    let end = replay_session(alloc, counter, source, &mut link);
+    (link.into_ends(), end)
+}
+
+/// Serves the bytes of the input as those of one connection, and writes the responses to the output.
+fn serve<C: Keeper, S: Source, I: ByteSource, O: ByteSink>(
+    alloc: Global,
+    counter: &mut Counter<C>,
+    input: &mut I,
+    source: &mut S,
+    output: &mut O,
+) -> SessionEnd
+    requires valid { IsValid (C.state counter.old.cabinet).catalogue }
+    requires rest { IsAtRest (C.state counter.old.cabinet) }
+    ensures session { HasSession
+        (record { reads = counts (I.faults input.old) (I.faults input.new); from = I.left input.old; to = I.left input.new })
+        (record { told = S.told source.old; renders = counts (S.faults source.old) (S.faults source.new); disk = counts (C.faults counter.old.cabinet) (C.faults counter.new.cabinet); writes = counts (O.faults output.old) (O.faults output.new); from = O.taken output.old; to = O.taken output.new })
+        counter.old.capabilities (C.state counter.old.cabinet) (C.state counter.new.cabinet) result }
+    ensures lasts { Lasting (C.outlasts counter.old.cabinet counter.new.cabinet) (C.state counter.old.cabinet) (C.state counter.new.cabinet) }
+{
+    let ends = Ends { input, output };
+    let served = serve_over::<C, S, I, O, Brand>(alloc, counter, source, ends);
+    served.1
+}
+
+/// Serves the bytes of the input as those of one connection, and then saves the uses of what is kept.
+fn serve_and_save<C: Keeper, S: Source, I: ByteSource, O: ByteSink>(
+    alloc: Global,
+    counter: &mut Counter<C>,
+    input: &mut I,
+    source: &mut S,
+    output: &mut O,
+) -> SessionEnd
+    requires valid { IsValid (C.state counter.old.cabinet).catalogue }
+    requires rest { IsAtRest (C.state counter.old.cabinet) }
+    ensures serves { (before : ℕ) → before ≤ C.faults counter.old.cabinet → ServesAndSaves counter.old.capabilities
+        (record { reads = counts (I.faults input.old) (I.faults input.new); from = I.left input.old; to = I.left input.new })
+        (record { told = S.told source.old; renders = counts (S.faults source.old) (S.faults source.new); disk = counts before (C.faults counter.new.cabinet); writes = counts (O.faults output.old) (O.faults output.new); from = O.taken output.old; to = O.taken output.new })
+        (C.state counter.old.cabinet) (C.state counter.new.cabinet) result }
+    ensures lasts { Lasting (C.outlasts counter.old.cabinet counter.new.cabinet) (C.state counter.old.cabinet) (C.state counter.new.cabinet) }
+{
+    laws_of_lasting::<C>();
+    let end = serve(alloc, counter, input, source, output);
+    save_all(&mut counter.cabinet);
+    end
+}
+
+/// The same on the disk of a loan, which is handed back.
+fn replay_over<'a, D: Disk, S: Source, I: ByteSource, O: ByteSink, L: Loan>(
+    alloc: Global,
+    catalogue: Catalogue,
+    capabilities: Words,
+    rest: RestTable,
+    input: &mut I,
+    clock: Clock,
+    disk: &'a mut D,
+    source: &mut S,
+    output: &mut O,
+) -> (&'a mut D, KeptEnd)
+    requires valid { IsValid catalogue }
+    requires loan { disk.ghost_name ≡ L.disk }
+    requires ours { IsTrue (D.told disk.now) → IsOurs catalogue (D.state disk.now).seen }
+    ensures serves { RunsSession catalogue clock capabilities
+        (record { reads = counts (I.faults input.old) (I.faults input.new); from = I.left input.old; to = I.left input.new })
+        (record { told = S.told source.old; renders = counts (S.faults source.old) (S.faults source.new); disk = counts (D.faults disk.entry.now) (D.faults result.0.now); writes = counts (O.faults output.old) (O.faults output.new); from = O.taken output.old; to = O.taken output.new })
+        (record { told = D.told disk.entry.now; faults = counts (D.faults disk.entry.now) (D.faults result.0.now); from = D.state disk.entry.now; to = D.state result.0.now })
+        (input.new ≡ input.old) ((output.new ≡ output.old) × (source.new ≡ source.old)) result.1 }
+    ensures lasts { LastsThrough catalogue (record { told = D.told disk.entry.now; faults = counts (D.faults disk.entry.now) (D.faults result.0.now); from = D.state disk.entry.now; to = D.state result.0.now }) }
+    ensures told { D.told result.0.now ≡ D.told disk.entry.now }
+    ensures loan { result.0.ghost_name ≡ L.disk }
+{
+    match opened::<D, L>(alloc, catalogue, clock, disk) {
+        Ok(cabinet) => {
+            let mut counter = Counter {
+                cabinet,
+                rest,
+                capabilities,
+            };
+            let end = serve_and_save(alloc, &mut counter, input, source, output);
+            let Counter { cabinet, .. } = counter;
+            (closed(cabinet), end_of_session(end))
+        }
+        Err(refusal) => {
+            let (fault, disk) = refusal;
+            (disk, end_of_refusal(fault))
+        }
+    }
+}

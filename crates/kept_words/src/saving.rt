@@ -1,0 +1,28 @@
+//! The uses of what is kept, saved at the end of the work.
+ghost use Rattle.std.specs.Prelude.{◌≤◌};
+ghost use Rattle.cabinet.specs.State.{IsKnown};
+ghost use Rattle.cache_core.specs.Lasting.{Lasting};
+ghost use Rattle.kept_words.specs.Saving.{SavesAll};
+ghost use Rattle.tile_service.specs.Outside.{counts};
+
+use cabinet::keeper::Keeper;
+use cabinet::laws::laws_of_rows;
+use cabinet::replies::Saved;
+
+/// Saves the uses of one metatile after the other, until all are saved or the disk fails. It takes no memory.
+pub fn save_all<C: Keeper>(cabinet: &mut C)
+    ensures saves { SavesAll (counts (C.faults cabinet.old) (C.faults cabinet.new)) (C.state cabinet.old) (C.state cabinet.new) }
+    ensures lasts { Lasting (C.outlasts cabinet.old cabinet.new) (C.state cabinet.old) (C.state cabinet.new) }
+    ensures known { IsKnown (C.state cabinet.new) }
+    ensures later { C.faults cabinet.old ≤ C.faults cabinet.new }
+{
+    'saving: loop {
+        cabinet.known();
+        laws_of_rows();
+        match cabinet.save_uses() {
+            Saved::Done(_) => {}
+            Saved::DiskFault(_, _) => return,
+            Saved::Within => return,
+        }
+    }
+}

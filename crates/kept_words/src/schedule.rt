@@ -1,0 +1,145 @@
+//! The word that runs a schedule.
+ghost use Rattle.std.specs.Prelude.{ℕ, ◌≡◌, ◌≤◌, IsTrue};
+ghost use Rattle.cache_core.specs.Lasting.{Lasting};
+ghost use Rattle.catalog.specs.Valid.{IsValid};
+ghost use Rattle.durable_cabinet.specs.Images.{IsOurs};
+ghost use Rattle.kept_words.specs.Change.{DiskChange};
+ghost use Rattle.kept_words.specs.Crash.{LastsThrough};
+ghost use Rattle.kept_words.specs.Runs.{RunsAndSaves, RunsSchedule, end_of_schedule};
+ghost use Rattle.tile_service.specs.Outside.{InputChange, Outside, counts};
+
+use crate::end::KeptEnd;
+use crate::lent::Loan;
+use crate::opened::{closed, end_of_refusal, opened};
+use crate::saving::save_all;
+use cabinet::keeper::Keeper;
+use cache_core::laws::laws_of_lasting;
+use catalog::catalogue::Catalogue;
+use clock::clock::Clock;
+use disk_model::disk::Disk;
+use exact_ratio::words::Words;
+use http_wire::streams::{ByteSink, ByteSource};
+use source_render::source::Source;
+use std::alloc::Global;
+use std::marker::Brand;
+use tile_service::counter::Counter;
+use tile_service::schedule::{ScheduleEnd, run_schedule};
+use wmts_rest::table::RestTable;
+
+/// Opens the cache of the disk, runs the schedule of the input in it, writes the answers, and saves the uses of what is kept. A fault
+/// of the disk ends it at the opening alone. Each end comes as `RunsSchedule` says.
+pub fn schedule<D: Disk, S: Source, I: ByteSource, O: ByteSink>(
+    alloc: Global,
+    catalogue: Catalogue,
+    capabilities: Words,
+    input: &mut I,
+    clock: Clock,
+    disk: &mut D,
+    source: &mut S,
+    output: &mut O,
+) -> KeptEnd
+    requires valid { IsValid catalogue }
+    requires ours { IsTrue (D.told disk.old) → IsOurs catalogue (D.state disk.old).seen }
+    ensures runs { RunsSchedule catalogue clock capabilities
+        (record { reads = counts (I.faults input.old) (I.faults input.new); from = I.left input.old; to = I.left input.new })
+        (record { told = S.told source.old; renders = counts (S.faults source.old) (S.faults source.new); disk = counts (D.faults disk.old) (D.faults disk.new); writes = counts (O.faults output.old) (O.faults output.new); from = O.taken output.old; to = O.taken output.new })
+        (record { told = D.told disk.old; faults = counts (D.faults disk.old) (D.faults disk.new); from = D.state disk.old; to = D.state disk.new })
+        (input.new ≡ input.old) ((output.new ≡ output.old) × (source.new ≡ source.old)) result }
+    ensures lasts { LastsThrough catalogue (record { told = D.told disk.old; faults = counts (D.faults disk.old) (D.faults disk.new); from = D.state disk.old; to = D.state disk.new }) }
+    ensures told { D.told disk.new ≡ D.told disk.old }
+{
+    match RestTable::new(alloc) {
+        Ok(rest) => {
+            schedule_over::<D, S, I, O, Brand>(
+                alloc,
+                catalogue,
+                capabilities,
+                rest,
+                input,
+                clock,
+                disk,
+                source,
+                output,
+            )
+            .1
+        }
+        Err(_) => KeptEnd::OutOfMemory,
+    }
+}
+
+/// The end of a word whose schedule ended so.
+fn end_of_schedule(end: ScheduleEnd) -> KeptEnd
+    ensures { result ≡ end_of_schedule end }
+{
+    match end {
+        ScheduleEnd::Done => KeptEnd::Done,
+        ScheduleEnd::Line(n) => KeptEnd::Line(n),
+        ScheduleEnd::ReadFault => KeptEnd::ReadFault,
+        ScheduleEnd::WriteFault => KeptEnd::WriteFault,
+        ScheduleEnd::TooLong => KeptEnd::TooLong,
+        ScheduleEnd::OutOfMemory => KeptEnd::OutOfMemory,
+    }
+}
+
+/// Runs the schedule of the input in a cabinet, and then saves the uses of what is kept.
+fn run_and_save<C: Keeper, S: Source, I: ByteSource, O: ByteSink>(
+    alloc: Global,
+    counter: &mut Counter<C>,
+    input: &mut I,
+    source: &mut S,
+    output: &mut O,
+) -> ScheduleEnd
+    requires valid { IsValid (C.state counter.old.cabinet).catalogue }
+    ensures runs { (before : ℕ) → before ≤ C.faults counter.old.cabinet → RunsAndSaves counter.old.capabilities
+        (record { reads = counts (I.faults input.old) (I.faults input.new); from = I.left input.old; to = I.left input.new })
+        (record { told = S.told source.old; renders = counts (S.faults source.old) (S.faults source.new); disk = counts before (C.faults counter.new.cabinet); writes = counts (O.faults output.old) (O.faults output.new); from = O.taken output.old; to = O.taken output.new })
+        ((output.new ≡ output.old) × (source.new ≡ source.old)) (C.state counter.old.cabinet) (C.state counter.new.cabinet) result }
+    ensures lasts { Lasting (C.outlasts counter.old.cabinet counter.new.cabinet) (C.state counter.old.cabinet) (C.state counter.new.cabinet) }
+{
+    laws_of_lasting::<C>();
+    let end = run_schedule(alloc, counter, source, input, output);
+    save_all(&mut counter.cabinet);
+    end
+}
+
+/// The same on the disk of a loan, which is handed back.
+fn schedule_over<'a, D: Disk, S: Source, I: ByteSource, O: ByteSink, L: Loan>(
+    alloc: Global,
+    catalogue: Catalogue,
+    capabilities: Words,
+    rest: RestTable,
+    input: &mut I,
+    clock: Clock,
+    disk: &'a mut D,
+    source: &mut S,
+    output: &mut O,
+) -> (&'a mut D, KeptEnd)
+    requires valid { IsValid catalogue }
+    requires loan { disk.ghost_name ≡ L.disk }
+    requires ours { IsTrue (D.told disk.now) → IsOurs catalogue (D.state disk.now).seen }
+    ensures runs { RunsSchedule catalogue clock capabilities
+        (record { reads = counts (I.faults input.old) (I.faults input.new); from = I.left input.old; to = I.left input.new })
+        (record { told = S.told source.old; renders = counts (S.faults source.old) (S.faults source.new); disk = counts (D.faults disk.entry.now) (D.faults result.0.now); writes = counts (O.faults output.old) (O.faults output.new); from = O.taken output.old; to = O.taken output.new })
+        (record { told = D.told disk.entry.now; faults = counts (D.faults disk.entry.now) (D.faults result.0.now); from = D.state disk.entry.now; to = D.state result.0.now })
+        (input.new ≡ input.old) ((output.new ≡ output.old) × (source.new ≡ source.old)) result.1 }
+    ensures lasts { LastsThrough catalogue (record { told = D.told disk.entry.now; faults = counts (D.faults disk.entry.now) (D.faults result.0.now); from = D.state disk.entry.now; to = D.state result.0.now }) }
+    ensures told { D.told result.0.now ≡ D.told disk.entry.now }
+    ensures loan { result.0.ghost_name ≡ L.disk }
+{
+    match opened::<D, L>(alloc, catalogue, clock, disk) {
+        Ok(cabinet) => {
+            let mut counter = Counter {
+                cabinet,
+                rest,
+                capabilities,
+            };
+            let end = run_and_save(alloc, &mut counter, input, source, output);
+            let Counter { cabinet, .. } = counter;
+            (closed(cabinet), end_of_schedule(end))
+        }
+        Err(refusal) => {
+            let (fault, disk) = refusal;
+            (disk, end_of_refusal(fault))
+        }
+    }
+}

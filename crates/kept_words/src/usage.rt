@@ -1,0 +1,90 @@
+//! The word that tells what is kept.
+ghost use Rattle.std.specs.Prelude.{◌≡◌, IfOk, IsTrue};
+ghost use Rattle.catalog.specs.Valid.{IsValid};
+ghost use Rattle.durable_cabinet.specs.Images.{IsOurs};
+ghost use Rattle.kept_words.specs.Change.{DiskChange, OutputChange};
+ghost use Rattle.kept_words.specs.Crash.{LastsThrough};
+ghost use Rattle.kept_words.specs.Ends.{TellsUsage};
+ghost use Rattle.tile_requests.specs.Texts.{usage_text};
+ghost use Rattle.tile_service.specs.Outside.{counts};
+
+use crate::end::KeptEnd;
+use crate::lent::Loan;
+use crate::opened::{closed, end_of_refusal, opened};
+use crate::writing::written;
+use arrayvec::ArrayVec;
+use cabinet::keeper::Keeper;
+use catalog::catalogue::Catalogue;
+use clock::clock::Clock;
+use disk_model::disk::Disk;
+use exact_ratio::words::Words;
+use http_wire::streams::ByteSink;
+use std::alloc::{AllocError, Global};
+use std::marker::Brand;
+use tile_requests::commands::usage as told_usage;
+use tile_requests::outcome::Outcome;
+
+/// The text of what is kept. `AllocError` where memory runs out.
+fn usage_text<C: Keeper>(alloc: Global, cabinet: &C) -> Result<Words, AllocError>
+    requires { IsValid (C.state cabinet.now).catalogue }
+    ensures { IfOk result (λ text. text ≡ usage_text (C.state cabinet.now)) }
+{
+    match told_usage(alloc, cabinet) {
+        Outcome::Usage(text) => Ok(text),
+        _ => Err(AllocError),
+    }
+}
+
+/// Opens the cache of the disk, and writes what is kept in it. Each end comes as `TellsUsage` says.
+pub fn usage<D: Disk, O: ByteSink>(
+    alloc: Global,
+    catalogue: Catalogue,
+    clock: Clock,
+    disk: &mut D,
+    output: &mut O,
+) -> KeptEnd
+    requires valid { IsValid catalogue }
+    requires ours { IsTrue (D.told disk.old) → IsOurs catalogue (D.state disk.old).seen }
+    ensures tells { TellsUsage catalogue clock
+        (record { told = D.told disk.old; faults = counts (D.faults disk.old) (D.faults disk.new); from = D.state disk.old; to = D.state disk.new })
+        (record { writes = counts (O.faults output.old) (O.faults output.new); from = O.taken output.old; to = O.taken output.new })
+        (output.new ≡ output.old) result }
+    ensures lasts { LastsThrough catalogue (record { told = D.told disk.old; faults = counts (D.faults disk.old) (D.faults disk.new); from = D.state disk.old; to = D.state disk.new }) }
+    ensures told { D.told disk.new ≡ D.told disk.old }
+{
+    usage_over::<D, O, Brand>(alloc, catalogue, clock, disk, output).1
+}
+
+/// The same on the disk of a loan, which is handed back.
+fn usage_over<'a, D: Disk, O: ByteSink, L: Loan>(
+    alloc: Global,
+    catalogue: Catalogue,
+    clock: Clock,
+    disk: &'a mut D,
+    output: &mut O,
+) -> (&'a mut D, KeptEnd)
+    requires valid { IsValid catalogue }
+    requires loan { disk.ghost_name ≡ L.disk }
+    requires ours { IsTrue (D.told disk.now) → IsOurs catalogue (D.state disk.now).seen }
+    ensures tells { TellsUsage catalogue clock
+        (record { told = D.told disk.entry.now; faults = counts (D.faults disk.entry.now) (D.faults result.0.now); from = D.state disk.entry.now; to = D.state result.0.now })
+        (record { writes = counts (O.faults output.old) (O.faults output.new); from = O.taken output.old; to = O.taken output.new })
+        (output.new ≡ output.old) result.1 }
+    ensures lasts { LastsThrough catalogue (record { told = D.told disk.entry.now; faults = counts (D.faults disk.entry.now) (D.faults result.0.now); from = D.state disk.entry.now; to = D.state result.0.now }) }
+    ensures told { D.told result.0.now ≡ D.told disk.entry.now }
+    ensures loan { result.0.ghost_name ≡ L.disk }
+{
+    match opened::<D, L>(alloc, catalogue, clock, disk) {
+        Ok(cabinet) => match usage_text(alloc, &cabinet) {
+            Ok(text) => {
+                let disk = closed(cabinet);
+                (disk, written(output, ArrayVec::new(), text.bytes()))
+            }
+            Err(_) => (closed(cabinet), KeptEnd::OutOfMemory),
+        },
+        Err(refusal) => {
+            let (fault, disk) = refusal;
+            (disk, end_of_refusal(fault))
+        }
+    }
+}

@@ -1,0 +1,112 @@
+//! The file that the cache is kept in.
+ghost use Rattle.std.specs.Prelude.{◌≡◌, false};
+ghost use Rattle.std.proofs.lemmas.Bool.{false≢true};
+ghost use Rattle.causes.specs.Causes.{HasCause};
+ghost use Rattle.disk_model.specs.Images.{silent};
+ghost use Rattle.tile_server.specs.Faults.{faults_of_disk};
+
+use causes::one_more;
+use disk_model::disk::{Disk, Failed};
+use disk_model::file::FileDisk;
+use std::fs::{File, OpenOptions};
+use std::io;
+use std::io::ErrorKind;
+use std::rt::Files;
+
+/// The file that the cache is kept in. What it holds isn't modelled.
+#[derive(Drop)]
+pub enum CacheDisk {
+    File(FileDisk),
+    /// It isn't there: it reads as a file of no bytes, of which there is nothing to sync, and takes none. It has failed so often.
+    Absent(u64),
+    /// It is there, or is to be made, and can't be opened, or another program works on it: each call fails. It has failed so often.
+    Shut(u64),
+}
+
+/// Opens a file for reading and writing, for this program alone, and makes it where that is asked for and it isn't there. That it is
+/// there is then durable.
+fn opened<R: Files<File = File>>(rt: &R, path: &str, makes: bool) -> io::Result<File> {
+    let file = OpenOptions::new()
+        .read(true)
+        .write(true)
+        .create(makes)
+        .open(rt, path)?;
+    if file.try_lock().is_err() {
+        return Err(io::Error::from(ErrorKind::WouldBlock));
+    }
+    if makes {
+        File::open(rt, ".")?.sync_all()?;
+    }
+    Ok(file)
+}
+
+impl CacheDisk {
+    /// Opens the file of this name in the current folder; `makes` says whether it is made where it isn't there.
+    pub fn open<R: Files<File = File>>(rt: &R, path: &str, makes: bool) -> CacheDisk {
+        match opened(rt, path, makes) {
+            Ok(file) => CacheDisk::File(FileDisk::new(file)),
+            Err(error) if error.kind() == ErrorKind::NotFound && !makes => CacheDisk::Absent(0),
+            Err(_) => CacheDisk::Shut(0),
+        }
+    }
+}
+
+/// A call on a file that isn't open, which fails and is counted.
+fn failed(faults: &mut u64) -> Result<(), Failed>
+    ensures { HasCause faults.old faults.new result }
+{
+    *faults = one_more(*faults);
+    Err(Failed)
+}
+
+impl Disk for CacheDisk {
+    ghost told = { λ _. false };
+
+    ghost state = { λ _. silent };
+
+    ghost faults = { faults_of_disk };
+
+    ghost lawful = { λ _ told. absurd (false≢true told) };
+
+    fn read(&mut self, at: u64, into: &mut [u8]) -> Result<(), Failed> {
+        match self {
+            CacheDisk::File(file) => file.read(at, into),
+            CacheDisk::Absent(_) => {
+                into.fill(0);
+                Ok(())
+            }
+            CacheDisk::Shut(faults) => failed(faults),
+        }
+    }
+
+    fn write_at(&mut self, at: u64, bytes: &[u8]) -> Result<(), Failed> {
+        match self {
+            CacheDisk::File(file) => file.write_at(at, bytes),
+            CacheDisk::Absent(faults) => failed(faults),
+            CacheDisk::Shut(faults) => failed(faults),
+        }
+    }
+
+    fn cut(&mut self, length: u64) -> Result<(), Failed> {
+        match self {
+            CacheDisk::File(file) => file.cut(length),
+            CacheDisk::Absent(faults) => failed(faults),
+            CacheDisk::Shut(faults) => failed(faults),
+        }
+    }
+
+    fn sync(&mut self) -> Result<(), Failed> {
+        match self {
+            CacheDisk::File(file) => file.sync(),
+            CacheDisk::Absent(_) => Ok(()),
+            CacheDisk::Shut(faults) => failed(faults),
+        }
+    }
+
+    fn fault_count(&self) -> u64 {
+        match self {
+            CacheDisk::File(file) => file.fault_count(),
+            CacheDisk::Absent(faults) | CacheDisk::Shut(faults) => *faults,
+        }
+    }
+}

@@ -1,0 +1,117 @@
+//! A table of stops: a command is run with its disk stopped after 0, 1, 2 and so on calls, or with one call failing alone, and what a
+//! crash then leaves is looked at.
+use crate::run::{Given, came_to};
+use disk_model::pick::Pick;
+use silent_disk::SilentDisk;
+use std::alloc::{AllocError, Global};
+use std::io;
+
+/// The most calls that a command of a table may make.
+const MOST_CALLS: u64 = 4_096;
+
+/// What may be found where the disk of a command fails.
+#[derive(Drop)]
+pub struct Table {
+    /// The command that looks at what a crash leaves.
+    pub look: Given,
+    /// What it may write; where the disk didn't fail, the last of these.
+    pub images: Vec<Vec<u8>>,
+}
+
+/// What a crash leaves of a run.
+#[derive(Drop)]
+struct Left {
+    image: Vec<u8>,
+    /// Whether no call of the disk failed.
+    whole: bool,
+}
+
+/// A disk of these bytes, of which the call behind so many fails, alone or with each one behind it.
+fn failing(alloc: Global, bytes: &[u8], calls: u64, alone: bool) -> Result<SilentDisk, AllocError> {
+    let mut fails = Vec::new(alloc);
+    fails.push(calls.saturating_add(1))?;
+    let mut disk = SilentDisk::new(alloc, Vec::from_slice(alloc, bytes)?, fails);
+    if !alone {
+        disk.stop_after(calls);
+    }
+    Ok(disk)
+}
+
+/// What a crash leaves where the disk fails behind so many calls of a command.
+fn left_after(
+    alloc: Global,
+    given: &Given,
+    disk: &[u8],
+    calls: u64,
+    pick: Pick,
+) -> io::Result<Left> {
+    let disk = failing(alloc, disk, calls, given.fakes.disk.alone)?;
+    let outcome = came_to(alloc, given, disk)?;
+    let whole = !outcome.has_failed();
+    Ok(Left {
+        image: outcome.left(alloc, Some(pick))?,
+        whole,
+    })
+}
+
+impl Table {
+    /// Whether the look may write this.
+    fn admits(&self, seen: &[u8], whole: bool) -> bool {
+        if whole {
+            return self
+                .images
+                .last()
+                .is_some_and(|image| image.as_slice() == seen);
+        }
+        self.images.iter().any(|image| image.as_slice() == seen)
+    }
+
+    /// What the look writes where the disk is left so.
+    fn seen_in(&self, alloc: Global, image: Vec<u8>) -> io::Result<Vec<u8>> {
+        let disk = SilentDisk::new(alloc, image, Vec::new(alloc));
+        let outcome = came_to(alloc, &self.look, disk)?;
+        Ok(Vec::from_slice(alloc, outcome.output.as_slice())?)
+    }
+
+    /// How what crashes by this pick leave differs from what they may leave; `None` where it doesn't.
+    fn differs_by(
+        &self,
+        alloc: Global,
+        given: &Given,
+        disk: &[u8],
+        pick: Pick,
+    ) -> io::Result<Option<String>> {
+        for calls in 0..MOST_CALLS {
+            let Left { image, whole } = left_after(alloc, given, disk, calls, pick)?;
+            let seen = self.seen_in(alloc, image)?;
+            if !self.admits(seen.as_slice(), whole) {
+                return Ok(Some(format!(in alloc;
+                    "where the disk fails after {calls} calls, pick {pick:?} leaves what no image has"
+                )?));
+            }
+            if whole {
+                return Ok(None);
+            }
+        }
+        Ok(Some(format!(in alloc; "the disk is called more often than a table may")?))
+    }
+
+    /// How the command differs from the table; `None` where it doesn't, or where the table has no image.
+    pub fn difference_of(
+        &self,
+        alloc: Global,
+        given: &Given,
+        disk: &[u8],
+    ) -> io::Result<Option<String>> {
+        if self.images.is_empty() {
+            return Ok(None);
+        }
+        for pick in [Pick::Old, Pick::New, Pick::Noise] {
+            let difference = self.differs_by(alloc, given, disk, pick)?;
+            if difference.is_some() {
+                return Ok(difference);
+            }
+        }
+        Ok(None)
+    }
+}
