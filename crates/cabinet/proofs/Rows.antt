@@ -303,7 +303,7 @@ hit_fresh s n a j bytes t k tile r =
     subst (λ (i : ℕ). IsFresh s.catalogue t.history (length s.history) a i) (sym r.number) (subst (λ (x : State). IsFresh s.catalogue x.history (length s.history) a r.kept.number) (sym r.state) still)
 
 pub asks_fresh : (before after : ℕ) (s t : State) (a : Address) (r : Asked) → IsKnown s → IsTile s.catalogue a → Asks before after s a r t → IsFreshReply s a r t
-asks_fresh before after s t a (asked.Hit j bytes) k tile r = hit_fresh s t.clock.moment a j bytes.items t k tile r
+asks_fresh before after s t a (asked.Hit j bytes) k tile r = hit_fresh s t.clock.moment a j bytes t k tile r
 asks_fresh before after s t a (asked.Busy j) k tile r = tt
 asks_fresh before after s t a asked.Spent k tile r = tt
 asks_fresh before after s t a (asked.Ticket ticket) k tile r = given_fresh s t.clock.moment a ticket t k tile r.1

@@ -87,7 +87,7 @@ abbrev pub IsUnread : ℕ → ℕ → State → Address → Type 0
 IsUnread before after s a = IsUnkept s a ⊎ Rose before after
 
 abbrev pub IsAskedOf : ℕ → ℕ → State → Address → Asked → State → Type 0
-IsAskedOf before after s a (asked.Hit k bytes) new = IsHit s a k bytes.items new
+IsAskedOf before after s a (asked.Hit k bytes) new = IsHit s a k bytes new
 IsAskedOf before after s a (asked.Busy k) new = IsUnread before after s a × IsBusy s (block_of s.catalogue a) k new
 IsAskedOf before after s a asked.Spent new = IsUnread before after s a × IsSpent s (block_of s.catalogue a) new
 IsAskedOf before after s a (asked.Ticket t) new = IsUnread before after s a × IsGiven s (block_of s.catalogue a) t new
@@ -195,7 +195,7 @@ IsCountedSaved before after saved.Within = ⊤
 
 -- the bytes of a hit are the encoded tile
 abbrev pub IsTrueHit : Catalogue → Address → Asked → Type 0
-IsTrueHit c a (asked.Hit k bytes) = bytes.items ≡ tile_text c k a
+IsTrueHit c a (asked.Hit k bytes) = bytes ≡ tile_text c k a
 IsTrueHit c a (asked.Ticket t) = ⊤
 IsTrueHit c a (asked.Busy k) = ⊤
 IsTrueHit c a asked.Spent = ⊤

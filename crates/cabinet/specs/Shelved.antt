@@ -115,8 +115,8 @@ pub record LeavesUses (old : Counts) (count : ℕ) (by_key : UsesByKey) (new : C
 abbrev pub Reads : Catalogue → List KeptBlob → Address → Option Found → Type 0
 Reads c blobs a None = find (λ b. is_of (block_of c a) b.kept) blobs ≡ None
 Reads c blobs a (Some f) =
-    (b : KeptBlob) × (find (λ b. is_of (block_of c a) b.kept) blobs ≡ Some b) × (f.number ≡ b.kept.number) × (f.moment ≡ b.kept.moment) × (f.text.items ≡ tile_part c a b.text)
-    × ((k : ℕ) → b.text ≡ block_text c k (block_of c a) → f.text.items ≡ tile_text c k a)
+    (b : KeptBlob) × (find (λ b. is_of (block_of c a) b.kept) blobs ≡ Some b) × (f.number ≡ b.kept.number) × (f.moment ≡ b.kept.moment) × (f.text ≡ tile_part c a b.text)
+    × ((k : ℕ) → b.text ≡ block_text c k (block_of c a) → f.text ≡ tile_text c k a)
 
 -- WHAT CALLS LEAVE
 

@@ -5,14 +5,13 @@ ghost use Rattle.catalog.specs.Valid.{IsValid};
 ghost use Rattle.raster_field.specs.Blocks.{IsMeta, blob_size, block_of, block_text, tile_part};
 ghost use Rattle.raster_field.specs.TileText.{tile_text};
 
+use bytes::Bytes;
 use catalog::catalogue::Catalogue;
 use matrix_geometry::address::Address;
-use metatile_plan::laws::laws_of_blocks;
 use metatile_plan::metatile::MetaKey;
-use metatile_plan::spans::tile_span_in_blob;
 use raster_field::laws::laws_of_metatiles;
-use raster_field::layout::{block_of, layout_of};
-use std::alloc::{AllocError, Global};
+use raster_field::layout::tile_span;
+use std::alloc::AllocError;
 
 /// The bytes of a blob of a metatile.
 pub fn blob_bytes(catalogue: &Catalogue, meta: &MetaKey) -> u32
@@ -24,30 +23,20 @@ pub fn blob_bytes(catalogue: &Catalogue, meta: &MetaKey) -> u32
     raster_field::layout::blob_size(catalogue, meta)
 }
 
-/// The tile's part of a blob of its metatile. `AllocError` where memory runs out.
+/// The tile's part of a blob of its metatile, which shares the blob's bytes. `AllocError` where the blob has as many owners as may be.
 pub fn tile_in(
-    alloc: Global,
     catalogue: &Catalogue,
     address: &Address,
-    blob: &[u8],
-) -> Result<Vec<u8>, AllocError>
+    blob: &Bytes,
+) -> Result<Bytes, AllocError>
     requires valid { IsValid catalogue.now }
     requires tile { IsTile catalogue.now address.now }
     requires blob { length blob.now ≡ blob_size catalogue.now (block_of catalogue.now address.now) }
-    ensures part { IfOk result (λ text. text.items ≡ tile_part catalogue.now address.now blob.now) }
-    ensures sound { IfOk result (λ text. (k : ℕ) → blob.now ≡ block_text catalogue.now k (block_of catalogue.now address.now) → text.items ≡ tile_text catalogue.now k address.now) }
+    ensures part { IfOk result (λ text. text ≡ tile_part catalogue.now address.now blob.now) }
+    ensures sound { IfOk result (λ text. (k : ℕ) → blob.now ≡ block_text catalogue.now k (block_of catalogue.now address.now) → text ≡ tile_text catalogue.now k address.now) }
 {
-    laws_of_blocks();
     laws_of_metatiles();
-    let meta = block_of(catalogue, address);
-    let layout = layout_of(catalogue, &meta);
-    let span = tile_span_in_blob(
-        &meta,
-        &layout.factors,
-        &layout.matrix,
-        address.row,
-        address.col,
-    );
+    let span = tile_span(catalogue, address);
     let start = span.start as usize;
-    Vec::from_slice(alloc, &blob[start..start + span.length as usize])
+    blob.slice(start..start + span.length as usize)
 }

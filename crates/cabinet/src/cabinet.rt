@@ -10,6 +10,7 @@ use crate::replies::{Asked, CutReply, Expired, Finished, Forced, Saved};
 use crate::shelving::Found;
 use crate::text::Text;
 use crate::turns::as_asked;
+use bytes::Bytes;
 use catalog::catalogue::Catalogue;
 use clock::clock::Clock;
 use matrix_geometry::address::Address;
@@ -138,12 +139,12 @@ impl Cabinet {
 
     /// Ends a render, and keeps its blob unless a truncation overtook it, as many others are kept as may be, or no gap has
     /// room for it. It takes no memory.
-    pub fn finish(&mut self, ticket: Ticket, blob: Vec<u8>) -> Finished
+    pub fn finish(&mut self, ticket: Ticket, blob: Bytes) -> Finished
         requires meta { IsMeta self.old.catalogue ticket.meta }
-        requires blob { length blob.items ≡ blob_size self.old.catalogue ticket.meta }
-        ensures finished { Finishes self.old ticket blob.items result self.new }
+        requires blob { length blob ≡ blob_size self.old.catalogue ticket.meta }
+        ensures finished { Finishes self.old ticket blob result self.new }
         ensures counted { IsCountedFinished 0 0 result }
-        ensures sound { IsSound self.old → blob.items ≡ block_text self.old.catalogue ticket.number ticket.meta → IsSound self.new }
+        ensures sound { IsSound self.old → blob ≡ block_text self.old.catalogue ticket.number ticket.meta → IsSound self.new }
     {
         match self.core.judge(&ticket) {
             Judged::Stranger => {

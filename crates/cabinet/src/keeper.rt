@@ -9,6 +9,7 @@ ghost use Rattle.cabinet.specs.Counted.{kept_in, used, used_all};
 ghost use Rattle.cabinet.specs.State.{IsKnown, IsSound, State, now};
 
 use crate::replies::{Asked, CutReply, Expired, Finished, Forced, Saved};
+use bytes::Bytes;
 use catalog::catalogue::Catalogue;
 use matrix_geometry::address::Address;
 use metatile_locks::ticket::Ticket;
@@ -64,12 +65,12 @@ pub trait Keeper: Drop {
 
     /// Ends a render, and keeps its blob unless a truncation overtook it, as many others are kept as may be, no gap has room for it,
     /// or the disk failed. It takes no memory.
-    fn finish(&mut self, ticket: Ticket, blob: Vec<u8>) -> Finished
+    fn finish(&mut self, ticket: Ticket, blob: Bytes) -> Finished
         requires meta { IsMeta (state self.old).catalogue ticket.meta }
-        requires blob { length blob.items ≡ blob_size (state self.old).catalogue ticket.meta }
-        ensures finished { Finishes (state self.old) ticket blob.items result (state self.new) }
+        requires blob { length blob ≡ blob_size (state self.old).catalogue ticket.meta }
+        ensures finished { Finishes (state self.old) ticket blob result (state self.new) }
         ensures counted { IsCountedFinished (faults self.old) (faults self.new) result }
-        ensures sound { IsSound (state self.old) → blob.items ≡ block_text (state self.old).catalogue ticket.number ticket.meta → IsSound (state self.new) }
+        ensures sound { IsSound (state self.old) → blob ≡ block_text (state self.old).catalogue ticket.number ticket.meta → IsSound (state self.new) }
         ensures later { faults self.old ≤ faults self.new }
         ensures lasts { outlasts self.old self.new };
 

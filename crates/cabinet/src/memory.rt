@@ -4,6 +4,7 @@ ghost use Rattle.std.specs.Prelude.{⊤};
 use crate::cabinet::Cabinet;
 use crate::keeper::Keeper;
 use crate::replies::{Asked, CutReply, Expired, Finished, Forced, Saved};
+use bytes::Bytes;
 use catalog::catalogue::Catalogue;
 use matrix_geometry::address::Address;
 use metatile_locks::ticket::Ticket;
@@ -40,7 +41,7 @@ impl Keeper for Cabinet {
         Cabinet::force(self, alloc, meta)
     }
 
-    fn finish(&mut self, ticket: Ticket, blob: Vec<u8>) -> Finished {
+    fn finish(&mut self, ticket: Ticket, blob: Bytes) -> Finished {
         Cabinet::finish(self, ticket, blob)
     }
 

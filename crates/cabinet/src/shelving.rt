@@ -1,4 +1,5 @@
 //! What a shelf reads.
+use bytes::Bytes;
 
 /// What is read of a kept metatile.
 #[derive(Drop)]
@@ -8,5 +9,5 @@ pub struct Found {
     /// When that was begun, in seconds.
     pub moment: u64,
     /// The tile's part of its blob.
-    pub text: Vec<u8>,
+    pub text: Bytes,
 }

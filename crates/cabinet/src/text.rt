@@ -6,8 +6,8 @@ ghost use Rattle.raster_field.specs.Blocks.{blob_size, block_of, block_text, til
 ghost use Rattle.raster_field.specs.TileText.{tile_text};
 
 use crate::blob::tile_in;
+use bytes::Bytes;
 use catalog::catalogue::Catalogue;
-use exact_ratio::words::Words;
 use matrix_geometry::address::Address;
 use std::alloc::{AllocError, Global};
 use std::marker::Model;
@@ -15,7 +15,7 @@ use std::marker::Model;
 /// The text of a blob. Contracts see its bytes; one that lies elsewhere is seen as zeros of its length.
 #[derive(Drop)]
 pub struct Text {
-    here: Option<Words>,
+    here: Option<Bytes>,
     length: u32,
 }
 
@@ -25,25 +25,28 @@ impl Model for Text {
 
     ghost Value = { List ℕ };
 
-    ghost view = { λ t. option_map_or (λ words. words) t.here (replicate t.length 0) };
+    ghost view = { λ t. option_map_or (λ bytes. bytes) t.here (replicate t.length 0) };
 }
 
 /// So many zeros. `AllocError` where memory runs out.
-fn zeros(alloc: Global, length: u32) -> Result<Vec<u8>, AllocError>
-    ensures { IfOk result (λ made. made.items ≡ replicate length 0) }
+fn zeros(alloc: Global, length: u32) -> Result<Bytes, AllocError>
+    ensures { IfOk result (λ made. made ≡ replicate length 0) }
 {
     let mut made = Vec::new(alloc);
     made.resize(length as usize, 0)?;
-    Ok(made)
+    match Bytes::from_vec(made) {
+        Ok(made) => Ok(made),
+        Err(_) => Err(AllocError),
+    }
 }
 
 impl Text {
     /// A text in memory.
-    pub fn of(bytes: Vec<u8>) -> Text
-        ensures { result ≡ bytes.items }
+    pub fn of(bytes: Bytes) -> Text
+        ensures { result ≡ bytes }
     {
         Text {
-            here: Some(Words::of(bytes)),
+            here: Some(bytes),
             length: 0,
         }
     }
@@ -55,25 +58,26 @@ impl Text {
         Text { here: None, length }
     }
 
-    /// The tile's part of the blob of its metatile, of which this is the text. One that lies elsewhere is read as zeros: who keeps
-    /// blobs elsewhere reads them there. `AllocError` where memory runs out.
+    /// The tile's part of the blob of its metatile, of which this is the text; it shares the bytes of a text in memory. One that lies
+    /// elsewhere is read as zeros: who keeps blobs elsewhere reads them there. `AllocError` where memory runs out, or where the blob
+    /// has as many owners as may be.
     pub fn tile(
         &self,
         alloc: Global,
         catalogue: &Catalogue,
         address: &Address,
-    ) -> Result<Vec<u8>, AllocError>
+    ) -> Result<Bytes, AllocError>
         requires valid { IsValid catalogue.now }
         requires tile { IsTile catalogue.now address.now }
         requires blob { length self.now ≡ blob_size catalogue.now (block_of catalogue.now address.now) }
-        ensures part { IfOk result (λ text. text.items ≡ tile_part catalogue.now address.now self.now) }
-        ensures sound { IfOk result (λ text. (k : ℕ) → self.now ≡ block_text catalogue.now k (block_of catalogue.now address.now) → text.items ≡ tile_text catalogue.now k address.now) }
+        ensures part { IfOk result (λ text. text ≡ tile_part catalogue.now address.now self.now) }
+        ensures sound { IfOk result (λ text. (k : ℕ) → self.now ≡ block_text catalogue.now k (block_of catalogue.now address.now) → text ≡ tile_text catalogue.now k address.now) }
     {
         match &self.here {
-            Some(words) => tile_in(alloc, catalogue, address, words.bytes()),
+            Some(blob) => tile_in(catalogue, address, blob),
             None => {
                 let blob = zeros(alloc, self.length)?;
-                tile_in(alloc, catalogue, address, blob.as_slice())
+                tile_in(catalogue, address, &blob)
             }
         }
     }

@@ -1,6 +1,6 @@
 //! The state of a request for a tile between two of its events, and what an event comes to.
 use crate::outcome::{Tile, TileOutcome};
-use exact_ratio::words::Words;
+use bytes::Bytes;
 use matrix_geometry::address::Address;
 use metatile_locks::ticket::Ticket;
 
@@ -13,7 +13,7 @@ pub enum Actor {
     /// It is to render the metatile of the ticket, for this tile.
     Holding(Ticket, Address),
     /// It is to hand in the blob of the ticket's metatile, and then to answer the tile.
-    Rendered(Ticket, Words, Tile),
+    Rendered(Ticket, Bytes, Tile),
     /// The source failed, and the ticket is to be given back.
     Failed(Ticket),
 }

@@ -1,12 +1,13 @@
 //! The outcomes of a request for a tile.
-use exact_ratio::words::Words;
+use bytes::Bytes;
 
-/// A tile that is answered: whether a kept metatile gave it, the number of its render, and the encoded tile.
+/// A tile that is answered: whether a kept metatile gave it, the number of its render, and the encoded tile, which shares the bytes
+/// of its metatile's blob or of what is kept in memory.
 #[derive(Drop)]
 pub struct Tile {
     pub hit: bool,
     pub number: u64,
-    pub bytes: Words,
+    pub bytes: Bytes,
 }
 
 /// How a request for a tile ended.

@@ -1,14 +1,12 @@
-//! The render of a blob, and the copy of a tile out of it.
+//! The render of a blob.
 ghost use Rattle.std.specs.Prelude.{ℕ, ◌≡◌, ◌≤◌, IfErr, IfOk, Some, length};
-ghost use Rattle.catalog.specs.LookUp.{IsTile};
 ghost use Rattle.catalog.specs.Valid.{IsValid};
 ghost use Rattle.causes.specs.Causes.{Rose};
-ghost use Rattle.raster_field.specs.Blocks.{IsMeta, blob_size, block_of, block_text, tile_part};
+ghost use Rattle.raster_field.specs.Blocks.{IsMeta, blob_size, block_text};
 ghost use Rattle.raster_field.specs.Rasters.{HasSize, picture_on, window_in};
 
+use bytes::Bytes;
 use catalog::catalogue::Catalogue;
-use exact_ratio::words::Words;
-use matrix_geometry::address::Address;
 use metatile_locks::ticket::Ticket;
 use ppm_slice::of_catalogue;
 use raster_field::layout::window_at;
@@ -65,7 +63,7 @@ pub fn blob_of<S: Source>(
     catalogue: &Catalogue,
     source: &mut S,
     ticket: &Ticket,
-) -> Result<Words, RenderFault>
+) -> Result<Bytes, RenderFault>
     requires valid { IsValid catalogue.now }
     requires meta { IsMeta catalogue.now ticket.now.meta }
     ensures size { IfOk result (λ blob. length blob ≡ blob_size catalogue.now ticket.now.meta) }
@@ -76,23 +74,8 @@ pub fn blob_of<S: Source>(
 {
     let raster = picture_of(alloc, catalogue, source, ticket)?;
     let blob = of_catalogue::blob_of(alloc, catalogue, &ticket.meta(), &raster)?;
-    Ok(Words::of(blob))
-}
-
-/// A copy of an encoded tile in a blob of its metatile. `AllocError` where memory runs out.
-pub fn tile_in(
-    alloc: Global,
-    catalogue: &Catalogue,
-    blob: &Words,
-    address: &Address,
-) -> Result<Words, AllocError>
-    requires valid { IsValid catalogue.now }
-    requires tile { IsTile catalogue.now address.now }
-    requires size { length blob.now ≡ blob_size catalogue.now (block_of catalogue.now address.now) }
-    ensures { IfOk result (λ text. text ≡ tile_part catalogue.now address.now blob.now) }
-{
-    Words::new(
-        alloc,
-        of_catalogue::tile_of(catalogue, blob.bytes(), address),
-    )
+    match Bytes::from_vec(blob) {
+        Ok(blob) => Ok(blob),
+        Err(_) => Err(RenderFault::Memory),
+    }
 }

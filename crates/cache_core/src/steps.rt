@@ -16,12 +16,13 @@ ghost use Rattle.cache_core.specs.Steps.{advanced, given_up, tile_at};
 use crate::actor::{Actor, Step};
 use crate::laws::laws_of_lasting;
 use crate::outcome::{Tile, TileOutcome};
-use crate::render::{RenderFault, blob_of, tile_in};
+use crate::render::{RenderFault, blob_of};
+use bytes::Bytes;
+use cabinet::blob::tile_in;
 use cabinet::keeper::Keeper;
 use cabinet::laws::laws_of_rows;
 use cabinet::replies::{Asked, Forced};
 use catalog::catalogue::Catalogue;
-use exact_ratio::words::Words;
 use matrix_geometry::address::Address;
 use metatile_locks::ticket::Ticket;
 use raster_field::laws::laws_of_metatiles;
@@ -49,14 +50,14 @@ fn ends(outcome: TileOutcome) -> Step
     }
 }
 
-fn hit(number: u64, bytes: Vec<u8>) -> Step
+fn hit(number: u64, bytes: Bytes) -> Step
     ensures actor { result.actor ≡ Actor.Idle }
-    ensures outcome { result.outcome ≡ Some (TileOutcome.Tile (tile_at true number bytes.items)) }
+    ensures outcome { result.outcome ≡ Some (TileOutcome.Tile (tile_at true number bytes)) }
 {
     ends(TileOutcome::Tile(Tile {
         hit: true,
         number,
-        bytes: Words::of(bytes),
+        bytes,
     }))
 }
 
@@ -113,14 +114,14 @@ fn ask_again<C: Keeper>(alloc: Global, cabinet: &mut C, address: &Address, with_
 }
 
 /// Hands in the blob of a render, and answers its tile.
-fn hand_in<C: Keeper>(cabinet: &mut C, ticket: Ticket, blob: Words, tile: Tile) -> Step
+fn hand_in<C: Keeper>(cabinet: &mut C, ticket: Ticket, blob: Bytes, tile: Tile) -> Step
     requires { (a : Address) × IsFit (C.state cabinet.old).catalogue a (Actor.Rendered ticket blob tile) }
     ensures advances { (told : Option ℕ) (n : ℕ) → Advances told n n (C.faults cabinet.old) (C.faults cabinet.new) (C.state cabinet.old) (Actor.Rendered ticket blob tile) result (C.state cabinet.new) }
     ensures lasts { Lasting (C.outlasts cabinet.old cabinet.new) (C.state cabinet.old) (C.state cabinet.new) }
 {
     laws_of_metatiles();
     cabinet.known();
-    let _ = cabinet.finish(ticket, blob.into_vec());
+    let _ = cabinet.finish(ticket, blob);
     ends(TileOutcome::Tile(tile))
 }
 
@@ -144,13 +145,13 @@ fn run_out<C: Keeper>(cabinet: &mut C, ticket: Ticket, _address: &Address) -> St
     ends(TileOutcome::NoMemory)
 }
 
-/// A blob that was rendered, and the copy of its tile.
+/// A blob that was rendered, and its tile, which shares the bytes of the blob.
 struct Sliced {
-    blob: Words,
-    bytes: Words,
+    blob: Bytes,
+    bytes: Bytes,
 }
 
-/// Renders the blob of a ticket's metatile, and copies its tile.
+/// Renders the blob of a ticket's metatile, and cuts out its tile.
 fn painted<S: Source>(
     alloc: Global,
     catalogue: &Catalogue,
@@ -170,7 +171,7 @@ fn painted<S: Source>(
 {
     laws_of_metatiles();
     let blob = blob_of(alloc, catalogue, source, ticket)?;
-    let bytes = tile_in(alloc, catalogue, &blob, address)?;
+    let bytes = tile_in(catalogue, address, &blob)?;
     Ok(Sliced { blob, bytes })
 }
 

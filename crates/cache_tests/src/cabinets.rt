@@ -3,6 +3,7 @@ ghost use Rattle.std.specs.Prelude.{IfOk, ◌≡◌};
 ghost use Rattle.catalog.specs.Demo.{demo};
 ghost use Rattle.raster_field.specs.Blocks.{IsMeta};
 
+use bytes::Bytes;
 use cabinet::cabinet::Cabinet;
 use cabinet::replies::{Asked, Finished, Forced, Saved};
 use catalog::catalogue::Catalogue;
@@ -42,7 +43,7 @@ fn handed(alloc: Global, from: &mut Cabinet, to: &mut Cabinet) -> Result<Finishe
     to.known();
     let meta = corner(to);
     let size = blob_size(to.catalogue(), &meta);
-    let blob = vec![in alloc; 7; size as usize]?;
+    let blob = Bytes::from_vec(vec![in alloc; 7; size as usize]?)?;
     match from.force(alloc, &meta)? {
         Forced::Ticket(ticket) => Ok(to.finish(ticket, blob)),
         Forced::Busy(_) => Ok(Finished::Kept),
@@ -58,7 +59,7 @@ fn kept(alloc: Global, cabinet: &mut Cabinet) -> Result<Finished, AllocError>
     cabinet.known();
     let meta = corner(cabinet);
     let size = blob_size(cabinet.catalogue(), &meta);
-    let blob = vec![in alloc; 7; size as usize]?;
+    let blob = Bytes::from_vec(vec![in alloc; 7; size as usize]?)?;
     match cabinet.force(alloc, &meta)? {
         Forced::Ticket(ticket) => Ok(cabinet.finish(ticket, blob)),
         Forced::Busy(_) => Ok(Finished::Stranger),

@@ -70,7 +70,7 @@ module _ (part : PartsAreTiles) (s : State) (known : IsKnown s) (a : Address) (t
 
 pub asks_true : {E : Type 0} (part : PartsAreTiles) (before after : ℕ) (s t : State) (a : Address) (r : Result Asked E) → IsKnown s → IsTile s.catalogue a → IfOk r (λ x. Asks before after s a x t)
     → IfOk r (λ x. IsSound s → IsTrueHit s.catalogue a x)
-asks_true part before after s t a (Ok (asked.Hit k bytes)) known tile row = hit_true part s known a tile t.clock.moment k bytes.items t row
+asks_true part before after s t a (Ok (asked.Hit k bytes)) known tile row = hit_true part s known a tile t.clock.moment k bytes t row
 asks_true part before after s t a (Ok (asked.Busy k)) known tile row = λ sound. tt
 asks_true part before after s t a (Ok asked.Spent) known tile row = λ sound. tt
 asks_true part before after s t a (Ok (asked.Ticket ticket)) known tile row = λ sound. tt

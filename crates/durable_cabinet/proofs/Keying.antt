@@ -1,6 +1,5 @@
 -- The entries of the hot tier, and the texts that they hold.
-use Rattle.std.specs.Prelude.{IfOk, IfSome, Vec}
-use Rattle.std.specs.declared.alloc.Global.{Global}
+use Rattle.std.specs.Prelude.{IfOk, IfSome}
 use Rattle.std.proofs.Common.{ℕ, ◌≡◌, ◌⊎◌, ◌-◌, true, List, [], ◌∷◌, map, take, Contains, Option, Some, None, Result, Ok, Err, inl, inr, refl, sym, ap, subst, ◌∙◌}
 use Rattle.std.proofs.Math.Bool.{and_assoc}
 use Rattle.std.specs.List.{AllByRecursion}
@@ -54,22 +53,22 @@ among_promoted k es = all_map tile_of (Contains (map tile_of es)) (promoted (der
     (all_of (λ e. Contains (map tile_of es) (tile_of e)) (promoted (derived.it k) es) (λ e has. holds_tile es e (Contains-promoted (derived.it k) es e has)))
 
 -- what is found by a key is a text of its tile
-pub found_tile : (es : Entries) (k : TileKey) (v : HotText) → lookup (derived.it k) es ≡ Some v → Contains (map tile_of es) (hot_tile (address_of k) v.number v.text.items)
+pub found_tile : (es : Entries) (k : TileKey) (v : HotText) → lookup (derived.it k) es ≡ Some v → Contains (map tile_of es) (hot_tile (address_of k) v.number v.text)
 found_tile es k v is =
     let f = Contains-lookup (derived.it k) es v is in
-    subst (λ (a : Address). Contains (map tile_of es) (hot_tile a v.number v.text.items)) (key_is k f.0 f.2) (holds_tile es (f.0, v) f.1)
+    subst (λ (a : Address). Contains (map tile_of es) (hot_tile a v.number v.text)) (key_is k f.0 f.2) (holds_tile es (f.0, v) f.1)
 
--- a copy of what is found by a key
-pub copied_tile : {E : Type 0} (r : Result (Option (Vec ℕ Global)) E) (es : Entries) (k : TileKey) (v : HotText) (n : ℕ) → lookup (derived.it k) es ≡ Some v
-    → IfOk r (λ copy. IfSome copy (λ text. (v.number ≡ n) × (text.items ≡ v.text.items))) → IfOk r (λ copy. IfSome copy (λ text. Contains (map tile_of es) (hot_tile (address_of k) n text.items)))
-copied_tile (Ok (Some text)) es k v n is copy = subst (Contains (map tile_of es)) (λ i. hot_tile (address_of k) (copy.0 i) (sym copy.1 i)) (found_tile es k v is)
-copied_tile (Ok None) es k v n is copy = tt
-copied_tile (Err fault) es k v n is copy = tt
+-- a text that is shared with what is found by a key
+pub shared_tile : {E : Type 0} (r : Result (Option (List ℕ)) E) (es : Entries) (k : TileKey) (v : HotText) (n : ℕ) → lookup (derived.it k) es ≡ Some v
+    → IfOk r (λ found. IfSome found (λ text. (v.number ≡ n) × (text ≡ v.text))) → IfOk r (λ found. IfSome found (λ text. Contains (map tile_of es) (hot_tile (address_of k) n text)))
+shared_tile (Ok (Some text)) es k v n is same = subst (Contains (map tile_of es)) (λ i. hot_tile (address_of k) (same.0 i) (sym same.1 i)) (found_tile es k v is)
+shared_tile (Ok None) es k v n is same = tt
+shared_tile (Err fault) es k v n is same = tt
 
 -- what is found among the texts that are left was there before
-pub found_among : {E : Type 0} (r : Result (Option (Vec ℕ Global)) E) (later old : List HotTile) (n : ℕ) (a b : Address) → a ≡ b → AllByRecursion (Contains old) later
-    → IfOk r (λ found. IfSome found (λ text. Contains later (hot_tile a n text.items))) → IfOk r (λ found. IfSome found (λ text. Contains old (hot_tile b n text.items)))
-found_among (Ok (Some text)) later old n a b same among has = subst (λ (x : Address). Contains old (hot_tile x n text.items)) same (all_contained (Contains old) later (hot_tile a n text.items) among has)
+pub found_among : {E : Type 0} (r : Result (Option (List ℕ)) E) (later old : List HotTile) (n : ℕ) (a b : Address) → a ≡ b → AllByRecursion (Contains old) later
+    → IfOk r (λ found. IfSome found (λ text. Contains later (hot_tile a n text))) → IfOk r (λ found. IfSome found (λ text. Contains old (hot_tile b n text)))
+found_among (Ok (Some text)) later old n a b same among has = subst (λ (x : Address). Contains old (hot_tile x n text)) same (all_contained (Contains old) later (hot_tile a n text) among has)
 found_among (Ok None) later old n a b same among has = tt
 found_among (Err fault) later old n a b same among has = tt
 
@@ -78,13 +77,13 @@ module _ (c : LruCache TileKey HotText) (k : TileKey) (v : HotText) where
   put = put_entries derived.it c k v
 
   abbrev new : HotTile
-  new = hot_tile (address_of k) v.number v.text.items
+  new = hot_tile (address_of k) v.number v.text
 
   abbrev IsOldOrNew : HotTile → Type 0
   IsOldOrNew x = Contains (map tile_of c.entries) x ⊎ (x ≡ new)
 
   one_put : (e : TileKey × HotText) → e.1 ≡ v → address_of e.0 ≡ address_of k → tile_of e ≡ new
-  one_put e value key = λ i. hot_tile (key i) (value i).number (value i).text.items
+  one_put e value key = λ i. hot_tile (key i) (value i).number (value i).text
 
   old_or_new : (e : TileKey × HotText) → Contains put e → IsOldOrNew (tile_of e)
   old_or_new e has = elim (Contains-put_entries derived.it c k v e has) [

@@ -27,7 +27,7 @@ address_of k = record { theme = k.theme; grid = k.grid; z = k.z; row = k.row; co
 
 -- the text that an entry of the tier holds
 abbrev pub tile_of : TileKey × HotText → HotTile
-tile_of e = hot_tile (address_of e.0) e.1.number e.1.text.items
+tile_of e = hot_tile (address_of e.0) e.1.number e.1.text
 
 -- The text's number was given, and its render has ended; and where that is the number of what is kept of the tile's metatile, the text
 -- is the tile's part of it.

@@ -15,6 +15,7 @@ ghost use Rattle.raster_field.specs.Blocks.{block_of};
 
 use crate::hot::HotTier;
 use crate::reading::read_part;
+use bytes::Bytes;
 use cabinet::cabinet_core::Core;
 use cabinet::kept::Kept;
 use cabinet::replies::Asked;
@@ -50,11 +51,11 @@ fn ask_read(
     core: &mut Core,
     address: &Address,
     kept: Kept,
-    text: Vec<u8>,
+    text: Bytes,
 ) -> Result<Asked, AllocError>
     requires tile { IsTile core.old.state.catalogue address.now }
     requires kept { kept_of (block_of core.old.state.catalogue address.now) (now core.old.state) ≡ Some kept }
-    ensures asked { IfOk result (λ asked. (told : Bool) (seen : Content) (before after : ℕ) → IsPartOf told core.old.state.catalogue seen address.now kept text.items
+    ensures asked { IfOk result (λ asked. (told : Bool) (seen : Content) (before after : ℕ) → IsPartOf told core.old.state.catalogue seen address.now kept text
         → Asks before after (on_disk told seen core.old.state) address.now asked (on_disk told seen core.new.state)) }
     ensures err { OnErr result (core.new.state ≡ core.old.state) }
     ensures alike { IsAlikeTo core.old.state core.new.state }
@@ -72,7 +73,7 @@ fn ask_read(
     }
 }
 
-/// Asks for a tile whose part of what is kept was read from the disk; a hit is put into the hot tier, unless memory runs out for that.
+/// Asks for a tile whose part of what is kept was read from the disk; a hit shares it with the hot tier, unless memory runs out for that.
 /// `AllocError` where memory runs out for the ask; all is then as before.
 fn ask_warming(
     alloc: Global,
@@ -80,25 +81,29 @@ fn ask_warming(
     hot: &mut HotTier,
     address: &Address,
     kept: Kept,
-    text: Vec<u8>,
+    bytes: Vec<u8>,
 ) -> Result<Asked, AllocError>
     requires tile { IsTile core.old.state.catalogue address.now }
     requires kept { kept_of (block_of core.old.state.catalogue address.now) (now core.old.state) ≡ Some kept }
-    ensures asked { IfOk result (λ asked. (told : Bool) (seen : Content) (before after : ℕ) → IsPartOf told core.old.state.catalogue seen address.now kept text.items
+    ensures asked { IfOk result (λ asked. (told : Bool) (seen : Content) (before after : ℕ) → IsPartOf told core.old.state.catalogue seen address.now kept bytes.items
         → Asks before after (on_disk told seen core.old.state) address.now asked (on_disk told seen core.new.state)) }
     ensures err { OnErr result (core.new.state ≡ core.old.state) }
     ensures alike { IsAlikeTo core.old.state core.new.state }
-    ensures hot { (told : Bool) (seen : Content) → IsPartOf told core.old.state.catalogue seen address.now kept text.items → IsHot told core.old.state seen hot.old → IsHot told core.new.state seen hot.new }
+    ensures hot { (told : Bool) (seen : Content) → IsPartOf told core.old.state.catalogue seen address.now kept bytes.items → IsHot told core.old.state seen hot.old → IsHot told core.new.state seen hot.new }
     ensures room { needed core.new.state ≤ needed core.old.state + 1 }
 {
     core.known();
+    let text = match Bytes::from_vec(bytes) {
+        Err(_) => return Err(AllocError),
+        Ok(text) => text,
+    };
     let forced = match core.ask_kept(alloc, address) {
         Err(fault) => return Err(fault),
         Ok(forced) => forced,
     };
     match forced {
         None => {
-            let _ = hot.put(alloc, address, kept.number, &text);
+            let _ = hot.put(address, kept.number, &text);
             Ok(Asked::Hit(kept.number, text))
         }
         Some(forced) => Ok(as_asked(forced)),
@@ -132,7 +137,7 @@ fn ask_disk<D: Disk>(
     match read_part(alloc, core, file, address, kept) {
         Err(fault) => Err(fault),
         Ok(None) => ask_unread(alloc, core, address),
-        Ok(Some(text)) => ask_warming(alloc, core, hot, address, kept, text),
+        Ok(Some(bytes)) => ask_warming(alloc, core, hot, address, kept, bytes),
     }
 }
 
@@ -160,7 +165,7 @@ fn ask_either<D: Disk>(
     ensures room { needed core.new.state ≤ needed core.old.state + 1 }
     ensures later { D.faults file.old.disk ≤ D.faults file.new.disk }
 {
-    match hot.text_of(alloc, address, kept.number) {
+    match hot.text_of(address, kept.number) {
         Err(fault) => Err(fault),
         Ok(None) => ask_disk(alloc, core, file, hot, address, kept),
         Ok(Some(text)) => ask_read(alloc, core, address, kept, text),

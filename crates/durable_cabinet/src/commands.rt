@@ -20,6 +20,7 @@ use crate::backing::{keep, write};
 use crate::durable::Cabinet;
 use crate::entries::{dropped, truncated, used};
 use crate::rooms::one_more;
+use bytes::Bytes;
 use cabinet::judged::{Admitted, Judged};
 use cabinet::replies::{Asked, CutReply, Expired, Finished, Forced, Saved};
 use cabinet::text::Text;
@@ -87,13 +88,13 @@ impl<D: Disk> Cabinet<D> {
 
     /// Ends a render, and keeps its blob unless a truncation overtook it, as many others are kept as may be, no gap has room for it,
     /// or the disk failed. It takes no memory.
-    pub fn finish(&mut self, ticket: Ticket, blob: Vec<u8>) -> Finished
+    pub fn finish(&mut self, ticket: Ticket, blob: Bytes) -> Finished
         requires meta { IsMeta self.old.state.catalogue ticket.meta }
-        requires blob { length blob.items ≡ blob_size self.old.state.catalogue ticket.meta }
-        ensures finished { Finishes self.old.state ticket blob.items result self.new.state }
+        requires blob { length blob ≡ blob_size self.old.state.catalogue ticket.meta }
+        ensures finished { Finishes self.old.state ticket blob result self.new.state }
         ensures counted { IsCountedFinished (D.faults self.old.file.disk) (D.faults self.new.file.disk) result }
         ensures told { D.told self.new.file.disk ≡ D.told self.old.file.disk }
-        ensures images { IsTrue (D.told self.old.file.disk) → Lasts self.old.state (λ u. Finishes self.old.state ticket blob.items finished.Kept u) self.old.file.journal (D.state self.old.file.disk) (D.state self.new.file.disk) }
+        ensures images { IsTrue (D.told self.old.file.disk) → Lasts self.old.state (λ u. Finishes self.old.state ticket blob finished.Kept u) self.old.file.journal (D.state self.old.file.disk) (D.state self.new.file.disk) }
         ensures settled { result ≡ Finished.Kept → IsSettled self.new.file.journal }
         ensures still { StaysSettled (D.faults self.old.file.disk) (D.faults self.new.file.disk) self.old.file.journal self.new.file.journal }
         ensures later { D.faults self.old.file.disk ≤ D.faults self.new.file.disk }
@@ -118,7 +119,7 @@ impl<D: Disk> Cabinet<D> {
                 Finished::NoRoom
             }
             Judged::Fits(kept) => {
-                match keep(&self.core, &mut self.file, &mut self.draft, kept, &blob) {
+                match keep(&self.core, &mut self.file, &mut self.draft, kept, blob.as_slice()) {
                     Err(_) => {
                         self.core.abandon(ticket);
                         Finished::DiskFault(before, self.file.fault_count())

@@ -4,6 +4,7 @@ ghost use Rattle.std.specs.List.{AllByRecursion};
 ghost use Rattle.durable_cabinet.specs.Hot.{address_of, hot_tile};
 
 use crate::texts::{HotText, TileKey};
+use bytes::Bytes;
 use lru::LruCache;
 use matrix_geometry::address::Address;
 use std::alloc::{AllocError, Global};
@@ -39,16 +40,16 @@ fn key_of(address: &Address) -> TileKey
     }
 }
 
-/// A copy of a text, where it is of the render of this number. `AllocError` where memory runs out.
-fn copy_of(alloc: Global, found: &HotText, number: u64) -> Result<Option<Vec<u8>>, AllocError>
-    ensures { IfOk result (λ copy. IfSome copy (λ text. (found.now.number ≡ number) × (text.items ≡ found.now.text.items))) }
+/// A text, where it is of the render of this number. `AllocError` where it has as many owners as may be.
+fn shared(found: &HotText, number: u64) -> Result<Option<Bytes>, AllocError>
+    ensures { IfOk result (λ found_text. IfSome found_text (λ text. (found.now.number ≡ number) × (text ≡ found.now.text))) }
 {
     if found.number != number {
         return Ok(None);
     }
-    match Vec::from_slice(alloc, &found.text) {
+    match found.text.clone() {
         Err(fault) => Err(fault),
-        Ok(copy) => Ok(Some(copy)),
+        Ok(text) => Ok(Some(text)),
     }
 }
 
@@ -63,51 +64,45 @@ impl HotTier {
         }
     }
 
-    /// A copy of the text of a tile, where one of the render of this number is there. `AllocError` where memory runs out.
+    /// The text of a tile, where one of the render of this number is there. It is shared, not copied. `AllocError` where it has as many
+    /// owners as may be.
     pub fn text_of(
         &mut self,
-        alloc: Global,
         address: &Address,
         number: u64,
-    ) -> Result<Option<Vec<u8>>, AllocError>
-        ensures found { IfOk result (λ found. IfSome found (λ text. Contains self.old (hot_tile address.now number text.items))) }
+    ) -> Result<Option<Bytes>, AllocError>
+        ensures found { IfOk result (λ found. IfSome found (λ text. Contains self.old (hot_tile address.now number text))) }
         ensures among { AllByRecursion (Contains self.old) self.new }
     {
         let key = key_of(address);
         self.texts.promote(&key);
-        self.copy_at(alloc, &key, number)
+        self.text_at(&key, number)
     }
 
-    /// A copy of the text that is there by a key, where it is of the render of this number. `AllocError` where memory runs out.
-    fn copy_at(
-        &self,
-        alloc: Global,
-        key: &TileKey,
-        number: u64,
-    ) -> Result<Option<Vec<u8>>, AllocError>
-        ensures { IfOk result (λ found. IfSome found (λ text. Contains self.now (hot_tile (address_of key.now) number text.items))) }
+    /// The text that is there by a key, where it is of the render of this number. `AllocError` where it has as many owners as may be.
+    fn text_at(&self, key: &TileKey, number: u64) -> Result<Option<Bytes>, AllocError>
+        ensures { IfOk result (λ found. IfSome found (λ text. Contains self.now (hot_tile (address_of key.now) number text))) }
     {
         match self.texts.peek(key) {
             None => Ok(None),
-            Some(found) => copy_of(alloc, found, number),
+            Some(found) => shared(found, number),
         }
     }
 
-    /// Puts a copy of the text of a tile, in place of an older one of the tile, or of the text whose last use is longest ago where the
-    /// tier is full. `AllocError` where memory runs out; nothing is put then.
+    /// Puts the text of a tile, which is shared and not copied, in place of an older one of the tile, or of the text whose last use is
+    /// longest ago where the tier is full. `AllocError` where memory runs out; nothing is put then.
     pub fn put(
         &mut self,
-        alloc: Global,
         address: &Address,
         number: u64,
-        text: &[u8],
+        text: &Bytes,
     ) -> Result<(), AllocError>
         ensures among { AllByRecursion (λ x. Contains self.old x ⊎ (x ≡ hot_tile address.now number text.now)) self.new }
         ensures there { OnOk result (Contains self.new (hot_tile address.now number text.now)) }
     {
-        let text = match Vec::from_slice(alloc, text) {
+        let text = match text.clone() {
             Err(fault) => return Err(fault),
-            Ok(copy) => copy,
+            Ok(text) => text,
         };
         match self.texts.put(key_of(address), HotText { number, text }) {
             Err(_) => Err(AllocError),

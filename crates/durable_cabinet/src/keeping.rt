@@ -1,5 +1,6 @@
 //! A cabinet on a disk as a keeper.
 use crate::durable::Cabinet;
+use bytes::Bytes;
 use cabinet::keeper::Keeper;
 use cabinet::replies::{Asked, CutReply, Expired, Finished, Forced, Saved};
 use catalog::catalogue::Catalogue;
@@ -42,7 +43,7 @@ impl<D: Disk> Keeper for Cabinet<D> {
         Cabinet::force(self, alloc, meta)
     }
 
-    fn finish(&mut self, ticket: Ticket, blob: Vec<u8>) -> Finished {
+    fn finish(&mut self, ticket: Ticket, blob: Bytes) -> Finished {
         Cabinet::known(self);
         Cabinet::finish(self, ticket, blob)
     }

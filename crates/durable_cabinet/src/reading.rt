@@ -1,45 +1,21 @@
 //! How a tile is read out of the blob of its metatile on the disk.
-ghost use Rattle.std.specs.Prelude.{◌≡◌, ◌+◌, ◌≤◌, ℕ, IfOk, IfSome, List, None, Some};
+ghost use Rattle.std.specs.Prelude.{◌≡◌, ◌≤◌, IfOk, IfSome, None, Some};
 ghost use Rattle.catalog.specs.LookUp.{IsTile};
-ghost use Rattle.catalog.specs.Valid.{IsValid};
 ghost use Rattle.causes.specs.Causes.{Rose};
 ghost use Rattle.cabinet.specs.History.{kept_of};
 ghost use Rattle.cabinet.specs.State.{now};
 ghost use Rattle.durable_cabinet.specs.Backing.{Rests};
 ghost use Rattle.durable_cabinet.specs.Filed.{IsFiled};
 ghost use Rattle.durable_cabinet.specs.Tiles.{IsPartOf};
-ghost use Rattle.raster_field.specs.Blocks.{blob_size, block_of, part_of, tile_part};
+ghost use Rattle.raster_field.specs.Blocks.{block_of};
 
 use cabinet::cabinet_core::Core;
 use cabinet::kept::Kept;
 use cache_file::file::CacheFile;
-use catalog::catalogue::Catalogue;
 use disk_model::disk::Disk;
 use matrix_geometry::address::Address;
-use metatile_plan::laws::laws_of_blocks;
-use metatile_plan::span::Span;
-use metatile_plan::spans::tile_span_in_blob;
-use raster_field::layout::{block_of, layout_of};
+use raster_field::layout::tile_span;
 use std::alloc::{AllocError, Global};
-
-/// Where a tile stands in a blob of its metatile.
-fn span_for(catalogue: &Catalogue, address: &Address) -> Span
-    requires valid { IsValid catalogue.now }
-    requires tile { IsTile catalogue.now address.now }
-    ensures part { (blob : List ℕ) → part_of result blob ≡ tile_part catalogue.now address.now blob }
-    ensures inside { result.start + result.length ≤ blob_size catalogue.now (block_of catalogue.now address.now) }
-{
-    laws_of_blocks();
-    let meta = block_of(catalogue, address);
-    let layout = layout_of(catalogue, &meta);
-    tile_span_in_blob(
-        &meta,
-        &layout.factors,
-        &layout.matrix,
-        address.row,
-        address.col,
-    )
-}
 
 /// Reads a tile's part of what is kept of its metatile; `None` only where the disk's count of faults rose. The memory for it is taken
 /// first: `AllocError` where it runs out. The disk is only read.
@@ -62,7 +38,7 @@ pub(crate) fn read_part<D: Disk>(
     ensures later { D.faults file.old.disk ≤ D.faults file.new.disk }
 {
     core.known();
-    let span = span_for(core.catalogue(), address);
+    let span = tile_span(core.catalogue(), address);
     let mut bytes = match vec![in alloc; 0; span.length as usize] {
         Err(fault) => return Err(fault),
         Ok(bytes) => bytes,

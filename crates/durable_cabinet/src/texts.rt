@@ -1,4 +1,5 @@
 //! What the hot tier holds, and by what it is found.
+use bytes::Bytes;
 use matrix_geometry::theme::Theme;
 
 /// A tile, by which its text is found: what its address says.
@@ -11,9 +12,9 @@ pub struct TileKey {
     pub col: u32,
 }
 
-/// The text of a tile, and the number of the render of which it is.
+/// The text of a tile, which whoever is answered with it shares, and the number of the render of which it is.
 #[derive(Drop)]
 pub struct HotText {
     pub number: u64,
-    pub text: Vec<u8>,
+    pub text: Bytes,
 }

@@ -2,6 +2,7 @@
 ghost use Rattle.std.specs.Prelude.{IfOk, ◌≡◌};
 ghost use Rattle.catalog.specs.Demo.{demo};
 
+use bytes::Bytes;
 use cabinet::keeper::Keeper;
 use cabinet::replies::{Asked, CutReply, Expired, Finished, Forced, Saved};
 use catalog::catalogue::Catalogue;
@@ -68,7 +69,7 @@ pub fn kept(alloc: Global, cabinet: &mut OnDisk, byte: u8) -> Result<Finished, A
     laws_of_metatiles();
     let meta = block_of(cabinet.catalogue(), &corner_tile());
     let size = blob_size(cabinet.catalogue(), &meta);
-    let blob = vec![in alloc; byte; size as usize]?;
+    let blob = Bytes::from_vec(vec![in alloc; byte; size as usize]?)?;
     match cabinet.force(alloc, &meta)? {
         Forced::Ticket(ticket) => Ok(cabinet.finish(ticket, blob)),
         Forced::Busy(_) => Ok(Finished::Stranger),

@@ -1,4 +1,5 @@
 //! The outcomes of all requests.
+use bytes::Bytes;
 use exact_ratio::words::Words;
 use exception_report::code::{Code, Locator};
 use job_forms::fault::JobFault;
@@ -7,7 +8,7 @@ use job_forms::fault::JobFault;
 #[derive(Drop)]
 pub enum Outcome {
     /// The tile: whether a kept one gave it, the number of its render, and the encoded tile.
-    Tile(bool, u64, Words),
+    Tile(bool, u64, Bytes),
     /// The capabilities document, as the operator wrote it. It is borrowed where the response is made.
     Document,
     /// The request is refused.

@@ -40,6 +40,6 @@ returns-in-Ok-Some-clause-hot g c =
     let old = (g.D.Disk.state c.args.file.now.disk).seen in
     let new = (g.D.Disk.state n.disk).seen in
     let same = c.read_part.ensures.rests.same in
-    let read : IsPartOf told s.catalogue old c.args.address.now c.args.kept c.in-Ok-Some.text.items = search rules in
-    let part = part_seen told s old new c.args.address.now c.args.kept c.in-Ok-Some.text.items same c.requires.kept read in
+    let read : IsPartOf told s.catalogue old c.args.address.now c.args.kept c.in-Ok-Some.bytes.items = search rules in
+    let part = part_seen told s old new c.args.address.now c.args.kept c.in-Ok-Some.bytes.items same c.requires.kept read in
     subst (λ (b : Bool). IsHot b u new c.ask_warming.new.hot) (sym c.read_part.ensures.told) (c.ask_warming.ensures.hot told new part (hot_seen told s old new c.args.hot.now same c.requires.hot))

@@ -11,8 +11,8 @@ returns-in-Ok-Some-clause-asked g c =
     let told = g.D.Disk.told f.disk in
     let seen = (g.D.Disk.state f.disk).seen in
     let faults = g.D.Disk.faults f.disk in
-    let found : Contains c.args.hot.now (hot_tile c.args.address.now c.args.kept.number c.in-Ok-Some.text.items) = search rules in
-    let part = hot_part told c.args.core.now.state seen c.args.hot.now c.args.address.now c.args.kept c.in-Ok-Some.text.items c.requires.hot found c.requires.kept in
+    let found : Contains c.args.hot.now (hot_tile c.args.address.now c.args.kept.number c.in-Ok-Some.text) = search rules in
+    let part = hot_part told c.args.core.now.state seen c.args.hot.now c.args.address.now c.args.kept c.in-Ok-Some.text c.requires.hot found c.requires.kept in
     IfOk-weaker c.ask_read.result _ _ (λ asked row. row told seen faults faults part) c.ask_read.ensures.asked
 
 pub returns-in-Ok-Some-clause-filed : goal.returns-in-Ok-Some-clause-filed

@@ -10,4 +10,4 @@ returns-in-None-clause-asked c told seen before after part =
     let u = c.ask_kept.new.self.state in
     let a = c.args.address.now in
     let row : AsksKept s a None u = subst (λ (o : Option Forced). AsksKept s a o u) c.in-None.is c.in-Ok.ensures.asks in
-    hit_on s a told seen u u.clock.moment c.args.kept c.args.text.items c.requires.kept part row.0 row.1
+    hit_on s a told seen u u.clock.moment c.args.kept c.args.text c.requires.kept part row.0 row.1

@@ -13,7 +13,7 @@ returns-in-None-clause-asked c told seen before after part =
     let u = c.ask_kept.new.self.state in
     let a = c.args.address.now in
     let row : AsksKept s a None u = subst (λ (o : Option Forced). AsksKept s a o u) c.in-None.is c.in-Ok.ensures.asks in
-    hit_on s a told seen u u.clock.moment c.args.kept c.args.text.items c.requires.kept part row.0 row.1
+    hit_on s a told seen u u.clock.moment c.args.kept c.args.bytes.items c.requires.kept part row.0 row.1
 
 pub returns-in-None-clause-hot : goal.returns-in-None-clause-hot
 returns-in-None-clause-hot c told seen part hot =
@@ -22,9 +22,9 @@ returns-in-None-clause-hot c told seen part hot =
     let a = c.args.address.now in
     let n = c.args.kept.number in
     let row : AsksKept s a None u = subst (λ (o : Option Forced). AsksKept s a o u) c.in-None.is c.in-Ok.ensures.asks in
-    let same : c.deref.result.now ≡ c.args.text.items = search rules in
-    let one = subst (λ (bytes : List ℕ). IsHotTile told s.catalogue (now s) seen (hot_tile a n bytes)) (sym same) (part_hot told s c.known.ensures seen a c.args.kept c.args.text.items c.requires.kept part) in
-    hot_stays told s u seen c.put.new.self (hit_hot s u a row) (hot_put told s seen c.args.hot.now c.put.new.self (hot_tile a n c.deref.result.now) c.put.ensures.among one hot)
+    let same : c.in-Ok.text ≡ c.args.bytes.items = search rules in
+    let one = subst (λ (bytes : List ℕ). IsHotTile told s.catalogue (now s) seen (hot_tile a n bytes)) (sym same) (part_hot told s c.known.ensures seen a c.args.kept c.args.bytes.items c.requires.kept part) in
+    hot_stays told s u seen c.put.new.self (hit_hot s u a row) (hot_put told s seen c.args.hot.now c.put.new.self (hot_tile a n c.in-Ok.text) c.put.ensures.among one hot)
 
 pub returns-in-Some-clause-hot : goal.returns-in-Some-clause-hot
 returns-in-Some-clause-hot c told seen part hot =

@@ -10,10 +10,10 @@ use Rattle.durable_cabinet.proofs.reading.read_part.Goals as goal
 pub read-requires-clause-end : goal.read-requires-clause-end
 read-requires-clause-end g c =
     let s = c.args.core.now.state in
-    let span = c.span_for-span.result in
+    let span = c.tile_span-span.result in
     let a = c.args.address.now in
     let r = region_of s c.known.ensures a c.args.kept c.requires.kept in
-    let inside = subst (λ (d : Catalogue). span.start + span.length ≤ blob_size d (block_of d a)) c.catalogue.ensures c.span_for-span.ensures.inside in
+    let inside = subst (λ (d : Catalogue). span.start + span.length ≤ blob_size d (block_of d a)) c.catalogue.ensures c.tile_span-span.ensures.inside in
     omega (arith, c.requires.filed.start_is, inside, r.within, r.size, c.known.ensures.valid.blob_bytes_most, c.known.ensures.valid.kept_limit_most, c.known.ensures.valid.cut_limit_most)
 
 pub returns-in-Err-read-clause-filed : goal.returns-in-Err-read-clause-filed
@@ -53,10 +53,10 @@ returns-in-Ok-read-clause-part g c =
     let f = c.args.file.now in
     let s = c.args.core.now.state in
     let a = c.args.address.now in
-    let span = c.span_for-span.result in
+    let span = c.tile_span-span.result in
     let into = c.read.new.into in
-    let inside : span.start + span.length ≤ blob_size s.catalogue (block_of s.catalogue a) = subst (λ (d : Catalogue). span.start + span.length ≤ blob_size d (block_of d a)) c.catalogue.ensures c.span_for-span.ensures.inside in
-    let part : (blob : List ℕ) → part_of span blob ≡ tile_part s.catalogue a blob = subst (λ (d : Catalogue). (blob : List ℕ) → part_of span blob ≡ tile_part d a blob) c.catalogue.ensures c.span_for-span.ensures.part in
+    let inside : span.start + span.length ≤ blob_size s.catalogue (block_of s.catalogue a) = subst (λ (d : Catalogue). span.start + span.length ≤ blob_size d (block_of d a)) c.catalogue.ensures c.tile_span-span.ensures.inside in
+    let part : (blob : List ℕ) → part_of span blob ≡ tile_part s.catalogue a blob = subst (λ (d : Catalogue). (blob : List ℕ) → part_of span blob ≡ tile_part d a blob) c.catalogue.ensures c.tile_span-span.ensures.part in
     let long : length into ≡ span.length = search rules in
     let rest = drop (length into) c.in-Ok.bytes.items in
     let meets : length into ≡ c.in-Ok.bytes.len = search rules in

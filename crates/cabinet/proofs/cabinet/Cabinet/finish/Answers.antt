@@ -10,4 +10,4 @@ returns-in-Fits-clause-sound c = λ sound text.
     let t = c.in-Fits.kept in
     let is = sym c.in-Fits.ensures.4 in
     let true_text = text ∙ (λ j. block_text (sym c.self.view_is j).catalogue (is j).number (is j).meta) in
-    sound_stored s t c.args.blob.items _ (subst (λ (v : State). IsSound v) (sym c.self.view_is) sound) true_text (c.keep.ensures ∙ ap (with_blob s t) c.of.ensures)
+    sound_stored s t c.args.blob _ (subst (λ (v : State). IsSound v) (sym c.self.view_is) sound) true_text (c.keep.ensures ∙ ap (with_blob s t) c.of.ensures)

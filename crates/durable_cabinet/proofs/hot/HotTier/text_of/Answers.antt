@@ -18,4 +18,4 @@ returns-clause-found c =
     let es = c.self.inside.texts.entries in
     let among : AllByRecursion (Contains (map tile_of es)) (map tile_of c.promote.new.self.entries) =
     subst (λ (x : LruCache TileKey HotText). AllByRecursion (Contains (map tile_of es)) (map tile_of x.entries)) (sym c.promote.ensures.entries) (among_promoted c.key_of-key.result es) in
-    found_among c.copy_at.result (map tile_of c.promote.new.self.entries) c.args.self.now c.args.number _ _ c.key_of-key.ensures (subst (λ (old : List HotTile). AllByRecursion (Contains old) (map tile_of c.promote.new.self.entries)) c.self.view_is among) c.copy_at.ensures
+    found_among c.text_at.result (map tile_of c.promote.new.self.entries) c.args.self.now c.args.number _ _ c.key_of-key.ensures (subst (λ (old : List HotTile). AllByRecursion (Contains old) (map tile_of c.promote.new.self.entries)) c.self.view_is among) c.text_at.ensures
