@@ -1,16 +1,19 @@
 //! Blobs and the parts of them that are tiles.
-ghost use Rattle.std.specs.Prelude.{IfOk, length, ℕ, ◌≡◌, ◌≤◌};
+ghost use Rattle.std.specs.Prelude.{IfOk, List, length, ℕ, ◌+◌, ◌≡◌, ◌≤◌};
 ghost use Rattle.catalog.specs.LookUp.{IsTile};
 ghost use Rattle.catalog.specs.Valid.{IsValid};
-ghost use Rattle.raster_field.specs.Blocks.{IsMeta, blob_size, block_of, block_text, tile_part};
+ghost use Rattle.raster_field.specs.Blocks.{IsMeta, blob_size, block_of, block_text, part_of, tile_part};
 ghost use Rattle.raster_field.specs.TileText.{tile_text};
 
 use bytes::Bytes;
 use catalog::catalogue::Catalogue;
 use matrix_geometry::address::Address;
+use metatile_plan::laws::laws_of_blocks;
 use metatile_plan::metatile::MetaKey;
+use metatile_plan::span::Span;
+use metatile_plan::spans::tile_span_in_blob;
 use raster_field::laws::laws_of_metatiles;
-use raster_field::layout::tile_span;
+use raster_field::layout::{block_of, layout_of};
 use std::alloc::AllocError;
 
 /// The bytes of a blob of a metatile.
@@ -21,6 +24,25 @@ pub fn blob_bytes(catalogue: &Catalogue, meta: &MetaKey) -> u32
     ensures some { 1 ≤ result }
 {
     raster_field::layout::blob_size(catalogue, meta)
+}
+
+/// Where a tile stands in a blob of its metatile.
+pub fn tile_span(catalogue: &Catalogue, address: &Address) -> Span
+    requires valid { IsValid catalogue.now }
+    requires tile { IsTile catalogue.now address.now }
+    ensures part { (blob : List ℕ) → part_of result blob ≡ tile_part catalogue.now address.now blob }
+    ensures inside { result.start + result.length ≤ blob_size catalogue.now (block_of catalogue.now address.now) }
+{
+    laws_of_blocks();
+    let meta = block_of(catalogue, address);
+    let layout = layout_of(catalogue, &meta);
+    tile_span_in_blob(
+        &meta,
+        &layout.factors,
+        &layout.matrix,
+        address.row,
+        address.col,
+    )
 }
 
 /// The tile's part of a blob of its metatile, which shares the blob's bytes. `AllocError` where the blob has as many owners as may be.

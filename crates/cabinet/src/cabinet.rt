@@ -122,8 +122,8 @@ impl Cabinet {
             Ok(forced) => forced,
         };
         match forced {
-            None => Ok(Asked::Hit(found.number, found.text)),
-            Some(forced) => Ok(as_asked(forced)),
+            None => return Ok(Asked::Hit(found.number, found.text)),
+            Some(forced) => return Ok(as_asked(forced)),
         }
     }
 

@@ -9,12 +9,12 @@ ghost use Rattle.durable_cabinet.specs.Filed.{IsFiled};
 ghost use Rattle.durable_cabinet.specs.Tiles.{IsPartOf};
 ghost use Rattle.raster_field.specs.Blocks.{block_of};
 
+use cabinet::blob::tile_span;
 use cabinet::cabinet_core::Core;
 use cabinet::kept::Kept;
 use cache_file::file::CacheFile;
 use disk_model::disk::Disk;
 use matrix_geometry::address::Address;
-use raster_field::layout::tile_span;
 use std::alloc::{AllocError, Global};
 
 /// Reads a tile's part of what is kept of its metatile; `None` only where the disk's count of faults rose. The memory for it is taken

@@ -1,21 +1,19 @@
 //! What a catalogue says of a metatile: how its tiles are gathered, on which matrix, and what its blob and its window are.
-ghost use Rattle.std.specs.Prelude.{ℕ, ◌+◌, ◌≡◌, ◌≤◌, List, Some};
+ghost use Rattle.std.specs.Prelude.{◌≡◌, ◌≤◌, Some};
 ghost use Rattle.catalog.specs.LookUp.{IsTile, matrix_in};
 ghost use Rattle.catalog.specs.Valid.{IsValid};
 ghost use Rattle.matrix_geometry.specs.Limits.{IsWithinLimits};
 ghost use Rattle.metatile_plan.specs.Plan.{IsMetaIn, IsPlan};
-ghost use Rattle.raster_field.specs.Blocks.{IsMeta, blob_size, block_of, factors_at, factors_of, part_of, tile_part};
+ghost use Rattle.raster_field.specs.Blocks.{IsMeta, blob_size, block_of, factors_at, factors_of};
 ghost use Rattle.raster_field.specs.Rasters.{IsWindowOf, window_in};
 
 use catalog::catalogue::Catalogue;
 use catalog::layer::Layer;
 use matrix_geometry::address::Address;
 use matrix_geometry::matrix::Matrix;
-use metatile_plan::laws::laws_of_blocks;
 use metatile_plan::metatile::{Factors, MetaKey};
 use metatile_plan::plan::{meta_of, window};
-use metatile_plan::span::Span;
-use metatile_plan::spans::{blob_len, tile_span_in_blob};
+use metatile_plan::spans::blob_len;
 use metatile_plan::window::Window;
 
 /// How the tiles of a layer are gathered into metatiles.
@@ -72,25 +70,6 @@ pub fn blob_size(catalogue: &Catalogue, meta: &MetaKey) -> u32
 {
     let layout = layout_of(catalogue, meta);
     blob_len(meta, &layout.factors, &layout.matrix)
-}
-
-/// Where a tile of the catalogue stands in a blob of its metatile.
-pub fn tile_span(catalogue: &Catalogue, address: &Address) -> Span
-    requires valid { IsValid catalogue.now }
-    requires tile { IsTile catalogue.now address.now }
-    ensures part { (blob : List ℕ) → part_of result blob ≡ tile_part catalogue.now address.now blob }
-    ensures inside { result.start + result.length ≤ blob_size catalogue.now (block_of catalogue.now address.now) }
-{
-    laws_of_blocks();
-    let meta = block_of(catalogue, address);
-    let layout = layout_of(catalogue, &meta);
-    tile_span_in_blob(
-        &meta,
-        &layout.factors,
-        &layout.matrix,
-        address.row,
-        address.col,
-    )
 }
 
 /// The window of a metatile of the catalogue: the pixels that are rendered for it.
