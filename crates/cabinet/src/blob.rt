@@ -46,11 +46,7 @@ pub fn tile_span(catalogue: &Catalogue, address: &Address) -> Span
 }
 
 /// The tile's part of a blob of its metatile, which shares the blob's bytes. `AllocError` where the blob has as many owners as may be.
-pub fn tile_in(
-    catalogue: &Catalogue,
-    address: &Address,
-    blob: &Bytes,
-) -> Result<Bytes, AllocError>
+pub fn tile_in(catalogue: &Catalogue, address: &Address, blob: &Bytes) -> Result<Bytes, AllocError>
     requires valid { IsValid catalogue.now }
     requires tile { IsTile catalogue.now address.now }
     requires blob { length blob.now ≡ blob_size catalogue.now (block_of catalogue.now address.now) }

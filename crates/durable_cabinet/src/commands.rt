@@ -119,7 +119,13 @@ impl<D: Disk> Cabinet<D> {
                 Finished::NoRoom
             }
             Judged::Fits(kept) => {
-                match keep(&self.core, &mut self.file, &mut self.draft, kept, blob.as_slice()) {
+                match keep(
+                    &self.core,
+                    &mut self.file,
+                    &mut self.draft,
+                    kept,
+                    blob.as_slice(),
+                ) {
                     Err(_) => {
                         self.core.abandon(ticket);
                         Finished::DiskFault(before, self.file.fault_count())

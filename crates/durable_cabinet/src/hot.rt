@@ -66,11 +66,7 @@ impl HotTier {
 
     /// The text of a tile, where one of the render of this number is there. It is shared, not copied. `AllocError` where it has as many
     /// owners as may be.
-    pub fn text_of(
-        &mut self,
-        address: &Address,
-        number: u64,
-    ) -> Result<Option<Bytes>, AllocError>
+    pub fn text_of(&mut self, address: &Address, number: u64) -> Result<Option<Bytes>, AllocError>
         ensures found { IfOk result (λ found. IfSome found (λ text. Contains self.old (hot_tile address.now number text))) }
         ensures among { AllByRecursion (Contains self.old) self.new }
     {
@@ -91,12 +87,7 @@ impl HotTier {
 
     /// Puts the text of a tile, which is shared and not copied, in place of an older one of the tile, or of the text whose last use is
     /// longest ago where the tier is full. `AllocError` where memory runs out; nothing is put then.
-    pub fn put(
-        &mut self,
-        address: &Address,
-        number: u64,
-        text: &Bytes,
-    ) -> Result<(), AllocError>
+    pub fn put(&mut self, address: &Address, number: u64, text: &Bytes) -> Result<(), AllocError>
         ensures among { AllByRecursion (λ x. Contains self.old x ⊎ (x ≡ hot_tile address.now number text.now)) self.new }
         ensures there { OnOk result (Contains self.new (hot_tile address.now number text.now)) }
     {
