@@ -10,7 +10,7 @@
 #![tactic(auto)]
 
 mod ages;
-mod blob;
+pub mod blob;
 pub mod cabinet;
 pub mod cabinet_core;
 mod counts;
