@@ -1,34 +1,33 @@
 -- Why the tests of a replay decide whether a record may follow.
-use Rattle.std.proofs.Common.{ℕ, ◌≡◌, ◌≢◌, ◌<◌, ◌≤◌, ◌==◌, Bool, true, false, not, List, [], ◌∷◌, map, fold, find, filter, length, Option, Some, None, IsTrue, refl, sym, ap, subst, ◌∙◌, arith}
-use Rattle.std.specs.Prelude.{IsSome, IsSomeAnd}
-use Rattle.std.specs.List.{AllByRecursion}
+use Rattle.std.proofs.Common.{ℕ, ◌≡◌, ◌≢◌, ◌+◌, ◌<◌, ◌≤◌, ◌==◌, zero, suc, drop, Bool, true, false, not, List, [], ◌∷◌, map, fold, find, filter, length, Option, Some, None, IsTrue, refl, sym, ap, subst, ◌∙◌, arith}
+use Rattle.std.specs.Prelude.{IsSome, IsSomeAnd, slice_get}
+use Rattle.std.specs.List.{All, AllByRecursion}
 use Rattle.std.specs.Option.{option_map_or}
 use Rattle.std.proofs.lemmas.Bool.Decides.{nat_tests}
 use Rattle.std.proofs.lemmas.List.{length-map}
+use Rattle.std.proofs.lemmas.List.Elements.{All-head, All-tail}
 use Rattle.catalog.specs.declared.catalogue.Catalogue.{Catalogue}
 use Rattle.catalog.specs.LookUp.{matrix_in}
-use Rattle.matrix_geometry.specs.declared.boxes.Range.{Range}
 use Rattle.matrix_geometry.specs.declared.matrix.Matrix.{Matrix}
 use Rattle.metatile_locks.specs.Running.{block}
 use Rattle.metatile_locks.proofs.Lists.{all_filter, all_map, all_weaker, found, none_passes}
 use Rattle.metatile_plan.specs.declared.metatile.MetaKey.{MetaKey}
-use Rattle.metatile_plan.specs.Plan.{tiles_of}
-use Rattle.raster_field.specs.Blocks.{factors_at, tile_in}
+use Rattle.raster_field.specs.Blocks.{factors_at}
 use Rattle.truncation_list.specs.declared.block.Block.{Block}
 use Rattle.truncation_list.specs.declared.book.Cut.{Cut}
 use Rattle.truncation_list.specs.Books.{greatest_number}
-use Rattle.truncation_list.specs.Covers.{covers, hits}
-use Rattle.truncation_list.proofs.Tiles.{hits_is, in_range_lies, lies_in_range}
+use Rattle.truncation_list.specs.Covers.{hits}
+use Rattle.truncation_list.specs.Purge.{IsByNumber}
 use Rattle.cabinet.specs.declared.kept.Kept.{Kept}
 use Rattle.cabinet.specs.declared.kept.KeptBlob.{KeptBlob}
 use Rattle.cabinet.specs.Fresh.{ApartBy, IsNewer}
 use Rattle.cabinet.specs.History.{but, is_of, lesser}
 use Rattle.cabinet.specs.Hits.{hits_of}
 use Rattle.cabinet_records.specs.Placed.{ArePlaced, has_number}
-use Rattle.cabinet_records.specs.Played.{IsNewerAt}
+use Rattle.cabinet_records.specs.Played.{IsNewerThan}
 use Rattle.cabinet.specs.Shelved.{listed}
 use Rattle.cabinet.proofs.Holding.{least_has, least_most}
-use Rattle.cabinet.proofs.Lists.{all_contained, all_of, all_of_map, map_filter}
+use Rattle.cabinet.proofs.Lists.{all_got, all_of, all_of_map, map_filter}
 use Rattle.cabinet.proofs.Once.{but_none}
 use Rattle.cabinet_records.proofs.Tied.{found_off, others_differ}
 
@@ -108,31 +107,64 @@ own_is places next number m t kept once p some e = (
 
 -- NEWER THAN EACH CUT THAT HITS
 
--- so at each tile of a block
-abbrev IsNewerIn : List Cut → Matrix → Block → ℕ → Type 0
-IsNewerIn cuts x b n = (row col : ℕ) → b.tiles.row_min ≤ row → row ≤ b.tiles.row_max → b.tiles.col_min ≤ col → col ≤ b.tiles.col_max → IsNewerAt cuts x (record { theme = b.theme; grid = b.grid; z = b.z; row = row; col = col }) n
+pub all_at : {X : Type 0} (P : X → Type 0) (xs : List X) (i : ℕ) (x : X) → All P xs → slice_get xs i ≡ Some x → P x
+all_at P [] i x all e = absurd (cc)
+all_at P (y ∷ ys) zero x all e = let same : y ≡ x = cc in subst P same (All-head P y ys all)
+all_at P (y ∷ ys) (suc i) x all e = all_at P ys i x (All-tail P y ys all) e
 
-block_newer : (cuts : List Cut) (x : Matrix) (b : Block) (n : ℕ) → IsNewerIn cuts x b n → AllByRecursion (λ k. IsTrue (hits k.cover x b) → k.number < n) cuts
-block_newer cuts x b n each = all_of (λ (k : Cut). IsTrue (hits k.cover x b) → k.number < n) cuts (λ k has hit.
-    let some = (hits_is k.cover x b).0 hit in
-    let l = in_range_lies b.tiles some.row some.col some.in_block in
-    all_contained (λ (k : Cut). IsTrue (covers k.cover x (record { theme = b.theme; grid = b.grid; z = b.z; row = some.row; col = some.col })) → k.number < n) cuts k (each some.row some.col l.row_min l.row_max l.col_min l.col_max) has some.covered)
+module _ (x : Matrix) (b : Block) (n : ℕ) where
+  abbrev IsNewerIf : Cut → Type 0
+  IsNewerIf k = IsTrue (hits k.cover x b) → k.number < n
 
-newer_block : (cuts : List Cut) (x : Matrix) (b : Block) (n : ℕ) → AllByRecursion (λ k. IsTrue (hits k.cover x b) → k.number < n) cuts → IsNewerIn cuts x b n
-newer_block cuts x b n all row col a d e f =
-    all_weaker (λ (k : Cut). IsTrue (hits k.cover x b) → k.number < n) (λ k. IsTrue (covers k.cover x (record { theme = b.theme; grid = b.grid; z = b.z; row = row; col = col })) → k.number < n)
-    (λ k h covered. h ((hits_is k.cover x b).1 (record { row = row; col = col; in_block = lies_in_range b.tiles row col (record { row_min = a; row_max = d; col_min = e; col_max = f }); covered = covered }))) cuts all
+  all_lesser : (cut : Cut) (cuts : List Cut) (i : ℕ) (k : Cut) → All (λ other. cut.number < other.number) cuts → slice_get cuts i ≡ Some k → k.number < n → cut.number < n
+  all_lesser cut [] i k o e less = absurd (cc)
+  all_lesser cut (y ∷ ys) zero k o e less =
+      let same : y ≡ k = cc in
+      let rises : cut.number < y.number = All-head (λ other. cut.number < other.number) y ys o in
+      let under : y.number < n = subst (λ (c : Cut). c.number < n) (sym same) less in
+      omega arith
+  all_lesser cut (y ∷ ys) (suc i) k o e less = all_lesser cut ys i k (All-tail (λ other. cut.number < other.number) y ys o) e less
 
--- whether so at each of these tiles of a metatile
-abbrev pub IsNewerOn : List Cut → Matrix → MetaKey → Range → ℕ → Type 0
-IsNewerOn cuts x m r n = (row col : ℕ) → r.row_min ≤ row → row ≤ r.row_max → r.col_min ≤ col → col ≤ r.col_max → IsNewerAt cuts x (tile_in m row col) n
+  none_dropped : (i : ℕ) → AllByRecursion IsNewerIf (drop i [])
+  none_dropped zero = tt
+  none_dropped (suc i) = tt
 
-pub newer_is : (c : Catalogue) (cuts : List Cut) (n : ℕ) (m : MetaKey) (x : Matrix) → matrix_in c m.grid m.z ≡ Some x → (IsNewerOn cuts x m (tiles_of (factors_at c m.theme) x m) n → IsNewer c cuts n m) × (IsNewer c cuts n m → IsNewerOn cuts x m (tiles_of (factors_at c m.theme) x m) n)
+  -- the cuts before one of a lesser number are lesser, too
+  pub newer_below : (cuts : List Cut) (i j : ℕ) (k : Cut) → j ≡ i + 1 → IsByNumber cuts → slice_get cuts i ≡ Some k → k.number < n → AllByRecursion IsNewerIf (drop j cuts) → IsNewerThan cuts x b n
+  newer_below [] i j k f o e less rest = tt
+  newer_below (y ∷ ys) i zero k f o e less rest = absurd (omega arith)
+  newer_below (y ∷ ys) zero (suc j) k f o e less rest =
+      let same : y ≡ k = cc in
+      let none : j ≡ 0 = omega arith in
+      (λ _. subst (λ (c : Cut). c.number < n) (sym same) less, subst (λ (i : ℕ). AllByRecursion IsNewerIf (drop i ys)) none rest)
+  newer_below (y ∷ ys) (suc i) (suc j) k f o e less rest = (λ _. all_lesser y ys i k o.0 e less, newer_below ys i j k (omega arith) o.1 e less rest)
+
+  -- one that doesn't hit is passed over
+  pub newer_past : (cuts : List Cut) (i j : ℕ) (k : Cut) → j ≡ i + 1 → slice_get cuts i ≡ Some k → hits k.cover x b ≡ false → AllByRecursion IsNewerIf (drop j cuts) → AllByRecursion IsNewerIf (drop i cuts)
+  newer_past [] i j k f e off rest = none_dropped i
+  newer_past (y ∷ ys) i zero k f e off rest = absurd (omega arith)
+  newer_past (y ∷ ys) zero (suc j) k f e off rest =
+      let same : y ≡ k = cc in
+      let none : j ≡ 0 = omega arith in
+      let missed : hits y.cover x b ≡ false = subst (λ (c : Cut). hits c.cover x b ≡ false) (sym same) off in
+      (λ hit. absurd (cc), subst (λ (i : ℕ). AllByRecursion IsNewerIf (drop i ys)) none rest)
+  newer_past (y ∷ ys) (suc i) (suc j) k f e off rest = newer_past ys i j k (omega arith) e off rest
+
+  pub newer_not : (cuts : List Cut) (i : ℕ) (k : Cut) → slice_get cuts i ≡ Some k → IsTrue (hits k.cover x b) → n ≤ k.number → IsNewerThan cuts x b n → ⊥
+  newer_not cuts i k e hit over all = let under : k.number < n = all_got IsNewerIf cuts i k all e hit in absurd (omega arith)
+
+  pub none_past : (cuts : List Cut) (i : ℕ) → i ≡ length cuts → AllByRecursion IsNewerIf (drop i cuts)
+  none_past [] i l = none_dropped i
+  none_past (y ∷ ys) zero l = absurd (omega arith)
+  none_past (y ∷ ys) (suc i) l = none_past ys i (omega arith)
+
+pub newer_is : (c : Catalogue) (cuts : List Cut) (n : ℕ) (m : MetaKey) (x : Matrix) → matrix_in c m.grid m.z ≡ Some x
+    → (IsNewerThan cuts x (block (factors_at c m.theme) x m) n → IsNewer c cuts n m) × (IsNewer c cuts n m → IsNewerThan cuts x (block (factors_at c m.theme) x m) n)
 newer_is c cuts n m x at =
     let b = block (factors_at c m.theme) x m in
     let same : (k : Cut) → hits_of c k.cover m ≡ hits k.cover x b = λ k. ap (λ (o : Option Matrix). option_map_or (λ y. hits k.cover y (block (factors_at c m.theme) y m)) o false) at in (
-      λ each. all_weaker (λ (k : Cut). IsTrue (hits k.cover x b) → k.number < n) (λ k. IsTrue (hits_of c k.cover m) → k.number < n) (λ k h hit. h (sym (same k) ∙ hit)) cuts (block_newer cuts x b n each),
-      λ all. newer_block cuts x b n (all_weaker (λ (k : Cut). IsTrue (hits_of c k.cover m) → k.number < n) (λ k. IsTrue (hits k.cover x b) → k.number < n) (λ k h hit. h (same k ∙ hit)) cuts all),
+      λ each. all_weaker (λ (k : Cut). IsTrue (hits k.cover x b) → k.number < n) (λ k. IsTrue (hits_of c k.cover m) → k.number < n) (λ k h hit. h (sym (same k) ∙ hit)) cuts each,
+      λ all. all_weaker (λ (k : Cut). IsTrue (hits_of c k.cover m) → k.number < n) (λ k. IsTrue (hits k.cover x b) → k.number < n) (λ k h hit. h (same k ∙ hit)) cuts all,
     )
 
 -- LENGTHS

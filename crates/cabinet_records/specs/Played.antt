@@ -6,12 +6,12 @@ use Rattle.catalog.specs.declared.catalogue.Catalogue.{Catalogue}
 use Rattle.extent_map.specs.declared.part.Part.{Part}
 use Rattle.extent_map.specs.Spaces.{IsFree, IsSound, IsTaken, Space}
 use Rattle.indexmap.specs.IndexMap.{spare}
-use Rattle.matrix_geometry.specs.declared.address.Address.{Address}
 use Rattle.matrix_geometry.specs.declared.matrix.Matrix.{Matrix}
 use Rattle.raster_field.specs.Blocks.{IsMeta, blob_size}
 use Rattle.record_text.specs.declared.entries.Record.{Record}
+use Rattle.truncation_list.specs.declared.block.Block.{Block}
 use Rattle.truncation_list.specs.declared.book.Cut.{Cut}
-use Rattle.truncation_list.specs.Covers.{covers}
+use Rattle.truncation_list.specs.Covers.{hits}
 use Rattle.cabinet.specs.declared.kept.Kept.{Kept}
 use Rattle.cabinet_records.specs.declared.replay.progress.Progress.{Progress}
 use Rattle.cabinet.specs.Fresh.{IsNewer}
@@ -37,9 +37,9 @@ pub record IsPlayed (c : Catalogue) (next : ℕ) (p : Progress) : Type 0 where
   pub none : length p.out.items ≡ 0
   pub room : length p.store.blobs ≤ vec_capacity p.out
 
--- the number is above each of the cuts that covers the tile
-abbrev pub IsNewerAt : List Cut → Matrix → Address → ℕ → Type 0
-IsNewerAt cuts m a number = AllByRecursion (λ k. IsTrue (covers k.cover m a) → k.number < number) cuts
+-- the number is above each of the cuts that hits the block
+abbrev pub IsNewerThan : List Cut → Matrix → Block → ℕ → Type 0
+IsNewerThan cuts m b number = AllByRecursion (λ k. IsTrue (hits k.cover m b) → k.number < number) cuts
 
 -- what may be stored but for its region
 pub record MayKeep (c : Catalogue) (r : Replayed) (t : Kept) : Type 0 where
