@@ -23,7 +23,7 @@ returns-in-Ok-Hit-clause-begins g c =
     let Q : Asked → Type 0 = λ r. IsSound s → IsTrueHit s.catalogue c.args.address.now r in
     let R : Asked → Type 0 = λ r. IsFreshReply s c.args.address.now r t in
     let row = subst P x.field-0-is x.ensures.asked in
-    hit_asked b a x.ensures.later s t t.clock.moment c.args.address.now x.number x.bytes.items c.hit.result c.requires row c.hit.ensures.actor c.hit.ensures.outcome (subst Q x.field-0-is x.ensures.sound) (subst R x.field-0-is x.ensures.fresh)
+    hit_asked b a x.ensures.later s t t.clock.moment c.args.address.now x.number x.bytes c.hit.result c.requires row c.hit.ensures.actor c.hit.ensures.outcome (subst Q x.field-0-is x.ensures.sound) (subst R x.field-0-is x.ensures.fresh)
 
 pub returns-in-Ok-Busy-clause-begins : goal.returns-in-Ok-Busy-clause-begins
 returns-in-Ok-Busy-clause-begins g c =
