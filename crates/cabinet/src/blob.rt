@@ -5,7 +5,6 @@ ghost use Rattle.catalog.specs.Valid.{IsValid};
 ghost use Rattle.raster_field.specs.Blocks.{IsMeta, blob_size, block_of, block_text, part_of, tile_part};
 ghost use Rattle.raster_field.specs.TileText.{tile_text};
 
-use bytes::Bytes;
 use catalog::catalogue::Catalogue;
 use matrix_geometry::address::Address;
 use metatile_plan::laws::laws_of_blocks;
@@ -14,6 +13,7 @@ use metatile_plan::span::Span;
 use metatile_plan::spans::tile_span_in_blob;
 use raster_field::laws::laws_of_metatiles;
 use raster_field::layout::{block_of, layout_of};
+use shared_text::shared::SharedText;
 use std::alloc::AllocError;
 
 /// The bytes of a blob of a metatile.
@@ -46,7 +46,11 @@ pub fn tile_span(catalogue: &Catalogue, address: &Address) -> Span
 }
 
 /// The tile's part of a blob of its metatile, which shares the blob's bytes. `AllocError` where the blob has as many owners as may be.
-pub fn tile_in(catalogue: &Catalogue, address: &Address, blob: &Bytes) -> Result<Bytes, AllocError>
+pub fn tile_in(
+    catalogue: &Catalogue,
+    address: &Address,
+    blob: &SharedText,
+) -> Result<SharedText, AllocError>
     requires valid { IsValid catalogue.now }
     requires tile { IsTile catalogue.now address.now }
     requires blob { length blob.now ≡ blob_size catalogue.now (block_of catalogue.now address.now) }
@@ -56,5 +60,5 @@ pub fn tile_in(catalogue: &Catalogue, address: &Address, blob: &Bytes) -> Result
     laws_of_metatiles();
     let span = tile_span(catalogue, address);
     let start = span.start as usize;
-    blob.slice(start..start + span.length as usize)
+    blob.part(start, start + span.length as usize)
 }

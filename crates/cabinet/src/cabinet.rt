@@ -10,13 +10,13 @@ use crate::replies::{Asked, CutReply, Expired, Finished, Forced, Saved};
 use crate::shelving::Found;
 use crate::text::Text;
 use crate::turns::as_asked;
-use bytes::Bytes;
 use catalog::catalogue::Catalogue;
 use clock::clock::Clock;
 use matrix_geometry::address::Address;
 use metatile_locks::ticket::Ticket;
 use metatile_plan::metatile::MetaKey;
 use raster_field::layout::block_of;
+use shared_text::shared::SharedText;
 use std::alloc::{AllocError, Global};
 use std::marker::Model;
 use truncation_list::cover::Cover;
@@ -139,7 +139,7 @@ impl Cabinet {
 
     /// Ends a render, and keeps its blob unless a truncation overtook it, as many others are kept as may be, or no gap has
     /// room for it. It takes no memory.
-    pub fn finish(&mut self, ticket: Ticket, blob: Bytes) -> Finished
+    pub fn finish(&mut self, ticket: Ticket, blob: SharedText) -> Finished
         requires meta { IsMeta self.old.catalogue ticket.meta }
         requires blob { length blob ≡ blob_size self.old.catalogue ticket.meta }
         ensures finished { Finishes self.old ticket blob result self.new }

@@ -9,11 +9,11 @@ ghost use Rattle.cabinet.specs.Counted.{kept_in, used, used_all};
 ghost use Rattle.cabinet.specs.State.{IsKnown, IsSound, State, now};
 
 use crate::replies::{Asked, CutReply, Expired, Finished, Forced, Saved};
-use bytes::Bytes;
 use catalog::catalogue::Catalogue;
 use matrix_geometry::address::Address;
 use metatile_locks::ticket::Ticket;
 use metatile_plan::metatile::MetaKey;
+use shared_text::shared::SharedText;
 use std::alloc::{AllocError, Global};
 use truncation_list::cover::Cover;
 
@@ -65,7 +65,7 @@ pub trait Keeper: Drop {
 
     /// Ends a render, and keeps its blob unless a truncation overtook it, as many others are kept as may be, no gap has room for it,
     /// or the disk failed. It takes no memory.
-    fn finish(&mut self, ticket: Ticket, blob: Bytes) -> Finished
+    fn finish(&mut self, ticket: Ticket, blob: SharedText) -> Finished
         requires meta { IsMeta (state self.old).catalogue ticket.meta }
         requires blob { length blob ≡ blob_size (state self.old).catalogue ticket.meta }
         ensures finished { Finishes (state self.old) ticket blob result (state self.new) }

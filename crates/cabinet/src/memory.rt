@@ -4,11 +4,11 @@ ghost use Rattle.std.specs.Prelude.{⊤};
 use crate::cabinet::Cabinet;
 use crate::keeper::Keeper;
 use crate::replies::{Asked, CutReply, Expired, Finished, Forced, Saved};
-use bytes::Bytes;
 use catalog::catalogue::Catalogue;
 use matrix_geometry::address::Address;
 use metatile_locks::ticket::Ticket;
 use metatile_plan::metatile::MetaKey;
+use shared_text::shared::SharedText;
 use std::alloc::{AllocError, Global};
 use truncation_list::cover::Cover;
 
@@ -41,7 +41,7 @@ impl Keeper for Cabinet {
         Cabinet::force(self, alloc, meta)
     }
 
-    fn finish(&mut self, ticket: Ticket, blob: Bytes) -> Finished {
+    fn finish(&mut self, ticket: Ticket, blob: SharedText) -> Finished {
         Cabinet::finish(self, ticket, blob)
     }
 

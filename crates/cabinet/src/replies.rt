@@ -1,13 +1,13 @@
 //! What the commands of a cabinet can answer.
-use bytes::Bytes;
 use metatile_locks::ticket::Ticket;
 use metatile_plan::metatile::MetaKey;
+use shared_text::shared::SharedText;
 
 /// What an ask is answered.
 pub enum Asked {
     /// The metatile of the tile is kept and was read: the number of its render, and the encoded tile, which shares the bytes of what
     /// is kept in memory.
-    Hit(u64, Bytes),
+    Hit(u64, SharedText),
     /// The caller is to render the metatile, and then to finish or abandon it.
     Ticket(Ticket),
     /// A render of the metatile runs that is not overtaken, with this number.

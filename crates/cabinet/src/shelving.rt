@@ -1,5 +1,5 @@
 //! What a shelf reads.
-use bytes::Bytes;
+use shared_text::shared::SharedText;
 
 /// What is read of a kept metatile.
 #[derive(Drop)]
@@ -9,5 +9,5 @@ pub struct Found {
     /// When that was begun, in seconds.
     pub moment: u64,
     /// The tile's part of its blob.
-    pub text: Bytes,
+    pub text: SharedText,
 }

@@ -6,16 +6,16 @@ ghost use Rattle.raster_field.specs.Blocks.{blob_size, block_of, block_text, til
 ghost use Rattle.raster_field.specs.TileText.{tile_text};
 
 use crate::blob::tile_in;
-use bytes::Bytes;
 use catalog::catalogue::Catalogue;
 use matrix_geometry::address::Address;
+use shared_text::shared::SharedText;
 use std::alloc::{AllocError, Global};
 use std::marker::Model;
 
 /// The text of a blob. Contracts see its bytes; one that lies elsewhere is seen as zeros of its length.
 #[derive(Drop)]
 pub struct Text {
-    here: Option<Bytes>,
+    here: Option<SharedText>,
     length: u32,
 }
 
@@ -29,20 +29,17 @@ impl Model for Text {
 }
 
 /// So many zeros. `AllocError` where memory runs out.
-fn zeros(alloc: Global, length: u32) -> Result<Bytes, AllocError>
+fn zeros(alloc: Global, length: u32) -> Result<SharedText, AllocError>
     ensures { IfOk result (λ made. made ≡ replicate length 0) }
 {
     let mut made = Vec::new(alloc);
     made.resize(length as usize, 0)?;
-    match Bytes::from_vec(made) {
-        Ok(made) => Ok(made),
-        Err(_) => Err(AllocError),
-    }
+    SharedText::of(alloc, made)
 }
 
 impl Text {
     /// A text in memory.
-    pub fn of(bytes: Bytes) -> Text
+    pub fn of(bytes: SharedText) -> Text
         ensures { result ≡ bytes }
     {
         Text {
@@ -66,7 +63,7 @@ impl Text {
         alloc: Global,
         catalogue: &Catalogue,
         address: &Address,
-    ) -> Result<Bytes, AllocError>
+    ) -> Result<SharedText, AllocError>
         requires valid { IsValid catalogue.now }
         requires tile { IsTile catalogue.now address.now }
         requires blob { length self.now ≡ blob_size catalogue.now (block_of catalogue.now address.now) }

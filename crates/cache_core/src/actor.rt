@@ -1,8 +1,8 @@
 //! The state of a request for a tile between two of its events, and what an event comes to.
 use crate::outcome::{Tile, TileOutcome};
-use bytes::Bytes;
 use matrix_geometry::address::Address;
 use metatile_locks::ticket::Ticket;
+use shared_text::shared::SharedText;
 
 /// Who makes a request for a tile, between two of its events. It holds a ticket or none, and a ticket must be spent.
 pub enum Actor {
@@ -13,7 +13,7 @@ pub enum Actor {
     /// It is to render the metatile of the ticket, for this tile.
     Holding(Ticket, Address),
     /// It is to hand in the blob of the ticket's metatile, and then to answer the tile.
-    Rendered(Ticket, Bytes, Tile),
+    Rendered(Ticket, SharedText, Tile),
     /// The source failed, and the ticket is to be given back.
     Failed(Ticket),
 }

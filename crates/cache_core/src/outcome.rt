@@ -1,5 +1,5 @@
 //! The outcomes of a request for a tile.
-use bytes::Bytes;
+use shared_text::shared::SharedText;
 
 /// A tile that is answered: whether a kept metatile gave it, the number of its render, and the encoded tile, which shares the bytes
 /// of its metatile's blob or of what is kept in memory.
@@ -7,7 +7,7 @@ use bytes::Bytes;
 pub struct Tile {
     pub hit: bool,
     pub number: u64,
-    pub bytes: Bytes,
+    pub bytes: SharedText,
 }
 
 /// How a request for a tile ended.

@@ -5,12 +5,12 @@ ghost use Rattle.causes.specs.Causes.{Rose};
 ghost use Rattle.raster_field.specs.Blocks.{IsMeta, blob_size, block_text};
 ghost use Rattle.raster_field.specs.Rasters.{HasSize, picture_on, window_in};
 
-use bytes::Bytes;
 use catalog::catalogue::Catalogue;
 use metatile_locks::ticket::Ticket;
 use ppm_slice::of_catalogue;
 use raster_field::layout::window_at;
 use raster_field::raster::Raster;
+use shared_text::shared::SharedText;
 use source_render::source::Source;
 use std::alloc::{AllocError, Global};
 
@@ -63,7 +63,7 @@ pub fn blob_of<S: Source>(
     catalogue: &Catalogue,
     source: &mut S,
     ticket: &Ticket,
-) -> Result<Bytes, RenderFault>
+) -> Result<SharedText, RenderFault>
     requires valid { IsValid catalogue.now }
     requires meta { IsMeta catalogue.now ticket.now.meta }
     ensures size { IfOk result (λ blob. length blob ≡ blob_size catalogue.now ticket.now.meta) }
@@ -74,8 +74,5 @@ pub fn blob_of<S: Source>(
 {
     let raster = picture_of(alloc, catalogue, source, ticket)?;
     let blob = of_catalogue::blob_of(alloc, catalogue, &ticket.meta(), &raster)?;
-    match Bytes::from_vec(blob) {
-        Ok(blob) => Ok(blob),
-        Err(_) => Err(RenderFault::Memory),
-    }
+    Ok(SharedText::of(alloc, blob)?)
 }

@@ -17,7 +17,6 @@ use crate::actor::{Actor, Step};
 use crate::laws::laws_of_lasting;
 use crate::outcome::{Tile, TileOutcome};
 use crate::render::{RenderFault, blob_of};
-use bytes::Bytes;
 use cabinet::blob::tile_in;
 use cabinet::keeper::Keeper;
 use cabinet::laws::laws_of_rows;
@@ -27,6 +26,7 @@ use matrix_geometry::address::Address;
 use metatile_locks::ticket::Ticket;
 use raster_field::laws::laws_of_metatiles;
 use raster_field::layout::block_of;
+use shared_text::shared::SharedText;
 use source_render::source::Source;
 use std::alloc::Global;
 
@@ -50,7 +50,7 @@ fn ends(outcome: TileOutcome) -> Step
     }
 }
 
-fn hit(number: u64, bytes: Bytes) -> Step
+fn hit(number: u64, bytes: SharedText) -> Step
     ensures actor { result.actor ≡ Actor.Idle }
     ensures outcome { result.outcome ≡ Some (TileOutcome.Tile (tile_at true number bytes)) }
 {
@@ -114,7 +114,7 @@ fn ask_again<C: Keeper>(alloc: Global, cabinet: &mut C, address: &Address, with_
 }
 
 /// Hands in the blob of a render, and answers its tile.
-fn hand_in<C: Keeper>(cabinet: &mut C, ticket: Ticket, blob: Bytes, tile: Tile) -> Step
+fn hand_in<C: Keeper>(cabinet: &mut C, ticket: Ticket, blob: SharedText, tile: Tile) -> Step
     requires { (a : Address) × IsFit (C.state cabinet.old).catalogue a (Actor.Rendered ticket blob tile) }
     ensures advances { (told : Option ℕ) (n : ℕ) → Advances told n n (C.faults cabinet.old) (C.faults cabinet.new) (C.state cabinet.old) (Actor.Rendered ticket blob tile) result (C.state cabinet.new) }
     ensures lasts { Lasting (C.outlasts cabinet.old cabinet.new) (C.state cabinet.old) (C.state cabinet.new) }
@@ -147,8 +147,8 @@ fn run_out<C: Keeper>(cabinet: &mut C, ticket: Ticket, _address: &Address) -> St
 
 /// A blob that was rendered, and its tile, which shares the bytes of the blob.
 struct Sliced {
-    blob: Bytes,
-    bytes: Bytes,
+    blob: SharedText,
+    bytes: SharedText,
 }
 
 /// Renders the blob of a ticket's metatile, and cuts out its tile.

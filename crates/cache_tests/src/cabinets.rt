@@ -3,7 +3,6 @@ ghost use Rattle.std.specs.Prelude.{IfOk, ◌≡◌};
 ghost use Rattle.catalog.specs.Demo.{demo};
 ghost use Rattle.raster_field.specs.Blocks.{IsMeta};
 
-use bytes::Bytes;
 use cabinet::cabinet::Cabinet;
 use cabinet::replies::{Asked, Finished, Forced, Saved};
 use catalog::catalogue::Catalogue;
@@ -12,6 +11,7 @@ use fixtures::tiles::corner_tile;
 use metatile_plan::metatile::MetaKey;
 use raster_field::laws::laws_of_metatiles;
 use raster_field::layout::{blob_size, block_of};
+use shared_text::shared::SharedText;
 use std::alloc::{AllocError, Global};
 use std::marker::Send;
 use std::test::Fail;
@@ -43,7 +43,7 @@ fn handed(alloc: Global, from: &mut Cabinet, to: &mut Cabinet) -> Result<Finishe
     to.known();
     let meta = corner(to);
     let size = blob_size(to.catalogue(), &meta);
-    let blob = Bytes::from_vec(vec![in alloc; 7; size as usize]?)?;
+    let blob = SharedText::of(alloc, vec![in alloc; 7; size as usize]?)?;
     match from.force(alloc, &meta)? {
         Forced::Ticket(ticket) => Ok(to.finish(ticket, blob)),
         Forced::Busy(_) => Ok(Finished::Kept),
@@ -59,7 +59,7 @@ fn kept(alloc: Global, cabinet: &mut Cabinet) -> Result<Finished, AllocError>
     cabinet.known();
     let meta = corner(cabinet);
     let size = blob_size(cabinet.catalogue(), &meta);
-    let blob = Bytes::from_vec(vec![in alloc; 7; size as usize]?)?;
+    let blob = SharedText::of(alloc, vec![in alloc; 7; size as usize]?)?;
     match cabinet.force(alloc, &meta)? {
         Forced::Ticket(ticket) => Ok(cabinet.finish(ticket, blob)),
         Forced::Busy(_) => Ok(Finished::Stranger),
@@ -74,7 +74,7 @@ fn asked(alloc: Global, cabinet: &mut Cabinet) -> Result<(bool, u64), AllocError
     ensures { cabinet.new.catalogue ≡ demo }
 {
     match cabinet.ask(alloc, &corner_tile())? {
-        Asked::Hit(number, text) => Ok((text.as_slice() == [7; 23].as_slice(), number)),
+        Asked::Hit(number, text) => Ok((text.bytes() == [7; 23].as_slice(), number)),
         Asked::Ticket(ticket) => {
             let number = ticket.number();
             cabinet.abandon(ticket);

@@ -15,7 +15,6 @@ ghost use Rattle.raster_field.specs.Blocks.{block_of};
 
 use crate::hot::HotTier;
 use crate::reading::read_part;
-use bytes::Bytes;
 use cabinet::cabinet_core::Core;
 use cabinet::kept::Kept;
 use cabinet::replies::Asked;
@@ -24,6 +23,7 @@ use cache_file::file::CacheFile;
 use disk_model::disk::Disk;
 use matrix_geometry::address::Address;
 use raster_field::layout::block_of;
+use shared_text::shared::SharedText;
 use std::alloc::{AllocError, Global};
 
 /// Asks for a tile of which nothing is read. `AllocError` where memory runs out; all is then as before.
@@ -51,7 +51,7 @@ fn ask_read(
     core: &mut Core,
     address: &Address,
     kept: Kept,
-    text: Bytes,
+    text: SharedText,
 ) -> Result<Asked, AllocError>
     requires tile { IsTile core.old.state.catalogue address.now }
     requires kept { kept_of (block_of core.old.state.catalogue address.now) (now core.old.state) ≡ Some kept }
@@ -93,8 +93,8 @@ fn ask_warming(
     ensures room { needed core.new.state ≤ needed core.old.state + 1 }
 {
     core.known();
-    let text = match Bytes::from_vec(bytes) {
-        Err(_) => return Err(AllocError),
+    let text = match SharedText::of(alloc, bytes) {
+        Err(fault) => return Err(fault),
         Ok(text) => text,
     };
     let forced = match core.ask_kept(alloc, address) {

@@ -20,7 +20,6 @@ use crate::backing::{keep, write};
 use crate::durable::Cabinet;
 use crate::entries::{dropped, truncated, used};
 use crate::rooms::one_more;
-use bytes::Bytes;
 use cabinet::judged::{Admitted, Judged};
 use cabinet::replies::{Asked, CutReply, Expired, Finished, Forced, Saved};
 use cabinet::text::Text;
@@ -28,6 +27,7 @@ use disk_model::disk::Disk;
 use matrix_geometry::address::Address;
 use metatile_locks::ticket::Ticket;
 use metatile_plan::metatile::MetaKey;
+use shared_text::shared::SharedText;
 use std::alloc::{AllocError, Global};
 use truncation_list::cover::Cover;
 
@@ -88,7 +88,7 @@ impl<D: Disk> Cabinet<D> {
 
     /// Ends a render, and keeps its blob unless a truncation overtook it, as many others are kept as may be, no gap has room for it,
     /// or the disk failed. It takes no memory.
-    pub fn finish(&mut self, ticket: Ticket, blob: Bytes) -> Finished
+    pub fn finish(&mut self, ticket: Ticket, blob: SharedText) -> Finished
         requires meta { IsMeta self.old.state.catalogue ticket.meta }
         requires blob { length blob ≡ blob_size self.old.state.catalogue ticket.meta }
         ensures finished { Finishes self.old.state ticket blob result self.new.state }
@@ -124,7 +124,7 @@ impl<D: Disk> Cabinet<D> {
                     &mut self.file,
                     &mut self.draft,
                     kept,
-                    blob.as_slice(),
+                    blob.bytes(),
                 ) {
                     Err(_) => {
                         self.core.abandon(ticket);

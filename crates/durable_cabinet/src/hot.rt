@@ -4,9 +4,9 @@ ghost use Rattle.std.specs.List.{AllByRecursion};
 ghost use Rattle.durable_cabinet.specs.Hot.{address_of, hot_tile};
 
 use crate::texts::{HotText, TileKey};
-use bytes::Bytes;
 use lru::LruCache;
 use matrix_geometry::address::Address;
+use shared_text::shared::SharedText;
 use std::alloc::{AllocError, Global};
 use std::marker::Model;
 use std::num::NonZeroUsize;
@@ -41,13 +41,13 @@ fn key_of(address: &Address) -> TileKey
 }
 
 /// A text, where it is of the render of this number. `AllocError` where it has as many owners as may be.
-fn shared(found: &HotText, number: u64) -> Result<Option<Bytes>, AllocError>
+fn shared(found: &HotText, number: u64) -> Result<Option<SharedText>, AllocError>
     ensures { IfOk result (λ found_text. IfSome found_text (λ text. (found.now.number ≡ number) × (text ≡ found.now.text))) }
 {
     if found.number != number {
         return Ok(None);
     }
-    match found.text.clone() {
+    match found.text.share() {
         Err(fault) => Err(fault),
         Ok(text) => Ok(Some(text)),
     }
@@ -66,7 +66,11 @@ impl HotTier {
 
     /// The text of a tile, where one of the render of this number is there. It is shared, not copied. `AllocError` where it has as many
     /// owners as may be.
-    pub fn text_of(&mut self, address: &Address, number: u64) -> Result<Option<Bytes>, AllocError>
+    pub fn text_of(
+        &mut self,
+        address: &Address,
+        number: u64,
+    ) -> Result<Option<SharedText>, AllocError>
         ensures found { IfOk result (λ found. IfSome found (λ text. Contains self.old (hot_tile address.now number text))) }
         ensures among { AllByRecursion (Contains self.old) self.new }
     {
@@ -76,7 +80,7 @@ impl HotTier {
     }
 
     /// The text that is there by a key, where it is of the render of this number. `AllocError` where it has as many owners as may be.
-    fn text_at(&self, key: &TileKey, number: u64) -> Result<Option<Bytes>, AllocError>
+    fn text_at(&self, key: &TileKey, number: u64) -> Result<Option<SharedText>, AllocError>
         ensures { IfOk result (λ found. IfSome found (λ text. Contains self.now (hot_tile (address_of key.now) number text))) }
     {
         match self.texts.peek(key) {
@@ -87,11 +91,16 @@ impl HotTier {
 
     /// Puts the text of a tile, which is shared and not copied, in place of an older one of the tile, or of the text whose last use is
     /// longest ago where the tier is full. `AllocError` where memory runs out; nothing is put then.
-    pub fn put(&mut self, address: &Address, number: u64, text: &Bytes) -> Result<(), AllocError>
+    pub fn put(
+        &mut self,
+        address: &Address,
+        number: u64,
+        text: &SharedText,
+    ) -> Result<(), AllocError>
         ensures among { AllByRecursion (λ x. Contains self.old x ⊎ (x ≡ hot_tile address.now number text.now)) self.new }
         ensures there { OnOk result (Contains self.new (hot_tile address.now number text.now)) }
     {
-        let text = match text.clone() {
+        let text = match text.share() {
             Err(fault) => return Err(fault),
             Ok(text) => text,
         };

@@ -1,6 +1,5 @@
 //! A cabinet on a disk as a keeper.
 use crate::durable::Cabinet;
-use bytes::Bytes;
 use cabinet::keeper::Keeper;
 use cabinet::replies::{Asked, CutReply, Expired, Finished, Forced, Saved};
 use catalog::catalogue::Catalogue;
@@ -9,6 +8,7 @@ use matrix_geometry::address::Address;
 use metatile_locks::ticket::Ticket;
 use metatile_plan::metatile::MetaKey;
 use raster_field::laws::laws_of_metatiles;
+use shared_text::shared::SharedText;
 use std::alloc::{AllocError, Global};
 use truncation_list::cover::Cover;
 
@@ -43,7 +43,7 @@ impl<D: Disk> Keeper for Cabinet<D> {
         Cabinet::force(self, alloc, meta)
     }
 
-    fn finish(&mut self, ticket: Ticket, blob: Bytes) -> Finished {
+    fn finish(&mut self, ticket: Ticket, blob: SharedText) -> Finished {
         Cabinet::known(self);
         Cabinet::finish(self, ticket, blob)
     }

@@ -1,6 +1,6 @@
 //! What the hot tier holds, and by what it is found.
-use bytes::Bytes;
 use matrix_geometry::theme::Theme;
+use shared_text::shared::SharedText;
 
 /// A tile, by which its text is found: what its address says.
 #[derive(Clone, Copy, Debug, PartialEq, Eq, Hash)]
@@ -16,5 +16,5 @@ pub struct TileKey {
 #[derive(Drop)]
 pub struct HotText {
     pub number: u64,
-    pub text: Bytes,
+    pub text: SharedText,
 }

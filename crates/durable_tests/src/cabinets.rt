@@ -2,7 +2,6 @@
 ghost use Rattle.std.specs.Prelude.{IfOk, ◌≡◌};
 ghost use Rattle.catalog.specs.Demo.{demo};
 
-use bytes::Bytes;
 use cabinet::keeper::Keeper;
 use cabinet::replies::{Asked, CutReply, Expired, Finished, Forced, Saved};
 use catalog::catalogue::Catalogue;
@@ -16,6 +15,7 @@ use matrix_geometry::theme::Filter;
 use raster_field::laws::laws_of_metatiles;
 use raster_field::layout::{blob_size, block_of};
 use served_covers::of_catalogue::is_cover_of;
+use shared_text::shared::SharedText;
 use silent_disk::SilentDisk;
 use std::alloc::{AllocError, Global};
 use std::test::Fail;
@@ -69,7 +69,7 @@ pub fn kept(alloc: Global, cabinet: &mut OnDisk, byte: u8) -> Result<Finished, A
     laws_of_metatiles();
     let meta = block_of(cabinet.catalogue(), &corner_tile());
     let size = blob_size(cabinet.catalogue(), &meta);
-    let blob = Bytes::from_vec(vec![in alloc; byte; size as usize]?)?;
+    let blob = SharedText::of(alloc, vec![in alloc; byte; size as usize]?)?;
     match cabinet.force(alloc, &meta)? {
         Forced::Ticket(ticket) => Ok(cabinet.finish(ticket, blob)),
         Forced::Busy(_) => Ok(Finished::Stranger),
@@ -83,7 +83,7 @@ pub fn asked(alloc: Global, cabinet: &mut OnDisk) -> Result<Option<(u8, u64)>, A
     ensures { cabinet.new.state.catalogue ≡ demo }
 {
     match cabinet.ask(alloc, &corner_tile())? {
-        Asked::Hit(number, text) => Ok(Some((all_of(text.as_slice()), number))),
+        Asked::Hit(number, text) => Ok(Some((all_of(text.bytes()), number))),
         Asked::Ticket(ticket) => {
             cabinet.abandon(ticket);
             Ok(None)

@@ -1,14 +1,14 @@
 //! The outcomes of all requests.
-use bytes::Bytes;
 use exact_ratio::words::Words;
 use exception_report::code::{Code, Locator};
 use job_forms::fault::JobFault;
+use shared_text::shared::SharedText;
 
 /// How a request ended.
 #[derive(Drop)]
 pub enum Outcome {
     /// The tile: whether a kept one gave it, the number of its render, and the encoded tile.
-    Tile(bool, u64, Bytes),
+    Tile(bool, u64, SharedText),
     /// The capabilities document, as the operator wrote it. It is borrowed where the response is made.
     Document,
     /// The request is refused.

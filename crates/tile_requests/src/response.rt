@@ -148,7 +148,7 @@ pub fn parts_of<'a>(
     ensures made { OnErr result (is_made outcome.now ≡ true) }
 {
     match outcome {
-        Outcome::Tile(hit, number, text) => Ok(tile(*hit, *number, text.as_slice())),
+        Outcome::Tile(hit, number, text) => Ok(tile(*hit, *number, text.bytes())),
         Outcome::Document => Ok(borrowed(200, MediaType::Xml, document)),
         Outcome::Refused(code, locator) => reported(alloc, *code, locator),
         Outcome::NotFound => Ok(bare(404)),

@@ -23,7 +23,7 @@ pub returns-clause-among : goal.returns-clause-among
 returns-clause-among c =
     let texts = c.self.inside.texts in
     let v : HotText = record { number = c.args.number; text = c.in-Ok.text } in
-    let same : hot_tile (address_of c.key_of.result) c.args.number c.in-Ok.text ≡ hot_tile c.args.address.now c.args.number c.args.text.now = λ i. hot_tile (c.key_of.ensures i) c.args.number (c.in-Ok.is_clone i) in
+    let same : hot_tile (address_of c.key_of.result) c.args.number c.in-Ok.text ≡ hot_tile c.args.address.now c.args.number c.args.text.now = λ i. hot_tile (c.key_of.ensures i) c.args.number (c.in-Ok.ensures i) in
     subst (λ (old : List HotTile). IsPutInto (hot_tile c.args.address.now c.args.number c.args.text.now) old c.put.new.self) c.self.view_is
     (subst (λ (y : HotTile). IsPutInto y (map tile_of texts.entries) c.put.new.self) same
     (subst (IsPutInto (hot_tile (address_of c.key_of.result) c.args.number c.in-Ok.text) (map tile_of texts.entries)) (sym c.in-Ok-put.ensures.entries) (among_put texts c.key_of.result v)))
@@ -32,6 +32,6 @@ pub returns-clause-there : goal.returns-clause-there
 returns-clause-there c =
     let texts = c.self.inside.texts in
     let v : HotText = record { number = c.args.number; text = c.in-Ok.text } in
-    let same : hot_tile (address_of c.key_of.result) c.args.number c.in-Ok.text ≡ hot_tile c.args.address.now c.args.number c.args.text.now = λ i. hot_tile (c.key_of.ensures i) c.args.number (c.in-Ok.is_clone i) in
+    let same : hot_tile (address_of c.key_of.result) c.args.number c.in-Ok.text ≡ hot_tile c.args.address.now c.args.number c.args.text.now = λ i. hot_tile (c.key_of.ensures i) c.args.number (c.in-Ok.ensures i) in
     subst (λ (y : HotTile). Contains (map tile_of c.put.new.self.entries) y) same
     (subst (λ (x : LruCache TileKey HotText). Contains (map tile_of x.entries) (hot_tile (address_of c.key_of.result) c.args.number c.in-Ok.text)) (sym c.in-Ok-put.ensures.entries) (put_there texts c.key_of.result v))
