@@ -137,7 +137,7 @@ returns-clause-finished g c =
     let blob : List ℕ = c.args.blob in
     let long : length blob ≡ blob_size s.catalogue t.meta = subst (λ v. length blob ≡ blob_size v.state.catalogue t.meta) (sym c.self.view_is) c.requires.blob in
     let leads = finish_leads s c.known.ensures t x c.in-Fits.ensures in
-    let same : c.deref.result.now ≡ blob = search rules in
+    let same : c.bytes.result.now ≡ blob = search rules in
     let w = subst (λ (b : List ℕ). Stores (Ok c.in-Ok.field-0) told s x b n.start f.journal n.journal old new) same (c.in-Ok.ensures.stores leads) in
     let is : c.keep-in-Ok.new.self.state ≡ with_away s x = c.keep-in-Ok.ensures ∙ ap (λ text. with_blob s x text) c.away.ensures in
     subst (λ v. Finishes v.state t blob finished.Kept (on_disk (g.D.Disk.told n.disk) new.seen c.keep-in-Ok.new.self.state)) c.self.view_is
