@@ -42,6 +42,7 @@ impl Cabinet {
     ghost use Rattle.cabinet.specs.Commands.{Asks, Forces, Finishes, Abandons, Cuts, Expires, Saves, IsCountedCut, IsCountedExpired, IsCountedFinished, IsCountedSaved, IsTrueHit, IsFreshReply};
     ghost use Rattle.cabinet.specs.Counted.{kept_in, used, used_all};
     ghost use Rattle.cabinet.specs.Turns.{FindsIn};
+    ghost use Rattle.truncation_list.specs.Books.{last_seen};
 
     /// A cabinet in memory, in which nothing has happened; its asks and forces take their moments from the clock. `AllocError` where
     /// memory runs out.
@@ -261,5 +262,12 @@ impl Cabinet {
         ensures { result ≡ length (now self.now).book.cuts }
     {
         self.core.cuts().count()
+    }
+
+    /// The greatest cut that its book has seen: the greater of the floor and the greatest number of a cut in force.
+    pub fn latest(&self) -> u64
+        ensures { result ≡ last_seen (now self.now).book }
+    {
+        self.core.cuts().seen()
     }
 }

@@ -3,7 +3,7 @@ ghost use Rattle.std.specs.Prelude.{ℕ, ◌≡◌, ◌<◌, ◌≤◌, IfOk, On
 ghost use Rattle.catalog.specs.LookUp.{IsTile};
 ghost use Rattle.raster_field.specs.Blocks.{IsMeta, blob_size, block_text};
 ghost use Rattle.served_covers.specs.OfCatalogue.{IsCoverOf};
-ghost use Rattle.truncation_list.specs.Books.{AnswersForBook};
+ghost use Rattle.truncation_list.specs.Books.{AnswersForBook, last_seen};
 ghost use Rattle.cabinet.specs.Commands.{Abandons, Asks, Cuts, Expires, Finishes, Forces, IsCountedCut, IsCountedExpired, IsCountedFinished, IsCountedSaved, IsFreshReply, IsTrueHit, Saves};
 ghost use Rattle.cabinet.specs.Counted.{kept_in, used, used_all};
 ghost use Rattle.cabinet.specs.State.{IsKnown, IsSound, State, now};
@@ -129,4 +129,8 @@ pub trait Keeper: Drop {
     /// How many cuts are in force.
     fn cuts(&self) -> u32
         ensures { result ≡ length (now (state self.now)).book.cuts };
+
+    /// The greatest cut that its book has seen: the greater of the floor and the greatest number of a cut in force.
+    fn latest(&self) -> u64
+        ensures { result ≡ last_seen (now (state self.now)).book };
 }

@@ -81,4 +81,8 @@ impl Keeper for Cabinet {
     fn cuts(&self) -> u32 {
         Cabinet::cuts(self)
     }
+
+    fn latest(&self) -> u64 {
+        Cabinet::latest(self)
+    }
 }

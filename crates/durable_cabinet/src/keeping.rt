@@ -86,4 +86,8 @@ impl<D: Disk> Keeper for Cabinet<D> {
     fn cuts(&self) -> u32 {
         self.core.cuts().count()
     }
+
+    fn latest(&self) -> u64 {
+        self.core.cuts().seen()
+    }
 }

@@ -33,8 +33,9 @@ pub enum Outlined {
     Refused(u16),
 }
 
-/// How many bytes the body has, or the status that refuses the fields.
-fn judge(bytes: &[u8], headers: &[HeaderSpan]) -> Result<usize, u16>
+/// How many bytes the body has that the fields of a head announce (RFC 9112, section 6), or the status that refuses the fields:
+/// 400, 413 or 501.
+pub fn judge(bytes: &[u8], headers: &[HeaderSpan]) -> Result<usize, u16>
     requires { All (IsHeaderWithin (length bytes.now)) headers.now }
     ensures { Judges (map (header_bytes bytes.now) headers.now) result }
 {

@@ -7,7 +7,7 @@
 #![tactic(auto)]
 
 pub mod commands;
-mod dropped;
+pub mod dropped;
 pub mod events;
 pub mod head;
 pub mod immediate;
@@ -19,4 +19,4 @@ pub mod request;
 pub mod response;
 pub mod routes;
 pub mod small_text;
-mod usage;
+pub mod usage;

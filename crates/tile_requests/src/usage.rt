@@ -18,8 +18,8 @@ fn add_quota(text: &mut Vec<u8>, quota: Option<u64>) -> Result<(), AllocError>
     }
 }
 
-/// Adds how many metatiles are kept, their bytes, and their quota.
-fn add_counts(
+/// Adds how many metatiles are kept, their bytes, and their quota, `-` where there is none. `AllocError` where memory runs out.
+pub fn add_counts(
     text: &mut Vec<u8>,
     metatiles: u32,
     bytes: u64,

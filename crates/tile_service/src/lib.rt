@@ -13,8 +13,8 @@
 //! Stands on tile_requests, cabinet, cache_core, source_render, schedule_text and http_wire.
 #![tactic(auto)]
 
-mod action_end;
-mod answer;
+pub mod action_end;
+pub mod answer;
 pub mod cache_tally;
 pub mod counter;
 pub mod laws;

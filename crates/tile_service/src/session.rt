@@ -26,7 +26,7 @@ use std::alloc::Global;
 use tile_requests::outcome::Outcome;
 
 /// How many messages a session answers at most.
-const SESSION_LIMIT: u64 = 10_000;
+pub const SESSION_LIMIT: u64 = 10_000;
 
 /// How a session ended.
 #[derive(Clone, Copy, Debug, PartialEq, Eq)]
@@ -48,7 +48,7 @@ pub enum SessionEnd {
 }
 
 /// Whether the response to a message closes its connection, by the message's place in its session, counted from 1.
-fn closes(message: &Message, place: u64) -> bool
+pub fn closes(message: &Message, place: u64) -> bool
     ensures { result ≡ closes message.now place }
 {
     message.last || place == SESSION_LIMIT
