@@ -106,11 +106,11 @@ module _ {S C H N M R X : Type 0} (charter : C → H) (sound : C → Type 0) (bo
 
   pub unturned_by : (as_before : C → C → Type 0) (s u : Seat S (View C H N)) (found left : C) (pass : Holding H N) → holding_of s ≡ pass
       → Found charter sound book (knows s).own found → charter left ≡ charter found
-      → as_before found left × (book left ≡ book found) × (shown left ≡ shown found)
+      → as_before found left × (book left ≡ book found)
       → holding_of u ≡ seen_by (holding_of s) (book left) []
-      → Unturned charter sound book shown as_before pass (holding_of u)
+      → Unturned charter sound book as_before pass (holding_of u)
   unturned_by as_before s u found left pass is f same before shows =
-      subst (λ (p : Holding H N). Unturned charter sound book shown as_before p (holding_of u)) is
+      subst (λ (p : Holding H N). Unturned charter sound book as_before p (holding_of u)) is
       record {
         found = found;
         left = left;
@@ -118,7 +118,6 @@ module _ {S C H N M R X : Type 0} (charter : C → H) (sound : C → Type 0) (bo
         same = before.0;
         same_charter = same;
         same_book = before.1;
-        same_shown = before.2;
         is = shows ∙ ap (λ (b : FrontedBook). seen_by (holding_of s) b []) before.1;
       }
 

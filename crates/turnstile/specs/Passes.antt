@@ -76,7 +76,7 @@ module _ {H N : Type 0} where
       pub is : after ≡ seen_by before (book left) (made_of book shown note command reply found left ∷ [])
 
   -- a turn that came to nothing as memory ran out: the chest is as before, and the pass has seen it and gained no note
-  module _ {C X : Type 0} (charter : C → H) (sound : C → Type 0) (book : C → FrontedBook) (shown : C → X) (as_before : C → C → Type 0) where
+  module _ {C : Type 0} (charter : C → H) (sound : C → Type 0) (book : C → FrontedBook) (as_before : C → C → Type 0) where
     pub record Unturned (before after : Holding H N) : Type 0 where
       pub found : C
       pub left : C
@@ -84,7 +84,6 @@ module _ {H N : Type 0} where
       pub same : as_before found left
       pub same_charter : charter left ≡ charter found
       pub same_book : book left ≡ book found
-      pub same_shown : shown left ≡ shown found
       pub is : after ≡ seen_by before (book found) []
 
 -- what lies behind a pass: its seat

@@ -41,7 +41,8 @@ pub trait Chest {
 
     ghost shown: { Self → Self.Shown };
 
-    // the second chest is as the first one was: a chest that reserves room may leave the room out
+    // the second chest is as the first one was: a chest that reserves room may leave the room out, and one over a disk how often that
+    // has failed
     ghost as_before: { Self → Self → Type 0 };
 
     // of the command, its reply, and what the chest shows before and after
@@ -58,7 +59,7 @@ pub trait Chest {
         ensures book { AnswersForFronted (book self.new) (book self.old) }
         ensures sound { keeps_sound (charter self.old) command → sound self.old → sound self.new }
         ensures memory { IfErr result (λ _. ¬ (takes_no_memory command)) }
-        ensures before { IfErr result (λ _. as_before self.old self.new × (book self.new ≡ book self.old) × (shown self.new ≡ shown self.old)) };
+        ensures before { IfErr result (λ _. as_before self.old self.new × (book self.new ≡ book self.old)) };
 
     /// Does a command that takes no memory.
     fn act_plain(&mut self, command: Self::Command) -> Self::Reply

@@ -5,13 +5,13 @@ ghost use Rattle.turnstile.specs.Views.{after_turn, first_view, newcomer, notes,
 ghost use Rattle.turnstile.specs.Steps.{Found, HeardBy};
 ghost use Rattle.turnstile.specs.Passes.{IsReady, MayReturn, knows};
 
+use crate::bell::Bell;
 use crate::chest::Chest;
 use crate::steps::{Deal, Give, Hear, Learn, Take, Tell};
 use crate::view::{Lodged, OneChest, Opening, View};
 use atomic_table::{Seat, Table};
 use std::alloc::{AllocError, Global};
 use std::sync::Wait;
-use std::thread;
 use trace::Trace;
 
 /// The table with the chest.
@@ -25,6 +25,7 @@ pub struct Gate<C: Chest> {
         Global,
     >,
     pub passes: u64,
+    pub bell: Bell,
     ghost sized: { (table.shared.table_id.words ≡ 1) × (table.shared.table_id.slots ≡ 1) },
     ghost counted: { (table.shared.key.passes ≡ passes) × (0 < passes) },
 }
@@ -58,6 +59,7 @@ impl<C: Chest + Drop> Gate<C> {
                 Gate {
                     table,
                     passes: opening.passes,
+                    bell: Bell::new(),
                 },
                 seat,
             )),
@@ -123,20 +125,23 @@ impl<C: Chest> Gate<C> {
         ensures turn { seat.new.me ≡ (record (knows seat.old) { stage = Out result }, (0, None) ∷ []) }
         ensures found { Found C.charter C.sound C.book (knows seat.old).own result }
     {
+        let mut looks = 0;
         for _ in rt.forever() {
+            let heard = self.bell.rings();
             if self.table.shared.compare_exchange::<Take<C>>(seat, 0, 0, 1) == 0 {
                 let lodged = self.table.shared.exchange(seat, 0, None).unwrap();
                 let Lodged { chest, .. } = lodged;
                 return chest;
             }
-            thread::yield_now();
+            self.bell.rest(rt, heard, &mut looks);
         }
         unreachable!()
     }
 
-    /// Puts a chest in, and gives the turn up.
-    pub fn give(
+    /// Puts a chest in, gives the turn up, and wakes one that waits for it.
+    pub fn give<R: Wait>(
         &self,
+        rt: &R,
         seat: &mut Seat<Option<Lodged<C, C::Command, C::Reply>>, View<C, C::Charter, C::Note>>,
         lodged: Lodged<C, C::Command, C::Reply>,
     )
@@ -149,6 +154,7 @@ impl<C: Chest> Gate<C> {
         let nothing = self.table.shared.exchange(seat, 0, Some(lodged));
         let None = nothing else { unreachable!() };
         self.table.shared.store::<Give<C>>(seat, 0, 0);
+        self.bell.ring(rt);
     }
 
     /// Takes the chest out for good, by a seat that has the parts of all passes.

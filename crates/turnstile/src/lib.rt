@@ -8,6 +8,7 @@
 //! Stands on truncation_list (books), trace (data for contracts alone) and atomic_table (the atomic steps).
 #![tactic(auto)]
 
+mod bell;
 pub mod chest;
 mod deal;
 pub mod entry;

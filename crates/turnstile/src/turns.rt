@@ -28,7 +28,7 @@ impl<C: Chest> Turnstile<C> {
         requires sound { pass.old.told ≡ true → IfSome pass.old.charter (λ h. C.keeps_sound h command) }
         ensures stays { Stays pass.old pass.new }
         ensures done { IfOk result (λ r. Turned C.charter C.sound C.book C.shown C.note C.may_reply pass.old pass.new command r) }
-        ensures refused { IfErr result (λ _. Unturned C.charter C.sound C.book C.shown C.as_before pass.old pass.new) }
+        ensures refused { IfErr result (λ _. Unturned C.charter C.sound C.book C.as_before pass.old pass.new) }
         ensures memory { IfErr result (λ _. ¬ (C.takes_no_memory command)) }
     {
         let mut chest = self.gate.take(rt, &mut pass.seat);
@@ -38,6 +38,7 @@ impl<C: Chest> Turnstile<C> {
                 let answered = Trace::new().and(&reply);
                 let latest = chest.latest();
                 self.gate.give(
+                    rt,
                     &mut pass.seat,
                     Lodged {
                         chest,
@@ -51,6 +52,7 @@ impl<C: Chest> Turnstile<C> {
             Err(refused) => {
                 let latest = chest.latest();
                 self.gate.give(
+                    rt,
                     &mut pass.seat,
                     Lodged {
                         chest,
@@ -80,6 +82,7 @@ impl<C: Chest> Turnstile<C> {
         let answered = Trace::new().and(&reply);
         let latest = chest.latest();
         self.gate.give(
+            rt,
             &mut pass.seat,
             Lodged {
                 chest,
