@@ -8,5 +8,5 @@
 pub mod actor;
 pub mod laws;
 pub mod outcome;
-mod render;
+pub mod render;
 pub mod steps;

@@ -1,13 +1,18 @@
-//! The render of a blob.
+//! The render of a blob, and its tile.
 ghost use Rattle.std.specs.Prelude.{ℕ, ◌≡◌, ◌≤◌, IfErr, IfOk, Some, length};
 ghost use Rattle.catalog.specs.Valid.{IsValid};
 ghost use Rattle.causes.specs.Causes.{Rose};
-ghost use Rattle.raster_field.specs.Blocks.{IsMeta, blob_size, block_text};
+ghost use Rattle.cache_core.specs.Fits.{IsTicketFor};
+ghost use Rattle.catalog.specs.LookUp.{IsTile};
+ghost use Rattle.raster_field.specs.Blocks.{IsMeta, blob_size, block_text, tile_part};
 ghost use Rattle.raster_field.specs.Rasters.{HasSize, picture_on, window_in};
 
+use cabinet::blob::tile_in;
 use catalog::catalogue::Catalogue;
+use matrix_geometry::address::Address;
 use metatile_locks::ticket::Ticket;
 use ppm_slice::of_catalogue;
+use raster_field::laws::laws_of_metatiles;
 use raster_field::layout::window_at;
 use raster_field::raster::Raster;
 use shared_text::shared::SharedText;
@@ -75,4 +80,36 @@ pub fn blob_of<S: Source>(
     let raster = picture_of(alloc, catalogue, source, ticket)?;
     let blob = of_catalogue::blob_of(alloc, catalogue, &ticket.meta(), &raster)?;
     Ok(SharedText::of(alloc, blob)?)
+}
+
+/// A blob that was rendered, and its tile, which shares the bytes of the blob.
+#[derive(Drop)]
+pub struct Sliced {
+    pub blob: SharedText,
+    pub bytes: SharedText,
+}
+
+/// Renders the blob of a ticket's metatile, in the picture of the ticket's number where the source is modelled, and cuts out its tile.
+/// `Source` only where the source's count of faults rose; `Memory` where memory runs out.
+pub fn painted<S: Source>(
+    alloc: Global,
+    catalogue: &Catalogue,
+    source: &mut S,
+    ticket: &Ticket,
+    address: &Address,
+) -> Result<Sliced, RenderFault>
+    requires valid { IsValid catalogue.now }
+    requires tile { IsTile catalogue.now address.now }
+    requires ticket { IsTicketFor catalogue.now address.now ticket.now }
+    ensures size { IfOk result (λ p. length p.blob ≡ blob_size catalogue.now ticket.now.meta) }
+    ensures part { IfOk result (λ p. p.bytes ≡ tile_part catalogue.now address.now p.blob) }
+    ensures text { IfOk result (λ p. S.told source.old ≡ Some catalogue.now.source → p.blob ≡ block_text catalogue.now ticket.now.number ticket.now.meta) }
+    ensures later { S.faults source.old ≤ S.faults source.new }
+    ensures cause { IfErr result (λ e. e ≡ RenderFault.Source → Rose (S.faults source.old) (S.faults source.new)) }
+    ensures told { S.told source.new ≡ S.told source.old }
+{
+    laws_of_metatiles();
+    let blob = blob_of(alloc, catalogue, source, ticket)?;
+    let bytes = tile_in(catalogue, address, &blob)?;
+    Ok(Sliced { blob, bytes })
 }

@@ -1,27 +1,21 @@
 //! The events of a request for a tile: an ask or a force, a render, and the end at which its ticket is spent.
-ghost use Rattle.std.specs.Prelude.{ℕ, ◌≡◌, ◌≤◌, Bool, true, false, List, None, Option, Some, IfErr, IfOk, length};
-ghost use Rattle.cabinet.specs.State.{IsSound};
+ghost use Rattle.std.specs.Prelude.{ℕ, ◌≡◌, ◌≤◌, true, false, None, Option, Some};
 ghost use Rattle.catalog.specs.LookUp.{IsTile};
-ghost use Rattle.catalog.specs.Valid.{IsValid};
-ghost use Rattle.causes.specs.Causes.{Rose};
 ghost use Rattle.matrix_geometry.specs.declared.address.Address.{Address};
-ghost use Rattle.raster_field.specs.Blocks.{blob_size, block_text, tile_part};
-ghost use Rattle.cache_core.specs.Fits.{IsTicketFor, IsFit, IsTrueActor, IsTrueOutcome, IsFreshActor, IsFreshOutcome};
+ghost use Rattle.cache_core.specs.Fits.{IsFit};
 ghost use Rattle.cache_core.specs.Advanced.{Advances};
 ghost use Rattle.cache_core.specs.Begun.{Begins};
 ghost use Rattle.cache_core.specs.Lasting.{Lasting};
-ghost use Rattle.cache_core.specs.Shown.{shown, IsFailed, IsIdle};
-ghost use Rattle.cache_core.specs.Steps.{advanced, given_up, tile_at};
+ghost use Rattle.cache_core.specs.Shown.{IsIdle};
+ghost use Rattle.cache_core.specs.Steps.{given_up, tile_at};
 
 use crate::actor::{Actor, Step};
 use crate::laws::laws_of_lasting;
 use crate::outcome::{Tile, TileOutcome};
-use crate::render::{RenderFault, blob_of};
-use cabinet::blob::tile_in;
+use crate::render::{RenderFault, Sliced, painted};
 use cabinet::keeper::Keeper;
 use cabinet::laws::laws_of_rows;
 use cabinet::replies::{Asked, Forced};
-use catalog::catalogue::Catalogue;
 use matrix_geometry::address::Address;
 use metatile_locks::ticket::Ticket;
 use raster_field::laws::laws_of_metatiles;
@@ -143,36 +137,6 @@ fn run_out<C: Keeper>(cabinet: &mut C, ticket: Ticket, _address: &Address) -> St
     cabinet.known();
     cabinet.abandon(ticket);
     ends(TileOutcome::NoMemory)
-}
-
-/// A blob that was rendered, and its tile, which shares the bytes of the blob.
-struct Sliced {
-    blob: SharedText,
-    bytes: SharedText,
-}
-
-/// Renders the blob of a ticket's metatile, and cuts out its tile.
-fn painted<S: Source>(
-    alloc: Global,
-    catalogue: &Catalogue,
-    source: &mut S,
-    ticket: &Ticket,
-    address: &Address,
-) -> Result<Sliced, RenderFault>
-    requires valid { IsValid catalogue.now }
-    requires tile { IsTile catalogue.now address.now }
-    requires ticket { IsTicketFor catalogue.now address.now ticket.now }
-    ensures size { IfOk result (λ p. length p.blob ≡ blob_size catalogue.now ticket.now.meta) }
-    ensures part { IfOk result (λ p. p.bytes ≡ tile_part catalogue.now address.now p.blob) }
-    ensures text { IfOk result (λ p. S.told source.old ≡ Some catalogue.now.source → p.blob ≡ block_text catalogue.now ticket.now.number ticket.now.meta) }
-    ensures later { S.faults source.old ≤ S.faults source.new }
-    ensures cause { IfErr result (λ e. e ≡ RenderFault.Source → Rose (S.faults source.old) (S.faults source.new)) }
-    ensures told { S.told source.new ≡ S.told source.old }
-{
-    laws_of_metatiles();
-    let blob = blob_of(alloc, catalogue, source, ticket)?;
-    let bytes = tile_in(catalogue, address, &blob)?;
-    Ok(Sliced { blob, bytes })
 }
 
 /// Renders the blob of a ticket.

@@ -1,0 +1,5 @@
+pub mod Above
+pub mod Counts
+pub mod Admitted
+pub mod Replies
+pub mod Acts
