@@ -1,5 +1,5 @@
 -- Which commands a turn may do, by the catalogue alone.
-use Rattle.std.specs.Prelude.{ℕ, ◌≡◌, ◌≤◌, length, ⊤}
+use Rattle.std.specs.Prelude.{◌≡◌, ◌≤◌, length, ⊤}
 use Rattle.catalog.specs.declared.catalogue.Catalogue.{Catalogue}
 use Rattle.catalog.specs.LookUp.{IsTile}
 use Rattle.raster_field.specs.Blocks.{IsMeta, blob_size, block_text}

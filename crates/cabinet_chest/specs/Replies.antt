@@ -1,5 +1,5 @@
 -- Which reply a turn may have: the row of its command, over what the cabinet showed before and after.
-use Rattle.std.specs.Prelude.{ℕ, ◌≡◌, ◌≤◌, Bool, true, Contains, ⊤}
+use Rattle.std.specs.Prelude.{◌≡◌, ◌≤◌, Bool, true, Contains, ⊤}
 use Rattle.cabinet.specs.Commands.{Abandons, Asks, Cuts, Expires, Finishes, Forces, IsCountedCut, IsCountedExpired, IsCountedFinished, IsCountedSaved, IsFreshForced, IsFreshReply, IsTrueHit, Saves}
 use Rattle.cabinet.specs.declared.replies.Asked.{Asked}
 use Rattle.cabinet.specs.declared.replies.Asked.TheVariants as asked

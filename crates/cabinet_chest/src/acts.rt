@@ -1,5 +1,5 @@
 //! The commands of a turn, one by one.
-ghost use Rattle.std.specs.Prelude.{◌≡◌, ◌≤◌, ◌×◌, IfOk, OnErr, length};
+ghost use Rattle.std.specs.Prelude.{◌≡◌, ◌≤◌, IfOk, OnErr, length};
 ghost use Rattle.cabinet_chest.specs.Acts.{Acts, seen};
 ghost use Rattle.catalog.specs.LookUp.{IsTile};
 ghost use Rattle.raster_field.specs.Blocks.{IsMeta, blob_size};

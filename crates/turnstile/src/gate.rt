@@ -5,16 +5,20 @@ ghost use Rattle.turnstile.specs.Views.{after_turn, first_view, newcomer, notes,
 ghost use Rattle.turnstile.specs.Steps.{Found, HeardBy};
 ghost use Rattle.turnstile.specs.Passes.{IsReady, MayReturn, knows};
 
-use crate::bell::Bell;
 use crate::chest::Chest;
 use crate::steps::{Deal, Give, Hear, Learn, Take, Tell};
 use crate::view::{Lodged, OneChest, Opening, View};
 use atomic_table::{Seat, Table};
+use bell::Bell;
 use std::alloc::{AllocError, Global};
+use std::hint;
 use std::sync::Wait;
 use trace::Trace;
 
-/// The table with the chest.
+/// How often a pass looks for its turn at once before it sleeps. A turn without a disk takes less than a microsecond.
+const LOOKS: u32 = 100;
+
+/// The table with the chest, and the bell for those that wait for their turn.
 #[derive(Drop)]
 pub struct Gate<C: Chest> {
     pub table: Table<
@@ -133,7 +137,12 @@ impl<C: Chest> Gate<C> {
                 let Lodged { chest, .. } = lodged;
                 return chest;
             }
-            self.bell.rest(rt, heard, &mut looks);
+            if looks < LOOKS {
+                looks += 1;
+                hint::spin_loop();
+            } else {
+                self.bell.sleep(rt, heard);
+            }
         }
         unreachable!()
     }
@@ -154,7 +163,7 @@ impl<C: Chest> Gate<C> {
         let nothing = self.table.shared.exchange(seat, 0, Some(lodged));
         let None = nothing else { unreachable!() };
         self.table.shared.store::<Give<C>>(seat, 0, 0);
-        self.bell.ring(rt);
+        self.bell.ring_one(rt);
     }
 
     /// Takes the chest out for good, by a seat that has the parts of all passes.

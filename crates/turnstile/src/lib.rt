@@ -5,10 +5,9 @@
 //! Promises, for every chest: each turn is one command on the one chest, whose book answers for all that the pass had
 //! seen; the pass has then seen what the turn left, and its list gained one note. After `meet` both passes have a book
 //! that answers for both. `close` gives the chest back once all passes are returned.
-//! Stands on truncation_list (books), trace (data for contracts alone) and atomic_table (the atomic steps).
+//! Stands on truncation_list (books), trace (data for contracts alone), bell (for those that wait) and atomic_table (the atomic steps).
 #![tactic(auto)]
 
-mod bell;
 pub mod chest;
 mod deal;
 pub mod entry;

@@ -1,0 +1,59 @@
+//! Tiles over a hall.
+ghost use Rattle.std.specs.Prelude.{IfErr, Some, true, ◌≡◌, ◌≤◌};
+ghost use Rattle.cache_hall.specs.Gets.{Gets};
+ghost use Rattle.cache_hall.specs.Turned.{IsPassOf};
+ghost use Rattle.catalog.specs.LookUp.{IsTile};
+ghost use Rattle.catalog.specs.Valid.{IsValid};
+ghost use Rattle.causes.specs.Causes.{Rose};
+
+use crate::fault::GetFault;
+use crate::hall::Hall;
+use crate::making::make;
+use crate::waiting::ask_until;
+use cabinet::keeper::Keeper;
+use cabinet::replies::Asked;
+use cabinet_chest::chest::CabinetChest;
+use cabinet_chest::laws::laws_of_numbers;
+use cache_core::outcome::Tile;
+use matrix_geometry::address::Address;
+use source_render::source::Source;
+use std::alloc::Global;
+use std::sync::Wait;
+use turnstile::pass::Pass;
+
+/// Gets a tile: it asks until no render of the tile's metatile runs elsewhere, and then takes the kept tile, or renders the metatile and
+/// hands it in, between two turns.
+///
+/// `SourceFault` only where the source's count of faults rose; `Spent` where no number of a render is left; `OutOfMemory` where memory
+/// runs out. A ticket that was given is then abandoned.
+pub fn get<R: Wait, K: Keeper, S: Source>(
+    rt: &R,
+    alloc: Global,
+    hall: &Hall<K>,
+    pass: &mut Pass<CabinetChest<K>>,
+    source: &mut S,
+    address: &Address,
+) -> Result<Tile, GetFault>
+    requires of { IsPassOf hall.now.turnstile.table hall.now.catalogue pass.old }
+    requires valid { IsValid hall.now.catalogue }
+    requires tile { IsTile hall.now.catalogue address.now }
+    requires source { pass.old.told ≡ true → S.told source.old ≡ Some hall.now.catalogue.source }
+    ensures gets { Gets hall.now.catalogue address.now pass.old pass.new result }
+    ensures of { IsPassOf hall.now.turnstile.table hall.now.catalogue pass.new }
+    ensures later { S.faults source.old ≤ S.faults source.new }
+    ensures cause { IfErr result (λ e. e ≡ GetFault.SourceFault → Rose (S.faults source.old) (S.faults source.new)) }
+    ensures told { S.told source.new ≡ S.told source.old }
+{
+    laws_of_numbers();
+    match ask_until(rt, alloc, hall, pass, address) {
+        Err(_) => Err(GetFault::OutOfMemory),
+        Ok(Asked::Busy(_)) => unreachable!(),
+        Ok(Asked::Spent) => Err(GetFault::Spent),
+        Ok(Asked::Hit(number, bytes)) => Ok(Tile {
+            hit: true,
+            number,
+            bytes,
+        }),
+        Ok(Asked::Ticket(ticket)) => make(rt, alloc, hall, pass, source, address, ticket),
+    }
+}
