@@ -1,0 +1,4 @@
+pub mod Turning
+pub mod Asked
+pub mod HandedIn
+pub mod Getting

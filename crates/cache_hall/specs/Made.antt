@@ -1,6 +1,6 @@
 -- What a get makes of its ticket.
 -- A tie between the code and its definitions: the promise can be read without it.
-use Rattle.std.specs.Prelude.{ℕ, ◌≡◌, Bool, true, false, List, [], ◌∷◌, length, Result, Ok, Err}
+use Rattle.std.specs.Prelude.{ℕ, ◌≡◌, true, false, List, [], ◌∷◌, length, Result, Ok, Err}
 use Rattle.cabinet_chest.specs.declared.shown.Note.{Note}
 use Rattle.cache_core.specs.declared.outcome.Tile.{Tile}
 use Rattle.catalog.specs.declared.catalogue.Catalogue.{Catalogue}

@@ -1,5 +1,5 @@
 -- What a pass of a hall makes: turns at one cabinet.
-use Rattle.std.specs.Prelude.{ℕ, ◌≡◌, Bool, List, [], ◌∷◌, ◌++◌, Option, Some}
+use Rattle.std.specs.Prelude.{◌≡◌, Bool, List, [], ◌∷◌, Some}
 use Rattle.atomic_table.specs.Seated.{TableId}
 use Rattle.cabinet.specs.State.{fronted, now}
 use Rattle.cabinet_chest.specs.declared.command.Command.{Command}

@@ -1,5 +1,5 @@
 -- What a truncation, an expiry and a count do over a hall: one turn each.
-use Rattle.std.specs.Prelude.{ℕ, ◌≡◌, [], Result, Ok, Err}
+use Rattle.std.specs.Prelude.{ℕ, [], Result, Ok, Err}
 use Rattle.cabinet.specs.declared.replies.CutReply.TheVariants as cut
 use Rattle.cabinet_chest.specs.declared.command.Command.TheVariants as command
 use Rattle.cabinet_chest.specs.declared.command.Reply.TheVariants as reply

@@ -1,6 +1,6 @@
 -- How a get waits for a render that runs elsewhere.
 -- A tie between the code and its definitions: the promise can be read without it.
-use Rattle.std.specs.Prelude.{ℕ, ◌≡◌, List, [], ◌∷◌, ◌++◌, Result, Ok, Err, ⊤}
+use Rattle.std.specs.Prelude.{List, [], ◌∷◌, ◌++◌, Result, Ok, Err, ⊤}
 use Rattle.cabinet.specs.declared.replies.Asked.{Asked}
 use Rattle.cabinet.specs.declared.replies.Asked.TheVariants as asked
 use Rattle.cabinet_chest.specs.declared.shown.Note.{Note}
