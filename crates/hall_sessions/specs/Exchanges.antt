@@ -1,0 +1,57 @@
+-- The messages of a session over a hall, each with what it came to.
+use Rattle.std.specs.Prelude.{ℕ, ◌≡◌, ◌+◌, ◌≤◌, Bool, List, [], ◌∷◌, ◌++◌, map, flat_map, Option}
+use Rattle.cabinet_chest.specs.declared.shown.Note.{Note}
+use Rattle.catalog.specs.declared.catalogue.Catalogue.{Catalogue}
+use Rattle.causes.specs.Causes.{Rose}
+use Rattle.http_wire.specs.declared.message.Message.{Message}
+use Rattle.truncation_list.specs.declared.book.FrontedBook.{FrontedBook}
+use Rattle.turnstile.specs.declared.view.Made.{Made}
+use Rattle.cache_hall.specs.Turned.{AreTurns}
+use Rattle.tile_requests.specs.declared.outcome.Outcome.{Outcome}
+use Rattle.tile_requests.specs.declared.outcome.Outcome.TheVariants as outcome
+use Rattle.tile_requests.specs.declared.request.Request.{Request}
+use Rattle.tile_requests.specs.Requests.{answered_at}
+use Rattle.tile_service.specs.Run.{Answer}
+use Rattle.tile_service.specs.Serving.{answer_to}
+use Rattle.hall_sessions.specs.Served.{IsMessageServed}
+
+-- a message, what it asked for where memory was left to read it, the turns that were made for it, its outcome, whether memory was left
+-- for the text of its response, the book that the pass had seen before and after it, and how often the source had failed
+pub record Exchange : Type 0 where
+  pub message : Message
+  pub request : Option Request
+  pub gained : List (Made Note)
+  pub came_to : Outcome
+  pub left : Bool
+  pub seen : FrontedBook
+  pub sees : FrontedBook
+  pub renders_before : ℕ
+  pub renders_after : ℕ
+
+-- the answer to a message at its place in the session, counted from 1
+abbrev pub answer_of : ℕ → Exchange → Answer
+answer_of i e = answer_to i e.message e.request 0 (answered_at e.left e.came_to)
+
+-- the answers, of which the first is that to the message at this place
+abbrev pub answers_of : ℕ → List Exchange → List Answer
+answers_of i [] = []
+answers_of i (e ∷ es) = answer_of i e ∷ answers_of (i + 1) es
+
+abbrev pub messages_of : List Exchange → List Message
+messages_of es = map (λ e. e.message) es
+
+-- all turns that were made
+abbrev pub turns_of : List Exchange → List (Made Note)
+turns_of es = flat_map (λ e. e.gained) es
+
+-- the message was served by these turns, and its outcome says that the source failed only where its count rose
+pub record IsExchange (c : Catalogue) (told : Bool) (e : Exchange) : Type 0 where
+  pub served : IsMessageServed c told e.seen e.message e.request e.gained e.came_to
+  pub turns : AreTurns c told e.seen e.gained e.sees
+  pub later : e.renders_before ≤ e.renders_after
+  pub cause : e.came_to ≡ outcome.SourceFailed → Rose e.renders_before e.renders_after
+
+-- one after the other: the pass had seen one book at first and sees the other one at last, and the source's count went from one to another
+abbrev pub AreExchanges : Catalogue → Bool → FrontedBook → ℕ → List Exchange → FrontedBook → ℕ → Type 0
+AreExchanges c told seen renders [] sees after = (sees ≡ seen) × (after ≡ renders)
+AreExchanges c told seen renders (e ∷ es) sees after = (e.seen ≡ seen) × (e.renders_before ≡ renders) × IsExchange c told e × AreExchanges c told e.sees e.renders_after es sees after

@@ -1,0 +1,6 @@
+pub mod Counted
+pub mod Served
+pub mod Counting
+pub mod Requested
+pub mod Exchanges
+pub mod Sessions

@@ -1,0 +1,15 @@
+//! What many threads serve with.
+use cabinet::keeper::Keeper;
+use cache_hall::hall::Hall;
+use exact_ratio::words::Words;
+use wmts_rest::table::RestTable;
+
+/// Where many threads are served: a hall, the reading of paths, and the capabilities document.
+#[derive(Drop)]
+pub struct World<K: Keeper> {
+    pub hall: Hall<K>,
+    /// How paths of tiles are read.
+    pub rest: RestTable,
+    /// The document of the service's capabilities, as the operator wrote it.
+    pub capabilities: Words,
+}
