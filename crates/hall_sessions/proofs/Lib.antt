@@ -1,0 +1,5 @@
+pub mod Turns
+pub mod Read
+pub mod Exchanging
+pub mod Wired
+pub mod Ended

@@ -1,5 +1,5 @@
 -- The text of what is kept, from counts that turns told, one for each line.
-use Rattle.std.specs.Prelude.{ℕ, ◌≡◌, ◌+◌, List, [], ◌∷◌, ◌++◌, codes, decimal, Option}
+use Rattle.std.specs.Prelude.{ℕ, ◌+◌, List, [], ◌∷◌, ◌++◌, codes, decimal, Option}
 use Rattle.cabinet_chest.specs.declared.command.Command.TheVariants as command
 use Rattle.cabinet_chest.specs.declared.command.Counts.{Counts}
 use Rattle.cabinet_chest.specs.declared.command.Reply.TheVariants as reply

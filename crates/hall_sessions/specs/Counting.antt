@@ -1,7 +1,6 @@
 -- What the turns of a usage text come to.
 -- A tie between the code and its definitions: the promise can be read without it.
-use Rattle.std.specs.Prelude.{ℕ, ◌≡◌, List, length, take, Result, Ok, Err}
-use Rattle.std.specs.declared.vec.Vec.{Vec}
+use Rattle.std.specs.Prelude.{ℕ, ◌≡◌, List, length, take}
 use Rattle.cabinet_chest.specs.declared.command.Counts.{Counts}
 use Rattle.cabinet_chest.specs.declared.shown.Note.{Note}
 use Rattle.catalog.specs.declared.catalogue.Catalogue.{Catalogue}
@@ -25,15 +24,7 @@ pub record HasCountedVainly (c : Catalogue) (before after : HallPass) : Type 0 w
   pub gains : Gains c before after turns
   pub counts : AreAllCounts turns
 
-abbrev pub ToldLayers : {E : Type 0} → Catalogue → HallPass → HallPass → Result (Vec ℕ) E → Type 0
-ToldLayers c before after (Ok text) = HasCounted c before after (length c.layers) text.items
-ToldLayers c before after (Err fault) = HasCountedVainly c before after
-
 pub record HasToldUsage (c : Catalogue) (before after : HallPass) (text : List ℕ) : Type 0 where
   pub turns : List (Made Note)
   pub gains : Gains c before after turns
   pub counted : IsCounted c turns text
-
-abbrev pub ToldUsage : {E : Type 0} → Catalogue → HallPass → HallPass → Result (List ℕ) E → Type 0
-ToldUsage c before after (Ok text) = HasToldUsage c before after text
-ToldUsage c before after (Err fault) = HasCountedVainly c before after

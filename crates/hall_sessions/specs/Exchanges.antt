@@ -1,5 +1,5 @@
 -- The messages of a session over a hall, each with what it came to.
-use Rattle.std.specs.Prelude.{ℕ, ◌≡◌, ◌+◌, ◌≤◌, Bool, List, [], ◌∷◌, ◌++◌, map, flat_map, Option}
+use Rattle.std.specs.Prelude.{ℕ, ◌≡◌, ◌+◌, ◌≤◌, Bool, List, [], ◌∷◌, map, flat_map, Option}
 use Rattle.cabinet_chest.specs.declared.shown.Note.{Note}
 use Rattle.catalog.specs.declared.catalogue.Catalogue.{Catalogue}
 use Rattle.causes.specs.Causes.{Rose}

@@ -1,8 +1,8 @@
 //! The text of what is kept, told by one turn for each of its lines.
-ghost use Rattle.std.specs.Prelude.{◌≡◌, ◌++◌, OnOk};
+ghost use Rattle.std.specs.Prelude.{◌≡◌, ◌++◌, IfOk, OnErr, OnOk, length};
 ghost use Rattle.cache_hall.specs.Turned.{IsPassOf};
 ghost use Rattle.hall_sessions.specs.Counted.{layer_line, totals_text};
-ghost use Rattle.hall_sessions.specs.Counting.{ToldLayers, ToldUsage};
+ghost use Rattle.hall_sessions.specs.Counting.{HasCounted, HasCountedVainly, HasToldUsage};
 
 use cabinet::keeper::Keeper;
 use cabinet_chest::chest::CabinetChest;
@@ -34,17 +34,19 @@ fn layer_lines<R: Wait, K: Keeper>(
     pass: &mut Pass<CabinetChest<K>>,
 ) -> Result<Vec<u8>, AllocError>
     requires of { IsPassOf hall.now.turnstile.table hall.now.catalogue pass.old }
-    ensures told { ToldLayers hall.now.catalogue pass.old pass.new result }
+    ensures told { IfOk result (λ text. HasCounted hall.now.catalogue pass.old pass.new (length hall.now.catalogue.layers) text.items) }
+    ensures vain { OnErr result (HasCountedVainly hall.now.catalogue pass.old pass.new) }
     ensures of { IsPassOf hall.now.turnstile.table hall.now.catalogue pass.new }
 {
     let mut text = Vec::new(alloc);
     let mut number = 0;
-    for layer in hall.catalogue.layers.as_slice() {
+    let layers = hall.catalogue.layers.as_slice();
+    for layer in layers {
         let counts = usage(rt, hall, pass, number);
-        if add_layer(&mut text, layer, &counts).is_err() {
-            return Err(AllocError);
+        match add_layer(&mut text, layer, &counts) {
+            Err(fault) => return Err(fault),
+            Ok(()) => number += 1,
         }
-        number += 1;
     }
     Ok(text)
 }
@@ -74,7 +76,8 @@ pub fn counted_text<R: Wait, K: Keeper>(
     pass: &mut Pass<CabinetChest<K>>,
 ) -> Result<Words, AllocError>
     requires of { IsPassOf hall.now.turnstile.table hall.now.catalogue pass.old }
-    ensures told { ToldUsage hall.now.catalogue pass.old pass.new result }
+    ensures told { IfOk result (HasToldUsage hall.now.catalogue pass.old pass.new) }
+    ensures vain { OnErr result (HasCountedVainly hall.now.catalogue pass.old pass.new) }
     ensures of { IsPassOf hall.now.turnstile.table hall.now.catalogue pass.new }
 {
     let mut text = match layer_lines(rt, alloc, hall, pass) {

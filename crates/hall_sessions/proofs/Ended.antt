@@ -1,0 +1,157 @@
+-- The ends of a session over a hall that is under way.
+use Rattle.std.proofs.Common.{◌≡◌, ℕ, ◌+◌, ◌<◌, true, false, List, [], ◌∷◌, ◌++◌, length, Option, Some, None, inl, inr, refl, sym, ap, subst, ◌∙◌, arith}
+use Rattle.std.specs.Io.KnownBytes.{Appends, Keeps, prepend_known}
+use Rattle.std.proofs.lemmas.List.{length-append}
+use Rattle.catalog.specs.declared.catalogue.Catalogue.{Catalogue}
+use Rattle.causes.specs.Causes.{Rose}
+use Rattle.http_wire.specs.Answers.{IsPartOfTake, LeavesFault, LeavesNext, Remain, StaysAt, next_at}
+use Rattle.http_wire.specs.Messages.{HoldsMessage}
+use Rattle.http_wire.specs.Streams.{Stand, StandIn}
+use Rattle.http_wire.specs.declared.message.Message.{Message}
+use Rattle.http_wire.specs.declared.message.Next.{Next}
+use Rattle.http_wire.specs.declared.message.Next.TheVariants as nexts
+use Rattle.http_wire.specs.declared.message.Stop.{Stop}
+use Rattle.http_wire.specs.declared.message.Stop.TheVariants as stop
+use Rattle.http_wire.specs.declared.message.WireFault.{WireFault}
+use Rattle.http_wire.specs.declared.message.WireFault.TheVariants as faults
+use Rattle.tile_requests.specs.Sent.{AppendsFront}
+use Rattle.tile_requests.proofs.Known.{appends_more, appends_nothing}
+use Rattle.tile_service.specs.declared.session.SessionEnd.{SessionEnd}
+use Rattle.tile_service.specs.declared.session.SessionEnd.TheVariants.{Closed, Truncated, Bad, ReadFault, WriteFault, TooMany, OutOfMemory}
+use Rattle.tile_service.specs.Outside.{InputChange, Outside, counts}
+use Rattle.tile_service.specs.Run.{Answer}
+use Rattle.tile_service.specs.Session.{reply_text, replies, bad_text}
+use Rattle.tile_service.specs.SessionEnds.{AreOpen, Ends, GoBefore, GoOn}
+use Rattle.tile_service.proofs.Replaying.{Sending, Wire, stand_none}
+use Rattle.hall_sessions.specs.Exchanges.{answers_of}
+use Rattle.hall_sessions.specs.Sessions.{HasHallSession, output_of}
+use Rattle.hall_sessions.proofs.Exchanging.{HasExchanged, exchanged_none}
+use Rattle.hall_sessions.proofs.Wired.{IsAnswered, IsUnderWay, Moment, whole_text}
+
+-- the messages stand before bytes that stay
+stand_kept : (a b c : Option (List ℕ)) (ms : List Message) → StandIn a ms b → Keeps b c → StandIn a ms c
+stand_kept None b c ms s k = tt
+stand_kept (Some x) None c ms s k = absurd s
+stand_kept (Some x) (Some y) None ms s k = absurd k
+stand_kept (Some x) (Some y) (Some z) ms s k = subst (Stand x ms) (sym k) s
+
+-- an answer that is no message stops the stream so
+stays : (before after : Option (List ℕ)) (k : Stop) {next : Next} → next ≡ next_at k → LeavesNext before after next → StaysAt before after k
+stays before after stop.End is leaves = subst (LeavesNext before after) is leaves
+stays before after stop.Truncated is leaves = subst (LeavesNext before after) is leaves
+stays before after (stop.Bad status) is leaves = subst (LeavesNext before after) is leaves
+
+abbrev pub input : Moment → Moment → InputChange
+input a b = record { reads = counts a.wire.reads b.wire.reads; from = a.wire.left; to = b.wire.left }
+
+abbrev pub output : Moment → Moment → Outside
+output a b = output_of (counts a.wire.writes b.wire.writes) a.wire.taken b.wire.taken
+
+-- the session was held from one moment to another
+abbrev pub IsHeld : Catalogue → List ℕ → Moment → Moment → SessionEnd → Type 0
+IsHeld c document start now end = HasHallSession (input start now) (output start now) (counts start.renders now.renders) document c start.pass now.pass end
+
+-- the exchanges, and the end after their messages
+module _ {c : Catalogue} {document : List ℕ} {start now : Moment} (held : List ℕ) (messages : List Message) (answers : List Answer) (end : SessionEnd) where
+  pub is_held : StandIn start.wire.left messages (prepend_known held now.wire.left) → HasExchanged c start.pass now.pass start.renders now.renders messages answers
+      → Ends (input start now) (output start now) document messages answers held (prepend_known held now.wire.left) end → IsHeld c document start now end
+  is_held stand h ends = record {
+    exchanges = h.exchanges;
+    held = held;
+    stand = subst (λ (ms : List Message). StandIn start.wire.left ms (prepend_known held now.wire.left)) h.are_messages stand;
+    made = h.made;
+    served = h.served;
+    ends =
+        subst (λ (ms : List Message). Ends (input start now) (output start now) document ms (answers_of 1 h.exchanges) held (prepend_known held now.wire.left) end) h.are_messages
+        (subst (λ (them : List Answer). Ends (input start now) (output start now) document messages them held (prepend_known held now.wire.left) end) h.are_answers ends);
+  }
+
+-- no memory was there to read at all
+pub unbegun : {c : Catalogue} {document : List ℕ} {start : Moment} → IsHeld c document start start OutOfMemory
+unbegun {c} {document} {start} =
+    is_held {now = start} [] [] [] OutOfMemory (stand_none start.wire.left) (exchanged_none c start.pass start.renders) (record { all_open = tt; few = omega arith }, appends_nothing start.wire.taken)
+
+-- WHERE NO FURTHER MESSAGE CAME
+
+go_on : {c : Catalogue} {document : List ℕ} {start now : Moment} {held : List ℕ} {n : ℕ} (f : IsUnderWay c document start now held n) → n < 10000 → GoOn f.messages
+go_on f few = record { all_open = f.all_open; few = let e = f.many in omega arith }
+
+-- only the link went on, and these bytes are held then
+module _ {c : Catalogue} {document : List ℕ} {start now : Moment} {there : Wire} {held : List ℕ} {n : ℕ} (f : IsUnderWay c document start now held n) (few : n < 10000) (later : List ℕ) where
+  -- the session has ended so
+  ended : (end : SessionEnd) → Keeps (prepend_known held now.wire.left) (prepend_known later there.left)
+      → Ends (input start (record now { wire = there })) (output start (record now { wire = there })) document f.messages f.answers later (prepend_known later there.left) end → IsHeld c document start (record now { wire = there }) end
+  ended end k ends = is_held {now = record now { wire = there }} later f.messages f.answers end (stand_kept start.wire.left (prepend_known held now.wire.left) (prepend_known later there.left) f.messages f.stand k) f.exchanged ends
+
+  pub closed_there : {next : Next} → next ≡ nexts.End → LeavesNext (prepend_known held now.wire.left) (prepend_known later there.left) next → there.taken ≡ now.wire.taken → IsHeld c document start (record now { wire = there }) Closed
+  closed_there is leaves unsent = let k = stays (prepend_known held now.wire.left) (prepend_known later there.left) stop.End is leaves in ended Closed k.0 (inr (go_on f few, k.1), rw unsent f.text)
+
+  pub truncated_there : {next : Next} → next ≡ nexts.Truncated → LeavesNext (prepend_known held now.wire.left) (prepend_known later there.left) next → there.taken ≡ now.wire.taken → IsHeld c document start (record now { wire = there }) Truncated
+  truncated_there is leaves unsent = let k = stays (prepend_known held now.wire.left) (prepend_known later there.left) stop.Truncated is leaves in ended Truncated k.0 (go_on f few, k.1, rw unsent f.text)
+
+  pub bad_there : {next : Next} {status : ℕ} → next ≡ nexts.Bad status → LeavesNext (prepend_known held now.wire.left) (prepend_known later there.left) next → Appends now.wire.taken there.taken (bad_text status)
+      → IsHeld c document start (record now { wire = there }) (Bad status)
+  bad_there {status = status} is leaves wrote =
+      let k = stays (prepend_known held now.wire.left) (prepend_known later there.left) (stop.Bad status) is leaves in
+      ended (Bad status) k.0 (go_on f few, k.1, appends_more start.wire.taken now.wire.taken there.taken (replies document f.answers) (bad_text status) f.text wrote)
+
+  pub bad_cut_off : {next : Next} {status : ℕ} → next ≡ nexts.Bad status → LeavesNext (prepend_known held now.wire.left) (prepend_known later there.left) next → AppendsFront now.wire.taken there.taken (bad_text status)
+      → Rose start.wire.writes there.writes → IsHeld c document start (record now { wire = there }) WriteFault
+  bad_cut_off {status = status} is leaves wrote rose =
+      let k = stays (prepend_known held now.wire.left) (prepend_known later there.left) (stop.Bad status) is leaves in
+      ended WriteFault k.0 (replies document f.answers, bad_text status, inr (status, go_on f few, k.1, refl, refl), rose, record { between = now.wire.taken; whole = f.text; part = wrote })
+
+  -- a read failed, before a message had come whole
+  pub unread_there : {fault : WireFault} → fault ≡ faults.ReadFault → LeavesFault (prepend_known held now.wire.left) later there.left fault → ¬ (HoldsMessage later) → Rose start.wire.reads there.reads → there.taken ≡ now.wire.taken
+      → IsHeld c document start (record now { wire = there }) ReadFault
+  unread_there is leaves none rose unsent = ended ReadFault (subst (LeavesFault (prepend_known held now.wire.left) later there.left) is leaves) (go_on f few, none, rose, rw unsent f.text)
+
+-- of the bytes that were taken some may be lost
+pub short_there : {c : Catalogue} {document : List ℕ} {start now : Moment} {there : Wire} {held : List ℕ} {n : ℕ} → IsUnderWay c document start now held n → n < 10000 → (later : List ℕ) {fault : WireFault} → fault ≡ faults.OutOfMemory
+    → LeavesFault (prepend_known held now.wire.left) later there.left fault → there.taken ≡ now.wire.taken → IsHeld c document start (record now { wire = there }) OutOfMemory
+short_there {now = now} {there} {held} f few later is leaves unsent =
+    let k : Remain (prepend_known held now.wire.left) there.left = subst (LeavesFault (prepend_known held now.wire.left) later there.left) is leaves in
+    ended f few k.0 OutOfMemory k.1 (go_on f few, rw unsent f.text)
+
+-- AFTER A MESSAGE
+
+module _ {c : Catalogue} {document : List ℕ} {Sends : Sending} {start now : Moment} {held : List ℕ} {n : ℕ} {m : Message} (few : n < 10000) (part : IsPartOfTake held) (a : IsAnswered c document Sends start now held n m) where
+  go_before : GoBefore (a.earlier ++ m ∷ []) held m
+  go_before = record { before = a.earlier; whole = refl; go_on = record { all_open = a.all_open; few = let e = a.many in omega arith }; looks_no_further = part }
+
+  ended_behind : (end : SessionEnd) → Ends (input start now) (output start now) document (a.earlier ++ m ∷ []) (a.before_it ++ a.answer ∷ []) held (prepend_known held now.wire.left) end → IsHeld c document start now end
+  ended_behind end ends = is_held {now = now} held (a.earlier ++ m ∷ []) (a.before_it ++ a.answer ∷ []) end a.stand a.exchanged ends
+
+pub closed_behind : {c : Catalogue} {document : List ℕ} {start now : Moment} {held : List ℕ} {n : ℕ} {m : Message} → n < 10000 → IsPartOfTake held → m.last ≡ true → IsAnswered c document Appends start now held n m → IsHeld c document start now Closed
+closed_behind {m = m} few part last a = ended_behind few part a Closed (inl (m, go_before few part a, last), whole_text a)
+
+pub cut_off_behind : {c : Catalogue} {document : List ℕ} {start now : Moment} {held : List ℕ} {n : ℕ} {m : Message} → n < 10000 → IsPartOfTake held → Rose start.wire.writes now.wire.writes → IsAnswered c document AppendsFront start now held n m
+    → IsHeld c document start now WriteFault
+cut_off_behind {document = document} {m = m} few part rose a =
+    ended_behind few part a WriteFault (
+      replies document a.before_it,
+      reply_text document a.answer,
+      inl (m, go_before few part a, a.before_it, a.answer, refl, refl, refl),
+      rose,
+      record { between = a.between; whole = a.text; part = a.sent },
+    )
+
+-- AFTER THE 10,000TH
+
+-- messages of which none is the last of its connection, with one of them after the others
+abbrev OneBehind : List Message → Type 0
+OneBehind messages = (earlier : List Message) × (m : Message) × (messages ≡ earlier ++ m ∷ []) × AreOpen earlier × (m.last ≡ false)
+
+one_behind : (messages : List Message) → 0 < length messages → AreOpen messages → OneBehind messages
+one_behind [] some all = absurd (omega arith)
+one_behind (m ∷ []) some all = ([], m, refl, tt, all.0)
+one_behind (x ∷ y ∷ messages) some all =
+    let later = one_behind (y ∷ messages) (omega arith) all.1 in
+    (x ∷ later.0, later.1, rw later.2 refl, (all.0, later.3), later.4)
+
+pub too_many : {c : Catalogue} {document : List ℕ} {start now : Moment} {held : List ℕ} {n : ℕ} → IsUnderWay c document start now held n → n ≡ 10000 → IsPartOfTake held → IsHeld c document start now TooMany
+too_many {c} {document} {start} {now} {held} f all part =
+    let many = f.many in
+    let last = one_behind f.messages (omega arith) f.all_open in
+    let count : length f.messages ≡ length last.0 + 1 = ap (λ (xs : List Message). length xs) last.2 ∙ length-append last.0 (last.1 ∷ []) in
+    is_held {now = now} held f.messages f.answers TooMany f.stand f.exchanged (last.1, record { before = last.0; whole = last.2; go_on = record { all_open = last.3; few = omega arith }; looks_no_further = part }, last.4, omega arith, f.text)
