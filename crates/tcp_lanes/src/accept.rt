@@ -19,7 +19,6 @@ use std::time::Clock;
 /// A listening socket. Of the connections to it contracts know nothing.
 pub struct TcpAccept<R: Wait + Clock + Copy + Drop> {
     rt: R,
-    alloc: Global,
     lobby: Arc<Lobby>,
     given: u64,
     faults: u64,
@@ -37,7 +36,6 @@ impl<R: Wait + Clock + Net + Copy + Drop> TcpAccept<R> {
         let lobby = Lobby::new(alloc, socket, poller, time(&rt))?;
         Ok(TcpAccept {
             rt,
-            alloc,
             lobby: Arc::new(alloc, lobby).map_err(AllocError::from)?,
             given: 0,
             faults: 0,
@@ -51,21 +49,14 @@ impl<R: Wait + Clock + Net + Copy + Drop> TcpAccept<R> {
 }
 
 impl<R: Wait + Clock + Copy + Drop> TcpAccept<R> {
-    /// A further lane, once fewer are out than may be. None where memory runs out, and where 2^64 - 1 were given.
+    /// A further lane, once fewer are out than may be. None where 2^64 - 1 were given.
     fn next_lane(&self) -> Option<Lane>
         ensures { IfSome result (λ _. self.now.given < 2 ^ 64 - 1) }
     {
         if self.given == u64::MAX {
             return None;
         }
-        self.lobby.enter(&self.rt);
-        match Lane::new(self.alloc, &self.lobby) {
-            Ok(lane) => Some(lane),
-            Err(_) => {
-                self.lobby.leave(&self.rt);
-                None
-            }
-        }
+        Lane::new(&self.rt, &self.lobby).ok()
     }
 }
 
@@ -74,7 +65,6 @@ impl<R: Wait + Clock + Copy + Drop> Drop for TcpAccept<R> {
         self.lobby.see_off(&self.rt);
         let TcpAccept {
             rt: _,
-            alloc: _,
             lobby: _,
             given: _,
             faults: _,

@@ -3,7 +3,7 @@
 //! Nothing here waits. Each call reads or writes what the socket gives or takes at once.
 ghost use Rattle.std.specs.Prelude.{◌≤◌, length};
 
-use crate::limits::{ANSWER, MESSAGE, READ_SIZE, REST};
+use crate::limits::{ANSWER, IGNORED, MESSAGE, READ_SIZE, REST};
 use crate::message_end::{End, message_end};
 use http_wire::look::HEAD_LIMIT;
 use mio::net::TcpStream;
@@ -317,10 +317,11 @@ impl Conn {
         self.parting
     }
 
-    /// Lets it end: no further message of it is served.
+    /// Lets it end: no further message of it is served, and what was read of one is let go.
     pub fn part(&mut self, now: u64) {
         self.parting = true;
-        self.more = true;
+        self.held = Vec::new(self.alloc);
+        self.looked = 0;
         self.since = now;
     }
 
@@ -338,16 +339,18 @@ impl Conn {
     /// Reads what there is, for nothing. Whether the client has closed.
     fn ignore_rest(&mut self) -> bool {
         let mut piece = [0; READ_SIZE];
-        for _ in 0..16 {
+        for _ in 0..IGNORED {
             match self.stream.read(&mut piece) {
                 Ok(0) => return true,
                 Ok(_) => {}
                 Err(error) => {
                     self.more = false;
+                    self.hung_up = false;
                     return error.kind() != ErrorKind::WouldBlock;
                 }
             }
         }
+        self.more = true;
         false
     }
 }

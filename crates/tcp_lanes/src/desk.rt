@@ -1,6 +1,6 @@
 //! What a lane does with a socket that is ready: it accepts connections, reads what came, and sends what waits.
 use crate::conn::{Conn, Filled, Sent};
-use crate::limits::{PAUSE, WELCOMES};
+use crate::limits::{ANSWER, PAUSE, WELCOMES};
 use crate::lobby::{Lobby, time};
 use crate::seat::{LISTENING, Ready};
 use mio::net::TcpStream;
@@ -155,9 +155,10 @@ impl Lobby {
 
 // The end of all.
 impl Lobby {
-    /// Sends the answers that wait of connections whose lane has ended, each as long as its client takes them.
+    /// Sends the answers that wait of connections whose lane has ended, as far as their clients take them within the time of
+    /// one answer.
     pub fn see_off<R: Wait + Clock>(&self, rt: &R) {
-        for _ in rt.forever() {
+        for _ in 0..ANSWER / PAUSE {
             if !self.has_parting(rt) {
                 return;
             }

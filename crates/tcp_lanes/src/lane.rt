@@ -4,7 +4,7 @@ ghost use Rattle.std.specs.Prelude.{◌≤◌, length};
 use crate::desk::{AtHand, Looked};
 use crate::limits::HELD_BACK;
 use crate::lobby::{Lobby, time};
-use std::alloc::{AllocError, Global};
+use std::alloc::AllocError;
 use std::sync::{Arc, Wait};
 use std::time::Clock;
 
@@ -21,12 +21,14 @@ pub struct Lane {
 }
 
 impl Lane {
-    /// A lane that has served nobody. `AllocError` where memory runs out.
-    pub fn new(alloc: Global, lobby: &Arc<Lobby>) -> Result<Lane, AllocError> {
+    /// A lane that has served nobody, once one may be given out. `AllocError` where there are too many references to the lobby.
+    pub fn new<R: Wait>(rt: &R, lobby: &Arc<Lobby>) -> Result<Lane, AllocError> {
+        let lobby = Arc::try_clone(lobby)?;
+        let head = lobby.enter(rt);
         Ok(Lane {
-            lobby: Arc::try_clone(lobby)?,
+            lobby,
             at_hand: None,
-            head: Vec::with_capacity(alloc, HELD_BACK)?,
+            head,
             ended: false,
         })
     }
@@ -118,7 +120,7 @@ impl Lane {
     }
 
     /// Ends the lane, and with it the connection at hand.
-    pub fn end<R: Wait + Clock>(&mut self, rt: &R) {
+    pub fn end<R: Wait + Clock>(mut self, rt: &R) {
         if let Some(mut at_hand) = self.at_hand.take() {
             let now = time(rt);
             if self.send_head(&mut at_hand, now) {
@@ -127,7 +129,7 @@ impl Lane {
                 self.lobby.close(rt, at_hand);
             }
         }
-        self.ended = true;
-        self.lobby.leave(rt);
+        let Lane { lobby, head, .. } = self;
+        lobby.leave(rt, head);
     }
 }

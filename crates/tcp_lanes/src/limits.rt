@@ -17,13 +17,16 @@ pub const SWEEP: u64 = 1_000;
 pub const CONNECTIONS: usize = 1000;
 
 /// The most lanes that are out at a time: as many as there are workers.
-pub const LANES: u64 = 4;
+pub const LANES: usize = 4;
 
 /// The most connections that one turn accepts, so that other clients aren't kept waiting.
 pub const WELCOMES: usize = 64;
 
 /// The most bytes that one read takes.
 pub const READ_SIZE: usize = 4096;
+
+/// The most reads of one turn whose bytes are ignored, since the last answer was given.
+pub const IGNORED: usize = 16;
 
 /// The most bytes of an answer that are held back until more of it comes, so that a head leaves with its body.
 pub const HELD_BACK: usize = 4096;
@@ -40,5 +43,6 @@ pub const WATCH: u64 = 1;
 /// How many events the system tells at a time.
 pub const EVENTS: usize = 256;
 
-/// How long is waited between two tries to send the last answers when the listening socket goes.
+/// How long is waited between two tries to send the last answers when the listening socket goes. They are tried for as long as
+/// one answer may wait, all together.
 pub const PAUSE: u64 = 10;

@@ -27,13 +27,13 @@ impl<R: Wait + Clock + Drop> TcpLink<R> {
 }
 
 impl<R: Wait + Clock + Drop> Drop for TcpLink<R> {
-    fn drop(mut self) {
-        self.lane.end(&self.rt);
+    fn drop(self) {
         let TcpLink {
-            rt: _,
-            lane: _,
+            rt,
+            lane,
             faults: _,
         } = self;
+        lane.end(&rt);
     }
 }
 

@@ -1,10 +1,10 @@
 //! What the lanes share: the listening socket, the connections that rest, and the line of those that are ready.
-use crate::limits::{LANES, WATCH};
+use crate::limits::{HELD_BACK, LANES, WATCH};
 use crate::seat::{LISTENING, Poller, Ready, Seat, Step, Vigil};
 use crate::slots::Slots;
 use mio::net::TcpListener;
 use mio::{Interest, Poll, Registry, Token};
-use std::alloc::Global;
+use std::alloc::{AllocError, Global};
 use std::io;
 use std::sync::{Condvar, Mutex, MutexGuard, Wait};
 use std::time::{Clock, Duration};
@@ -18,9 +18,20 @@ pub struct Lobby {
     pub slots: Slots,
     pub seat: Mutex<Seat>,
     parked: Condvar,
-    /// How many lanes are out.
-    lanes: Mutex<u64>,
+    /// The buffers of the lanes that may still be given out, one each.
+    heads: Mutex<Vec<Vec<u8>>>,
     ended: Condvar,
+}
+
+/// The buffers of all lanes.
+fn heads(alloc: Global) -> Result<Vec<Vec<u8>>, AllocError> {
+    let mut heads = Vec::with_capacity(alloc, LANES)?;
+    for _ in 0..LANES {
+        heads
+            .push(Vec::with_capacity(alloc, HELD_BACK)?)
+            .map_err(AllocError::from)?;
+    }
+    Ok(heads)
 }
 
 /// The time in milliseconds, on a clock that never goes back. A clock that can't be read stands still.
@@ -48,23 +59,24 @@ impl Lobby {
             slots: Slots::new(alloc)?,
             seat: Mutex::new(Seat::new(alloc, poller, now)?),
             parked: Condvar::new(),
-            lanes: Mutex::new(0),
+            heads: Mutex::new(heads(alloc)?),
             ended: Condvar::new(),
         })
     }
 
-    /// Waits until fewer lanes are out than may be, and counts one more.
-    pub fn enter<R: Wait>(&self, rt: &R) {
-        let mut lanes = self
+    /// Waits until a lane may be given out, and takes its buffer.
+    pub fn enter<R: Wait>(&self, rt: &R) -> Vec<u8> {
+        let mut heads = self
             .ended
-            .wait_while(rt, self.lanes.lock(rt), |lanes| *lanes >= LANES);
-        *lanes = lanes.saturating_add(1);
-        drop(lanes);
+            .wait_while(rt, self.heads.lock(rt), |heads| heads.is_empty());
+        let head = heads.pop().unwrap_or(Vec::new(self.alloc));
+        drop(heads);
         self.seat.lock(rt).begin();
+        head
     }
 
-    /// Notes that a lane has ended.
-    pub fn leave<R: Wait>(&self, rt: &R) {
+    /// Takes the buffer of a lane back that has ended.
+    pub fn leave<R: Wait>(&self, rt: &R, mut head: Vec<u8>) {
         let mut seat = self.seat.lock(rt);
         seat.come_back();
         let wake = seat.needs_hand();
@@ -72,9 +84,9 @@ impl Lobby {
         if wake {
             self.parked.notify_one();
         }
-        let mut lanes = self.lanes.lock(rt);
-        *lanes = lanes.saturating_sub(1);
-        drop(lanes);
+        head.clear();
+        // There is room for every buffer.
+        let _ = self.heads.lock(rt).push(head);
         self.ended.notify_one();
     }
 

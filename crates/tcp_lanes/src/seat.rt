@@ -90,7 +90,7 @@ impl Vigil {
 impl Seat {
     /// A seat with room for every socket. `AllocError` where memory runs out.
     pub fn new(alloc: Global, poller: Poller, now: u64) -> Result<Seat, AllocError> {
-        let mut marks = Vec::with_capacity(alloc, CONNECTIONS)?;
+        let mut marks = Vec::with_capacity(alloc, CONNECTIONS + 1)?;
         let mut vacant = Vec::with_capacity(alloc, CONNECTIONS)?;
         for token in 0..=CONNECTIONS {
             marks.push(Mark {
