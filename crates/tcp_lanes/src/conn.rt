@@ -65,6 +65,8 @@ pub struct Conn {
     closed: bool,
     /// Whether its last answer was given, so that it ends once that went out.
     parting: bool,
+    /// Whether the client was told that this was the last.
+    shut: bool,
 }
 
 impl Conn {
@@ -85,6 +87,7 @@ impl Conn {
             hung_up: false,
             closed: false,
             parting: false,
+            shut: false,
         })
     }
 
@@ -333,7 +336,15 @@ impl Conn {
             Sent::Rest => return false,
             Sent::All => {}
         }
-        self.closed || self.stream.shutdown(Shutdown::Write).is_err() || self.ignore_rest()
+        self.closed || !self.shuts() || self.ignore_rest()
+    }
+
+    /// Tells the client once that no byte follows: each time that it is told the system tells of the connection again. False where
+    /// the connection failed.
+    fn shuts(&mut self) -> bool {
+        let tells = !self.shut;
+        self.shut = true;
+        !tells || self.stream.shutdown(Shutdown::Write).is_ok()
     }
 
     /// Reads what there is, for nothing. Whether the client has closed.
