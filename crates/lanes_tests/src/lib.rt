@@ -1,0 +1,21 @@
+//! Tests of lanes on the loopback: messages that are cut and mixed in every way, and clients that are silent, slow, deaf or wrong.
+//!
+//! It has no code of its own and promises nothing. What the system gives and takes isn't modelled, so that what lanes do with
+//! it is tested here and not proved.
+//! Stands on tcp_lanes and listeners, and on http_wire, exact_ratio and causes for a session over a lane.
+#![tactic(auto)]
+
+#[cfg(test)]
+mod client;
+#[cfg(test)]
+mod crowds;
+#[cfg(test)]
+mod cuts;
+#[cfg(test)]
+mod ends;
+#[cfg(test)]
+mod hindrances;
+#[cfg(test)]
+mod server;
+#[cfg(test)]
+mod session;

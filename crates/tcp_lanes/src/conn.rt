@@ -1,0 +1,367 @@
+//! An open connection: the bytes that were read of its next messages, and those of its last answer that weren't sent.
+//!
+//! Nothing here waits. Each call reads or writes what the socket gives or takes at once.
+ghost use Rattle.std.specs.Prelude.{◌≤◌, length};
+
+use crate::limits::{ANSWER, IGNORED, MESSAGE, READ_SIZE, REST};
+use crate::message_end::{End, message_end};
+use http_wire::look::HEAD_LIMIT;
+use mio::net::TcpStream;
+use mio::{Interest, Registry, Token};
+use std::alloc::{AllocError, Global};
+use std::io;
+use std::io::{ErrorKind, IoSlice, Read};
+use std::net::Shutdown;
+
+/// What a reading of a connection came to.
+#[derive(Clone, Copy, Debug, PartialEq, Eq)]
+pub enum Filled {
+    /// Its next message is at hand, whole.
+    Whole,
+    /// All that came is at hand, and no message behind it: it isn't one and never will be, or the client closed within it.
+    Final,
+    /// The next message isn't whole yet.
+    Part,
+    /// The client closed behind a message, or the connection can't be read on.
+    Gone,
+}
+
+/// What has become of the bytes of an answer.
+#[derive(Clone, Copy, Debug, PartialEq, Eq)]
+pub enum Sent {
+    /// The socket took all of them.
+    All,
+    /// Some wait until the socket takes them.
+    Rest,
+    /// The connection takes none any more.
+    Failed,
+}
+
+/// An open connection.
+#[derive(Drop)]
+pub struct Conn {
+    alloc: Global,
+    stream: TcpStream,
+    /// What was read and isn't answered.
+    held: Vec<u8>,
+    /// How many bytes of `held` are the message at hand.
+    message: usize,
+    /// How many of those were given.
+    given: usize,
+    /// How many bytes of `held` were looked at, in which no message is whole.
+    looked: usize,
+    /// How many bytes the next message has, where its head is there; 0 where not.
+    needed: usize,
+    /// An answer that the socket hasn't taken whole, and how much of it was sent.
+    answer: Vec<u8>,
+    sent: usize,
+    /// When it began to wait for what it waits for.
+    since: u64,
+    /// Whether the socket may have bytes of which the system won't tell: the last read filled its buffer.
+    more: bool,
+    /// Whether the system told that the client closed its side.
+    hung_up: bool,
+    /// Whether that was read.
+    closed: bool,
+    /// Whether its last answer was given, so that it ends once that went out.
+    parting: bool,
+    /// Whether the client was told that this was the last.
+    shut: bool,
+}
+
+impl Conn {
+    /// A connection that has read nothing. `AllocError` where memory runs out.
+    pub fn new(alloc: Global, stream: TcpStream, now: u64) -> Result<Conn, AllocError> {
+        Ok(Conn {
+            alloc,
+            stream,
+            held: Vec::with_capacity(alloc, READ_SIZE)?,
+            message: 0,
+            given: 0,
+            looked: 0,
+            needed: 0,
+            answer: Vec::new(alloc),
+            sent: 0,
+            since: now,
+            more: false,
+            hung_up: false,
+            closed: false,
+            parting: false,
+            shut: false,
+        })
+    }
+
+    /// Lets the system tell of this connection under the token.
+    pub fn register(&mut self, registry: &Registry, token: usize) -> io::Result<()> {
+        let both = Interest::READABLE | Interest::WRITABLE;
+        registry.register(&mut self.stream, Token(token), both)
+    }
+
+    /// Notes that the system told of bytes, or of room for an answer.
+    pub fn stir(&mut self, hung_up: bool) {
+        self.more = true;
+        if hung_up {
+            self.hung_up = true;
+        }
+    }
+
+    /// Whether there may be something to do of which the system won't tell.
+    pub fn is_due(&self) -> bool {
+        self.answer.is_empty() && (self.more || self.hung_up || self.has_next())
+    }
+
+    /// Whether it has bytes of a next message that weren't looked at.
+    fn has_next(&self) -> bool {
+        self.held.len() > self.looked
+    }
+
+    /// Whether it has waited too long for its client.
+    pub fn is_overdue(&self, now: u64) -> bool {
+        now.saturating_sub(self.since) >= self.patience()
+    }
+
+    /// How long it may wait for what it waits for.
+    fn patience(&self) -> u64 {
+        if self.parting || !self.answer.is_empty() {
+            ANSWER
+        } else if self.held.is_empty() {
+            REST
+        } else {
+            MESSAGE
+        }
+    }
+}
+
+// Reading.
+impl Conn {
+    /// Reads until the next message is at hand or the socket has nothing more.
+    pub fn fill(&mut self, now: u64) -> Filled {
+        for _ in 0..u32::MAX {
+            if let Some(filled) = self.find() {
+                return filled;
+            }
+            if !self.more {
+                return Filled::Part;
+            }
+            if !self.read_piece(now) {
+                return self.last_of_all();
+            }
+        }
+        Filled::Part
+    }
+
+    /// Whether a message may be whole that wasn't when the bytes were last looked at: its body is there, or a line ended, without
+    /// which no head ends. A look costs as much as the bytes are many, so single bytes don't cost one each.
+    fn may_be_whole(&self) -> bool {
+        if self.needed > 0 {
+            return self.held.len() >= self.needed;
+        }
+        if self.looked == 0 {
+            return !self.held.is_empty();
+        }
+        match self.held.get(self.looked..) {
+            Some(new) => new.contains(&b'\n') || self.held.len() >= HEAD_LIMIT,
+            None => true,
+        }
+    }
+
+    /// Looks for the next message among the bytes that were read.
+    fn find(&mut self) -> Option<Filled> {
+        if !self.may_be_whole() {
+            self.looked = self.held.len();
+            return None;
+        }
+        self.looked = self.held.len();
+        match message_end(self.held.as_slice()) {
+            End::Whole(size) => {
+                self.message = size;
+                Some(Filled::Whole)
+            }
+            End::Headless => None,
+            End::Short(size) => {
+                self.needed = size;
+                None
+            }
+            End::Hopeless => {
+                self.message = self.held.len();
+                Some(Filled::Final)
+            }
+        }
+    }
+
+    /// Reads once. False where nothing further can be read.
+    fn read_piece(&mut self, now: u64) -> bool {
+        let mut piece = [0; READ_SIZE];
+        match self.stream.read(&mut piece) {
+            Ok(0) => {
+                self.closed = true;
+                false
+            }
+            Ok(count) => {
+                if self.held.is_empty() {
+                    self.since = now;
+                }
+                self.more = count == READ_SIZE || self.hung_up;
+                self.held.extend_from_slice(&piece[..count]).is_ok()
+            }
+            Err(error) => {
+                self.more = error.kind() == ErrorKind::Interrupted;
+                self.hung_up = false;
+                self.more || error.kind() == ErrorKind::WouldBlock
+            }
+        }
+    }
+
+    /// What is at hand where nothing further can be read.
+    fn last_of_all(&mut self) -> Filled {
+        if !self.closed || self.held.is_empty() {
+            return Filled::Gone;
+        }
+        self.message = self.held.len();
+        Filled::Final
+    }
+
+    /// Gives the next bytes of the message at hand, and answers how many: none behind it.
+    pub fn give(&mut self, into: &mut [u8]) -> usize
+        ensures { result ≤ length into.new }
+    {
+        let Some(rest) = self.held.get(self.given..self.message) else {
+            return 0;
+        };
+        let count = rest.len().min(into.len());
+        into[..count].copy_from_slice(&rest[..count]);
+        self.given = self.given.saturating_add(count);
+        count
+    }
+
+    /// Lets the message at hand go. What was read behind it is looked at as that of a next message.
+    pub fn let_go(&mut self, now: u64) {
+        let end = self.message.min(self.held.len());
+        let left = self.held.len() - end;
+        self.held.copy_within(end.., 0);
+        self.held.truncate(left);
+        self.message = 0;
+        self.given = 0;
+        self.looked = 0;
+        self.needed = 0;
+        self.since = now;
+    }
+}
+
+// Answering.
+impl Conn {
+    /// Whether an answer waits until the socket takes it.
+    pub fn has_answer(&self) -> bool {
+        !self.answer.is_empty()
+    }
+
+    /// Sends two parts of an answer in one call, and keeps what the socket doesn't take. False where the connection failed,
+    /// or there is no memory to keep it.
+    pub fn send(&mut self, first: &[u8], second: &[u8], now: u64) -> bool {
+        match self.flush(now) {
+            Sent::Failed => return false,
+            Sent::Rest => return self.keep(first, second, 0).is_ok(),
+            Sent::All => {}
+        }
+        let parts = [IoSlice::new(first), IoSlice::new(second)];
+        match TcpStream::write_vectored(&self.stream, &parts) {
+            Ok(count) => {
+                self.since = now;
+                self.keep(first, second, count).is_ok()
+            }
+            Err(error) if error.kind() == ErrorKind::WouldBlock => {
+                self.since = now;
+                self.keep(first, second, 0).is_ok()
+            }
+            Err(_) => false,
+        }
+    }
+
+    /// Keeps both parts of an answer, but for the first bytes, which were sent.
+    fn keep(&mut self, first: &[u8], second: &[u8], sent: usize) -> Result<(), AllocError> {
+        if let Some(rest) = first.get(sent..) {
+            self.answer.extend_from_slice(rest)?;
+        }
+        if let Some(rest) = second.get(sent.saturating_sub(first.len())..) {
+            self.answer.extend_from_slice(rest)?;
+        }
+        Ok(())
+    }
+
+    /// Sends what is left of an answer, as far as the socket takes it.
+    pub fn flush(&mut self, now: u64) -> Sent {
+        for _ in 0..u32::MAX {
+            let Some(rest) = self.answer.get(self.sent..) else {
+                return Sent::Failed;
+            };
+            if rest.is_empty() {
+                self.answer = Vec::new(self.alloc);
+                self.sent = 0;
+                return Sent::All;
+            }
+            match TcpStream::write_vectored(&self.stream, &[IoSlice::new(rest)]) {
+                Ok(0) => return Sent::Failed,
+                Ok(count) => {
+                    self.sent = self.sent.saturating_add(count);
+                    self.since = now;
+                }
+                Err(error) if error.kind() == ErrorKind::WouldBlock => return Sent::Rest,
+                Err(_) => return Sent::Failed,
+            }
+        }
+        Sent::Failed
+    }
+}
+
+// Parting.
+impl Conn {
+    /// Whether its last answer was given.
+    pub fn is_parting(&self) -> bool {
+        self.parting
+    }
+
+    /// Lets it end: no further message of it is served, and what was read of one is let go.
+    pub fn part(&mut self, now: u64) {
+        self.parting = true;
+        self.held = Vec::new(self.alloc);
+        self.looked = 0;
+        self.since = now;
+    }
+
+    /// Sends what is left of its last answer, tells the client that this was the last, and reads on until the client closes too:
+    /// a socket that closes with bytes unread may take the answer back. Whether that is done.
+    pub fn has_parted(&mut self, now: u64) -> bool {
+        match self.flush(now) {
+            Sent::Failed => return true,
+            Sent::Rest => return false,
+            Sent::All => {}
+        }
+        self.closed || !self.shuts() || self.ignore_rest()
+    }
+
+    /// Tells the client once that no byte follows: each time that it is told the system tells of the connection again. False where
+    /// the connection failed.
+    fn shuts(&mut self) -> bool {
+        let tells = !self.shut;
+        self.shut = true;
+        !tells || self.stream.shutdown(Shutdown::Write).is_ok()
+    }
+
+    /// Reads what there is, for nothing. Whether the client has closed.
+    fn ignore_rest(&mut self) -> bool {
+        let mut piece = [0; READ_SIZE];
+        for _ in 0..IGNORED {
+            match self.stream.read(&mut piece) {
+                Ok(0) => return true,
+                Ok(_) => {}
+                Err(error) => {
+                    self.more = false;
+                    self.hung_up = false;
+                    return error.kind() != ErrorKind::WouldBlock;
+                }
+            }
+        }
+        self.more = true;
+        false
+    }
+}

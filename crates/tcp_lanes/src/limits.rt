@@ -1,0 +1,48 @@
+//! How long a connection may wait for its client, in milliseconds, and how many there may be.
+
+/// How long a connection may rest between two messages, and before its first.
+pub const REST: u64 = 60_000;
+
+/// How long a message may take to be whole, from its first byte on.
+pub const MESSAGE: u64 = 10_000;
+
+/// How long an answer may wait while its client takes nothing of it, and how long a client may take to close once its last
+/// answer went out.
+pub const ANSWER: u64 = 10_000;
+
+/// How often connections are looked for that waited too long. None waits longer than its limit and this.
+pub const SWEEP: u64 = 1_000;
+
+/// The most connections that are open at a time. Further ones wait in the backlog of the system.
+pub const CONNECTIONS: usize = 1000;
+
+/// The most lanes that are out at a time: as many as there are workers.
+pub const LANES: usize = 4;
+
+/// The most connections that one turn accepts, so that other clients aren't kept waiting.
+pub const WELCOMES: usize = 64;
+
+/// The most bytes that one read takes.
+pub const READ_SIZE: usize = 4096;
+
+/// The most reads of one turn whose bytes are ignored, since the last answer was given.
+pub const IGNORED: usize = 16;
+
+/// The most bytes of an answer that are held back until more of it comes, so that a head leaves with its body.
+pub const HELD_BACK: usize = 4096;
+
+/// The most messages that are served of those in line before the system is asked again who is ready.
+pub const SERVED: u64 = 16;
+
+/// How many looks without a change a watcher takes before it parks.
+pub const LOOKS: u32 = 10;
+
+/// How long a watcher waits between two looks.
+pub const WATCH: u64 = 1;
+
+/// How many events the system tells at a time.
+pub const EVENTS: usize = 256;
+
+/// How long is waited between two tries to send the last answers when the listening socket goes. They are tried for as long as
+/// one answer may wait, all together.
+pub const PAUSE: u64 = 10;
