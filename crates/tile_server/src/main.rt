@@ -1,12 +1,13 @@
 //! The program `tile_server`, a cache of map tiles: it hands the words, files and streams of the process to `run_command`
-//! of tile_command, and tells how that ended.
+//! of tile_command, and tells how that ended; at `serve` it hands them to `run_server` of tile_serving, with a listening socket.
 //!
 //! Promises: none that a clause says; this is the trusted edge. What the command does is promised there.
-//! Stands on tile_command, and on the crates whose files and streams it opens.
+//! Stands on tile_command and tile_serving, and on the crates whose files, streams and socket it opens.
 #![tactic(auto)]
 
 mod cache_disk;
 mod input;
+mod serve;
 
 use cache_disk::CacheDisk;
 use clock::clock::Clock;
@@ -39,6 +40,8 @@ tile_server replay --kept < BYTES    serves the bytes on that cache
 tile_server truncate < COVER         makes one truncation, of the cover, and writes its number
 tile_server expire                   drops metatiles until no quota is exceeded, and writes how many
 tile_server usage                    writes what is kept, layer by layer, and how many truncations are in force
+tile_server serve --port PORT --connections COUNT
+                                     serves so many connections at that port over TCP on that cache, and keeps its quotas
 tile_server --help                   writes this text
 tile_server --version                writes the version
 
@@ -56,6 +59,7 @@ It ends with a code, and all but the first are told by a line on standard error:
    5  write fault                            11  stream ..: the connection's bytes broke off
    6  disk fault                             12  too long: a file or the input is above its limit
    7  line N: this line was refused          13  form KIND FIELD: the cover's fault
+                                             14  listen fault: the port isn't had, or gives no more
 
 docs/OPERATING.md of its repository has the files, the lines and what to do at each fault; docs/PROMISES.md what is proved.
 ";
@@ -133,6 +137,11 @@ fn main(rt: HostRuntime) -> ExitCode {
         }
         if word.bytes() == b"--version".as_slice() {
             return printed(&rt, VERSION);
+        }
+    }
+    if let [word, rest @ ..] = words.as_slice() {
+        if word.bytes() == b"serve".as_slice() {
+            return serve::serve(&rt, rest, Clock::system(rt));
         }
     }
     let Ok(

@@ -1,0 +1,4 @@
+pub mod Ends
+pub mod Crew
+pub mod Served
+pub mod Setup

@@ -1,0 +1,135 @@
+//! What a server works with, made ready before the first link.
+ghost use Rattle.std.specs.Prelude.{All, IfErr, IfOk, IsTrue, length, ◌≡◌};
+ghost use Rattle.catalog.specs.Valid.{IsValid};
+ghost use Rattle.durable_cabinet.specs.Images.{IsOurs};
+ghost use Rattle.tile_command.specs.Command.{HoldsFile};
+ghost use Rattle.tile_service.specs.Outside.{InputChange, counts};
+ghost use Rattle.tile_serving.specs.Crew.{IsUntold};
+ghost use Rattle.tile_serving.specs.Setup.{IsReady, IsUnready, Refuses};
+
+use crate::ends::{ServerEnd, end_of_opening, end_of_refusal};
+use cabinet::keeper::Keeper;
+use cabinet_chest::chest::CabinetChest;
+use cache_hall::hall::{Hall, HallEntry};
+use catalog::catalogue::Catalogue;
+use clock::clock::Clock;
+use command_setup::prepared::both_read;
+use disk_model::disk::Disk;
+use durable_cabinet::durable::Cabinet;
+use exact_ratio::words::Words;
+use hall_sessions::world::World;
+use http_wire::streams::ByteSource;
+use std::alloc::{AllocError, Global};
+use turnstile::pass::Pass;
+use wmts_rest::table::RestTable;
+
+/// How many passes a server has: one for each worker, and one for the upkeep.
+pub(crate) const PASSES: u32 = 5;
+
+/// What is served, and the passes of it.
+#[derive(Drop)]
+pub(crate) struct Stage<K: Keeper> {
+    pub(crate) world: World<K>,
+    pub(crate) passes: Vec<Pass<CabinetChest<K>>>,
+}
+
+/// Opens the cabinet of a disk.
+fn cabinet_of<D: Disk>(
+    alloc: Global,
+    catalogue: Catalogue,
+    clock: Clock,
+    disk: D,
+) -> Result<Cabinet<D>, ServerEnd>
+    requires valid { IsValid catalogue }
+    requires ours { IsTrue (D.told disk) → IsOurs catalogue (D.state disk).seen }
+    ensures of { IfOk result (λ k. k.state.catalogue ≡ catalogue) }
+    ensures refused { IfErr result (λ end. Refuses (record { disk = disk; told = D.told disk; seen = (D.state disk).seen; faults = D.faults }) catalogue end) }
+{
+    match Cabinet::open(alloc, catalogue, clock, disk) {
+        Ok(cabinet) => Ok(cabinet),
+        Err(refusal) => {
+            let (fault, left) = refusal;
+            drop(left);
+            Err(end_of_opening(fault))
+        }
+    }
+}
+
+/// A world over a cabinet, with its capabilities document, and the passes of it. The passes aren't told that the cabinet is sound.
+fn world_of<K: Keeper>(
+    alloc: Global,
+    rest: RestTable,
+    capabilities: Words,
+    keeper: K,
+) -> Result<Stage<K>, AllocError>
+    ensures catalogue { IfOk result (λ o. o.world.hall.catalogue ≡ (K.state keeper).catalogue) }
+    ensures count { IfOk result (λ o. length o.passes.items ≡ PASSES) }
+    ensures own { IfOk result (λ o. All (IsUntold o.world.hall.turnstile.table o.world.hall.catalogue) o.passes.items) }
+{
+    match Hall::make(alloc, keeper, PASSES) {
+        Err(fault) => Err(fault),
+        Ok(HallEntry { hall, passes }) => Ok(Stage {
+            world: World {
+                hall,
+                rest,
+                capabilities,
+            },
+            passes: passes.into_vec(),
+        }),
+    }
+}
+
+/// Opens the cabinet of a disk and makes a world over it.
+fn world_on<D: Disk>(
+    alloc: Global,
+    catalogue: Catalogue,
+    capabilities: Words,
+    clock: Clock,
+    disk: D,
+) -> Result<Stage<Cabinet<D>>, ServerEnd>
+    requires valid { IsValid catalogue }
+    requires ours { IsTrue (D.told disk) → IsOurs catalogue (D.state disk).seen }
+    ensures valid { IfOk result (λ o. IsValid o.world.hall.catalogue) }
+    ensures count { IfOk result (λ o. length o.passes.items ≡ PASSES) }
+    ensures own { IfOk result (λ o. All (IsUntold o.world.hall.turnstile.table o.world.hall.catalogue) o.passes.items) }
+    ensures refused { IfErr result (λ end. Refuses (record { disk = disk; told = D.told disk; seen = (D.state disk).seen; faults = D.faults }) catalogue end) }
+{
+    let Ok(rest) = RestTable::new(alloc) else {
+        return Err(ServerEnd::OutOfMemory);
+    };
+    let cabinet = match cabinet_of(alloc, catalogue, clock, disk) {
+        Ok(cabinet) => cabinet,
+        Err(end) => return Err(end),
+    };
+    match world_of(alloc, rest, capabilities, cabinet) {
+        Ok(stage) => Ok(stage),
+        Err(_) => Err(ServerEnd::OutOfMemory),
+    }
+}
+
+/// Reads the catalogue and the capabilities document, opens the cabinet of the disk, and makes a world over it.
+pub(crate) fn made_ready<D: Disk, I: ByteSource>(
+    alloc: Global,
+    catalogue: &mut I,
+    capabilities: &mut I,
+    clock: Clock,
+    disk: D,
+) -> Result<Stage<Cabinet<D>>, ServerEnd>
+    requires { HoldsFile (I.left catalogue.old) (D.told disk) (D.state disk).seen }
+    ensures valid { IfOk result (λ o. IsValid o.world.hall.catalogue) }
+    ensures count { IfOk result (λ o. length o.passes.items ≡ PASSES) }
+    ensures own { IfOk result (λ o. All (IsUntold o.world.hall.turnstile.table o.world.hall.catalogue) o.passes.items) }
+    ensures ready { IfOk result (λ o. IsReady
+        (record { reads = counts (I.faults catalogue.old) (I.faults catalogue.new); from = I.left catalogue.old; to = I.left catalogue.new })
+        (record { reads = counts (I.faults capabilities.old) (I.faults capabilities.new); from = I.left capabilities.old; to = I.left capabilities.new })) }
+    ensures refused { IfErr result (λ end. IsUnready
+        (record { reads = counts (I.faults catalogue.old) (I.faults catalogue.new); from = I.left catalogue.old; to = I.left catalogue.new })
+        (record { reads = counts (I.faults capabilities.old) (I.faults capabilities.new); from = I.left capabilities.old; to = I.left capabilities.new })
+        (record { disk = disk; told = D.told disk; seen = (D.state disk).seen; faults = D.faults })
+        (capabilities.new ≡ capabilities.old) end) }
+{
+    match both_read(alloc, catalogue, capabilities) {
+        Ok((read, document)) => world_on(alloc, read, document, clock, disk),
+        Err(refusal) => Err(end_of_refusal(refusal)),
+    }
+}
