@@ -42,7 +42,7 @@ impl<R: Wait + Clock + Net + Copy + Drop> TcpAccept<R> {
         })
     }
 
-    /// The port on which it listens.
+    /// The port on which it listens. An error where the system can't tell it.
     pub fn port(&self) -> io::Result<u16> {
         Ok(self.lobby.socket.local_addr()?.port())
     }
