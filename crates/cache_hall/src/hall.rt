@@ -4,6 +4,7 @@ use cabinet::keeper::Keeper;
 use cabinet_chest::chest::CabinetChest;
 use catalog::catalogue::Catalogue;
 use exact_ratio::items::Items;
+use std::sync::Wait;
 use turnstile::pass::Pass;
 use turnstile::turnstile::Turnstile;
 
@@ -12,8 +13,8 @@ use turnstile::turnstile::Turnstile;
 pub struct Hall<K: Keeper> {
     pub catalogue: Catalogue,
     pub turnstile: Turnstile<CabinetChest<K>>,
-    /// Rung where a render ends or a truncation is done, for those that wait for a render of their metatile.
-    pub(crate) ended: Bell,
+    /// Rung where a render ends or a truncation is done, for those that wait for a render of their metatile and for who keeps quotas.
+    pub(crate) changes: Bell,
 }
 
 /// A hall, and passes of it.
@@ -21,4 +22,21 @@ pub struct Hall<K: Keeper> {
 pub struct HallEntry<K: Keeper> {
     pub hall: Hall<K>,
     pub passes: Items<Pass<CabinetChest<K>>>,
+}
+
+impl<K: Keeper> Hall<K> {
+    /// How often something may have been kept, dropped or truncated. To be read before the look after which the caller may rest.
+    pub fn changes(&self) -> u64 {
+        self.changes.rings()
+    }
+
+    /// Sleeps until something may have been kept, dropped or truncated, unless it was since `heard` was read.
+    pub fn rest<R: Wait>(&self, rt: &R, heard: u64) {
+        self.changes.sleep(rt, heard);
+    }
+
+    /// Wakes all that rest.
+    pub fn wake<R: Wait>(&self, rt: &R) {
+        self.changes.ring_all(rt);
+    }
 }

@@ -37,7 +37,7 @@ impl<K: Keeper> Hall<K> {
                 hall: Hall {
                     catalogue,
                     turnstile,
-                    ended: Bell::new(),
+                    changes: Bell::new(),
                 },
                 passes,
             }),
@@ -54,7 +54,7 @@ impl<K: Keeper> Hall<K> {
         let Hall {
             catalogue,
             turnstile,
-            ended,
+            changes,
         } = self;
         match turnstile.close(passes) {
             Ok(CabinetChest { keeper }) => Ok(keeper),
@@ -62,7 +62,7 @@ impl<K: Keeper> Hall<K> {
                 hall: Hall {
                     catalogue,
                     turnstile,
-                    ended,
+                    changes,
                 },
                 passes,
             }),

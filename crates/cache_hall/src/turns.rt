@@ -57,7 +57,7 @@ pub(crate) fn finish<R: Wait, K: Keeper>(
     let reply = hall
         .turnstile
         .turn_plain(rt, pass, Command::Finish(ticket, blob));
-    hall.ended.ring_all(rt);
+    hall.wake(rt);
     match reply {
         Reply::Finished(finished) => finished,
         _ => unreachable!(),
@@ -78,7 +78,7 @@ pub(crate) fn abandon<R: Wait, K: Keeper>(
     let reply = hall
         .turnstile
         .turn_plain(rt, pass, Command::Abandon(ticket));
-    hall.ended.ring_all(rt);
+    hall.wake(rt);
     match reply {
         Reply::Abandoned => {}
         _ => unreachable!(),
@@ -104,7 +104,7 @@ pub(crate) fn cut<R: Wait, K: Keeper>(
         Err(fault) => return Err(fault),
         Ok(reply) => reply,
     };
-    hall.ended.ring_all(rt);
+    hall.wake(rt);
     match reply {
         Reply::Cut(done) => Ok(done),
         _ => unreachable!(),

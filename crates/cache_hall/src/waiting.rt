@@ -28,10 +28,10 @@ pub(crate) fn ask_until<R: Wait, K: Keeper>(
     ensures of { IsPassOf hall.now.turnstile.table hall.now.catalogue pass.new }
 {
     'asking: for _ in rt.forever() {
-        let heard = hall.ended.rings();
+        let heard = hall.changes();
         match ask(rt, alloc, hall, pass, address) {
             Err(fault) => return Err(fault),
-            Ok(Asked::Busy(_)) => hall.ended.sleep(rt, heard),
+            Ok(Asked::Busy(_)) => hall.rest(rt, heard),
             Ok(Asked::Hit(number, bytes)) => return Ok(Asked::Hit(number, bytes)),
             Ok(Asked::Ticket(ticket)) => return Ok(Asked::Ticket(ticket)),
             Ok(Asked::Spent) => return Ok(Asked::Spent),

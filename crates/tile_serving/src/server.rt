@@ -12,7 +12,7 @@ use crate::crossing::is_shared;
 use crate::ends::ServerEnd;
 use crate::queue::LinkQueue;
 use crate::setup::{Stage, made_ready};
-use crate::upkeep::{Calls, keep_up};
+use crate::upkeep::{Shift, keep_up};
 use crate::workers::{Crew, Worker, crew_of, work};
 use cabinet::keeper::Keeper;
 use cabinet_chest::chest::CabinetChest;
@@ -39,7 +39,7 @@ fn work_all<R: Threads + Wait + Sync, K: Keeper + Send, S: Source + Send, L: Lin
     alloc: Global,
     world: &World<K>,
     queue: &LinkQueue<L>,
-    calls: &Calls,
+    shift: &Shift,
     workers: &mut [Worker<K, S>],
 )
     requires valid { IsValid world.now.hall.catalogue }
@@ -53,9 +53,9 @@ fn work_all<R: Threads + Wait + Sync, K: Keeper + Send, S: Source + Send, L: Lin
         WORKERS,
         &|_, worker: &mut Worker<K, S>|
             requires { IsValid world.now.hall.catalogue × IsUntold world.now.hall.turnstile.table world.now.hall.catalogue worker.old.pass }
-        { work(rt, alloc, world, queue, calls, worker) },
+        { work(rt, alloc, world, queue, worker) },
     );
-    calls.end(rt);
+    shift.end(rt, &world.hall);
 }
 
 /// Serves links until no more come, and keeps the cache up meanwhile.
@@ -64,7 +64,7 @@ fn serve_all<R: Threads + Wait + Sync, K: Keeper + Send, S: Source + Send, L: Li
     alloc: Global,
     world: &World<K>,
     queue: &LinkQueue<L>,
-    calls: &Calls,
+    shift: &Shift,
     workers: &mut [Worker<K, S>],
     upkeep: &mut Pass<CabinetChest<K>>,
 )
@@ -77,10 +77,10 @@ fn serve_all<R: Threads + Wait + Sync, K: Keeper + Send, S: Source + Send, L: Li
         rt,
         ||
             requires { IsUntold hall.now.turnstile.table hall.now.catalogue upkeep.now }
-        { keep_up(rt, hall, calls, upkeep) },
+        { keep_up(rt, hall, shift, upkeep) },
         ||
             requires { IsValid world.now.hall.catalogue × All (λ w. IsUntold world.now.hall.turnstile.table world.now.hall.catalogue w.pass) workers.now }
-        { work_all(rt, alloc, world, queue, calls, workers) },
+        { work_all(rt, alloc, world, queue, shift, workers) },
     );
 }
 
@@ -104,15 +104,15 @@ where
 {
     // The table of routes holds a tree, of which proofs have to be told that threads may share it.
     is_shared::<RestTable>();
-    let calls = Calls::new();
-    let calls = &calls;
+    let shift = Shift::new();
+    let shift = &shift;
     let Crew { workers, upkeep } = crew;
     let workers = workers.as_mut_slice();
     let ((), all) = join_mut(
         rt,
         &mut ||
             requires { IsValid world.now.hall.catalogue × All (λ w. IsUntold world.now.hall.turnstile.table world.now.hall.catalogue w.pass) workers.now × IsUntold world.now.hall.turnstile.table world.now.hall.catalogue upkeep.now }
-        { serve_all(rt, alloc, world, queue, calls, workers, upkeep) },
+        { serve_all(rt, alloc, world, queue, shift, workers, upkeep) },
         &mut || -> bool
             ensures { MatchBool result (N.given listener.exit.now ≡ N.given listener.entry.now + connections) (Rose (N.faults listener.entry.now) (N.faults listener.exit.now)) }
         { accept_all(rt, connections, queue, listener) },

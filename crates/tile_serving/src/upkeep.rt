@@ -2,7 +2,6 @@
 ghost use Rattle.std.specs.Prelude.{◌≡◌};
 ghost use Rattle.cache_hall.specs.Turned.{IsPassOf};
 
-use bell::Bell;
 use cabinet::keeper::Keeper;
 use cabinet::replies::{Expired, Saved};
 use cabinet_chest::chest::CabinetChest;
@@ -12,32 +11,24 @@ use std::sync::Wait;
 use std::sync::atomic::{AtomicBool, Ordering};
 use turnstile::pass::Pass;
 
-/// What tells the upkeep that there may be something to do.
+/// What tells the upkeep that no more links come.
 #[derive(Drop)]
-pub(crate) struct Calls {
-    /// Rung where a metatile may have been kept, where a session ended, and where all have ended.
-    bell: Bell,
-    ended: AtomicBool,
+pub(crate) struct Shift {
+    is_over: AtomicBool,
 }
 
-impl Calls {
-    /// No call yet.
-    pub(crate) fn new() -> Calls {
-        Calls {
-            bell: Bell::new(),
-            ended: AtomicBool::new(false),
+impl Shift {
+    /// A shift that goes on.
+    pub(crate) fn new() -> Shift {
+        Shift {
+            is_over: AtomicBool::new(false),
         }
     }
 
-    /// Calls the upkeep.
-    pub(crate) fn call<R: Wait>(&self, rt: &R) {
-        self.bell.ring_one(rt);
-    }
-
-    /// Calls it a last time.
-    pub(crate) fn end<R: Wait>(&self, rt: &R) {
-        self.ended.store(true, Ordering::SeqCst);
-        self.bell.ring_all(rt);
+    /// Ends it, and wakes the upkeep a last time.
+    pub(crate) fn end<R: Wait, K: Keeper>(&self, rt: &R, hall: &Hall<K>) {
+        self.is_over.store(true, Ordering::SeqCst);
+        hall.wake(rt);
     }
 }
 
@@ -69,24 +60,27 @@ fn save_all<R: Wait, K: Keeper>(rt: &R, hall: &Hall<K>, pass: &mut Pass<CabinetC
     unreachable!()
 }
 
-/// Keeps the cache up at each call, and sleeps between them, until the last one.
+/// Keeps the cache up: where something may have changed, and where a session ended, metatiles are dropped until no quota is exceeded, and
+/// the uses of one metatile are saved; between these it sleeps. So no more records of uses are written than tiles are rendered and
+/// sessions end. At the end all uses are saved.
 pub(crate) fn keep_up<R: Wait, K: Keeper>(
     rt: &R,
     hall: &Hall<K>,
-    calls: &Calls,
+    shift: &Shift,
     pass: &mut Pass<CabinetChest<K>>,
 )
     requires { IsPassOf hall.now.turnstile.table hall.now.catalogue pass.old }
 {
     'keeping: for _ in rt.forever() {
-        let heard = calls.bell.rings();
-        let ended = calls.ended.load(Ordering::SeqCst);
+        let heard = hall.changes();
+        let is_over = shift.is_over.load(Ordering::SeqCst);
         expire_all(rt, hall, pass);
-        save_all(rt, hall, pass);
-        if ended {
+        if is_over {
+            save_all(rt, hall, pass);
             return;
         }
-        calls.bell.sleep(rt, heard);
+        let _ = save_uses_once(rt, hall, pass);
+        hall.rest(rt, heard);
     }
     unreachable!()
 }

@@ -6,7 +6,6 @@ ghost use Rattle.catalog.specs.declared.catalogue.Catalogue.{Catalogue};
 ghost use Rattle.tile_serving.specs.Crew.{IsUntold};
 
 use crate::queue::LinkQueue;
-use crate::upkeep::Calls;
 use cabinet::keeper::Keeper;
 use cabinet_chest::chest::CabinetChest;
 use hall_sessions::session::serve_session;
@@ -30,7 +29,6 @@ pub(crate) fn work<R: Wait, K: Keeper, S: Source, L: Link>(
     alloc: Global,
     world: &World<K>,
     queue: &LinkQueue<L>,
-    calls: &Calls,
     worker: &mut Worker<K, S>,
 )
     requires valid { IsValid world.now.hall.catalogue }
@@ -50,7 +48,7 @@ pub(crate) fn work<R: Wait, K: Keeper, S: Source, L: Link>(
             &mut link,
         );
         drop(link);
-        calls.call(rt);
+        world.hall.wake(rt);
     }
     unreachable!()
 }
