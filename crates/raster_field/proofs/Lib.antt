@@ -2,3 +2,4 @@ pub mod Metas
 pub mod Pieces
 pub mod Splices
 pub mod Windows
+pub mod Firsts

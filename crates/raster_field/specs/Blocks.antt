@@ -1,5 +1,5 @@
 -- Metatiles in the terms of a catalogue: which one holds a tile, and what its blob is.
-use Rattle.std.specs.Prelude.{ℕ, List, [], take, drop, IsSome, IsSomeAnd, Contains}
+use Rattle.std.specs.Prelude.{ℕ, ◌*◌, List, [], take, drop, IsSome, IsSomeAnd, Contains}
 use Rattle.std.specs.List.{flat_map, range_with_len}
 use Rattle.std.specs.Option.{option_map_or}
 use Rattle.catalog.specs.declared.catalogue.Catalogue.{Catalogue}
@@ -44,6 +44,10 @@ blob_size c m = option_map_or (λ x. blob_len (factors_at c m.theme) x m) (matri
 
 abbrev pub tile_in : MetaKey → ℕ → ℕ → Address
 tile_in m row col = record { theme = m.theme; grid = m.grid; z = m.z; row = row; col = col }
+
+-- the first tile of a metatile: the one at the upper left of its block
+abbrev pub first_tile : Catalogue → MetaKey → Address
+first_tile c m = tile_in m (m.row * (factors_at c m.theme).y) (m.col * (factors_at c m.theme).x)
 
 -- the encoded tiles in one row of a block, from the left
 abbrev pub row_text : Catalogue → ℕ → MetaKey → ℕ → ℕ → ℕ → List ℕ

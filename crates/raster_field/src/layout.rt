@@ -4,7 +4,7 @@ ghost use Rattle.catalog.specs.LookUp.{IsTile, matrix_in};
 ghost use Rattle.catalog.specs.Valid.{IsValid};
 ghost use Rattle.matrix_geometry.specs.Limits.{IsWithinLimits};
 ghost use Rattle.metatile_plan.specs.Plan.{IsMetaIn, IsPlan};
-ghost use Rattle.raster_field.specs.Blocks.{IsMeta, blob_size, block_of, factors_at, factors_of};
+ghost use Rattle.raster_field.specs.Blocks.{IsMeta, blob_size, block_of, factors_at, factors_of, first_tile};
 ghost use Rattle.raster_field.specs.Rasters.{IsWindowOf, window_in};
 
 use catalog::catalogue::Catalogue;
@@ -60,6 +60,24 @@ pub fn block_of(catalogue: &Catalogue, address: &Address) -> MetaKey
 {
     let layer = catalogue.layer_of(&address.theme);
     meta_of(address, &factors_of(layer))
+}
+
+/// The first tile of a metatile of the catalogue: the one at the upper left of its block.
+pub fn first_tile(catalogue: &Catalogue, meta: &MetaKey) -> Address
+    requires valid { IsValid catalogue.now }
+    requires meta { IsMeta catalogue.now meta.now }
+    ensures first { result ≡ first_tile catalogue.now meta.now }
+    ensures tile { IsTile catalogue.now result }
+    ensures block { block_of catalogue.now result ≡ meta.now }
+{
+    let layout = layout_of(catalogue, meta);
+    Address {
+        theme: meta.theme,
+        grid: meta.grid,
+        z: meta.z,
+        row: meta.row * layout.factors.y,
+        col: meta.col * layout.factors.x,
+    }
 }
 
 /// The bytes of a blob of a metatile of the catalogue.
