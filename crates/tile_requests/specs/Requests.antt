@@ -105,6 +105,8 @@ is_made outcome.CutSpent = false
 is_made (outcome.Unformed fault) = true
 is_made (outcome.Dropped text) = false
 is_made outcome.Within = false
+is_made (outcome.Job text) = false
+is_made outcome.BoardFull = false
 is_made outcome.DiskFault = false
 is_made outcome.NoMemory = false
 
@@ -186,6 +188,8 @@ tile_in outcome.CutSpent = None
 tile_in (outcome.Unformed fault) = None
 tile_in (outcome.Dropped text) = None
 tile_in outcome.Within = None
+tile_in (outcome.Job text) = None
+tile_in outcome.BoardFull = None
 tile_in outcome.DiskFault = None
 tile_in outcome.NoMemory = None
 

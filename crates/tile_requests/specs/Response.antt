@@ -10,7 +10,7 @@ use Rattle.job_forms.specs.declared.fault.JobFault.TheVariants.{NotJson, Missing
 use Rattle.job_forms.specs.declared.fault.JobField.{JobField}
 use Rattle.job_forms.specs.declared.fault.JobField.TheVariants as field
 use Rattle.tile_requests.specs.declared.outcome.Outcome.{Outcome}
-use Rattle.tile_requests.specs.declared.outcome.Outcome.TheVariants.{Tile, Document, Refused, NotFound, WrongMethod, SourceFailed, Spent, Usage, Cut, CutsFull, CutSpent, Unformed, Dropped, Within, DiskFault, NoMemory}
+use Rattle.tile_requests.specs.declared.outcome.Outcome.TheVariants.{Tile, Document, Refused, NotFound, WrongMethod, SourceFailed, Spent, Usage, Cut, CutsFull, CutSpent, Unformed, Dropped, Within, Job, BoardFull, DiskFault, NoMemory}
 use Rattle.tile_requests.specs.Texts.{within_text}
 
 -- THE PARTS OF A RESPONSE
@@ -132,6 +132,8 @@ parts_of document CutSpent = json 500 (codes "{\"fault\":\"numbers spent\"}\n")
 parts_of document (Unformed fault) = json 400 (fault_text (fault_kind fault) (field_of fault))
 parts_of document (Dropped text) = json 200 text
 parts_of document Within = json 200 within_text
+parts_of document (Job text) = json 200 text
+parts_of document BoardFull = json 409 (codes "{\"fault\":\"board full\"}\n")
 parts_of document DiskFault = json 500 (codes "{\"fault\":\"disk\"}\n")
 parts_of document NoMemory = bare 503
 

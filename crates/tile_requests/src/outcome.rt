@@ -35,6 +35,10 @@ pub enum Outcome {
     Dropped(Words),
     /// No quota is exceeded; nothing was dropped.
     Within,
+    /// What is told of a job of a server, as a JSON text.
+    Job(Words),
+    /// As many jobs wait at a server as may, or as many were submitted as ever may be.
+    BoardFull,
     /// The disk failed at a truncation or an expiry, which was not done.
     DiskFault,
     /// Memory ran out.

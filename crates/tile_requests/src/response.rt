@@ -162,6 +162,8 @@ pub fn parts_of<'a>(
         Outcome::Unformed(fault) => unformed(alloc, *fault),
         Outcome::Dropped(text) => Ok(borrowed(200, MediaType::Json, text.bytes())),
         Outcome::Within => Ok(borrowed(200, MediaType::Json, b"{\"within\":true}\n")),
+        Outcome::Job(text) => Ok(borrowed(200, MediaType::Json, text.bytes())),
+        Outcome::BoardFull => Ok(borrowed(409, MediaType::Json, b"{\"fault\":\"board full\"}\n")),
         Outcome::DiskFault => Ok(borrowed(500, MediaType::Json, b"{\"fault\":\"disk\"}\n")),
         Outcome::NoMemory => Ok(bare(503)),
     }

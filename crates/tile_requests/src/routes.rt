@@ -53,8 +53,8 @@ fn path_len(target: &[u8]) -> usize
     count
 }
 
-/// The path of a target.
-fn path_of(target: &[u8]) -> &[u8]
+/// The path of a target: what stands before its first `?`.
+pub fn path_of(target: &[u8]) -> &[u8]
     ensures { result.now ≡ path_of target.now }
 {
     let (path, _) = target.split_at(path_len(target));
