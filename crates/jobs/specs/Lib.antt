@@ -1,0 +1,4 @@
+pub mod Job
+pub mod Places
+pub mod Reading
+pub mod Themes
