@@ -1,2 +1,5 @@
-mod Pieces
 mod Members
+mod Pieces
+mod Products
+pub mod Values
+mod Wishes

@@ -35,6 +35,10 @@ range_length a (suc n) = ap suc (range_length (a + 1) n)
 pub get_below : (n i : ℕ) → i < n → slice_get (range_with_len 0 n) i ≡ Some i
 get_below n i l = let d : 0 + i ≡ i = omega arith in get_range 0 n i l ∙ ap Some d
 
+pub map_length : {A B : Type 0} (f : A → B) (xs : List A) → length (map f xs) ≡ length xs
+map_length f [] = refl
+map_length f (x ∷ xs) = ap suc (map_length f xs)
+
 -- PIECES OF ONE LENGTH
 
 pub pieces_length : {X A : Type 0} (f : X → List A) (n : ℕ) → ((x : X) → length (f x) ≡ n) → (xs : List X) → length (flat_map f xs) ≡ length xs * n

@@ -2,3 +2,4 @@ pub mod Job
 pub mod Places
 pub mod Reading
 pub mod Themes
+pub mod Wanted

@@ -8,3 +8,5 @@
 #![tactic(auto)]
 
 pub mod job;
+mod themes;
+mod wanted;
