@@ -1,5 +1,6 @@
 mod Members
+mod Patches
 mod Pieces
 mod Products
-pub mod Values
+mod Values
 mod Wishes

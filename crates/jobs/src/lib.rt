@@ -8,5 +8,6 @@
 #![tactic(auto)]
 
 pub mod job;
+mod metas;
 mod themes;
 mod wanted;
