@@ -4,3 +4,4 @@ mod Pieces
 mod Products
 mod Values
 mod Wishes
+mod ZoomSteps

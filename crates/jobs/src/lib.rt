@@ -11,3 +11,4 @@ pub mod job;
 mod metas;
 mod themes;
 mod wanted;
+mod zooms;
