@@ -1,3 +1,5 @@
+mod Choices
+mod CoveredMetas
 mod Members
 mod Patches
 mod Pieces

@@ -11,12 +11,12 @@ use Rattle.jobs.proofs.Pieces.{get_back, get_front}
 
 -- WHICH MATRICES THERE ARE
 
-within_some : {A : Type 0} (xs : List A) (i : ℕ) → IsSome (slice_get xs i) → i < length xs
+pub within_some : {A : Type 0} (xs : List A) (i : ℕ) → IsSome (slice_get xs i) → i < length xs
 within_some [] i s = absurd (cc)
 within_some (x ∷ xs) zero s = omega arith
 within_some (x ∷ xs) (suc i) s = let h = within_some xs i s in omega (arith, h)
 
-all_at : {A : Type 0} (P : A → Type 0) (xs : List A) (i : ℕ) (x : A) → AllByRecursion P xs → slice_get xs i ≡ Some x → P x
+pub all_at : {A : Type 0} (P : A → Type 0) (xs : List A) (i : ℕ) (x : A) → AllByRecursion P xs → slice_get xs i ≡ Some x → P x
 all_at P [] i x all e = absurd (cc)
 all_at P (y ∷ ys) zero x all e = let d : y ≡ x = cc in subst P d all.0
 all_at P (y ∷ ys) (suc i) x all e = all_at P ys i x all.1 e

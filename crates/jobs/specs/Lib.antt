@@ -1,3 +1,4 @@
+pub mod Covered
 pub mod Job
 pub mod Places
 pub mod Reading
