@@ -100,7 +100,7 @@ pub record IsInPatch (theme : Theme) (grid z : ℕ) (r : Range) (k : MetaKey) : 
   pub col_max : col ≤ r.col_max
   pub same : record { theme = theme; grid = grid; z = z; row = row; col = col } ≡ k
 
-patch_has : (theme : Theme) (grid z : ℕ) (r : Range) (k : MetaKey) → Has (metas_in theme grid z r) k → IsInPatch theme grid z r k
+pub patch_has : (theme : Theme) (grid z : ℕ) (r : Range) (k : MetaKey) → Has (metas_in theme grid z r) k → IsInPatch theme grid z r k
 unfolding metas_in
 patch_has theme grid z r k h =
     let p = flat_has (metas_in_row theme grid z r) (from_to r.row_min r.row_max) k h in
@@ -141,7 +141,7 @@ unfolding metas_at
 tiles_metas c cover z m t em et =
     ap (λ (o : Option Matrix). option_and_then (λ m. option_map (gathered (factors_for c cover)) (tiles_within cover.bounds m)) o) em ∙ ap (λ (o : Option Range). option_map (gathered (factors_for c cover)) o) et
 
-any_has : (theme : Theme) (grid z : ℕ) (o : Option Range) (k : MetaKey) → Has (metas_in_any theme grid z o) k → (r : Range) × (o ≡ Some r) × Has (metas_in theme grid z r) k
+pub any_has : (theme : Theme) (grid z : ℕ) (o : Option Range) (k : MetaKey) → Has (metas_in_any theme grid z o) k → (r : Range) × (o ≡ Some r) × Has (metas_in theme grid z r) k
 any_has theme grid z None k h = absurd h
 any_has theme grid z (Some r) k h = (r, refl, h)
 

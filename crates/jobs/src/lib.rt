@@ -8,7 +8,9 @@
 #![tactic(auto)]
 
 pub mod job;
+pub mod laws;
 mod metas;
+pub mod places;
 mod themes;
 mod wanted;
 mod zooms;
