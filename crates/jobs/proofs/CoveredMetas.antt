@@ -1,13 +1,13 @@
 -- The metatiles of a cover are those of which it covers a tile.
-use Rattle.std.proofs.Common.{◌≡◌, ℕ, ◌+◌, ◌-◌, ◌*◌, ◌/◌, ◌≤◌, ◌<◌, ◌&&◌, ◌==◌, max, List, [], ◌∷◌, length, map, Bool, true, false, Option, Some, None, IsTrue, slice_get, option_map, refl, sym, ap, subst, ◌∙◌, arith}
-use Rattle.std.specs.Prelude.{Contains, IfSome, IsSome, IsSomeAnd, nat_le, option_and_then}
+use Rattle.std.proofs.Common.{◌≡◌, ℕ, ◌+◌, ◌-◌, ◌*◌, ◌/◌, ◌≤◌, ◌<◌, ◌==◌, max, length, false, Option, Some, None, IsTrue, slice_get, option_map, refl, sym, ap, subst, ◌∙◌, arith}
+use Rattle.std.specs.Prelude.{Contains, IsSomeAnd, nat_le, option_and_then}
 use Rattle.std.specs.Option.{option_map_or}
 use Rattle.std.proofs.Math.Nat.{div-mul-le_self, mul-le-mul_right}
 use Rattle.std.proofs.lemmas.Nat.{div-mul-add}
 use Rattle.catalog.specs.declared.catalogue.Catalogue.{Catalogue}
 use Rattle.catalog.specs.declared.grid.Grid.{Grid}
 use Rattle.catalog.specs.declared.layer.Layer.{Layer}
-use Rattle.catalog.specs.LookUp.{IsTile, layer_of, matrix_in, matrix_of}
+use Rattle.catalog.specs.LookUp.{IsTile, matrix_in, matrix_of}
 use Rattle.catalog.specs.Valid.{IsGrid, IsLayer, IsValid}
 use Rattle.matrix_geometry.specs.declared.address.Address.{Address}
 use Rattle.matrix_geometry.specs.declared.boxes.Box9.{Box9}
@@ -17,18 +17,17 @@ use Rattle.matrix_geometry.specs.declared.theme.Theme.{Theme}
 use Rattle.matrix_geometry.specs.Admits.{admits}
 use Rattle.matrix_geometry.specs.Geometry.{cols_of, range_between, range_of, rows_of}
 use Rattle.matrix_geometry.specs.Limits.{IsWithinLimits}
-use Rattle.matrix_geometry.specs.Ranges.{IsRangeOf, is_in_range, is_in_some_range}
+use Rattle.matrix_geometry.specs.Ranges.{IsRangeOf, is_in_some_range}
 use Rattle.matrix_geometry.proofs.Ranges.{range_inside}
 use Rattle.metatile_plan.specs.declared.metatile.Factors.{Factors}
 use Rattle.metatile_plan.specs.declared.metatile.MetaKey.{MetaKey}
-use Rattle.metatile_plan.specs.Plan.{IsPlan}
-use Rattle.raster_field.specs.Blocks.{IsMeta, block_of, factors_at, factors_of}
+use Rattle.raster_field.specs.Blocks.{block_of, factors_at, factors_of}
 use Rattle.served_covers.specs.OfCatalogue.{IsCoverOf}
 use Rattle.truncation_list.specs.declared.cover.Cover.{Cover}
 use Rattle.truncation_list.specs.Covers.{covers, is_in_bounds, is_in_zoom}
 use Rattle.truncation_list.proofs.Decided.{both, eq_is, five, is_eq, is_le, join, join_five, le_is}
 use Rattle.truncation_list.proofs.Tiles.{Lies, in_range_lies, lies_in_range}
-use Rattle.jobs.specs.Covered.{CoversTileOf, covers_in}
+use Rattle.jobs.specs.Covered.{CoversTileOf}
 use Rattle.jobs.specs.Places.{factors_for, from_to, gathered, metas_at, metas_in, metas_in_any, metas_in_row, metas_of, metas_on, metatiles, tiles_within, whole}
 use Rattle.jobs.specs.Themes.{themes}
 use Rattle.jobs.proofs.Choices.{IsChosen, admits_chosen, chosen_admits, chosen_length, chosen_style, chosen_themes, chosen_values, themes_chosen}

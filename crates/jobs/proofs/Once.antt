@@ -1,5 +1,5 @@
 -- No metatile stands in the list of a cover twice.
-use Rattle.std.proofs.Common.{◌≡◌, ℕ, ◌+◌, ◌-◌, List, [], ◌∷◌, map, Option, Some, None, refl, sym, ap, ◌∙◌, arith}
+use Rattle.std.proofs.Common.{◌≡◌, ℕ, ◌+◌, ◌-◌, List, [], ◌∷◌, Option, Some, None, sym, ap, ◌∙◌}
 use Rattle.catalog.specs.declared.catalogue.Catalogue.{Catalogue}
 use Rattle.matrix_geometry.specs.declared.boxes.Range.{Range}
 use Rattle.matrix_geometry.specs.declared.theme.Theme.{Theme}
@@ -8,7 +8,7 @@ use Rattle.truncation_list.specs.declared.cover.Cover.{Cover}
 use Rattle.jobs.specs.Places.{from_to, metas_at, metas_in, metas_in_any, metas_in_row, metas_of, metas_on, metatiles}
 use Rattle.jobs.specs.Themes.{styles_of, themes, themes_with, values_from}
 use Rattle.jobs.specs.Wanted.{wanted_of}
-use Rattle.jobs.proofs.CoveredMetas.{IsInPatch, any_has, patch_has}
+use Rattle.jobs.proofs.CoveredMetas.{any_has, patch_has}
 use Rattle.jobs.proofs.Members.{Has, IsApart, apart_flat, apart_map, apart_range, flat_has, map_has}
 use Rattle.jobs.proofs.Values.{rows_with, wanted_at}
 

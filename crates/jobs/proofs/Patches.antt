@@ -1,5 +1,5 @@
 -- How many metatiles stand in rows and columns, and which of them at a place.
-use Rattle.std.proofs.Common.{◌≡◌, ℕ, ◌+◌, ◌-◌, ◌*◌, ◌/◌, ◌%◌, ◌≤◌, ◌<◌, List, length, map, Option, Some, None, slice_get, option_map, refl, sym, ap, subst, ◌∙◌, arith}
+use Rattle.std.proofs.Common.{◌≡◌, ℕ, ◌+◌, ◌-◌, ◌*◌, ◌/◌, ◌%◌, ◌≤◌, ◌<◌, length, Option, Some, slice_get, option_map, ap, subst, ◌∙◌, arith}
 use Rattle.std.proofs.lemmas.Nat.{div-add-mod', div_below, le-div}
 use Rattle.std.proofs.Math.Nat.{div-le_self, div-mul-le_self}
 use Rattle.catalog.specs.declared.catalogue.Catalogue.{Catalogue}
@@ -11,10 +11,9 @@ use Rattle.matrix_geometry.specs.declared.theme.Theme.{Theme}
 use Rattle.matrix_geometry.specs.Limits.{IsWithinLimits}
 use Rattle.matrix_geometry.specs.Ranges.{IsRangeOf}
 use Rattle.metatile_plan.specs.declared.metatile.Factors.{Factors}
-use Rattle.metatile_plan.specs.declared.metatile.MetaKey.{MetaKey}
 use Rattle.raster_field.specs.Blocks.{factors_of}
 use Rattle.truncation_list.specs.declared.cover.Cover.{Cover}
-use Rattle.jobs.specs.Places.{IsPatch, from_to, gathered, metas_at, metas_in, metas_in_any, metas_in_row, tiles_within}
+use Rattle.jobs.specs.Places.{IsPatch, from_to, gathered, metas_at, metas_in, metas_in_row, tiles_within}
 use Rattle.jobs.proofs.Pieces.{get_map, get_piece, get_range, map_length, pieces_length, range_length}
 
 row_length : (theme : Theme) (grid z : ℕ) (r : Range) (row : ℕ) → length (metas_in_row theme grid z r row) ≡ r.col_max + 1 - r.col_min

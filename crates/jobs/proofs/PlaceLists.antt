@@ -1,5 +1,5 @@
 -- The places of a job, from the metatiles of its cover.
-use Rattle.std.proofs.Common.{◌≡◌, ℕ, ◌+◌, zero, suc, ◌*◌, ◌^◌, ◌/◌, ◌%◌, ◌≤◌, ◌<◌, ◌↔◌, inl, inr, List, [], ◌∷◌, length, map, Some, slice_get, refl, sym, ap, subst, ◌∙◌, arith}
+use Rattle.std.proofs.Common.{◌≡◌, ℕ, zero, suc, ◌*◌, ◌^◌, ◌/◌, ◌%◌, ◌≤◌, ◌<◌, inl, inr, [], ◌∷◌, length, map, Some, slice_get, refl, ap, subst, ◌∙◌, arith}
 use Rattle.std.specs.Prelude.{◌≢◌, Contains}
 use Rattle.std.proofs.Math.Nat.{mul-le-mul}
 use Rattle.std.proofs.lemmas.Nat.{div-add-mod', div_below}
@@ -7,7 +7,7 @@ use Rattle.catalog.specs.declared.catalogue.Catalogue.{Catalogue}
 use Rattle.catalog.specs.Valid.{AreDistinct, IsValid}
 use Rattle.matrix_geometry.specs.declared.theme.Theme.{Theme}
 use Rattle.metatile_plan.specs.declared.metatile.MetaKey.{MetaKey}
-use Rattle.raster_field.specs.Blocks.{IsMeta, block_of}
+use Rattle.raster_field.specs.Blocks.{IsMeta}
 use Rattle.raster_field.proofs.Metas.{tile_meta}
 use Rattle.served_covers.specs.OfCatalogue.{IsCoverOf}
 use Rattle.truncation_list.specs.declared.cover.Cover.{Cover}
@@ -15,7 +15,7 @@ use Rattle.jobs.specs.declared.job.Job.{Job}
 use Rattle.jobs.specs.declared.job.JobKind.{JobKind}
 use Rattle.jobs.specs.declared.job.JobKind.TheVariants.{Seed, Reseed, Truncate}
 use Rattle.jobs.specs.Covered.{CoversTileOf}
-use Rattle.jobs.specs.Places.{Cut, Metatile, Place, metas_of, metatiles, places, places_of}
+use Rattle.jobs.specs.Places.{Cut, Metatile, metas_of, metatiles, places, places_of}
 use Rattle.jobs.specs.Themes.{themes}
 use Rattle.jobs.proofs.CoveredMetas.{covered_metatiles, metatiles_covered}
 use Rattle.jobs.proofs.Members.{Has, IsApart, apart_map, contains_has, distinct, has_at, has_contains, has_map, map_has}

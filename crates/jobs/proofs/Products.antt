@@ -1,5 +1,5 @@
 -- How large products of small numbers are.
-use Rattle.std.proofs.Common.{ℕ, ◌*◌, ◌^◌, ◌≤◌, arith}
+use Rattle.std.proofs.Common.{ℕ, ◌*◌, ◌^◌, ◌≤◌}
 use Rattle.std.proofs.Math.Nat.{mul-le-mul}
 
 pub two_most : (c d : ℕ) → c ≤ 1024 → d ≤ 1024 → c * d ≤ 2 ^ 20

@@ -1,12 +1,10 @@
 -- How many themes a cover is for, and which of them stands at a place.
-use Rattle.std.proofs.Common.{◌≡◌, ℕ, suc, ◌+◌, ◌*◌, ◌/◌, ◌%◌, ◌≤◌, ◌<◌, List, [], ◌∷◌, length, get_or, map, Option, Some, None, slice_get, refl, sym, ap, subst, ◌∙◌, arith}
-use Rattle.std.specs.List.{flat_map}
+use Rattle.std.proofs.Common.{◌≡◌, ℕ, ◌+◌, ◌*◌, ◌/◌, ◌%◌, ◌<◌, List, [], ◌∷◌, length, get_or, map, Option, Some, None, slice_get, refl, sym, ap, subst, ◌∙◌, arith}
 use Rattle.std.proofs.Math.Arith.{mod-mul}
 use Rattle.std.proofs.Math.Nat.{div-div-eq-div-mul, mul_comm, mul-one}
 use Rattle.std.proofs.lemmas.Nat.{div-add-mod', div_below}
 use Rattle.catalog.specs.declared.catalogue.Catalogue.{Catalogue}
 use Rattle.catalog.specs.LookUp.{values_at}
-use Rattle.matrix_geometry.specs.declared.theme.Theme.{Theme}
 use Rattle.truncation_list.specs.declared.cover.Cover.{Cover}
 use Rattle.jobs.specs.Themes.{IsRowAt, styles_of, themes, themes_with, values_from}
 use Rattle.jobs.specs.Wanted.{IsPicked, wanted_of}

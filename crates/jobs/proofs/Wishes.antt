@@ -1,5 +1,5 @@
 -- How many numbers are wanted.
-use Rattle.std.proofs.Common.{◌≡◌, ℕ, ◌≤◌, length, Option, Some, None, sym, subst, arith}
+use Rattle.std.proofs.Common.{ℕ, ◌≤◌, length, Option, Some, None, arith}
 use Rattle.jobs.specs.Wanted.{wanted_of}
 use Rattle.jobs.proofs.Pieces.{range_length}
 

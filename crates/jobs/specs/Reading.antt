@@ -1,6 +1,6 @@
 -- The job of a text, or its first fault: first in the members of its cover, then in its own two, and at last in how many
 -- places it has.
-use Rattle.std.specs.Prelude.{ℕ, ◌≤◌, nat_le, ◌&&◌, if◌then◌else◌, List, length, Option, Some, None, option_and_then, ok_or, Ok, Err, codes, bytes_eq}
+use Rattle.std.specs.Prelude.{ℕ, nat_le, ◌&&◌, if◌then◌else◌, List, length, Option, Some, None, option_and_then, ok_or, Ok, Err, codes, bytes_eq}
 use Rattle.serde_json.specs.Data.{Data}
 use Rattle.serde_json.specs.Find.{as_str, get}
 use Rattle.json_forms.specs.Forms.{number_of, object_of}

@@ -11,6 +11,7 @@ pub mod job;
 pub mod laws;
 mod metas;
 pub mod places;
+pub mod reading;
 mod themes;
 mod wanted;
 mod zooms;

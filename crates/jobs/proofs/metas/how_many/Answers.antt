@@ -1,5 +1,3 @@
-use Rattle.std.proofs.Common.{◌≡◌, ◌*◌, length, sym, ap, ◌∙◌}
-use Rattle.jobs.specs.Places.{metas_in_any}
 use Rattle.jobs.proofs.Patches.{patch_length}
 use Rattle.jobs.proofs.metas.how_many.Goals as goal
 

@@ -1,5 +1,5 @@
-use Rattle.std.proofs.Common.{◌≡◌, ◌+◌, ◌-◌, ◌∙◌, arith}
-use Rattle.jobs.proofs.Patches.{across_most, down_most, patch_at}
+use Rattle.std.proofs.Common.{◌∙◌, arith}
+use Rattle.jobs.proofs.Patches.{down_most, patch_at}
 use Rattle.jobs.proofs.metas.meta_of.Goals as goal
 
 pub overflow_cast-result : goal.overflow_cast-result

@@ -1,4 +1,4 @@
-use Rattle.std.proofs.Common.{◌≡◌, sym}
+use Rattle.std.proofs.Common.{sym}
 use Rattle.jobs.proofs.PlaceLists.{metatiles_length}
 use Rattle.jobs.proofs.places.how_many_metatiles.Goals as goal
 

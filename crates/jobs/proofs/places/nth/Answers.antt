@@ -1,4 +1,4 @@
-use Rattle.std.proofs.Common.{◌≡◌, ◌<◌, ◌/◌, ◌%◌, arith}
+use Rattle.std.proofs.Common.{arith}
 use Rattle.jobs.proofs.PlaceLists.{found, some_each}
 use Rattle.jobs.proofs.places.nth.Goals as goal
 

@@ -1,5 +1,4 @@
-use Rattle.std.proofs.Common.{rules, ◌≡◌, ◌*◌, length, sym, ◌∙◌}
-use Rattle.jobs.specs.Themes.{themes}
+use Rattle.std.proofs.Common.{rules, ◌∙◌}
 use Rattle.jobs.specs.Wanted.{numbers}
 use Rattle.jobs.proofs.Values.{AreWanted, themes_product}
 use Rattle.jobs.proofs.themes.how_many_themes.Goals as goal

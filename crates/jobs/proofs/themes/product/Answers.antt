@@ -1,4 +1,4 @@
-use Rattle.std.proofs.Common.{ℕ, ◌*◌, ◌≤◌, ◌^◌, arith}
+use Rattle.std.proofs.Common.{arith}
 use Rattle.jobs.proofs.Products.{four_most, themes_most}
 use Rattle.jobs.proofs.themes.product.Goals as goal
 

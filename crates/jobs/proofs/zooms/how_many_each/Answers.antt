@@ -1,5 +1,4 @@
-use Rattle.std.proofs.Common.{◌≡◌, ◌+◌, ◌-◌, ◌*◌, ◌^◌, ◌≤◌, length, sym, ap, ◌∙◌, arith}
-use Rattle.matrix_geometry.specs.declared.theme.Theme.{Theme}
+use Rattle.std.proofs.Common.{◌≡◌, length, sym, ap, ◌∙◌, arith}
 use Rattle.jobs.specs.Places.{metas_in_any, metas_on}
 use Rattle.jobs.proofs.ZoomSteps.{counted_next}
 use Rattle.jobs.proofs.zooms.how_many_each.Goals as goal

@@ -1,4 +1,4 @@
-use Rattle.std.proofs.Common.{◌≡◌, ◌+◌, ◌-◌, ◌<◌, ◌≤◌, Some, length, slice_get, sym, ap, subst, ◌∙◌, arith}
+use Rattle.std.proofs.Common.{◌≡◌, Some, length, slice_get, sym, ap, ◌∙◌, arith}
 use Rattle.jobs.specs.Places.{metas_in_any, metas_on}
 use Rattle.jobs.proofs.ZoomSteps.{get_here, get_next, length_next}
 use Rattle.jobs.proofs.zooms.meta_at.Goals as goal
