@@ -1,0 +1,11 @@
+mod Choices
+mod CoveredMetas
+mod Members
+mod Once
+mod Patches
+mod Pieces
+mod PlaceLists
+mod Products
+mod Values
+mod Wishes
+mod ZoomSteps

@@ -1,0 +1,6 @@
+pub mod Covered
+pub mod Job
+pub mod Places
+pub mod Reading
+pub mod Themes
+pub mod Wanted
