@@ -1,11 +1,11 @@
 mod Choices
 mod CoveredMetas
 mod Members
+mod MetaRanges
 mod Once
-mod Patches
 mod Pieces
 mod PlaceLists
 mod Products
 mod Values
-mod Wishes
+mod WantedCounts
 mod ZoomSteps

@@ -5,10 +5,10 @@ use Rattle.matrix_geometry.specs.declared.boxes.Range.{Range}
 use Rattle.matrix_geometry.specs.declared.theme.Theme.{Theme}
 use Rattle.metatile_plan.specs.declared.metatile.MetaKey.{MetaKey}
 use Rattle.truncation_list.specs.declared.cover.Cover.{Cover}
-use Rattle.jobs.specs.Places.{from_to, metas_at, metas_in, metas_in_any, metas_in_row, metas_of, metas_on, metatiles}
+use Rattle.jobs.specs.Places.{from_to, metas_at, metas_in, metas_in_some, metas_in_row, metas_of, metas_on, metatiles}
 use Rattle.jobs.specs.Themes.{styles_of, themes, themes_with, values_from}
-use Rattle.jobs.specs.Wanted.{wanted_of}
-use Rattle.jobs.proofs.CoveredMetas.{any_has, patch_has}
+use Rattle.jobs.specs.Themes.{wanted_of}
+use Rattle.jobs.proofs.CoveredMetas.{some_has, metas_has}
 use Rattle.jobs.proofs.Members.{Has, IsApart, apart_flat, apart_map, apart_range, flat_has, map_has}
 use Rattle.jobs.proofs.Values.{rows_with, wanted_at}
 
@@ -58,31 +58,31 @@ its_row theme grid z r row k h =
 own_col : (theme : Theme) (grid z row x y : ℕ) → (let m : MetaKey = record { theme = theme; grid = grid; z = z; row = row; col = x } in m) ≡ record { theme = theme; grid = grid; z = z; row = row; col = y } → x ≡ y
 own_col theme grid z row x y e = ap (λ (m : MetaKey). m.col) e
 
-patch_apart : (theme : Theme) (grid z : ℕ) (r : Range) → IsApart (metas_in theme grid z r)
+metas_apart : (theme : Theme) (grid z : ℕ) (r : Range) → IsApart (metas_in theme grid z r)
 unfolding metas_in
-patch_apart theme grid z r =
+metas_apart theme grid z r =
     apart_flat (metas_in_row theme grid z r) (λ x y k h j. its_row theme grid z r x k h ∙ sym (its_row theme grid z r y k j))
     (λ row. apart_map (λ col. record { theme = theme; grid = grid; z = z; row = row; col = col }) (own_col theme grid z row) (from_to r.col_min r.col_max) (apart_range r.col_min (r.col_max + 1 - r.col_min)))
     (from_to r.row_min r.row_max) (apart_range r.row_min (r.row_max + 1 - r.row_min))
 
-any_apart : (theme : Theme) (grid z : ℕ) (o : Option Range) → IsApart (metas_in_any theme grid z o)
-any_apart theme grid z None = tt
-any_apart theme grid z (Some r) = patch_apart theme grid z r
+some_apart : (theme : Theme) (grid z : ℕ) (o : Option Range) → IsApart (metas_in_some theme grid z o)
+some_apart theme grid z None = tt
+some_apart theme grid z (Some r) = metas_apart theme grid z r
 
-its_patch : (c : Catalogue) (cover : Cover) (theme : Theme) (z : ℕ) (k : MetaKey) → Has (metas_on c cover theme z) k → (theme ≡ k.theme) × (z ≡ k.z)
-its_patch c cover theme z k h =
-    let p = any_has theme cover.grid z (metas_at c cover z) k h in
-    let q = patch_has theme cover.grid z p.0 k p.2 in
+its_matrix : (c : Catalogue) (cover : Cover) (theme : Theme) (z : ℕ) (k : MetaKey) → Has (metas_on c cover theme z) k → (theme ≡ k.theme) × (z ≡ k.z)
+its_matrix c cover theme z k h =
+    let p = some_has theme cover.grid z (metas_at c cover z) k h in
+    let q = metas_has theme cover.grid z p.0 k p.2 in
     (ap (λ (m : MetaKey). m.theme) q.same, ap (λ (m : MetaKey). m.z) q.same)
 
 its_theme : (c : Catalogue) (cover : Cover) (theme : Theme) (k : MetaKey) → Has (metas_of c cover theme) k → theme ≡ k.theme
 its_theme c cover theme k h =
     let p = flat_has (metas_on c cover theme) (from_to cover.z_start cover.z_stop) k h in
-    (its_patch c cover theme p.0 k p.2).0
+    (its_matrix c cover theme p.0 k p.2).0
 
 theme_apart : (c : Catalogue) (cover : Cover) (theme : Theme) → IsApart (metas_of c cover theme)
 theme_apart c cover theme =
-    apart_flat (metas_on c cover theme) (λ x y k h j. (its_patch c cover theme x k h).1 ∙ sym (its_patch c cover theme y k j).1) (λ z. any_apart theme cover.grid z (metas_at c cover z))
+    apart_flat (metas_on c cover theme) (λ x y k h j. (its_matrix c cover theme x k h).1 ∙ sym (its_matrix c cover theme y k j).1) (λ z. some_apart theme cover.grid z (metas_at c cover z))
     (from_to cover.z_start cover.z_stop) (apart_range cover.z_start (cover.z_stop + 1 - cover.z_start))
 
 pub metatiles_apart : (c : Catalogue) (cover : Cover) → IsApart (metatiles c cover)

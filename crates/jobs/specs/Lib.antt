@@ -2,5 +2,5 @@ pub mod Covered
 pub mod Job
 pub mod Places
 pub mod Reading
+pub mod Steps
 pub mod Themes
-pub mod Wanted

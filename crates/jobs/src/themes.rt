@@ -2,8 +2,8 @@
 ghost use Rattle.std.specs.Prelude.{◌≡◌, ◌*◌, ◌<◌, ◌≤◌, ◌^◌, Some, length, slice_get};
 ghost use Rattle.catalog.specs.LookUp.{values_at};
 ghost use Rattle.catalog.specs.Valid.{IsValid};
-ghost use Rattle.jobs.specs.Themes.{IsRowAt, styles_of, themes};
-ghost use Rattle.jobs.specs.Wanted.{numbers, wanted_of};
+ghost use Rattle.jobs.specs.Themes.{styles_of, themes, wanted_of};
+ghost use Rattle.jobs.specs.Steps.{IsRowAt, numbers};
 ghost use Rattle.served_covers.specs.OfCatalogue.{IsCoverOf};
 
 use crate::wanted::Wanted;
@@ -12,7 +12,7 @@ use matrix_geometry::theme::Theme;
 use truncation_list::cover::Cover;
 
 /// The styles of its layer that a cover is for.
-#[tactic(auto, using(crate::proofs::Wishes::wanted_most), unfolding(crate::specs::Wanted::numbers))]
+#[tactic(auto, using(crate::proofs::WantedCounts::wanted_most), unfolding(crate::specs::Steps::numbers))]
 fn styles(catalogue: &Catalogue, cover: &Cover) -> Wanted
     requires valid { IsValid catalogue.now }
     requires cover { IsCoverOf catalogue.now cover.now }
@@ -27,7 +27,7 @@ fn styles(catalogue: &Catalogue, cover: &Cover) -> Wanted
 }
 
 /// The values of the layer's dimension at this place that are wanted: 0 alone where the layer has no dimension there.
-#[tactic(auto, using(crate::proofs::Wishes::wanted_most, crate::proofs::Wishes::wanted_least), unfolding(crate::specs::Wanted::numbers))]
+#[tactic(auto, using(crate::proofs::WantedCounts::wanted_most, crate::proofs::WantedCounts::wanted_least), unfolding(crate::specs::Steps::numbers))]
 fn values(catalogue: &Catalogue, layer: u32, place: u32, only: Option<u32>) -> Wanted
     requires valid { IsValid catalogue.now }
     ensures numbers { numbers result ≡ wanted_of (values_at catalogue.now layer place) only }

@@ -1,6 +1,6 @@
 //! What a cover wants of a style or of a dimension.
 ghost use Rattle.std.specs.Prelude.{◌≡◌, ◌<◌, ◌≤◌, Some, length, slice_get};
-ghost use Rattle.jobs.specs.Wanted.{IsPicked, numbers};
+ghost use Rattle.jobs.specs.Steps.{IsPicked, numbers};
 
 /// The numbers that a cover wants: one alone, or all below a count.
 #[derive(Clone, Copy, Debug, PartialEq, Eq)]
@@ -19,7 +19,7 @@ pub struct Pick {
 
 impl Wanted {
     /// How many numbers are wanted.
-    #[tactic(auto, using(crate::proofs::Pieces::range_length), unfolding(crate::specs::Wanted::numbers))]
+    #[tactic(auto, using(crate::proofs::Pieces::range_length), unfolding(crate::specs::Steps::numbers))]
     pub fn count(self) -> u64
         ensures { result ≡ length (numbers self) }
     {
@@ -30,7 +30,7 @@ impl Wanted {
     }
 
     /// The wanted number at this place.
-    #[tactic(auto, using(crate::proofs::Pieces::range_length, crate::proofs::Pieces::get_below), unfolding(crate::specs::Wanted::numbers))]
+    #[tactic(auto, using(crate::proofs::Pieces::range_length, crate::proofs::Pieces::get_below), unfolding(crate::specs::Steps::numbers))]
     pub fn at(self, place: u128) -> u32
         requires { place < length (numbers self) }
         ensures { slice_get (numbers self) place ≡ Some result }
