@@ -2,7 +2,7 @@ mod Choices
 mod CoveredMetas
 mod Members
 mod MetaRanges
-mod Once
+mod InOrder
 mod Pieces
 mod PlaceLists
 mod Products
