@@ -102,6 +102,7 @@ pub fn how_many(metas: Option<Range>) -> u64
 }
 
 /// The metatile at this place among those in these rows and columns, row by row.
+#[tactic(auto, using(crate::proofs::MetaRanges::metas_place, crate::proofs::MetaRanges::down_most, crate::proofs::MetaRanges::across_most))]
 fn meta_of(theme: Theme, grid: u32, z: u32, metas: Range, place: u128) -> MetaKey
     requires range { IsMetaRange metas }
     requires place { place < length (metas_in theme grid z metas) }
