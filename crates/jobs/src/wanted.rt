@@ -5,7 +5,9 @@ ghost use Rattle.jobs.specs.Steps.{IsPicked, numbers};
 /// The numbers that a cover wants: one alone, or all below a count.
 #[derive(Clone, Copy, Debug, PartialEq, Eq)]
 pub struct Wanted {
+    /// How many numbers there are.
     pub below: u32,
+    /// The one that is wanted; `None` for all of them.
     pub only: Option<u32>,
 }
 
@@ -14,7 +16,7 @@ pub struct Wanted {
 pub struct Pick {
     pub number: u32,
     /// How often all numbers went round before the place.
-    pub left: u128,
+    pub rounds: u128,
 }
 
 impl Wanted {
@@ -47,12 +49,12 @@ impl Wanted {
     /// Picks the wanted number at a place of a list in which these numbers go round and round.
     pub fn pick(self, place: u128) -> Pick
         requires { 1 ≤ length (numbers self) }
-        ensures { IsPicked (numbers self) place result.number result.left }
+        ensures { IsPicked (numbers self) place result.number result.rounds }
     {
         let count = u128::from(self.count());
         Pick {
             number: self.at(place % count),
-            left: place / count,
+            rounds: place / count,
         }
     }
 }
