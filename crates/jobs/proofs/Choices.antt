@@ -13,7 +13,7 @@ use Rattle.served_covers.specs.OfCatalogue.{IsCoverOf}
 use Rattle.truncation_list.specs.declared.cover.Cover.{Cover}
 use Rattle.truncation_list.proofs.Decided.{both, eq_is, is_eq, join}
 use Rattle.jobs.specs.Themes.{styles_of, themes, themes_with, values_from}
-use Rattle.jobs.specs.Wanted.{wanted_of}
+use Rattle.jobs.specs.Themes.{wanted_of}
 use Rattle.jobs.proofs.Members.{Has, flat_has, has_flat, has_map, has_range, map_has, range_has}
 use Rattle.jobs.proofs.Values.{rows_with, wanted_at}
 use Rattle.jobs.proofs.ZoomSteps.{within_some}

@@ -28,11 +28,11 @@ use Rattle.truncation_list.specs.Covers.{covers, is_in_bounds, is_in_zoom}
 use Rattle.truncation_list.proofs.Decided.{both, eq_is, five, is_eq, is_le, join, join_five, le_is}
 use Rattle.truncation_list.proofs.Tiles.{Lies, in_range_lies, lies_in_range}
 use Rattle.jobs.specs.Covered.{CoversTileOf}
-use Rattle.jobs.specs.Places.{factors_for, from_to, gathered, metas_at, metas_in, metas_in_any, metas_in_row, metas_of, metas_on, metatiles, tiles_within, whole}
+use Rattle.jobs.specs.Places.{factors_for, from_to, gathered, metas_at, metas_in, metas_in_some, metas_in_row, metas_of, metas_on, metatiles, tiles_within, whole}
 use Rattle.jobs.specs.Themes.{themes}
 use Rattle.jobs.proofs.Choices.{IsChosen, admits_chosen, chosen_admits, chosen_length, chosen_style, chosen_themes, chosen_values, themes_chosen}
 use Rattle.jobs.proofs.Members.{Has, flat_has, has_flat, has_map, has_range, map_has, range_has}
-use Rattle.jobs.proofs.Patches.{quotients}
+use Rattle.jobs.proofs.MetaRanges.{quotients}
 use Rattle.jobs.proofs.ZoomSteps.{all_at}
 
 -- NUMBERS
@@ -90,7 +90,7 @@ bounds_range m (Some b) row col l k h = in_some (range_of m b) row col h
 -- THE METATILES ON A MATRIX
 
 -- the metatile stands in these rows and columns
-pub record IsInPatch (theme : Theme) (grid z : ℕ) (r : Range) (k : MetaKey) : Type 0 where
+pub record IsInMetaRange (theme : Theme) (grid z : ℕ) (r : Range) (k : MetaKey) : Type 0 where
   pub row : ℕ
   pub col : ℕ
   pub row_min : r.row_min ≤ row
@@ -99,18 +99,18 @@ pub record IsInPatch (theme : Theme) (grid z : ℕ) (r : Range) (k : MetaKey) : 
   pub col_max : col ≤ r.col_max
   pub same : record { theme = theme; grid = grid; z = z; row = row; col = col } ≡ k
 
-pub patch_has : (theme : Theme) (grid z : ℕ) (r : Range) (k : MetaKey) → Has (metas_in theme grid z r) k → IsInPatch theme grid z r k
+pub metas_has : (theme : Theme) (grid z : ℕ) (r : Range) (k : MetaKey) → Has (metas_in theme grid z r) k → IsInMetaRange theme grid z r k
 unfolding metas_in
-patch_has theme grid z r k h =
+metas_has theme grid z r k h =
     let p = flat_has (metas_in_row theme grid z r) (from_to r.row_min r.row_max) k h in
     let q = map_has (λ col. record { theme = theme; grid = grid; z = z; row = p.0; col = col }) (from_to r.col_min r.col_max) k p.2 in
     let rows = from_to_has r.row_min r.row_max p.0 p.1 in
     let cols = from_to_has r.col_min r.col_max q.0 q.1 in
     record { row = p.0; col = q.0; row_min = rows.0; row_max = rows.1; col_min = cols.0; col_max = cols.1; same = q.2 }
 
-has_patch : (theme : Theme) (grid z : ℕ) (r : Range) (k : MetaKey) → IsInPatch theme grid z r k → Has (metas_in theme grid z r) k
+has_metas : (theme : Theme) (grid z : ℕ) (r : Range) (k : MetaKey) → IsInMetaRange theme grid z r k → Has (metas_in theme grid z r) k
 unfolding metas_in
-has_patch theme grid z r k is =
+has_metas theme grid z r k is =
     has_flat (metas_in_row theme grid z r) (from_to r.row_min r.row_max) is.row k (has_from_to r.row_min r.row_max is.row is.row_min is.row_max)
     (subst (λ (x : MetaKey). Has (metas_in_row theme grid z r is.row) x) is.same
     (has_map (λ col. record { theme = theme; grid = grid; z = z; row = is.row; col = col }) (from_to r.col_min r.col_max) is.col (has_from_to r.col_min r.col_max is.col is.col_min is.col_max)))
@@ -140,9 +140,9 @@ unfolding metas_at
 tiles_metas c cover z m t em et =
     ap (λ (o : Option Matrix). option_and_then (λ m. option_map (gathered (factors_for c cover)) (tiles_within cover.bounds m)) o) em ∙ ap (λ (o : Option Range). option_map (gathered (factors_for c cover)) o) et
 
-pub any_has : (theme : Theme) (grid z : ℕ) (o : Option Range) (k : MetaKey) → Has (metas_in_any theme grid z o) k → (r : Range) × (o ≡ Some r) × Has (metas_in theme grid z r) k
-any_has theme grid z None k h = absurd h
-any_has theme grid z (Some r) k h = (r, refl, h)
+pub some_has : (theme : Theme) (grid z : ℕ) (o : Option Range) (k : MetaKey) → Has (metas_in_some theme grid z o) k → (r : Range) × (o ≡ Some r) × Has (metas_in theme grid z r) k
+some_has theme grid z None k h = absurd h
+some_has theme grid z (Some r) k h = (r, refl, h)
 
 -- A METATILE OF THE LIST
 
@@ -158,7 +158,7 @@ zoom_in cover z low high = join (nat_le cover.z_start z) (nat_le z cover.z_stop)
 
 -- the tile of the metatile that the cover covers
 listed : (c : Catalogue) (cover : Cover) (theme : Theme) (z : ℕ) (r : Range) (k : MetaKey) → IsCoverOf c cover → IsChosen c cover theme → cover.z_start ≤ z → z ≤ cover.z_stop
-    → (t : HasTilesOn c cover z r) → IsWithinLimits t.matrix → 1 ≤ (factors_for c cover).x → 1 ≤ (factors_for c cover).y → IsInPatch theme cover.grid z r k → CoversTileOf c cover k
+    → (t : HasTilesOn c cover z r) → IsWithinLimits t.matrix → 1 ≤ (factors_for c cover).x → 1 ≤ (factors_for c cover).y → IsInMetaRange theme cover.grid z r k → CoversTileOf c cover k
 listed c cover theme z r k of is low high t limits x y p =
     let f = factors_for c cover in
     let inside = tiles_are t.matrix cover.bounds t.tiles t.within limits in
@@ -214,10 +214,10 @@ metatiles_covered c cover k valid of h =
     let p = flat_has (metas_of c cover) (themes c cover) k h in
     let q = flat_has (metas_on c cover p.0) (from_to cover.z_start cover.z_stop) k p.2 in
     let zoom = from_to_has cover.z_start cover.z_stop q.0 q.1 in
-    let r = any_has p.0 cover.grid q.0 (metas_at c cover q.0) k q.2 in
+    let r = some_has p.0 cover.grid q.0 (metas_at c cover q.0) k q.2 in
     let t = metas_tiles c cover q.0 r.0 r.1 in
     let f = factors_least c cover valid of in
-    listed c cover p.0 q.0 r.0 k of (themes_chosen c cover p.0 p.1) zoom.0 zoom.1 t (limits_at c cover.grid q.0 t.matrix valid t.there) f.0 f.1 (patch_has p.0 cover.grid q.0 r.0 k r.2)
+    listed c cover p.0 q.0 r.0 k of (themes_chosen c cover p.0 p.1) zoom.0 zoom.1 t (limits_at c cover.grid q.0 t.matrix valid t.there) f.0 f.1 (metas_has p.0 cover.grid q.0 r.0 k r.2)
 
 -- A METATILE OF A COVERED TILE
 
@@ -233,9 +233,9 @@ matrix_is : (c : Catalogue) (cover : Cover) (a : Address) (o : Option Matrix) �
 matrix_is c cover a None e h k = absurd h
 matrix_is c cover a (Some m) e h k = record { matrix = m; there = e; row = h.0; col = h.1; covered = k }
 
-patch_of : (c : Catalogue) (cover : Cover) (a : Address) (t : Range) → 1 ≤ (factors_for c cover).x → 1 ≤ (factors_for c cover).y → cover.layer ≡ a.theme.layer → cover.grid ≡ a.grid → Lies t a.row a.col
-    → IsInPatch a.theme cover.grid a.z (gathered (factors_for c cover) t) (block_of c a)
-patch_of c cover a t x y layer grid l =
+range_of_tile : (c : Catalogue) (cover : Cover) (a : Address) (t : Range) → 1 ≤ (factors_for c cover).x → 1 ≤ (factors_for c cover).y → cover.layer ≡ a.theme.layer → cover.grid ≡ a.grid → Lies t a.row a.col
+    → IsInMetaRange a.theme cover.grid a.z (gathered (factors_for c cover) t) (block_of c a)
+range_of_tile c cover a t x y layer grid l =
     let f = factors_for c cover in
     let own : f ≡ factors_at c a.theme = factors_same c cover a.theme layer in
     record {
@@ -261,8 +261,8 @@ holds c cover a valid of is values m =
     let chosen = chosen_themes c cover a.theme (admits_chosen c cover a.theme layer is.style is.values values five.4) in
     let em : matrix_in c cover.grid a.z ≡ Some m.matrix = subst (λ (g : ℕ). matrix_in c g a.z ≡ Some m.matrix) (sym grid) m.there in
     let metas = tiles_metas c cover a.z m.matrix t.0 em t.1 in
-    let here = has_patch a.theme cover.grid a.z (gathered (factors_for c cover) t.0) (block_of c a) (patch_of c cover a t.0 f.0 f.1 layer grid t.2) in
-    let on : Has (metas_on c cover a.theme a.z) (block_of c a) = subst (λ (o : Option Range). Has (metas_in_any a.theme cover.grid a.z o) (block_of c a)) (sym metas) here in
+    let here = has_metas a.theme cover.grid a.z (gathered (factors_for c cover) t.0) (block_of c a) (range_of_tile c cover a t.0 f.0 f.1 layer grid t.2) in
+    let on : Has (metas_on c cover a.theme a.z) (block_of c a) = subst (λ (o : Option Range). Has (metas_in_some a.theme cover.grid a.z o) (block_of c a)) (sym metas) here in
     has_flat (metas_of c cover) (themes c cover) a.theme (block_of c a) chosen
     (has_flat (metas_on c cover a.theme) (from_to cover.z_start cover.z_stop) a.z (block_of c a) (has_from_to cover.z_start cover.z_stop a.z (le_is cover.z_start a.z zoom.0) (le_is a.z cover.z_stop zoom.1)) on)
 

@@ -1,11 +1,11 @@
 mod Choices
 mod CoveredMetas
 mod Members
-mod Once
-mod Patches
+mod MetaRanges
+mod InOrder
 mod Pieces
 mod PlaceLists
 mod Products
 mod Values
-mod Wishes
+mod WantedCounts
 mod ZoomSteps

@@ -1,4 +1,4 @@
--- Which elements a list that is made of pieces has, and that it has none twice.
+-- Which elements a list that is made of pieces has, in which order, and that it has none twice.
 use Rattle.std.proofs.Common.{◌≡◌, ℕ, zero, suc, ◌+◌, ◌≤◌, ◌<◌, ◌⊎◌, inl, inr, List, [], ◌∷◌, ◌++◌, length, map, get_or, Some, slice_get, refl, sym, ap, subst, ◌∙◌, arith}
 use Rattle.std.specs.Prelude.{◌≢◌, Contains}
 use Rattle.std.specs.List.{flat_map, range_with_len}
@@ -92,31 +92,52 @@ has_contains xs x h = let p = place_of xs x h in (p.0, p.1, get_some xs p.0 x p.
 pub contains_has : {A : Type 0} (xs : List A) (x : A) → Contains xs x → Has xs x
 contains_has xs x c = has_at xs c.0 x (slice_get-get_or xs c.0 x c.1 ∙ ap Some c.2)
 
+-- IN ORDER
+
+-- each element comes before all later ones
+abbrev pub IsRising : {A : Type 0} → (A → A → Type 0) → List A → Type 0
+IsRising R [] = Unit {0}
+IsRising R (x ∷ xs) = ((y : _) → Has xs y → R x y) × IsRising R xs
+
+rising_append : {A : Type 0} (R : A → A → Type 0) (xs ys : List A) → IsRising R xs → IsRising R ys → ((x y : A) → Has xs x → Has ys y → R x y) → IsRising R (xs ++ ys)
+rising_append R [] ys a b across = b
+rising_append R (x ∷ xs) ys a b across = (λ y h. first y (has_either xs ys y h), rising_append R xs ys a.1 b (λ z y h k. across z y (inr h) k)) where
+  first : (y : _) → Has xs y ⊎ Has ys y → R x y
+  first y (inl h) = a.0 y h
+  first y (inr k) = across x y (inl refl) k
+
+pub rising_map : {A B : Type 0} (Q : A → A → Type 0) (R : B → B → Type 0) (f : A → B) → ((x y : A) → Q x y → R (f x) (f y)) → (xs : List A) → IsRising Q xs → IsRising R (map f xs)
+rising_map Q R f keeps [] a = tt
+rising_map Q R f keeps (x ∷ xs) a =
+    (λ y h. let p = map_has f xs y h in subst (λ (z : _). R (f x) z) p.2 (keeps x p.0 (a.0 p.0 p.1)), rising_map Q R f keeps xs a.1)
+
+pub rising_flat : {X A : Type 0} (Q : X → X → Type 0) (R : A → A → Type 0) (f : X → List A) → ((x y : X) (a b : A) → Q x y → Has (f x) a → Has (f y) b → R a b) → ((x : X) → IsRising R (f x))
+    → (xs : List X) → IsRising Q xs → IsRising R (flat_map f xs)
+rising_flat Q R f across each [] a = tt
+rising_flat Q R f across each (x ∷ xs) a =
+    rising_append R (f x) (flat_map f xs) (each x) (rising_flat Q R f across each xs a.1)
+    (λ v w h k. let p = flat_has f xs w k in across x p.0 v w (a.0 p.0 p.1) h p.2)
+
+pub rising_range : (a n : ℕ) → IsRising (λ x y. x < y) (range_with_len a n)
+rising_range a zero = tt
+rising_range a (suc n) = (λ y h. let p = range_has (a + 1) n y h in omega (arith, p.0), rising_range (a + 1) n)
+
+pub rising_at : {A : Type 0} (R : A → A → Type 0) (xs : List A) → IsRising R xs → (i j : ℕ) (x y : A) → i < j → slice_get xs i ≡ Some x → slice_get xs j ≡ Some y → R x y
+rising_at R [] a i j x y l e d = absurd (cc)
+rising_at R (z ∷ xs) a i zero x y l e d = absurd (omega arith)
+rising_at R (z ∷ xs) a zero (suc j) x y l e d = let k : z ≡ x = cc in subst (λ (w : _). R w y) k (a.0 y (has_at xs j y d))
+rising_at R (z ∷ xs) a (suc i) (suc j) x y l e d = rising_at R xs a.1 i j x y (omega arith) e d
+
 -- NOTHING TWICE
 
-apart_append : {A : Type 0} (xs ys : List A) → IsApart xs → IsApart ys → ((y : A) → Has xs y → Has ys y → ⊥) → IsApart (xs ++ ys)
-apart_append [] ys a b other = b
-apart_append (x ∷ xs) ys a b other = (first (other x (inl refl)), apart_append xs ys a.1 b (λ y h k. other y (inr h) k)) where
-  first : (Has ys x → ⊥) → Has (xs ++ ys) x → ⊥
-  first not h = split (has_either xs ys x h) where
-    split : Has xs x ⊎ Has ys x → ⊥
-    split (inl k) = a.0 k
-    split (inr k) = not k
+-- in a list in which each element comes before all later ones none stands twice
+pub rising_apart : {A : Type 0} (R : A → A → Type 0) → ((x : A) → R x x → ⊥) → (xs : List A) → IsRising R xs → IsApart xs
+rising_apart R not [] a = tt
+rising_apart R not (x ∷ xs) a = (λ h. not x (a.0 x h), rising_apart R not xs a.1)
 
 pub apart_map : {A B : Type 0} (f : A → B) → ((x y : A) → f x ≡ f y → x ≡ y) → (xs : List A) → IsApart xs → IsApart (map f xs)
 apart_map f own [] a = tt
-apart_map f own (x ∷ xs) a =
-    (λ h. let p = map_has f xs (f x) h in a.0 (subst (λ (w : _). Has xs w) (own p.0 x p.2) p.1), apart_map f own xs a.1)
-
-pub apart_flat : {X A : Type 0} (f : X → List A) → ((x y : X) (z : A) → Has (f x) z → Has (f y) z → x ≡ y) → ((x : X) → IsApart (f x)) → (xs : List X) → IsApart xs → IsApart (flat_map f xs)
-apart_flat f own each [] a = tt
-apart_flat f own each (x ∷ xs) a =
-    apart_append (f x) (flat_map f xs) (each x) (apart_flat f own each xs a.1)
-    (λ y h k. let p = flat_has f xs y k in a.0 (subst (λ (w : _). Has xs w) (own p.0 x y p.2 h) p.1))
-
-pub apart_range : (a n : ℕ) → IsApart (range_with_len a n)
-apart_range a zero = tt
-apart_range a (suc n) = (λ h. let p = range_has (a + 1) n a h in absurd (omega (arith, p.0)), apart_range (a + 1) n)
+apart_map f own (x ∷ xs) a = (λ h. let p = map_has f xs (f x) h in a.0 (subst (λ (w : _). Has xs w) (own p.0 x p.2) p.1), apart_map f own xs a.1)
 
 pub distinct : {A : Type 0} (xs : List A) → IsApart xs → (i j : ℕ) → i < j → j < length xs → slice_get xs i ≢ slice_get xs j
 distinct [] a i j l m = absurd (omega arith)

@@ -1,5 +1,5 @@
 -- The places of a job, from the metatiles of its cover.
-use Rattle.std.proofs.Common.{◌≡◌, ℕ, zero, suc, ◌*◌, ◌^◌, ◌/◌, ◌%◌, ◌≤◌, ◌<◌, inl, inr, [], ◌∷◌, length, map, Some, slice_get, refl, ap, subst, ◌∙◌, arith}
+use Rattle.std.proofs.Common.{◌≡◌, ℕ, zero, suc, ◌*◌, ◌^◌, ◌/◌, ◌%◌, ◌≤◌, ◌<◌, inl, inr, [], ◌∷◌, length, map, Some, slice_get, refl, ap, subst, ◌∙◌, arith, List}
 use Rattle.std.specs.Prelude.{◌≢◌, Contains}
 use Rattle.std.proofs.Math.Nat.{mul-le-mul}
 use Rattle.std.proofs.lemmas.Nat.{div-add-mod', div_below}
@@ -15,11 +15,12 @@ use Rattle.jobs.specs.declared.job.Job.{Job}
 use Rattle.jobs.specs.declared.job.JobKind.{JobKind}
 use Rattle.jobs.specs.declared.job.JobKind.TheVariants.{Seed, Reseed, Truncate}
 use Rattle.jobs.specs.Covered.{CoversTileOf}
+use Rattle.jobs.specs.Order.{IsBefore}
 use Rattle.jobs.specs.Places.{Cut, Metatile, metas_of, metatiles, places, places_of}
 use Rattle.jobs.specs.Themes.{themes}
 use Rattle.jobs.proofs.CoveredMetas.{covered_metatiles, metatiles_covered}
-use Rattle.jobs.proofs.Members.{Has, IsApart, apart_map, contains_has, distinct, has_at, has_contains, has_map, map_has}
-use Rattle.jobs.proofs.Once.{metatiles_apart}
+use Rattle.jobs.proofs.Members.{Has, IsApart, apart_map, contains_has, distinct, has_at, has_contains, has_map, map_has, rising_at}
+use Rattle.jobs.proofs.InOrder.{metatiles_apart, metatiles_rising}
 use Rattle.jobs.proofs.Pieces.{get_map, get_piece, map_length, pieces_length}
 
 -- HOW MANY
@@ -114,3 +115,22 @@ places_apart c Truncate cover = (λ h. h, tt)
 
 pub places_distinct : (c : Catalogue) (job : Job) → AreDistinct (places c job)
 places_distinct c job = distinct (places c job) (places_apart c job.kind job.cover)
+
+-- a place of the list is a place among the metatiles
+map_some : (xs : List MetaKey) (i : ℕ) (k : MetaKey) → slice_get (map Metatile xs) i ≡ Some (Metatile k) → slice_get xs i ≡ Some k
+map_some [] i k e = absurd (cc)
+map_some (x ∷ xs) zero k e = let d : Metatile x ≡ Metatile k = cc in ap Some (own_meta x k d)
+map_some (x ∷ xs) (suc i) k e = map_some xs i k e
+
+no_cut : (cover : Cover) (i : ℕ) (k : MetaKey) → slice_get (Cut cover ∷ []) i ≡ Some (Metatile k) → ⊥
+no_cut cover zero k e = absurd (cc)
+no_cut cover (suc i) k e = absurd (cc)
+
+metatile_some : (c : Catalogue) (kind : JobKind) (cover : Cover) (i : ℕ) (k : MetaKey) → slice_get (places_of c kind cover) i ≡ Some (Metatile k) → slice_get (metatiles c cover) i ≡ Some k
+metatile_some c Seed cover i k e = map_some (metatiles c cover) i k e
+metatile_some c Reseed cover i k e = map_some (metatiles c cover) i k e
+metatile_some c Truncate cover i k e = absurd (no_cut cover i k e)
+
+pub places_rising : (c : Catalogue) (job : Job) (i j : ℕ) (a b : MetaKey) → i < j → slice_get (places c job) i ≡ Some (Metatile a) → slice_get (places c job) j ≡ Some (Metatile b) → IsBefore a b
+places_rising c job i j a b l e d =
+    rising_at IsBefore (metatiles c job.cover) (metatiles_rising c job.cover) i j a b l (metatile_some c job.kind job.cover i a e) (metatile_some c job.kind job.cover j b d)

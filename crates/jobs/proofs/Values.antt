@@ -6,8 +6,8 @@ use Rattle.std.proofs.lemmas.Nat.{div-add-mod', div_below}
 use Rattle.catalog.specs.declared.catalogue.Catalogue.{Catalogue}
 use Rattle.catalog.specs.LookUp.{values_at}
 use Rattle.truncation_list.specs.declared.cover.Cover.{Cover}
-use Rattle.jobs.specs.Themes.{IsRowAt, styles_of, themes, themes_with, values_from}
-use Rattle.jobs.specs.Wanted.{IsPicked, wanted_of}
+use Rattle.jobs.specs.Themes.{styles_of, themes, themes_with, values_from, wanted_of}
+use Rattle.jobs.specs.Steps.{IsPicked, IsRowAt}
 use Rattle.jobs.proofs.Pieces.{get_map, get_piece, map_length, pieces_length}
 
 -- the values wanted at one place

@@ -1,6 +1,6 @@
 -- The places of a job. Those of a seed or a reseed are the metatiles of which its cover covers a tile, in the order of style,
 -- values, matrix, row and column; a truncation has one place, its cut.
-use Rattle.std.specs.Prelude.{ℕ, ◌+◌, ◌-◌, ◌/◌, ◌^◌, ◌<◌, ◌≤◌, List, [], ◌∷◌, map, Option, Some, None, option_and_then, option_map, slice_get}
+use Rattle.std.specs.Prelude.{ℕ, ◌+◌, ◌-◌, ◌/◌, List, [], ◌∷◌, map, Option, Some, None, option_and_then, option_map, slice_get}
 use Rattle.std.specs.List.{flat_map, range_with_len}
 use Rattle.std.specs.Option.{option_map_or}
 use Rattle.catalog.specs.declared.catalogue.Catalogue.{Catalogue}
@@ -53,19 +53,12 @@ unfoldable pub metas_in : Theme → ℕ → ℕ → Range → List MetaKey
 metas_in theme grid z r = flat_map (metas_in_row theme grid z r) (from_to r.row_min r.row_max)
 
 -- none where there are no rows and columns
-abbrev pub metas_in_any : Theme → ℕ → ℕ → Option Range → List MetaKey
-metas_in_any theme grid z None = []
-metas_in_any theme grid z (Some r) = metas_in theme grid z r
+abbrev pub metas_in_some : Theme → ℕ → ℕ → Option Range → List MetaKey
+metas_in_some theme grid z None = []
+metas_in_some theme grid z (Some r) = metas_in theme grid z r
 
 abbrev pub metas_on : Catalogue → Cover → Theme → ℕ → List MetaKey
-metas_on c cover theme z = metas_in_any theme cover.grid z (metas_at c cover z)
-
--- rows and columns in order, each below 2^31
-pub record IsPatch (r : Range) : Type 0 where
-  pub rows : r.row_min ≤ r.row_max
-  pub rows_most : r.row_max < 2 ^ 31
-  pub cols : r.col_min ≤ r.col_max
-  pub cols_most : r.col_max < 2 ^ 31
+metas_on c cover theme z = metas_in_some theme cover.grid z (metas_at c cover z)
 
 -- ON ALL MATRICES
 

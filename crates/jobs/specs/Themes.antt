@@ -1,12 +1,16 @@
 -- The themes that a cover is for, in order: by style, then by the values of the dimensions, the last dimension fastest.
-use Rattle.std.specs.Prelude.{ℕ, ◌≡◌, ◌+◌, ◌/◌, ◌%◌, ◌<◌, List, [], ◌∷◌, length, map, Option, Some, slice_get}
-use Rattle.std.specs.List.{flat_map}
+use Rattle.std.specs.Prelude.{ℕ, ◌+◌, List, [], ◌∷◌, length, map, Option, Some, None, slice_get}
+use Rattle.std.specs.List.{flat_map, range_with_len}
 use Rattle.std.specs.Option.{option_map_or}
 use Rattle.catalog.specs.declared.catalogue.Catalogue.{Catalogue}
 use Rattle.catalog.specs.LookUp.{values_at}
 use Rattle.matrix_geometry.specs.declared.theme.Theme.{Theme}
 use Rattle.truncation_list.specs.declared.cover.Cover.{Cover}
-use Rattle.jobs.specs.Wanted.{wanted_of}
+
+-- the one number that is wanted, or all below the count where any is
+abbrev pub wanted_of : ℕ → Option ℕ → List ℕ
+wanted_of count None = range_with_len 0 count
+wanted_of count (Some number) = number ∷ []
 
 -- how many styles the layer has
 abbrev pub styles_of : Catalogue → ℕ → ℕ
@@ -25,9 +29,3 @@ themes_with c cover style =
 
 unfoldable pub themes : Catalogue → Cover → List Theme
 themes c cover = flat_map (themes_with c cover) (wanted_of (styles_of c cover.layer) cover.filter.style)
-
--- The values stand at a place of a list in which the rows of values from this dimension on go round, after so many rounds.
-pub record IsRowAt (c : Catalogue) (layer place : ℕ) (wanted : List (Option ℕ)) (at rounds : ℕ) (values : List ℕ) : Type 0 where
-  pub some : 0 < length (values_from c layer place wanted)
-  pub left : rounds ≡ at / length (values_from c layer place wanted)
-  pub row : slice_get (values_from c layer place wanted) (at % length (values_from c layer place wanted)) ≡ Some values

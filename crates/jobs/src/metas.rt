@@ -2,7 +2,8 @@
 ghost use Rattle.std.specs.Prelude.{ℕ, ◌≡◌, ◌+◌, ◌-◌, ◌*◌, ◌<◌, ◌≤◌, ◌^◌, IfSome, IsSome, Some, length, option_map, slice_get};
 ghost use Rattle.catalog.specs.LookUp.{matrix_in};
 ghost use Rattle.catalog.specs.Valid.{IsValid};
-ghost use Rattle.jobs.specs.Places.{IsPatch, gathered, metas_at, metas_in, metas_in_any, tiles_within};
+ghost use Rattle.jobs.specs.Steps.{IsMetaRange};
+ghost use Rattle.jobs.specs.Places.{gathered, metas_at, metas_in, metas_in_some, tiles_within};
 ghost use Rattle.matrix_geometry.specs.declared.theme.Theme.{Theme};
 ghost use Rattle.matrix_geometry.specs.Limits.{IsReachable, IsWithinLimits};
 ghost use Rattle.matrix_geometry.specs.Ranges.{IsRangeOf};
@@ -49,14 +50,14 @@ fn gathered(factors: &Factors, tiles: Range) -> Range
 }
 
 /// The rows and columns of the metatiles that hold the tiles of a matrix in the bounds; `None` where no tile lies there.
-#[tactic(auto, using(crate::proofs::Patches::gathered_patch))]
+#[tactic(auto, using(crate::proofs::MetaRanges::gathered_range))]
 fn metas_within(factors: &Factors, bounds: Option<Box9>, matrix: &Matrix) -> Option<Range>
     requires x { 1 ≤ factors.now.x }
     requires y { 1 ≤ factors.now.y }
     requires limits { IsWithinLimits matrix.now }
     requires reach { IfSome bounds IsReachable }
     ensures metas { result ≡ option_map (gathered factors.now) (tiles_within bounds matrix.now) }
-    ensures patch { IfSome result IsPatch }
+    ensures range { IfSome result IsMetaRange }
 {
     match tiles_within(bounds, matrix) {
         None => None,
@@ -66,13 +67,13 @@ fn metas_within(factors: &Factors, bounds: Option<Box9>, matrix: &Matrix) -> Opt
 
 /// The rows and columns of the metatiles of a cover on its grid's matrix of this number, which has to be that of one; `None`
 /// where the cover has no tile there.
-#[tactic(auto, using(crate::proofs::Patches::metas_are))]
+#[tactic(auto, using(crate::proofs::MetaRanges::metas_are))]
 pub fn metas_at(catalogue: &Catalogue, cover: &Cover, z: u32) -> Option<Range>
     requires valid { IsValid catalogue.now }
     requires cover { IsCoverOf catalogue.now cover.now }
     requires matrix { IsSome (matrix_in catalogue.now cover.now.grid z) }
     ensures metas { result ≡ metas_at catalogue.now cover.now z }
-    ensures patch { IfSome result IsPatch }
+    ensures range { IfSome result IsMetaRange }
 {
     let factors = factors_of(catalogue.layer(cover.layer));
     metas_within(&factors, cover.bounds, catalogue.matrix(cover.grid, z))
@@ -90,8 +91,8 @@ fn span(first: u32, last: u32) -> u64
 
 /// How many metatiles stand in these rows and columns, if any.
 pub fn how_many(metas: Option<Range>) -> u64
-    requires { IfSome metas IsPatch }
-    ensures value { (theme : Theme) (grid z : ℕ) → length (metas_in_any theme grid z metas) ≡ result }
+    requires { IfSome metas IsMetaRange }
+    ensures value { (theme : Theme) (grid z : ℕ) → length (metas_in_some theme grid z metas) ≡ result }
     ensures most { result ≤ 2 ^ 62 }
 {
     match metas {
@@ -101,8 +102,9 @@ pub fn how_many(metas: Option<Range>) -> u64
 }
 
 /// The metatile at this place among those in these rows and columns, row by row.
+#[tactic(auto, using(crate::proofs::MetaRanges::metas_place, crate::proofs::MetaRanges::down_most, crate::proofs::MetaRanges::across_most))]
 fn meta_of(theme: Theme, grid: u32, z: u32, metas: Range, place: u128) -> MetaKey
-    requires patch { IsPatch metas }
+    requires range { IsMetaRange metas }
     requires place { place < length (metas_in theme grid z metas) }
     ensures { slice_get (metas_in theme grid z metas) place ≡ Some result }
 {
@@ -119,9 +121,9 @@ fn meta_of(theme: Theme, grid: u32, z: u32, metas: Range, place: u128) -> MetaKe
 
 /// The metatile at this place among those in these rows and columns, row by row, of which there are some.
 pub fn meta_in(theme: Theme, grid: u32, z: u32, metas: Option<Range>, place: u128) -> MetaKey
-    requires patch { IfSome metas IsPatch }
-    requires place { place < length (metas_in_any theme grid z metas) }
-    ensures { slice_get (metas_in_any theme grid z metas) place ≡ Some result }
+    requires range { IfSome metas IsMetaRange }
+    requires place { place < length (metas_in_some theme grid z metas) }
+    ensures { slice_get (metas_in_some theme grid z metas) place ≡ Some result }
 {
     match metas {
         None => unreachable!(),

@@ -2,8 +2,8 @@
 ghost use Rattle.std.specs.Prelude.{◌≡◌, ◌*◌, ◌<◌, ◌≤◌, ◌^◌, Some, length, slice_get};
 ghost use Rattle.catalog.specs.LookUp.{values_at};
 ghost use Rattle.catalog.specs.Valid.{IsValid};
-ghost use Rattle.jobs.specs.Themes.{IsRowAt, styles_of, themes};
-ghost use Rattle.jobs.specs.Wanted.{numbers, wanted_of};
+ghost use Rattle.jobs.specs.Themes.{styles_of, themes, wanted_of};
+ghost use Rattle.jobs.specs.Steps.{IsRowAt, numbers};
 ghost use Rattle.served_covers.specs.OfCatalogue.{IsCoverOf};
 
 use crate::wanted::Wanted;
@@ -12,7 +12,7 @@ use matrix_geometry::theme::Theme;
 use truncation_list::cover::Cover;
 
 /// The styles of its layer that a cover is for.
-#[tactic(auto, using(crate::proofs::Wishes::wanted_most), unfolding(crate::specs::Wanted::numbers))]
+#[tactic(auto, using(crate::proofs::WantedCounts::wanted_most), unfolding(crate::specs::Steps::numbers))]
 fn styles(catalogue: &Catalogue, cover: &Cover) -> Wanted
     requires valid { IsValid catalogue.now }
     requires cover { IsCoverOf catalogue.now cover.now }
@@ -27,7 +27,7 @@ fn styles(catalogue: &Catalogue, cover: &Cover) -> Wanted
 }
 
 /// The values of the layer's dimension at this place that are wanted: 0 alone where the layer has no dimension there.
-#[tactic(auto, using(crate::proofs::Wishes::wanted_most, crate::proofs::Wishes::wanted_least), unfolding(crate::specs::Wanted::numbers))]
+#[tactic(auto, using(crate::proofs::WantedCounts::wanted_most, crate::proofs::WantedCounts::wanted_least), unfolding(crate::specs::Steps::numbers))]
 fn values(catalogue: &Catalogue, layer: u32, place: u32, only: Option<u32>) -> Wanted
     requires valid { IsValid catalogue.now }
     ensures numbers { numbers result ≡ wanted_of (values_at catalogue.now layer place) only }
@@ -62,22 +62,22 @@ pub fn how_many_themes(catalogue: &Catalogue, cover: &Cover) -> u64
 struct Row {
     values: [u32; 4],
     /// How often all rows of values went round before the place.
-    left: u128,
+    rounds: u128,
 }
 
 /// The values at a place of a list in which the values that a cover is for go round, the last dimension fastest.
 fn row_at(catalogue: &Catalogue, cover: &Cover, place: u128) -> Row
     requires { IsValid catalogue.now }
-    ensures { IsRowAt catalogue.now cover.now.layer 0 cover.now.filter.dims place result.left result.values }
+    ensures { IsRowAt catalogue.now cover.now.layer 0 cover.now.filter.dims place result.rounds result.values }
 {
     let [first, second, third, fourth] = cover.filter.dims;
     let fourth = values(catalogue, cover.layer, 3, fourth).pick(place);
-    let third = values(catalogue, cover.layer, 2, third).pick(fourth.left);
-    let second = values(catalogue, cover.layer, 1, second).pick(third.left);
-    let first = values(catalogue, cover.layer, 0, first).pick(second.left);
+    let third = values(catalogue, cover.layer, 2, third).pick(fourth.rounds);
+    let second = values(catalogue, cover.layer, 1, second).pick(third.rounds);
+    let first = values(catalogue, cover.layer, 0, first).pick(second.rounds);
     Row {
         values: [first.number, second.number, third.number, fourth.number],
-        left: first.left,
+        rounds: first.rounds,
     }
 }
 
@@ -89,8 +89,8 @@ pub fn theme_at(catalogue: &Catalogue, cover: &Cover, place: u128) -> Theme
     requires place { place < length (themes catalogue.now cover.now) }
     ensures { slice_get (themes catalogue.now cover.now) place ≡ Some result }
 {
-    let Row { values, left } = row_at(catalogue, cover, place);
-    let style = styles(catalogue, cover).at(left);
+    let Row { values, rounds } = row_at(catalogue, cover, place);
+    let style = styles(catalogue, cover).at(rounds);
     Theme {
         layer: cover.layer,
         style,

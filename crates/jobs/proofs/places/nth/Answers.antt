@@ -7,7 +7,7 @@ nonzero_div-place c = (some_each c.args.catalogue.now c.args.job.now c.how_many_
 
 pub theme_at-theme-requires-clause-place : goal.theme_at-theme-requires-clause-place
 theme_at-theme-requires-clause-place c =
-    rw c.from-place.ensures ((some_each c.args.catalogue.now c.args.job.now c.how_many_each-each.result c.args.i c.requires.kind c.how_many_each-each.ensures.each c.requires.place).1)
+    rw c.from-place.ensures (some_each c.args.catalogue.now c.args.job.now c.how_many_each-each.result c.args.i c.requires.kind c.how_many_each-each.ensures.each c.requires.place).1
 
 pub nonzero_rem-place : goal.nonzero_rem-place
 nonzero_rem-place c = (some_each c.args.catalogue.now c.args.job.now c.how_many_each-each.result c.args.i c.requires.kind c.how_many_each-each.ensures.each c.requires.place).0
@@ -17,14 +17,9 @@ meta_at-requires-clause-place c =
     let some = (some_each c.args.catalogue.now c.args.job.now c.how_many_each-each.result c.args.i c.requires.kind c.how_many_each-each.ensures.each c.requires.place).0 in
     rw (c.how_many_each-each.ensures.each c.theme_at-theme.result) (omega (arith, some))
 
-pub returns-clause-place : goal.returns-clause-place
-returns-clause-place c =
+pub returns : goal.returns
+returns c =
     let theme = rw c.from-place.ensures at c.theme_at-theme.ensures in
     let meta = rw c.from-place.ensures at c.meta_at.ensures in
-    (found c.args.catalogue.now c.args.job.now c.how_many_each-each.result c.args.i c.theme_at-theme.result c.meta_at.result c.requires.valid c.requires.fits.cover c.requires.kind c.how_many_each-each.ensures.each theme meta).place
-
-pub returns-clause-meta : goal.returns-clause-meta
-returns-clause-meta c =
-    let theme = rw c.from-place.ensures at c.theme_at-theme.ensures in
-    let meta = rw c.from-place.ensures at c.meta_at.ensures in
-    (found c.args.catalogue.now c.args.job.now c.how_many_each-each.result c.args.i c.theme_at-theme.result c.meta_at.result c.requires.valid c.requires.fits.cover c.requires.kind c.how_many_each-each.ensures.each theme meta).meta
+    let at = found c.args.catalogue.now c.args.job.now c.how_many_each-each.result c.args.i c.theme_at-theme.result c.meta_at.result c.requires.valid c.requires.fits.cover c.requires.kind c.how_many_each-each.ensures.each theme meta in
+    record { place = at.place; meta = at.meta }

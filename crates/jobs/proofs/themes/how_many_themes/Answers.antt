@@ -1,5 +1,5 @@
 use Rattle.std.proofs.Common.{rules, ◌∙◌}
-use Rattle.jobs.specs.Wanted.{numbers}
+use Rattle.jobs.specs.Steps.{numbers}
 use Rattle.jobs.proofs.Values.{AreWanted, themes_product}
 use Rattle.jobs.proofs.themes.how_many_themes.Goals as goal
 

@@ -1,5 +1,5 @@
 use Rattle.std.proofs.Common.{rules}
-use Rattle.jobs.specs.Wanted.{numbers}
+use Rattle.jobs.specs.Steps.{numbers}
 use Rattle.jobs.proofs.Values.{AreWanted, wanted_stands}
 use Rattle.jobs.proofs.themes.row_at.Goals as goal
 

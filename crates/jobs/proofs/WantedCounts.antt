@@ -1,6 +1,6 @@
 -- How many numbers are wanted.
 use Rattle.std.proofs.Common.{ℕ, ◌≤◌, length, Option, Some, None, arith}
-use Rattle.jobs.specs.Wanted.{wanted_of}
+use Rattle.jobs.specs.Themes.{wanted_of}
 use Rattle.jobs.proofs.Pieces.{range_length}
 
 pub wanted_most : (count most : ℕ) (only : Option ℕ) → count ≤ most → 1 ≤ most → length (wanted_of count only) ≤ most

@@ -13,49 +13,50 @@ use Rattle.matrix_geometry.specs.Ranges.{IsRangeOf}
 use Rattle.metatile_plan.specs.declared.metatile.Factors.{Factors}
 use Rattle.raster_field.specs.Blocks.{factors_of}
 use Rattle.truncation_list.specs.declared.cover.Cover.{Cover}
-use Rattle.jobs.specs.Places.{IsPatch, from_to, gathered, metas_at, metas_in, metas_in_row, tiles_within}
+use Rattle.jobs.specs.Places.{from_to, gathered, metas_at, metas_in, metas_in_row, tiles_within}
+use Rattle.jobs.specs.Steps.{IsMetaRange}
 use Rattle.jobs.proofs.Pieces.{get_map, get_piece, get_range, map_length, pieces_length, range_length}
 
 row_length : (theme : Theme) (grid z : ℕ) (r : Range) (row : ℕ) → length (metas_in_row theme grid z r row) ≡ r.col_max + 1 - r.col_min
 row_length theme grid z r row =
     map_length (λ col. record { theme = theme; grid = grid; z = z; row = row; col = col }) (from_to r.col_min r.col_max) ∙ range_length r.col_min (r.col_max + 1 - r.col_min)
 
-pub patch_length : (theme : Theme) (grid z : ℕ) (r : Range) → length (metas_in theme grid z r) ≡ (r.row_max + 1 - r.row_min) * (r.col_max + 1 - r.col_min)
+pub metas_length : (theme : Theme) (grid z : ℕ) (r : Range) → length (metas_in theme grid z r) ≡ (r.row_max + 1 - r.row_min) * (r.col_max + 1 - r.col_min)
 unfolding metas_in
-patch_length theme grid z r =
+metas_length theme grid z r =
     pieces_length (metas_in_row theme grid z r) (r.col_max + 1 - r.col_min) (row_length theme grid z r) (from_to r.row_min r.row_max)
     ∙ ap (λ (n : ℕ). n * (r.col_max + 1 - r.col_min)) (range_length r.row_min (r.row_max + 1 - r.row_min))
 
 -- so many rows down and columns across
-patch_get : (theme : Theme) (grid z : ℕ) (r : Range) (down across : ℕ) → down < r.row_max + 1 - r.row_min → across < r.col_max + 1 - r.col_min
+metas_get : (theme : Theme) (grid z : ℕ) (r : Range) (down across : ℕ) → down < r.row_max + 1 - r.row_min → across < r.col_max + 1 - r.col_min
     → slice_get (metas_in theme grid z r) (down * (r.col_max + 1 - r.col_min) + across) ≡ Some (record { theme = theme; grid = grid; z = z; row = r.row_min + down; col = r.col_min + across })
 unfolding metas_in
-patch_get theme grid z r down across h k =
+metas_get theme grid z r down across h k =
     get_piece (metas_in_row theme grid z r) (r.col_max + 1 - r.col_min) (row_length theme grid z r) (from_to r.row_min r.row_max) down across (r.row_min + down)
     (record { theme = theme; grid = grid; z = z; row = r.row_min + down; col = r.col_min + across })
     (get_range r.row_min (r.row_max + 1 - r.row_min) down h)
     (get_map (λ col. record { theme = theme; grid = grid; z = z; row = r.row_min + down; col = col }) (from_to r.col_min r.col_max) across (r.col_min + across) (get_range r.col_min (r.col_max + 1 - r.col_min) across k))
 
-pub patch_at : (theme : Theme) (grid z : ℕ) (r : Range) (place cols : ℕ) → IsPatch r → place < length (metas_in theme grid z r) → cols ≡ r.col_max + 1 - r.col_min
+pub metas_place : (theme : Theme) (grid z : ℕ) (r : Range) (place cols : ℕ) → IsMetaRange r → place < length (metas_in theme grid z r) → cols ≡ r.col_max + 1 - r.col_min
     → slice_get (metas_in theme grid z r) place ≡ Some (record { theme = theme; grid = grid; z = z; row = r.row_min + place / cols; col = r.col_min + place % cols })
-patch_at theme grid z r place cols is within e =
+metas_place theme grid z r place cols is within e =
     let n = r.col_max + 1 - r.col_min in
     let some : 0 < n = omega (arith, is.cols) in
-    let l : place < (r.row_max + 1 - r.row_min) * n = subst (λ (k : ℕ). place < k) (patch_length theme grid z r) within in
-    let at = patch_get theme grid z r (place / n) (place % n) (div_below place n (r.row_max + 1 - r.row_min) some l) (omega arith) in
+    let l : place < (r.row_max + 1 - r.row_min) * n = subst (λ (k : ℕ). place < k) (metas_length theme grid z r) within in
+    let at = metas_get theme grid z r (place / n) (place % n) (div_below place n (r.row_max + 1 - r.row_min) some l) (omega arith) in
     rw e (subst (λ (k : ℕ). slice_get (metas_in theme grid z r) k ≡ Some (record { theme = theme; grid = grid; z = z; row = r.row_min + place / n; col = r.col_min + place % n })) (div-add-mod' place n) at)
 
 -- the rows above a place are fewer than all
-pub down_most : (theme : Theme) (grid z : ℕ) (r : Range) (place cols : ℕ) → IsPatch r → place < length (metas_in theme grid z r) → cols ≡ r.col_max + 1 - r.col_min
+pub down_most : (theme : Theme) (grid z : ℕ) (r : Range) (place cols : ℕ) → IsMetaRange r → place < length (metas_in theme grid z r) → cols ≡ r.col_max + 1 - r.col_min
     → r.row_min + place / cols ≤ r.row_max
 down_most theme grid z r place cols is within e =
     let n = r.col_max + 1 - r.col_min in
     let some : 0 < n = omega (arith, is.cols) in
-    let l : place < (r.row_max + 1 - r.row_min) * n = subst (λ (k : ℕ). place < k) (patch_length theme grid z r) within in
+    let l : place < (r.row_max + 1 - r.row_min) * n = subst (λ (k : ℕ). place < k) (metas_length theme grid z r) within in
     let d = div_below place n (r.row_max + 1 - r.row_min) some l in
     rw e (omega (arith, d, is.rows))
 
-pub across_most : (r : Range) (place cols : ℕ) → IsPatch r → cols ≡ r.col_max + 1 - r.col_min → r.col_min + place % cols ≤ r.col_max
+pub across_most : (r : Range) (place cols : ℕ) → IsMetaRange r → cols ≡ r.col_max + 1 - r.col_min → r.col_min + place % cols ≤ r.col_max
 across_most r place cols is e =
     let n = r.col_max + 1 - r.col_min in
     let some : 0 < n = omega (arith, is.cols) in
@@ -66,8 +67,8 @@ across_most r place cols is e =
 pub quotients : (a b n : ℕ) → a ≤ b → 1 ≤ n → a / n ≤ b / n
 quotients a b n h some = let low = div-mul-le_self a n in le-div (a / n) b n some (omega (arith, low, h))
 
-pub gathered_patch : (f : Factors) (m : Matrix) (r : Range) → IsWithinLimits m → IsRangeOf m r → 1 ≤ f.x → 1 ≤ f.y → IsPatch (gathered f r)
-gathered_patch f m r limits is x y =
+pub gathered_range : (f : Factors) (m : Matrix) (r : Range) → IsWithinLimits m → IsRangeOf m r → 1 ≤ f.x → 1 ≤ f.y → IsMetaRange (gathered f r)
+gathered_range f m r limits is x y =
     record {
       rows = quotients r.row_min r.row_max f.y is.rows y;
       rows_most = omega (arith, div-le_self r.row_max f.y, is.row_max, limits.rows_most);
