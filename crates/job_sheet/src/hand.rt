@@ -1,0 +1,46 @@
+//! A hand.
+ghost use Rattle.std.specs.Prelude.{◌≡◌, []};
+ghost use Rattle.job_sheet.specs.Hands.{fresh_holding};
+ghost use Rattle.job_sheet.specs.Seats.{IsHand, IsNew, sheet_of};
+
+use crate::view::View;
+use atomic_table::Seat;
+use std::marker::Model;
+use trace::Trace;
+
+/// Who has it may claim places of its sheet and report them. The watch is a hand without a number, which claims none.
+///
+/// Contracts see it as the record of its sheet, its number, how the sheet stood at its last step, and the places that it
+/// reported done and failed.
+#[derive(Drop)]
+pub struct Hand {
+    pub(crate) seat: Seat<(), View>,
+    pub(crate) done: Trace<u64>,
+    pub(crate) failed: Trace<u64>,
+}
+
+impl Model for Hand {
+    ghost use Rattle.job_sheet.specs.Hands.{Holding};
+    ghost use Rattle.job_sheet.specs.Seats.{IsHand, holding_of};
+
+    ghost Value = { Holding };
+
+    ghost view = { λ h. holding_of h.seat h.done.entries h.failed.entries };
+
+    ghost invariant = { λ h. IsHand h.seat h.done.entries h.failed.entries };
+}
+
+impl Hand {
+    /// The hand of a new seat.
+    pub(crate) fn of(seat: Seat<(), View>) -> Hand
+        requires hand { IsHand seat [] [] }
+        requires fresh { IsNew seat }
+        ensures { result ≡ fresh_holding (sheet_of seat) seat.me.0.number }
+    {
+        Hand {
+            seat,
+            done: Trace::new(),
+            failed: Trace::new(),
+        }
+    }
+}
