@@ -89,7 +89,7 @@ pub record Tells (before after : Holding) (p : Progress) : Type 0 where
   pub places : p.places ≡ before.sheet.places
   pub done : p.done ≡ done_count first
   pub failed : p.failed ≡ failed_count second
-  pub claimed : p.claimed ≡ min before.sheet.places (claimed_count after.seen + vain_count after.seen)
+  pub claimed : p.claimed ≡ min (claimed_count after.seen + vain_count after.seen) before.sheet.places
   pub cancelled : p.cancelled ≡ after.seen.cancelled
 
 -- How the numbers stand to one another, and to what the hand has seen before and after: `claimed` is exact while the job is not cancelled, and may after
@@ -129,8 +129,8 @@ claimed_by hands = sum_by (λ (h : Holding). length (own h).claimed) hands
 abbrev pub claims_by : ℕ → List Holding → ℕ
 claims_by place hands = sum_by (λ (h : Holding). times place (own h).claimed) hands
 
--- what these hands have claimed is the places below so many, each claimed by one of them, once
+-- what these hands have claimed is the places below how many they are, each claimed by one of them, once
 pub record ShareOut (places : ℕ) (hands : List Holding) : Type 0 where
-  pub count : claimed_by hands ≡ places
-  pub once : (place : ℕ) → place < places → claims_by place hands ≡ 1
-  pub none_else : (place : ℕ) → places ≤ place → claims_by place hands ≡ 0
+  pub within : claimed_by hands ≤ places
+  pub once : (place : ℕ) → place < claimed_by hands → claims_by place hands ≡ 1
+  pub none_else : (place : ℕ) → claimed_by hands ≤ place → claims_by place hands ≡ 0

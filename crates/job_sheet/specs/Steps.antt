@@ -42,9 +42,14 @@ module _ {S : Type 0} where
   abbrev pub ReadBy : (Standing → ℕ) → Me S View → ℕ → Me S View → Type 0
   ReadBy word_of me word after = (found : Standing) × (word ≡ word_of found) × Leaves me found found after
 
-  -- a seat heard another one, and has then found a standing no earlier than what either had seen
-  abbrev pub HeardBy : Me S View → Me S View → Me S View → Type 0
-  HeardBy me other after = (found : Standing) × Later other.0.seen found × Leaves me found found after
+-- a seat heard another one, and has then found a standing no earlier than what either had seen
+pub record HeardBy {S : Type 0} (me other after : Me S View) : Type 0 where
+  pub found : Standing
+  pub sound : IsSound me.0.places me.0.hands found
+  pub later : Later me.0.seen found
+  pub heard : Later other.0.seen found
+  pub own_is : own_of me.0.number found ≡ own_of me.0.number me.0.seen
+  pub is : after ≡ (seeing_now me.0 found, me.1)
 
 -- a hand's seat, and one that has claimed more places than it reported
 abbrev pub HasNumber : View → Type 0

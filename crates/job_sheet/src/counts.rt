@@ -1,5 +1,5 @@
 //! The three words of a sheet, and the steps on them.
-ghost use Rattle.std.specs.Prelude.{◌≡◌, ◌≢◌, ◌<◌, ◌≤◌, true, [], IfOk};
+ghost use Rattle.std.specs.Prelude.{◌≡◌, ◌≢◌, ◌<◌, ◌≤◌, true, [], None, IfOk};
 ghost use Rattle.job_sheet.specs.declared.standing.End.TheVariants.{Open};
 ghost use Rattle.job_sheet.specs.Standings.{done_count, failed_count};
 ghost use Rattle.job_sheet.specs.Hands.{own_of};
@@ -55,7 +55,7 @@ impl Counts {
     /// Deals out the seat of the next hand.
     pub fn deal(&self, seat: &mut Seat<(), View>) -> Seat<(), View>
         requires own { seat.old.table_id ≡ self.now.table.shared.table_id }
-        requires some { seat.old.me.0.dealt < seat.old.me.0.hands }
+        requires some { (seat.old.me.0.number ≡ None) × (seat.old.me.0.dealt < seat.old.me.0.hands) }
         ensures own { (seat.new.table_id ≡ seat.old.table_id) × (result.table_id ≡ seat.old.table_id) }
         ensures left { seat.new.me ≡ (one_less seat.old.me.0, seat.old.me.1) }
         ensures dealt { result.me ≡ (dealt_to seat.old.me.0, []) }

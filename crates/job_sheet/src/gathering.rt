@@ -25,7 +25,7 @@ impl JobSheet {
         ghost hands: { List Holding }
         requires own { hand.now.sheet ≡ self.now }
         requires gathered { HasGathered hand.now hands }
-        ensures shared { ShareOut (claimed_by hands) hands }
+        ensures shared { ShareOut self.now.places hands }
         ensures all { (h : Holding) → Contains hands h → (own h).end ≡ AllClaimed → claimed_by hands ≡ self.now.places }
     {
         let _seat = &hand.seat;

@@ -1,7 +1,7 @@
 //! A hand.
 ghost use Rattle.std.specs.Prelude.{◌≡◌, []};
-ghost use Rattle.job_sheet.specs.Hands.{fresh_holding};
-ghost use Rattle.job_sheet.specs.Seats.{IsHand, IsNew, sheet_of};
+ghost use Rattle.job_sheet.specs.Hands.{fresh_holding, fresh_standing};
+ghost use Rattle.job_sheet.specs.Seats.{IsHand, sheet_of};
 
 use crate::view::View;
 use atomic_table::Seat;
@@ -27,14 +27,14 @@ impl Model for Hand {
 
     ghost view = { λ h. holding_of h.seat h.done.entries h.failed.entries };
 
-    ghost invariant = { λ h. IsHand h.seat h.done.entries h.failed.entries };
+    ghost invariant = { λ h. IsHand h.seat.me h.done.entries h.failed.entries };
 }
 
 impl Hand {
     /// The hand of a new seat.
     pub(crate) fn of(seat: Seat<(), View>) -> Hand
-        requires hand { IsHand seat [] [] }
-        requires fresh { IsNew seat }
+        requires hand { IsHand seat.me [] [] }
+        requires fresh { seat.me.0.seen ≡ fresh_standing seat.me.0.hands }
         ensures { result ≡ fresh_holding (sheet_of seat) seat.me.0.number }
     {
         Hand {
