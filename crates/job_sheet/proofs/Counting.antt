@@ -5,7 +5,7 @@ use mathlib.Core.Logic.{dite}
 use native.Mathlib.Decide.{ℕ_discrete}
 use Rattle.job_sheet.specs.declared.standing.Account.{Account}
 use Rattle.job_sheet.specs.Standings.{times}
-use Rattle.job_sheet.specs.Seats.{AreReports}
+use Rattle.job_sheet.specs.Hands.{AreReports}
 use Rattle.job_sheet.specs.Calls.{one_done, one_failed}
 
 -- 1 for the number itself
@@ -24,10 +24,10 @@ times_push x y xs = sum_by_push (one_at x) xs y
 times_cons : (x y : ℕ) (xs : List ℕ) → times x (y ∷ xs) ≡ one_at x y + times x xs
 times_cons x y xs = sum_by-cons (one_at x) y xs
 
-times_append : (x : ℕ) (xs ys : List ℕ) → times x (xs ++ ys) ≡ times x xs + times x ys
+pub times_append : (x : ℕ) (xs ys : List ℕ) → times x (xs ++ ys) ≡ times x xs + times x ys
 times_append x xs ys = sum_by-append (one_at x) xs ys
 
-times_some : (xs : List ℕ) (x : ℕ) → Contains xs x → 1 ≤ times x xs
+pub times_some : (xs : List ℕ) (x : ℕ) → Contains xs x → 1 ≤ times x xs
 times_some xs x (k, lt, is) =
     let t = get_or-le-sum_by (one_at x) xs k x lt in
     let e : one_at x (get_or xs k x) ≡ one_at x x = ap (one_at x) is in

@@ -1,12 +1,16 @@
 -- What a hand knows that gathered all hands of its sheet.
-use Rattle.std.proofs.Common.{◌≡◌, ◌∙◌, ◌≢◌, ℕ, zero, suc, ◌+◌, ◌<◌, ◌≤◌, List, [], ◌∷◌, Some, Contains, get_or, length, slice_get, sum_by, sym, refl, ap, subst, arith}
+use Rattle.std.proofs.Common.{◌≡◌, ◌∙◌, ◌≢◌, ℕ, zero, suc, ◌+◌, ◌<◌, ◌≤◌, List, [], ◌∷◌, ◌++◌, Option, Some, None, Contains, get_or, length, slice_get, sum_by, sym, refl, ap, subst, arith}
 use Rattle.std.proofs.lemmas.List.Sums.{sum_by-cons}
+use mathlib.Core.Logic.{dite}
+use native.Mathlib.Decide.{dec_lt}
 use Rattle.job_sheet.specs.declared.standing.Account.{Account}
 use Rattle.job_sheet.specs.declared.standing.End.{End}
 use Rattle.job_sheet.specs.declared.standing.End.TheVariants.{AllClaimed}
-use Rattle.job_sheet.specs.Standings.{HasCause, IsSound, account, claimed_count, claims_of, fresh, times}
-use Rattle.job_sheet.specs.Hands.{HasGathered, Holding, own}
-use Rattle.job_sheet.specs.Calls.{ShareOut, claimed_by, claims_by}
+use Rattle.job_sheet.specs.declared.standing.Standing.{Standing}
+use Rattle.job_sheet.specs.Standings.{HasCause, IsSound, Later, account, claimed_count, claims_of, fresh, times}
+use Rattle.job_sheet.specs.Hands.{AreApart, HasGathered, Holding, own, own_of}
+use Rattle.job_sheet.specs.Calls.{Gathers, ShareOut, claimed_by, claims_by}
+use Rattle.job_sheet.proofs.Counting.{times_append, times_some}
 
 -- a sum over hands is one over as many accounts, where each two terms are one
 sum_over : (f : Holding → ℕ) (g : Account → ℕ) (hs : List Holding) (xs : List Account) → length hs ≡ length xs → ((k : ℕ) (h : Holding) → slice_get hs k ≡ Some h → f h ≡ g (get_or xs k fresh)) → sum_by f hs ≡ sum_by g xs
@@ -52,3 +56,45 @@ module _ (gatherer : Holding) (hands : List Holding) (sound : IsSound gatherer.s
       let l = g.1 in
       let ended : (account gatherer.seen k).end ≡ AllClaimed = (l.ended g.2).1 ∙ e in
       as_many ∙ subst (HasCause gatherer.sheet.places gatherer.seen) ended (sound.cause k)
+
+-- NO PLACE IN COMMON
+
+module _ (f : Account → ℕ) (none : f fresh ≡ 0) where
+  -- a term of a sum, and two of them at two places, are within it
+  one_of_sum : (xs : List Account) (k : ℕ) → f (get_or xs k fresh) ≤ sum_by f xs
+  one_of_sum [] k = omega arith
+  one_of_sum (x ∷ xs) zero = let c = sum_by-cons f x xs in omega arith
+  one_of_sum (x ∷ xs) (suc k) = let c = sum_by-cons f x xs in let h = one_of_sum xs k in omega arith
+
+  two_of_sum : (xs : List Account) (j k : ℕ) → j ≢ k → f (get_or xs j fresh) + f (get_or xs k fresh) ≤ sum_by f xs
+  two_of_sum [] j k ne = omega arith
+  two_of_sum (x ∷ xs) zero zero ne = absurd (ne refl)
+  two_of_sum (x ∷ xs) zero (suc k) ne = let c = sum_by-cons f x xs in let h = one_of_sum xs k in omega arith
+  two_of_sum (x ∷ xs) (suc j) zero ne = let c = sum_by-cons f x xs in let h = one_of_sum xs j in omega arith
+  two_of_sum (x ∷ xs) (suc j) (suc k) ne = let c = sum_by-cons f x xs in let h = two_of_sum xs j k (λ e. ne (ap suc e)) in omega arith
+
+module _ (places hands : ℕ) (s : Standing) (sound : IsSound places hands s) where
+  once_at_most : (place : ℕ) → claims_of place s ≤ 1
+  once_at_most place = dite (dec_lt place (claimed_count s))
+      (λ lt. let o = sound.once place lt in omega arith)
+      (λ le. let o = sound.none_else place (omega arith) in omega arith)
+
+  -- the accounts of two hands, as the one has left it and as it was seen of the other
+  apart_in : (o o' : Option ℕ) (mine theirs : Standing) → own_of o s ≡ own_of o mine → Later theirs s → o ≢ o' → (place : ℕ) → Contains (own_of o mine).claimed place → Contains (own_of o' theirs).claimed place → ⊥
+  apart_in None o' mine theirs same later ne place (k, lt, is) c' = absurd (omega arith)
+  apart_in (Some j) None mine theirs same later ne place c (k, lt, is) = absurd (omega arith)
+  apart_in (Some j) (Some k) mine theirs same later ne place c c' =
+      let l = later.accounts k in
+      let m = l.claimed in
+      let a = times_some (account mine j).claimed place c in
+      let a' : times place (account s j).claimed ≡ times place (account mine j).claimed = ap (λ (x : Account). times place x.claimed) same in
+      let b = times_some (account theirs k).claimed place c' in
+      let b' : times place (account s k).claimed ≡ times place ((account theirs k).claimed ++ m.0) = ap (times place) m.1 in
+      let b'' = times_append place (account theirs k).claimed m.0 in
+      let t = two_of_sum (λ (x : Account). times place x.claimed) refl s.accounts j k (λ e. ne (ap (λ (n : ℕ). Some n) e)) in
+      let o = once_at_most place in
+      absurd (omega arith)
+
+pub apart : (before other after : Holding) → Gathers before other after → AreApart before other
+apart before other after g ne place c c' =
+    apart_in before.sheet.places before.sheet.hands after.seen g.finds.sound before.number other.number before.seen other.seen g.finds.own_is g.heard ne place c c'

@@ -12,11 +12,11 @@ use Rattle.job_sheet.specs.declared.standing.End.TheVariants.{AllClaimed, Cancel
 use Rattle.job_sheet.specs.declared.standing.Standing.{Standing}
 use Rattle.job_sheet.specs.declared.view.View.{View}
 use Rattle.job_sheet.specs.Standings.{HasCause, IsSound, Later, account, claimed_count, ending, fresh, gaining, times, vain, vain_count}
-use Rattle.job_sheet.specs.Hands.{Holding, MayReport, change_own, own_of}
+use Rattle.job_sheet.specs.Hands.{AreReports, Holding, MayReport, change_own, own_of}
 use Rattle.job_sheet.specs.Calls.{Cancels, Claims, MayFind, MeetsNone, ReportsDone, ReportsFailed, one_done, one_failed, seeing}
 use Rattle.job_sheet.specs.Views.{claim_word, mark_of, seeing_now}
 use Rattle.job_sheet.specs.Steps.{CancelledBy, ClaimedBy, HasNumber, HasUnreported, Leaves, Meets, ReportedBy, claiming}
-use Rattle.job_sheet.specs.Seats.{AreReports, IsHand, holding_of}
+use Rattle.job_sheet.specs.Seats.{IsHand, holding_of}
 use Rattle.job_sheet.proofs.Accounts.{account_here}
 use Rattle.job_sheet.proofs.Counting.{reports_after_done, reports_after_failed, some_unreported, times_push}
 

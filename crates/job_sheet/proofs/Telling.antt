@@ -11,11 +11,11 @@ use Rattle.job_sheet.specs.declared.standing.End.TheVariants.{Open}
 use Rattle.job_sheet.specs.declared.standing.Standing.{Standing}
 use Rattle.job_sheet.specs.declared.view.View.{View}
 use Rattle.job_sheet.specs.Standings.{IsSound, Later, LaterAccount, account, claimed_count, done_count, failed_count, fresh, vain_count}
-use Rattle.job_sheet.specs.Hands.{Holding, own_of}
+use Rattle.job_sheet.specs.Hands.{AreReports, Holding, own_of}
 use Rattle.job_sheet.specs.Calls.{AddsUp, Gathers, IsFinal, IsSettled, MayFind, Tells, seeing}
 use Rattle.job_sheet.specs.Views.{claim_word, mark_of, seeing_now}
 use Rattle.job_sheet.specs.Steps.{HeardBy, ReadBy}
-use Rattle.job_sheet.specs.Seats.{AreReports, IsHand, holding_of}
+use Rattle.job_sheet.specs.Seats.{IsHand, holding_of}
 use Rattle.job_sheet.proofs.Accounts.{later_than}
 use Rattle.job_sheet.proofs.Words.{count_small, reported_within}
 use Rattle.job_sheet.proofs.Held.{no_true, no_vain, yes_true}

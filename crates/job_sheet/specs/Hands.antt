@@ -1,10 +1,10 @@
 -- What contracts see of a sheet and of its hands.
-use Rattle.std.specs.Prelude.{◌≡◌, ◌≢◌, ℕ, ◌<◌, ◌≤◌, false, List, [], Option, Some, None, length, replicate, slice_get, Contains}
+use Rattle.std.specs.Prelude.{◌≡◌, ◌≢◌, ℕ, ◌+◌, ◌<◌, ◌≤◌, false, List, [], Option, Some, None, length, replicate, slice_get, Contains}
 use Rattle.atomic_table.specs.Seated.{TableId}
 use Rattle.job_sheet.specs.declared.standing.Account.{Account}
 use Rattle.job_sheet.specs.declared.standing.End.TheVariants.{Open}
 use Rattle.job_sheet.specs.declared.standing.Standing.{Standing}
-use Rattle.job_sheet.specs.Standings.{IsSound, Later, LaterAccount, account, claimed_count, claims_of, fresh, with_account}
+use Rattle.job_sheet.specs.Standings.{LaterAccount, account, fresh, times, with_account}
 
 -- which sheet it is, how many places it gives out, and to how many hands
 pub record Sheet : Type 0 where
@@ -35,6 +35,12 @@ change_own (Some number) f s = with_account number (f (account s number)) s
 abbrev pub own : Holding → Account
 own h = own_of h.number h.seen
 
+-- the places that were reported are as many as the account counts, each claimed, and each reported once
+pub record AreReports (a : Account) (done failed : List ℕ) : Type 0 where
+  pub done_is : length done ≡ a.done
+  pub failed_is : length failed ≡ a.failed
+  pub of_claimed : (place : ℕ) → times place done + times place failed ≤ times place a.claimed
+
 -- NEW HANDS
 
 -- nothing is claimed yet
@@ -62,6 +68,10 @@ pub record MayReport (h : Holding) (place : ℕ) : Type 0 where
   pub not_failed : ¬ (Contains h.failed place)
 
 -- HANDS GATHERED
+
+-- two hands that are not one have claimed no place in common
+abbrev pub AreApart : Holding → Holding → Type 0
+AreApart h h' = h.number ≢ h'.number → (place : ℕ) → Contains (own h).claimed place → ¬ (Contains (own h').claimed place)
 
 -- `gatherer` has seen of each of these hands, which are all hands of its sheet, what the hand had claimed when it met None
 pub record HasGathered (gatherer : Holding) (hands : List Holding) : Type 0 where

@@ -1,11 +1,10 @@
 -- What lies behind a hand: its seat, and the places that it reported.
-use Rattle.std.specs.Prelude.{◌≡◌, ℕ, ◌+◌, ◌<◌, ◌≤◌, true, List, [], Some, length}
+use Rattle.std.specs.Prelude.{◌≡◌, ℕ, ◌<◌, true, List, [], Some}
 use Rattle.atomic_table.specs.Table.{Me}
 use Rattle.atomic_table.specs.declared.shared.Seat.{Seat}
-use Rattle.job_sheet.specs.declared.standing.Account.{Account}
 use Rattle.job_sheet.specs.declared.view.View.{View}
-use Rattle.job_sheet.specs.Standings.{IsSound, times}
-use Rattle.job_sheet.specs.Hands.{Holding, Sheet, own_of}
+use Rattle.job_sheet.specs.Standings.{IsSound}
+use Rattle.job_sheet.specs.Hands.{AreReports, Holding, Sheet, own_of}
 use Rattle.job_sheet.specs.Views.{dealer}
 
 module _ {S : Type 0} where
@@ -14,12 +13,6 @@ module _ {S : Type 0} where
 
   abbrev pub holding_of : Seat S View → List ℕ → List ℕ → Holding
   holding_of seat done failed = record { sheet = sheet_of seat; number = seat.me.0.number; seen = seat.me.0.seen; done = done; failed = failed }
-
--- the places that were reported are as many as the account counts, each claimed, and each reported once
-pub record AreReports (a : Account) (done failed : List ℕ) : Type 0 where
-  pub done_is : length done ≡ a.done
-  pub failed_is : length failed ≡ a.failed
-  pub of_claimed : (place : ℕ) → times place done + times place failed ≤ times place a.claimed
 
 -- The seat holds no slot and deals out no hand, its number is one of the sheet's, what it has seen is sound, and so are its reports
 pub record IsHand {S : Type 0} (me : Me S View) (done failed : List ℕ) : Type 0 where

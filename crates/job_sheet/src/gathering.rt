@@ -1,7 +1,7 @@
 //! Hands that tell each other what they have seen.
 ghost use Rattle.std.specs.Prelude.{◌≡◌, Contains, List};
 ghost use Rattle.job_sheet.specs.declared.standing.End.TheVariants.{AllClaimed};
-ghost use Rattle.job_sheet.specs.Hands.{HasGathered, Holding, own};
+ghost use Rattle.job_sheet.specs.Hands.{AreApart, HasGathered, Holding, own};
 ghost use Rattle.job_sheet.specs.Calls.{Gathers, ShareOut, claimed_by};
 
 use crate::hand::Hand;
@@ -12,6 +12,7 @@ impl JobSheet {
     pub fn gather(&self, into: &mut Hand, of: &mut Hand)
         requires own { (into.old.sheet ≡ self.now) × (of.old.sheet ≡ self.now) }
         ensures gathered { Gathers into.old of.old into.new }
+        ensures apart { AreApart into.old of.old }
         ensures same { of.new ≡ of.old }
     {
         let note = self.counts.note(&mut of.seat);

@@ -1,6 +1,7 @@
 //! A hand.
-ghost use Rattle.std.specs.Prelude.{◌≡◌, []};
-ghost use Rattle.job_sheet.specs.Hands.{fresh_holding, fresh_standing};
+ghost use Rattle.std.specs.Prelude.{◌≡◌, ◌<◌, ℕ, [], Some};
+ghost use Rattle.job_sheet.specs.Standings.{IsSound};
+ghost use Rattle.job_sheet.specs.Hands.{AreReports, fresh_holding, fresh_standing, own};
 ghost use Rattle.job_sheet.specs.Seats.{IsHand, sheet_of};
 
 use crate::view::View;
@@ -31,6 +32,15 @@ impl Model for Hand {
 }
 
 impl Hand {
+    /// What is true of every hand. It does nothing.
+    pub fn laws(&self)
+        ensures number { (number : ℕ) → self.now.number ≡ Some number → number < self.now.sheet.hands }
+        ensures sound { IsSound self.now.sheet.places self.now.sheet.hands self.now.seen }
+        ensures reports { AreReports (own self.now) self.now.done self.now.failed }
+    {
+        let _seat = &self.seat;
+    }
+
     /// The hand of a new seat.
     pub(crate) fn of(seat: Seat<(), View>) -> Hand
         requires hand { IsHand seat.me [] [] }
