@@ -135,6 +135,11 @@ module _ {S : Type 0} where
   own_after me done failed found g hand m n =
       own_changed me.0.number g found n (λ k e. let w = hand.numbered k e in let a = m.sound in let l = a.all in omega arith) ∙ ap g m.own_is
 
+  -- its own account then
+  own_left : (me after : Me S View) (done failed : List ℕ) (found : Standing) (g : Account → Account) → IsHand me done failed → HasNumber me.0 → Leaves me found (change_own me.0.number g found) after
+      → own_of after.0.number after.0.seen ≡ g (own_of me.0.number me.0.seen)
+  own_left me after done failed found g hand n l = ap (λ (m : Me S View). own_of m.0.number m.0.seen) l.is ∙ own_after me done failed found g hand l.meets n
+
   -- CLAIMS
 
   module _ (seat seat' : Seat S View) (done failed : List ℕ) (hand : IsHand seat.me done failed) (number : HasNumber seat.me.0) (word : ℕ) (same : seat'.table_id ≡ seat.table_id) (claimed : ClaimedBy seat.me word seat'.me) where
@@ -156,6 +161,9 @@ module _ {S : Type 0} where
     shows_claim g e = shows seat seat' done failed done failed (change_own seat.me.0.number g found) same
         (claimed.2.is ∙ ap (λ (h : Account → Account). (seeing_now seat.me.0 (change_own seat.me.0.number h found), seat.me.1)) e)
 
+    own_claim : (g : Account → Account) → claiming places found ≡ g → own_of seat'.me.0.number seat'.me.0.seen ≡ g (own_of seat.me.0.number seat.me.0.seen)
+    own_claim g e = own_left seat.me seat'.me done failed found (claiming places found) hand number claimed.2 ∙ ap (λ (h : Account → Account). h (own_of seat.me.0.number seat.me.0.seen)) e
+
     pub claims_place : places ≤ 10000000 → word < places → Claims (holding_of seat done failed) (holding_of seat' done failed) word
     claims_place few below =
         let w = claimed.1 in
@@ -168,6 +176,7 @@ module _ {S : Type 0} where
           next = w ∙ g.2;
           within = below;
           is = shows_claim (gaining word) (gaining_is places found g.0 g.1 ∙ ap gaining (sym (w ∙ g.2)));
+          own_is = own_claim (gaining word) (gaining_is places found g.0 g.1 ∙ ap gaining (sym (w ∙ g.2)));
           sound = sound_after seat.me seat'.me found (change_own seat.me.0.number (claiming places found) found) claimed.2;
         }
 
@@ -181,6 +190,7 @@ module _ {S : Type 0} where
           end = Cancelled;
           why = e;
           is = shows_claim (ending Cancelled) (cancelled_is places found e);
+          own_is = own_claim (ending Cancelled) (cancelled_is places found e);
           sound = sound_after seat.me seat'.me found (change_own seat.me.0.number (claiming places found) found) claimed.2;
         }
         by false e =
@@ -193,6 +203,7 @@ module _ {S : Type 0} where
               end = AllClaimed;
               why = (e, full);
               is = shows_claim (ending AllClaimed) (all_claimed_is places found e full);
+              own_is = own_claim (ending AllClaimed) (all_claimed_is places found e full);
               sound = sound_after seat.me seat'.me found (change_own seat.me.0.number (claiming places found) found) claimed.2;
             }
 
@@ -231,6 +242,7 @@ module _ {S : Type 0} where
       found = told.0;
       finds = may_find seat done failed told.0 told.1.meets;
       is = shows seat seat' done failed (done ++ place ∷ []) failed (change_own seat.me.0.number one_done told.0) same told.1.is;
+      own_is = own_left seat.me seat'.me done failed told.0 one_done hand number told.1;
       sound = sound_after seat.me seat'.me told.0 (change_own seat.me.0.number one_done told.0) told.1;
     }
 
@@ -239,6 +251,7 @@ module _ {S : Type 0} where
       found = told.0;
       finds = may_find seat done failed told.0 told.1.meets;
       is = shows seat seat' done failed done (failed ++ place ∷ []) (change_own seat.me.0.number one_failed told.0) same told.1.is;
+      own_is = own_left seat.me seat'.me done failed told.0 one_failed hand number told.1;
       sound = sound_after seat.me seat'.me told.0 (change_own seat.me.0.number one_failed told.0) told.1;
     }
 
@@ -255,5 +268,6 @@ module _ {S : Type 0} where
       found = told.0;
       finds = may_find seat done failed told.0 told.1.meets;
       is = shows seat seat' done failed done failed (record told.0 { cancelled = true }) same told.1.is;
+      own_is = let m = told.1.meets in ap (λ (x : Me S View). own_of x.0.number x.0.seen) told.1.is ∙ (cancel_own seat.me.0.number told.0 ∙ m.own_is);
       sound = sound_after seat.me seat'.me told.0 (record told.0 { cancelled = true }) told.1;
     }

@@ -17,7 +17,7 @@ use Rattle.job_sheet.specs.Views.{claim_word, mark_of, seeing_now}
 use Rattle.job_sheet.specs.Steps.{HeardBy, ReadBy}
 use Rattle.job_sheet.specs.Seats.{IsHand, holding_of}
 use Rattle.job_sheet.proofs.Accounts.{later_than}
-use Rattle.job_sheet.proofs.Words.{count_small, reported_within}
+use Rattle.job_sheet.proofs.Words.{count_small, reported_within, vain_few}
 use Rattle.job_sheet.proofs.Held.{no_true, no_vain, yes_true}
 
 -- SUMS OVER TWO STANDINGS
@@ -98,6 +98,7 @@ pub record Looks (before after : Holding) (d f word : ℕ) : Type 0 where
   pub then_finds : MayFind (seeing before first) second
   pub then_sees : MayFind (seeing before second) after.seen
   pub is : after ≡ seeing before after.seen
+  pub own_is : own_of after.number after.seen ≡ own_of before.number before.seen
   pub done_is : d ≡ done_count first
   pub failed_is : f ≡ failed_count second
   pub word_is : word ≡ claim_word after.seen
@@ -124,6 +125,7 @@ tells before after d f word p few some_hands l places claimed done failed cancel
       then_finds = l.then_finds;
       then_sees = l.then_sees;
       is = l.is;
+      own_is = l.own_is;
       places = places;
       done = done ∙ l.done_is;
       failed = failed ∙ l.failed_is;
@@ -169,7 +171,7 @@ module _ (before after : Holding) (p : Progress) (as_many : length before.seen.a
         exact = λ running. dite (dec_lt (claimed_count after.seen) places)
             (λ room. let v = no_vain places hands after.seen at_third (sym t.cancelled ∙ running) room in omega arith)
             (λ full. omega arith);
-        vain = omega arith;
+        vain = (omega arith, vain_few places hands after.seen at_third);
         within = omega arith;
         at_least = (omega arith, omega arith, omega arith);
         at_most = (omega arith, omega arith);
@@ -220,6 +222,7 @@ module _ {S : Type 0} where
           finds = subst (MayFind (holding_of seat done failed)) seen record { sound = heard.sound; later = heard.later; own_is = heard.own_is };
           heard = subst (Later h.seen) seen (subst (λ (s : Standing). Later s heard.found) e heard.heard);
           is = sees seat seat' done failed heard.found same heard.is ∙ ap (seeing (holding_of seat done failed)) seen;
+          own_is = ap (λ (m : Me S View). own_of m.0.number m.0.seen) heard.is ∙ heard.own_is;
         }
 
   -- PROGRESS
@@ -265,6 +268,7 @@ module _ {S : Type 0} where
           then_finds = record { sound = b.sound; later = b.later; own_is = b.own_is };
           then_sees = subst (MayFind (seeing h read_second.0)) seen record { sound = e.sound; later = e.later; own_is = e.own_is };
           is = sees seat three done failed read_third.0 (t'' ∙ (t' ∙ t)) read_third.2.is ∙ ap (seeing h) seen;
+          own_is = ap (λ (m : Me S View). own_of m.0.number m.0.seen) read_third.2.is ∙ same_third;
           done_is = first.1;
           failed_is = read_second.1;
           word_is = read_third.1 ∙ ap claim_word seen;

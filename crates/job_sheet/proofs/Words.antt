@@ -45,15 +45,16 @@ at_most_one Open = omega arith
 at_most_one AllClaimed = omega arith
 at_most_one Cancelled = omega arith
 
-module _ (places hands : ℕ) (s : Standing) (sound : IsSound places hands s) (few : places ≤ 10000000) (some_hands : hands ≤ 63) where
-  pub vain_few : vain_count s ≤ hands
-  vain_few =
-      let t = sum_by-le (λ (a : Account). vain a.end) 1 s.accounts (λ k d lt. at_most_one (get_or s.accounts k d).end) in
-      let a = sound.all in
-      omega arith
+-- each hand has met None at most once
+pub vain_few : (places hands : ℕ) (s : Standing) → IsSound places hands s → vain_count s ≤ hands
+vain_few places hands s sound =
+    let t = sum_by-le (λ (a : Account). vain a.end) 1 s.accounts (λ k d lt. at_most_one (get_or s.accounts k d).end) in
+    let a = sound.all in
+    omega arith
 
+module _ (places hands : ℕ) (s : Standing) (sound : IsSound places hands s) (few : places ≤ 10000000) (some_hands : hands ≤ 63) where
   pub count_small : claimed_count s + vain_count s ≤ 10000063
-  count_small = let v = vain_few in let w = sound.within in omega arith
+  count_small = let v = vain_few places hands s sound in let w = sound.within in omega arith
 
   mark_small : (b : Bool) → mark_of b ≤ 2 ^ 63
   mark_small true = omega arith

@@ -28,6 +28,7 @@ pub record Claims (before after : Holding) (place : ℕ) : Type 0 where
   pub next : place ≡ claimed_count found
   pub within : place < before.sheet.places
   pub is : after ≡ seeing before (change_own before.number (gaining place) found)
+  pub own_is : own after ≡ gaining place (own before)
   pub sound : IsSound before.sheet.places before.sheet.hands after.seen
 
 -- the job was cancelled, or it was not and all places were claimed
@@ -43,6 +44,7 @@ pub record MeetsNone (before after : Holding) : Type 0 where
   pub end : End
   pub why : Refuses before.sheet.places found end
   pub is : after ≡ seeing before (change_own before.number (ending end) found)
+  pub own_is : own after ≡ ending end (own before)
   pub sound : IsSound before.sheet.places before.sheet.hands after.seen
 
 -- REPORTS
@@ -58,12 +60,14 @@ pub record ReportsDone (before after : Holding) (place : ℕ) : Type 0 where
   pub found : Standing
   pub finds : MayFind before found
   pub is : after ≡ record before { seen = change_own before.number one_done found; done = before.done ++ place ∷ [] }
+  pub own_is : own after ≡ one_done (own before)
   pub sound : IsSound before.sheet.places before.sheet.hands after.seen
 
 pub record ReportsFailed (before after : Holding) (place : ℕ) : Type 0 where
   pub found : Standing
   pub finds : MayFind before found
   pub is : after ≡ record before { seen = change_own before.number one_failed found; failed = before.failed ++ place ∷ [] }
+  pub own_is : own after ≡ one_failed (own before)
   pub sound : IsSound before.sheet.places before.sheet.hands after.seen
 
 -- CANCELLING
@@ -73,6 +77,7 @@ pub record Cancels (before after : Holding) : Type 0 where
   pub found : Standing
   pub finds : MayFind before found
   pub is : after ≡ seeing before (record found { cancelled = true })
+  pub own_is : own after ≡ own before
   pub sound : IsSound before.sheet.places before.sheet.hands after.seen
 
 -- PROGRESS
@@ -86,6 +91,7 @@ pub record Tells (before after : Holding) (p : Progress) : Type 0 where
   pub then_finds : MayFind (seeing before first) second
   pub then_sees : MayFind (seeing before second) after.seen
   pub is : after ≡ seeing before after.seen
+  pub own_is : own after ≡ own before
   pub places : p.places ≡ before.sheet.places
   pub done : p.done ≡ done_count first
   pub failed : p.failed ≡ failed_count second
@@ -98,7 +104,7 @@ pub record AddsUp (before after : Holding) (p : Progress) : Type 0 where
   pub reported : p.done + p.failed ≤ claimed_count after.seen
   pub claimed : claimed_count after.seen ≤ p.claimed
   pub exact : p.cancelled ≡ false → p.claimed ≡ claimed_count after.seen
-  pub vain : p.claimed ≤ claimed_count after.seen + vain_count after.seen
+  pub vain : (p.claimed ≤ claimed_count after.seen + vain_count after.seen) × (vain_count after.seen ≤ before.sheet.hands)
   pub within : p.claimed ≤ p.places
   pub at_least : (done_count before.seen ≤ p.done) × (failed_count before.seen ≤ p.failed) × (claimed_count before.seen ≤ p.claimed)
   pub at_most : (p.done ≤ done_count after.seen) × (p.failed ≤ failed_count after.seen)
@@ -121,6 +127,7 @@ pub record Gathers (before other after : Holding) : Type 0 where
   pub finds : MayFind before after.seen
   pub heard : Later other.seen after.seen
   pub is : after ≡ seeing before after.seen
+  pub own_is : own after ≡ own before
 
 -- how many places these hands have claimed, and how often one
 abbrev pub claimed_by : List Holding → ℕ
