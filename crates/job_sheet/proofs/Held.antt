@@ -1,5 +1,6 @@
 -- What hands know after the calls.
 use Rattle.std.proofs.Common.{◌≡◌, ◌∙◌, ◌≢◌, ℕ, ◌+◌, ◌<◌, ◌≤◌, ◌^◌, Bool, true, false, true≢false, if◌then◌else◌, nat_lt, T, lt→ltb, ltb→lt, Contains, List, [], ◌∷◌, ◌++◌, Option, Some, None, get_or, length, sum_by, sym, refl, ap, subst, arith}
+use Rattle.std.proofs.lemmas.List.Elements.{Contains-push}
 use Rattle.std.proofs.lemmas.List.Sums.{sum_by-le}
 use Rattle.std.proofs.lemmas.List.{get_or_default}
 use mathlib.Core.Logic.{dite}
@@ -17,8 +18,8 @@ use Rattle.job_sheet.specs.Calls.{Cancels, Claims, MayFind, MeetsNone, ReportsDo
 use Rattle.job_sheet.specs.Views.{claim_word, mark_of, seeing_now}
 use Rattle.job_sheet.specs.Steps.{CancelledBy, ClaimedBy, HasNumber, HasUnreported, Leaves, Meets, ReportedBy, claiming}
 use Rattle.job_sheet.specs.Seats.{IsHand, holding_of}
-use Rattle.job_sheet.proofs.Accounts.{account_here}
-use Rattle.job_sheet.proofs.Counting.{reports_after_done, reports_after_failed, some_unreported, times_push}
+use Rattle.job_sheet.proofs.Accounts.{account_here, one_of_sum}
+use Rattle.job_sheet.proofs.Counting.{reports_after_done, reports_after_failed, some_unreported, times_push, times_some}
 
 -- THE OWN ACCOUNT
 
@@ -164,6 +165,28 @@ module _ {S : Type 0} where
     own_claim : (g : Account → Account) → claiming places found ≡ g → own_of seat'.me.0.number seat'.me.0.seen ≡ g (own_of seat.me.0.number seat.me.0.seen)
     own_claim g e = own_left seat.me seat'.me done failed found (claiming places found) hand number claimed.2 ∙ ap (λ (h : Account → Account). h (own_of seat.me.0.number seat.me.0.seen)) e
 
+    -- the next place is none of its own, and so none that it has reported
+    new_place : word ≡ claimed_count found → times word (own_of seat.me.0.number seat.me.0.seen).claimed ≡ 0
+    new_place next =
+        let m = claimed.2.meets in
+        let k = number.0 in
+        let o = m.sound.none_else word (omega arith) in
+        let w = hand.numbered k number.1 in
+        let all = m.sound.all in
+        let t = one_of_sum (λ (a : Account). times word a.claimed) found k (omega arith) in
+        let e : times word (account found k).claimed ≡ times word (own_of seat.me.0.number seat.me.0.seen).claimed = ap (λ (a : Account). times word a.claimed) (ap (λ (x : Option ℕ). own_of x found) (sym number.1) ∙ m.own_is) in
+        omega arith
+
+    may_report_it : own_of seat'.me.0.number seat'.me.0.seen ≡ gaining word (own_of seat.me.0.number seat.me.0.seen) → word ≡ claimed_count found → MayReport (holding_of seat' done failed) word
+    may_report_it own_is next =
+        let z = new_place next in
+        let r = hand.reports.of_claimed word in
+        record {
+          claimed = subst (λ (a : Account). Contains a.claimed word) (sym own_is) (Contains-push (own_of seat.me.0.number seat.me.0.seen).claimed word);
+          not_done = λ c. let t = times_some done word c in absurd (omega arith);
+          not_failed = λ c. let t = times_some failed word c in absurd (omega arith);
+        }
+
     pub claims_place : places ≤ 10000000 → word < places → Claims (holding_of seat done failed) (holding_of seat' done failed) word
     claims_place few below =
         let w = claimed.1 in
@@ -177,6 +200,8 @@ module _ {S : Type 0} where
           within = below;
           is = shows_claim (gaining word) (gaining_is places found g.0 g.1 ∙ ap gaining (sym (w ∙ g.2)));
           own_is = own_claim (gaining word) (gaining_is places found g.0 g.1 ∙ ap gaining (sym (w ∙ g.2)));
+          is_new = λ c. let z = new_place (w ∙ g.2) in let t = times_some (own_of seat.me.0.number seat.me.0.seen).claimed word c in absurd (omega arith);
+          may_report = may_report_it (own_claim (gaining word) (gaining_is places found g.0 g.1 ∙ ap gaining (sym (w ∙ g.2)))) (w ∙ g.2);
           sound = sound_after seat.me seat'.me found (change_own seat.me.0.number (claiming places found) found) claimed.2;
         }
 
@@ -271,3 +296,13 @@ module _ {S : Type 0} where
       own_is = let m = told.1.meets in ap (λ (x : Me S View). own_of x.0.number x.0.seen) told.1.is ∙ (cancel_own seat.me.0.number told.0 ∙ m.own_is);
       sound = sound_after seat.me seat'.me told.0 (record told.0 { cancelled = true }) told.1;
     }
+
+-- a hand has claimed no more places than there are
+pub own_within : (places hands : ℕ) (s : Standing) (o : Option ℕ) → IsSound places hands s → ((n : ℕ) → o ≡ Some n → n < hands) → length (own_of o s).claimed ≤ places
+own_within places hands s None sound numbered = omega arith
+own_within places hands s (Some k) sound numbered =
+    let w = sound.within in
+    let all = sound.all in
+    let lt = numbered k refl in
+    let t = one_of_sum (λ (a : Account). length a.claimed) s k (omega arith) in
+    omega arith

@@ -1,12 +1,12 @@
 -- What each call of a sheet does to its hand.
-use Rattle.std.specs.Prelude.{◌≡◌, ◌≢◌, ℕ, ◌+◌, ◌<◌, ◌≤◌, ◌⊎◌, Bool, true, false, min, List, [], ◌∷◌, ◌++◌, Option, Some, None, length, sum_by}
+use Rattle.std.specs.Prelude.{◌≡◌, ◌≢◌, ℕ, ◌+◌, ◌<◌, ◌≤◌, ◌⊎◌, Bool, true, false, min, List, [], ◌∷◌, ◌++◌, Option, Some, None, Contains, length, sum_by}
 use Rattle.job_sheet.specs.declared.progress.Progress.{Progress}
 use Rattle.job_sheet.specs.declared.standing.Account.{Account}
 use Rattle.job_sheet.specs.declared.standing.End.{End}
 use Rattle.job_sheet.specs.declared.standing.End.TheVariants.{AllClaimed, Cancelled, Open}
 use Rattle.job_sheet.specs.declared.standing.Standing.{Standing}
 use Rattle.job_sheet.specs.Standings.{IsSound, Later, account, claimed_count, claims_of, done_count, ending, failed_count, gaining, times, vain_count}
-use Rattle.job_sheet.specs.Hands.{Holding, change_own, own, own_of}
+use Rattle.job_sheet.specs.Hands.{Holding, MayReport, change_own, own, own_of}
 
 -- A standing that the hand may find at a step: a sound one, no earlier than what it has seen, in which its own account is as it left it
 pub record MayFind (h : Holding) (found : Standing) : Type 0 where
@@ -20,7 +20,7 @@ seeing h s = record h { seen = s }
 
 -- CLAIMS
 
--- The job was not cancelled and not all places were claimed. The hand gains the next place, which is the least one that no hand had claimed
+-- The job was not cancelled and not all places were claimed. The hand gains the next place, which is the least one that no hand had claimed, and may report it
 pub record Claims (before after : Holding) (place : ℕ) : Type 0 where
   pub found : Standing
   pub finds : MayFind before found
@@ -29,6 +29,8 @@ pub record Claims (before after : Holding) (place : ℕ) : Type 0 where
   pub within : place < before.sheet.places
   pub is : after ≡ seeing before (change_own before.number (gaining place) found)
   pub own_is : own after ≡ gaining place (own before)
+  pub is_new : ¬ (Contains (own before).claimed place)
+  pub may_report : MayReport after place
   pub sound : IsSound before.sheet.places before.sheet.hands after.seen
 
 -- the job was cancelled, or it was not and all places were claimed

@@ -1,5 +1,5 @@
 //! A hand.
-ghost use Rattle.std.specs.Prelude.{◌≡◌, ◌<◌, ℕ, [], Some};
+ghost use Rattle.std.specs.Prelude.{◌≡◌, ◌<◌, ◌≤◌, ℕ, [], Some, length};
 ghost use Rattle.job_sheet.specs.Standings.{IsSound};
 ghost use Rattle.job_sheet.specs.Hands.{AreReports, fresh_holding, fresh_standing, own};
 ghost use Rattle.job_sheet.specs.Seats.{IsHand, sheet_of};
@@ -36,6 +36,7 @@ impl Hand {
     pub fn laws(&self)
         ensures number { (number : ℕ) → self.now.number ≡ Some number → number < self.now.sheet.hands }
         ensures sound { IsSound self.now.sheet.places self.now.sheet.hands self.now.seen }
+        ensures within { length (own self.now).claimed ≤ self.now.sheet.places }
         ensures reports { AreReports (own self.now) self.now.done self.now.failed }
     {
         let _seat = &self.seat;

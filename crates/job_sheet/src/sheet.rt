@@ -1,5 +1,5 @@
 //! A sheet.
-ghost use Rattle.std.specs.Prelude.{◌≡◌};
+ghost use Rattle.std.specs.Prelude.{◌≡◌, ◌≤◌};
 
 use crate::counts::Counts;
 use std::marker::Model;
@@ -21,9 +21,10 @@ impl Model for JobSheet {
 }
 
 impl JobSheet {
-    /// How many places the job has.
+    /// How many places the job has: at most 10,000,000.
     pub fn places(&self) -> u64
-        ensures { result ≡ self.now.places }
+        ensures value { result ≡ self.now.places }
+        ensures bound { result ≤ 10000000 }
     {
         self.counts.places
     }
