@@ -23,11 +23,9 @@ impl JobSheet {
     /// many they are, each claimed by one of them, once. Where one of them met None since all places were claimed, they are
     /// all places. It does nothing.
     pub fn all_claimed(&self, hand: &Hand)
-        ghost hands: { List Holding }
         requires own { hand.now.sheet ≡ self.now }
-        requires gathered { HasGathered hand.now hands }
-        ensures shared { ShareOut self.now.places hands }
-        ensures all { (h : Holding) → Contains hands h → (own h).end ≡ AllClaimed → claimed_by hands ≡ self.now.places }
+        ensures shared { (hands : List Holding) → HasGathered hand.now hands → ShareOut self.now.places hands }
+        ensures all { (hands : List Holding) (h : Holding) → HasGathered hand.now hands → Contains hands h → (own h).end ≡ AllClaimed → claimed_by hands ≡ self.now.places }
     {
         let _seat = &hand.seat;
     }

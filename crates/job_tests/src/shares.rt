@@ -1,5 +1,5 @@
 //! job_sheet: two threads share the places of a job, and their hands are gathered
-ghost use Rattle.std.specs.Prelude.{◌≡◌, ◌+◌, ◌<◌, ◌≤◌, ℕ, Some, IfOk, IfSome};
+ghost use Rattle.std.specs.Prelude.{◌≡◌, ◌+◌, ◌≤◌, ℕ, Some, IfOk, IfSome};
 ghost use Rattle.job_sheet.specs.Hands.{fresh_holding};
 ghost use Rattle.job_tests.specs.Worked.{HasWorked};
 
@@ -19,15 +19,15 @@ struct Shares {
 
 /// Claims places until None, and reports each done. How many they were.
 fn work(sheet: &JobSheet, hand: Hand) -> (Hand, u64)
-    ghost number: { ℕ }
-    requires number { number < sheet.now.hands }
-    requires fresh { hand ≡ fresh_holding sheet.now (Some number) }
-    ensures { HasWorked sheet.now number result.1 result.0 }
+    requires fresh { (number : ℕ) × (hand ≡ fresh_holding sheet.now (Some number)) }
+    ensures { HasWorked sheet.now hand.number result.1 result.0 }
 {
     let mut hand = hand;
     let mut count = 0;
+    let _places = sheet.places();
     'claiming: while let Some(place) = sheet.claim(&mut hand) {
         sheet.done(&mut hand, place);
+        hand.laws();
         count += 1;
     }
     (hand, count)
@@ -56,11 +56,11 @@ fn share<R: Threads + Sync>(
         rt,
         || -> (Hand, u64)
             requires { first ≡ fresh_holding shared.now (Some 0) }
-            ensures { HasWorked shared.entry.now 0 result.1 result.0 }
+            ensures { HasWorked shared.entry.now (Some 0) result.1 result.0 }
         { work(shared, first) },
         || -> (Hand, u64)
             requires { second ≡ fresh_holding shared.now (Some 1) }
-            ensures { HasWorked shared.entry.now 1 result.1 result.0 }
+            ensures { HasWorked shared.entry.now (Some 1) result.1 result.0 }
         { work(shared, second) },
     );
     sheet.gather(&mut first, &mut second);

@@ -6,11 +6,11 @@ use Rattle.job_sheet.proofs.Gathered.{all_places, shares_out}
 use Rattle.job_sheet.proofs.sheet.JobSheet.all_claimed.Goals as goal
 
 pub returns-clause-shared : goal.returns-clause-shared
-returns-clause-shared g c =
+returns-clause-shared c hands gathered =
     let sound = subst (λ (h : Holding). IsSound h.sheet.places h.sheet.hands h.seen) c.hand.view_is c.hand.invariant.sound in
-    subst (λ (s : Sheet). ShareOut s.places g.hands) c.requires.0 (shares_out c.args.hand.now g.hands sound c.requires.1)
+    subst (λ (s : Sheet). ShareOut s.places hands) c.requires.own (shares_out c.args.hand.now hands sound gathered)
 
 pub returns-clause-all : goal.returns-clause-all
-returns-clause-all g c h there ended =
+returns-clause-all c hands h gathered there ended =
     let sound = subst (λ (h : Holding). IsSound h.sheet.places h.sheet.hands h.seen) c.hand.view_is c.hand.invariant.sound in
-    all_places c.args.hand.now g.hands sound c.requires.1 h there ended ∙ ap (λ (s : Sheet). s.places) c.requires.0
+    all_places c.args.hand.now hands sound gathered h there ended ∙ ap (λ (s : Sheet). s.places) c.requires.own
