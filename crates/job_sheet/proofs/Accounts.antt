@@ -1,5 +1,5 @@
 -- Accounts and standings: what a change of one hand's account does to them.
-use Rattle.std.proofs.Common.{◌≡◌, ◌∙◌, ◌≢◌, ℕ, ◌+◌, ◌<◌, ◌≤◌, List, [], ◌∷◌, ◌++◌, Option, Some, None, get_or, set, replicate, length, sum_by, true≢false, sym, refl, ap, subst, arith, append-nil, append_assoc, get_or-set_same, get_or-set_other, length-set}
+use Rattle.std.proofs.Common.{◌≡◌, ◌∙◌, ◌≢◌, ℕ, ◌+◌, ◌<◌, ◌≤◌, List, [], ◌∷◌, ◌++◌, Option, Some, None, get_or, replicate, length, sum_by, true≢false, sym, refl, ap, subst, arith, append-nil, append_assoc, get_or-set_same, get_or-set_other}
 use Rattle.std.proofs.lemmas.List.{get_or-replicate, length-replicate}
 use lib.ListN.{get_or-eq_default}
 use Rattle.std.proofs.lemmas.List.Sums.{get_or-le-sum_by, sum_by-set}

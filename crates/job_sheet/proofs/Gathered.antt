@@ -4,7 +4,6 @@ use Rattle.std.proofs.lemmas.List.Sums.{sum_by-cons}
 use mathlib.Core.Logic.{dite}
 use native.Mathlib.Decide.{dec_lt}
 use Rattle.job_sheet.specs.declared.standing.Account.{Account}
-use Rattle.job_sheet.specs.declared.standing.End.{End}
 use Rattle.job_sheet.specs.declared.standing.End.TheVariants.{AllClaimed}
 use Rattle.job_sheet.specs.declared.standing.Standing.{Standing}
 use Rattle.job_sheet.specs.Standings.{HasCause, IsSound, Later, account, claimed_count, claims_of, fresh, times}

@@ -1,5 +1,5 @@
 -- What hands know after the calls.
-use Rattle.std.proofs.Common.{◌≡◌, ◌∙◌, ◌≢◌, ℕ, ◌+◌, ◌<◌, ◌≤◌, ◌^◌, Bool, true, false, true≢false, if◌then◌else◌, nat_lt, T, lt→ltb, ltb→lt, Contains, List, [], ◌∷◌, ◌++◌, Option, Some, None, get_or, length, sum_by, sym, refl, ap, subst, arith}
+use Rattle.std.proofs.Common.{◌≡◌, ◌∙◌, ℕ, ◌<◌, ◌≤◌, ◌^◌, Bool, true, false, true≢false, if◌then◌else◌, nat_lt, T, lt→ltb, ltb→lt, Contains, List, [], ◌∷◌, ◌++◌, Option, Some, None, get_or, length, sym, refl, ap, subst, arith}
 use Rattle.std.proofs.lemmas.List.Elements.{Contains-push}
 use Rattle.std.proofs.lemmas.List.Sums.{sum_by-le}
 use Rattle.std.proofs.lemmas.List.{get_or_default}
@@ -12,7 +12,7 @@ use Rattle.job_sheet.specs.declared.standing.End.{End}
 use Rattle.job_sheet.specs.declared.standing.End.TheVariants.{AllClaimed, Cancelled, Open}
 use Rattle.job_sheet.specs.declared.standing.Standing.{Standing}
 use Rattle.job_sheet.specs.declared.view.View.{View}
-use Rattle.job_sheet.specs.Standings.{HasCause, IsSound, Later, account, claimed_count, ending, fresh, gaining, times, vain, vain_count}
+use Rattle.job_sheet.specs.Standings.{HasCause, IsSound, account, claimed_count, ending, fresh, gaining, times, vain, vain_count}
 use Rattle.job_sheet.specs.Hands.{AreReports, Holding, MayReport, change_own, own_of}
 use Rattle.job_sheet.specs.Calls.{Cancels, Claims, MayFind, MeetsNone, ReportsDone, ReportsFailed, one_done, one_failed, seeing}
 use Rattle.job_sheet.specs.Views.{claim_word, mark_of, seeing_now}

@@ -1,5 +1,5 @@
 -- Each kind of step keeps the rule of a sheet, and tells what it tells.
-use Rattle.std.proofs.Common.{◌≡◌, ◌∙◌, ◌≢◌, ℕ, ◌+◌, ◌%◌, ◌^◌, ◌<◌, ◌≤◌, inl, inr, Bool, true, false, if◌then◌else◌, nat_lt, not, T, ltb→lt, nltb→le, List, [], ◌∷◌, Option, Some, None, bit_or, length, set, get_or, sum_by, sym, refl, ap, subst, arith, mod-eq_of_lt}
+use Rattle.std.proofs.Common.{◌≡◌, ◌∙◌, ℕ, ◌+◌, ◌%◌, ◌^◌, ◌<◌, ◌≤◌, inl, Bool, true, false, if◌then◌else◌, nat_lt, not, T, ltb→lt, nltb→le, List, [], ◌∷◌, Option, Some, bit_or, length, set, get_or, sym, refl, ap, subst, arith, mod-eq_of_lt}
 use Rattle.std.proofs.lemmas.List.{set-get_or}
 use Rattle.atomic_table.specs.Table.{Me, Allows}
 use Rattle.job_sheet.specs.declared.standing.Account.{Account}
@@ -11,13 +11,13 @@ use Rattle.job_sheet.specs.declared.view.View.{View}
 use Rattle.job_sheet.specs.Standings.{HasCause, IsSound, Later, LaterAccount, account, claimed_count, done_count, ending, failed_count, gaining, vain, vain_count, with_account}
 use Rattle.job_sheet.specs.Hands.{change_own, own_of}
 use Rattle.job_sheet.specs.Calls.{one_done, one_failed}
-use Rattle.job_sheet.specs.Views.{Owns, claim_word, hearing, mark_of, words_of}
+use Rattle.job_sheet.specs.Views.{Owns, claim_word, hearing, words_of}
 use Rattle.job_sheet.specs.Rule.{Kept}
 use Rattle.job_sheet.specs.Steps.{CancelledBy, ClaimedBy, HasNumber, HasUnreported, HeardBy, ReadBy, ReportedBy, claiming}
 use Rattle.job_sheet.proofs.Accounts.{account_else, later_done, later_ending, later_failed, later_gaining, later_with, same_account, same_standing, sum_same, sum_with}
 use Rattle.job_sheet.proofs.Sound.{cancels_soundly, count_gained, ends_soundly, gains_soundly, reports_done_soundly, reports_failed_soundly}
 use Rattle.job_sheet.proofs.Words.{count_small, done_within, failed_within, marked, one_more_fits}
-use Rattle.job_sheet.proofs.Rules.{CanLeave, Knows, allows}
+use Rattle.job_sheet.proofs.Rules.{Knows, allows}
 
 pub of_number : (o : Option ℕ) (k : ℕ) → o ≡ Some k → (s : Standing) → own_of o s ≡ account s k
 of_number o k e s = ap (λ (x : Option ℕ). own_of x s) e

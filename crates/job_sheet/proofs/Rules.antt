@@ -1,16 +1,13 @@
 -- The rule of a sheet, as views change and join the others.
-use Rattle.std.proofs.Common.{◌≡◌, ◌∙◌, ◌≢◌, ℕ, zero, suc, ◌<◌, ◌⊎◌, inl, inr, ⊎_elim, true, List, [], ◌∷◌, ◌++◌, Some, length, set, get_or, sym, refl, ap, subst, arith}
+use Rattle.std.proofs.Common.{◌≡◌, ◌∙◌, ◌≢◌, ℕ, zero, suc, ◌<◌, ◌⊎◌, inl, inr, ⊎_elim, true, List, [], ◌∷◌, ◌++◌, length, set, get_or, sym, refl, ap, subst}
 use mathlib.Core.Option.{some, some-injective, some-ne-none}
-use mathlib.Core.Logic.{dite}
-use native.Mathlib.Decide.{ℕ_discrete}
 use lib.ListN.{get_elem?}
-use Rattle.atomic_table.specs.Table.{State, Me, Act, Valid, keeps, stepped, carried_after, Allows}
-use Rattle.atomic_table.proofs.Lists.{at_set, set_here}
+use Rattle.atomic_table.specs.Table.{State, Me, keeps, Allows}
+use Rattle.atomic_table.proofs.Lists.{at_set}
 use Rattle.job_sheet.specs.declared.standing.Standing.{Standing}
 use Rattle.job_sheet.specs.declared.view.Size.{Size}
 use Rattle.job_sheet.specs.declared.view.View.{View}
 use Rattle.job_sheet.specs.Standings.{IsSound, Later, account}
-use Rattle.job_sheet.specs.Hands.{own_of}
 use Rattle.job_sheet.specs.Views.{Owns, seeing_now, words_of}
 use Rattle.job_sheet.specs.Rule.{Fits, Kept}
 use Rattle.job_sheet.specs.Steps.{Meets}

@@ -1,14 +1,14 @@
 -- A sound standing stays sound: after a claim, a claim that met None, a report and a cancel.
-use Rattle.std.proofs.Common.{◌≡◌, ◌∙◌, ◌≢◌, ℕ, ◌+◌, ◌*◌, ◌<◌, ◌≤◌, ◌==◌, true, cond, List, [], ◌∷◌, ◌++◌, length, sum_by, replicate, sym, refl, ap, subst, arith, length-append, length-set}
+use Rattle.std.proofs.Common.{◌≡◌, ◌∙◌, ℕ, ◌+◌, ◌*◌, ◌<◌, ◌≤◌, true, [], ◌∷◌, length, sum_by, replicate, sym, refl, ap, subst, arith, length-append, length-set}
 use Rattle.std.proofs.lemmas.List.{length-replicate}
 use Rattle.std.proofs.lemmas.List.Folds.{sum_by-replicate}
 use mathlib.Core.Logic.{dite}
-use native.Mathlib.Decide.{ℕ_discrete, dec_lt}
+use native.Mathlib.Decide.{ℕ_discrete}
 use Rattle.job_sheet.specs.declared.standing.Account.{Account}
 use Rattle.job_sheet.specs.declared.standing.End.{End}
 use Rattle.job_sheet.specs.declared.standing.End.TheVariants.{AllClaimed, Cancelled, Open}
 use Rattle.job_sheet.specs.declared.standing.Standing.{Standing}
-use Rattle.job_sheet.specs.Standings.{HasCause, IsSound, account, claimed_count, claims_of, done_count, ending, failed_count, fresh, gaining, times, vain, vain_count, with_account}
+use Rattle.job_sheet.specs.Standings.{HasCause, IsSound, account, claimed_count, claims_of, ending, fresh, gaining, times, with_account}
 use Rattle.job_sheet.specs.Hands.{fresh_standing}
 use Rattle.job_sheet.specs.Calls.{one_done, one_failed}
 use Rattle.job_sheet.proofs.Counting.{at_another, at_itself, one_at, times_push}

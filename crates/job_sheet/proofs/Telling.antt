@@ -1,5 +1,5 @@
 -- What progress tells, and what hands that were gathered know.
-use Rattle.std.proofs.Common.{◌≡◌, ◌∙◌, ◌≢◌, ℕ, zero, suc, ◌+◌, ◌*◌, ◌%◌, ◌^◌, ◌<◌, ◌≤◌, min, leb, le→leb, leb→le, Bool, true, false, true≢false, List, [], ◌∷◌, ◌++◌, Option, Some, None, get_or, length, sum_by, sym, refl, ap, subst, arith, length-append}
+use Rattle.std.proofs.Common.{◌≡◌, ◌∙◌, ℕ, suc, ◌+◌, ◌%◌, ◌^◌, ◌<◌, ◌≤◌, min, leb, le→leb, leb→le, Bool, true, false, List, [], ◌∷◌, ◌++◌, get_or, length, sum_by, sym, refl, ap, subst, arith, length-append}
 use Rattle.std.proofs.lemmas.List.Sums.{sum_by-cons}
 use mathlib.Core.Logic.{dite}
 use native.Mathlib.Decide.{dec_lt}
@@ -7,10 +7,9 @@ use Rattle.atomic_table.specs.Table.{Me}
 use Rattle.atomic_table.specs.declared.shared.Seat.{Seat}
 use Rattle.job_sheet.specs.declared.progress.Progress.{Progress}
 use Rattle.job_sheet.specs.declared.standing.Account.{Account}
-use Rattle.job_sheet.specs.declared.standing.End.TheVariants.{Open}
 use Rattle.job_sheet.specs.declared.standing.Standing.{Standing}
 use Rattle.job_sheet.specs.declared.view.View.{View}
-use Rattle.job_sheet.specs.Standings.{IsSound, Later, LaterAccount, account, claimed_count, done_count, failed_count, fresh, vain_count}
+use Rattle.job_sheet.specs.Standings.{IsSound, Later, account, claimed_count, done_count, failed_count, fresh, vain_count}
 use Rattle.job_sheet.specs.Hands.{AreReports, Holding, own_of}
 use Rattle.job_sheet.specs.Calls.{AddsUp, Gathers, IsFinal, IsSettled, MayFind, Tells, seeing}
 use Rattle.job_sheet.specs.Views.{claim_word, mark_of, seeing_now}

@@ -1,11 +1,11 @@
 -- What each call of a sheet does to its hand.
-use Rattle.std.specs.Prelude.{◌≡◌, ◌≢◌, ℕ, ◌+◌, ◌<◌, ◌≤◌, ◌⊎◌, Bool, true, false, min, List, [], ◌∷◌, ◌++◌, Option, Some, None, Contains, length, sum_by}
+use Rattle.std.specs.Prelude.{◌≡◌, ◌≢◌, ℕ, ◌+◌, ◌<◌, ◌≤◌, true, false, min, List, [], ◌∷◌, ◌++◌, Contains, length, sum_by}
 use Rattle.job_sheet.specs.declared.progress.Progress.{Progress}
 use Rattle.job_sheet.specs.declared.standing.Account.{Account}
 use Rattle.job_sheet.specs.declared.standing.End.{End}
 use Rattle.job_sheet.specs.declared.standing.End.TheVariants.{AllClaimed, Cancelled, Open}
 use Rattle.job_sheet.specs.declared.standing.Standing.{Standing}
-use Rattle.job_sheet.specs.Standings.{IsSound, Later, account, claimed_count, claims_of, done_count, ending, failed_count, gaining, times, vain_count}
+use Rattle.job_sheet.specs.Standings.{IsSound, Later, account, claimed_count, done_count, ending, failed_count, gaining, times, vain_count}
 use Rattle.job_sheet.specs.Hands.{Holding, MayReport, change_own, own, own_of}
 
 -- A standing that the hand may find at a step: a sound one, no earlier than what it has seen, in which its own account is as it left it

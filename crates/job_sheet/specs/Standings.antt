@@ -1,5 +1,5 @@
 -- How a sheet stands at one moment: what each of its hands has claimed and reported, and whether the job is cancelled.
-use Rattle.std.specs.Prelude.{◌≡◌, ◌≢◌, ℕ, ◌+◌, ◌<◌, ◌≤◌, ◌==◌, true, List, [], ◌∷◌, ◌++◌, Option, Some, None, length, count_by, sum_by, slice_index_or, slice_set}
+use Rattle.std.specs.Prelude.{◌≡◌, ◌≢◌, ℕ, ◌+◌, ◌<◌, ◌≤◌, ◌==◌, true, List, [], ◌∷◌, ◌++◌, length, count_by, sum_by, slice_index_or, slice_set}
 use Rattle.job_sheet.specs.declared.standing.Account.{Account}
 use Rattle.job_sheet.specs.declared.standing.End.{End}
 use Rattle.job_sheet.specs.declared.standing.End.TheVariants.{AllClaimed, Cancelled, Open}

@@ -5,9 +5,8 @@ use Rattle.job_sheet.specs.declared.standing.Account.{Account}
 use Rattle.job_sheet.specs.declared.standing.End.TheVariants.{AllClaimed, Cancelled}
 use Rattle.job_sheet.specs.declared.standing.Standing.{Standing}
 use Rattle.job_sheet.specs.declared.view.View.{View}
-use Rattle.job_sheet.specs.Standings.{IsSound, Later, account, claimed_count, done_count, ending, failed_count, gaining}
+use Rattle.job_sheet.specs.Standings.{IsSound, Later, claimed_count, ending, gaining}
 use Rattle.job_sheet.specs.Hands.{change_own, own_of}
-use Rattle.job_sheet.specs.Calls.{one_done, one_failed}
 use Rattle.job_sheet.specs.Views.{claim_word, seeing_now}
 
 -- the standing that a seat finds at a step: a sound one, no earlier than what it saw and heard, with its own account as it left it

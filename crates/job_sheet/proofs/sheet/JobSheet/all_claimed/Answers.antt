@@ -1,4 +1,4 @@
-use Rattle.std.proofs.Common.{◌≡◌, ◌∙◌, ap, subst}
+use Rattle.std.proofs.Common.{◌∙◌, ap, subst}
 use Rattle.job_sheet.specs.Standings.{IsSound}
 use Rattle.job_sheet.specs.Hands.{Holding, Sheet}
 use Rattle.job_sheet.specs.Calls.{ShareOut}

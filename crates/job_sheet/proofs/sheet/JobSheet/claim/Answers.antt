@@ -1,4 +1,4 @@
-use Rattle.std.proofs.Common.{◌∙◌, IfNone, IfSome, ap, sym, subst, arith}
+use Rattle.std.proofs.Common.{◌∙◌, ap, sym, subst, arith}
 use Rattle.job_sheet.specs.Hands.{Holding, Sheet}
 use Rattle.job_sheet.specs.Calls.{Claims, MeetsNone}
 use Rattle.job_sheet.specs.Seats.{holding_of}

@@ -1,6 +1,4 @@
 use Rattle.std.proofs.Common.{◌∙◌, ap, subst, sym}
-use Rattle.atomic_table.specs.Table.{Me}
-use Rattle.job_sheet.specs.declared.view.View.{View}
 use Rattle.job_sheet.specs.Hands.{Holding}
 use Rattle.job_sheet.specs.Calls.{Gathers}
 use Rattle.job_sheet.specs.Seats.{IsHand, holding_of}
