@@ -35,11 +35,7 @@ fn add_member(text: &mut Vec<u8>, label: &[u8], number: u64) -> Result<(), Alloc
 /// How far a job is: how many places it has, how many of them are claimed, done and failed, and whether it was ended early. `AllocError`
 /// where memory runs out.
 #[tactic(auto, unfolding(crate::specs::Texts::progress_text))]
-pub fn progress_text(
-    alloc: Global,
-    number: u64,
-    progress: &Progress,
-) -> Result<Words, AllocError>
+pub fn progress_text(alloc: Global, number: u64, progress: &Progress) -> Result<Words, AllocError>
     ensures { IfOk result (λ text. text ≡ progress_text number progress.now) }
 {
     let mut text = Vec::new(alloc);

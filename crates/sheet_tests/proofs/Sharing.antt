@@ -8,8 +8,8 @@ use Rattle.job_sheet.specs.Standings.{HasCause, Later, LaterAccount, account}
 use Rattle.job_sheet.specs.Hands.{HasGathered, Holding, Sheet, own, own_of}
 use Rattle.job_sheet.specs.Calls.{Gathers, Tells, claimed_by}
 use Rattle.job_sheet.proofs.Accounts.{later_than, same_account}
-use Rattle.job_tests.specs.Worked.{HasWorked}
-use Rattle.job_tests.proofs.Popped.{some_is}
+use Rattle.sheet_tests.specs.Worked.{HasWorked}
+use Rattle.sheet_tests.proofs.Popped.{some_is}
 
 own_at : (h : Holding) (k : ℕ) → h.number ≡ Some k → own h ≡ account h.seen k
 own_at h k e = ap (λ (o : Option ℕ). own_of o h.seen) e

@@ -1,7 +1,7 @@
 //! job_sheet: two threads share the places of a job, and their hands are gathered
 ghost use Rattle.std.specs.Prelude.{◌≡◌, ◌+◌, ◌≤◌, ℕ, Some, IfOk, IfSome};
 ghost use Rattle.job_sheet.specs.Hands.{fresh_holding};
-ghost use Rattle.job_tests.specs.Worked.{HasWorked};
+ghost use Rattle.sheet_tests.specs.Worked.{HasWorked};
 
 use crate::pair::{Pair, new_pair};
 use job_sheet::hand::Hand;

@@ -1,7 +1,7 @@
 use Rattle.std.proofs.Common.{◌≡◌, ◌-◌, ◌≤◌, ℕ, Some, length}
 use Rattle.job_sheet.specs.declared.standing.End.TheVariants.{Open}
 use Rattle.job_sheet.specs.Hands.{own}
-use Rattle.job_tests.proofs.shares.work.Given as goal
+use Rattle.sheet_tests.proofs.shares.work.Given as goal
 
 abbrev pub invariant-claiming : goal.invariant-claiming
 invariant-claiming l = record {

@@ -1,6 +1,6 @@
 use Rattle.std.proofs.Common.{◌∙◌, sym, arith}
-use Rattle.job_tests.proofs.Popped.{both_popped, some_is}
-use Rattle.job_tests.proofs.pair.new_pair.Goals as goal
+use Rattle.sheet_tests.proofs.Popped.{both_popped, some_is}
+use Rattle.sheet_tests.proofs.pair.new_pair.Goals as goal
 
 pub returns-clause-fresh : goal.returns-clause-fresh
 returns-clause-fresh c =

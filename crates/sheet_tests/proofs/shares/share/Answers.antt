@@ -1,7 +1,7 @@
 use Rattle.std.proofs.Common.{◌≡◌, ◌∙◌, IfSome, subst}
-use Rattle.job_tests.specs.declared.pair.Pair.{Pair}
-use Rattle.job_tests.proofs.Sharing.{shared_out}
-use Rattle.job_tests.proofs.shares.share.Goals as goal
+use Rattle.sheet_tests.specs.declared.pair.Pair.{Pair}
+use Rattle.sheet_tests.proofs.Sharing.{shared_out}
+use Rattle.sheet_tests.proofs.shares.share.Goals as goal
 
 pub returns : goal.returns
 returns g c =
