@@ -5,14 +5,14 @@ use Rattle.command_words.specs.declared.words.KeptWord.TheVariants as kept
 use Rattle.command_words.specs.declared.words.MemoryWord.TheVariants as memory
 use Rattle.command_words.specs.declared.words.UpkeepWord.TheVariants as upkeep
 use Rattle.command_words.specs.declared.words.Word.{Word}
-use Rattle.command_words.specs.declared.words.Word.TheVariants.{InMemory, Kept, Upkeep}
+use Rattle.command_words.specs.declared.words.Word.TheVariants.{InMemory, Kept, Upkeep, Job}
 use Rattle.wmts_kvp.specs.Rows.{is_number}
 
 -- the number of 1 to 9 digits
 abbrev pub number_of : List ℕ → Option ℕ
 number_of digits = if nat_le (length digits) 9 && is_number digits then Some (digits_value 10 digits) else None
 
--- one of these six; any other word is no command
+-- one of these seven; any other word is no command
 abbrev pub one_word : List ℕ → Option Word
 one_word word =
     if bytes_eq word (codes "schedule") then Some (InMemory memory.Schedule)
@@ -21,6 +21,7 @@ one_word word =
     else if bytes_eq word (codes "truncate") then Some (Upkeep upkeep.Truncate)
     else if bytes_eq word (codes "expire") then Some (Upkeep upkeep.Expire)
     else if bytes_eq word (codes "usage") then Some (Upkeep upkeep.Usage)
+    else if bytes_eq word (codes "job") then Some Job
     else None
 
 -- the drill of a number

@@ -12,8 +12,10 @@ pub enum Word {
     InMemory(MemoryWord),
     /// A run on the cache of the disk.
     Kept(KeptWord),
-    /// A step of upkeep on the cache of the disk. It reads no capabilities document.
+    /// A step of upkeep on the cache of the disk. It reads no capabilities document, and renders nothing.
     Upkeep(UpkeepWord),
+    /// The job that the input has is run on the cache of the disk, place by place. It reads no capabilities document.
+    Job,
 }
 
 /// A run on a cabinet in memory, of which nothing is left.
@@ -82,6 +84,8 @@ fn one_word(word: &[u8]) -> Option<Word>
         Some(Word::Upkeep(UpkeepWord::Expire))
     } else if word == b"usage".as_slice() {
         Some(Word::Upkeep(UpkeepWord::Usage))
+    } else if word == b"job".as_slice() {
+        Some(Word::Job)
     } else {
         None
     }

@@ -31,7 +31,7 @@ rose_within n before mid mid' after earlier later rose = by_within (2 ^ 64 - 1) 
 then_rose : (bound n before start mid after : ℕ) → before ≤ start → min (start + n) bound ≤ mid → min (mid + 1) bound ≤ after → min (before + 1) bound ≤ after
 then_rose bound n before start mid after earlier rose then = omega (arith, earlier, rose, then)
 
-saved_so : (s u : State) (before start mid after : ℕ) (n : ℕ) → before ≤ start → RoseBy n start mid → SavesAll (record { before = mid; after = after }) s u → SavesAll (record { before = before; after = after }) s u
+pub saved_so : (s u : State) (before start mid after : ℕ) (n : ℕ) → before ≤ start → RoseBy n start mid → SavesAll (record { before = mid; after = after }) s u → SavesAll (record { before = before; after = after }) s u
 saved_so s u before start mid after n earlier rose h = record { count = h.count; saves = h.saves; all = all h.all }
   where
     all : unsaved_in u None ⊎ Rose mid after → unsaved_in u None ⊎ Rose before after

@@ -18,7 +18,7 @@ use truncation_list::cover::Cover;
 const COVER_LIMIT: usize = 65_536;
 
 /// The end of a word whose cover has this fault.
-fn end_of_fault(fault: JobFault) -> KeptEnd
+pub fn end_of_fault(fault: JobFault) -> KeptEnd
     ensures { result ≡ end_of_fault fault }
 {
     match fault {

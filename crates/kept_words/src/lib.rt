@@ -8,15 +8,15 @@
 //! on the crates whose types its calls name.
 #![tactic(auto)]
 
-mod cover_input;
+pub mod cover_input;
 pub mod end;
 pub mod expire;
 pub mod lent;
 pub mod making;
-mod opened;
+pub mod opened;
 pub mod replay;
-mod saving;
+pub mod saving;
 pub mod schedule;
 pub mod truncate;
 pub mod usage;
-mod writing;
+pub mod writing;

@@ -1,5 +1,5 @@
 -- The catalogue that was read is that of the text which the input had.
-use Rattle.std.specs.Prelude.{ℕ, ◌≡◌, ◌++◌, List, [], Option, Some, None, Ok}
+use Rattle.std.specs.Prelude.{ℕ, ◌≡◌, ◌++◌, List, Option, Some, None, Ok}
 use Rattle.std.specs.Io.KnownBytes.{Consumes, IsAtEnd}
 use Rattle.std.proofs.Common.{ap, sym, subst, ◌∙◌, append-nil}
 use Rattle.catalog.specs.declared.catalogue.Catalogue.{Catalogue}

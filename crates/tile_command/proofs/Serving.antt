@@ -91,6 +91,8 @@ module _ (h : CommandChange) (stays : Stays) (d : DiskChange) (DiskStays : Type 
   other_of_word (word.Kept w) s (inr done) is = other_of_kept done.3.0 (sym done.3.1 ∙ is)
   other_of_word (word.Upkeep w) s (inl refused, first, second) is = other_of_refusal refused.0 (sym refused.1 ∙ is)
   other_of_word (word.Upkeep w) s (inr done, first, second) is = other_of_kept done.2.0 (sym done.2.1 ∙ is)
+  other_of_word word.Job s (inl refused, same) is = other_of_refusal refused.0 (sym refused.1 ∙ is)
+  other_of_word word.Job s (inr done, same) is = other_of_kept done.2.0 (sym done.2.1 ∙ is)
 
   -- so `Usage` is told exactly where words are no command
   pub exactly_usage : (w : Word) (s : Status) → HasServed h stays d DiskStays clock (Some w) s → (read : Option Word) → read ≡ Some w → (s ≡ status.Usage) ↔ (read ≡ None)

@@ -9,7 +9,7 @@ use Rattle.tile_command.specs.declared.status.Status.{Status}
 use Rattle.tile_service.specs.Outside.{InputChange, Outside, counts}
 
 -- what a command saw of its inputs, of its source and of its output, and how often its disk failed; `input` is what the words speak
--- of: the lines of a schedule, the bytes of a connection, or a cover
+-- of: the lines of a schedule, the bytes of a connection, a cover or a job
 pub record CommandChange : Type 0 where
   pub catalogue : InputChange
   pub capabilities : InputChange

@@ -11,6 +11,7 @@ use Rattle.disk_model.specs.Content.{Content}
 use Rattle.durable_cabinet.specs.Images.{IsOurs}
 use Rattle.kept_words.specs.Change.{DiskChange}
 use Rattle.tile_command.specs.Change.{CommandChange, Stays, output_of, without_disk}
+use Rattle.tile_command.specs.Job.{JobTells}
 use Rattle.tile_command.specs.Kept.{HasLasted, RunTells, UpkeepLasts, UpkeepTells}
 use Rattle.tile_command.specs.Memory.{MemoryTells}
 use Rattle.tile_command.specs.declared.status.Status.{Status}
@@ -41,6 +42,7 @@ IsFitFor None text told seen = ⊤
 IsFitFor (Some (word.InMemory w)) text told seen = ⊤
 IsFitFor (Some (word.Kept w)) text told seen = HoldsFile text told seen
 IsFitFor (Some (word.Upkeep w)) text told seen = IsFitForUpkeep w text told seen
+IsFitFor (Some word.Job) text told seen = HoldsFile text told seen
 
 -- WHAT IT CAME TO
 
@@ -51,6 +53,7 @@ HasServed h stays d DiskStays clock (Some (word.InMemory w)) s = MemoryTells (wi
 HasServed h stays d DiskStays clock (Some (word.Kept w)) s = RunTells h stays d DiskStays clock w s
 HasServed h stays d DiskStays clock (Some (word.Upkeep w)) s =
     UpkeepTells h.catalogue h.input (output_of h.outside) stays d DiskStays clock w s × stays.capabilities × stays.source
+HasServed h stays d DiskStays clock (Some word.Job) s = JobTells h.catalogue h.input h.outside stays d DiskStays clock s × stays.capabilities
 
 -- what a crash leaves, by what the words ask for
 abbrev pub HasLastedBy : CommandChange → DiskChange → Type 0 → Option Word → Type 0
@@ -58,3 +61,4 @@ HasLastedBy h d DiskStays None = DiskStays
 HasLastedBy h d DiskStays (Some (word.InMemory w)) = DiskStays
 HasLastedBy h d DiskStays (Some (word.Kept w)) = HasLasted h.catalogue d DiskStays
 HasLastedBy h d DiskStays (Some (word.Upkeep w)) = UpkeepLasts h.catalogue d DiskStays w
+HasLastedBy h d DiskStays (Some word.Job) = HasLasted h.catalogue d DiskStays

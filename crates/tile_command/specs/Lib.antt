@@ -2,4 +2,5 @@ pub mod Statuses
 pub mod Change
 pub mod Memory
 pub mod Kept
+pub mod Job
 pub mod Command

@@ -6,6 +6,7 @@ ghost use Rattle.tile_command.specs.Change.{CommandChange, Stays};
 ghost use Rattle.tile_command.specs.Command.{HasLastedBy, HasServed, IsFitFor};
 ghost use Rattle.tile_service.specs.Outside.{InputChange, Outside, counts};
 
+use crate::job::job_run;
 use crate::kept::on_disk;
 use crate::memory::in_memory;
 use crate::status::Status;
@@ -22,7 +23,7 @@ use std::alloc::Global;
 /// of the input and writes the answers; `replay` serves the input as the bytes of one connection and writes the responses; `drill` and
 /// a number runs the lines that the number makes, and writes a summary: these work on a cabinet in memory, the first two with `--kept`
 /// on the cache of the disk. `make` makes that cache, `truncate` cuts the cover that the input has, `expire` drops metatiles until no
-/// quota is exceeded, and `usage` tells what is kept. Each ask and force takes its moment from the clock.
+/// quota is exceeded, `usage` tells what is kept, and `job` runs the job that the input has, place by place. Each ask and force takes its moment from the clock.
 ///
 /// `Usage` exactly where the words are none of these; each other status comes as `HasServed` says. At every moment of every word but
 /// `make` a crash leaves what `HasLastedBy` says. A modelled disk has to hold a file of this program, by the catalogue that
@@ -83,6 +84,7 @@ pub fn run_command<S: Source, D: Disk, I: ByteSource, O: ByteSink>(
             clock,
         ),
         Some(Word::Upkeep(word)) => { kept_up(alloc, word, catalogue, input, output, disk, clock) }
+        Some(Word::Job) => job_run(alloc, catalogue, input, output, source, disk, clock),
         None => Status::Usage,
     }
 }

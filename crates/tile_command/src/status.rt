@@ -19,15 +19,15 @@ pub enum Status {
     ReadFault,
     /// A write of the output failed.
     WriteFault,
-    /// The disk failed: at the opening or the making of the cache, at the one cut, or at an expiry. Within a schedule or a
-    /// connection a fault of the disk ends nothing.
+    /// The disk failed: at the opening or the making of the cache, at the one cut, or at an expiry. Within a schedule, a
+    /// connection or a job a fault of the disk ends nothing.
     DiskFault,
     /// This line of the schedule was refused, counted from 1; the lines before it were run and answered.
     Line(u64),
     /// The cache isn't opened for this cause, which is neither a fault of the disk nor want of memory; or no number is left for
     /// a cut.
     Cache(OpenFault),
-    /// As many cuts would stay in force as may be; the cut was not made.
+    /// As many cuts would stay in force as may be; the one cut was not made.
     CutsFull,
     /// Memory ran out: before the work, before the first line of a schedule, between the lines of a drill, at the reading of a
     /// message of a connection, or at the one cut.
@@ -35,9 +35,9 @@ pub enum Status {
     /// The bytes of a connection ended within a message, held bytes that are no message, or went on after as many messages
     /// as a session answers. The messages before that were answered.
     Stream(SessionEnd),
-    /// The catalogue, the capabilities document, the schedule or the cover has more bytes than it may have.
+    /// The catalogue, the capabilities document, the schedule, the cover or the job has more bytes than it may have.
     TooLong,
-    /// The cover has this fault.
+    /// The cover or the job has this fault.
     Form(JobFault),
 }
 
@@ -120,7 +120,7 @@ fn write_hex<W: fmt::Write>(f: &mut fmt::Formatter<W>, digest: &[u8; 32]) -> fmt
     Ok(())
 }
 
-/// Writes a cover's fault: its kind and its member.
+/// Writes the fault of a cover or a job: its kind and its member.
 fn write_form<W: fmt::Write>(f: &mut fmt::Formatter<W>, fault: JobFault) -> fmt::Result {
     match fault {
         JobFault::NotJson => write!(f, "form not json "),

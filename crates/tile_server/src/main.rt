@@ -39,6 +39,7 @@ tile_server schedule --kept < LINES  runs the lines on that cache
 tile_server replay --kept < BYTES    serves the bytes on that cache
 tile_server truncate < COVER         makes one truncation, of the cover, and writes its number
 tile_server expire                   drops metatiles until no quota is exceeded, and writes how many
+tile_server job < JOB                runs a seed, a reseed or a truncation, and writes how many of its places are done
 tile_server usage                    writes what is kept, layer by layer, and how many truncations are in force
 tile_server serve --port PORT --connections COUNT
                                      serves so many connections at that port over TCP on that cache, and keeps its quotas
@@ -58,7 +59,8 @@ It ends with a code, and all but the first are told by a line on standard error:
    4  read fault                             10  out of memory
    5  write fault                            11  stream ..: the connection's bytes broke off
    6  disk fault                             12  too long: a file or the input is above its limit
-   7  line N: this line was refused          13  form KIND FIELD: the cover's fault
+   7  line N: this line was refused          13  form KIND FIELD: the fault of the cover or
+                                                 the job
                                              14  listen fault: the port isn't had, or gives no more
 
 docs/OPERATING.md of its repository has the files, the lines and what to do at each fault; docs/PROMISES.md what is proved.
@@ -117,7 +119,7 @@ fn words_of(rt: &(impl Env + AllocGlobal)) -> io::Result<Vec<Words>> {
 /// The cache's file, opened for the words that work on it, and made by those that make it.
 fn cache_for(rt: &impl Files<File = File>, words: &[Words]) -> CacheDisk {
     match word_of(words) {
-        Some(Word::Kept(_)) => CacheDisk::open(rt, CACHE, false),
+        Some(Word::Kept(_) | Word::Job) => CacheDisk::open(rt, CACHE, false),
         Some(Word::Upkeep(word)) => CacheDisk::open(rt, CACHE, word == UpkeepWord::Make),
         Some(Word::InMemory(_)) | None => CacheDisk::Absent(0),
     }

@@ -1,0 +1,5 @@
+pub mod AtRest
+pub mod Carrying
+pub mod Coming
+pub mod Through
+pub mod Telling

@@ -1,0 +1,57 @@
+-- What the word tells of the run of a job.
+use Rattle.std.proofs.Common.{ℕ, ◌≡◌, ◌≤◌, List, Option, subst}
+use Rattle.cabinet.specs.State.{State}
+use Rattle.catalog.specs.declared.catalogue.Catalogue.{Catalogue}
+use Rattle.clock.specs.Readings.{Readings}
+use Rattle.jobs.specs.declared.job.Job.{Job}
+use Rattle.job_words.specs.declared.tally.Tally.{Tally}
+use Rattle.job_words.specs.Ends.{IsDoneSo, RunsAndSaves, job_text, output_of}
+use Rattle.job_words.specs.Run.{IsRun, tally_of}
+use Rattle.job_words.specs.Visit.{Visit}
+use Rattle.kept_words.specs.declared.end.KeptEnd.{KeptEnd}
+use Rattle.kept_words.specs.declared.end.KeptEnd.TheVariants as end
+use Rattle.kept_words.specs.Change.{DiskChange}
+use Rattle.kept_words.specs.Opened.{HasOpened}
+use Rattle.kept_words.specs.Saving.{SavesAll}
+use Rattle.kept_words.specs.Texts.{Sends}
+use Rattle.kept_words.proofs.Within.{rose_within, saved_so}
+use Rattle.tile_service.specs.Outside.{FaultCounts, Outside, counts}
+
+-- a run and the saving after it, with the faults of the disk counted over the whole word
+pub runs_and_saves : (told : Option ℕ) (renders : FaultCounts) (before start mid after : ℕ) (job : Job) (visits : List Visit) (s t u : State) → before ≤ start → mid ≤ after
+    → IsRun told renders (counts start mid) job visits s t → SavesAll (counts mid after) t u → RunsAndSaves told renders (counts before after) job visits s u
+runs_and_saves told renders before start mid after job visits s t u earlier later run saves = record {
+  ran = t;
+  run = record {
+    each = run.each;
+    goes = run.goes;
+    failed = run.failed;
+    faults = rose_within _ before start mid after earlier later run.faults;
+    sound = run.sound;
+  };
+  saves = saved_so t u before start mid after _ earlier run.faults saves;
+}
+
+-- THE TEXT, by how its writing ended
+
+told_so : (c : Catalogue) (clock : Readings) (job : Job) (o : Outside) (d : DiskChange) (Stays : Type 0) (s u : State) (visits : List Visit)
+    → HasOpened c clock d s u → RunsAndSaves o.told o.renders o.disk job visits s u → (e : KeptEnd) → Sends (output_of o) (job_text job.kind (tally_of visits)) e
+    → IsDoneSo c clock job o d Stays e
+told_so c clock job o d Stays s u visits h runs end.Done sends = (s, u, h, visits, runs, sends)
+told_so c clock job o d Stays s u visits h runs end.WriteFault sends = (s, u, h, visits, runs, sends)
+told_so c clock job o d Stays s u visits h runs end.ReadFault sends = absurd sends
+told_so c clock job o d Stays s u visits h runs end.TooLong sends = absurd sends
+told_so c clock job o d Stays s u visits h runs (end.Form cause) sends = absurd sends
+told_so c clock job o d Stays s u visits h runs (end.Refused cause) sends = absurd sends
+told_so c clock job o d Stays s u visits h runs end.DiskFault sends = absurd sends
+told_so c clock job o d Stays s u visits h runs end.CutsFull sends = absurd sends
+told_so c clock job o d Stays s u visits h runs (end.Line n) sends = absurd sends
+told_so c clock job o d Stays s u visits h runs (end.Stream session) sends = absurd sends
+told_so c clock job o d Stays s u visits h runs end.OutOfMemory sends = absurd sends
+
+-- the tally that was written is that of the visits
+pub job_tells : (c : Catalogue) (clock : Readings) (job : Job) (o : Outside) (d : DiskChange) (Stays : Type 0) (s u : State) (visits : List Visit)
+    → HasOpened c clock d s u → RunsAndSaves o.told o.renders o.disk job visits s u → (tally : Tally) → tally ≡ tally_of visits → (e : KeptEnd) → Sends (output_of o) (job_text job.kind tally) e
+    → IsDoneSo c clock job o d Stays e
+job_tells c clock job o d Stays s u visits h runs tally same e sends =
+    told_so c clock job o d Stays s u visits h runs e (subst (λ t. Sends (output_of o) (job_text job.kind t) e) same sends)

@@ -1,0 +1,83 @@
+-- What each end of the word `job` says.
+use Rattle.std.specs.Prelude.{ℕ, List, ◌++◌, Option, codes, decimal}
+use Rattle.cabinet.specs.State.{State}
+use Rattle.catalog.specs.declared.catalogue.Catalogue.{Catalogue}
+use Rattle.causes.specs.Causes.{Rose}
+use Rattle.clock.specs.Readings.{Readings}
+use Rattle.jobs.specs.declared.job.Job.{Job}
+use Rattle.jobs.specs.declared.job.JobKind.{JobKind}
+use Rattle.jobs.specs.declared.job.JobKind.TheVariants.{Seed, Reseed, Truncate}
+use Rattle.job_words.specs.declared.tally.Tally.{Tally}
+use Rattle.job_words.specs.Input.{IsFormedSo, IsJobIn, IsTooLong}
+use Rattle.job_words.specs.Run.{IsRun, tally_of}
+use Rattle.job_words.specs.Visit.{Visit}
+use Rattle.kept_words.specs.declared.end.KeptEnd.{KeptEnd}
+use Rattle.kept_words.specs.declared.end.KeptEnd.TheVariants as end
+use Rattle.kept_words.specs.Change.{DiskChange, HasFailed, HasWritten, IsCutShort, OutputChange}
+use Rattle.kept_words.specs.Opened.{HasOpened, IsRefused}
+use Rattle.kept_words.specs.Saving.{SavesAll}
+use Rattle.tile_service.specs.Outside.{FaultCounts, InputChange, Outside}
+
+-- THE TEXT of a tally
+
+abbrev pub kind_text : JobKind → List ℕ
+kind_text Seed = codes "seed"
+kind_text Reseed = codes "reseed"
+kind_text Truncate = codes "truncate"
+
+abbrev pub job_text : JobKind → Tally → List ℕ
+job_text kind tally =
+    codes "job " ++ kind_text kind ++ codes " places " ++ decimal tally.places ++ codes " done " ++ decimal tally.done ++ codes " failed " ++ decimal tally.failed ++ codes "\n"
+
+-- THE WORK
+
+-- From s these visits were the run of the job, and then the uses of what is kept were saved, to u. The faults of the disk are counted over
+-- the whole word, from before the opening until after the saving.
+pub record RunsAndSaves (told : Option ℕ) (renders disk : FaultCounts) (job : Job) (visits : List Visit) (s u : State) : Type 0 where
+  pub ran : State
+  pub run : IsRun told renders disk job visits s ran
+  pub saves : SavesAll disk ran u
+
+-- the output alone of what a word saw
+abbrev pub output_of : Outside → OutputChange
+output_of o = record { writes = o.writes; from = o.from; to = o.to }
+
+-- the cache was opened, the job was run, the uses were saved and the cache was closed; and this holds of the text of the tally
+abbrev pub HasRun : Catalogue → Readings → Job → Outside → DiskChange → (List ℕ → Type 0) → Type 0
+HasRun c clock job o d Written =
+    (s : State) × (u : State) × HasOpened c clock d s u × (visits : List Visit) × RunsAndSaves o.told o.renders o.disk job visits s u × Written (job_text job.kind (tally_of visits))
+
+-- THE ENDS
+
+-- What each end says of a job that was read. `Stays` is that the output and the source stay as they are. No fault of the disk ends the run
+-- of a job.
+abbrev pub IsDoneSo : Catalogue → Readings → Job → Outside → DiskChange → Type 0 → KeptEnd → Type 0
+IsDoneSo c clock job o d Stays end.Done = HasRun c clock job o d (HasWritten (output_of o))
+IsDoneSo c clock job o d Stays end.WriteFault = HasRun c clock job o d (IsCutShort (output_of o))
+IsDoneSo c clock job o d Stays (end.Refused cause) = IsRefused c d cause × Stays
+IsDoneSo c clock job o d Stays end.DiskFault = HasFailed d × Stays
+IsDoneSo c clock job o d Stays end.OutOfMemory = Stays
+IsDoneSo c clock job o d Stays end.ReadFault = ⊥
+IsDoneSo c clock job o d Stays end.TooLong = ⊥
+IsDoneSo c clock job o d Stays (end.Form cause) = ⊥
+IsDoneSo c clock job o d Stays end.CutsFull = ⊥
+IsDoneSo c clock job o d Stays (end.Line n) = ⊥
+IsDoneSo c clock job o d Stays (end.Stream session) = ⊥
+
+-- the input had a job, and its run ended so
+abbrev pub RunsRead : Catalogue → Readings → InputChange → Outside → DiskChange → Type 0 → KeptEnd → Type 0
+RunsRead c clock i o d Stays e = (job : Job) × IsJobIn c i job × IsDoneSo c clock job o d Stays e
+
+-- before the job is read to its end the disk stays as it is
+abbrev pub RunsJob : Catalogue → Readings → InputChange → Outside → DiskChange → Type 0 → Type 0 → KeptEnd → Type 0
+RunsJob c clock i o d DiskStays Stays end.ReadFault = Rose i.reads.before i.reads.after × DiskStays × Stays
+RunsJob c clock i o d DiskStays Stays end.TooLong = IsTooLong i × DiskStays × Stays
+RunsJob c clock i o d DiskStays Stays (end.Form cause) = IsFormedSo c i cause × DiskStays × Stays
+RunsJob c clock i o d DiskStays Stays end.OutOfMemory = Stays
+RunsJob c clock i o d DiskStays Stays end.Done = RunsRead c clock i o d Stays end.Done
+RunsJob c clock i o d DiskStays Stays end.WriteFault = RunsRead c clock i o d Stays end.WriteFault
+RunsJob c clock i o d DiskStays Stays (end.Refused cause) = RunsRead c clock i o d Stays (end.Refused cause)
+RunsJob c clock i o d DiskStays Stays end.DiskFault = RunsRead c clock i o d Stays end.DiskFault
+RunsJob c clock i o d DiskStays Stays end.CutsFull = ⊥
+RunsJob c clock i o d DiskStays Stays (end.Line n) = ⊥
+RunsJob c clock i o d DiskStays Stays (end.Stream session) = ⊥

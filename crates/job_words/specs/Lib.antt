@@ -1,0 +1,5 @@
+pub mod Visit
+pub mod Run
+pub mod Input
+pub mod Ends
+pub mod Coming

@@ -1,0 +1,79 @@
+-- A visit to a place of a job: its metatile is refreshed, or its cut is made.
+use Rattle.std.specs.Prelude.{◌≡◌, Bool, Result, Ok, Err}
+use Rattle.std.specs.declared.alloc.AllocError.{AllocError}
+use Rattle.cabinet.specs.Commands.{Cuts}
+use Rattle.cabinet.specs.declared.replies.CutReply.{CutReply}
+use Rattle.cabinet.specs.declared.replies.CutReply.TheVariants as cut
+use Rattle.cabinet.specs.State.{State}
+use Rattle.cache_core.specs.declared.outcome.TileOutcome.{TileOutcome}
+use Rattle.cache_core.specs.declared.outcome.TileOutcome.TheVariants as outcome
+use Rattle.cache_core.specs.Steps.{Stepped, began, ends}
+use Rattle.jobs.specs.Places.{Place, Metatile, Cut}
+use Rattle.job_words.specs.declared.place.PlaceEnd.{PlaceEnd}
+use Rattle.job_words.specs.declared.place.PlaceEnd.TheVariants.{Done, Failed}
+use Rattle.job_words.specs.declared.place.PlaceFault.TheVariants as fault
+use Rattle.metatile_plan.specs.declared.metatile.MetaKey.{MetaKey}
+use Rattle.raster_field.specs.Blocks.{first_tile}
+use Rattle.tile_requests.specs.Requests.{Chance, further}
+use Rattle.truncation_list.specs.declared.cover.Cover.{Cover}
+
+-- A METATILE
+
+-- what happens by chance at a metatile, event by event: at its ask or force, at its render, and at the end of the render
+pub record Chances : Type 0 where
+  pub asking : Chance
+  pub rendering : Chance
+  pub ending : Chance
+
+-- A metatile is asked for by its first tile, or a render of it is forced. Where that gives a ticket, it is rendered at once, and then the
+-- blob is handed in, or the ticket given back where the source failed.
+abbrev pub refreshed : Bool → State → MetaKey → Chances → Stepped
+refreshed force s m c =
+    further c.ending (further c.rendering (began s (first_tile s.catalogue m) force c.asking.ask c.asking.moment c.asking.unread c.asking.bytes))
+
+-- how the outcome of its tile ends the place: a tile that is rendered may be left unstored
+abbrev pub end_of_tile : TileOutcome → PlaceEnd
+end_of_tile (outcome.Tile tile) = Done
+end_of_tile outcome.SourceFailed = Failed fault.Source
+end_of_tile outcome.Spent = Failed fault.Spent
+end_of_tile outcome.NoMemory = Failed fault.Memory
+
+-- from s a metatile was refreshed to its outcome, in u
+abbrev pub IsRefreshed : Bool → State → MetaKey → Chances → PlaceEnd → State → Type 0
+IsRefreshed force s m c e u = (o : TileOutcome) × (refreshed force s m c ≡ ends u o) × (e ≡ end_of_tile o)
+
+-- A CUT
+
+-- how the reply of the one cut ends the place
+abbrev pub end_of_cut : Result CutReply AllocError → PlaceEnd
+end_of_cut (Ok (cut.Done number)) = Done
+end_of_cut (Ok cut.Full) = Failed fault.CutsFull
+end_of_cut (Ok (cut.DiskFault before after)) = Failed fault.Disk
+end_of_cut (Ok cut.Spent) = Failed fault.Spent
+end_of_cut (Err failed) = Failed fault.Memory
+
+-- the cabinet cuts, or memory runs out, and then nothing changes
+abbrev pub CutsOnce : State → Cover → Result CutReply AllocError → State → Type 0
+CutsOnce s cover (Ok reply) u = Cuts s cover reply u
+CutsOnce s cover (Err failed) u = u ≡ s
+
+-- from s the one cut was made or refused, in u
+abbrev pub IsCut : State → Cover → PlaceEnd → State → Type 0
+IsCut s cover e u = (reply : Result CutReply AllocError) × CutsOnce s cover reply u × (e ≡ end_of_cut reply)
+
+-- A PLACE
+
+-- with force a metatile is rendered that is kept; a cut takes no chance
+abbrev pub IsVisitedAt : Bool → State → Place → Chances → PlaceEnd → State → Type 0
+IsVisitedAt force s (Metatile m) c e u = IsRefreshed force s m c e u
+IsVisitedAt force s (Cut cover) c e u = IsCut s cover e u
+
+-- a place, what happened there by chance, and how it ended
+pub record Visit : Type 0 where
+  pub place : Place
+  pub chances : Chances
+  pub end : PlaceEnd
+
+-- from s the place was visited so, to u
+abbrev pub IsVisited : Bool → State → Visit → State → Type 0
+IsVisited force s v u = IsVisitedAt force s v.place v.chances v.end u

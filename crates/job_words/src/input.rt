@@ -1,0 +1,39 @@
+//! The job of an input, read to its end.
+ghost use Rattle.std.specs.Prelude.{◌≡◌, IfOk};
+ghost use Rattle.catalog.specs.Valid.{IsValid};
+ghost use Rattle.job_words.specs.Input.{ReadsJob};
+ghost use Rattle.jobs.specs.Job.{Fits};
+ghost use Rattle.tile_service.specs.Outside.{InputChange};
+
+use catalog::catalogue::Catalogue;
+use http_wire::inputs::{InputEnd, read_all};
+use http_wire::streams::ByteSource;
+use jobs::job::Job;
+use jobs::reading::read_job;
+use kept_words::cover_input::end_of_fault;
+use kept_words::end::KeptEnd;
+use std::alloc::Global;
+
+/// The most bytes of a job.
+const JOB_LIMIT: usize = 65_536;
+
+/// Reads the job that an input has.
+pub fn job_in<I: ByteSource>(
+    alloc: Global,
+    catalogue: &Catalogue,
+    input: &mut I,
+) -> Result<Job, KeptEnd>
+    requires { IsValid catalogue.now }
+    ensures reads { ReadsJob catalogue.now (record { reads = record { before = I.faults input.old; after = I.faults input.new }; from = I.left input.old; to = I.left input.new }) result }
+    ensures fits { IfOk result (λ job. Fits catalogue.now job) }
+{
+    match read_all(alloc, input, JOB_LIMIT) {
+        Ok(text) => match read_job(alloc, catalogue, text.as_slice()) {
+            Ok(job) => Ok(job),
+            Err(fault) => Err(end_of_fault(fault)),
+        },
+        Err(InputEnd::ReadFault) => Err(KeptEnd::ReadFault),
+        Err(InputEnd::TooLong) => Err(KeptEnd::TooLong),
+        Err(InputEnd::OutOfMemory) => Err(KeptEnd::OutOfMemory),
+    }
+}

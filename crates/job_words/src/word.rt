@@ -1,0 +1,116 @@
+//! The word that runs a job on the cache of a disk.
+ghost use Rattle.std.specs.Prelude.{ℕ, ◌≡◌, ◌≤◌, IsTrue, List};
+ghost use Rattle.cache_core.specs.Lasting.{Lasting};
+ghost use Rattle.catalog.specs.Valid.{IsValid};
+ghost use Rattle.durable_cabinet.specs.Images.{IsOurs};
+ghost use Rattle.job_words.specs.Ends.{IsDoneSo, RunsAndSaves, RunsJob};
+ghost use Rattle.job_words.specs.Run.{tally_of};
+ghost use Rattle.job_words.specs.Visit.{Visit};
+ghost use Rattle.jobs.specs.Job.{Fits};
+ghost use Rattle.kept_words.specs.Change.{DiskChange};
+ghost use Rattle.kept_words.specs.Crash.{LastsThrough};
+ghost use Rattle.tile_service.specs.Outside.{InputChange, Outside, counts};
+ghost use Rattle.tile_service.specs.Session.{IsAtRest};
+
+use crate::input::job_in;
+use crate::running::run_places;
+use crate::tally::Tally;
+use crate::text::told_tally;
+use cabinet::keeper::Keeper;
+use cache_core::laws::laws_of_lasting;
+use catalog::catalogue::Catalogue;
+use clock::clock::Clock;
+use disk_model::disk::Disk;
+use http_wire::streams::{ByteSink, ByteSource};
+use jobs::job::Job;
+use kept_words::end::KeptEnd;
+use kept_words::lent::Loan;
+use kept_words::opened::{closed, end_of_refusal, opened};
+use kept_words::saving::save_all;
+use source_render::source::Source;
+use std::alloc::Global;
+use std::marker::Brand;
+
+/// Reads the job of the input, opens the cache of the disk, visits each place of the job, saves the uses of what is kept, and writes how
+/// many places are done and how many failed. A fault of the disk ends it at the opening alone. Each end comes as `RunsJob` says.
+pub fn run_job<D: Disk, S: Source, I: ByteSource, O: ByteSink>(
+    alloc: Global,
+    catalogue: Catalogue,
+    input: &mut I,
+    clock: Clock,
+    disk: &mut D,
+    source: &mut S,
+    output: &mut O,
+) -> KeptEnd
+    requires valid { IsValid catalogue }
+    requires ours { IsTrue (D.told disk.old) → IsOurs catalogue (D.state disk.old).seen }
+    ensures runs { RunsJob catalogue clock
+        (record { reads = counts (I.faults input.old) (I.faults input.new); from = I.left input.old; to = I.left input.new })
+        (record { told = S.told source.old; renders = counts (S.faults source.old) (S.faults source.new); disk = counts (D.faults disk.old) (D.faults disk.new); writes = counts (O.faults output.old) (O.faults output.new); from = O.taken output.old; to = O.taken output.new })
+        (record { told = D.told disk.old; faults = counts (D.faults disk.old) (D.faults disk.new); from = D.state disk.old; to = D.state disk.new })
+        (disk.new ≡ disk.old) ((output.new ≡ output.old) × (source.new ≡ source.old)) result }
+    ensures lasts { LastsThrough catalogue (record { told = D.told disk.old; faults = counts (D.faults disk.old) (D.faults disk.new); from = D.state disk.old; to = D.state disk.new }) }
+    ensures told { D.told disk.new ≡ D.told disk.old }
+{
+    match job_in(alloc, &catalogue, input) {
+        Ok(job) => {
+            run_over::<D, S, O, Brand>(alloc, catalogue, &job, clock, disk, source, output).1
+        }
+        Err(end) => end,
+    }
+}
+
+/// Runs a job in a cabinet, and then saves the uses of what is kept.
+fn run_and_save<C: Keeper, S: Source>(
+    alloc: Global,
+    cabinet: &mut C,
+    source: &mut S,
+    job: &Job,
+) -> Tally
+    requires valid { IsValid (C.state cabinet.old).catalogue }
+    requires fits { Fits (C.state cabinet.old).catalogue job.now }
+    requires rest { IsAtRest (C.state cabinet.old) }
+    ensures runs { (before : ℕ) → before ≤ C.faults cabinet.old → (visits : List Visit) × (result ≡ tally_of visits)
+        × RunsAndSaves (S.told source.old) (counts (S.faults source.old) (S.faults source.new)) (counts before (C.faults cabinet.new)) job.now visits (C.state cabinet.old) (C.state cabinet.new) }
+    ensures lasts { Lasting (C.outlasts cabinet.old cabinet.new) (C.state cabinet.old) (C.state cabinet.new) }
+{
+    laws_of_lasting::<C>();
+    let tally = run_places(alloc, cabinet, source, job);
+    save_all(cabinet);
+    tally
+}
+
+/// Runs a job on the disk of a loan, which is handed back.
+fn run_over<'a, D: Disk, S: Source, O: ByteSink, L: Loan>(
+    alloc: Global,
+    catalogue: Catalogue,
+    job: &Job,
+    clock: Clock,
+    disk: &'a mut D,
+    source: &mut S,
+    output: &mut O,
+) -> (&'a mut D, KeptEnd)
+    requires valid { IsValid catalogue }
+    requires fits { Fits catalogue job.now }
+    requires loan { disk.ghost_name ≡ L.disk }
+    requires ours { IsTrue (D.told disk.now) → IsOurs catalogue (D.state disk.now).seen }
+    ensures runs { IsDoneSo catalogue clock job.now
+        (record { told = S.told source.old; renders = counts (S.faults source.old) (S.faults source.new); disk = counts (D.faults disk.entry.now) (D.faults result.0.now); writes = counts (O.faults output.old) (O.faults output.new); from = O.taken output.old; to = O.taken output.new })
+        (record { told = D.told disk.entry.now; faults = counts (D.faults disk.entry.now) (D.faults result.0.now); from = D.state disk.entry.now; to = D.state result.0.now })
+        ((output.new ≡ output.old) × (source.new ≡ source.old)) result.1 }
+    ensures lasts { LastsThrough catalogue (record { told = D.told disk.entry.now; faults = counts (D.faults disk.entry.now) (D.faults result.0.now); from = D.state disk.entry.now; to = D.state result.0.now }) }
+    ensures told { D.told result.0.now ≡ D.told disk.entry.now }
+    ensures loan { result.0.ghost_name ≡ L.disk }
+{
+    match opened::<D, L>(alloc, catalogue, clock, disk) {
+        Ok(mut cabinet) => {
+            let tally = run_and_save(alloc, &mut cabinet, source, job);
+            let disk = closed(cabinet);
+            (disk, told_tally(output, job.kind, &tally))
+        }
+        Err(refusal) => {
+            let (fault, disk) = refusal;
+            (disk, end_of_refusal(fault))
+        }
+    }
+}

@@ -1,0 +1,5 @@
+use Rattle.tile_command.proofs.Fitting.{may_be}
+use Rattle.tile_command.proofs.job.job_run.Goals as goal
+
+pub run_job-requires-clause-ours : goal.run_job-requires-clause-ours
+run_job-requires-clause-ours g c = c.requires _ (may_be _ _ c.in-Ok.ensures.configures)

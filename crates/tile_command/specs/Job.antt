@@ -1,0 +1,19 @@
+-- What a job on the cache of a disk came to.
+use Rattle.std.specs.Prelude.{◌≡◌, ◌⊎◌, Ok, Err}
+use Rattle.catalog.specs.declared.catalogue.Catalogue.{Catalogue}
+use Rattle.clock.specs.Readings.{Readings}
+use Rattle.command_setup.specs.Setup.{Configures, IsRead}
+use Rattle.command_setup.specs.declared.configured.Unconfigured.{Unconfigured}
+use Rattle.job_words.specs.Ends.{RunsJob}
+use Rattle.kept_words.specs.Change.{DiskChange}
+use Rattle.kept_words.specs.declared.end.KeptEnd.{KeptEnd}
+use Rattle.tile_command.specs.Change.{Stays}
+use Rattle.tile_command.specs.Statuses.{status_of_kept, status_of_refusal}
+use Rattle.tile_command.specs.declared.status.Status.{Status}
+use Rattle.tile_service.specs.Outside.{InputChange, Outside}
+
+-- what each status says of a job: the catalogue was refused and nothing else was touched, or it was read and the word ended
+abbrev pub JobTells : InputChange → InputChange → Outside → Stays → DiskChange → Type 0 → Readings → Status → Type 0
+JobTells catalogue i o stays d DiskStays clock s =
+    ((e : Unconfigured) × (s ≡ status_of_refusal e) × Configures catalogue (Err e) × stays.input × stays.output × stays.source × DiskStays)
+    ⊎ ((c : Catalogue) × IsRead catalogue (Ok c) × ((e : KeptEnd) × (s ≡ status_of_kept e) × RunsJob c clock i o d DiskStays (stays.output × stays.source) e))
