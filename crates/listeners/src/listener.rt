@@ -1,5 +1,5 @@
 //! The trait of a listening socket.
-ghost use Rattle.std.specs.Prelude.{◌≡◌, ◌+◌, ℕ, IfOk, IfErr};
+ghost use Rattle.std.specs.Prelude.{◌≡◌, ℕ, List, [], ◌∷◌, ◌++◌, IfOk, IfErr};
 ghost use Rattle.causes.specs.Causes.{HasCause};
 
 use http_wire::links::Link;
@@ -10,15 +10,15 @@ pub trait Listener: Drop {
     /// What it gives.
     type L: Link;
 
-    /// How many links it has given.
-    ghost given: { Self → ℕ };
+    /// The links that it has given, each as it was then, the first one first.
+    ghost given: { Self → List Self.L };
 
     /// How often an accept has failed.
     ghost faults: { Self → ℕ };
 
-    /// Waits for a further link and gives it. `Failed` where none can be had, and where 2^64 - 1 were given.
+    /// Waits for a further link and gives it. `Failed` where none can be had.
     fn accept(&mut self) -> Result<Self::L, Failed>
-        ensures given { IfOk result (λ _. given self.new ≡ given self.old + 1) }
+        ensures given { IfOk result (λ link. given self.new ≡ given self.old ++ link ∷ []) }
         ensures refused { IfErr result (λ _. given self.new ≡ given self.old) }
         ensures cause { HasCause (faults self.old) (faults self.new) result };
 }

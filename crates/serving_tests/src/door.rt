@@ -7,6 +7,7 @@ use http_wire::memory_source::MemorySource;
 use http_wire::streams::{ByteSink, ByteSource, Failed};
 use listeners::listener::Listener;
 use std::sync::{Mutex, Wait};
+use trace::Trace;
 
 /// A connection in memory that puts what it takes in where others read it. Neither side is modelled.
 #[derive(Drop)]
@@ -52,25 +53,27 @@ impl<'a, R: Wait> Link for HeardLink<'a, R> {
 #[derive(Drop)]
 pub struct Door<'a, R: Wait> {
     pub links: Vec<HeardLink<'a, R>>,
-    pub given: u32,
+    pub given: Trace<HeardLink<'a, R>>,
     pub faults: u64,
 }
 
 impl<'a, R: Wait> Listener for Door<'a, R> {
     type L = HeardLink<'a, R>;
 
-    ghost given = { λ door. door.given };
+    ghost given = { λ door. door.given.entries };
 
     ghost faults = { λ door. door.faults };
 
     fn accept(&mut self) -> Result<HeardLink<'a, R>, Failed> {
-        if self.given < u32::MAX {
-            if let Some(link) = self.links.pop() {
-                self.given += 1;
-                return Ok(link);
+        match self.links.pop() {
+            Some(link) => {
+                self.given = self.given.and(&link);
+                Ok(link)
+            }
+            None => {
+                self.faults = causes::one_more(self.faults);
+                Err(Failed)
             }
         }
-        self.faults = causes::one_more(self.faults);
-        Err(Failed)
     }
 }

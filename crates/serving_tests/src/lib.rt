@@ -1,9 +1,20 @@
-//! Tests of a server over connections in memory.
+//! Tests of a server: over connections in memory, and on the loopback with clients in threads.
 //!
-//! Promises: nothing; it has tests alone.
+//! It has no code of its own and promises nothing.
+//! Stands on tile_serving and tcp_lanes, and on the crates of what they are called with.
 #![tactic(auto)]
 
 #[cfg(test)]
+mod client;
+#[cfg(test)]
 mod door;
 #[cfg(test)]
+mod held;
+#[cfg(test)]
+mod loopback;
+#[cfg(test)]
 mod servers;
+#[cfg(test)]
+mod stage;
+#[cfg(test)]
+mod texts;

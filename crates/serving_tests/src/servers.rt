@@ -1,90 +1,20 @@
 //! A server over connections in memory.
-ghost use Rattle.std.specs.Prelude.{IfOk, length, ◌≡◌};
-
 use crate::door::{Door, HeardLink};
-use clock::clock::Clock;
-use exact_ratio::words::Words;
+use crate::stage::{served, sources, supply};
+use crate::texts::{are_of_one_render, has};
 use http_wire::memory_link::MemoryLink;
 use http_wire::memory_sink::MemorySink;
-use http_wire::memory_source::MemorySource;
 use listeners::list_of_links::ListOfLinks;
-use silent_disk::SilentDisk;
-use source_render::numbered::Numbered;
 use std::alloc::Global;
 use std::sync::{Mutex, Wait};
 use std::test::Fail;
 use std::thread::Threads;
-use tile_command::command::run_command;
 use tile_serving::ends::ServerEnd;
-use tile_serving::server::run_server;
+use trace::Trace;
 
 /// The one message of a connection: a tile of the built-in catalogue.
 const MESSAGE: &[u8] =
     b"GET /rest/wmts/demo/grey/tiny/0/0/0.ppm HTTP/1.1\r\nConnection: close\r\n\r\n";
-
-/// A source of these bytes.
-fn supply(alloc: Global, bytes: &[u8]) -> Result<MemorySource, Fail> {
-    Ok(MemorySource::new(Vec::from_slice(alloc, bytes)?, 4096, Vec::new(alloc)))
-}
-
-/// A disk with an empty cache of the built-in catalogue.
-fn made(alloc: Global) -> Result<SilentDisk, Fail> {
-    let words = vec![in alloc; Words::new(alloc, b"make")?]?;
-    let mut disk = SilentDisk::new(alloc, Vec::new(alloc), Vec::new(alloc));
-    let _ = run_command(
-        alloc,
-        words.as_slice(),
-        &mut supply(alloc, b"")?,
-        &mut supply(alloc, b"")?,
-        &mut supply(alloc, b"")?,
-        &mut MemorySink::new(alloc, Vec::new(alloc)),
-        &mut Numbered::new(0),
-        &mut disk,
-        Clock::listed(Vec::new(alloc)),
-    );
-    Ok(disk)
-}
-
-/// A source for each of the four workers.
-fn sources(alloc: Global) -> Result<Vec<Numbered>, Fail>
-    ensures { IfOk result (λ sources. length sources.items ≡ 4) }
-{
-    Ok(vec![in alloc;
-        Numbered::new(0),
-        Numbered::new(0),
-        Numbered::new(0),
-        Numbered::new(0),
-    ]?)
-}
-
-/// The first place at which the bytes have this text.
-fn place_of(bytes: &[u8], text: &[u8]) -> Option<usize> {
-    for at in 0..bytes.len() {
-        if bytes[at..].starts_with(text) {
-            return Some(at);
-        }
-    }
-    None
-}
-
-/// Whether the bytes have this text somewhere.
-fn has(bytes: &[u8], text: &[u8]) -> bool {
-    place_of(bytes, text).is_some()
-}
-
-/// The line of a response that tells the number of the render.
-fn number_line(response: &[u8]) -> Option<&[u8]> {
-    let line = response.get(place_of(response, b"tile-render: ")?..)?;
-    line.get(..place_of(line, b"\r\n")?)
-}
-
-/// Whether two responses tell the number of one render.
-fn are_of_one_render(first: &[u8], second: &[u8]) -> bool {
-    match (number_line(first), number_line(second)) {
-        (Some(first), Some(second)) => first == second,
-        _ => false,
-    }
-}
 
 /// A connection of the message, whose output goes there.
 fn link<'a, R: Wait>(
@@ -111,17 +41,8 @@ fn plain_link(alloc: Global) -> Result<MemoryLink, Fail> {
 fn a_listener_that_gives_too_few(rt: HostRuntime) -> Result<(), Fail> {
     let alloc = rt.alloc();
     let links = vec![in alloc; plain_link(alloc)?, plain_link(alloc)?]?;
-    let end = run_server(
-        &rt,
-        alloc,
-        3,
-        &mut supply(alloc, b"")?,
-        &mut supply(alloc, b"")?,
-        &mut ListOfLinks::new(links),
-        sources(alloc)?,
-        made(alloc)?,
-        Clock::listed(Vec::new(alloc)),
-    );
+    let mut listener = ListOfLinks::new(links);
+    let end = served(&rt, alloc, 3, &mut listener, sources(alloc)?)?;
     assert_eq!(rt; end, ServerEnd::ListenFault);
     assert_eq!(rt; end.code(), 14);
     Ok(())
@@ -137,20 +58,10 @@ fn serve_two<R: Threads + Wait + Sync>(
     let links = vec![in alloc; link(rt, alloc, first)?, link(rt, alloc, second)?]?;
     let mut door = Door {
         links,
-        given: 0,
+        given: Trace::new(),
         faults: 0,
     };
-    Ok(run_server(
-        rt,
-        alloc,
-        2,
-        &mut supply(alloc, b"")?,
-        &mut supply(alloc, b"")?,
-        &mut door,
-        sources(alloc)?,
-        made(alloc)?,
-        Clock::listed(Vec::new(alloc)),
-    ))
+    served(rt, alloc, 2, &mut door, sources(alloc)?)
 }
 
 #[test]

@@ -1,6 +1,4 @@
 //! The listening socket, which gives lanes.
-ghost use Rattle.std.specs.Prelude.{◌<◌, ◌^◌, ◌-◌, IfSome};
-
 use crate::lane::Lane;
 use crate::limits::EVENTS;
 use crate::link::TcpLink;
@@ -15,12 +13,13 @@ use std::io;
 use std::net::{Ipv4Addr, Net, SocketAddr};
 use std::sync::{Arc, Wait};
 use std::time::Clock;
+use trace::Trace;
 
 /// A listening socket. Of the connections to it contracts know nothing.
 pub struct TcpAccept<R: Wait + Clock + Copy + Drop> {
     rt: R,
     lobby: Arc<Lobby>,
-    given: u64,
+    given: Trace<TcpLink<R>>,
     faults: u64,
 }
 
@@ -37,7 +36,7 @@ impl<R: Wait + Clock + Net + Copy + Drop> TcpAccept<R> {
         Ok(TcpAccept {
             rt,
             lobby: Arc::new(alloc, lobby).map_err(AllocError::from)?,
-            given: 0,
+            given: Trace::new(),
             faults: 0,
         })
     }
@@ -49,14 +48,12 @@ impl<R: Wait + Clock + Net + Copy + Drop> TcpAccept<R> {
 }
 
 impl<R: Wait + Clock + Copy + Drop> TcpAccept<R> {
-    /// A further lane, once fewer are out than may be. None where 2^64 - 1 were given.
-    fn next_lane(&self) -> Option<Lane>
-        ensures { IfSome result (λ _. self.now.given < 2 ^ 64 - 1) }
-    {
-        if self.given == u64::MAX {
-            return None;
+    /// A further link, once fewer lanes are out than may be.
+    fn next_link(&self) -> Option<TcpLink<R>> {
+        match Lane::new(&self.rt, &self.lobby) {
+            Ok(lane) => Some(TcpLink::new(self.rt, lane)),
+            Err(_) => None,
         }
-        Lane::new(&self.rt, &self.lobby).ok()
     }
 }
 
@@ -75,15 +72,15 @@ impl<R: Wait + Clock + Copy + Drop> Drop for TcpAccept<R> {
 impl<R: Wait + Clock + Copy + Drop> Listener for TcpAccept<R> {
     type L = TcpLink<R>;
 
-    ghost given = { λ s. s.given };
+    ghost given = { λ s. s.given.entries };
 
     ghost faults = { λ s. s.faults };
 
     fn accept(&mut self) -> Result<TcpLink<R>, Failed> {
-        match self.next_lane() {
-            Some(lane) => {
-                self.given += 1;
-                Ok(TcpLink::new(self.rt, lane))
+        match self.next_link() {
+            Some(link) => {
+                self.given = self.given.and(&link);
+                Ok(link)
             }
             None => {
                 self.faults = causes::one_more(self.faults);

@@ -1,3 +1,10 @@
 pub mod Fitting
 pub mod Crews
 pub mod Shared
+pub mod Sums
+pub mod Balance
+pub mod Arrivals
+pub mod Holding
+pub mod Gathering
+pub mod Telling
+pub mod Passes

@@ -1,11 +1,45 @@
--- The passes of a server.
+-- The workers of a server.
 -- A tie between the code and its definitions: the promise can be read without it.
-use Rattle.std.specs.Prelude.{◌≡◌, false}
+use Rattle.std.specs.Prelude.{ℕ, ◌≡◌, ◌<◌, ◌++◌, Bool, true, List, [], length, MatchBool, Option, Some}
+use Rattle.std.specs.List.{AllByRecursion}
 use Rattle.atomic_table.specs.Seated.{TableId}
 use Rattle.cache_hall.specs.Turned.{HallPass, IsPassOf}
 use Rattle.catalog.specs.declared.catalogue.Catalogue.{Catalogue}
+use Rattle.causes.specs.Causes.{Rose}
+use Rattle.crossbeam_queue.specs.Passes.{Pass, view}
+use Rattle.tile_serving.specs.Hands.{IsHand, hand}
+use Rattle.tile_serving.specs.Stints.{AreHeld, AreServed, HeldSession, IsStint, Service, links_in, links_of}
+use Rattle.tile_serving.specs.declared.hand.Hand.{Hand}
 
--- a pass of this turnstile, at a cabinet of this catalogue, of which it isn't told that it is sound
-pub record IsUntold (table : TableId) (c : Catalogue) (pass : HallPass) : Type 0 where
+-- a worker of this queue and of this turnstile may serve: where its pass is told, its source tells the catalogue's number
+pub record IsReady {L : Type 0} (queue table : TableId) (c : Catalogue) (tells : Option ℕ) (pass : HallPass) (mine : Pass L (Hand L)) : Type 0 where
   pub of : IsPassOf table c pass
-  pub untold : pass.told ≡ false
+  pub source : pass.told ≡ true → tells ≡ Some c.source
+  pub at_queue : IsHand queue (view mine) mine
+  pub parts : 0 < (view mine).parts
+
+-- a worker that has made nothing yet, and has no link
+pub record IsNew {L : Type 0} (queue : TableId) (s : Service L) (tells : Option ℕ) (pass : HallPass) (mine : Pass L (Hand L)) : Type 0 where
+  pub pass_is : pass ≡ s.first
+  pub source : s.first.told ≡ true → tells ≡ Some s.catalogue.source
+  pub hand_is : IsHand queue (hand 1 [] []) mine
+
+-- a worker has held a session over each link that it took since its hand was as before
+pub record HasWorked {L : Type 0} (s : Service L) (before : Hand L) (pass : HallPass) (renders : ℕ) (mine : Pass L (Hand L)) : Type 0 where
+  pub sessions : List (HeldSession L)
+  pub renders_before : ℕ
+  pub held : AreHeld s s.first renders_before sessions pass renders
+  pub took : view mine ≡ hand before.parts before.put (before.taken ++ links_of sessions)
+
+-- the worker has taken over the hands of others, and with them the links of the stints that those held; its hand has so many parts
+pub record HasGathered {L : Type 0} (s : Service L) (parts : ℕ) (pass : HallPass) (renders : ℕ) (mine : Pass L (Hand L)) : Type 0 where
+  pub stints : List (List (HeldSession L))
+  pub held : AllByRecursion (IsStint s) stints
+  pub last : HasWorked s (hand parts [] (links_in stints)) pass renders mine
+
+-- so many links were asked for; the listener gave these, each of which was served; and where it gave fewer, an accept had failed
+pub record HasServedLinks {L : Type 0} (s : Service L) (asked : ℕ) (given_before given_after : List L) (faults_before faults_after : ℕ) (all : Bool) : Type 0 where
+  pub links : List L
+  pub given : given_after ≡ given_before ++ links
+  pub served : AreServed s links
+  pub each : MatchBool all (length links ≡ asked) (Rose faults_before faults_after)

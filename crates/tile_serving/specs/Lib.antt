@@ -1,4 +1,9 @@
 pub mod Ends
+pub mod Weights
+pub mod Stints
+pub mod Opened
+pub mod Hands
+pub mod Accepted
 pub mod Crew
 pub mod Served
 pub mod Setup

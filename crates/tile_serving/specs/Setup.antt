@@ -1,19 +1,30 @@
 -- What comes of the setting up.
 -- A tie between the code and its definitions: the promise can be read without it.
-use Rattle.std.specs.Prelude.{ℕ, ◌≡◌, ◌⊎◌, List}
+use Rattle.std.specs.Prelude.{All, ℕ, ◌≡◌, ◌⊎◌, Bool, List}
+use Rattle.atomic_table.specs.Seated.{TableId}
+use Rattle.cabinet.specs.State.{State}
+use Rattle.cache_hall.specs.Turned.{HallPass}
 use Rattle.catalog.specs.declared.catalogue.Catalogue.{Catalogue}
+use Rattle.clock.specs.Readings.{Readings}
 use Rattle.command_setup.specs.Setup.{AreRead, IsRefused}
 use Rattle.command_setup.specs.declared.configured.Unconfigured.{Unconfigured}
 use Rattle.gate_journal.specs.declared.fault.OpenFault.{OpenFault}
 use Rattle.tile_service.specs.Outside.{InputChange}
 use Rattle.tile_serving.specs.Ends.{end_of_opening, end_of_refusal}
-use Rattle.tile_serving.specs.Served.{IsUnopened, ServerDisk}
+use Rattle.tile_serving.specs.Opened.{IsOpened, IsUnopened, ServerDisk, first_pass}
 use Rattle.tile_serving.specs.declared.ends.ServerEnd.{ServerEnd}
 use Rattle.tile_serving.specs.declared.ends.ServerEnd.TheVariants as end
 
--- both files were read
-abbrev pub IsReady : InputChange → InputChange → Type 0
-IsReady catalogue capabilities = (c : Catalogue) × (document : List ℕ) × AreRead catalogue capabilities c document
+-- each pass is a first one of this table, at the cabinet that the disk opens to
+pub record AreFirst {D : Type 0} (d : ServerDisk D) (c : Catalogue) (clock : Readings) (told : Bool) (table : TableId) (passes : List HallPass) : Type 0 where
+  pub opened : State
+  pub is_opened : IsOpened d c clock opened
+  pub first : All (λ p. p ≡ first_pass table c told opened) passes
+
+-- both files were read, and the passes are first ones at the cabinet that the disk opens to
+pub record IsStaged {D : Type 0} (catalogue capabilities : InputChange) (d : ServerDisk D) (clock : Readings) (told : Bool) (c : Catalogue) (document : List ℕ) (table : TableId) (passes : List HallPass) : Type 0 where
+  pub read : AreRead catalogue capabilities c document
+  pub first : AreFirst d c clock told table passes
 
 -- memory ran out, or the cache isn't opened and the end tells why
 abbrev pub Refuses : {D : Type 0} → ServerDisk D → Catalogue → ServerEnd → Type 0

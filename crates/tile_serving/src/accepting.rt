@@ -1,8 +1,10 @@
 //! How links are accepted.
-ghost use Rattle.std.specs.Prelude.{◌≡◌, ◌+◌, ◌≤◌, MatchBool};
-ghost use Rattle.causes.specs.Causes.{Rose};
+ghost use Rattle.std.specs.Prelude.{◌<◌};
+ghost use Rattle.crossbeam_queue.specs.Passes.{view};
+ghost use Rattle.tile_serving.specs.Accepted.{HasAccepted};
+ghost use Rattle.tile_serving.specs.Hands.{IsHand, table_of};
 
-use crate::queue::LinkQueue;
+use crate::queue::{LinkHand, LinkQueue};
 use listeners::listener::Listener;
 use std::sync::Wait;
 
@@ -11,11 +13,14 @@ pub(crate) fn accept_all<R: Wait, N: Listener>(
     rt: &R,
     connections: u32,
     queue: &LinkQueue<N::L>,
+    mine: &mut LinkHand<N::L>,
     listener: &mut N,
 ) -> bool
-    ensures { MatchBool result (N.given listener.new ≡ N.given listener.old + connections) (Rose (N.faults listener.old) (N.faults listener.new)) }
+    requires mine { IsHand (table_of queue.now.links) (view mine.old) mine.old }
+    requires parts { 0 < (view mine.old).parts }
+    ensures { HasAccepted (table_of queue.now.links) connections (view mine.old) mine.new (N.given listener.old) (N.given listener.new) (N.faults listener.old) (N.faults listener.new) result }
 {
-    let all = accept_each(rt, connections, queue, listener);
+    let all = accept_each(rt, connections, queue, mine, listener);
     queue.close(rt);
     all
 }
@@ -25,13 +30,16 @@ fn accept_each<R: Wait, N: Listener>(
     rt: &R,
     connections: u32,
     queue: &LinkQueue<N::L>,
+    mine: &mut LinkHand<N::L>,
     listener: &mut N,
 ) -> bool
-    ensures { MatchBool result (N.given listener.new ≡ N.given listener.old + connections) (Rose (N.faults listener.old) (N.faults listener.new)) }
+    requires mine { IsHand (table_of queue.now.links) (view mine.old) mine.old }
+    requires parts { 0 < (view mine.old).parts }
+    ensures { HasAccepted (table_of queue.now.links) connections (view mine.old) mine.new (N.given listener.old) (N.given listener.new) (N.faults listener.old) (N.faults listener.new) result }
 {
     'accepting: for _ in 0..connections {
         match listener.accept() {
-            Ok(link) => queue.hand_in(rt, link),
+            Ok(link) => queue.hand_in(rt, mine, link),
             Err(_) => return false,
         }
     }

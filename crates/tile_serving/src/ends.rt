@@ -11,7 +11,8 @@ use tile_command::status::Status;
 /// How a server ended (`specs/Served.antt`).
 #[derive(Clone, Copy, Debug, PartialEq, Eq)]
 pub enum ServerEnd {
-    /// As many links were given as were asked for, and all were served to their ends.
+    /// The cache of the disk was opened, the listener gave as many links as were asked for, and each of them was served in one session, to its
+    /// end.
     Done,
     /// The catalogue has this fault.
     Catalogue(CatalogueFault),
@@ -23,7 +24,7 @@ pub enum ServerEnd {
     DiskFault,
     /// The cache isn't opened for this cause, which is neither a fault of the disk nor want of memory.
     Cache(OpenFault),
-    /// The listener failed to give a further link. The links given before were served to their ends.
+    /// The listener failed to give a further link. The cache had been opened, and each link given before was served likewise.
     ListenFault,
     /// Memory ran out before the first link.
     OutOfMemory,

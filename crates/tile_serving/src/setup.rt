@@ -1,11 +1,12 @@
 //! What a server works with, made ready before the first link.
-ghost use Rattle.std.specs.Prelude.{All, IfErr, IfOk, IsTrue, length, ◌≡◌};
+ghost use Rattle.std.specs.Prelude.{All, Bool, IfErr, IfOk, IsTrue, length, true, ◌≡◌};
+ghost use Rattle.cabinet.specs.State.{IsSound};
 ghost use Rattle.catalog.specs.Valid.{IsValid};
-ghost use Rattle.durable_cabinet.specs.Images.{IsOurs};
+ghost use Rattle.durable_cabinet.specs.Images.{IsOurs, IsSoundImage};
 ghost use Rattle.tile_command.specs.Command.{HoldsFile};
 ghost use Rattle.tile_service.specs.Outside.{InputChange, counts};
-ghost use Rattle.tile_serving.specs.Crew.{IsUntold};
-ghost use Rattle.tile_serving.specs.Setup.{IsReady, IsUnready, Refuses};
+ghost use Rattle.tile_serving.specs.Opened.{HoldsPictures, IsOpened, first_pass};
+ghost use Rattle.tile_serving.specs.Setup.{AreFirst, IsStaged, IsUnready, Refuses};
 
 use crate::ends::{ServerEnd, end_of_opening, end_of_refusal};
 use cabinet::keeper::Keeper;
@@ -42,7 +43,7 @@ fn cabinet_of<D: Disk>(
 ) -> Result<Cabinet<D>, ServerEnd>
     requires valid { IsValid catalogue }
     requires ours { IsTrue (D.told disk) → IsOurs catalogue (D.state disk).seen }
-    ensures of { IfOk result (λ k. k.state.catalogue ≡ catalogue) }
+    ensures opened { IfOk result (λ k. IsOpened (record { disk = disk; told = D.told disk; seen = (D.state disk).seen; faults = D.faults }) catalogue clock k.state) }
     ensures refused { IfErr result (λ end. Refuses (record { disk = disk; told = D.told disk; seen = (D.state disk).seen; faults = D.faults }) catalogue end) }
 {
     match Cabinet::open(alloc, catalogue, clock, disk) {
@@ -55,16 +56,20 @@ fn cabinet_of<D: Disk>(
     }
 }
 
-/// A world over a cabinet, with its capabilities document, and the passes of it. The passes aren't told that the cabinet is sound.
+/// A world over a cabinet, with its capabilities document, and the passes of it. Where the caller sets the mark of being told, the cabinet
+/// is sound.
 fn world_of<K: Keeper>(
     alloc: Global,
     rest: RestTable,
     capabilities: Words,
     keeper: K,
 ) -> Result<Stage<K>, AllocError>
+    ghost told: { Bool }
+    requires sound { told ≡ true → IsSound (K.state keeper) }
     ensures catalogue { IfOk result (λ o. o.world.hall.catalogue ≡ (K.state keeper).catalogue) }
+    ensures document { IfOk result (λ o. o.world.capabilities ≡ capabilities) }
     ensures count { IfOk result (λ o. length o.passes.items ≡ PASSES) }
-    ensures own { IfOk result (λ o. All (IsUntold o.world.hall.turnstile.table o.world.hall.catalogue) o.passes.items) }
+    ensures first { IfOk result (λ o. All (λ p. p ≡ first_pass o.world.hall.turnstile.table (K.state keeper).catalogue told (K.state keeper)) o.passes.items) }
 {
     match Hall::make(alloc, keeper, PASSES) {
         Err(fault) => Err(fault),
@@ -87,11 +92,14 @@ fn world_on<D: Disk>(
     clock: Clock,
     disk: D,
 ) -> Result<Stage<Cabinet<D>>, ServerEnd>
+    ghost told: { Bool }
     requires valid { IsValid catalogue }
     requires ours { IsTrue (D.told disk) → IsOurs catalogue (D.state disk).seen }
-    ensures valid { IfOk result (λ o. IsValid o.world.hall.catalogue) }
+    requires sound { told ≡ true → IsTrue (D.told disk) × IsSoundImage catalogue (D.state disk).seen }
+    ensures catalogue { IfOk result (λ o. o.world.hall.catalogue ≡ catalogue) }
+    ensures document { IfOk result (λ o. o.world.capabilities ≡ capabilities) }
     ensures count { IfOk result (λ o. length o.passes.items ≡ PASSES) }
-    ensures own { IfOk result (λ o. All (IsUntold o.world.hall.turnstile.table o.world.hall.catalogue) o.passes.items) }
+    ensures first { IfOk result (λ o. AreFirst (record { disk = disk; told = D.told disk; seen = (D.state disk).seen; faults = D.faults }) catalogue clock told o.world.hall.turnstile.table o.passes.items) }
     ensures refused { IfErr result (λ end. Refuses (record { disk = disk; told = D.told disk; seen = (D.state disk).seen; faults = D.faults }) catalogue end) }
 {
     let Ok(rest) = RestTable::new(alloc) else {
@@ -115,13 +123,16 @@ pub(crate) fn made_ready<D: Disk, I: ByteSource>(
     clock: Clock,
     disk: D,
 ) -> Result<Stage<Cabinet<D>>, ServerEnd>
-    requires { HoldsFile (I.left catalogue.old) (D.told disk) (D.state disk).seen }
+    ghost told: { Bool }
+    requires holds { HoldsFile (I.left catalogue.old) (D.told disk) (D.state disk).seen }
+    requires sound { told ≡ true → IsTrue (D.told disk) × HoldsPictures (I.left catalogue.old) (D.state disk).seen }
     ensures valid { IfOk result (λ o. IsValid o.world.hall.catalogue) }
     ensures count { IfOk result (λ o. length o.passes.items ≡ PASSES) }
-    ensures own { IfOk result (λ o. All (IsUntold o.world.hall.turnstile.table o.world.hall.catalogue) o.passes.items) }
-    ensures ready { IfOk result (λ o. IsReady
+    ensures staged { IfOk result (λ o. IsStaged
         (record { reads = counts (I.faults catalogue.old) (I.faults catalogue.new); from = I.left catalogue.old; to = I.left catalogue.new })
-        (record { reads = counts (I.faults capabilities.old) (I.faults capabilities.new); from = I.left capabilities.old; to = I.left capabilities.new })) }
+        (record { reads = counts (I.faults capabilities.old) (I.faults capabilities.new); from = I.left capabilities.old; to = I.left capabilities.new })
+        (record { disk = disk; told = D.told disk; seen = (D.state disk).seen; faults = D.faults })
+        clock told o.world.hall.catalogue o.world.capabilities o.world.hall.turnstile.table o.passes.items) }
     ensures refused { IfErr result (λ end. IsUnready
         (record { reads = counts (I.faults catalogue.old) (I.faults catalogue.new); from = I.left catalogue.old; to = I.left catalogue.new })
         (record { reads = counts (I.faults capabilities.old) (I.faults capabilities.new); from = I.left capabilities.old; to = I.left capabilities.new })

@@ -1,8 +1,11 @@
-use Rattle.std.proofs.Common.{◌≡◌, ◌+◌, ◌≤◌}
+use Rattle.std.proofs.Common.{◌≡◌, ◌≤◌, List, ◌++◌, length}
+use Rattle.crossbeam_queue.specs.Passes.{view}
+use Rattle.tile_serving.specs.Hands.{table_of}
+use Rattle.tile_serving.proofs.Arrivals.{AreIn}
 use Rattle.tile_serving.proofs.accepting.accept_each.Given as goal
 
 abbrev pub invariant-accepting : goal.invariant-accepting
 invariant-accepting g l = record {
-  given : g.N.Listener.given l.listener ≡ g.N.Listener.given l.initial.listener + l.counter;
+  in_queue : AreIn (table_of l.queue.links) l.counter (view l.initial.mine) l.mine (g.N.Listener.given l.initial.listener) (g.N.Listener.given l.listener);
   later : g.N.Listener.faults l.initial.listener ≤ g.N.Listener.faults l.listener;
 }

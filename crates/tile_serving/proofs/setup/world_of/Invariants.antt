@@ -1,5 +1,4 @@
-use Rattle.std.specs.Prelude.{false}
 use Rattle.tile_serving.proofs.setup.world_of.Given as goal
 
 abbrev pub ghost-make : goal.ghost-make
-ghost-make g a = false
+ghost-make g a = g.told

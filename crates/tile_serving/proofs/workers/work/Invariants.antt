@@ -1,5 +1,15 @@
-use Rattle.tile_serving.specs.Crew.{IsUntold}
+use Rattle.cache_hall.specs.Turned.{HallPass}
+use Rattle.tile_serving.specs.Crew.{HasWorked, IsReady}
+use Rattle.tile_serving.specs.Hands.{table_of}
+use Rattle.tile_serving.specs.Stints.{Service, serving}
+use Rattle.tile_serving.specs.declared.hand.Hand.{Hand}
 use Rattle.tile_serving.proofs.workers.work.Given as goal
 
 abbrev pub invariant-working : goal.invariant-working
-invariant-working g l = IsUntold l.world.hall.turnstile.table l.world.hall.catalogue l.worker.pass
+invariant-working g l =
+    let service : HallPass → Service g.row.L.Denot = serving g.L.ByteSource.left g.L.ByteSink.taken g.L.ByteSource.faults g.L.ByteSink.faults l.world.capabilities l.world.hall.catalogue in
+    record {
+      ready : IsReady (table_of l.queue.links) l.world.hall.turnstile.table l.world.hall.catalogue (g.S.Source.told l.worker.source) l.worker.pass l.worker.hand;
+      worked : (first : HallPass) (before : Hand g.row.L.Denot) → HasWorked (service first) before l.initial.worker.pass (g.S.Source.faults l.initial.worker.source) l.initial.worker.hand
+          → HasWorked (service first) before l.worker.pass (g.S.Source.faults l.worker.source) l.worker.hand;
+    }

@@ -1,0 +1,56 @@
+-- Sessions that a worker held, and one more.
+use Rattle.std.proofs.Common.{◌≡◌, ◌∙◌, ◌<◌, ℕ, List, [], ◌∷◌, ◌++◌, append_assoc, refl, sym, ap, subst, arith}
+use Rattle.std.proofs.lemmas.List.{map-append}
+use Rattle.std.specs.Prelude.{Option, Some}
+use Rattle.atomic_table.specs.Seated.{TableId}
+use Rattle.cache_hall.specs.Turned.{HallPass, IsPassOf}
+use Rattle.catalog.specs.declared.catalogue.Catalogue.{Catalogue}
+use Rattle.crossbeam_queue.specs.Passes.{Pass, view}
+use Rattle.tile_serving.specs.Crew.{HasWorked, IsNew, IsReady}
+use Rattle.tile_serving.specs.Hands.{IsHand, hand, with_taken}
+use Rattle.tile_serving.specs.Stints.{AreHeld, HeldSession, IsHeld, IsStint, Service, links_of}
+use Rattle.tile_serving.specs.declared.hand.Hand.{Hand}
+
+module _ {L : Type 0} (s : Service L) where
+  -- a session more at the end
+  held_then : (pass : HallPass) (renders : ℕ) (hs : List (HeldSession L)) (pass' : HallPass) (renders' : ℕ) (h : HeldSession L) → AreHeld s pass renders hs pass' renders' → h.pass ≡ pass' → h.renders.before ≡ renders' → IsHeld s h
+      → AreHeld s pass renders (hs ++ h ∷ []) h.pass_after h.renders.after
+  held_then pass renders [] pass' renders' h held p r is = (p ∙ held.0, r ∙ held.1, is, (refl, refl))
+  held_then pass renders (x ∷ xs) pass' renders' h held p r is = (held.0, held.1, held.2, held_then x.pass_after x.renders.after xs pass' renders' h held.3 p r is)
+
+  pub worked_once_more : (before : Hand L) (pass : HallPass) (renders : ℕ) (mine later : Pass L (Hand L)) (h : HeldSession L) → HasWorked s before pass renders mine → view later ≡ with_taken (view mine) h.link → h.pass ≡ pass → h.renders.before ≡ renders → IsHeld s h
+      → HasWorked s before h.pass_after h.renders.after later
+  worked_once_more before pass renders mine later h w took p r is = record {
+    sessions = w.sessions ++ h ∷ [];
+    renders_before = w.renders_before;
+    held = held_then s.first w.renders_before w.sessions pass renders h w.held p r is;
+    took = took ∙ ap (λ (v : Hand L). with_taken v h.link) w.took
+        ∙ ap (hand before.parts before.put) (append_assoc before.taken (links_of w.sessions) (h.link ∷ []) ∙ ap (λ (xs : List L). before.taken ++ xs) (sym (map-append (λ (x : HeldSession L). x.link) w.sessions (h ∷ []))));
+  }
+
+  -- nothing at first
+  pub new_has_worked : (queue : TableId) (tells : Option ℕ) (pass : HallPass) (renders : ℕ) (mine : Pass L (Hand L)) → IsNew queue s tells pass mine → HasWorked s (hand 1 [] []) pass renders mine
+  new_has_worked queue tells pass renders mine new = record { sessions = []; renders_before = renders; held = (new.pass_is, refl); took = new.hand_is.knows }
+
+  -- what a worker held from its first hand on is a stint
+  pub stint_of : (before : Hand L) (pass : HallPass) (renders : ℕ) (mine : Pass L (Hand L)) (w : HasWorked s before pass renders mine) → IsStint s w.sessions
+  stint_of before pass renders mine w = record { renders_before = w.renders_before; pass_after = pass; renders_after = renders; held = w.held }
+
+  -- a new worker may serve
+  pub new_is_ready : (queue : TableId) (tells : Option ℕ) (pass : HallPass) (mine : Pass L (Hand L)) → s.first.charter ≡ Some s.catalogue → IsNew queue s tells pass mine → IsReady queue s.first.table s.catalogue tells pass mine
+  new_is_ready queue tells pass mine charter new = record {
+    of = record { same_table = ap (λ (p : HallPass). p.table) new.pass_is; charter = ap (λ (p : HallPass). p.charter) new.pass_is ∙ charter };
+    source = λ told. new.source (sym (ap (λ (p : HallPass). p.told) new.pass_is) ∙ told);
+    at_queue = record { of = new.hand_is.of; carries = new.hand_is.carries; knows = refl };
+    parts = subst (λ (v : Hand L). 0 < v.parts) (sym new.hand_is.knows) (omega arith);
+  }
+
+-- after a session over a link that it took a worker may serve again
+pub ready_after : {L : Type 0} (queue table : TableId) (c : Catalogue) (tells tells' : Option ℕ) (pass pass' : HallPass) (link : L) (mine later : Pass L (Hand L)) → IsReady queue table c tells pass mine → IsPassOf table c pass' → pass'.told ≡ pass.told → tells' ≡ tells
+    → IsHand queue (with_taken (view mine) link) later → IsReady queue table c tells' pass' later
+ready_after queue table c tells tells' pass pass' link mine later ready of mark same took = record {
+  of = of;
+  source = λ told. same ∙ ready.source (sym mark ∙ told);
+  at_queue = record { of = took.of; carries = took.carries; knows = refl };
+  parts = subst (λ v. 0 < v.parts) (sym took.knows) ready.parts;
+}

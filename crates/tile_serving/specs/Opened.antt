@@ -1,0 +1,42 @@
+-- How the cache of a server is opened.
+use Rattle.std.specs.Prelude.{All, ℕ, ◌≡◌, Bool, IsTrue, List, [], Option, Some}
+use Rattle.atomic_table.specs.Seated.{TableId}
+use Rattle.cabinet.specs.State.{State, fronted, now}
+use Rattle.cabinet_records.specs.Replay.{Replayed}
+use Rattle.cache_hall.specs.Turned.{HallPass}
+use Rattle.catalog.specs.declared.catalogue.Catalogue.{Catalogue}
+use Rattle.clock.specs.Readings.{Readings}
+use Rattle.disk_model.specs.Content.{Content}
+use Rattle.durable_cabinet.specs.Filed.{IsRefusedAs, opened_as}
+use Rattle.durable_cabinet.specs.Images.{IsSoundImage, OpensTo}
+use Rattle.gate_journal.specs.declared.fault.OpenFault.{OpenFault}
+use Rattle.tile_command.specs.Command.{MayBe}
+
+-- the disk of a server: whether it is modelled, what a read of it gives, and how often disks have failed
+pub record ServerDisk (D : Type 0) : Type 0 where
+  pub disk : D
+  pub told : Bool
+  pub seen : Content
+  pub faults : D → ℕ
+
+-- each kept blob of the disk is the text of its block in the picture of its number, by the catalogue of the text
+abbrev pub HoldsPictures : Option (List ℕ) → Content → Type 0
+HoldsPictures text seen = (c : Catalogue) → MayBe text c → IsSoundImage c seen
+
+-- the cabinet begins with the records that the disk opens to, where that is modelled
+pub record IsOpened {D : Type 0} (d : ServerDisk D) (c : Catalogue) (clock : Readings) (s : State) : Type 0 where
+  pub replayed : Replayed
+  pub opens : IsTrue d.told → OpensTo c d.seen replayed
+  pub is : s ≡ opened_as d.told d.seen c clock replayed
+
+-- a pass that has seen the book of this cabinet and made nothing, with this mark of being told
+abbrev pub first_pass : TableId → Catalogue → Bool → State → HallPass
+first_pass table c told s = record { table = table; charter = Some c; told = told; book = fronted (now s); made = [] }
+
+-- the cache isn't opened for this cause, and the disk was handed back, which may have failed once more
+abbrev pub IsUnopened : {D : Type 0} → ServerDisk D → OpenFault → Catalogue → Type 0
+IsUnopened {D} d f c = (left : D) × IsRefusedAs d.told c d.seen (d.faults d.disk) (d.faults left) f
+
+-- each source makes the pictures of the number that the catalogue of the text names
+abbrev pub TellAll : {S : Type 0} → Option (List ℕ) → (S → Option ℕ) → List S → Type 0
+TellAll text tells sources = (c : Catalogue) → MayBe text c → All (λ s. tells s ≡ Some c.source) sources

@@ -1,0 +1,67 @@
+-- The sessions that the workers of a server held.
+use Rattle.std.specs.Prelude.{ℕ, ◌≡◌, List, [], ◌∷◌, flat_map, map, Option}
+use Rattle.std.specs.List.{AllByRecursion}
+use Rattle.catalog.specs.declared.catalogue.Catalogue.{Catalogue}
+use Rattle.cache_hall.specs.Turned.{HallPass}
+use Rattle.hall_sessions.specs.Sessions.{HasHallSession, output_of}
+use Rattle.tile_service.specs.Outside.{FaultCounts, counts}
+use Rattle.tile_service.specs.declared.session.SessionEnd.{SessionEnd}
+use Rattle.tile_serving.specs.Weights.{WeighAlike}
+
+-- how contracts read a link: the bytes that are left to take of it and those that it has taken, where these are modelled, and how often a
+-- take and a put have failed
+pub record LinkReading (L : Type 0) : Type 0 where
+  pub left : L → Option (List ℕ)
+  pub taken : L → Option (List ℕ)
+  pub reads : L → ℕ
+  pub writes : L → ℕ
+
+-- a session that was held: its link and its pass, before it and after it, the faults of its source, and its end
+pub record HeldSession (L : Type 0) : Type 0 where
+  pub link : L
+  pub link_after : L
+  pub pass : HallPass
+  pub pass_after : HallPass
+  pub renders : FaultCounts
+  pub end : SessionEnd
+
+abbrev pub links_of : {L : Type 0} → List (HeldSession L) → List L
+links_of sessions = map (λ h. h.link) sessions
+
+abbrev pub links_in : {L : Type 0} → List (List (HeldSession L)) → List L
+links_in stints = flat_map links_of stints
+
+-- what is served: how its links are read, the capabilities document, the catalogue, and a pass of its hall that has made nothing yet
+pub record Service (L : Type 0) : Type 0 where
+  pub reading : LinkReading L
+  pub document : List ℕ
+  pub catalogue : Catalogue
+  pub first : HallPass
+
+abbrev pub serving : {L : Type 0} → (left taken : L → Option (List ℕ)) → (reads writes : L → ℕ) → List ℕ → Catalogue → HallPass → Service L
+serving left taken reads writes document c first = record { reading = record { left = left; taken = taken; reads = reads; writes = writes }; document = document; catalogue = c; first = first }
+
+module _ {L : Type 0} (s : Service L) where
+  abbrev pub IsHeld : HeldSession L → Type 0
+  IsHeld h =
+      HasHallSession
+      (record { reads = counts (s.reading.reads h.link) (s.reading.reads h.link_after); from = s.reading.left h.link; to = s.reading.left h.link_after })
+      (output_of (counts (s.reading.writes h.link) (s.reading.writes h.link_after)) (s.reading.taken h.link) (s.reading.taken h.link_after)) h.renders s.document s.catalogue h.pass h.pass_after h.end
+
+  -- sessions one after the other, each by the pass and with the source that the one before left
+  abbrev pub AreHeld : HallPass → ℕ → List (HeldSession L) → HallPass → ℕ → Type 0
+  AreHeld pass renders [] pass_after renders_after = (pass_after ≡ pass) × (renders_after ≡ renders)
+  AreHeld pass renders (h ∷ hs) pass_after renders_after = (h.pass ≡ pass) × (h.renders.before ≡ renders) × IsHeld h × AreHeld h.pass_after h.renders.after hs pass_after renders_after
+
+  -- all that one worker held, from the first of them by a pass that had made nothing
+  pub record IsStint (sessions : List (HeldSession L)) : Type 0 where
+    pub renders_before : ℕ
+    pub pass_after : HallPass
+    pub renders_after : ℕ
+    pub held : AreHeld s.first renders_before sessions pass_after renders_after
+
+  -- each of these links was served in one session of one stint, to its end
+  pub record AreServed (links : List L) : Type 0 where
+    pub stints : List (List (HeldSession L))
+    pub held : AllByRecursion IsStint stints
+    pub each : WeighAlike links (links_in stints)

@@ -1,0 +1,180 @@
+//! The threads of a server.
+ghost use Rattle.std.specs.Prelude.{All, MatchBool, length, [], ◌+◌, ◌-◌, ◌<◌, ◌≡◌};
+ghost use Rattle.cache_hall.specs.Turned.{HallPass, IsPassOf};
+ghost use Rattle.catalog.specs.Valid.{IsValid};
+ghost use Rattle.crossbeam_queue.specs.Passes.{view};
+ghost use Rattle.tile_serving.specs.Accepted.{HasAccepted};
+ghost use Rattle.tile_serving.specs.Crew.{HasServedLinks, HasWorked, IsReady};
+ghost use Rattle.tile_serving.specs.Hands.{IsHand, all_parts, hand, table_of};
+ghost use Rattle.tile_serving.specs.Stints.{serving};
+ghost use Rattle.tile_serving.specs.declared.hand.Hand.{Hand};
+
+use crate::accepting::accept_all;
+use crate::crew::{Crew, Staff, Worker};
+use crate::crossing::is_shared;
+use crate::ending::serve_rest;
+use crate::queue::LinkQueue;
+use crate::upkeep::{Shift, keep_up};
+use crate::workers::work;
+use cabinet::keeper::Keeper;
+use hall_sessions::world::World;
+use http_wire::links::Link;
+use listeners::listener::Listener;
+use source_render::source::Source;
+use std::alloc::Global;
+use std::convert::identity;
+use std::sync::Wait;
+use std::thread::{Threads, for_each_mut, join_mut};
+use wmts_rest::table::RestTable;
+
+/// How many workers serve links at a time.
+pub(crate) const WORKERS: usize = 4;
+
+/// Lets all workers serve until no more links come, and then ends the upkeep.
+#[tactic(auto, using(crate::proofs::Shared::world_sync))]
+fn work_all<R: Threads + Wait + Sync, K: Keeper + Send, S: Source + Send, L: Link + Send>(
+    rt: &R,
+    alloc: Global,
+    world: &World<K>,
+    queue: &LinkQueue<L>,
+    shift: &Shift,
+    workers: &mut [Worker<K, S, L>],
+)
+    requires valid { IsValid world.now.hall.catalogue }
+    requires ready { All (λ w. IsReady (table_of queue.now.links) world.now.hall.turnstile.table world.now.hall.catalogue (S.told w.source) w.pass w.hand) workers.old }
+    ensures ready { All (λ w. IsReady (table_of queue.now.links) world.now.hall.turnstile.table world.now.hall.catalogue (S.told w.source) w.pass w.hand) workers.new }
+    ensures worked { (first : HallPass) (before : Hand L)
+        → All (λ w. HasWorked (serving L.left L.taken L.ByteSource.faults L.ByteSink.faults world.now.capabilities world.now.hall.catalogue first) before w.pass (S.faults w.source) w.hand) workers.old
+        → All (λ w. HasWorked (serving L.left L.taken L.ByteSource.faults L.ByteSink.faults world.now.capabilities world.now.hall.catalogue first) before w.pass (S.faults w.source) w.hand) workers.new }
+{
+    // The table of routes holds a tree, of which proofs have to be told that threads may share it.
+    is_shared::<RestTable>();
+    for_each_mut(
+        rt,
+        workers,
+        WORKERS,
+        &|_, worker: &mut Worker<K, S, L>|
+            requires { IsValid world.now.hall.catalogue × IsReady (table_of queue.now.links) world.now.hall.turnstile.table world.now.hall.catalogue (S.told worker.now.source) worker.now.pass worker.now.hand }
+            ensures ready { IsReady (table_of queue.entry.now.links) world.entry.now.hall.turnstile.table world.entry.now.hall.catalogue (S.told worker.exit.now.source) worker.exit.now.pass worker.exit.now.hand }
+            ensures worked { (first : HallPass) (before : Hand L)
+                → HasWorked (serving L.left L.taken L.ByteSource.faults L.ByteSink.faults world.entry.now.capabilities world.entry.now.hall.catalogue first) before worker.entry.now.pass (S.faults worker.entry.now.source) worker.entry.now.hand
+                → HasWorked (serving L.left L.taken L.ByteSource.faults L.ByteSink.faults world.entry.now.capabilities world.entry.now.hall.catalogue first) before worker.exit.now.pass (S.faults worker.exit.now.source) worker.exit.now.hand }
+        { work(rt, alloc, world, queue, worker) },
+    );
+    shift.end(rt, &world.hall);
+}
+
+/// Serves links until no more come, and keeps the cache up meanwhile.
+fn serve_all<R: Threads + Wait + Sync, K: Keeper + Send, S: Source + Send, L: Link + Send>(
+    rt: &R,
+    alloc: Global,
+    world: &World<K>,
+    queue: &LinkQueue<L>,
+    shift: &Shift,
+    crew: &mut Crew<K, S, L>,
+)
+    requires valid { IsValid world.now.hall.catalogue }
+    requires ready { All (λ w. IsReady (table_of queue.now.links) world.now.hall.turnstile.table world.now.hall.catalogue (S.told w.source) w.pass w.hand) crew.old.workers.items }
+    requires upkeep { IsPassOf world.now.hall.turnstile.table world.now.hall.catalogue crew.old.upkeep }
+    ensures ready { All (λ w. IsReady (table_of queue.now.links) world.now.hall.turnstile.table world.now.hall.catalogue (S.told w.source) w.pass w.hand) crew.new.workers.items }
+    ensures worked { (first : HallPass) (before : Hand L)
+        → All (λ w. HasWorked (serving L.left L.taken L.ByteSource.faults L.ByteSink.faults world.now.capabilities world.now.hall.catalogue first) before w.pass (S.faults w.source) w.hand) crew.old.workers.items
+        → All (λ w. HasWorked (serving L.left L.taken L.ByteSource.faults L.ByteSink.faults world.now.capabilities world.now.hall.catalogue first) before w.pass (S.faults w.source) w.hand) crew.new.workers.items }
+    ensures each { length crew.new.workers.items ≡ length crew.old.workers.items }
+{
+    let Crew { workers, upkeep } = crew;
+    let workers = workers.as_mut_slice();
+    let hall = &world.hall;
+    let ((), ()) = join_mut(
+        rt,
+        &mut ||
+            requires { IsPassOf hall.now.turnstile.table hall.now.catalogue upkeep.now }
+        { keep_up(rt, hall, shift, upkeep) },
+        &mut ||
+            requires { IsValid world.now.hall.catalogue × All (λ w. IsReady (table_of queue.now.links) world.now.hall.turnstile.table world.now.hall.catalogue (S.told w.source) w.pass w.hand) workers.now }
+            ensures ready { All (λ w. IsReady (table_of queue.entry.now.links) world.entry.now.hall.turnstile.table world.entry.now.hall.catalogue (S.told w.source) w.pass w.hand) workers.exit.now }
+            ensures worked { (first : HallPass) (before : Hand L)
+                → All (λ w. HasWorked (serving L.left L.taken L.ByteSource.faults L.ByteSink.faults world.entry.now.capabilities world.entry.now.hall.catalogue first) before w.pass (S.faults w.source) w.hand) workers.entry.now
+                → All (λ w. HasWorked (serving L.left L.taken L.ByteSource.faults L.ByteSink.faults world.entry.now.capabilities world.entry.now.hall.catalogue first) before w.pass (S.faults w.source) w.hand) workers.exit.now }
+        { work_all(rt, alloc, world, queue, shift, workers) },
+    );
+}
+
+/// Accepts so many links in this thread while others serve them. False where an accept failed.
+#[tactic(auto, using(crate::proofs::Shared::world_sync))]
+fn accept_and_serve<R: Threads + Wait + Sync, K: Keeper + Send, S: Source + Send, N: Listener>(
+    rt: &R,
+    alloc: Global,
+    connections: u32,
+    world: &World<K>,
+    queue: &LinkQueue<N::L>,
+    staff: &mut Staff<K, S, N::L>,
+    listener: &mut N,
+) -> bool
+where
+    N::L: Send,
+    requires valid { IsValid world.now.hall.catalogue }
+    requires ready { All (λ w. IsReady (table_of queue.now.links) world.now.hall.turnstile.table world.now.hall.catalogue (S.told w.source) w.pass w.hand) staff.old.crew.workers.items }
+    requires upkeep { IsPassOf world.now.hall.turnstile.table world.now.hall.catalogue staff.old.crew.upkeep }
+    requires acceptor { IsHand (table_of queue.now.links) (view staff.old.acceptor) staff.old.acceptor }
+    requires parts { 0 < (view staff.old.acceptor).parts }
+    ensures accepted { HasAccepted (table_of queue.now.links) connections (view staff.old.acceptor) staff.new.acceptor (N.given listener.old) (N.given listener.new) (N.faults listener.old) (N.faults listener.new) result }
+    ensures ready { All (λ w. IsReady (table_of queue.now.links) world.now.hall.turnstile.table world.now.hall.catalogue (S.told w.source) w.pass w.hand) staff.new.crew.workers.items }
+    ensures each { length staff.new.crew.workers.items ≡ length staff.old.crew.workers.items }
+    ensures worked { (first : HallPass) (before : Hand N.L)
+        → All (λ w. HasWorked (serving N.L.left N.L.taken N.L.ByteSource.faults N.L.ByteSink.faults world.now.capabilities world.now.hall.catalogue first) before w.pass (S.faults w.source) w.hand) staff.old.crew.workers.items
+        → All (λ w. HasWorked (serving N.L.left N.L.taken N.L.ByteSource.faults N.L.ByteSink.faults world.now.capabilities world.now.hall.catalogue first) before w.pass (S.faults w.source) w.hand) staff.new.crew.workers.items }
+{
+    // The table of routes holds a tree, of which proofs have to be told that threads may share it.
+    is_shared::<RestTable>();
+    let shift = Shift::new();
+    let shift = &shift;
+    let Staff { crew, acceptor } = staff;
+    let crew = identity(crew);
+    let acceptor = identity(acceptor);
+    let ((), all) = join_mut(
+        rt,
+        &mut ||
+            requires { IsValid world.now.hall.catalogue × All (λ w. IsReady (table_of queue.now.links) world.now.hall.turnstile.table world.now.hall.catalogue (S.told w.source) w.pass w.hand) crew.now.workers.items × IsPassOf world.now.hall.turnstile.table world.now.hall.catalogue crew.now.upkeep }
+            ensures ready { All (λ w. IsReady (table_of queue.entry.now.links) world.entry.now.hall.turnstile.table world.entry.now.hall.catalogue (S.told w.source) w.pass w.hand) crew.exit.now.workers.items }
+            ensures worked { (first : HallPass) (before : Hand N.L)
+                → All (λ w. HasWorked (serving N.L.left N.L.taken N.L.ByteSource.faults N.L.ByteSink.faults world.entry.now.capabilities world.entry.now.hall.catalogue first) before w.pass (S.faults w.source) w.hand) crew.entry.now.workers.items
+                → All (λ w. HasWorked (serving N.L.left N.L.taken N.L.ByteSource.faults N.L.ByteSink.faults world.entry.now.capabilities world.entry.now.hall.catalogue first) before w.pass (S.faults w.source) w.hand) crew.exit.now.workers.items }
+            ensures each { length crew.exit.now.workers.items ≡ length crew.entry.now.workers.items }
+        { serve_all(rt, alloc, world, queue, shift, crew) },
+        &mut || -> bool
+            requires { IsHand (table_of queue.now.links) (view acceptor.now) acceptor.now × (0 < (view acceptor.now).parts) }
+            ensures { HasAccepted (table_of queue.entry.now.links) connections (view acceptor.entry.now) acceptor.exit.now (N.given listener.entry.now) (N.given listener.exit.now) (N.faults listener.entry.now) (N.faults listener.exit.now) result }
+        { accept_all(rt, connections, queue, acceptor, listener) },
+    );
+    all
+}
+
+/// Accepts so many links of a listener in this thread, while a crew serves them, and sees that each is served to its end. False where an
+/// accept failed.
+pub(crate) fn serve_links<R: Threads + Wait + Sync, K: Keeper + Send, S: Source + Send, N: Listener>(
+    rt: &R,
+    alloc: Global,
+    connections: u32,
+    world: &World<K>,
+    queue: &LinkQueue<N::L>,
+    staff: Staff<K, S, N::L>,
+    listener: &mut N,
+) -> bool
+where
+    N::L: Send,
+    requires valid { IsValid world.now.hall.catalogue }
+    requires ready { All (λ w. IsReady (table_of queue.now.links) world.now.hall.turnstile.table world.now.hall.catalogue (S.told w.source) w.pass w.hand) staff.crew.workers.items }
+    requires upkeep { IsPassOf world.now.hall.turnstile.table world.now.hall.catalogue staff.crew.upkeep }
+    requires each { length staff.crew.workers.items ≡ WORKERS }
+    requires acceptor { IsHand (table_of queue.now.links) (hand (all_parts - WORKERS) [] []) staff.acceptor }
+    ensures { (first : HallPass)
+        → All (λ w. HasWorked (serving N.L.left N.L.taken N.L.ByteSource.faults N.L.ByteSink.faults world.now.capabilities world.now.hall.catalogue first) (hand 1 [] []) w.pass (S.faults w.source) w.hand) staff.crew.workers.items
+        → HasServedLinks (serving N.L.left N.L.taken N.L.ByteSource.faults N.L.ByteSink.faults world.now.capabilities world.now.hall.catalogue first) connections (N.given listener.old) (N.given listener.new) (N.faults listener.old) (N.faults listener.new) result }
+{
+    let mut staff = staff;
+    let all = accept_and_serve(rt, alloc, connections, world, queue, &mut staff, listener);
+    let Staff { crew, acceptor } = staff;
+    serve_rest(rt, alloc, world, queue, acceptor, crew.workers);
+    all
+}
