@@ -35,7 +35,7 @@ module _ (c : Catalogue) (a : Address) (valid : IsValid c) (tile : IsTile c a) w
     pub newer_than_found : IsNewerThanBook c a k ask.found
     pub fresh : IsFresh c ask.note.after.state.history (length ask.note.before.state.history) a k
 
-  newer_by : (seen found : FrontedBook) (book : Book) (k : ℕ) → found.book ≡ book → AnswersForFronted found seen → IsAboveCovering c book a k → IsNewerThanBook c a k seen × IsNewerThanBook c a k found
+  pub newer_by : (seen found : FrontedBook) (book : Book) (k : ℕ) → found.book ≡ book → AnswersForFronted found seen → IsAboveCovering c book a k → IsNewerThanBook c a k seen × IsNewerThanBook c a k found
   newer_by seen found book k is answers above =
       let here : IsAboveCovering c found.book a k = subst (λ (b : Book). IsAboveCovering c b a k) (sym is) above in (
         λ cut covered for. older_below c a valid tile found.book seen.book k cut here answers.book for covered,

@@ -4,3 +4,6 @@ pub mod Waits
 pub mod Made
 pub mod Upkeep
 pub mod Opened
+pub mod Refreshes
+pub mod Requested
+pub mod Remade

@@ -7,11 +7,12 @@ ghost use Rattle.served_covers.specs.OfCatalogue.{IsCoverOf};
 
 use crate::hall::Hall;
 use cabinet::keeper::Keeper;
-use cabinet::replies::{Asked, CutReply, Expired, Finished, Saved};
+use cabinet::replies::{Asked, CutReply, Expired, Finished, Forced, Saved};
 use cabinet_chest::chest::CabinetChest;
 use cabinet_chest::command::{Command, Counts, Reply};
 use matrix_geometry::address::Address;
 use metatile_locks::ticket::Ticket;
+use metatile_plan::metatile::MetaKey;
 use shared_text::shared::SharedText;
 use std::alloc::{AllocError, Global};
 use std::sync::Wait;
@@ -35,6 +36,27 @@ pub(crate) fn ask<R: Wait, K: Keeper>(
     match hall.turnstile.turn(rt, alloc, pass, Command::Ask(*address)) {
         Err(fault) => Err(fault),
         Ok(Reply::Asked(asked)) => Ok(asked),
+        Ok(_) => unreachable!(),
+    }
+}
+
+/// A force. `AllocError` where memory runs out; there is then no turn.
+pub(crate) fn force<R: Wait, K: Keeper>(
+    rt: &R,
+    alloc: Global,
+    hall: &Hall<K>,
+    pass: &mut Pass<CabinetChest<K>>,
+    meta: &MetaKey,
+) -> Result<Forced, AllocError>
+    requires of { IsPassOf hall.now.turnstile.table hall.now.catalogue pass.old }
+    requires meta { IsMeta hall.now.catalogue meta.now }
+    ensures done { IfOk result (λ forced. GainsOne hall.now.catalogue pass.old pass.new (Command.Force meta.now) (Reply.Forced forced)) }
+    ensures refused { OnErr result (Gains hall.now.catalogue pass.old pass.new []) }
+    ensures of { IsPassOf hall.now.turnstile.table hall.now.catalogue pass.new }
+{
+    match hall.turnstile.turn(rt, alloc, pass, Command::Force(*meta)) {
+        Err(fault) => Err(fault),
+        Ok(Reply::Forced(forced)) => Ok(forced),
         Ok(_) => unreachable!(),
     }
 }

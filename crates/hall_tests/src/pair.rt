@@ -3,6 +3,7 @@ ghost use Rattle.std.specs.Prelude.{IfOk, IfSome};
 ghost use Rattle.catalog.specs.Demo.{demo};
 ghost use Rattle.catalog.specs.LookUp.{IsTile};
 ghost use Rattle.hall_tests.specs.Fit.{IsFit};
+ghost use Rattle.raster_field.specs.Blocks.{IsMeta};
 ghost use Rattle.served_covers.specs.OfCatalogue.{IsCoverOf};
 
 use cabinet::cabinet::Cabinet;
@@ -12,12 +13,15 @@ use cabinet_chest::command::Counts;
 use cache_core::outcome::Tile;
 use cache_hall::get::get;
 use cache_hall::hall::{Hall, HallEntry};
+use cache_hall::refresh::refresh;
+use cache_hall::refreshed::Refreshed;
 use cache_hall::upkeep::{expire_once, save_uses_once, truncate, usage};
 use catalog::catalogue::Catalogue;
 use clock::clock::Clock;
 use fixtures::tiles::FIRST;
 use matrix_geometry::address::Address;
 use matrix_geometry::theme::Filter;
+use metatile_plan::metatile::MetaKey;
 use source_render::source::Source;
 use std::alloc::{AllocError, Global};
 use std::sync::Wait;
@@ -111,6 +115,31 @@ fn first_cover() -> Cover
             style: None,
             dims: [None; 4],
         },
+    }
+}
+
+/// The one metatile at zoom 0.
+fn first_meta() -> MetaKey
+    ensures { IsMeta demo result }
+{
+    FIRST
+}
+
+/// Refreshes the one metatile at zoom 0, and hands the pass back.
+pub fn refreshed<R: Wait, S: Source>(
+    rt: &R,
+    alloc: Global,
+    hall: &Hall<Cabinet>,
+    mut pass: Pass<CabinetChest<Cabinet>>,
+    source: &mut S,
+    is_forced: bool,
+) -> (Pass<CabinetChest<Cabinet>>, Option<Refreshed>)
+    requires fit { IsFit hall.now.turnstile hall.now.catalogue pass }
+    ensures { IsFit hall.now.turnstile hall.now.catalogue result.0 }
+{
+    match refresh(rt, alloc, hall, &mut pass, source, &first_meta(), is_forced) {
+        Ok(refreshed) => (pass, Some(refreshed)),
+        Err(_) => (pass, None),
     }
 }
 

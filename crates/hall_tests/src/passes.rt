@@ -5,11 +5,12 @@ ghost use Rattle.catalog.specs.LookUp.{IsTile};
 ghost use Rattle.hall_tests.specs.Fit.{IsFit};
 
 use crate::held::{Held, Stage};
-use crate::pair::{Pair, counted, cut, got, kept_up, new_pair};
+use crate::pair::{Pair, counted, cut, got, kept_up, new_pair, refreshed};
 use cabinet::cabinet::Cabinet;
 use cabinet_chest::chest::CabinetChest;
 use cabinet_chest::command::Counts;
 use cache_hall::hall::Hall;
+use cache_hall::refreshed::Refreshed;
 use fixtures::tiles::{GREY, first_tile};
 use matrix_geometry::address::Address;
 use source_render::numbered::Numbered;
@@ -59,6 +60,24 @@ fn a_tile_after_a_truncation_is_newer(rt: HostRuntime) -> Result<(), Fail> {
     let (_, tile) = got(&rt, alloc, &hall, b, &mut source, &first_tile());
     assert!(rt; number == Some(2) && seen == 2);
     assert!(rt; tile.is_some_and(|tile| !tile.hit && tile.number == 3));
+    Ok(())
+}
+
+#[test]
+fn a_seed_leaves_what_is_kept_and_a_reseed_renders_it_anew(rt: HostRuntime) -> Result<(), Fail> {
+    let alloc = rt.alloc();
+    let Some(Pair { hall, a, .. }) = new_pair(alloc)? else {
+        return Err(Fail::from("no passes"));
+    };
+    let mut source = Numbered::new(0);
+    let (a, first) = refreshed(&rt, alloc, &hall, a, &mut source, false);
+    let (a, second) = refreshed(&rt, alloc, &hall, a, &mut source, false);
+    let (a, forced) = refreshed(&rt, alloc, &hall, a, &mut source, true);
+    let (_, tile) = got(&rt, alloc, &hall, a, &mut source, &first_tile());
+    assert!(rt; first == Some(Refreshed::Made(1)));
+    assert!(rt; second == Some(Refreshed::AlreadyKept(1)));
+    assert!(rt; forced == Some(Refreshed::Made(2)));
+    assert!(rt; tile.is_some_and(|tile| tile.hit && tile.number == 2));
     Ok(())
 }
 

@@ -1,0 +1,111 @@
+-- The commands of a board, a row for each reply: where it comes, and the board after it.
+use Rattle.std.specs.Prelude.{ℕ, ◌≡◌, ◌≤◌, ◌<◌, ◌+◌, ◌-◌, ◌==◌, ◌⊎◌, Bool, true, false, if◌then◌else◌, [], ◌∷◌, ◌++◌, length, Option, Some, None, slice_get, slice_set, ⊤}
+use Rattle.job_sheet.specs.declared.progress.Progress.{Progress}
+use Rattle.job_sheet.specs.Calls.{AddsUp, Cancels, Tells}
+use Rattle.job_sheet.specs.Hands.{Holding, fresh_holding}
+use Rattle.jobs.specs.declared.job.Job.{Job}
+use Rattle.truncation_list.specs.declared.book.FrontedBook.{FrontedBook}
+use Rattle.job_board.specs.declared.posted.Posted.{Posted}
+use Rattle.job_board.specs.declared.shown.Command.{Command}
+use Rattle.job_board.specs.declared.shown.Command.TheVariants as command
+use Rattle.job_board.specs.declared.shown.Reply.{Reply}
+use Rattle.job_board.specs.declared.shown.Reply.TheVariants as reply
+use Rattle.job_board.specs.declared.shown.Shown.{Shown}
+
+-- how many jobs were submitted
+abbrev pub submitted : Shown → ℕ
+submitted b = length b.watches
+
+-- a board lists no truncation; its floor and its front are the number of jobs, so that a turn finds all jobs that its pass has seen
+abbrev pub book_of : Shown → FrontedBook
+book_of b = record { book = record { cuts = []; floor = submitted b }; front = submitted b }
+
+-- a board without jobs
+abbrev pub empty : Shown
+empty = record { waiting = []; watches = [] }
+
+-- SUBMIT
+
+-- a job has 1 to 8 threads and at most 10,000,000 places
+pub record MaySubmit (job : Job) (places : ℕ) : Type 0 where
+  pub threads_least : 1 ≤ job.threads
+  pub threads_most : job.threads ≤ 8
+  pub places_most : places ≤ 10000000
+
+-- what is to be run, under this number, has a new sheet of the places for as many hands as the job has threads, which this watch watches
+pub record IsSubmission (number : ℕ) (job : Job) (places : ℕ) (p : Posted) (watch : Holding) : Type 0 where
+  pub number_is : p.number ≡ number
+  pub job_is : p.job ≡ job
+  pub places_are : p.sheet.value.places ≡ places
+  pub threads_are : p.sheet.value.hands ≡ job.threads
+  pub watch_is : watch ≡ fresh_holding p.sheet.value None
+
+-- the job gets the next number, and is the last to wait; none where 64 wait or 1,024 were submitted
+abbrev pub Submits : Shown → Job → ℕ → Option ℕ → Shown → Type 0
+Submits b job places (Some n) a =
+    (length b.waiting < 64) × (submitted b < 1024) × (n ≡ submitted b + 1) × ((p : Posted) × (watch : Holding) × IsSubmission n job places p watch × (a ≡ record { waiting = b.waiting ++ p ∷ []; watches = b.watches ++ watch ∷ [] }))
+Submits b job places None a = ((64 ≤ length b.waiting) ⊎ (1024 ≤ submitted b)) × (a ≡ b)
+
+-- NEXT
+
+-- the first that waits is taken; none where none waits
+abbrev pub TakesNext : Shown → Option Posted → Shown → Type 0
+TakesNext b (Some p) a = b ≡ record { waiting = p ∷ a.waiting; watches = a.watches }
+TakesNext b None a = (b.waiting ≡ []) × (a ≡ b)
+
+-- LOOK AND STOP
+
+-- the watch of the job of this number, from 1
+abbrev pub watch_of : Shown → ℕ → Option Holding
+watch_of b n = if n == 0 then None else slice_get b.watches (n - 1)
+
+-- the board with another watch of that job
+abbrev pub with_watch : ℕ → Holding → Shown → Shown
+with_watch n watch b = record { waiting = b.waiting; watches = slice_set b.watches (n - 1) watch }
+
+-- how far the job is, as its watch finds
+pub record IsLooked (b : Shown) (n : ℕ) (p : Progress) (a : Shown) : Type 0 where
+  pub watch : Holding
+  pub left : Holding
+  pub of_job : watch_of b n ≡ Some watch
+  pub tells : Tells watch left p
+  pub adds_up : AddsUp watch left p
+  pub is : a ≡ with_watch n left b
+
+abbrev pub Looks : Shown → ℕ → Option Progress → Shown → Type 0
+Looks b n (Some p) a = IsLooked b n p a
+Looks b n None a = (watch_of b n ≡ None) × (a ≡ b)
+
+-- the job is cancelled by its watch
+pub record IsStopped (b : Shown) (n : ℕ) (a : Shown) : Type 0 where
+  pub watch : Holding
+  pub left : Holding
+  pub of_job : watch_of b n ≡ Some watch
+  pub cancels : Cancels watch left
+  pub is : a ≡ with_watch n left b
+
+abbrev pub Stops : Shown → ℕ → Bool → Shown → Type 0
+Stops b n true a = IsStopped b n a
+Stops b n false a = (watch_of b n ≡ None) × (a ≡ b)
+
+-- ANY COMMAND
+
+abbrev pub Admits : Command → Type 0
+Admits (command.Submit job places) = MaySubmit job places
+Admits command.Next = ⊤
+Admits (command.Look n) = ⊤
+Admits (command.Stop n) = ⊤
+
+-- a submission alone takes memory
+abbrev pub TakesNoMemory : Command → Type 0
+TakesNoMemory (command.Submit job places) = ⊥
+TakesNoMemory command.Next = ⊤
+TakesNoMemory (command.Look n) = ⊤
+TakesNoMemory (command.Stop n) = ⊤
+
+-- the reply is of its command's kind, by the command's row
+abbrev pub MayReply : Shown → Command → Reply → Shown → Type 0
+MayReply b (command.Submit job places) r a = (n : Option ℕ) × (r ≡ reply.Submit n) × Submits b job places n a
+MayReply b command.Next r a = (p : Option Posted) × (r ≡ reply.Next p) × TakesNext b p a
+MayReply b (command.Look n) r a = (p : Option Progress) × (r ≡ reply.Look p) × Looks b n p a
+MayReply b (command.Stop n) r a = (is : Bool) × (r ≡ reply.Stop is) × Stops b n is a

@@ -1,0 +1,84 @@
+//! The calls of a board, one turn each.
+ghost use Rattle.std.specs.Prelude.{◌≡◌};
+ghost use Rattle.job_board.specs.Boards.{MaySubmit};
+ghost use Rattle.job_board.specs.Calls.{IsBoardPass, MakesOne, SubmitsJob};
+
+use crate::board::Board;
+use crate::fault::BoardFault;
+use crate::posted::Posted;
+use crate::posts::Posts;
+use crate::shown::{Command, Reply};
+use job_sheet::progress::Progress;
+use jobs::job::Job;
+use std::alloc::Global;
+use std::sync::Wait;
+use turnstile::pass::Pass;
+
+impl Board {
+    /// Submits a job of so many places, and answers its number, from 1. `Full` exactly where the turn found 64 jobs waiting or 1,024
+    /// submitted; `OutOfMemory` where memory runs out, and then there is no turn. Who waits for a job is woken.
+    pub fn submit<R: Wait>(
+        &self,
+        rt: &R,
+        alloc: Global,
+        pass: &mut Pass<Posts>,
+        job: Job,
+        places: u64,
+    ) -> Result<u64, BoardFault>
+        requires of { IsBoardPass self.now.turnstile.table pass.old }
+        requires job { MaySubmit job places }
+        ensures submits { SubmitsJob pass.old pass.new job places result }
+        ensures of { IsBoardPass self.now.turnstile.table pass.new }
+    {
+        match self
+            .turnstile
+            .turn(rt, alloc, pass, Command::Submit(job, places))
+        {
+            Err(_) => Err(BoardFault::OutOfMemory),
+            Ok(Reply::Submit(None)) => Err(BoardFault::Full),
+            Ok(Reply::Submit(Some(number))) => {
+                self.wake(rt);
+                Ok(number)
+            }
+            Ok(_) => unreachable!(),
+        }
+    }
+
+    /// The job that has waited longest; none exactly where the turn found none waiting. It takes no memory.
+    pub fn next<R: Wait>(&self, rt: &R, pass: &mut Pass<Posts>) -> Option<Posted>
+        requires of { IsBoardPass self.now.turnstile.table pass.old }
+        ensures next { MakesOne pass.old pass.new Command.Next (Reply.Next result) }
+        ensures of { IsBoardPass self.now.turnstile.table pass.new }
+    {
+        match self.turnstile.turn_plain(rt, pass, Command::Next) {
+            Reply::Next(posted) => posted,
+            _ => unreachable!(),
+        }
+    }
+
+    /// How far the job of a number is; none exactly where the number is 0 or above the number of jobs that the turn found. It takes no
+    /// memory.
+    pub fn look<R: Wait>(&self, rt: &R, pass: &mut Pass<Posts>, number: u64) -> Option<Progress>
+        requires of { IsBoardPass self.now.turnstile.table pass.old }
+        ensures look { MakesOne pass.old pass.new (Command.Look number) (Reply.Look result) }
+        ensures of { IsBoardPass self.now.turnstile.table pass.new }
+    {
+        match self.turnstile.turn_plain(rt, pass, Command::Look(number)) {
+            Reply::Look(progress) => progress,
+            _ => unreachable!(),
+        }
+    }
+
+    /// Cancels the job of a number; false exactly where the number is 0 or above the number of jobs that the turn found. It takes no
+    /// memory.
+    pub fn stop<R: Wait>(&self, rt: &R, pass: &mut Pass<Posts>, number: u64) -> bool
+        requires of { IsBoardPass self.now.turnstile.table pass.old }
+        ensures stop { MakesOne pass.old pass.new (Command.Stop number) (Reply.Stop result) }
+        ensures of { IsBoardPass self.now.turnstile.table pass.new }
+    {
+        match self.turnstile.turn_plain(rt, pass, Command::Stop(number)) {
+            Reply::Stop(is_stopped) => is_stopped,
+            _ => unreachable!(),
+        }
+    }
+}

@@ -1,0 +1,27 @@
+//! A job that is to be run.
+ghost use Rattle.std.specs.Prelude.{◌≡◌};
+ghost use Rattle.job_sheet.specs.Hands.{AreFresh};
+
+use job_sheet::hand::Hand;
+use job_sheet::sheet::JobSheet;
+use jobs::job::Job;
+use std::sync::Arc;
+
+/// A job with what it takes to run it: its number, its sheet, which the board shares, and all hands of the sheet, none of which has
+/// claimed a place or met None. There are as many hands as the job has threads.
+#[derive(Drop)]
+pub struct Posted {
+    pub number: u64,
+    pub job: Job,
+    pub sheet: Arc<JobSheet>,
+    pub hands: Vec<Hand>,
+    pub ghost fresh: { AreFresh sheet.value hands.items },
+}
+
+/// A job on the board, with its sheet's watch.
+#[derive(Drop)]
+pub(crate) struct WatchedJob {
+    pub(crate) sheet: Arc<JobSheet>,
+    pub(crate) watch: Hand,
+    ghost own: { watch.sheet ≡ sheet.value },
+}

@@ -1,0 +1,120 @@
+//! The commands of the board, one by one.
+ghost use Rattle.std.specs.Prelude.{◌≡◌, IfOk, OnErr};
+ghost use Rattle.job_board.specs.Boards.{IsSubmission, Looks, MaySubmit, Stops, Submits, TakesNext, empty};
+
+use crate::posted::{Posted, WatchedJob};
+use crate::posts::Posts;
+use job_sheet::desk::Desk;
+use job_sheet::progress::Progress;
+use job_sheet::sheet::JobSheet;
+use jobs::job::Job;
+use std::alloc::{AllocError, Global};
+use std::sync::Arc;
+
+/// How many jobs may wait.
+pub const WAITING_LIMIT: usize = 64;
+
+/// How many jobs may be submitted in the life of a board.
+pub const JOB_LIMIT: usize = 1024;
+
+/// A new job of so many places: what it takes to run it, and what stays on the board.
+fn prepared(
+    alloc: Global,
+    number: u64,
+    job: Job,
+    places: u64,
+) -> Result<(Posted, WatchedJob), AllocError>
+    requires { MaySubmit job places }
+    ensures { IfOk result (λ t. IsSubmission number job places t.0 t.1.watch) }
+{
+    let Desk {
+        sheet,
+        hands,
+        watch,
+    } = JobSheet::make(alloc, places, job.threads)?;
+    let Ok(sheet) = Arc::new(alloc, sheet) else {
+        return Err(AllocError);
+    };
+    let shared = Arc::try_clone(&sheet)?;
+    Ok((
+        Posted {
+            number,
+            job,
+            sheet,
+            hands,
+        },
+        WatchedJob {
+            sheet: shared,
+            watch,
+        },
+    ))
+}
+
+impl Posts {
+    /// A board without jobs.
+    pub(crate) fn new(alloc: Global) -> Posts
+        ensures { result ≡ empty }
+    {
+        Posts {
+            waiting: Vec::new(alloc),
+            jobs: Vec::new(alloc),
+        }
+    }
+
+    /// Submits a job, which is then the last to wait, and answers its number; none where the board is full. `AllocError` where memory
+    /// runs out; all is then as before.
+    pub(crate) fn submit(
+        &mut self,
+        alloc: Global,
+        job: Job,
+        places: u64,
+    ) -> Result<Option<u64>, AllocError>
+        requires { MaySubmit job places }
+        ensures submits { IfOk result (λ number. Submits self.old job places number self.new) }
+        ensures err { OnErr result (self.new ≡ self.old) }
+    {
+        if self.waiting.len() >= WAITING_LIMIT || self.jobs.len() >= JOB_LIMIT {
+            return Ok(None);
+        }
+        self.waiting.reserve(1)?;
+        self.jobs.reserve(1)?;
+        let number = self.jobs.len() as u64 + 1;
+        let (posted, watched) = prepared(alloc, number, job, places)?;
+        self.waiting.push_reserved(posted);
+        self.jobs.push_reserved(watched);
+        Ok(Some(number))
+    }
+
+    /// Takes the job that has waited longest from those that wait; none where none waits.
+    pub(crate) fn next(&mut self) -> Option<Posted>
+        ensures { TakesNext self.old result self.new }
+    {
+        if self.waiting.is_empty() {
+            return None;
+        }
+        Some(self.waiting.remove(0))
+    }
+
+    /// How far a job is; none where no job has the number.
+    pub(crate) fn look(&mut self, number: u64) -> Option<Progress>
+        ensures { Looks self.old number result self.new }
+    {
+        if number == 0 || number > self.jobs.len() as u64 {
+            return None;
+        }
+        let job = &mut self.jobs[number as usize - 1];
+        Some(job.sheet.progress(&mut job.watch))
+    }
+
+    /// Cancels a job, and says whether there is one of this number.
+    pub(crate) fn stop(&mut self, number: u64) -> bool
+        ensures { Stops self.old number result self.new }
+    {
+        if number == 0 || number > self.jobs.len() as u64 {
+            return false;
+        }
+        let job = &mut self.jobs[number as usize - 1];
+        job.sheet.cancel(&mut job.watch);
+        true
+    }
+}

@@ -1,0 +1,47 @@
+//! What a turn at the board does and is answered, and what the board shows between two turns.
+use crate::posted::Posted;
+use job_sheet::hand::Hand;
+use job_sheet::progress::Progress;
+use jobs::job::Job;
+use std::collections::LinkedList;
+
+/// What a turn does.
+#[derive(Clone, Copy, Debug, PartialEq, Eq)]
+pub enum Command {
+    /// Submits a job of so many places.
+    Submit(Job, u64),
+    /// Posts the job that has waited longest.
+    Next,
+    /// Tells how far the job of this number is.
+    Look(u64),
+    /// Cancels the job of this number.
+    Stop(u64),
+}
+
+/// What a turn is answered.
+#[derive(Drop)]
+pub enum Reply {
+    /// The number of the job, from 1; none where the board is full.
+    Submit(Option<u64>),
+    /// The job that has waited longest; none where none waits.
+    Next(Option<Posted>),
+    /// How far the job is; none where no job has the number.
+    Look(Option<Progress>),
+    /// Whether a job has the number.
+    Stop(bool),
+}
+
+/// What a board shows: the jobs that wait, in the order of their submissions, and of each job that was ever submitted, in the order of
+/// their numbers, the watch of its sheet, as it has seen the sheet last. No value of it is made.
+pub struct Shown {
+    pub waiting: LinkedList<Posted>,
+    pub watches: LinkedList<Hand>,
+}
+
+/// A command, its reply, and what the board showed before and after. No value of it is made.
+pub struct Note {
+    pub command: Command,
+    pub reply: Reply,
+    pub before: Shown,
+    pub after: Shown,
+}

@@ -1,0 +1,20 @@
+//! What is asked for under the path of jobs.
+use job_forms::fault::JobFault;
+use jobs::job::Job;
+
+/// What a message under `/jobs` asks for.
+#[derive(Clone, Copy, Debug, PartialEq, Eq)]
+pub enum JobRequest {
+    /// That this job, which fits the catalogue, is run.
+    Submission(Job),
+    /// That a text is run which is no job.
+    Unformed(JobFault),
+    /// How far the job of this number is.
+    Look(u64),
+    /// That the job of this number ends early.
+    Stop(u64),
+    /// Its path leads nowhere.
+    NotFound,
+    /// Its path takes another method.
+    WrongMethod,
+}

@@ -1,0 +1,24 @@
+//! How a sheet stands at one moment, for contracts alone. No value of these types is made.
+use std::collections::LinkedList;
+
+/// Whether a hand has met None, and why: all places were claimed, or the job was cancelled.
+pub enum End {
+    Open,
+    AllClaimed,
+    Cancelled,
+}
+
+/// What one hand has claimed, in order, how many of these places it has reported done and failed, and whether it has met
+/// None.
+pub struct Account {
+    pub claimed: LinkedList<u64>,
+    pub done: u64,
+    pub failed: u64,
+    pub end: End,
+}
+
+/// The accounts of all hands of a sheet, in the order of their numbers, and whether the job is cancelled.
+pub struct Standing {
+    pub accounts: LinkedList<Account>,
+    pub cancelled: bool,
+}

@@ -1,0 +1,11 @@
+mod Choices
+mod CoveredMetas
+mod Members
+mod MetaRanges
+mod InOrder
+mod Pieces
+mod PlaceLists
+mod Products
+mod Values
+mod WantedCounts
+mod ZoomSteps
