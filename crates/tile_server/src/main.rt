@@ -119,7 +119,7 @@ fn words_of(rt: &(impl Env + AllocGlobal)) -> io::Result<Vec<Words>> {
 /// The cache's file, opened for the words that work on it, and made by those that make it.
 fn cache_for(rt: &impl Files<File = File>, words: &[Words]) -> CacheDisk {
     match word_of(words) {
-        Some(Word::Kept(_) | Word::Job) => CacheDisk::open(rt, CACHE, false),
+        Some(Word::Kept(_)) | Some(Word::Job) => CacheDisk::open(rt, CACHE, false),
         Some(Word::Upkeep(word)) => CacheDisk::open(rt, CACHE, word == UpkeepWord::Make),
         Some(Word::InMemory(_)) | None => CacheDisk::Absent(0),
     }
