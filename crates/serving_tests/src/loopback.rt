@@ -113,10 +113,22 @@ fn held_sources<'a>(alloc: Global, signals: &'a Signals) -> Result<Vec<Held<'a>>
     ensures { IfOk result (λ sources. length sources.items ≡ 4) }
 {
     vec![in alloc;
-        Held { numbered: Numbered::new(0), signals },
-        Held { numbered: Numbered::new(0), signals },
-        Held { numbered: Numbered::new(0), signals },
-        Held { numbered: Numbered::new(0), signals },
+        Held {
+            numbered: Numbered::new(0),
+            signals
+        },
+        Held {
+            numbered: Numbered::new(0),
+            signals
+        },
+        Held {
+            numbered: Numbered::new(0),
+            signals
+        },
+        Held {
+            numbered: Numbered::new(0),
+            signals
+        },
     ]
 }
 

@@ -76,10 +76,7 @@ where
     let Ok(crew) = crew_of(alloc, &queue, &mut acceptor, sources, passes) else {
         return ServerEnd::OutOfMemory;
     };
-    let staff = Staff {
-        crew,
-        acceptor,
-    };
+    let staff = Staff { crew, acceptor };
     if serve_links(rt, alloc, connections, &world, &queue, staff, listener) {
         ServerEnd::Done
     } else {

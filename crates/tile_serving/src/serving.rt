@@ -152,7 +152,12 @@ where
 
 /// Accepts so many links of a listener in this thread, while a crew serves them, and sees that each is served to its end. False where an
 /// accept failed.
-pub(crate) fn serve_links<R: Threads + Wait + Sync, K: Keeper + Send, S: Source + Send, N: Listener>(
+pub(crate) fn serve_links<
+    R: Threads + Wait + Sync,
+    K: Keeper + Send,
+    S: Source + Send,
+    N: Listener,
+>(
     rt: &R,
     alloc: Global,
     connections: u32,

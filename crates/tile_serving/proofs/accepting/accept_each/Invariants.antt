@@ -1,4 +1,4 @@
-use Rattle.std.proofs.Common.{◌≡◌, ◌≤◌, List, ◌++◌, length}
+use Rattle.std.proofs.Common.{◌≤◌}
 use Rattle.crossbeam_queue.specs.Passes.{view}
 use Rattle.tile_serving.specs.Hands.{table_of}
 use Rattle.tile_serving.proofs.Arrivals.{AreIn}

@@ -23,7 +23,7 @@ loop-source-preserved g c =
             p.0,
             t.0,
             pushed (λ w. IsNew (table_of c.args.queue.now.links) s (g.S.Source.told w.source) w.pass w.hand) c.push.new.self.items c.loop-source.workers.items _ c.in_ok-push.ensures.items had.2
-            (record { pass_is = p.1; source = t.1; hand_is = c.one_more-hand.ensures.more }),
+                (record { pass_is = p.1; source = t.1; hand_is = c.one_more-hand.ensures.more }),
           );
     }
 

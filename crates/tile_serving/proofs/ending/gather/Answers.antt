@@ -1,4 +1,4 @@
-use Rattle.std.proofs.Common.{rules, arith, [], ◌≡◌, length, refl}
+use Rattle.std.proofs.Common.{rules, []}
 use Rattle.tile_serving.specs.Crew.{HasWorked, IsReady}
 use Rattle.tile_serving.specs.Hands.{hand, table_of}
 use Rattle.tile_serving.proofs.Crews.{one_longer, popped}
@@ -19,7 +19,7 @@ gathering-preserved g c =
     let last = c.gathering.last in
     let other = c.in-Some.other in
     let r = popped (λ w. IsReady (table_of c.args.queue.now.links) c.args.world.now.hall.turnstile.table c.args.world.now.hall.catalogue (g.S.Source.told w.source) w.pass w.hand)
-        c.gathering.others.items c.pop.new.self.items other c.in-Some.ensures.items i.others in
+    c.gathering.others.items c.pop.new.self.items other c.in-Some.ensures.items i.others in
     record {
       last = ready_with _ _ _ _ _ last.hand other.hand c.take_over.new.mine i.last c.take_over.ensures;
       others = r.0;

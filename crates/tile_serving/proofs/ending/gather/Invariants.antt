@@ -1,5 +1,5 @@
-use Rattle.std.proofs.Common.{◌≡◌, ◌+◌, [], All, length, vec_len}
-use Rattle.tile_serving.specs.Crew.{HasGathered, HasWorked, IsReady}
+use Rattle.std.proofs.Common.{[], All, length, vec_len}
+use Rattle.tile_serving.specs.Crew.{HasWorked, IsReady}
 use Rattle.tile_serving.specs.Hands.{hand, table_of}
 use Rattle.tile_serving.specs.Stints.{Service}
 use Rattle.tile_serving.proofs.Gathering.{Gather}

@@ -1,7 +1,7 @@
-use Rattle.std.proofs.Common.{arith, ap, ◌∙◌, [], ◌≡◌, ◌+◌, length}
+use Rattle.std.proofs.Common.{arith, ap, []}
 use Rattle.crossbeam_queue.specs.Passes.{view}
 use Rattle.tile_serving.specs.Crew.{HasWorked}
-use Rattle.tile_serving.specs.Hands.{all_parts, hand}
+use Rattle.tile_serving.specs.Hands.{hand}
 use Rattle.tile_serving.specs.Stints.{Service, serving}
 use Rattle.tile_serving.proofs.Crews.{one_longer, popped}
 use Rattle.tile_serving.proofs.Gathering.{all_served, gathers_put}

@@ -1,4 +1,4 @@
-use Rattle.std.proofs.Common.{refl, sym, ap, ◌∙◌}
+use Rattle.std.proofs.Common.{refl, ap}
 use Rattle.tile_serving.proofs.Holding.{ready_after, worked_once_more}
 use Rattle.tile_serving.proofs.workers.work.Goals as goal
 

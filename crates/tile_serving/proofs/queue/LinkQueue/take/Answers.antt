@@ -1,4 +1,4 @@
-use Rattle.std.proofs.Common.{rules, ◌<◌, sym, subst}
+use Rattle.std.proofs.Common.{◌<◌, sym, subst}
 use Rattle.tile_serving.proofs.Balance.{learns, takes}
 use Rattle.tile_serving.proofs.queue.LinkQueue.take.Goals as goal
 
