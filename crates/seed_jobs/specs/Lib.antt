@@ -1,0 +1,6 @@
+pub mod Visits
+pub mod Visited
+pub mod Reports
+pub mod Workers
+pub mod Works
+pub mod Crews
