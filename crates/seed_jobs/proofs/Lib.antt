@@ -1,3 +1,3 @@
-mod Hands
 mod Calls
 mod Working
+mod Together

@@ -1,18 +1,20 @@
 -- What a worker has done so far, and at the end.
-use Rattle.std.proofs.Common.{ℕ, ◌≡◌, ◌+◌, ◌≤◌, Bool, true, false, not, cond, List, [], ◌∷◌, ◌++◌, filter, length, Option, refl, sym, ap, subst, ◌∙◌, append_assoc, length-append, arith}
+use Rattle.std.proofs.Common.{ℕ, ◌≡◌, ◌≢◌, ◌+◌, ◌≤◌, ◌<◌, Bool, true, false, not, cond, List, [], ◌∷◌, ◌++◌, filter, length, Option, refl, sym, ap, subst, ◌∙◌, append_assoc, length-append, arith}
 use Rattle.catalog.specs.declared.catalogue.Catalogue.{Catalogue}
 use Rattle.atomic_table.specs.Seated.{TableId}
 use Rattle.cache_hall.specs.Turned.{HallPass, IsPassOf}
 use Rattle.job_sheet.specs.declared.standing.Account.{Account}
 use Rattle.job_sheet.specs.declared.standing.End.{End}
-use Rattle.job_sheet.specs.declared.standing.End.TheVariants.{Open}
+use Rattle.job_sheet.specs.declared.standing.End.TheVariants.{AllClaimed, Cancelled, Open}
+use Rattle.job_sheet.specs.declared.standing.Standing.{Standing}
+use Rattle.job_sheet.specs.Calls.{Claims, MeetsNone, Refuses}
 use Rattle.job_sheet.specs.Hands.{Holding, Sheet, own}
 use Rattle.job_sheet.specs.Standings.{ending, gaining}
 use Rattle.jobs.specs.declared.job.Job.{Job}
 use Rattle.truncation_list.specs.declared.book.FrontedBook.{FrontedBook}
 use Rattle.turnstile.specs.Passes.{seen_by}
 use Rattle.seed_jobs.specs.declared.tally.Tally.{Tally}
-use Rattle.seed_jobs.specs.Reports.{GainsNone, GainsPlace, Reports, one_more, place_if, reporting}
+use Rattle.seed_jobs.specs.Reports.{Reports, one_more, place_if, reporting}
 use Rattle.seed_jobs.specs.Visited.{HasVisited, visit_of}
 use Rattle.seed_jobs.specs.Visits.{AreVisits, IsVisit, Visit, done_of, failed_of, tally_of, turns_of, visited}
 use Rattle.seed_jobs.specs.Workers.{MayWork, Worker}
@@ -108,9 +110,18 @@ account_more vs v a =
 account_none : (a : Account) → a.end ≡ Open → a ≡ gaining_all [] Open a
 account_none a e = same_account (sym (append_nil a.claimed)) (omega arith) (omega arith) e
 
+one_claimed : (b : Bool) (t : Tally) → (one_more b t).claimed ≡ t.claimed + 1
+one_claimed true t = refl
+one_claimed false t = refl
+
 same_end : (b : Bool) (a : Account) → (reporting b a).end ≡ a.end
 same_end true a = refl
 same_end false a = refl
+
+not_open : (places : ℕ) (found : Standing) (end : End) → Refuses places found end → end ≢ Open
+not_open places found Open why is = why
+not_open places found AllClaimed why is = cc
+not_open places found Cancelled why is = cc
 
 -- SO FAR
 
@@ -125,85 +136,114 @@ worked_none c job w e = record {
   same_source = refl;
 }
 
-module _ (c : Catalogue) (job : Job) (start now : Worker) (tally : Tally) (so_far : HasWorked c job start now tally Open) where
-  -- the claimed places so far are within those of the sheet, with one more
-  pub room : (t : Holding) (place : ℕ) → GainsPlace now.hand t place → (tally.claimed + 1 ≤ now.hand.sheet.places) × (tally.done + tally.failed ≤ tally.claimed)
-  room t place gained =
-      let counted = ap (λ (x : Tally). x.claimed) so_far.counts in
-      let done = ap (λ (x : Tally). x.done) so_far.counts in
-      let failed = ap (λ (x : Tally). x.failed) so_far.counts in
-      let all = adds_up so_far.visits in
-      let mine : length (own t).claimed ≡ length ((own now.hand).claimed ++ place ∷ []) = ap (λ (a : Account). length a.claimed) gained.account in
-      let before : length (own now.hand).claimed ≡ length ((own start.hand).claimed ++ visited so_far.visits) = ap (λ (a : Account). length a.claimed) so_far.gains.account in
-      let split = length-append (own start.hand).claimed (visited so_far.visits) in
-      let one = length-append (own now.hand).claimed (place ∷ []) in
-      let most = gained.room in
-      (omega (arith, counted, mine, before, split, one, most), omega (arith, counted, done, failed, all))
+-- a worker that may work, what it has done since it started, and that it claimed no more than all places
+pub record IsAtWork (table : TableId) (c : Catalogue) (job : Job) (sheet : Sheet) (start now : Worker) (tally : Tally) : Type 0 where
+  pub may : MayWork table c sheet now
+  pub so_far : HasWorked c job start now tally Open
+  pub within : tally.claimed ≤ start.hand.sheet.places
 
-  -- one more place
-  module _ (claimed reported : Holding) (pass : HallPass) (source : Option ℕ) (after place : ℕ) (is_done : Bool)
-      (gained : GainsPlace now.hand claimed place) (went : HasVisited c job place now.faults after now.pass pass is_done) (told : source ≡ now.source) (reports : Reports claimed reported place is_done) where
-    v : Visit
-    v = visit_of place now.faults after now.pass pass went.gained is_done
+pub at_first : (table : TableId) (c : Catalogue) (job : Job) (sheet : Sheet) (w : Worker) → MayWork table c sheet w → IsAtWork table c job sheet w w (record { claimed = 0; done = 0; failed = 0 })
+at_first table c job sheet w may = record { may = may; so_far = worked_none c job w may.may_claim.1; within = omega arith }
 
-    told_same : now.pass.told ≡ start.pass.told
-    told_same = ap (λ (p : HallPass). p.told) so_far.made
-
-    is_visit : IsVisit c start.pass.told job (visit_of place now.faults after now.pass pass went.gained is_done)
-    is_visit = subst (λ (t : Bool). IsVisit c t job (visit_of place now.faults after now.pass pass went.gained is_done)) told_same went.visit
-
-    pub worked_more : HasWorked c job start (record { hand = reported; pass = pass; source = source; faults = after }) (one_more is_done tally) Open
-    unfolding v
-    worked_more = record {
-      visits = so_far.visits ++ v ∷ [];
-      made = went.is ∙ ap (λ (p : HallPass). seen_by p pass.book went.gained) so_far.made
-          ∙ ap (λ ms. record { table = start.pass.table; charter = start.pass.charter; told = start.pass.told; book = pass.book; made = ms }) (append_assoc start.pass.made (turns_of so_far.visits) went.gained ∙ ap (λ ms. start.pass.made ++ ms) (sym (turns_more so_far.visits v)));
-      are_visits = visits_more c start.pass.told job start.pass.book start.faults so_far.visits now.pass.book now.faults v so_far.are_visits refl refl is_visit;
-      gains = record {
-        same_sheet = reports.same_sheet ∙ gained.same_sheet ∙ so_far.gains.same_sheet;
-        same_number = reports.same_number ∙ gained.same_number ∙ so_far.gains.same_number;
-        account = reports.account ∙ ap (reporting is_done) (gained.account ∙ ap (gaining place) so_far.gains.account) ∙ account_more so_far.visits v (own start.hand);
-        done = reports.done ∙ ap (λ ps. ps ++ place_if is_done place) (gained.done ∙ so_far.gains.done) ∙ append_assoc start.hand.done (done_of so_far.visits) (place_if is_done place) ∙ ap (λ ps. start.hand.done ++ ps) (sym (done_more so_far.visits v));
-        failed = reports.failed ∙ ap (λ ps. ps ++ place_if (not is_done) place) (gained.failed ∙ so_far.gains.failed) ∙ append_assoc start.hand.failed (failed_of so_far.visits) (place_if (not is_done) place) ∙ ap (λ ps. start.hand.failed ++ ps) (sym (failed_more so_far.visits v));
-      };
-      counts = ap (one_more is_done) so_far.counts ∙ tally_more so_far.visits v;
-      same_source = told ∙ so_far.same_source;
-    }
-
-    -- who may work may go on
-    pub goes_on : (table : TableId) (sheet : Sheet) → MayWork table c sheet now → IsPassOf table c pass → MayWork table c sheet (record { hand = reported; pass = pass; source = source; faults = after })
-    goes_on table sheet may of = record {
-      of_hall = of;
-      of_sheet = reports.same_sheet ∙ gained.same_sheet ∙ may.of_sheet;
-      may_claim = ((may.may_claim.0.0, reports.same_number ∙ gained.same_number ∙ may.may_claim.0.1), ap (λ (a : Account). a.end) (reports.account ∙ ap (reporting is_done) gained.account) ∙ same_end is_done (gaining place (own now.hand)) ∙ may.may_claim.1);
-      source = λ e. told ∙ may.source (ap (λ (p : HallPass). p.told) (sym went.is) ∙ e);
-    }
+module _ {table : TableId} {c : Catalogue} {job : Job} {sheet : Sheet} {start now : Worker} {tally : Tally} (w : IsAtWork table c job sheet start now tally) where
+  counts_add_up : tally.done + tally.failed ≡ tally.claimed
+  counts_add_up =
+      let claimed = ap (λ (x : Tally). x.claimed) w.so_far.counts in
+      let done = ap (λ (x : Tally). x.done) w.so_far.counts in
+      let failed = ap (λ (x : Tally). x.failed) w.so_far.counts in
+      let all = adds_up w.so_far.visits in
+      omega (arith, claimed, done, failed, all)
 
   -- AT THE END
-  pub works : (t : Holding) → GainsNone now.hand t → Works c job start (record { hand = t; pass = now.pass; source = now.source; faults = now.faults }) tally
+  pub works : (t : Holding) → MeetsNone now.hand t → Works c job start (record { hand = t; pass = now.pass; source = now.source; faults = now.faults }) tally
   works t none = record {
     end = none.end;
-    met_none = none.met_none;
+    met_none = not_open now.hand.sheet.places none.found none.end none.why;
     worked = record {
-      visits = so_far.visits;
-      made = so_far.made;
-      are_visits = so_far.are_visits;
+      visits = w.so_far.visits;
+      made = w.so_far.made;
+      are_visits = w.so_far.are_visits;
       gains = record {
-        same_sheet = none.same_sheet ∙ so_far.gains.same_sheet;
-        same_number = none.same_number ∙ so_far.gains.same_number;
-        account = none.account ∙ ap (ending none.end) so_far.gains.account;
-        done = none.done ∙ so_far.gains.done;
-        failed = none.failed ∙ so_far.gains.failed;
+        same_sheet = ap (λ (h : Holding). h.sheet) none.is ∙ w.so_far.gains.same_sheet;
+        same_number = ap (λ (h : Holding). h.number) none.is ∙ w.so_far.gains.same_number;
+        account = none.own_is ∙ ap (ending none.end) w.so_far.gains.account;
+        done = ap (λ (h : Holding). h.done) none.is ∙ w.so_far.gains.done;
+        failed = ap (λ (h : Holding). h.failed) none.is ∙ w.so_far.gains.failed;
       };
-      counts = so_far.counts;
-      same_source = so_far.same_source;
+      counts = w.so_far.counts;
+      same_source = w.so_far.same_source;
     };
+    adds_up = counts_add_up;
+    within = w.within;
   }
 
-  pub counts_add_up : tally.done + tally.failed ≡ tally.claimed
-  counts_add_up =
-      let counted = ap (λ (x : Tally). x.claimed) so_far.counts in
-      let done = ap (λ (x : Tally). x.done) so_far.counts in
-      let failed = ap (λ (x : Tally). x.failed) so_far.counts in
-      let all = adds_up so_far.visits in
-      omega (arith, counted, done, failed, all)
+  -- ONE MORE PLACE
+  module _ {claimed : Holding} {place : ℕ} (gained : Claims now.hand claimed place) where
+    same_sheet : claimed.sheet ≡ now.hand.sheet
+    same_sheet = ap (λ (h : Holding). h.sheet) gained.is
+
+    same_number : claimed.number ≡ now.hand.number
+    same_number = ap (λ (h : Holding). h.number) gained.is
+
+    -- there is room for it in the tally
+    room : length (own claimed).claimed ≤ claimed.sheet.places → tally.claimed + 1 ≤ sheet.places
+    room most =
+        let counted = ap (λ (x : Tally). x.claimed) w.so_far.counts in
+        let mine : length (own claimed).claimed ≡ length ((own now.hand).claimed ++ place ∷ []) = ap (λ (a : Account). length a.claimed) gained.own_is in
+        let before : length (own now.hand).claimed ≡ length ((own start.hand).claimed ++ visited w.so_far.visits) = ap (λ (a : Account). length a.claimed) w.so_far.gains.account in
+        let split = length-append (own start.hand).claimed (visited w.so_far.visits) in
+        let one = length-append (own now.hand).claimed (place ∷ []) in
+        let places = ap (λ (s : Sheet). s.places) (same_sheet ∙ w.may.of_sheet) in
+        omega (arith, counted, mine, before, split, one, most, places)
+
+    pub countable : (places : ℕ) → length (own claimed).claimed ≤ claimed.sheet.places → sheet.places ≡ places → places ≤ 10000000 → (tally.claimed < 10000000) × (tally.done + tally.failed ≤ tally.claimed)
+    countable places claims is most = let left = room claims in (omega (arith, left, is, most), omega (arith, counts_add_up))
+
+    module _ {reported : Holding} {pass : HallPass} {after : ℕ} {is_done : Bool} (source : Option ℕ) (went : HasVisited c job place now.faults after now.pass pass is_done) (told : source ≡ now.source)
+        (of : IsPassOf table c pass) (reports : Reports claimed reported place is_done) where
+      abbrev the_visit : Visit
+      the_visit = visit_of place now.faults after now.pass pass went.gained is_done
+
+      abbrev then_is : Worker
+      then_is = record { hand = reported; pass = pass; source = source; faults = after }
+
+      is_visit : IsVisit c start.pass.told job the_visit
+      is_visit = subst (λ (t : Bool). IsVisit c t job the_visit) (ap (λ (p : HallPass). p.told) w.so_far.made) went.visit
+
+      worked_more : HasWorked c job start then_is (one_more is_done tally) Open
+      worked_more =
+          let vs = w.so_far.visits in
+          let gains = w.so_far.gains in
+          record {
+            visits = vs ++ the_visit ∷ [];
+            made = went.is ∙ ap (λ (p : HallPass). seen_by p pass.book went.gained) w.so_far.made
+                ∙ ap (λ ms. record { table = start.pass.table; charter = start.pass.charter; told = start.pass.told; book = pass.book; made = ms }) (append_assoc start.pass.made (turns_of vs) went.gained ∙ ap (λ ms. start.pass.made ++ ms) (sym (turns_more vs the_visit)));
+            are_visits = visits_more c start.pass.told job start.pass.book start.faults vs now.pass.book now.faults the_visit w.so_far.are_visits refl refl is_visit;
+            gains = record {
+              same_sheet = reports.same_sheet ∙ same_sheet ∙ gains.same_sheet;
+              same_number = reports.same_number ∙ same_number ∙ gains.same_number;
+              account = reports.account ∙ ap (reporting is_done) (gained.own_is ∙ ap (gaining place) gains.account) ∙ account_more vs the_visit (own start.hand);
+              done = reports.done ∙ ap (λ ps. ps ++ place_if is_done place) (ap (λ (h : Holding). h.done) gained.is ∙ gains.done) ∙ append_assoc start.hand.done (done_of vs) (place_if is_done place) ∙ ap (λ ps. start.hand.done ++ ps) (sym (done_more vs the_visit));
+              failed = reports.failed ∙ ap (λ ps. ps ++ place_if (not is_done) place) (ap (λ (h : Holding). h.failed) gained.is ∙ gains.failed) ∙ append_assoc start.hand.failed (failed_of vs) (place_if (not is_done) place) ∙ ap (λ ps. start.hand.failed ++ ps) (sym (failed_more vs the_visit));
+            };
+            counts = ap (one_more is_done) w.so_far.counts ∙ tally_more vs the_visit;
+            same_source = told ∙ w.so_far.same_source;
+          }
+
+      pub goes_on : (next : Tally) → length (own claimed).claimed ≤ claimed.sheet.places → next ≡ one_more is_done tally → IsAtWork table c job sheet start then_is next
+      goes_on next most is = record {
+        may = record {
+          of_hall = of;
+          of_sheet = reports.same_sheet ∙ same_sheet ∙ w.may.of_sheet;
+          may_claim = ((w.may.may_claim.0.0, reports.same_number ∙ same_number ∙ w.may.may_claim.0.1), ap (λ (a : Account). a.end) (reports.account ∙ ap (reporting is_done) gained.own_is) ∙ same_end is_done (gaining place (own now.hand)) ∙ w.may.may_claim.1);
+          source = λ e. told ∙ w.may.source (ap (λ (p : HallPass). p.told) (sym went.is) ∙ e);
+        };
+        so_far = subst (λ (t : Tally). HasWorked c job start then_is t Open) (sym is) worked_more;
+        within =
+            let one = one_claimed is_done tally in
+            let counted = ap (λ (t : Tally). t.claimed) is in
+            let here = ap (λ (s : Sheet). s.places) w.may.of_sheet in
+            let there = ap (λ (s : Sheet). s.places) w.so_far.gains.same_sheet in
+            let left = room most in
+            omega (arith, one, counted, left, here, there);
+      }

@@ -2,7 +2,7 @@
 use Rattle.std.specs.Prelude.{◌≡◌, ℕ, List, [], ◌∷◌, map, sum_by, Contains, ⊤}
 use Rattle.catalog.specs.declared.catalogue.Catalogue.{Catalogue}
 use Rattle.job_sheet.specs.declared.standing.End.TheVariants.{AllClaimed}
-use Rattle.job_sheet.specs.Calls.{ShareOut}
+use Rattle.job_sheet.specs.Calls.{ShareOut, claimed_by}
 use Rattle.job_sheet.specs.Hands.{Holding, Sheet, own}
 use Rattle.jobs.specs.declared.job.Job.{Job}
 use Rattle.seed_jobs.specs.declared.tally.Tally.{Tally}
@@ -25,7 +25,9 @@ total_of ts = record { claimed = sum_by (λ (t : Tally). t.claimed) ts; done = s
 abbrev pub hands_of : List Worker → List Holding
 hands_of ws = map (λ w. w.hand) ws
 
--- so many places were claimed, each by one hand, once; and where one of the hands met None since all places were claimed, these are all
+-- the places that they claimed are so many, each claimed by one hand, once; and where a hand met None since all places were claimed, these
+-- are all places
 pub record AreShared (sheet : Sheet) (hands : List Holding) (claimed : ℕ) : Type 0 where
-  pub shared : ShareOut claimed hands
+  pub count : claimed ≡ claimed_by hands
+  pub shared : ShareOut sheet.places hands
   pub all : (h : Holding) → Contains hands h → (own h).end ≡ AllClaimed → claimed ≡ sheet.places

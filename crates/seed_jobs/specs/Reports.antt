@@ -5,30 +5,9 @@ use Rattle.job_sheet.specs.declared.standing.Account.{Account}
 use Rattle.job_sheet.specs.declared.standing.End.{End}
 use Rattle.job_sheet.specs.declared.standing.End.TheVariants.{Open}
 use Rattle.job_sheet.specs.Calls.{one_done, one_failed}
-use Rattle.job_sheet.specs.Hands.{Holding, MayReport, own}
+use Rattle.job_sheet.specs.Hands.{Holding, own}
 use Rattle.job_sheet.specs.Standings.{ending, gaining}
 use Rattle.seed_jobs.specs.declared.tally.Tally.{Tally}
-
--- the hand gained a place, which it may report
-pub record GainsPlace (before after : Holding) (place : ℕ) : Type 0 where
-  pub same_sheet : after.sheet ≡ before.sheet
-  pub same_number : after.number ≡ before.number
-  pub account : own after ≡ gaining place (own before)
-  pub done : after.done ≡ before.done
-  pub failed : after.failed ≡ before.failed
-  pub may_report : MayReport after place
-  pub within : place < before.sheet.places
-  pub room : length (own after).claimed ≤ before.sheet.places
-
--- the hand met None
-pub record GainsNone (before after : Holding) : Type 0 where
-  pub same_sheet : after.sheet ≡ before.sheet
-  pub same_number : after.number ≡ before.number
-  pub end : End
-  pub met_none : end ≢ Open
-  pub account : own after ≡ ending end (own before)
-  pub done : after.done ≡ before.done
-  pub failed : after.failed ≡ before.failed
 
 -- the account after a report
 abbrev pub reporting : Bool → Account → Account

@@ -1,5 +1,5 @@
 -- What a worker does: it visits the places that its hand claims, until that meets None.
-use Rattle.std.specs.Prelude.{◌≡◌, ◌≢◌, ◌+◌, List, ◌++◌, length}
+use Rattle.std.specs.Prelude.{◌≡◌, ◌≢◌, ◌+◌, ◌≤◌, List, ◌++◌, length}
 use Rattle.catalog.specs.declared.catalogue.Catalogue.{Catalogue}
 use Rattle.job_sheet.specs.declared.standing.Account.{Account}
 use Rattle.job_sheet.specs.declared.standing.End.{End}
@@ -32,8 +32,10 @@ pub record HasWorked (c : Catalogue) (job : Job) (before after : Worker) (tally 
   pub counts : tally ≡ tally_of visits
   pub same_source : after.source ≡ before.source
 
--- THE WHOLE: the hand has met None
+-- THE WHOLE: the hand has met None; what is done and what failed is all that it claimed, and no more than all places
 pub record Works (c : Catalogue) (job : Job) (before after : Worker) (tally : Tally) : Type 0 where
   pub end : End
   pub met_none : end ≢ Open
   pub worked : HasWorked c job before after tally end
+  pub adds_up : tally.done + tally.failed ≡ tally.claimed
+  pub within : tally.claimed ≤ before.hand.sheet.places

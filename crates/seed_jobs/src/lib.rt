@@ -8,8 +8,10 @@
 //! Stands on cache_hall, jobs and job_sheet.
 #![tactic(auto)]
 
+pub mod crew;
 pub mod gate;
-mod steps;
+pub mod member;
+mod reporting;
 pub mod tally;
 mod visiting;
 pub mod work;

@@ -7,7 +7,7 @@ ghost use Rattle.seed_jobs.specs.Workers.{MayWork};
 ghost use Rattle.seed_jobs.specs.Works.{Works};
 
 use crate::gate::Gate;
-use crate::steps::{claim, report};
+use crate::reporting::report;
 use crate::tally::Tally;
 use crate::visiting::is_done;
 use cabinet::keeper::Keeper;
@@ -43,10 +43,10 @@ pub fn work<R: Wait, K: Keeper, S: Source, G: Gate>(
     ensures works { Works hall.now.catalogue job.now
         (record { hand = hand.old; pass = pass.old; source = S.told source.old; faults = S.faults source.old })
         (record { hand = hand.new; pass = pass.new; source = S.told source.new; faults = S.faults source.new }) result }
-    ensures adds_up { result.done + result.failed ≡ result.claimed }
 {
     let mut tally = Tally::new();
-    'working: while let Some(place) = claim(sheet, hand) {
+    'working: while let Some(place) = sheet.claim(hand) {
+        hand.laws();
         gate.at(place);
         let is_done = is_done(rt, alloc, hall, job, place, pass, source);
         report(sheet, hand, place, is_done);
