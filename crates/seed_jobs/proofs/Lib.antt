@@ -1,3 +1,6 @@
 mod Calls
 mod Working
 mod Together
+mod Heard
+mod Sums
+mod Shared

@@ -1,5 +1,5 @@
 -- A crew from its members.
-use Rattle.std.proofs.Common.{ℕ, zero, suc, ◌≡◌, ◌<◌, All, List, [], ◌∷◌, length, get_or, Option, arith, sym, subst}
+use Rattle.std.proofs.Common.{ℕ, zero, suc, ◌≡◌, ◌<◌, All, List, [], ◌∷◌, length, get_or, Option, arith, subst}
 use Rattle.catalog.specs.declared.catalogue.Catalogue.{Catalogue}
 use Rattle.jobs.specs.declared.job.Job.{Job}
 use Rattle.seed_jobs.specs.declared.member.Member.{Member}

@@ -5,3 +5,5 @@ pub mod Workers
 pub mod Members
 pub mod Works
 pub mod Crews
+pub mod Gathered
+pub mod Totals

@@ -10,8 +10,10 @@
 
 pub mod crew;
 pub mod gate;
+mod gathering;
 pub mod member;
 mod reporting;
 pub mod tally;
+mod totals;
 mod visiting;
 pub mod work;

@@ -1,5 +1,3 @@
-use Rattle.std.proofs.Common.{sym, subst}
-use Rattle.seed_jobs.specs.Members.{worker_of}
 use Rattle.seed_jobs.specs.Workers.{MayWork}
 use Rattle.seed_jobs.proofs.Together.{each_of, has_worked, have_worked}
 use Rattle.seed_jobs.proofs.crew.work_all.Goals as goal
