@@ -1,0 +1,6 @@
+mod Calls
+mod Working
+mod Together
+mod Heard
+mod Sums
+mod Shared

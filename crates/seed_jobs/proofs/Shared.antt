@@ -1,0 +1,170 @@
+-- The places of a crew are shared out.
+use Rattle.std.proofs.Common.{ℕ, zero, suc, ◌≡◌, ◌≢◌, ◌<◌, ◌≤◌, All, List, [], ◌∷◌, ◌++◌, length, get_or, replicate, slice_get, Some, None, refl, sym, ap, subst, ◌∙◌, arith}
+use Rattle.std.proofs.lemmas.List.Sums.{sum_by-cons}
+use Rattle.atomic_table.specs.Seated.{TableId}
+use Rattle.catalog.specs.declared.catalogue.Catalogue.{Catalogue}
+use Rattle.job_sheet.specs.declared.standing.Account.{Account}
+use Rattle.job_sheet.specs.declared.standing.End.TheVariants.{Open}
+use Rattle.job_sheet.specs.Calls.{claimed_by}
+use Rattle.job_sheet.specs.Hands.{AreFresh, Holding, Sheet, fresh_holding, own}
+use Rattle.job_sheet.specs.Standings.{fresh}
+use Rattle.jobs.specs.declared.job.Job.{Job}
+use Rattle.seed_jobs.specs.declared.tally.Tally.{Tally}
+use Rattle.seed_jobs.specs.Crews.{AreShared, HaveWorked, hands_of, total_of}
+use Rattle.seed_jobs.specs.Gathered.{AreAlike, AreAll, IsAlike}
+use Rattle.seed_jobs.specs.Totals.{HasFew}
+use Rattle.seed_jobs.specs.Visits.{visited}
+use Rattle.seed_jobs.specs.Workers.{MayWork, Worker}
+use Rattle.seed_jobs.specs.Works.{Works}
+
+some_same : {X : Type 0} {a b : X} → Some a ≡ Some b → a ≡ b
+some_same e = cc
+
+option_apart : {X : Type 0} {a : X} → None ≡ Some a → ⊥
+option_apart e = cc
+
+module _ (c : Catalogue) (job : Job) where
+  -- AFTER THE GATHERING a worker has worked as before
+
+  works_alike : (b m a : Worker) (t : Tally) → Works c job b m t → IsAlike m a → Works c job b a t
+  works_alike b m a t works alike =
+      let h : Holding = a.hand in
+      let gains = works.worked.gains in
+      let moved : Works c job b (record m { hand = h }) t = record {
+        end = works.end;
+        met_none = works.met_none;
+        worked = record {
+          visits = works.worked.visits;
+          made = works.worked.made;
+          are_visits = works.worked.are_visits;
+          gains = record {
+            same_sheet = ap (λ (x : Holding). x.sheet) alike.hand ∙ gains.same_sheet;
+            same_number = ap (λ (x : Holding). x.number) alike.hand ∙ gains.same_number;
+            account = alike.own_is ∙ gains.account;
+            done = ap (λ (x : Holding). x.done) alike.hand ∙ gains.done;
+            failed = ap (λ (x : Holding). x.failed) alike.hand ∙ gains.failed;
+          };
+          counts = works.worked.counts;
+          same_source = works.worked.same_source;
+        };
+        adds_up = works.adds_up;
+        within = works.within;
+      } in
+      subst (λ (w : Worker). Works c job b w t) (sym alike.is) moved
+
+  pub worked_alike : (before mid after : List Worker) (ts : List Tally) → HaveWorked c job before mid ts → AreAlike mid after → HaveWorked c job before after ts
+  worked_alike [] [] [] [] works alike = tt
+  worked_alike [] [] (a ∷ after) ts works alike = absurd alike
+  worked_alike [] [] [] (t ∷ ts) works alike = absurd works
+  worked_alike [] (m ∷ mid) after ts works alike = absurd works
+  worked_alike (b ∷ before) [] after ts works alike = absurd works
+  worked_alike (b ∷ before) (m ∷ mid) [] ts works alike = absurd alike
+  worked_alike (b ∷ before) (m ∷ mid) (a ∷ after) [] works alike = absurd works
+  worked_alike (b ∷ before) (m ∷ mid) (a ∷ after) (t ∷ ts) works alike = (works_alike b m a t works.0 alike.0, worked_alike before mid after ts works.1 alike.1)
+
+  module _ (table : TableId) (sheet : Sheet) where
+    -- the hands are still of the sheet
+    pub are_of : (before after : List Worker) (ts : List Tally) → HaveWorked c job before after ts → All (MayWork table c sheet) before → All (λ (h : Holding). h.sheet ≡ sheet) (hands_of after)
+    are_of before [] ts works may k d within = absurd (omega (arith, within))
+    are_of [] (a ∷ after) ts works may k d within = absurd works
+    are_of (b ∷ before) (a ∷ after) [] works may k d within = absurd works
+    are_of (b ∷ before) (a ∷ after) (t ∷ ts) works may zero d within = works.0.worked.gains.same_sheet ∙ (may 0 b (omega arith)).of_sheet
+    are_of (b ∷ before) (a ∷ after) (t ∷ ts) works may (suc k) d within = are_of before after ts works.1 (λ i e below. may (suc i) e (omega (arith, below))) k d (omega (arith, within))
+
+    few_of : (b a : Worker) (t : Tally) → sheet.places ≤ 10000000 → Works c job b a t → MayWork table c sheet b → HasFew t
+    few_of b a t most works may =
+        let places = ap (λ (s : Sheet). s.places) may.of_sheet in
+        let within = works.within in
+        let all = works.adds_up in
+        record { claimed = omega (arith, within, places, most); done = omega (arith, within, places, most, all); failed = omega (arith, within, places, most, all) }
+
+    -- each tally counts no more than all places
+    pub few : (before after : List Worker) (ts : List Tally) → sheet.places ≤ 10000000 → HaveWorked c job before after ts → All (MayWork table c sheet) before → All HasFew ts
+    few before after [] most works may k d within = absurd (omega (arith, within))
+    few [] [] (t ∷ ts) most works may k d within = absurd works
+    few [] (a ∷ after) (t ∷ ts) most works may k d within = absurd works
+    few (b ∷ before) [] (t ∷ ts) most works may k d within = absurd works
+    few (b ∷ before) (a ∷ after) (t ∷ ts) most works may zero d within = few_of b a t most works.0 (may 0 b (omega arith))
+    few (b ∷ before) (a ∷ after) (t ∷ ts) most works may (suc k) d within = few before after ts most works.1 (λ i e below. may (suc i) e (omega (arith, below))) k d (omega (arith, within))
+
+  -- FRESH HANDS
+
+  same_count : (before after : List Worker) (ts : List Tally) → HaveWorked c job before after ts → length (hands_of after) ≡ length (hands_of before)
+  same_count [] [] ts works = refl
+  same_count [] (a ∷ after) ts works = absurd works
+  same_count (b ∷ before) [] ts works = absurd works
+  same_count (b ∷ before) (a ∷ after) [] works = absurd works
+  same_count (b ∷ before) (a ∷ after) (t ∷ ts) works = ap suc (same_count before after ts works.1)
+
+  -- the hand at a place, and what it was before
+  record IsWorkedHand (before : List Worker) (n : ℕ) (h : Holding) : Type 0 where
+    was : Holding
+    is_there : slice_get (hands_of before) n ≡ Some was
+    number : h.number ≡ was.number
+    met_none : (own h).end ≢ Open
+
+  worked_hand : (before after : List Worker) (ts : List Tally) (n : ℕ) (h : Holding) → HaveWorked c job before after ts → slice_get (hands_of after) n ≡ Some h → IsWorkedHand before n h
+  worked_hand before [] ts n h works e = absurd (option_apart e)
+  worked_hand [] (a ∷ after) ts n h works e = absurd works
+  worked_hand (b ∷ before) (a ∷ after) [] n h works e = absurd works
+  worked_hand (b ∷ before) (a ∷ after) (t ∷ ts) zero h works e =
+      let is = some_same e in
+      let gains = works.0.worked.gains in
+      record {
+        was = b.hand;
+        is_there = refl;
+        number = ap (λ (x : Holding). x.number) (sym is) ∙ gains.same_number;
+        met_none = λ ended. works.0.met_none (ap (λ (x : Account). x.end) (sym gains.account) ∙ ap (λ (x : Holding). (own x).end) is ∙ ended);
+      }
+  worked_hand (b ∷ before) (a ∷ after) (t ∷ ts) (suc n) h works e =
+      let there = worked_hand before after ts n h works.1 e in
+      record { was = there.was; is_there = there.is_there; number = there.number; met_none = there.met_none }
+
+  module _ (sheet : Sheet) where
+    get_within : (hs : List Holding) (n : ℕ) (h : Holding) → slice_get hs n ≡ Some h → n < length hs
+    get_within [] n h e = absurd (option_apart e)
+    get_within (x ∷ hs) zero h e = omega arith
+    get_within (x ∷ hs) (suc n) h e = let there = get_within hs n h e in omega (arith, there)
+
+    fresh_in : (k n : ℕ) → get_or (replicate k fresh) n fresh ≡ fresh
+    fresh_in zero n = refl
+    fresh_in (suc k) zero = refl
+    fresh_in (suc k) (suc n) = fresh_in k n
+
+    -- a fresh hand has its number, and claimed nothing
+    fresh_at : (hs : List Holding) → AreFresh sheet hs → (n : ℕ) (h : Holding) → slice_get hs n ≡ Some h → (h.number ≡ Some n) × ((own h).claimed ≡ [])
+    fresh_at hs all n h e =
+        let below = get_within hs n h e in
+        let is : h ≡ fresh_holding sheet (Some n) = some_same (sym e ∙ all.each n (omega (arith, below, all.count))) in (
+          ap (λ (x : Holding). x.number) is,
+          ap (λ (x : Holding). (own x).claimed) is ∙ ap (λ (x : Account). x.claimed) (fresh_in sheet.hands n),
+        )
+
+    pub all_after : (before after : List Worker) (ts : List Tally) → HaveWorked c job before after ts → AreFresh sheet (hands_of before) → AreAll sheet (hands_of after)
+    all_after before after ts works all = record {
+      count = same_count before after ts works ∙ all.count;
+      number = λ n h e. let w = worked_hand before after ts n h works e in w.number ∙ (fresh_at (hands_of before) all n w.was w.is_there).0;
+      met_none = λ n h e. (worked_hand before after ts n h works e).met_none;
+    }
+
+    claimed_one : (b a : Worker) (t : Tally) → Works c job b a t → (own b.hand).claimed ≡ [] → length (own a.hand).claimed ≡ t.claimed
+    claimed_one b a t works none =
+        let vs = works.worked.visits in
+        ap (λ (x : Account). length x.claimed) works.worked.gains.account ∙ ap (λ (ps : List ℕ). length (ps ++ visited vs)) none ∙ sym (ap (λ (x : Tally). x.claimed) works.worked.counts)
+
+    claimed_sum : (before after : List Worker) (ts : List Tally) → HaveWorked c job before after ts → ((n : ℕ) (h : Holding) → slice_get (hands_of before) n ≡ Some h → (own h).claimed ≡ []) → claimed_by (hands_of after) ≡ (total_of ts).claimed
+    claimed_sum [] [] [] works none = refl
+    claimed_sum [] [] (t ∷ ts) works none = absurd works
+    claimed_sum [] (a ∷ after) ts works none = absurd works
+    claimed_sum (b ∷ before) [] ts works none = absurd works
+    claimed_sum (b ∷ before) (a ∷ after) [] works none = absurd works
+    claimed_sum (b ∷ before) (a ∷ after) (t ∷ ts) works none =
+        let one = claimed_one b a t works.0 (none 0 b.hand refl) in
+        let others = claimed_sum before after ts works.1 (λ n h e. none (suc n) h e) in
+        let mine = sum_by-cons (λ (h : Holding). length (own h).claimed) a.hand (hands_of after) in
+        let theirs = sum_by-cons (λ (x : Tally). x.claimed) t ts in
+        omega (arith, one, others, mine, theirs)
+
+    pub shared_at_last : (before after : List Worker) (ts : List Tally) (total : Tally) → HaveWorked c job before after ts → AreFresh sheet (hands_of before) → AreShared sheet (hands_of after) (claimed_by (hands_of after)) → total ≡ total_of ts → AreShared sheet (hands_of after) total.claimed
+    shared_at_last before after ts total works all shared is =
+        subst (λ (n : ℕ). AreShared sheet (hands_of after) n) (claimed_sum before after ts works (λ n h e. (fresh_at (hands_of before) all n h e).1) ∙ sym (ap (λ (x : Tally). x.claimed) is)) shared

@@ -1,0 +1,33 @@
+-- What a crew does: each of its workers works, and their places are shared out.
+use Rattle.std.specs.Prelude.{◌≡◌, ℕ, List, [], ◌∷◌, map, sum_by, Contains, ⊤}
+use Rattle.catalog.specs.declared.catalogue.Catalogue.{Catalogue}
+use Rattle.job_sheet.specs.declared.standing.End.TheVariants.{AllClaimed}
+use Rattle.job_sheet.specs.Calls.{ShareOut, claimed_by}
+use Rattle.job_sheet.specs.Hands.{Holding, Sheet, own}
+use Rattle.jobs.specs.declared.job.Job.{Job}
+use Rattle.seed_jobs.specs.declared.tally.Tally.{Tally}
+use Rattle.seed_jobs.specs.Workers.{Worker}
+use Rattle.seed_jobs.specs.Works.{Works}
+
+-- each worker worked, and came to the tally at its place
+abbrev pub HaveWorked : Catalogue → Job → List Worker → List Worker → List Tally → Type 0
+HaveWorked c job [] [] [] = ⊤
+HaveWorked c job (b ∷ before) (a ∷ after) (t ∷ tallies) = Works c job b a t × HaveWorked c job before after tallies
+HaveWorked c job [] (a ∷ after) tallies = ⊥
+HaveWorked c job [] [] (t ∷ tallies) = ⊥
+HaveWorked c job (b ∷ before) [] tallies = ⊥
+HaveWorked c job (b ∷ before) (a ∷ after) [] = ⊥
+
+-- the counts of all together
+abbrev pub total_of : List Tally → Tally
+total_of ts = record { claimed = sum_by (λ (t : Tally). t.claimed) ts; done = sum_by (λ (t : Tally). t.done) ts; failed = sum_by (λ (t : Tally). t.failed) ts }
+
+abbrev pub hands_of : List Worker → List Holding
+hands_of ws = map (λ w. w.hand) ws
+
+-- the places that they claimed are so many, each claimed by one hand, once; and where a hand met None since all places were claimed, these
+-- are all places
+pub record AreShared (sheet : Sheet) (hands : List Holding) (claimed : ℕ) : Type 0 where
+  pub count : claimed ≡ claimed_by hands
+  pub shared : ShareOut sheet.places hands
+  pub all : (h : Holding) → Contains hands h → (own h).end ≡ AllClaimed → claimed ≡ sheet.places

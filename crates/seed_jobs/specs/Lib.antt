@@ -1,0 +1,9 @@
+pub mod Visits
+pub mod Visited
+pub mod Reports
+pub mod Workers
+pub mod Members
+pub mod Works
+pub mod Crews
+pub mod Gathered
+pub mod Totals

@@ -1,0 +1,17 @@
+-- The members of a crew as workers.
+use Rattle.std.specs.Prelude.{ℕ, List, map, Option}
+use Rattle.seed_jobs.specs.declared.member.Member.{Member}
+use Rattle.seed_jobs.specs.declared.tally.Tally.{Tally}
+use Rattle.seed_jobs.specs.Workers.{Worker}
+
+-- by which number a source tells, and how often it has failed
+module _ {K S G : Type 0} (tells : S → Option ℕ) (faults : S → ℕ) where
+  abbrev pub worker_of : Member K S G → Worker
+  worker_of m = record { hand = m.hand; pass = m.pass; source = tells m.source; faults = faults m.source }
+
+  abbrev pub workers_of : List (Member K S G) → List Worker
+  workers_of ms = map worker_of ms
+
+module _ {K S G : Type 0} where
+  abbrev pub tallies_of : List (Member K S G) → List Tally
+  tallies_of ms = map (λ (m : Member K S G). m.tally) ms

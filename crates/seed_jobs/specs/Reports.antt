@@ -1,0 +1,30 @@
+-- What a worker's steps on its sheet do to its hand.
+-- A tie between the code and its definitions: the promise can be read without it.
+use Rattle.std.specs.Prelude.{◌≡◌, ℕ, ◌+◌, Bool, true, false, not, List, [], ◌∷◌, ◌++◌}
+use Rattle.job_sheet.specs.declared.standing.Account.{Account}
+use Rattle.job_sheet.specs.Calls.{one_done, one_failed}
+use Rattle.job_sheet.specs.Hands.{Holding, own}
+use Rattle.seed_jobs.specs.declared.tally.Tally.{Tally}
+
+-- the account after a report
+abbrev pub reporting : Bool → Account → Account
+reporting true a = one_done a
+reporting false a = one_failed a
+
+-- the place, if it counts
+abbrev pub place_if : Bool → ℕ → List ℕ
+place_if true place = place ∷ []
+place_if false place = []
+
+-- the hand reported the place done or failed
+pub record Reports (before after : Holding) (place : ℕ) (is_done : Bool) : Type 0 where
+  pub same_sheet : after.sheet ≡ before.sheet
+  pub same_number : after.number ≡ before.number
+  pub account : own after ≡ reporting is_done (own before)
+  pub done : after.done ≡ before.done ++ place_if is_done place
+  pub failed : after.failed ≡ before.failed ++ place_if (not is_done) place
+
+-- a tally with one more place
+abbrev pub one_more : Bool → Tally → Tally
+one_more true t = record { claimed = t.claimed + 1; done = t.done + 1; failed = t.failed }
+one_more false t = record { claimed = t.claimed + 1; done = t.done; failed = t.failed + 1 }

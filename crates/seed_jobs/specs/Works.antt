@@ -1,0 +1,41 @@
+-- What a worker does: it visits the places that its hand claims, until that meets None.
+use Rattle.std.specs.Prelude.{◌≡◌, ◌≢◌, ◌+◌, ◌≤◌, List, ◌++◌, length}
+use Rattle.catalog.specs.declared.catalogue.Catalogue.{Catalogue}
+use Rattle.job_sheet.specs.declared.standing.Account.{Account}
+use Rattle.job_sheet.specs.declared.standing.End.{End}
+use Rattle.job_sheet.specs.declared.standing.End.TheVariants.{Open}
+use Rattle.job_sheet.specs.Hands.{Holding, own}
+use Rattle.jobs.specs.declared.job.Job.{Job}
+use Rattle.turnstile.specs.Passes.{seen_by}
+use Rattle.seed_jobs.specs.declared.tally.Tally.{Tally}
+use Rattle.seed_jobs.specs.Visits.{AreVisits, Visit, done_of, failed_of, tally_of, turns_of, visited}
+use Rattle.seed_jobs.specs.Workers.{Worker}
+
+-- an account that gained these visits and then stands so
+abbrev pub gaining_all : List Visit → End → Account → Account
+gaining_all vs end a = record { claimed = a.claimed ++ visited vs; done = a.done + length (done_of vs); failed = a.failed + length (failed_of vs); end = end }
+
+-- the hand claimed the places of these visits, in order, and reported each as it counts
+pub record HandGains (before after : Holding) (vs : List Visit) (end : End) : Type 0 where
+  pub same_sheet : after.sheet ≡ before.sheet
+  pub same_number : after.number ≡ before.number
+  pub account : own after ≡ gaining_all vs end (own before)
+  pub done : after.done ≡ before.done ++ done_of vs
+  pub failed : after.failed ≡ before.failed ++ failed_of vs
+
+-- so far: the hand stands so, and the pass made the turns of these visits and no others
+pub record HasWorked (c : Catalogue) (job : Job) (before after : Worker) (tally : Tally) (end : End) : Type 0 where
+  pub visits : List Visit
+  pub made : after.pass ≡ seen_by before.pass after.pass.book (turns_of visits)
+  pub are_visits : AreVisits c before.pass.told job before.pass.book before.faults visits after.pass.book after.faults
+  pub gains : HandGains before.hand after.hand visits end
+  pub counts : tally ≡ tally_of visits
+  pub same_source : after.source ≡ before.source
+
+-- THE WHOLE: the hand has met None; what is done and what failed is all that it claimed, and no more than all places
+pub record Works (c : Catalogue) (job : Job) (before after : Worker) (tally : Tally) : Type 0 where
+  pub end : End
+  pub met_none : end ≢ Open
+  pub worked : HasWorked c job before after tally end
+  pub adds_up : tally.done + tally.failed ≡ tally.claimed
+  pub within : tally.claimed ≤ before.hand.sheet.places

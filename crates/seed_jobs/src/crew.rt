@@ -1,0 +1,115 @@
+//! A crew: the workers of a job, side by side.
+ghost use Rattle.std.specs.Prelude.{All, length, map, ◌+◌, ◌≡◌, ◌≤◌};
+ghost use Rattle.catalog.specs.Valid.{IsValid};
+ghost use Rattle.job_sheet.specs.Hands.{AreFresh};
+ghost use Rattle.jobs.specs.Job.{Fits};
+ghost use Rattle.jobs.specs.Places.{places};
+ghost use Rattle.seed_jobs.specs.Crews.{AreShared, HaveWorked, hands_of, total_of};
+ghost use Rattle.seed_jobs.specs.Members.{tallies_of, worker_of, workers_of};
+ghost use Rattle.seed_jobs.specs.Workers.{MayWork};
+ghost use Rattle.seed_jobs.specs.Works.{Works};
+
+use crate::gate::Gate;
+use crate::gathering::gather;
+use crate::member::Member;
+use crate::tally::Tally;
+use crate::totals::total;
+use crate::work::work;
+use cabinet::keeper::Keeper;
+use cache_hall::hall::Hall;
+use job_sheet::sheet::JobSheet;
+use jobs::job::Job;
+use source_render::source::Source;
+use std::alloc::Global;
+use std::sync::Wait;
+use std::thread::{Threads, for_each_mut};
+
+/// Lets a member work, and puts its tally into it.
+fn work_as<R: Wait, K: Keeper, S: Source, G: Gate>(
+    rt: &R,
+    alloc: Global,
+    hall: &Hall<K>,
+    job: &Job,
+    sheet: &JobSheet,
+    member: &mut Member<K, S, G>,
+)
+    requires valid { IsValid hall.now.catalogue }
+    requires fits { Fits hall.now.catalogue job.now }
+    requires sheet { sheet.now.places ≡ length (places hall.now.catalogue job.now) }
+    requires worker { MayWork hall.now.turnstile.table hall.now.catalogue sheet.now
+        (worker_of S.told S.faults member.old) }
+    ensures works { Works hall.now.catalogue job.now
+        (worker_of S.told S.faults member.old)
+        (worker_of S.told S.faults member.new) member.new.tally }
+{
+    member.tally = work(
+        rt,
+        alloc,
+        hall,
+        job,
+        sheet,
+        &mut member.hand,
+        &mut member.pass,
+        &mut member.source,
+        &mut member.gate,
+    );
+}
+
+/// Lets each member work, in a thread of its own where one can be made.
+fn work_all<R: Threads + Wait + Sync, K: Keeper + Send, S: Source + Send, G: Gate + Send>(
+    rt: &R,
+    alloc: Global,
+    hall: &Hall<K>,
+    job: &Job,
+    sheet: &JobSheet,
+    crew: &mut [Member<K, S, G>],
+)
+    requires valid { IsValid hall.now.catalogue }
+    requires fits { Fits hall.now.catalogue job.now }
+    requires sheet { sheet.now.places ≡ length (places hall.now.catalogue job.now) }
+    requires crew { All (MayWork hall.now.turnstile.table hall.now.catalogue sheet.now) (workers_of S.told S.faults crew.old) }
+    ensures worked { HaveWorked hall.now.catalogue job.now
+        (workers_of S.told S.faults crew.old) (workers_of S.told S.faults crew.new) (tallies_of crew.new) }
+{
+    let threads = crew.len().max(1);
+    for_each_mut(
+        rt,
+        crew,
+        threads,
+        &|_, member: &mut Member<K, S, G>|
+            requires { IsValid hall.now.catalogue × Fits hall.now.catalogue job.now × (sheet.now.places ≡ length (places hall.now.catalogue job.now))
+                × MayWork hall.now.turnstile.table hall.now.catalogue sheet.now (worker_of S.told S.faults member.old) }
+            ensures { Works hall.entry.now.catalogue job.entry.now
+                (worker_of S.told S.faults member.old)
+                (worker_of S.told S.faults member.new) member.new.tally }
+        { work_as(rt, alloc, hall, job, sheet, member) },
+    );
+}
+
+/// Runs a job by a crew: each member works once, in a thread of its own where one can be made, and its tally is put into it. The answer
+/// is the sum of all tallies.
+///
+/// Where threads can't be made the members work one after the other, so a gate must not wait for another member for ever.
+pub fn run_seed<R: Threads + Wait + Sync, K: Keeper + Send, S: Source + Send, G: Gate + Send>(
+    rt: &R,
+    alloc: Global,
+    hall: &Hall<K>,
+    job: &Job,
+    sheet: &JobSheet,
+    crew: &mut [Member<K, S, G>],
+) -> Tally
+    requires valid { IsValid hall.now.catalogue }
+    requires fits { Fits hall.now.catalogue job.now }
+    requires sheet { sheet.now.places ≡ length (places hall.now.catalogue job.now) }
+    requires size { length crew.old ≤ 63 }
+    requires crew { All (MayWork hall.now.turnstile.table hall.now.catalogue sheet.now) (workers_of S.told S.faults crew.old) }
+    ensures worked { HaveWorked hall.now.catalogue job.now
+        (workers_of S.told S.faults crew.old) (workers_of S.told S.faults crew.new) (tallies_of crew.new) }
+    ensures total { result ≡ total_of (tallies_of crew.new) }
+    ensures shared { AreFresh sheet.now (hands_of (workers_of S.told S.faults crew.old))
+        → AreShared sheet.now (hands_of (workers_of S.told S.faults crew.new)) result.claimed }
+{
+    work_all(rt, alloc, hall, job, sheet, crew);
+    gather(sheet, crew);
+    total(crew)
+}
