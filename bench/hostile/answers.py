@@ -2,7 +2,6 @@
 import json
 
 from covers import Fault, read
-from pictures import block_of, tile_text
 from reading import CAPABILITIES, STATUS, Refused, pairs_of, path_reading, reading, report
 
 PHRASES = {200: "OK", 400: "Bad Request", 404: "Not Found", 405: "Method Not Allowed", 409: "Conflict", 413: "Payload Too Large",
@@ -52,8 +51,8 @@ def refusal(refused, closes=False):
     return response(STATUS[refused.code], XML, report(refused.code, refused.locator), closes=closes)
 
 
-def tile_response(catalogue, address, is_hit, number, closes=False):
-    return response(200, PPM, tile_text(catalogue, number, address), (is_hit, number), closes)
+def tile_response(cabinet, address, is_hit, number, closes=False):
+    return response(200, PPM, cabinet.tile(is_hit, number, address), (is_hit, number), closes)
 
 
 def got(cabinet, address, closes=False):
@@ -63,7 +62,7 @@ def got(cabinet, address, closes=False):
         return None
     if found == "ticket":
         cabinet.finish(number)
-    return tile_response(cabinet.catalogue, address, found == "hit", number, closes)
+    return tile_response(cabinet, address, found == "hit", number, closes)
 
 
 def truncated(cabinet, body, closes=False):

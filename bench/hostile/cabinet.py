@@ -2,7 +2,9 @@
 from dataclasses import dataclass
 
 from covers import contains, hits
-from pictures import block_of, blob_length
+from pictures import blob_length, block_of, part_of_blob, tile_text
+
+ENDLESS = 1_000_000_000  # bytes of room
 
 
 @dataclass
@@ -20,6 +22,7 @@ class Cabinet:
         self.catalogue, self.number = catalogue, opening << 40
         self.kept, self.running, self.cuts = {}, {}, []
         self.overtaken, self.moment = set(), 0
+        self.blobs = {}  # the bytes of what was kept before this opening, which may be any
 
     def next_number(self):
         self.number += 1
@@ -53,8 +56,10 @@ class Cabinet:
         return self.start(block_of(self.catalogue, address))
 
     def gap(self, length):
-        """The lowest place of so many bytes between what is kept, or None."""
+        """The lowest place of so many bytes between what is kept, or None. Places aren't looked for where no case fills the room."""
         place = 0
+        if self.catalogue.blob_bytes >= ENDLESS:
+            return place
         for start, end in sorted((it.place, it.place + it.length) for it in self.kept.values()):
             if start - place >= length:
                 return place
@@ -70,16 +75,27 @@ class Cabinet:
         others = len(self.kept) - (block in self.kept)
         place = self.gap(blob_length(self.catalogue, block))
         if others < self.catalogue.kept_limit and place is not None:
+            self.blobs.pop(block, None)
             self.kept[block] = Kept(number, place, blob_length(self.catalogue, block), self.now())
 
-    def purged(self, cover):
-        """The truncations that stay when one of this cover comes."""
+    def tile(self, is_hit, number, address):
+        """The bytes of a tile that an ask or a render gave."""
+        block = block_of(self.catalogue, address)
+        if is_hit and block in self.blobs:
+            return part_of_blob(self.catalogue, self.blobs[block], address)
+        return tile_text(self.catalogue, number, address)
+
+    def purged(self, cover=None):
+        """The truncations that stay, when one of this cover comes."""
         numbers = [it.number for it in self.kept.values()] + list(self.running)
         if not numbers:
             return []
         least = min(numbers)
         return [(number, it) for at, (number, it) in enumerate(self.cuts)
-                if number >= least and not contains(cover, it) and not any(contains(later, it) for _, later in self.cuts[at + 1:])]
+                if number >= least and not (cover and contains(cover, it)) and not any(contains(later, it) for _, later in self.cuts[at + 1:])]
+
+    def purge(self):
+        self.cuts = self.purged()
 
     def cut(self, cover):
         """The number of a truncation, or None where the list is full."""
@@ -88,9 +104,14 @@ class Cabinet:
             return None
         number = self.next_number()
         self.cuts = stay + [(number, cover)]
-        self.kept = {block: it for block, it in self.kept.items() if not hits(self.catalogue, cover, block)}
+        self.drop([block for block in self.kept if hits(self.catalogue, cover, block)])
         self.overtaken |= {it for it, block in self.running.items() if hits(self.catalogue, cover, block)}
         return number
+
+    def drop(self, blocks):
+        for it in blocks:
+            del self.kept[it]
+            self.blobs.pop(it, None)
 
     def used(self, layer):
         return sum(it.length for block, it in self.kept.items() if layer in (None, block.layer))
@@ -111,5 +132,5 @@ class Cabinet:
             return None
         by_uses = self.catalogue.policy == "lfu"
         victim = min(scope, key=lambda block: (self.kept[block].uses if by_uses else 0, self.kept[block].last, block))
-        del self.kept[victim]
+        self.drop([victim])
         return victim

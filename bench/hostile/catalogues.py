@@ -22,7 +22,7 @@ DEMO = """{"source":0,"keptLimit":64,"cutLimit":16,"blobBytes":4096,"policy":"lr
 
 # Several layers, grids, styles and dimensions, with names of all bytes that names may have, and corners, spans, tiles and factors that
 # aren't round.
-MANY = """{"source":7,"keptLimit":4096,"cutLimit":12,"blobBytes":400000,"policy":"lru",
+MANY = """{"source":7,"keptLimit":4096,"cutLimit":12,"blobBytes":2000000000,"policy":"lru",
 "grids":[{"id":"tiny","corner":["0","16"],"matrices":[
 {"id":"0","span":"8","tile":[2,2],"size":[1,1]},
 {"id":"1","span":"4","tile":[2,2],"size":[2,2]},
@@ -41,7 +41,7 @@ MANY = """{"source":7,"keptLimit":4096,"cutLimit":12,"blobBytes":400000,"policy"
 {"id":"bare","grids":["apart"],"styles":[{"id":"grey","breaks":[]}]}]}"""
 
 # Little room, few cuts and quotas, so that all of them are met.
-TIGHT = MANY.replace('"keptLimit":4096,"cutLimit":12,"blobBytes":400000,"policy":"lru"',
+TIGHT = MANY.replace('"keptLimit":4096,"cutLimit":12,"blobBytes":2000000000,"policy":"lru"',
                      '"keptLimit":9,"cutLimit":4,"blobBytes":700,"quota":500,"policy":"lfu"').replace(
                      '"meta":[1,1]}', '"meta":[1,1],"quota":46}')
 

@@ -33,6 +33,14 @@ def blob_length(catalogue, block):
     return len(rows) * len(cols) * tile_length(matrix_at(catalogue, block))
 
 
+def part_of_blob(catalogue, blob, address):
+    """The bytes of a tile within the blob of its metatile: the tiles row by row."""
+    rows, cols = tiles_of(catalogue, block_of(catalogue, address))
+    length = tile_length(matrix_at(catalogue, address))
+    start = ((address.row - rows.start) * len(cols) + address.col - cols.start) * length
+    return blob[start:start + length]
+
+
 def colour(style, value):
     """The colour of a value: grey where the style has no breaks, else that of the last break at or below it."""
     if not style.breaks:

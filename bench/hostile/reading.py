@@ -19,41 +19,34 @@ class Refused(Exception):
         self.code, self.locator = code, locator
 
 
-def whole(text):
-    """A text of UTF-8, with U+FFFD where bytes are none."""
-    return text.decode("utf-8", "replace").encode()
+def decoded(text):
+    """A text without its escapes, of UTF-8, with U+FFFD where bytes are none."""
+    if b"%" in text:
+        text = unquote_to_bytes(text)
+    return text if text.isascii() else text.decode("utf-8", "replace").encode()
 
 
 def pairs_of(query):
     """The pairs of a query, decoded as a form's."""
-    pairs = []
-    for part in query.split(b"&"):
-        if part:
-            name, _, value = part.partition(b"=")
-            pairs.append(tuple(whole(unquote_to_bytes(it.replace(b"+", b" "))) for it in (name, value)))
-    return pairs
+    split = [part.partition(b"=") for part in query.replace(b"+", b" ").split(b"&") if part]
+    return [(decoded(name), decoded(value)) for name, _, value in split]
 
 
-def folded(name):
-    """A name without the case of its ASCII letters."""
-    return name.lower()  # of bytes: ASCII letters alone
+def first_values(pairs):
+    """The value of the first pair of each name, by the name without the case of its ASCII letters."""
+    return {name.lower(): value for name, value in reversed(pairs)}
 
 
-def value_of(pairs, name):
-    wanted = folded(name)
-    return next((value for given, value in pairs if folded(given) == wanted), None)
-
-
-def needed(pairs, name):
-    value = value_of(pairs, name)
+def needed(values, name):
+    value = values.get(name.lower())
     if value is None:
         raise Refused(MISSING, name)
     return value
 
 
-def checked(pairs, name, test):
+def checked(values, name, test):
     """The number that a test gives to a parameter's value."""
-    found = test(needed(pairs, name))
+    found = test(needed(values, name))
     if found is None:
         raise Refused(INVALID, name)
     return found
@@ -82,41 +75,42 @@ def grid_of(catalogue, layer):
     return test
 
 
-def values_of(pairs, layer):
+def values_of(values, layer):
     """The numbers of the values of the four dimensions, 0 where the layer has fewer."""
     numbers = []
     for dimension in layer.dimensions:
-        if value_of(pairs, dimension.name) is None and dimension.default is not None:
+        if dimension.name.lower() not in values and dimension.default is not None:
             numbers.append(dimension.default)
         else:
-            numbers.append(checked(pairs, dimension.name, lambda value, it=dimension: it.values.index(value) if value in it.values else None))
+            numbers.append(checked(values, dimension.name, lambda value, it=dimension: it.values.index(value) if value in it.values else None))
     return tuple(numbers + [0] * (4 - len(numbers)))
 
 
 def reading(catalogue, pairs):
     """The address that the pairs name, or CAPABILITIES; Refused at the first parameter that fails."""
-    checked(pairs, b"service", equal(b"WMTS"))
-    request = needed(pairs, b"request")
+    given = first_values(pairs)
+    checked(given, b"service", equal(b"WMTS"))
+    request = needed(given, b"request")
     if request == b"GetCapabilities":
         return CAPABILITIES
     if request != b"GetTile":
         raise Refused(UNSUPPORTED, request)
-    checked(pairs, b"version", equal(b"1.0.0"))
-    number = checked(pairs, b"layer", lambda value: place_of(catalogue.layers, value))
+    checked(given, b"version", equal(b"1.0.0"))
+    number = checked(given, b"layer", lambda value: place_of(catalogue.layers, value))
     layer = catalogue.layers[number]
-    style = checked(pairs, b"style", style_of(layer))
-    checked(pairs, b"format", equal(FORMAT))
-    values = values_of(pairs, layer)
-    grid = checked(pairs, b"TileMatrixSet", grid_of(catalogue, layer))
-    z = checked(pairs, b"TileMatrix", lambda value: place_of(catalogue.grids[grid].matrices, value))
-    row = checked(pairs, b"TileRow", digits)
-    col = checked(pairs, b"TileCol", digits)
+    style = checked(given, b"style", style_of(layer))
+    checked(given, b"format", equal(FORMAT))
+    numbers = values_of(given, layer)
+    grid = checked(given, b"TileMatrixSet", grid_of(catalogue, layer))
+    z = checked(given, b"TileMatrix", lambda value: place_of(catalogue.grids[grid].matrices, value))
+    row = checked(given, b"TileRow", digits)
+    col = checked(given, b"TileCol", digits)
     matrix = catalogue.grids[grid].matrices[z]
     if row >= matrix.rows:
         raise Refused(OUT, b"TileRow")
     if col >= matrix.cols:
         raise Refused(OUT, b"TileCol")
-    return Address(number, style, values, grid, z, row, col)
+    return Address(number, style, numbers, grid, z, row, col)
 
 
 def path_reading(catalogue, path):
@@ -131,7 +125,7 @@ def path_reading(catalogue, path):
     if not 6 <= len(segments) <= 10 or not all(segments) or not segments[-1].endswith(b".ppm"):
         return None
     segments[-1] = segments[-1].removesuffix(b".ppm")
-    texts = [whole(unquote_to_bytes(it)) for it in segments]
+    texts = [decoded(it) for it in segments]
     layer = place_of(catalogue.layers, texts[0])
     dimensions = [] if layer is None else [it.name for it in catalogue.layers[layer].dimensions]
     if layer is not None and len(texts) != 6 + len(dimensions):

@@ -55,7 +55,7 @@ class Schedule:
         self.written.append(b"answer %d %d %d %d\n" % (line, actor, start, len(text)) + text)
 
     def give_tile(self, line, actor, start, address, found, number):
-        self.write(line, actor, start, tile_response(self.cabinet.catalogue, address, found == "hit", number))
+        self.write(line, actor, start, tile_response(self.cabinet, address, found == "hit", number))
 
     def begin(self, line, actor, request):
         """An ask or a force: the actor is answered, or is busy with the request."""
