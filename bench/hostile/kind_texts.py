@@ -1,35 +1,55 @@
-"""Catalogues and covers: each text is given to the program twice, and the code, the line of a fault and the output are compared."""
+"""Catalogues and covers: the code, the line of a fault and the output of the program are compared with those of the model."""
 import random
 import time
 
 import covers
+from answers import answer
 from cabinet import Cabinet
-from catalogues import MANY, TIGHT, read
+from catalogue_faults import first_fault
+from catalogues import TIGHT, read
+from kind_lines import Taken
 from program import Program
-from targets import sendable, path
-from texts import catalogue_in, cover_in
+from runs import scheduled
+from targets import path, sendable
+from texts import catalogue_in, cover_in, schedule_in
 
 
-def differs(one, other):
-    return (one.code, one.output, one.error) != (other.code, other.output, other.error)
+LARGEST = 4096  # pixels of a tile that the model draws
+
+
+def is_drawn(catalogue):
+    """Whether the model has all of a catalogue: tiles that are small, and no limits of age, which it leaves out."""
+    return all(it.width * it.height <= LARGEST for grid in catalogue.grids for it in grid.matrices)
+
+
+def lines_for(chance, text):
+    """A schedule over an accepted catalogue, and its ends; none where the model hasn't all of it."""
+    catalogue = read(text) if text and b"ages" not in text else None
+    if not catalogue or not is_drawn(catalogue):
+        return b"", {(b"", "0")}
+    lines = schedule_in(chance, catalogue, Taken(catalogue))
+    return lines, scheduled(Cabinet(catalogue), b"", lines)
+
+
+def one_catalogue(tally, chance, number, program):
+    """A catalogue for `schedule`, without a line, and then with some: its fault, or what the model answers."""
+    text = catalogue_in(chance)
+    (program.folder / "catalogue.json").write_bytes(text)
+    status = first_fault(text)
+    lines, ends = lines_for(chance, text) if status == "0" else (b"", {(b"", status)})
+    for data, expected in ((b"", {(b"", status)}), (lines, ends)):
+        ran = program.run("schedule", data=data)
+        rule = ran.broken_rule((0, 3, 7, 12)) or (None if (ran.output, ran.status) in expected else "another answer")
+        if rule:
+            tally.finding("catalogues", number, rule, catalogue=text, input=data, expected=repr(expected).encode(), received=repr((ran.output, ran.status)).encode())
+            break
+    tally.count("catalogues", " ".join(status.split()[:2]))
 
 
 def run_catalogues(tally, program_path, folder, seed, cases):
-    """Catalogues for `schedule` with no line: nothing is written, and a refusal names a field that there is."""
     folder.mkdir(parents=True, exist_ok=True)
-    program = Program(program_path, folder)
     for number in range(cases):
-        text = catalogue_in(random.Random(f"{seed} catalogues {number}"))
-        (folder / "catalogue.json").write_bytes(text)
-        first, second = program.run("schedule"), program.run("schedule")
-        rule = first.broken_rule((0, 3))
-        if not rule and first.output:
-            rule = "something is written"
-        if not rule and differs(first, second):
-            rule = "the same text has another answer"
-        tally.count("catalogues", " ".join(first.status.split()[:2]) if first.code else "0")
-        if rule:
-            tally.finding("catalogues", number, rule, catalogue=text, first=first.status.encode(), second=second.status.encode())
+        one_catalogue(tally, random.Random(f"{seed} catalogues {number}"), number, Program(program_path, folder))
 
 
 class KeptModel:
@@ -48,7 +68,6 @@ class KeptModel:
         self.cabinet.purge()
 
     def fill(self, chance):
-        from answers import answer
         self.reopen()
         targets = [sendable(path(chance, self.cabinet.catalogue)) for _ in range(12)]
         for it in targets:
@@ -77,12 +96,10 @@ def run_covers(tally, program_path, folder, seed, cases):
         elif number % 10 == 0:
             kept.fill(chance)
         text = cover_in(chance, kept.cabinet.catalogue)
-        ran, again = program.run("truncate", data=text), None
-        expected = kept.truncated(text)
+        ran, expected = program.run("truncate", data=text), kept.truncated(text)
         rule = ran.broken_rule((0, 9, 13)) or (None if (ran.status, ran.output) == expected else "another answer")
-        if not rule and ran.code == 13:
-            again = program.run("truncate", data=text)
-            rule = "the same text has another answer" if differs(ran, again) else None
+        if not rule and ran.code == 13 and program.run("truncate", data=text).status != ran.status:
+            rule = "the same text has another answer"
         tally.count("covers", " ".join(ran.status.split()[:3]) if ran.code else "0")
         if rule:
             tally.finding("covers", number, rule, cover=text, expected=repr(expected).encode(), received=repr((ran.status, ran.output)).encode())
