@@ -76,7 +76,7 @@ class Server:
         self.wait()
 
     def wait(self):
-        for _ in range(500):
+        for _ in range(1000):
             try:
                 return self.connect().close()
             except OSError:
