@@ -86,8 +86,13 @@ def read_fields(data, at, fields):
     return after_newline(data, at)
 
 
+def after_blank_lines(data):
+    at = BLANK.match(data).end()
+    return after_newline(data, at) if byte_at(data, at) == 13 else at  # half of a line's end
+
+
 def read_head(data, fields):
-    method, at = read_method(data, BLANK.match(data).end())
+    method, at = read_method(data, after_blank_lines(data))
     target, at = read_target(data, at)
     minor, at = read_version(data, at)
     return method, target, minor, read_fields(data, at, fields)
