@@ -171,6 +171,16 @@ def opened(catalogue, text, image):
     return cabinet
 
 
+def of_version_1(catalogue, image):
+    """The same cache as an earlier program would have left it: without moments, and without uses."""
+    half, _, _ = half_in_force(image)
+    bodies = [it for it in bodies_in(catalogue, image, half) if it[0] != 5]
+    slots = [(it[:45].ljust(63, b"\0") if it[0] == 2 else it) + b"\1" for it in bodies]
+    start, size = SLOT * (2 + half * slots_in(catalogue)), SLOT * slots_in(catalogue)
+    headers = image[:SLOT * 2].replace(MAGICS[1], MAGICS[0])
+    return headers + image[SLOT * 2:start] + b"".join(slots).ljust(size, b"\0") + image[start + size:]
+
+
 def spelled_block(block):
     return META.pack(block.layer, block.style, *block.values, block.grid, block.z, block.row, block.col, bytes(3))
 

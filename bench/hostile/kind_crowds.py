@@ -45,20 +45,39 @@ class Crowd:
             self.numbers.add(number)
 
 
-def read_answer(link):
-    """The match of the head, and the body."""
-    got = bytearray()
-    while not (head := HEAD.match(got)):
-        piece = link.recv(1 << 16)
-        if not piece or len(got) > 8192:
-            raise Broken(f"no answer of the form, but {bytes(got)!r}")
-        got += piece
-    while len(got) < head.end() + int(head[2]):
-        piece = link.recv(1 << 16)
+class Link:
+    """A connection, and what was read of it beyond the last answer."""
+
+    def __init__(self, server):
+        self.link, self.held = server.connect(), bytearray()
+
+    def send(self, chance, data):
+        """Sends bytes, now and then in two pieces."""
+        at = chance.randrange(len(data)) if chance.random() < 0.2 else 0
+        for piece in filter(None, (data[:at], data[at:])):
+            self.link.sendall(piece)
+
+    def read(self):
+        piece = self.link.recv(1 << 16)
         if not piece:
-            raise Broken("an answer broke off")
-        got += piece
-    return HEAD.match(bytes(got)), bytes(got[head.end():])
+            raise Broken(f"the connection ended behind {bytes(self.held)!r}")
+        self.held += piece
+
+    def answer(self):
+        """The match of the next head, and the body."""
+        while not (head := HEAD.match(bytes(self.held))):
+            if len(self.held) > 8192:
+                raise Broken(f"no answer of the form, but {bytes(self.held)!r}")
+            self.read()
+        end = head.end() + int(head[2])
+        while len(self.held) < end:
+            self.read()
+        body = bytes(self.held[head.end():end])
+        del self.held[:end]
+        return head, body
+
+    def close(self):
+        self.link.close()
 
 
 def demand(test, rule):
@@ -135,26 +154,39 @@ def misbehave(chance, server):
             link.recv(100)
 
 
+def bytes_of(message):
+    method, target, body = message
+    return b"%s %s HTTP/1.1\r\nContent-Length: %d\r\n\r\n%s" % (method, target, len(body), body)
+
+
+def ask(crowd, chance, link, messages):
+    """Sends messages in one go and checks their answers. How many were answered, and whether the connection goes on."""
+    known = crowd.cuts[:]
+    link.send(chance, b"".join(map(bytes_of, messages)))
+    for count, message in enumerate(messages, 1):
+        head, body = link.answer()
+        check(crowd, known, message, head, body)
+        crowd.tally.count(KIND, head[1].decode())
+        if b"Connection: close\r\n" in head[0]:
+            return count, False
+    return len(messages), True
+
+
 def client(crowd, chance, count, ended):
-    link = crowd.server.connect()
-    for number in range(count):
-        message = message_in(chance, crowd.catalogue)
-        known = crowd.cuts[:]
-        data = b"%s %s HTTP/1.1\r\nContent-Length: %d\r\n\r\n%s" % (*message[:2], len(message[2]), message[2])
+    link, left = Link(crowd.server), []
+    while count > 0:
+        left = left or [message_in(chance, crowd.catalogue) for _ in range(chance.choice((1, 1, 1, 2, 5, 20)))]
         try:
-            link.sendall(data)
-            head, body = read_answer(link)
-            check(crowd, known, message, head, body)
-            crowd.tally.count(KIND, head[1].decode())
-            if b"Connection: close\r\n" in head[0]:
-                link.close()
-                link = crowd.server.connect()
+            answered, goes_on = ask(crowd, chance, link, left)
+            count, left = count - answered, left[answered:]
             if chance.random() < 0.02:
                 misbehave(chance, crowd.server)
         except (Broken, OSError) as error:
-            crowd.tally.finding(KIND, number, str(error), sent=data)
+            crowd.tally.finding(KIND, count, str(error), sent=b"".join(map(bytes_of, left)))
+            count, left, goes_on = count - 1, [], False
+        if not goes_on:
             link.close()
-            link = crowd.server.connect()
+            link = Link(crowd.server)
     link.close()
     ended.append(True)
 

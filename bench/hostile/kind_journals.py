@@ -5,7 +5,7 @@ import time
 import covers
 from answers import answer, usage
 from catalogues import DEMO, TIGHT, read
-from journal import SLOT, Refusal, length_of, opened, record_near, slots_in
+from journal import SLOT, Refusal, length_of, of_version_1, opened, record_near, slots_in
 from program import Program
 from targets import address_in, names_in, sendable, path
 from texts import cover_in
@@ -26,6 +26,7 @@ class Base:
             for _ in range(6):
                 self.work(chance)
                 self.images.append(self.disk.read_bytes())
+        self.images += [of_version_1(self.catalogue, it) for it in self.images[::3]]
 
     def work(self, chance):
         lines = b"".join(b"0 GET %s\n" % target_for(self.catalogue, address_in(chance, self.catalogue)) for _ in range(chance.choice((2, 8, 20))))

@@ -61,7 +61,7 @@ def one_case(tally, chance, number, served):
     data = stream_in(chance, served.cabinet.catalogue)
     answers, endings, stops = served.expected(data)
     pieces = [chance.randrange(len(data)) for _ in range(chance.choice((0, 0, 0, 0, 0, 0, 0, 1, 2, 5)))] if data else []
-    ends = bool(stops & {END, TRUNCATED}) or chance.random() < 0.3
+    ends = bool(stops & {END, TRUNCATED}) or bool(pieces) or chance.random() < 0.3
     got, how = told_by(served.server, data, pieces, ends)
     tally.count(KIND, *statuses_of(answers, got))
     if how != "end" or not served.is_right(answers, endings, got):

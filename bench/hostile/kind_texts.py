@@ -91,9 +91,9 @@ def run_covers(tally, program_path, folder, seed, cases):
     program, kept = Program(program_path, folder), None
     for number in range(cases):
         chance = random.Random(f"{seed} covers {number}")
-        if kept is None or number % 100 == 0:
+        if kept is None or number % 20 == 0:
             kept = KeptModel(program, chance)
-        elif number % 10 == 0:
+        elif number % 3 == 0:
             kept.fill(chance)
         text = cover_in(chance, kept.cabinet.catalogue)
         ran, expected = program.run("truncate", data=text), kept.truncated(text)
