@@ -91,13 +91,16 @@ def expired(cabinet, closes=False):
     return response(200, JSON, body, closes=closes)
 
 
+def or_dash(quota):
+    return "-" if quota is None else quota
+
+
 def usage(cabinet):
     """The usage text."""
     layers = cabinet.catalogue.layers
     counts = [sum(block.layer == at for block in cabinet.kept) for at in range(len(layers))]
-    lines = [f"layer {it.name.decode()} {counts[at]} {cabinet.used(at)} {'-' if it.quota is None else it.quota}" for at, it in enumerate(layers)]
-    quota = cabinet.catalogue.quota
-    lines.append(f"total {len(cabinet.kept)} {cabinet.used(None)} {'-' if quota is None else quota}")
+    lines = [f"layer {it.name.decode()} {counts[at]} {cabinet.used(at)} {or_dash(it.quota)}" for at, it in enumerate(layers)]
+    lines.append(f"total {len(cabinet.kept)} {cabinet.used(None)} {or_dash(cabinet.catalogue.quota)}")
     lines.append(f"cuts {len(cabinet.cuts)}")
     return "".join(f"{it}\n" for it in lines).encode()
 

@@ -91,8 +91,9 @@ class Cabinet:
         if not numbers:
             return []
         least = min(numbers)
-        return [(number, it) for at, (number, it) in enumerate(self.cuts)
-                if number >= least and not (cover and contains(cover, it)) and not any(contains(later, it) for _, later in self.cuts[at + 1:])]
+        covers = [it for _, it in self.cuts] + ([cover] if cover else [])
+        stays = [number >= least and not any(contains(later, it) for later in covers[at + 1:]) for at, (number, it) in enumerate(self.cuts)]
+        return [it for it, stay in zip(self.cuts, stays) if stay]
 
     def purge(self):
         self.cuts = self.purged()

@@ -95,6 +95,11 @@ def is_number(value):
     return isinstance(value, int) and not isinstance(value, bool)
 
 
+def are_rows(value, count):
+    """Whether it is a list of lists of so many whole numbers."""
+    return isinstance(value, list) and all(isinstance(at, list) and len(at) == count and all(map(is_number, at)) for at in value)
+
+
 def check_matrix(it, corner, meters, names):
     """Reads a matrix, and then makes it. Its tile's width and height."""
     names.append(it.name("id", "MatrixId", names))
@@ -126,7 +131,7 @@ def check_grid(it, tiles):
 
 def check_breaks(it):
     value = it.required("breaks", "Breaks")
-    it.demand(isinstance(value, list) and all(isinstance(at, list) and len(at) == 4 and all(map(is_number, at)) for at in value), BAD, "Breaks")
+    it.demand(are_rows(value, 4), BAD, "Breaks")
     it.demand(len(value) <= 256 and all(part <= 255 for at in value for part in at), LIMIT, "Breaks")
     starts = [at[0] for at in value]
     it.demand(starts[:1] in ([], [0]) and all(one < other for one, other in zip(starts, starts[1:])), BAD, "Breaks")
@@ -163,7 +168,7 @@ def check_ages(it):
     if not it.has("ages"):
         return
     value = it.told["ages"]
-    it.demand(isinstance(value, list) and all(isinstance(at, list) and len(at) == 2 and all(map(is_number, at)) for at in value), BAD, "Ages")
+    it.demand(are_rows(value, 2), BAD, "Ages")
     it.demand(len(value) <= 30, LIMIT, "Ages")
     it.demand(all(zoom <= 29 and seconds < 2**32 for zoom, seconds in value), BAD, "Ages")
     it.demand(all(one[0] < other[0] for one, other in zip(value, value[1:])), BAD, "Ages")

@@ -37,7 +37,8 @@ MANY = """{"source":7,"keptLimit":4096,"cutLimit":12,"blobBytes":2000000000,"pol
  "dimensions":[{"id":"time","values":["a","b"],"default":"a"},{"id":"level","values":["0","10"]}],"meta":[2,2],"gutter":1},
 {"id":"L.-_:9","grids":["Wide:2.b","apart"],"styles":[{"id":"S:1","breaks":[[0,1,2,3],[1,4,5,6],[200,7,8,9]]},{"id":"s:1","breaks":[]}],
  "dimensions":[{"id":"Elevation","values":["-1","0","1"],"default":"0"},{"id":"dim_two","values":["x"]},
- {"id":"t.t","values":["2026-01-01","2026-01-02:00"],"default":"2026-01-02:00"},{"id":"Z","values":["a","A","aa"]}],"meta":[3,1],"gutter":2,"cell":2},
+ {"id":"t.t","values":["2026-01-01","2026-01-02:00"],"default":"2026-01-02:00"},
+ {"id":"Z","values":["a","A","aa"]}],"meta":[3,1],"gutter":2,"cell":2},
 {"id":"bare","grids":["apart"],"styles":[{"id":"grey","breaks":[]}]}]}"""
 
 # Little room, few cuts and quotas, so that all of them are met.

@@ -185,18 +185,25 @@ def spelled_block(block):
     return META.pack(block.layer, block.style, *block.values, block.grid, block.z, block.row, block.col, bytes(3))
 
 
+def cut_near(chance, number, block):
+    """The fields of a Cut."""
+    edges = (0, 10**9, -10**9, 16 * 10**9, FARTHEST, FARTHEST + 1)
+    box = [chance.choice(edges) for _ in range(4)] if chance.random() < 0.5 else [0] * 4
+    has_box, zooms = chance.choice((int(any(box)), 1)), [chance.choice((0, block.z, block.z + 1)) for _ in range(2)]
+    style, values = chance.choice((0, block.style + 1)), [chance.choice((0, 0, it + 1)) for it in block.values]
+    return CUT.pack(number, block.layer, block.grid, *zooms, has_box, *box, style, *values)
+
+
 def record_near(chance, catalogue, block):
     """A body that may well be a record that the cache can have."""
     number = (chance.choice((0, 1, 1, 2, 3, 40)) << 40) + chance.choice((0, 1, 2, 3, 5, 9, 20, 2**40 - 1))
-    key, kind = spelled_block(block), chance.randrange(1, 6)
+    key, kind, uses = spelled_block(block), chance.randrange(1, 6), chance.choice((0, 1, 2**64 - 1))
     if kind == 1:
         return struct.pack(">BIQ", 1, chance.choice((0, 1, 2, 5, 9, 99, LAST_OPENING - 1, LAST_OPENING, 2**32 - 1)), number)
     if kind == 2:
         length = blob_length(catalogue, block) + chance.choice((0, 0, 0, 0, 1, -1))
-        return struct.pack(">BQ24sQIQQ", 2, number, key, chance.choice((0, 23, 46, 92, catalogue.blob_bytes - length, 2**63)), length, 7, chance.choice((0, 1, 2**64 - 1)))
+        place = chance.choice((0, 23, 46, 92, catalogue.blob_bytes - length, 2**63))
+        return struct.pack(">BQ24sQIQQ", 2, number, key, place, length, 7, uses)
     if kind == 4:
-        box = [chance.choice((0, 10**9, -10**9, 16 * 10**9, FARTHEST, FARTHEST + 1)) for _ in range(4)] if chance.random() < 0.5 else [0] * 4
-        zooms = [chance.choice((0, block.z, block.z + 1)) for _ in range(2)]
-        values = [chance.choice((0, 0, it + 1)) for it in block.values]
-        return b"\4" + CUT.pack(number, block.layer, block.grid, *zooms, chance.choice((int(any(box)), 1)), *box, chance.choice((0, block.style + 1)), *values)
-    return struct.pack(">BQ24s", 3, number, key) if kind == 3 else struct.pack(">BQ24sQ", 5, number, key, chance.choice((0, 1, 2**64 - 1)))
+        return b"\4" + cut_near(chance, number, block)
+    return struct.pack(">BQ24s", 3, number, key) if kind == 3 else struct.pack(">BQ24sQ", 5, number, key, uses)

@@ -1,4 +1,5 @@
-"""JSON objects as `serde_json` reads them: RFC 8259, less than 128 levels deep, no lone surrogate, no number beyond 64 bits of floating point."""
+"""JSON objects as `serde_json` reads them: RFC 8259, less than 128 levels deep, no lone surrogate, no number that floating point of 64
+bits hasn't."""
 import json
 import re
 
@@ -60,7 +61,8 @@ def object_of(data):
     try:
         text = data.decode("utf-8")
         check_depth(text)
-        found = json.loads(text, object_pairs_hook=members, parse_int=whole_number, parse_float=other_number, parse_constant=refuse_constant)
+        numbers = {"parse_int": whole_number, "parse_float": other_number, "parse_constant": refuse_constant}
+        found = json.loads(text, object_pairs_hook=members, **numbers)
     except (ValueError, RecursionError) as error:
         raise NotJson from error
     if not isinstance(found, dict):

@@ -16,7 +16,17 @@ KIND = "attacks"
 TILE = b"GET /rest/wmts/demo/grey/tiny/0/0/0.ppm HTTP/1.1\r\nHost: here\r\n\r\n"
 USAGE = b"GET /usage HTTP/1.1\r\n\r\n"
 POST = b"POST /truncate HTTP/1.1\r\n"
-HELLO = bytes.fromhex("16030100c8010000c40303") + bytes(range(32)) + bytes.fromhex("20") + bytes(range(32, 64)) + bytes.fromhex("0004130113020100")
+HELLO = b"\x16\x03\1\0\xc8\1\0\0\xc4\3\3" + bytes(range(32)) + b"\x20" + bytes(range(32, 64)) + b"\0\4\x13\1\x13\2\1\0"
+LENGTHS = [
+    b"Content-Length: 5\r\nContent-Length: 5\r\n", b"Content-Length: 5\r\ncontent-length: 6\r\n", b"Content-Length: 5, 5\r\n",
+    b"Content-Length: +5\r\n", b"Content-Length:\r\n", b"Content-Length: 5\x0b\r\n", b"Content-Length: 0x5\r\n", b"Content-Length: 5 5\r\n",
+    b"Content-Length: 05\r\n",
+]
+TARGETS = [
+    b"http://here/usage", b"https://here:443/wmts?x", b"*", b"here:80", b"//usage", b"/usage/../usage", b"/.", b"\\usage",
+    b"/usage;x", b"?x", b"#x",
+]
+UPGRADE = b"Connection: Upgrade, HTTP2-Settings\r\nUpgrade: h2c\r\nHTTP2-Settings: AAMAAABkAARAAAAAAAIAAAAA\r\n"
 
 
 def long_heads():
@@ -37,8 +47,7 @@ def long_heads():
 def bodies():
     for size in (0, 1, 65535, 65536, 65537, 10**17, 10**18, 2**64 - 1, 2**64):
         yield f"a body of {size} bytes", POST + b"Content-Length: %d\r\n\r\n" % size + b"x" * min(size, 70_000)
-    for lengths in (b"Content-Length: 5\r\nContent-Length: 5\r\n", b"Content-Length: 5\r\ncontent-length: 6\r\n", b"Content-Length: 5, 5\r\n", b"Content-Length: +5\r\n",
-                    b"Content-Length:\r\n", b"Content-Length: 5\x0b\r\n", b"Content-Length: 0x5\r\n", b"Content-Length: 5 5\r\n", b"Content-Length: 05\r\n"):
+    for lengths in LENGTHS:
         yield f"lengths {lengths!r}", POST + lengths + b"\r\nhello" + USAGE
     for coding in (b"chunked", b"gzip, chunked", b"identity", b"", b"chunked, chunked", b"\x0bchunked", b"xchunked"):
         yield f"the coding {coding!r}", POST + b"Transfer-Encoding: " + coding + b"\r\n\r\n5\r\nhello\r\n0\r\n\r\n" + USAGE
@@ -48,9 +57,9 @@ def bodies():
 def other_protocols():
     yield "HTTP/0.9", b"GET /usage\r\n"
     yield "the preface of HTTP/2", b"PRI * HTTP/2.0\r\n\r\nSM\r\n\r\n" + bytes(9)
-    yield "an upgrade to HTTP/2", b"GET /usage HTTP/1.1\r\nConnection: Upgrade, HTTP2-Settings\r\nUpgrade: h2c\r\nHTTP2-Settings: AAMAAABkAARAAAAAAAIAAAAA\r\n\r\n"
+    yield "an upgrade to HTTP/2", b"GET /usage HTTP/1.1\r\n" + UPGRADE + b"\r\n"
     yield "a TLS hello", HELLO
-    for target in (b"http://here/usage", b"https://here:443/wmts?x", b"*", b"here:80", b"//usage", b"/usage/../usage", b"/.", b"\\usage", b"/usage;x", b"?x", b"#x"):
+    for target in TARGETS:
         for method in (b"GET", b"OPTIONS", b"CONNECT"):
             yield f"the target {target!r} of {method!r}", method + b" " + target + b" HTTP/1.1\r\n\r\n" + USAGE
     yield "no byte", b""
@@ -115,7 +124,7 @@ class Attacks:
             self.fail(name, f"{sum(it != expected for it in told)} of {count} were answered otherwise", sent=data, expected=expected)
 
     def vanish(self, chance, count):
-        """Clients that ask and are gone before the answer, within it, or behind a part of the message; half of them reset the connection."""
+        """Clients that are gone within the message, before the answer or within it; half of them reset the connection."""
         data = TILE * 50
         self.compare("a tile", TILE)
         for _ in range(count):
@@ -172,7 +181,7 @@ class Attacks:
             pass
 
     def hold(self, count):
-        """Clients that rest, that stop within a head, and that ask and don't read, while newcomers are answered; then they are closed in time."""
+        """Clients that rest, that stop within a head, and that ask and don't read: newcomers are answered, and half a head ends in time."""
         links = [self.served.server.connect() for _ in range(count)]
         for at, it in enumerate(links):
             if at % 3:

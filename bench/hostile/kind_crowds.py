@@ -23,7 +23,8 @@ CATALOGUE = TIGHT.replace('"cutLimit":4', '"cutLimit":40')
 HEAD = re.compile(rb"HTTP/1\.1 ([0-9]{3}) [A-Za-z ]+\r\n(?:Content-Type: [a-z/-]+\r\n)?Content-Length: (0|[1-9][0-9]*)\r\n"
                   rb"(?:geowebcache-cache-result: (HIT|MISS)\r\ntile-render: ([1-9][0-9]*)\r\n)?(?:Connection: close\r\n)?\r\n")
 CUT = re.compile(rb'\{"cut":([1-9][0-9]*)\}\n')
-DROPPED = re.compile(rb'\{"within":true\}\n|\{"dropped":\{"layer":"[^"]+","style":"[^"]+","dimensions":\[[^]]*\],"grid":"[^"]+","z":[0-9]+,"row":[0-9]+,"col":[0-9]+\}\}\n')
+DROPPED = re.compile(rb'\{"within":true\}\n|\{"dropped":\{"layer":"[^"]+","style":"[^"]+","dimensions":\[[^]]*\],"grid":"[^"]+",'
+                     rb'"z":[0-9]+,"row":[0-9]+,"col":[0-9]+\}\}\n')
 USAGE = re.compile(rb"(layer [^ ]+ [0-9]+ [0-9]+ ([0-9]+|-)\n){4}total [0-9]+ [0-9]+ ([0-9]+|-)\ncuts [0-9]+\n")
 
 
@@ -101,8 +102,8 @@ def check_cut(crowd, body_sent, head, body):
     try:
         cover = covers.read(crowd.catalogue, body_sent)
     except covers.Fault as fault:
-        demand((head[1], body) == (b"400", b'{"fault":"%s","field":"%s"}\n' % (fault.kind.encode(), fault.field.encode())), "another refusal of a cover")
-        return
+        told = b'{"fault":"%s","field":"%s"}\n' % (fault.kind.encode(), fault.field.encode())
+        return demand((head[1], body) == (b"400", told), "another refusal of a cover")
     if head[1] == b"409":
         return demand(body == b'{"fault":"cuts full"}\n', "another 409")
     told = CUT.fullmatch(body)
@@ -110,6 +111,7 @@ def check_cut(crowd, body_sent, head, body):
     crowd.new_number(int(told[1]))
     with crowd.lock:
         crowd.cuts.append((int(told[1]), cover))
+    return None
 
 
 def check(crowd, known, message, head, body):

@@ -29,8 +29,8 @@ class Base:
         self.images += [of_version_1(self.catalogue, it) for it in self.images[::3]]
 
     def work(self, chance):
-        lines = b"".join(b"0 GET %s\n" % target_for(self.catalogue, address_in(chance, self.catalogue)) for _ in range(chance.choice((2, 8, 20))))
-        self.program.run("schedule", "--kept", data=lines)
+        asked = [address_in(chance, self.catalogue) for _ in range(chance.choice((2, 8, 20)))]
+        self.program.run("schedule", "--kept", data=b"".join(b"0 GET %s\n" % target_for(self.catalogue, it) for it in asked))
         for _ in range(chance.randrange(3)):
             self.program.run("truncate", data=cover_in(chance, self.catalogue))
         if chance.random() < 0.3:
@@ -135,8 +135,9 @@ def steps_for(chance, base, image):
     asked = [target_for(base.catalogue, it) for it in asked] + [sendable(path(chance, base.catalogue)) for _ in range(6)]
     chance.shuffle(asked)
     lines = b"".join(b"0 GET %s\n" % it for it in asked)
-    return [(("usage",), b"", expected_usage), (("schedule", "--kept"), lines, expected_schedule), (("truncate",), valid_cover(chance, base.catalogue), expected_truncate),
-            (("usage",), b"", expected_usage)]
+    usage_step = (("usage",), b"", expected_usage)
+    truncation = (("truncate",), valid_cover(chance, base.catalogue), expected_truncate)
+    return [usage_step, (("schedule", "--kept"), lines, expected_schedule), truncation, usage_step]
 
 
 def one_step(base, words, data, expect):
@@ -152,7 +153,7 @@ def one_step(base, words, data, expect):
         rule = "another answer"
     if not rule and ran.code == 8 and base.disk.read_bytes() != before:
         rule = "a refused file was changed"
-    return ran, rule, dict(file=before, input=data, words=" ".join(words).encode(), expected=repr(expected).encode(), received=repr((ran.output, ran.status)).encode())
+    return ran, rule, {"file": before, "input": data, "words": " ".join(words), "expected": expected, "received": (ran.output, ran.status)}
 
 
 def one_case(tally, chance, number, base):

@@ -24,7 +24,9 @@ class Served:
     def expected(self, data):
         """The answers to the messages of a connection, and what may follow them."""
         messages, stops = messages_of(data)
-        answers = [answer(self.cabinet, CAPABILITIES, it.method, it.target, it.body, it.last or at == SESSION) for at, it in enumerate(messages, 1)]
+        answers = []
+        for at, it in enumerate(messages, 1):
+            answers.append(answer(self.cabinet, CAPABILITIES, it.method, it.target, it.body, it.last or at == SESSION))
         return answers, {response(it, closes=True) if isinstance(it, int) else b"" for it in stops}, stops
 
     def is_right(self, answers, endings, got):
@@ -85,4 +87,4 @@ def run(tally, path, folder, seed, cases):
             served.server.stop()
             served = Served(program)
     served.server.stop()
-    print(f"{KIND}: {cases:,} in {time.monotonic() - begun:.0f} s, {served.early} connections ended by the server behind a good message", flush=True)
+    print(f"{KIND}: {cases:,} in {time.monotonic() - begun:.0f} s, {served.early} ended behind a good message", flush=True)

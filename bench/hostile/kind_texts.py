@@ -41,7 +41,7 @@ def one_catalogue(tally, chance, number, program):
         ran = program.run("schedule", data=data)
         rule = ran.broken_rule((0, 3, 7, 12)) or (None if (ran.output, ran.status) in expected else "another answer")
         if rule:
-            tally.finding("catalogues", number, rule, catalogue=text, input=data, expected=repr(expected).encode(), received=repr((ran.output, ran.status)).encode())
+            tally.finding("catalogues", number, rule, catalogue=text, input=data, expected=expected, received=(ran.output, ran.status))
             break
     tally.count("catalogues", " ".join(status.split()[:2]))
 
@@ -102,7 +102,7 @@ def run_covers(tally, program_path, folder, seed, cases):
             rule = "the same text has another answer"
         tally.count("covers", " ".join(ran.status.split()[:3]) if ran.code else "0")
         if rule:
-            tally.finding("covers", number, rule, cover=text, expected=repr(expected).encode(), received=repr((ran.status, ran.output)).encode())
+            tally.finding("covers", number, rule, cover=text, expected=expected, received=(ran.status, ran.output))
             kept = None
 
 

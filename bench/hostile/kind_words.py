@@ -7,9 +7,15 @@ from mutations import mutated
 from program import Program
 
 KIND = "words"
-ENDS = {(b"schedule",): "0", (b"schedule", b"--kept"): "0", (b"replay",): "0", (b"replay", b"--kept"): "0", (b"make",): "0", (b"expire",): "0", (b"usage",): "0",
-        (b"truncate",): "13 form not json ", (b"--help",): "0", (b"--version",): "0"}
-WORDS = sorted({it for words in ENDS for it in words} | {b"drill", b"1", b"", b"-", b"--", b"-h", b"help", b"--kept=1", b"serve", b"--port", b"\xff", b"\xc3\xa9", b"a" * 5000})
+ENDS = {
+    (b"schedule",): "0", (b"schedule", b"--kept"): "0", (b"replay",): "0", (b"replay", b"--kept"): "0", (b"make",): "0",
+    (b"expire",): "0", (b"usage",): "0", (b"truncate",): "13 form not json ", (b"--help",): "0", (b"--version",): "0",
+}
+OTHERS = {b"drill", b"1", b"", b"-", b"--", b"-h", b"help", b"--kept=1", b"serve", b"--port", b"\xff", b"\xc3\xa9", b"a" * 5000}
+WORDS = sorted({it for words in ENDS for it in words} | OTHERS)
+
+
+NUMBERS = [b"0", b"1", b"007", b"999999999", b"1000000000", b"0000000001", b"", b"-1", b"+1", b"1.0", b"1 ", b"\xd9\xa1", b"x"]
 
 
 def words_in(chance):
@@ -17,7 +23,7 @@ def words_in(chance):
     if way < 0.3:
         return list(chance.choice(sorted(ENDS)))
     if way < 0.5:
-        return [b"drill", chance.choice((b"0", b"1", b"007", b"999999999", b"1000000000", b"0000000001", b"", b"-1", b"+1", b"1.0", b"1 ", b"\xd9\xa1", b"x"))]
+        return [b"drill", chance.choice(NUMBERS)]
     if way < 0.6:
         return [b"serve", chance.choice((b"--port", b"--connections")), chance.choice((b"1", b"0", b"x", b"", b"70000"))]
     return [chance.choice(WORDS) for _ in range(chance.choice((0, 1, 1, 2, 2, 3, 300)))]
@@ -64,5 +70,5 @@ def run(tally, path, folder, seed, cases):
             rule = "no command, and something was written"
         tally.count(KIND, ran.status)
         if rule:
-            tally.finding(KIND, number, rule, words=b"\n".join(words), expected=expected(words).encode(), received=ran.status.encode())
+            tally.finding(KIND, number, rule, words=b"\n".join(words), expected=expected(words), received=ran.status)
     print(f"{KIND}: {cases:,} in {time.monotonic() - begun:.0f} s", flush=True)

@@ -1,8 +1,11 @@
 """Mutations of bytes: flipped, inserted, deleted, repeated, exchanged and cut ones."""
 
-ODD = [b"\0", b"\r", b"\n", b"\r\n", b"\r\n\r\n", b" ", b"\t", b"%", b"%00", b"%zz", b"%2", b"+", b"&", b"=", b";", b"#", b"?", b"/", b"//", b"..", b":",
-       b"\x7f", b"\x80", b"\xff", b"\xc3", b"\xc3\xa9", b"\xed\xa0\x80", b"\xf0\x9f\x97\xba", b"\xef\xbf\xbe", b"\xef\xbb\xbf", b"0", b"-1", b"00", b"9" * 19, b'"', b"<", b"]]>",
-       b"{", b"}", b"[", b"]", b",", b"\\u0000", b"null", b"1e9"]
+ODD = [
+    b"\0", b"\r", b"\n", b"\r\n", b"\r\n\r\n", b" ", b"\t", b"%", b"%00", b"%zz", b"%2", b"+", b"&", b"=", b";", b"#",
+    b"?", b"/", b"//", b"..", b":", b"\x7f", b"\x80", b"\xff", b"\xc3", b"\xc3\xa9", b"\xed\xa0\x80",
+    b"\xf0\x9f\x97\xba", b"\xef\xbf\xbe", b"\xef\xbb\xbf", b"0", b"-1", b"00", b"9" * 19, b'"', b"<", b"]]>", b"{",
+    b"}", b"[", b"]", b",", b"\\u0000", b"null", b"1e9",
+]
 
 
 def place_in(chance, data):

@@ -7,13 +7,14 @@ import time
 # The lines on standard error that a run may end with, by its code.
 KIND, NAME = "(missing|bad|duplicate|limit)", "[A-Z][A-Za-z]*"
 FAULTS = {
-    0: "", 2: "usage\n", 3: rf"catalogue (not json  0|{KIND} {NAME} (0|[1-9][0-9]*))\n", 4: "read fault\n", 5: "write fault\n", 6: "disk fault\n",
-    7: r"line [1-9][0-9]*\n", 8: r"(not a cache|catalogue differs [0-9a-f]{64} [0-9a-f]{64}|bad record (0|[1-9][0-9]*)|openings spent)\n",
-    9: "cuts full\n", 10: "out of memory\n", 11: r"stream (truncated|bad (400|413|431|501)|too many)\n", 12: "too long\n",
-    13: rf"form (not json |(missing|bad|limit) {NAME})\n", 14: "listen fault\n",
+    0: "", 2: "usage\n", 3: rf"catalogue (not json  0|{KIND} {NAME} (0|[1-9][0-9]*))\n", 4: "read fault\n",
+    5: "write fault\n", 6: "disk fault\n", 7: r"line [1-9][0-9]*\n",
+    8: r"(not a cache|catalogue differs [0-9a-f]{64} [0-9a-f]{64}|bad record (0|[1-9][0-9]*)|openings spent)\n",
+    9: "cuts full\n", 10: "out of memory\n", 11: r"stream (truncated|bad (400|413|431|501)|too many)\n",
+    12: "too long\n", 13: rf"form (not json |(missing|bad|limit) {NAME})\n", 14: "listen fault\n",
 }
-FIELDS = set("Source KeptLimit CutLimit BlobBytes Quota Policy Grids Layers GridId Meters Corner Matrices MatrixId MatrixCorner Span Scale Tile Size "
-             "LayerId LayerGrids Styles StyleId Breaks Dimensions DimensionId Values Default Meta Gutter Cell LayerQuota Ages".split())
+FIELDS = set("Source KeptLimit CutLimit BlobBytes Quota Policy Grids Layers GridId Meters Corner Matrices MatrixId MatrixCorner Span Scale "
+             "Tile Size LayerId LayerGrids Styles StyleId Breaks Dimensions DimensionId Values Default Meta Gutter Cell LayerQuota Ages".split())
 COVER_FIELDS = set("Layer Grid ZoomStart ZoomStop Bounds Format Style Dimensions".split())
 
 

@@ -61,6 +61,10 @@ def digits(value):
     return int(value.lstrip(b"0")[:20] or b"0") if re.fullmatch(rb"[0-9]+", value) else None
 
 
+def among(texts):
+    return lambda value: texts.index(value) if value in texts else None
+
+
 def style_of(layer):
     return lambda value: place_of(layer.styles, value) if value else 0
 
@@ -82,7 +86,7 @@ def values_of(values, layer):
         if dimension.name.lower() not in values and dimension.default is not None:
             numbers.append(dimension.default)
         else:
-            numbers.append(checked(values, dimension.name, lambda value, it=dimension: it.values.index(value) if value in it.values else None))
+            numbers.append(checked(values, dimension.name, among(dimension.values)))
     return tuple(numbers + [0] * (4 - len(numbers)))
 
 

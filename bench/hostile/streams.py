@@ -4,17 +4,32 @@ from targets import query, target_in
 from texts import cover_in
 
 METHODS = [b"GET"] * 12 + [b"POST"] * 5 + [b"DELETE", b"HEAD", b"PUT", b"get", b"OPTIONS", b"G!#$%&'*+-.^_`|~9", b"CONNECT", b"PRI", b"Post"]
-FIELDS = [b"Host: here", b"Host:", b"A:b", b"Accept: */*", b"Connection: keep-alive", b"Connection: close", b"connection:CLOSE ", b"Connection: close, te", b"Connection:\t close",
-          b"X-Odd: \xff\x80\xc3", b"Expect: 100-continue", b"X: \t ", b"Upgrade: h2c", b"Content-Type: application/json", b"Cookie: a=b; c=d", b"Range: bytes=0-1"]
-LENGTHS = [b"0", b"00", b"5", b"65536", b"65537", b"1" * 18, b"1" * 19, b"+5", b"-5", b"5,5", b"0x5", b"5 ", b"", b"5 5", b"\xd9\xa5", b"000000000000000005"]
+FIELDS = [
+    b"Host: here", b"Host:", b"A:b", b"Accept: */*", b"Connection: keep-alive", b"Connection: close",
+    b"connection:CLOSE ", b"Connection: close, te", b"Connection:\t close", b"X-Odd: \xff\x80\xc3",
+    b"Expect: 100-continue", b"X: \t ", b"Upgrade: h2c", b"Content-Type: application/json", b"Cookie: a=b; c=d",
+    b"Range: bytes=0-1",
+]
+LENGTHS = [
+    b"0", b"00", b"5", b"65536", b"65537", b"1" * 18, b"1" * 19, b"+5", b"-5", b"5,5", b"0x5", b"5 ", b"", b"5 5",
+    b"\xd9\xa5", b"000000000000000005",
+]
 CODINGS = [b"Transfer-Encoding: chunked", b"transfer-encoding: identity", b"Transfer-Encoding:", b"TRANSFER-ENCODING: gzip, chunked"]
-ODD_FIELDS = [b"no colon", b": no name", b"a b: c", b"a : b", b" folded", b"\tfolded", b"a: b\0c", b"a: b\rc", b"a: b\x7fc", b"\xff: b", b"a(: b"]
-VERSIONS = [b"HTTP/1.1"] * 150 + [b"HTTP/1.0", b"HTTP/1.0", b"HTTP/1.2", b"HTTP/2.0", b"HTTP/0.9", b"http/1.1", b"HTTP/1.10", b"HTTP/1.", b"HTTP/1.1 ", b""]
+ODD_FIELDS = [
+    b"no colon", b": no name", b"a b: c", b"a : b", b" folded", b"\tfolded", b"a: b\0c", b"a: b\rc", b"a: b\x7fc",
+    b"\xff: b", b"a(: b",
+]
+OTHER_VERSIONS = [b"HTTP/1.0", b"HTTP/1.0", b"HTTP/1.2", b"HTTP/2.0", b"HTTP/0.9", b"http/1.1", b"HTTP/1.10", b"HTTP/1.", b"HTTP/1.1 ", b""]
+VERSIONS = [b"HTTP/1.1"] * 150 + OTHER_VERSIONS
 BREAKS = [b"\r\n"] * 200 + [b"\n", b"\n", b"\r", b"\n\r", b"\r\r\n"]
-WHOLES = [b"", b"\r\n", b"\n\n\n", b"GET", b"GET /", b"GET /usage\r\n\r\n", b"GET /usage HTTP/1.1", b"GET  /usage HTTP/1.1\r\n\r\n", b"PRI * HTTP/2.0\r\n\r\nSM\r\n\r\n",
-          b"\x16\x03\x01\x02\x00\x01\x00\x01\xfc\x03\x03" + b"\x5a" * 60, b"\x80\x2e\x01", b"GET /\xc3\xa9 HTTP/1.1\r\n\r\n", b"GET /\xc3 HTTP/1.1\r\n\r\n", b"GET /\xed\xa0",
-          b"GET /\xf0\x9f\x97", b"GET * HTTP/1.1\r\n\r\n", b"OPTIONS * HTTP/1.1\r\n\r\n", b"GET http://here/usage HTTP/1.1\r\n\r\n", b"CONNECT here:80 HTTP/1.1\r\n\r\n",
-          b"SSH-2.0-OpenSSH_9\r\n", b"EHLO here\r\n", b"\0" * 40, b"\xff" * 300, b"\x05\x01\x00", b"*1\r\n$4\r\nPING\r\n"]
+WHOLES = [
+    b"", b"\r\n", b"\n\n\n", b"GET", b"GET /", b"GET /usage\r\n\r\n", b"GET /usage HTTP/1.1",
+    b"GET  /usage HTTP/1.1\r\n\r\n", b"PRI * HTTP/2.0\r\n\r\nSM\r\n\r\n",
+    b"\x16\x03\x01\x02\x00\x01\x00\x01\xfc\x03\x03" + b"\x5a" * 60, b"\x80\x2e\x01", b"GET /\xc3\xa9 HTTP/1.1\r\n\r\n",
+    b"GET /\xc3 HTTP/1.1\r\n\r\n", b"GET /\xed\xa0", b"GET /\xf0\x9f\x97", b"GET * HTTP/1.1\r\n\r\n",
+    b"OPTIONS * HTTP/1.1\r\n\r\n", b"GET http://here/usage HTTP/1.1\r\n\r\n", b"CONNECT here:80 HTTP/1.1\r\n\r\n",
+    b"SSH-2.0-OpenSSH_9\r\n", b"EHLO here\r\n", b"\0" * 40, b"\xff" * 300, b"\x05\x01\x00", b"*1\r\n$4\r\nPING\r\n",
+]
 
 
 def fields_in(chance):
@@ -54,7 +69,8 @@ def message_in(chance, catalogue):
     fields, body = fields_in(chance), b""
     if method == b"POST" or chance.random() < 0.05:
         body = cover_in(chance, catalogue) if chance.random() < 0.9 else b"x" * chance.choice((1, 100, 4096, 65536, 65537))
-        fields.insert(chance.randrange(len(fields) + 1), chance.choice((b"Content-Length: %d", b"content-length:%d", b"CONTENT-LENGTH:\t0%d ")) % len(body))
+        length = chance.choice((b"Content-Length: %d", b"content-length:%d", b"CONTENT-LENGTH:\t0%d "))
+        fields.insert(chance.randrange(len(fields) + 1), length % len(body))
     end = chance.choice(BREAKS)
     head = end.join([b"%s %s %s" % (method, target, chance.choice(VERSIONS)), *fields])
     return (b"\r\n" if chance.random() < 0.03 else b"") + head + end + chance.choice(BREAKS) + body

@@ -4,11 +4,21 @@ import re
 from catalogues import Address
 from mutations import ODD, mutated
 
-TEXTS = [b"", b"0", b"1", b"none", b"grey", b"GREY", b"tiny", b"Tiny", b"a", b"A", b"10", b"-1", b"+1", b"1.0", b"x", b"WMTS", b"default", b"demo ", b" demo"]
-NUMBERS = [b"00", b"000001", b"4294967296", b"18446744073709551616", b"9" * 60, b"0" * 400 + b"1", b"0x1", b"1e1", b"\xd9\xa1", b"%30", b"1 ", b""]
-OTHERS = [b"/", b"*", b"/wmts/", b"/WMTS", b"/wmts", b"/wmts?", b"/wmt", b"/wmtsx", b"//wmts", b"/rest/wmts/", b"/rest/wmts", b"/rest/wmts/WMTSCapabilities.xml",
-          b"/rest/wmts/WMTSCapabilities.xml?x=1", b"/rest/wmts/WMTSCapabilities.xml/", b"/rest/wmts/%57MTSCapabilities.xml", b"/usage", b"/usage?x", b"/usage/", b"/truncate",
-          b"/expire", b"/expire?a=b", b"http://here/wmts", b"wmts", b"/%77mts", b"/usage#x", b"/../usage", b"/favicon.ico"]
+TEXTS = [
+    b"", b"0", b"1", b"none", b"grey", b"GREY", b"tiny", b"Tiny", b"a", b"A", b"10", b"-1", b"+1", b"1.0", b"x",
+    b"WMTS", b"default", b"demo ", b" demo",
+]
+NUMBERS = [
+    b"00", b"000001", b"4294967296", b"18446744073709551616", b"9" * 60, b"0" * 400 + b"1", b"0x1", b"1e1", b"\xd9\xa1",
+    b"%30", b"1 ", b"",
+]
+OTHERS = [
+    b"/", b"*", b"/wmts/", b"/WMTS", b"/wmts", b"/wmts?", b"/wmt", b"/wmtsx", b"//wmts", b"/rest/wmts/", b"/rest/wmts",
+    b"/rest/wmts/WMTSCapabilities.xml", b"/rest/wmts/WMTSCapabilities.xml?x=1", b"/rest/wmts/WMTSCapabilities.xml/",
+    b"/rest/wmts/%57MTSCapabilities.xml", b"/usage", b"/usage?x", b"/usage/", b"/truncate", b"/expire", b"/expire?a=b",
+    b"http://here/wmts", b"wmts", b"/%77mts", b"/usage#x", b"/../usage", b"/favicon.ico",
+]
+ENDINGS = [b"", b".png", b".PPM", b".ppm/", b"%2eppm", b".ppm?a=b", b".ppm.ppm"]
 NAMES = [b"service", b"request", b"version", b"layer", b"style", b"format", b"TileMatrixSet", b"TileMatrix", b"TileRow", b"TileCol"]
 
 
@@ -20,15 +30,16 @@ def address_in(chance, catalogue):
     z = chance.randrange(len(catalogue.grids[grid].matrices))
     matrix = catalogue.grids[grid].matrices[z]
     values = [chance.randrange(len(it.values)) for it in layer.dimensions]
-    style = chance.randrange(len(layer.styles))
-    return Address(number, style, tuple(values + [0] * (4 - len(values))), grid, z, chance.randrange(matrix.rows), chance.randrange(matrix.cols))
+    values, style = tuple(values + [0] * (4 - len(values))), chance.randrange(len(layer.styles))
+    return Address(number, style, values, grid, z, chance.randrange(matrix.rows), chance.randrange(matrix.cols))
 
 
 def names_in(catalogue, address):
     """The texts that a tile is asked for by: layer, style, values, grid, matrix, row and column."""
     layer, grid = catalogue.layers[address.layer], catalogue.grids[address.grid]
     values = [it.values[at] for it, at in zip(layer.dimensions, address.values)]
-    return [layer.name, layer.styles[address.style].name, *values, grid.name, grid.matrices[address.z].name, b"%d" % address.row, b"%d" % address.col]
+    place = b"%d" % address.row, b"%d" % address.col
+    return [layer.name, layer.styles[address.style].name, *values, grid.name, grid.matrices[address.z].name, *place]
 
 
 def pairs_in(catalogue, address):
@@ -105,7 +116,7 @@ def path(chance, catalogue):
             segments[at] = coded(chance, segments[at])
         else:
             segments[at] = other_text(chance, segments[at])
-    text = b"/rest/wmts/" + b"/".join(segments) + (b".ppm" if chance.random() < 0.95 else chance.choice((b"", b".png", b".PPM", b".ppm/", b"%2eppm", b".ppm?a=b", b".ppm.ppm")))
+    text = b"/rest/wmts/" + b"/".join(segments) + (b".ppm" if chance.random() < 0.95 else chance.choice(ENDINGS))
     return mutated(chance, text) if chance.random() < 0.1 else text
 
 

@@ -5,9 +5,14 @@ from catalogues import MANY
 from mutations import mutated
 from targets import address_in, target_in
 
-BOUNDS = ["0", "-20.5", "10.125", "16", "4.000004", "4.000003999", "0.000001", "-0", "100000000", "100000000.1", "1.0000000001", "1e3", "", "-", "1.", ".5", "007.50",
-          "123456789012345678", "1234567890123456789", "0.1234567890123456", " 1", "\u0661"]
+BOUNDS = [
+    "0", "-20.5", "10.125", "16", "4.000004", "4.000003999", "0.000001", "-0", "100000000", "100000000.1",
+    "1.0000000001", "1e3", "", "-", "1.", ".5", "007.50", "123456789012345678", "1234567890123456789",
+    "0.1234567890123456", " 1", "\u0661",
+]
 VALUES = [None, True, -1, 0, 1, 2, 3, 1.0, 1e400, 2**64, "", "grey", "none", [], {}, ["0"], {"time": "a"}, "image/x-portable-pixmap"]
+
+MEMBERS = ["layer", "grid", "zoomStart", "zoomStop", "bounds", "format", "style", "dimensions", "type", "threads", "x"]
 
 
 def box_in(chance):
@@ -22,7 +27,8 @@ def members_in(chance, catalogue):
     address = address_in(chance, catalogue)
     layer, grid = catalogue.layers[address.layer], catalogue.grids[address.grid]
     start = chance.randint(0, address.z)
-    told = {"layer": layer.name.decode(), "grid": grid.name.decode(), "zoomStart": start, "zoomStop": chance.randint(start, len(grid.matrices) - 1)}
+    stop = chance.randint(start, len(grid.matrices) - 1)
+    told = {"layer": layer.name.decode(), "grid": grid.name.decode(), "zoomStart": start, "zoomStop": stop}
     if chance.random() < 0.6:
         told["bounds"] = box_in(chance)
     if chance.random() < 0.2:
@@ -30,7 +36,8 @@ def members_in(chance, catalogue):
     if chance.random() < 0.3:
         told["style"] = layer.styles[address.style].name.decode()
     if chance.random() < 0.4:
-        told["dimensions"] = {it.name.decode(): it.values[at].decode() for it, at in zip(layer.dimensions, address.values) if chance.random() < 0.6}
+        chosen = [it for it in zip(layer.dimensions, address.values) if chance.random() < 0.6]
+        told["dimensions"] = {it.name.decode(): it.values[at].decode() for it, at in chosen}
     return told
 
 
@@ -41,7 +48,7 @@ def cover_in(chance, catalogue):
         if chance.random() < 0.4 and told:
             told.pop(chance.choice(sorted(told)))
         else:
-            told[chance.choice(["layer", "grid", "zoomStart", "zoomStop", "bounds", "format", "style", "dimensions", "type", "threads", "x"])] = chance.choice(VALUES)
+            told[chance.choice(MEMBERS)] = chance.choice(VALUES)
     text = json.dumps(told, separators=chance.choice([(",", ":"), (", ", ": ")])).encode()
     return mutated(chance, text) if chance.random() < 0.15 else text
 
@@ -103,9 +110,17 @@ def places_in(value):
             yield from places_in(it)
 
 
-NUMBERS = [0, 1, 2, 8, 9, 64, 65, 255, 256, 512, 513, 4294967295, 4294967296, 2**40, 2**40 + 1, 2**50, 2**50 + 1, 2**64 - 1, 2**64, -1, 1.5, 1e300, True, None]
-TEXTS = ["", "0", "1/3", "2/6", "1/0", "0/1", "45/64", "9" * 24, "9" * 25, "1." + "1" * 15, "1." + "1" * 16, "-1", "a" * 64, "a" * 65, "tiny", "lfu", "Service", "TILEROW", "a b",
-         "\u00e9", "\ud800", "559082264.0287178", "0.703125", "100000000.000000001", "-0.0"]
+NUMBERS = [
+    0, 1, 2, 8, 9, 64, 65, 255, 256, 512, 513, 4294967295, 4294967296, 2**40, 2**40 + 1, 2**50, 2**50 + 1, 2**64 - 1,
+    2**64, -1, 1.5, 1e300, True, None,
+]
+TEXTS = [
+    "", "0", "1/3", "2/6", "1/0", "0/1", "45/64", "9" * 24, "9" * 25, "1." + "1" * 15, "1." + "1" * 16, "-1", "a" * 64,
+    "a" * 65, "tiny", "lfu", "Service", "TILEROW", "a b", "\u00e9", "\ud800", "559082264.0287178", "0.703125",
+    "100000000.000000001", "-0.0",
+]
+
+OPTIONS = ["ages", "quota", "gutter", "cell", "meta", "span", "scale", "default", "corner", "policy", "source", "metersPerUnit"]
 
 
 def change(chance, told):
@@ -126,6 +141,6 @@ def change(chance, told):
     elif way == 4 and isinstance(place, list):
         place[:] = [place[at]] * chance.choice((0, 5, 31, 33, 65, 257, 1025))
     elif way == 5 and isinstance(place, dict):
-        place[chance.choice(["ages", "quota", "gutter", "cell", "meta", "span", "scale", "default", "corner", "policy", "source", "metersPerUnit"])] = chance.choice(NUMBERS + TEXTS + [[]])
+        place[chance.choice(OPTIONS)] = chance.choice(NUMBERS + TEXTS + [[]])
     else:
         place[at] = chance.choice([[], {}, [1, 2], ["0", "16"], [[0, 10]], [[3, 1], [2, 1]], [0, 1, 2, 3]])
