@@ -6,9 +6,10 @@ import struct
 import threading
 import time
 
+from answers import response
+from catalogues import MANY
 from exchanges import told_by
 from kind_messages import CAPABILITIES, GOOD, Served, statuses_of
-from catalogues import MANY
 from messages import END, TRUNCATED
 from program import Program, read_to_end
 
@@ -110,6 +111,7 @@ class Attacks:
 
     def at_once(self, name, count, data):
         """So many connections at once, each of which is answered."""
+        self.compare("a tile", data)
         expected = b"".join(self.served.expected(data)[0])
         links = [self.served.server.connect() for _ in range(count)]
         for it in links:
@@ -182,6 +184,7 @@ class Attacks:
 
     def hold(self, count):
         """Clients that rest, that stop within a head, and that ask and don't read: newcomers are answered, and half a head ends in time."""
+        self.compare("a tile", TILE)
         links = [self.served.server.connect() for _ in range(count)]
         for at, it in enumerate(links):
             if at % 3:
@@ -190,17 +193,23 @@ class Attacks:
                     it.send(USAGE[:10] if at % 3 == 1 else TILE * 5000)
                 except BlockingIOError:
                     pass
+        begun, odd = time.monotonic(), self.served.server.connect()
+        odd.sendall(b"GET /usage")
         for _ in range(5):
             self.newcomer(f"{count} clients that hold their connections")
-        begun, half = time.monotonic(), links[1]
-        half.setblocking(True)
-        half.settimeout(20)
-        got, how = read_to_end(half)
-        took = time.monotonic() - begun
-        if got or how == "silence" or took > 13:
-            self.fail("half a head", f"ended as {how} after {took:.1f} s", received=got)
-        for it in links:
+        odd.sendall(b"\x01")
+        self.ends_in_time("half a head", links[1], begun, {b""})
+        self.ends_in_time("bytes that are no message, in two pieces without a line's end", odd, begun, {b"", response(400, closes=True)})
+        for it in (*links, odd):
             it.close()
+
+    def ends_in_time(self, name, link, begun, answers):
+        """The server ends the connection, with one of these answers."""
+        link.settimeout(20)
+        got, how = read_to_end(link)
+        took = time.monotonic() - begun
+        if got not in answers or how == "silence" or took > 13:
+            self.fail(name, f"ended as {how} after {took:.1f} s", received=got)
 
 
 def run(tally, path, folder, seed, cases):
