@@ -58,12 +58,17 @@ def good_answer(tally, case, served):
         tally.finding(KIND, case, f"a good message behind it took {took:.1f} s")
 
 
+def needs_end(data, stops):
+    """Whether the answer comes only once the client ends its side: bytes that are no message are looked at again when a line ends."""
+    return bool(stops & {END, TRUNCATED}) or (400 in stops and not data.endswith(b"\n"))
+
+
 def one_case(tally, chance, number, served):
     """Whether the model still has the state of the server."""
     data = stream_in(chance, served.cabinet.catalogue)
     answers, endings, stops = served.expected(data)
     pieces = [chance.randrange(len(data)) for _ in range(chance.choice((0, 0, 0, 0, 0, 0, 0, 1, 2, 5)))] if data else []
-    ends = bool(stops & {END, TRUNCATED}) or bool(pieces) or chance.random() < 0.3
+    ends = needs_end(data, stops) or chance.random() < 0.3
     got, how = told_by(served.server, data, pieces, ends)
     tally.count(KIND, *statuses_of(answers, got))
     if how != "end" or not served.is_right(answers, endings, got):

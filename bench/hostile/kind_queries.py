@@ -49,7 +49,7 @@ def run(tally, path, folder, seed, cases):
     folder.mkdir(parents=True, exist_ok=True)
     (folder / "catalogue.json").write_text(MANY)
     (folder / "capabilities.xml").write_bytes(CAPABILITIES)
-    fresh, begun, closes = Fresh(Program(path, folder)), time.monotonic(), 0
+    fresh, begun = Fresh(Program(path, folder)), time.monotonic()
     for batch in range(-(-cases // BATCH)):
         chance = random.Random(f"{seed} {KIND} {batch}")
         messages, answers = zip(*(case(chance, fresh.cabinet) for _ in range(BATCH)))
@@ -65,4 +65,4 @@ def run(tally, path, folder, seed, cases):
     if closes > sent // 10_000:
         tally.finding(KIND, "all", f"connections were ended {closes} times in {sent} messages")
     fresh.stop()
-    print(f"{KIND}: {cases:,} in {time.monotonic() - begun:.0f} s", flush=True)
+    print(f"{KIND}: {cases:,} in {time.monotonic() - begun:.0f} s, {closes} ended behind a good message", flush=True)
