@@ -65,11 +65,10 @@ def free_port():
 
 
 class Server:
-    """The program serving a cache that it made in its folder."""
+    """The program serving the cache of its folder, which it makes first."""
 
-    def __init__(self, program):
-        made = program.run("make")
-        if made.code:
+    def __init__(self, program, makes=True):
+        if makes and (made := program.run("make")).code:
             raise SystemExit(f"no cache was made: {made.status}")
         self.port = free_port()
         self.process = subprocess.Popen([program.path, "serve", "--port", str(self.port), "--connections", "1000000"], cwd=program.folder,
