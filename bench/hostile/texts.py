@@ -50,7 +50,18 @@ def cover_in(chance, catalogue):
         else:
             told[chance.choice(MEMBERS)] = chance.choice(VALUES)
     text = json.dumps(told, separators=chance.choice([(",", ":"), (", ", ": ")])).encode()
+    if chance.random() < 0.03:
+        text = with_odd_member(chance, text)
     return mutated(chance, text) if chance.random() < 0.15 else text
+
+
+def with_odd_member(chance, text):
+    """An object's text with a member in front that nobody reads: deep, long, or only just JSON."""
+    depth = chance.choice((125, 126, 127, 128, 129, 5000))
+    odd = [b"[" * depth + b"]" * depth, b'{"a":' * depth + b"1" + b"}" * depth, b"[" * depth, b"1e%d" % chance.choice((307, 308, 309, 999)),
+           b"-0", b"1" * chance.choice((19, 20, 21, 308, 309, 310, 5000)), b'"\\ud800"', b'"\\ud83d\\ude00"', b'"\\ude00\\ud83d"', b'"\\u0000"',
+           b'"\0"', b'"\x7f"', b'"\xff"', b"NaN", b"Infinity", b"01", b"1.", b".5", b"+1", b"1e", b"tru", b"[1,]", b"'a'", b'"\\x"', b"0.0e-999"]
+    return b"{" + chance.choice((b'"x"', b'"\\u0078"', b'"\\ud800"', b"x", b'""')) + b":" + chance.choice(odd) + b"," + text[1:]
 
 
 def line_in(chance, catalogue):
@@ -99,6 +110,8 @@ def catalogue_in(chance):
     for _ in range(chance.choice((0, 1, 1, 1, 2, 3))):
         change(chance, told)
     text = json.dumps(told, separators=(",", ":")).encode()
+    if chance.random() < 0.05:
+        text = with_odd_member(chance, text)
     return mutated(chance, text) if chance.random() < 0.3 else text
 
 
