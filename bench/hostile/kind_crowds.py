@@ -98,7 +98,8 @@ def check_tile(crowd, known, address, head, body):
         demand(number > cut or not covers.hits(crowd.catalogue, cover, block), "a tile that is older than a truncation answered before")
 
 
-def check_cut(crowd, body_sent, head, body):
+def check_cut(crowd, known, body_sent, head, body):
+    """Compares an answer to a truncation; where it was made, later messages of this connection know it, and later ones of all others."""
     try:
         cover = covers.read(crowd.catalogue, body_sent)
     except covers.Fault as fault:
@@ -109,8 +110,9 @@ def check_cut(crowd, body_sent, head, body):
     told = CUT.fullmatch(body)
     demand(head[1] == b"200" and told, "another answer to a truncation")
     crowd.new_number(int(told[1]))
+    known.append((int(told[1]), cover))
     with crowd.lock:
-        crowd.cuts.append((int(told[1]), cover))
+        crowd.cuts.append(known[-1])
     return None
 
 
@@ -124,7 +126,7 @@ def check(crowd, known, message, head, body):
     if isinstance(found, Address):
         check_tile(crowd, known, found, head, body)
     elif found == "/truncate":
-        check_cut(crowd, sent, head, body)
+        check_cut(crowd, known, sent, head, body)
     elif found == "/expire":
         demand(head[1] == b"200" and DROPPED.fullmatch(body), "another answer to an expiry")
     elif found == "/usage":

@@ -13,12 +13,11 @@ from runs import scheduled
 from targets import path, sendable
 from texts import catalogue_in, cover_in, schedule_in
 
-
 LARGEST = 4096  # pixels of a tile that the model draws
 
 
 def is_drawn(catalogue):
-    """Whether the model has all of a catalogue: tiles that are small, and no limits of age, which it leaves out."""
+    """Whether all tiles of a catalogue are small enough."""
     return all(it.width * it.height <= LARGEST for grid in catalogue.grids for it in grid.matrices)
 
 
