@@ -201,8 +201,8 @@ def record_near(chance, catalogue, block):
     if kind == 1:
         return struct.pack(">BIQ", 1, chance.choice((0, 1, 2, 5, 9, 99, LAST_OPENING - 1, LAST_OPENING, 2**32 - 1)), number)
     if kind == 2:
-        length = blob_length(catalogue, block) + chance.choice((0, 0, 0, 0, 1, -1))
-        place = chance.choice((0, 23, 46, 92, catalogue.blob_bytes - length, 2**63))
+        length = max(blob_length(catalogue, block) + chance.choice((0, 0, 0, 0, 1, -1)), 0)
+        place = chance.choice((0, 23, 46, 92, max(catalogue.blob_bytes - length, 0), 2**63))
         return struct.pack(">BQ24sQIQQ", 2, number, key, place, length, 7, uses)
     if kind == 4:
         return b"\4" + cut_near(chance, number, block)

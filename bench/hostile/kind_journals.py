@@ -6,6 +6,7 @@ import covers
 from answers import answer, usage
 from catalogues import DEMO, TIGHT, read
 from journal import SLOT, Refusal, length_of, of_version_1, opened, record_near, slots_in
+from pictures import block_of
 from program import Program
 from targets import address_in, names_in, sendable, path
 from texts import cover_in
@@ -70,13 +71,14 @@ def append_record(chance, base, image):
     start = SLOT * (2 + chance.choice((0, 0, 0, 1)) * slots_in(base.catalogue))
     while image[start + 63:start + 64] == b"\1":
         start += SLOT
-    body = record_near(chance, base.catalogue, address_in(chance, base.catalogue))
+    address = address_in(chance, base.catalogue)
+    body = record_near(chance, base.catalogue, block_of(base.catalogue, address) if chance.random() < 0.8 else address)
     image[start:start + SLOT] = body.ljust(63, b"\0") + b"\1"
 
 
 def change_bytes(chance, image, used):
     """A change that knows nothing of slots."""
-    way, at = chance.randrange(6), chance.choice((chance.randrange(len(image)), chance.randrange(used), chance.randrange(130)))
+    way, at = chance.randrange(6), chance.choice((chance.randrange(len(image)), chance.randrange(used), chance.randrange(min(130, used))))
     if way < 2:
         image[at] ^= 1 << chance.randrange(8)
     elif way == 2:
