@@ -1,6 +1,6 @@
 //! A server over connections in memory.
 use crate::door::{Door, HeardLink};
-use crate::stage::{served, sources, supply};
+use crate::stage::{Stage, served, sources, supply};
 use crate::texts::{are_of_one_render, has};
 use http_wire::memory_link::MemoryLink;
 use http_wire::memory_sink::MemorySink;
@@ -42,7 +42,14 @@ fn a_listener_that_gives_too_few(rt: HostRuntime) -> Result<(), Fail> {
     let alloc = rt.alloc();
     let links = vec![in alloc; plain_link(alloc)?, plain_link(alloc)?]?;
     let mut listener = ListOfLinks::new(links);
-    let end = served(&rt, alloc, 3, &mut listener, sources(alloc)?)?;
+    let end = served(
+        &rt,
+        alloc,
+        3,
+        Stage::new(alloc)?,
+        &mut listener,
+        sources(alloc)?,
+    );
     assert_eq!(rt; end, ServerEnd::ListenFault);
     assert_eq!(rt; end.code(), 14);
     Ok(())
@@ -61,7 +68,7 @@ fn serve_two<R: Threads + Wait + Sync>(
         given: Trace::new(),
         faults: 0,
     };
-    served(rt, alloc, 2, &mut door, sources(alloc)?)
+    Ok(served(rt, alloc, 2, Stage::new(alloc)?, &mut door, sources(alloc)?))
 }
 
 #[test]

@@ -52,28 +52,52 @@ pub fn sources(alloc: Global) -> Result<Vec<Numbered>, Fail>
     ]?)
 }
 
-/// Serves so many connections over an empty cache of the built-in catalogue.
+/// What a server of the tests works with: the built-in catalogue, no capabilities document, and an empty cache.
+#[derive(Drop)]
+pub struct Stage {
+    catalogue: MemorySource,
+    capabilities: MemorySource,
+    disk: SilentDisk,
+}
+
+impl Stage {
+    pub fn new(alloc: Global) -> Result<Stage, Fail> {
+        Ok(Stage {
+            catalogue: supply(alloc, b"")?,
+            capabilities: supply(alloc, b"")?,
+            disk: made(alloc)?,
+        })
+    }
+}
+
+/// Serves so many connections on a stage.
 pub fn served<R: Threads + Wait + Sync, S: Source + Send, N: Listener>(
     rt: &R,
     alloc: Global,
     connections: u32,
+    stage: Stage,
     listener: &mut N,
     sources: Vec<S>,
-) -> Result<ServerEnd, Fail>
+) -> ServerEnd
 where
     N::L: Send,
     requires sources { length sources.items ≡ 4 }
     requires connections { (1 ≤ connections) × (connections ≤ 1000000) }
 {
-    Ok(run_server(
+    let Stage {
+        mut catalogue,
+        mut capabilities,
+        disk,
+    } = stage;
+    run_server(
         rt,
         alloc,
         connections,
-        &mut supply(alloc, b"")?,
-        &mut supply(alloc, b"")?,
+        &mut catalogue,
+        &mut capabilities,
         listener,
         sources,
-        made(alloc)?,
+        disk,
         Clock::listed(Vec::new(alloc)),
-    ))
+    )
 }

@@ -8,3 +8,4 @@ pub mod Holding
 pub mod Gathering
 pub mod Telling
 pub mod Passes
+pub mod Untold

@@ -1,8 +1,7 @@
 //! A server, from its files to its last link.
-ghost use Rattle.std.specs.Prelude.{Bool, IsTrue, length, true, ◌≡◌, ◌≤◌};
+ghost use Rattle.std.specs.Prelude.{false, length, ◌≡◌, ◌≤◌};
 ghost use Rattle.tile_command.specs.Command.{HoldsFile};
 ghost use Rattle.tile_service.specs.Outside.{counts};
-ghost use Rattle.tile_serving.specs.Opened.{HoldsPictures, TellAll};
 ghost use Rattle.tile_serving.specs.Served.{HasEnded};
 
 use crate::crew::{Staff, crew_of};
@@ -23,10 +22,9 @@ use std::thread::Threads;
 /// and then four workers serve each link to its end, while quotas are kept and uses are saved. Everything that it needs besides the
 /// sessions is taken before the first link. Each end comes as `HasEnded` says.
 ///
-/// A modelled disk has to hold a file of this program, by the catalogue that is read. The caller may set the mark of being told where the
-/// disk is modelled, each blob that is kept there is the text of its block in the picture of its number, and each source tells that
-/// it makes the pictures of the catalogue's source; the tiles of all sessions are then those of the pictures. Where the system gives no
-/// thread, it may wait for ever.
+/// A modelled disk has to hold a file of this program, by the catalogue that is read. The hall isn't told that the cache is sound. Where
+/// the system gives no thread, it may wait for ever.
+#[tactic(auto, using(crate::proofs::Untold::never))]
 pub fn run_server<
     R: Threads + Wait + Sync,
     S: Source + Send,
@@ -46,11 +44,9 @@ pub fn run_server<
 ) -> ServerEnd
 where
     N::L: Send,
-    ghost told: { Bool }
     requires sources { length sources.items ≡ WORKERS }
     requires connections { (1 ≤ connections) × (connections ≤ 1000000) }
     requires holds { HoldsFile (I.left catalogue.old) (D.told disk) (D.state disk).seen }
-    requires told { told ≡ true → IsTrue (D.told disk) × HoldsPictures (I.left catalogue.old) (D.state disk).seen × TellAll (I.left catalogue.old) S.told sources.items }
     ensures { HasEnded
         (record {
           catalogue = record { reads = counts (I.faults catalogue.old) (I.faults catalogue.new); from = I.left catalogue.old; to = I.left catalogue.new };
@@ -61,7 +57,7 @@ where
           given_before = N.given listener.old;
           given_after = N.given listener.new;
           accepts = counts (N.faults listener.old) (N.faults listener.new);
-          told = told;
+          told = false;
         })
         (record { disk = disk; told = D.told disk; seen = (D.state disk).seen; faults = D.faults })
         (capabilities.new ≡ capabilities.old) (listener.new ≡ listener.old) result }

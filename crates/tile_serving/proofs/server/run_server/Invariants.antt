@@ -1,4 +1,5 @@
+use Rattle.std.specs.Prelude.{false}
 use Rattle.tile_serving.proofs.server.run_server.Given as goal
 
 abbrev pub ghost-made_ready : goal.ghost-made_ready
-ghost-made_ready g a = g.told
+ghost-made_ready g a = false
