@@ -1,6 +1,7 @@
 -- What seats and passes know after the calls.
-use Rattle.std.proofs.Common.{◌≡◌, ◌∙◌, ℕ, ◌+◌, ◌⊎◌, inl, inr, max, Bool, true, List, [], ◌∷◌, ◌++◌, All, length, length-append, sym, refl, ap, subst, arith}
-use Rattle.std.proofs.lemmas.List.Elements.{All-pop, All-push}
+use Rattle.std.proofs.Common.{◌≡◌, ◌∙◌, ℕ, ◌+◌, ◌⊎◌, inl, inr, ⊎_elim, max, Bool, true, List, [], ◌∷◌, ◌++◌, All, length, length-append, sym, refl, ap, subst, arith}
+use Rattle.std.proofs.lemmas.List.Elements.{All-pop, All-push, Contains-append_cases, Contains-append_left, Contains-append_right, Contains-push_cases}
+use Rattle.std.specs.List.{Contains}
 use Rattle.std.specs.Prelude.{Option, Some, None, IfSome}
 use Rattle.atomic_table.specs.declared.shared.Seat.{Seat}
 use Rattle.atomic_table.specs.Table.{Me}
@@ -11,9 +12,11 @@ use Rattle.turnstile.specs.declared.view.Known.{Known}
 use Rattle.turnstile.specs.declared.view.View.{View}
 use Rattle.turnstile.specs.declared.view.Made.{Made}
 use Rattle.turnstile.specs.declared.view.Stage.TheVariants.{Out}
-use Rattle.turnstile.specs.Views.{after_turn, made_of, newcomer, notes}
+use Rattle.turnstile.specs.Line.{AreAmong, AreInLine, IsLine}
+use Rattle.turnstile.specs.Views.{after_turn, made_of, newcomer, notes, turns_in}
 use Rattle.turnstile.specs.Steps.{Found, Gathers, HeardBy}
 use Rattle.turnstile.specs.Passes.{Holding, IsReady, Stays, Turned, Unturned, holding_of, known_by, knows, seen_by}
+use Rattle.turnstile.proofs.Notes.{in_none}
 
 -- who gathered what two knew, and may find a chest: so may each of them
 pub found_mine : {C H : Type 0} (charter : C → H) (sound : C → Type 0) (book : C → FrontedBook) (mine theirs both : Known H) (chest : C) → Gathers mine theirs both → Found charter sound book both chest → Found charter sound book mine chest
@@ -167,6 +170,47 @@ module _ {S C H N : Type 0} where
         subst (λ (p : Holding H N). Found charter sound book (known_by p) chest) same (found_theirs charter sound book (knows s).own (knows t).own h.both chest h.gathers f'),
         found_mine charter sound book (knows s).own (knows t).own h.both chest h.gathers f',
       )
+
+-- TURNS GATHERED
+
+-- what is in a list is its last thing, or before that
+pub last_or_before : {A : Type 0} (xs ys : List A) (a b : A) → xs ≡ ys ++ a ∷ [] → Contains xs b → Contains ys b ⊎ (a ≡ b)
+last_or_before xs ys a b e c = Contains-push_cases ys a b (subst (λ zs. Contains zs b) e c)
+
+module _ {S C H N : Type 0} where
+  -- a seat tells of the turns of its own pass
+  pub tells_own : (s : Seat S (View C H N)) (pass p : Holding H N) → holding_of s ≡ pass → pass ≡ p → AreAmong p.made (turns_in (knows s))
+  tells_own s pass p same e m c = Contains-append_left (knows s).made (knows s).gathered m (subst (λ (h : Holding H N). Contains h.made m) (sym (same ∙ e)) c)
+
+  -- a seat that heard another one tells of the turns of both
+  pub tells_mine : (s t u : Seat S (View C H N)) → HeardBy (knows s) (knows t) (knows u) → AreAmong (turns_in (knows s)) (turns_in (knows u))
+  tells_mine s t u h m c = subst (λ (v : View C H N). Contains (turns_in v) m) (sym h.is)
+      (⊎_elim (λ (a : Contains (knows s).made m). Contains-append_left (knows s).made ((knows s).gathered ++ turns_in (knows t)) m a)
+      (λ (b : Contains (knows s).gathered m). Contains-append_right (knows s).made ((knows s).gathered ++ turns_in (knows t)) m (Contains-append_left (knows s).gathered (turns_in (knows t)) m b))
+      (Contains-append_cases (knows s).made (knows s).gathered m c))
+
+  pub tells_theirs : (s t u : Seat S (View C H N)) → HeardBy (knows s) (knows t) (knows u) → AreAmong (turns_in (knows t)) (turns_in (knows u))
+  tells_theirs s t u h m c = subst (λ (v : View C H N). Contains (turns_in v) m) (sym h.is)
+      (Contains-append_right (knows s).made ((knows s).gathered ++ turns_in (knows t)) m (Contains-append_right (knows s).gathered (turns_in (knows t)) m c))
+
+  -- one pass fewer waits to be heard
+  pub fewer_wait : (s t u : Seat S (View C H N)) (rest left : List (Holding H N)) (pass p : Holding H N) → rest ≡ left ++ pass ∷ [] → holding_of t ≡ pass → HeardBy (knows s) (knows t) (knows u)
+      → Contains rest p ⊎ AreAmong p.made (turns_in (knows s)) → Contains left p ⊎ AreAmong p.made (turns_in (knows u))
+  fewer_wait s t u rest left pass p e same h (inl waits) = ⊎_elim (λ (w : Contains left p). inl w) (λ (is : pass ≡ p). inr (λ m c. tells_theirs s t u h m (tells_own t pass p same is m c))) (last_or_before rest left pass p e waits)
+  fewer_wait s t u rest left pass p e same h (inr told) = inr (λ m c. tells_mine s t u h m (told m c))
+
+  -- the first one is heard, and all others wait
+  pub others_wait : (s : Seat S (View C H N)) (all left : List (Holding H N)) (pass p : Holding H N) → all ≡ left ++ pass ∷ [] → holding_of s ≡ pass → Contains all p → Contains left p ⊎ AreAmong p.made (turns_in (knows s))
+  others_wait s all left pass p e same c = ⊎_elim (λ (w : Contains left p). inl w) (λ (is : pass ≡ p). inr (tells_own s pass p same is)) (last_or_before all left pass p e c)
+
+  -- none waits any more
+  pub none_waits : (s : Seat S (View C H N)) (left : List (Holding H N)) (p : Holding H N) → left ≡ [] → Contains left p ⊎ AreAmong p.made (turns_in (knows s)) → AreAmong p.made (turns_in (knows s))
+  none_waits s left p e (inl waits) = absurd (in_none p (subst (λ ps. Contains ps p) e waits))
+  none_waits s left p e (inr told) = told
+
+-- the turns that a seat tells of stand in one line, and so do those of passes that are among them
+pub line_of : {H N : Type 0} (turns : List (Made N)) (passes : List (Holding H N)) → IsLine turns → ((p : Holding H N) → Contains passes p → AreAmong p.made turns) → AreInLine passes
+line_of turns passes line told p q cp cq m n cm cn = line m n (told p cp m cm) (told q cq n cn)
 
 -- LISTS OF PASSES
 

@@ -1,6 +1,8 @@
 -- Each kind of step keeps the rule of a turnstile, and tells what it tells.
 use Rattle.std.proofs.Common.{◌≡◌, ◌∙◌, ℕ, ◌+◌, ◌-◌, ◌<◌, ◌==◌, ◌≢◌, ◌⊎◌, inl, inr, ⊎_elim, Bool, true, true≢false, List, [], ◌∷◌, ◌++◌, set, get_or, sym, refl, ap, subst, arith, length-set, get_or-set_same}
 use Rattle.std.specs.Prelude.{Some}
+use Rattle.std.proofs.lemmas.List.Elements.{All-append, All-contains, All-contains_itself, All-nil, All-weaker, Contains-append_cases, Contains-append_left, Contains-append_right}
+use Rattle.std.specs.List.{Contains}
 use mathlib.Core.Logic.{dite}
 use mathlib.Core.Option.{none, some, some-injective}
 use native.Mathlib.Decide.{ℕ_discrete}
@@ -14,15 +16,18 @@ use Rattle.truncation_list.specs.Books.{AnswersForFronted}
 use Rattle.truncation_list.proofs.Answering.{fronted_itself, fronted_through}
 use Rattle.turnstile.specs.declared.view.Known.{Known}
 use Rattle.turnstile.specs.declared.view.Lodged.{Lodged}
+use Rattle.turnstile.specs.declared.view.Made.{Made}
 use Rattle.turnstile.specs.declared.view.Opening.{Opening}
 use Rattle.turnstile.specs.declared.view.Stage.TheVariants.{Idle, Out}
 use Rattle.turnstile.specs.declared.view.View.{View}
-use Rattle.turnstile.specs.Views.{Slot, after_turn, first_view, hearing, known_after, known_from, newcomer, notes, one_less, parts_of, spent}
-use Rattle.turnstile.specs.Rule.{Agree, Fits, Holds, Kept, Stands}
+use Rattle.turnstile.specs.Line.{InLine, IsLine}
+use Rattle.turnstile.specs.Views.{Slot, after_turn, first_view, hearing, known_after, known_from, newcomer, notes, one_less, parts_of, spent, turns_in}
+use Rattle.turnstile.specs.Rule.{Agree, Fits, Holds, Kept, Stands, Tells}
 use Rattle.turnstile.specs.Steps.{Found, Gathers, gave, learned, took}
 use Rattle.turnstile.specs.Passes.{MayReturn}
 use Rattle.turnstile.proofs.Seats.{at_one, each_set, inside, one_part, same_load, total_set, two_parts}
-use Rattle.turnstile.proofs.Rules.{AllKnown, holds_all, holds_set, joined_by, knows_heard, knows_own, other_stands, revised, still}
+use Rattle.turnstile.proofs.Rules.{AllKnown, AllTold, holds_all, holds_set, joined_by, knows_heard, knows_own, other_stands, revised, still, tells_all, tells_its, tells_set}
+use Rattle.turnstile.proofs.Notes.{back_of, front_of, notes_are_one, notes_left, notes_found}
 
 module _ {C H N M R X : Type 0} (charter : C → H) (book : C → FrontedBook) (sound : C → Type 0) (shown : C → X) (note : M → R → X → X → N) (total : ℕ) where
   abbrev W : Type 0
@@ -75,7 +80,8 @@ module _ {C H N M R X : Type 0} (charter : C → H) (book : C → FrontedBook) (
           let w : W = record me.0 { stage = Out l.chest } in
           let one = r.one in
           let now_one : get_or (set s.words 0 1) 0 0 ≡ 1 = get_or-set_same s.words 0 1 0 (omega arith) in
-          let old : (k : Known H) → Holds (set s.views id w) k → Holds s.views k = holds_set (Holds s.views) s.views id w (λ lw. (knows_own s.views id me.0 at lw, knows_heard s.views id me.0 at lw)) (λ _ k. k) in (
+          let old : (k : Known H) → Holds (set s.views id w) k → Holds s.views k = holds_set (Holds s.views) s.views id w (λ lw. (knows_own s.views id me.0 at lw, knows_heard s.views id me.0 at lw)) (λ _ k. k) in
+          let old_turn : (m : Made N) → Tells (set s.views id w) m → Tells s.views m = tells_set (Tells s.views) s.views id w (tells_its s.views id me.0 at) (λ _ t. t) in (
             w,
             takes 0 (Some l),
             h.1,
@@ -91,6 +97,8 @@ module _ {C H N M R X : Type 0} (charter : C → H) (book : C → FrontedBook) (
               is_sound = r.is_sound;
               fits = λ k x. r.fits k (old k x);
               agree = λ a b x y. r.agree a b (old a x) (old b y);
+              past = λ m t. r.past m (old_turn m t);
+              line = λ m n t u. r.line m n (old_turn m t) (old_turn n u);
               all = let t = total_set parts_of s.views id me.0 w at in let a = r.all in omega arith;
             },
             ((λ _. (l, refl, found_by r.now r.mark me.0.own l r.is_sound h.2 (r.fits me.0.own (knows_own s.views id me.0 at live)))), (λ ne. absurd (ne e))),
@@ -127,6 +135,8 @@ module _ {C H N M R X : Type 0} (charter : C → H) (book : C → FrontedBook) (
           is_sound = λ t. is_sound (own.told_is ∙ t);
           fits = λ k x. fit k (old k x);
           agree = λ a b x y. agrees a b (old a x) (old b y);
+          past = λ m t. was m (old_turn m t);
+          line = λ m n t u. stand m n (old_turn m t) (old_turn n u);
           all = let t = total_set parts_of s.views id v (leaving v c l) at in let a = r.all in omega arith;
         },
         tells,
@@ -155,6 +165,41 @@ module _ {C H N M R X : Type 0} (charter : C → H) (book : C → FrontedBook) (
       agrees a b (inl e) n = let p = fit b n in inl (subst (λ (k : FrontedBook). AnswersForFronted k b.book) (sym (ap (λ (k : Known H). k.book) e)) p.answers)
       agrees a b (inr h) (inl e) = let p = fit a (inr h) in inr (subst (λ (k : FrontedBook). AnswersForFronted k a.book) (sym (ap (λ (k : Known H). k.book) e)) p.answers)
       agrees a b (inr h) (inr h') = r.agree a b h h'
+
+      -- the notes of this turn
+      gained : List (Made N)
+      gained = notes book shown note c l.chest l.asked.entries l.answered.entries
+
+      NewTurn : Made N → Type 0
+      NewTurn m = Contains gained m ⊎ Tells s.views m
+
+      its : (m : Made N) → Contains (turns_in v) m → Tells s.views m
+      its m among = record { at = id; view = v; there = at; live = live; among = among }
+
+      mine_or_old : (m : Made N) → Contains ((v.made ++ gained) ++ v.gathered) m → NewTurn m
+      mine_or_old m among = ⊎_elim
+          (λ (made : Contains (v.made ++ gained) m). ⊎_elim (λ (old : Contains v.made m). inr (its m (Contains-append_left v.made v.gathered m old))) (λ (new : Contains gained m). inl new) (Contains-append_cases v.made gained m made))
+          (λ (heard : Contains v.gathered m). inr (its m (Contains-append_right v.made v.gathered m heard)))
+          (Contains-append_cases (v.made ++ gained) v.gathered m among)
+
+      old_turn : (m : Made N) → Tells (set s.views id (leaving v c l)) m → NewTurn m
+      old_turn = tells_set NewTurn s.views id (leaving v c l) (λ _. All-weaker (Contains (turns_in (leaving v c l))) NewTurn mine_or_old (turns_in (leaving v c l)) (All-contains_itself (turns_in (leaving v c l)))) (λ _ t. inr t)
+
+      was : (m : Made N) → NewTurn m → AnswersForFronted (book l.chest) m.left
+      was m (inl new) = let e : m.left ≡ book l.chest = All-contains (λ (n : Made N). n.left ≡ book l.chest) gained m (notes_left book shown note c l.chest l.asked.entries l.answered.entries) new in subst (AnswersForFronted (book l.chest)) (sym e) (fronted_itself _)
+      was m (inr t) = fronted_through _ _ _ grows (r.past m t)
+
+      -- what this turn found answers for all that earlier ones left
+      follows : (m n : Made N) → Contains gained m → Tells s.views n → AnswersForFronted m.found n.left
+      follows m n new t =
+          let e : m.found ≡ book c = All-contains (λ (k : Made N). k.found ≡ book c) gained m (notes_found book shown note c l.chest l.asked.entries l.answered.entries) new in
+          subst (λ (k : FrontedBook). AnswersForFronted k n.left) (sym (e ∙ ap book mine.2)) (r.past n t)
+
+      stand : (m n : Made N) → NewTurn m → NewTurn n → InLine m n
+      stand m n (inl new) (inl new') = inr (inr (notes_are_one book shown note c l.chest l.asked.entries l.answered.entries m n new new'))
+      stand m n (inl new) (inr t) = inr (inl (follows m n new t))
+      stand m n (inr t) (inl new) = inl (follows n m new t)
+      stand m n (inr t) (inr t') = r.line m n t t'
 
       tells : gave book shown note st (v, (0, Some l) ∷ []) 0 (leaving v c l, [])
       tells c' l' o' m' =
@@ -187,7 +232,7 @@ module _ {C H N M R X : Type 0} (charter : C → H) (book : C → FrontedBook) (
           → (w : W) × (a : Act (Slot C M R)) × Valid s.homes me.1 a × Rule (stepped s 0 (word s) id me.1 w a) × learned st me (word s) (w, carried_after me.1 a)
       with_known k has gathers =
           let w : W = record me.0 { own = k; heard = k } in
-          (w, keeps, tt, unmoved s id me w (revised charter book sound s total r total id me.0 w at refl (inr refl) (omega arith) (λ _. (has, has))), (k, refl, gathers))
+          (w, keeps, tt, unmoved s id me w (revised charter book sound s total r total id me.0 w at refl (inr refl) (omega arith) (λ _. (has, has)) (tells_its s.views id me.0 at)), (k, refl, gathers))
 
   -- SPLIT
 
@@ -197,11 +242,11 @@ module _ {C H N M R X : Type 0} (charter : C → H) (book : C → FrontedBook) (
       let left : W = record v { parts = n } in
       let p = one_part parts_of s.views id v at in
       let a = r.all in
-      let k = revised charter book sound s total r (total - m) id v left at refl (inl idle) (omega arith) (λ l. (knows_own s.views id v at l, knows_heard s.views id v at l)) in
+      let k = revised charter book sound s total r (total - m) id v left at refl (inl idle) (omega arith) (λ l. (knows_own s.views id v at l, knows_heard s.views id v at l)) (tells_its s.views id v at) in
       let here : get_elem? (set s.views id left) id ≡ some left = set_here s.views id left (inside s.views id v at) in
       let whole : (total - m) + m ≡ total = omega arith in
       subst (λ (t : ℕ). Kept charter book sound t record { words = s.words; homes = s.homes; views = set s.views id left ++ newcomer m v ∷ [] }) whole
-      (joined_by charter book sound record { words = s.words; homes = s.homes; views = set s.views id left } (total - m) k (newcomer m v) refl (λ l. (knows_own (set s.views id left) id left here l, knows_own (set s.views id left) id left here l)))
+      (joined_by charter book sound record { words = s.words; homes = s.homes; views = set s.views id left } (total - m) k (newcomer m v) refl (λ l. (knows_own (set s.views id left) id left here l, knows_own (set s.views id left) id left here l)) (λ _. All-nil (Tells (set s.views id left))))
 
   pub copies : (id : ℕ) (v : W) → v.stage ≡ Idle → Splits Rule id v v (newcomer 0 v)
   copies id v idle = splits id v v.parts 0 idle (omega arith)
@@ -216,8 +261,9 @@ module _ {C H N M R X : Type 0} (charter : C → H) (book : C → FrontedBook) (
   hears_of id v other w live idle live' idle' s r at apart there =
       let b : W = hearing v w in
       let theirs : get_elem? s.views other ≡ some w = sym (set_else s.views id other b apart) ∙ there in
-      let first = revised charter book sound s total r (total + w.parts) id v b at refl (inl idle) (omega arith) (λ l. (knows_own s.views id v at l, knows_own s.views other w theirs live')) in
-      revised charter book sound record { words = s.words; homes = s.homes; views = set s.views id b } (total + w.parts) first total other w spent there (sym idle') (inl idle') (omega arith) (λ l. absurd (true≢false (sym l)))
+      let first = revised charter book sound s total r (total + w.parts) id v b at refl (inl idle) (omega arith) (λ l. (knows_own s.views id v at l, knows_own s.views other w theirs live')) (λ l. All-append (Tells s.views) v.made (v.gathered ++ turns_in w) (front_of (Tells s.views) v.made v.gathered (tells_its s.views id v at l))
+      (All-append (Tells s.views) v.gathered (turns_in w) (back_of (Tells s.views) v.made v.gathered (tells_its s.views id v at l)) (tells_its s.views other w theirs live'))) in
+      revised charter book sound record { words = s.words; homes = s.homes; views = set s.views id b } (total + w.parts) first total other w spent there (sym idle') (inl idle') (omega arith) (λ l. absurd (true≢false (sym l))) (λ l. absurd (true≢false (sym l)))
 
   -- AS THE CALLS ASK FOR THEM: what a step tells does not read the step
 
@@ -250,9 +296,14 @@ module _ {C H N M R : Type 0} (charter : C → H) (book : C → FrontedBook) (so
     is_sound = told;
     fits = λ k h. subst (Fits charter book key.start.chest key.start.told) (sym (alone k h)) record { charter_is = refl; told_is = refl; answers = fronted_itself _ };
     agree = λ a b h h'. inl (subst (λ (x : Known H × Known H). AnswersForFronted x.0.book x.1.book) (λ i. (sym (alone a h) i, sym (alone b h') i)) (fronted_itself _));
+    past = λ m t. absurd (none m t);
+    line = λ m n t u. absurd (none m t);
     all = omega arith;
   }
     where
+      none : (m : Made N) → Tells {C = C} {H = H} (first_view charter book key ∷ []) m → ⊥
+      none = tells_all (λ _. ⊥) (first_view charter book key ∷ []) (λ j u e. subst (AllTold (λ _. ⊥)) (at_one (first_view charter book key) u j e).1 (λ _. All-nil (λ _. ⊥)))
+
       alone : (k : Known H) → Holds {C = C} {N = N} (first_view charter book key ∷ []) k → k ≡ known_from charter book key.start.chest key.start.told
       alone = holds_all (λ k. k ≡ known_from charter book key.start.chest key.start.told) (first_view charter book key ∷ [])
           (λ j u e. subst (AllKnown (λ k. k ≡ known_from charter book key.start.chest key.start.told)) (at_one (first_view charter book key) u j e).1 (λ _. (refl, refl)))
@@ -264,10 +315,13 @@ module _ {C H N M R : Type 0} (charter : C → H) (book : C → FrontedBook) (so
 
   -- the table at the end, with a seat that has all parts
   pub closes : (total id : ℕ) (v : View C H N) (ws : List ℕ) (xs : List (Slot C M R)) → Final (Seen (Kept charter book sound total) id v) ws xs → v.live ≡ true → v.stage ≡ Idle → v.parts ≡ total
-      → (l : Lodged C M R) × (get_elem? xs 0 ≡ some (Some l)) × Found charter sound book v.own l.chest
+      → (l : Lodged C M R) × (get_elem? xs 0 ≡ some (Some l)) × Found charter sound book v.own l.chest × IsLine (turns_in v)
   closes total id v ws xs (s, seen, _, _, back) live idle all_parts = ⊎_elim (λ (z : get_or s.words 0 0 ≡ 0). home z) (λ (z : get_or s.words 0 0 ≡ 1). absurd (none_out z)) seen.0.word
     where
-      home : get_or s.words 0 0 ≡ 0 → (l : Lodged C M R) × (get_elem? xs 0 ≡ some (Some l)) × Found charter sound book v.own l.chest
+      its : (m : Made N) → Contains (turns_in v) m → Tells s.views m
+      its m among = record { at = id; view = v; there = seen.1; live = live; among = among }
+
+      home : get_or s.words 0 0 ≡ 0 → (l : Lodged C M R) × (get_elem? xs 0 ≡ some (Some l)) × Found charter sound book v.own l.chest × IsLine (turns_in v)
       home z =
           let r = seen.0 in
           let h = r.home z in
@@ -279,6 +333,7 @@ module _ {C H N M R : Type 0} (charter : C → H) (book : C → FrontedBook) (so
               is_sound = λ t. subst sound (sym h.2) (r.is_sound (sym p.told_is ∙ t));
               answers = subst (λ (c : C). AnswersForFronted (book c) v.own.book) (sym h.2) p.answers;
             },
+            λ m n c d. r.line m n (its m c) (its n d),
           )
 
       none_out : get_or s.words 0 0 ≡ 1 → ⊥

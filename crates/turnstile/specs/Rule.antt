@@ -2,15 +2,18 @@
 use Rattle.std.specs.Prelude.{◌≡◌, ℕ, ◌+◌, ◌<◌, ◌⊎◌, Bool, true, List, [], ◌∷◌, length, slice_index, Some}
 use mathlib.Core.Option.{some}
 use lib.ListN.{get_elem?}
+use Rattle.std.specs.List.{Contains}
 use Rattle.atomic_table.specs.Table.{State}
 use Rattle.truncation_list.specs.declared.book.FrontedBook.{FrontedBook}
 use Rattle.truncation_list.specs.Books.{AnswersForFronted}
 use Rattle.turnstile.specs.declared.view.Known.{Known}
 use Rattle.turnstile.specs.declared.view.Lodged.{Lodged}
+use Rattle.turnstile.specs.declared.view.Made.{Made}
 use Rattle.turnstile.specs.declared.view.Stage.{Stage}
 use Rattle.turnstile.specs.declared.view.Stage.TheVariants.{Idle, Out}
 use Rattle.turnstile.specs.declared.view.View.{View}
-use Rattle.turnstile.specs.Views.{Slot, parts_of}
+use Rattle.turnstile.specs.Line.{InLine}
+use Rattle.turnstile.specs.Views.{Slot, parts_of, turns_in}
 
 -- the numbers f of the views, added up
 abbrev pub total_of : {V : Type 0} → (V → ℕ) → List V → ℕ
@@ -34,6 +37,14 @@ pub record Holds {C H N : Type 0} (views : List (View C H N)) (known : Known H) 
   pub live : view.live ≡ true
   pub is : (known ≡ view.own) ⊎ (known ≡ view.heard)
 
+-- some view that isn't spent by a join tells of this turn
+pub record Tells {C H N : Type 0} (views : List (View C H N)) (turn : Made N) : Type 0 where
+  pub at : ℕ
+  pub view : View C H N
+  pub there : get_elem? views at ≡ some view
+  pub live : view.live ≡ true
+  pub among : Contains (turns_in view) turn
+
 module _ {C H : Type 0} (charter : C → H) (book : C → FrontedBook) where
   -- what is known has the chest's charter and the one mark, and the chest's book answers for its book
   pub record Fits (now : C) (mark : Bool) (known : Known H) : Type 0 where
@@ -54,4 +65,6 @@ module _ {C H : Type 0} (charter : C → H) (book : C → FrontedBook) where
     pub is_sound : mark ≡ true → sound now
     pub fits : (known : Known H) → Holds s.views known → Fits now mark known
     pub agree : (a b : Known H) → Holds s.views a → Holds s.views b → Agree a.book b.book
+    pub past : (turn : Made N) → Tells s.views turn → AnswersForFronted (book now) turn.left
+    pub line : (m n : Made N) → Tells s.views m → Tells s.views n → InLine m n
     pub all : total_of parts_of s.views ≡ total

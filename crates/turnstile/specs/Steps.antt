@@ -1,5 +1,5 @@
 -- What each step on a turnstile's table tells the seat that takes it.
-use Rattle.std.specs.Prelude.{◌≡◌, ◌≢◌, ℕ, ◌+◌, ◌⊎◌, true, [], ◌∷◌, Some}
+use Rattle.std.specs.Prelude.{◌≡◌, ◌≢◌, ℕ, ◌+◌, ◌⊎◌, true, [], ◌∷◌, ◌++◌, Some}
 use Rattle.atomic_table.specs.Table.{Me, Step}
 use Rattle.truncation_list.specs.declared.book.FrontedBook.{FrontedBook}
 use Rattle.truncation_list.specs.Books.{AnswersForFronted}
@@ -7,7 +7,7 @@ use Rattle.turnstile.specs.declared.view.Known.{Known}
 use Rattle.turnstile.specs.declared.view.Lodged.{Lodged}
 use Rattle.turnstile.specs.declared.view.Stage.TheVariants.{Out}
 use Rattle.turnstile.specs.declared.view.View.{View}
-use Rattle.turnstile.specs.Views.{Slot, known_after, after_turn, notes}
+use Rattle.turnstile.specs.Views.{Slot, known_after, after_turn, notes, turns_in}
 
 -- the chest is one that this was known of: it has the charter, is sound where the mark is set, and its book answers for what was seen
 module _ {C H : Type 0} (charter : C → H) (sound : C → Type 0) (book : C → FrontedBook) where
@@ -44,8 +44,8 @@ module _ {C H N : Type 0} where
   abbrev pub learned : {M R : Type 0} → Step (Slot C M R) → Me (Slot C M R) (View C H N) → ℕ → Me (Slot C M R) (View C H N) → Type 0
   learned step me word after = (both : Known H) × (after ≡ (record me.0 { own = both; heard = both }, me.1)) × Gathers me.0.own me.0.heard both
 
--- a seat that knew v heard another one that knew w, and now knows x: it has the parts of both
+-- a seat that knew v heard another one that knew w, and now knows x: it has the parts of both, and tells of the turns of both
 pub record HeardBy {C H N : Type 0} (v w x : View C H N) : Type 0 where
   pub both : Known H
-  pub is : x ≡ record v { parts = v.parts + w.parts; own = both; heard = both }
+  pub is : x ≡ record v { parts = v.parts + w.parts; own = both; heard = both; gathered = v.gathered ++ turns_in w }
   pub gathers : Gathers v.own w.own both

@@ -20,12 +20,12 @@ module _ {C H : Type 0} (charter : C → H) (book : C → FrontedBook) where
   -- the view of the first seat: it has the parts of all passes
   abbrev pub first_view : {N : Type 0} → Opening C → View C H N
   first_view key =
-      record { live = true; parts = key.passes; own = known_from key.start.chest key.start.told; heard = known_from key.start.chest key.start.told; made = []; stage = Idle }
+      record { live = true; parts = key.passes; own = known_from key.start.chest key.start.told; heard = known_from key.start.chest key.start.told; made = []; gathered = []; stage = Idle }
 
--- what is noted of a turn that found one chest and left another: the note of its command, and the book that it found
+-- what is noted of a turn that found one chest and left another: the note of its command, and both books
 module _ {C N M R X : Type 0} (book : C → FrontedBook) (shown : C → X) (note : M → R → X → X → N) where
   abbrev pub made_of : M → R → C → C → Made N
-  made_of command reply found left = record { note = note command reply (shown found) (shown left); found = book found }
+  made_of command reply found left = record { note = note command reply (shown found) (shown left); found = book found; left = book left }
 
   -- the notes of a turn: one where its command was answered, and none where there was no memory
   abbrev pub notes : C → C → List M → List R → List (Made N)
@@ -48,20 +48,24 @@ module _ {C H N : Type 0} where
 
   abbrev pub after_turn : View C H N → FrontedBook → List (Made N) → View C H N
   after_turn v left gained =
-      record { live = v.live; parts = v.parts; own = known_after v.own left; heard = known_after v.own left; made = v.made ++ gained; stage = Idle }
+      record { live = v.live; parts = v.parts; own = known_after v.own left; heard = known_after v.own left; made = v.made ++ gained; gathered = v.gathered; stage = Idle }
 
   -- a seat that has one part of those of v, and made nothing
   abbrev pub newcomer : ℕ → View C H N → View C H N
-  newcomer parts v = record { live = v.live; parts = parts; own = v.own; heard = v.own; made = []; stage = Idle }
+  newcomer parts v = record { live = v.live; parts = parts; own = v.own; heard = v.own; made = []; gathered = []; stage = Idle }
 
   -- v without one part
   abbrev pub one_less : View C H N → View C H N
   one_less v = record v { parts = v.parts - 1 }
 
-  -- v hears what w knows, and takes over its parts
+  -- all turns that a view tells of
+  abbrev pub turns_in : View C H N → List (Made N)
+  turns_in v = v.made ++ v.gathered
+
+  -- v hears what w knows, and takes over its parts and its turns
   abbrev pub hearing : View C H N → View C H N → View C H N
-  hearing v w = record v { parts = v.parts + w.parts; heard = w.own }
+  hearing v w = record v { parts = v.parts + w.parts; heard = w.own; gathered = v.gathered ++ turns_in w }
 
   -- a seat that was joined into another one
   abbrev pub spent : View C H N
-  spent = record { live = false; parts = 0; own = known_nothing; heard = known_nothing; made = []; stage = Idle }
+  spent = record { live = false; parts = 0; own = known_nothing; heard = known_nothing; made = []; gathered = []; stage = Idle }

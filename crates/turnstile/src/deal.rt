@@ -1,9 +1,11 @@
 //! Passes are dealt out when a turnstile is made, and gathered when it is closed.
 ghost use Rattle.std.specs.Prelude.{◌≡◌, ◌-◌, ◌<◌, ◌≤◌, [], All, IfOk, length};
+ghost use Rattle.std.specs.List.{Contains};
 ghost use Rattle.truncation_list.specs.Books.{last_seen};
-ghost use Rattle.turnstile.specs.Views.{first_view};
+ghost use Rattle.turnstile.specs.Line.{AreAmong};
+ghost use Rattle.turnstile.specs.Views.{first_view, turns_in};
 ghost use Rattle.turnstile.specs.Steps.{Found};
-ghost use Rattle.turnstile.specs.Passes.{IsDealer, IsReady, fresh_pass, known_by, knows};
+ghost use Rattle.turnstile.specs.Passes.{Holding, IsDealer, IsReady, fresh_pass, known_by, knows};
 
 use crate::chest::Chest;
 use crate::gate::Gate;
@@ -66,6 +68,7 @@ pub fn gather<C: Chest>(
     requires some { 0 < length passes.items }
     ensures own { result.table_id ≡ gate.now.table.shared.table_id }
     ensures ready { IsReady (length passes.items) result }
+    ensures turns { (p : Holding C.Charter C.Note) → Contains passes.items p → AreAmong p.made (turns_in (knows result)) }
     ensures known { (chest : C) → Found C.charter C.sound C.book (knows result).own chest → All (λ p. Found C.charter C.sound C.book (known_by p) chest) passes.items }
 {
     let mut rest = passes;

@@ -1,5 +1,6 @@
 //! A turnstile with its passes: how it is made, and how it ends.
 ghost use Rattle.std.specs.Prelude.{◌≡◌, ◌≢◌, ◌<◌, ◌≤◌, Bool, true, All, IfErr, IfOk, length};
+ghost use Rattle.turnstile.specs.Line.{AreInLine};
 ghost use Rattle.turnstile.specs.Steps.{Found};
 ghost use Rattle.turnstile.specs.Passes.{fresh_pass, known_by};
 
@@ -49,12 +50,12 @@ impl<C: Chest + Drop> Turnstile<C> {
 
 impl<C: Chest> Turnstile<C> {
     /// The chest, where all passes are given. It is one of which each of them may know: its book answers for all that
-    /// any of them has seen.
+    /// any of them has seen. All turns that they made stand in one line: of any two the one found all that the other left.
     ///
     /// Where passes are missing, all is handed back.
     pub fn close(self, passes: Vec<Pass<C>>) -> Result<C, Entry<C>>
         requires own { All (λ p. p.table ≡ self.table) passes.items }
-        ensures closed { IfOk result (λ chest. (length passes.items ≡ self.passes) × All (λ p. Found C.charter C.sound C.book (known_by p) chest) passes.items) }
+        ensures closed { IfOk result (λ chest. (length passes.items ≡ self.passes) × All (λ p. Found C.charter C.sound C.book (known_by p) chest) passes.items × AreInLine passes.items) }
         ensures refused { IfErr result (λ e. (length passes.items ≢ self.passes) × (e.turnstile ≡ self) × (e.passes ≡ passes.items)) }
     {
         if passes.len() as u64 != self.gate.passes {

@@ -1,7 +1,8 @@
 //! The moves on the table of a turnstile: take the chest, give it back, hear of another seat, and close.
 ghost use Rattle.std.specs.Prelude.{◌≡◌, ◌+◌, ◌<◌, true, [], ◌∷◌, IfOk, None};
 ghost use Rattle.turnstile.specs.declared.view.Stage.TheVariants.{Idle, Out};
-ghost use Rattle.turnstile.specs.Views.{after_turn, first_view, newcomer, notes, one_less};
+ghost use Rattle.turnstile.specs.Line.{IsLine};
+ghost use Rattle.turnstile.specs.Views.{after_turn, first_view, newcomer, notes, one_less, turns_in};
 ghost use Rattle.turnstile.specs.Steps.{Found, HeardBy};
 ghost use Rattle.turnstile.specs.Passes.{IsReady, MayReturn, knows};
 
@@ -173,7 +174,8 @@ impl<C: Chest> Gate<C> {
     ) -> C
         requires own { seat.table_id ≡ self.table.shared.table_id }
         requires all { IsReady self.passes seat }
-        ensures { Found C.charter C.sound C.book (knows seat).own result }
+        ensures found { Found C.charter C.sound C.book (knows seat).own result }
+        ensures line { IsLine (turns_in (knows seat)) }
     {
         let Gate { table, .. } = self;
         let mut closed = table.close_with(seat);

@@ -26,10 +26,11 @@ pub struct Known<H> {
     pub book: FrontedBook,
 }
 
-/// What a pass keeps of one turn: the note, and the book that the turn found. No value of it is made.
+/// What a pass keeps of one turn: the note, and the books that the turn found and left. No value of it is made.
 pub struct Made<N> {
     pub note: N,
     pub found: FrontedBook,
+    pub left: FrontedBook,
 }
 
 /// Whether a seat has the turn, and then the chest that it found. No value of it is made.
@@ -41,13 +42,15 @@ pub enum Stage<C> {
 /// What a seat knows. No value of it is made.
 ///
 /// A seat is `live` until it is joined into another one. Its `parts` count the passes that it stands for: 1 for each
-/// pass, and 0 for a copy that is made to be told to another pass. What it `heard` is taken in by a later load.
+/// pass, and 0 for a copy that is made to be told to another pass. What it `heard` is taken in by a later load. It `made` turns
+/// itself, and `gathered` those of seats that were joined into it.
 pub struct View<C, H, N> {
     pub live: bool,
     pub parts: u64,
     pub own: Known<H>,
     pub heard: Known<H>,
     pub made: LinkedList<Made<N>>,
+    pub gathered: LinkedList<Made<N>>,
     pub stage: Stage<C>,
 }
 

@@ -1,7 +1,7 @@
-use Rattle.std.proofs.Common.{◌≡◌, ◌∙◌, refl, ap, subst, arith}
+use Rattle.std.proofs.Common.{rules, ◌≡◌, ◌∙◌, [], refl, ap, subst, arith}
 use Rattle.turnstile.specs.Steps.{Found}
 use Rattle.turnstile.specs.Passes.{known_by}
-use Rattle.turnstile.proofs.Held.{found_of_pass, heard_more, one_longer, popped, pushed}
+use Rattle.turnstile.proofs.Held.{fewer_wait, found_of_pass, heard_more, none_waits, one_longer, others_wait, popped, pushed}
 use Rattle.turnstile.proofs.deal.gather.Goals as goal
 
 pub loop-next-init : goal.loop-next-init
@@ -16,6 +16,7 @@ loop-next-init g c =
       table = ap (λ h. h.table) same ∙ p.1;
       ready = record { live = ready.live; parts_is = refl; idle = ready.idle; carries = ready.carries };
       parts = omega arith;
+      turns = λ p at. others_wait c.into_seat-all.result c.args.passes.items c.pop.new.self.items c.in-Some.first p c.in-Some.ensures.items same at;
       known = λ chest f all. pushed (λ p. Found g.C.Chest.charter g.C.Chest.sound g.C.Chest.book (known_by p) chest) c.args.passes.items c.pop.new.self.items c.in-Some.first c.in-Some.ensures.items all
           (subst (λ p. Found g.C.Chest.charter g.C.Chest.sound g.C.Chest.book (known_by p) chest) same f);
     }
@@ -40,8 +41,14 @@ loop-next-preserved g c =
       table = c.hear.ensures.own.0 ∙ inv.table;
       ready = h.0;
       parts = omega arith;
+      turns = λ p at. fewer_wait c.loop-next.all c.into_seat.result c.hear.new.seat c.loop-next.rest.items c.pop-in-loop-next.new.self.items c.in-Some-pop.next p items c.into_seat.ensures.same c.hear.ensures.heard (inv.turns p at);
       known = λ chest f all.
           let both = found_of_pass g.C.Chest.charter g.C.Chest.sound g.C.Chest.book c.loop-next.all c.into_seat.result c.hear.new.seat c.in-Some-pop.next chest c.into_seat.ensures.same c.hear.ensures.heard f in
           inv.known chest both.1
           (pushed (λ p. Found g.C.Chest.charter g.C.Chest.sound g.C.Chest.book (known_by p) chest) c.loop-next.rest.items c.pop-in-loop-next.new.self.items c.in-Some-pop.next items all both.0);
     }
+
+pub returns-clause-turns : goal.returns-clause-turns
+returns-clause-turns g c =
+    let none : c.loop-next.rest.items ≡ [] = search rules in
+    λ p at. none_waits c.loop-next.all c.loop-next.rest.items p none (c.loop-next.invariant.turns p at)

@@ -1,6 +1,9 @@
-use Rattle.std.proofs.Common.{◌≡◌, ◌+◌, All, length, vec_len}
+use Rattle.std.proofs.Common.{◌≡◌, ◌+◌, ◌⊎◌, All, length, vec_len}
+use Rattle.std.specs.List.{Contains}
 use Rattle.turnstile.specs.Steps.{Found}
-use Rattle.turnstile.specs.Passes.{IsReady, known_by, knows}
+use Rattle.turnstile.specs.Line.{AreAmong}
+use Rattle.turnstile.specs.Passes.{Holding, IsReady, known_by, knows}
+use Rattle.turnstile.specs.Views.{turns_in}
 use Rattle.turnstile.proofs.deal.gather.Given as goal
 
 abbrev pub invariant-loop-next : goal.invariant-loop-next
@@ -9,6 +12,7 @@ invariant-loop-next g l = record {
   table : l.all.table_id ≡ l.gate.table.shared.table_id;
   ready : IsReady (knows l.all).parts l.all;
   parts : (knows l.all).parts + length l.rest.items ≡ length l.fn.passes.items;
+  turns : (p : Holding g.row.C-Charter.Denot g.row.C-Note.Denot) → Contains l.fn.passes.items p → Contains l.rest.items p ⊎ AreAmong p.made (turns_in (knows l.all));
   known : (chest : g.row.C.Denot) → Found g.C.Chest.charter g.C.Chest.sound g.C.Chest.book (knows l.all).own chest
       → All (λ p. Found g.C.Chest.charter g.C.Chest.sound g.C.Chest.book (known_by p) chest) l.rest.items
       → All (λ p. Found g.C.Chest.charter g.C.Chest.sound g.C.Chest.book (known_by p) chest) l.fn.passes.items;

@@ -22,10 +22,16 @@ unreachable-requires g c =
     let is = c.in_default.is in
     cc
 
-pub returns : goal.returns
-returns g c =
+pub returns-clause-found : goal.returns-clause-found
+returns-clause-found g c =
     let counted = c.args.self.counted in
     let ready = c.requires.all in
     let e = closes g.C.Chest.charter g.C.Chest.book g.C.Chest.sound _ _ _ _ _ c.close_with-closed.ensures.values.2 ready.live ready.idle (ready.parts_is ∙ sym counted.0) in
     let same : Some e.0 ≡ c.take-slot.result = same_at (slots_items c.close_with-closed.result.slots) 0 _ _ e.1 c.take-slot.ensures.value in
     lodged_is (λ l. Found g.C.Chest.charter g.C.Chest.sound g.C.Chest.book (knows c.args.seat).own l.chest) _ _ (same ∙ c.in-Some.is) e.2
+
+pub returns-clause-line : goal.returns-clause-line
+returns-clause-line g c =
+    let counted = c.args.self.counted in
+    let ready = c.requires.all in
+    (closes g.C.Chest.charter g.C.Chest.book g.C.Chest.sound _ _ _ _ _ c.close_with-closed.ensures.values.2 ready.live ready.idle (ready.parts_is ∙ sym counted.0)).3
