@@ -45,7 +45,7 @@ module _ {C : Type 0} (state : C → State) (faults : C → ℕ) where
   pub one_turn : (table : TableId) (c : Catalogue) (before after : HallPass) (does : Command) (r : Reply) → IsPassOf table c before
       → Turned the_charter the_sound the_book the_shown noted MayReply before after does r → GainsOne c before after does r
   one_turn table c before after does r of t =
-      let m : Made Note = record { note = noted does r (the_shown t.found) (the_shown t.left); found = the_book t.found } in
+      let m : Made Note = record { note = noted does r (the_shown t.found) (the_shown t.left); found = the_book t.found; left = the_book t.left } in
       let book : after.book ≡ the_book t.left = ap (λ (p : HallPass). p.book) t.is in
       let same : the_charter t.found ≡ c = some_same (the_charter t.found) c (sym t.finds.charter_is ∙ of.charter) in
       record {
@@ -53,7 +53,7 @@ module _ {C : Type 0} (state : C → State) (faults : C → ℕ) where
         gains = record {
           is = t.is ∙ ap (λ b. seen_by before b (m ∷ [])) (sym book);
           turns = (
-            record { found = refl; answers = t.finds.answers; reply = subst (λ (d : Catalogue). MayReply d before.told (the_shown t.found) (the_shown t.left) does r) same t.replies },
+            record { found = refl; left = refl; answers = t.finds.answers; reply = subst (λ (d : Catalogue). MayReply d before.told (the_shown t.found) (the_shown t.left) does r) same t.replies },
             subst (λ (b : FrontedBook). AnswersForFronted b (the_book t.left)) (sym book) (fronted_itself (the_book t.left)),
           );
         };
@@ -80,7 +80,7 @@ gains_none c pass = record { is = ap (λ ms. record { table = pass.table; charte
 -- turns of a pass that had seen a book are those of one that had seen less
 older_turns : (c : Catalogue) (told : Bool) (older seen left : FrontedBook) (ms : List (Made Note)) → AnswersForFronted seen older → AreTurns c told seen ms left → AreTurns c told older ms left
 older_turns c told older seen left [] answers turns = fronted_through left seen older turns answers
-older_turns c told older seen left (m ∷ ms) answers turns = (record { found = turns.0.found; answers = fronted_through m.found seen older turns.0.answers answers; reply = turns.0.reply }, turns.1)
+older_turns c told older seen left (m ∷ ms) answers turns = (record { found = turns.0.found; left = turns.0.left; answers = fronted_through m.found seen older turns.0.answers answers; reply = turns.0.reply }, turns.1)
 
 pub turns_more : (c : Catalogue) (told : Bool) (seen between left : FrontedBook) (ms ns : List (Made Note)) → AreTurns c told seen ms between → AreTurns c told between ns left → AreTurns c told seen (ms ++ ns) left
 turns_more c told seen between left [] ns first then = older_turns c told seen between left ns first then

@@ -26,9 +26,10 @@ abbrev pub left_by : Made Note → FrontedBook
 left_by m = fronted (now m.note.after.state)
 
 -- one turn at a cabinet of the catalogue, known to be sound or not, by a pass that had seen this book: it found a book that answers for
--- that one, and its command has a reply that it may have
+-- that one, and its command has a reply that it may have; what is noted of it is the book that it found, and the one that it left
 pub record IsTurn (c : Catalogue) (told : Bool) (seen : FrontedBook) (m : Made Note) : Type 0 where
   pub found : m.found ≡ fronted (now m.note.before.state)
+  pub left : m.left ≡ left_by m
   pub answers : AnswersForFronted m.found seen
   pub reply : MayReply c told m.note.before m.note.after m.note.command m.note.reply
 

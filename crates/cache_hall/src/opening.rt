@@ -3,6 +3,7 @@ ghost use Rattle.std.specs.Prelude.{All, Bool, IfErr, IfOk, length, true, ◌<�
 ghost use Rattle.cabinet.specs.State.{IsSound, fronted, now};
 ghost use Rattle.cache_hall.specs.Opened.{IsFirstPass, Knows};
 ghost use Rattle.cache_hall.specs.Turned.{IsPassOf};
+ghost use Rattle.turnstile.specs.Line.{AreInLine};
 
 use crate::hall::{Hall, HallEntry};
 use bell::Bell;
@@ -45,10 +46,11 @@ impl<K: Keeper> Hall<K> {
     }
 
     /// The cabinet, where all passes are given. It is one of which each of them may know: its book answers for all that any of
-    /// them has seen. Where passes are missing, all is handed back.
+    /// them has seen. All turns that they made stand in one line: of any two, the one found all that the other left. Where passes are
+    /// missing, all is handed back.
     pub fn close(self, passes: Vec<Pass<CabinetChest<K>>>) -> Result<K, HallEntry<K>>
         requires own { All (λ p. p.table ≡ self.turnstile.table) passes.items }
-        ensures closed { IfOk result (λ keeper. (length passes.items ≡ self.turnstile.passes) × All (Knows (K.state keeper)) passes.items) }
+        ensures closed { IfOk result (λ keeper. (length passes.items ≡ self.turnstile.passes) × All (Knows (K.state keeper)) passes.items × AreInLine passes.items) }
         ensures refused { IfErr result (λ e. (length passes.items ≢ self.turnstile.passes) × (e.hall ≡ self) × (e.passes ≡ passes.items)) }
     {
         let Hall {

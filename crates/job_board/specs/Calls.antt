@@ -33,6 +33,7 @@ pub record IsFirstBoardPass (table : TableId) (pass : BoardHolding) : Type 0 whe
 -- one turn, by a pass that had seen this book: it found a board with at least as many jobs, and its command has a reply that it may have
 pub record IsBoardTurn (seen : FrontedBook) (m : Made Note) : Type 0 where
   pub found : m.found ≡ book_of m.note.before
+  pub left : m.left ≡ book_of m.note.after
   pub answers : AnswersForFronted m.found seen
   pub reply : MayReply m.note.before m.note.command m.note.reply m.note.after
 
