@@ -1,28 +1,61 @@
 -- The hands of all workers, gathered in one.
-use Rattle.std.proofs.Common.{◌≡◌, ◌∙◌, ◌<◌, ℕ, ◌+◌, List, [], ◌∷◌, ◌++◌, append_assoc, append-nil, refl, sym, ap, subst, arith}
-use Rattle.std.specs.List.{AllByRecursion}
+use Rattle.std.proofs.Common.{◌≡◌, ◌∙◌, ◌<◌, ℕ, ◌+◌, ⊎_elim, List, [], ◌∷◌, ◌++◌, append_assoc, append-nil, refl, sym, ap, subst, arith}
+use Rattle.std.proofs.lemmas.List.Elements.{Contains-append_cases, Contains-append_left, Contains-push}
+use Rattle.std.specs.List.{AllByRecursion, Contains}
 use Rattle.std.specs.Prelude.{Option}
 use Rattle.atomic_table.specs.Seated.{TableId}
 use Rattle.cache_hall.specs.Turned.{HallPass}
 use Rattle.catalog.specs.declared.catalogue.Catalogue.{Catalogue}
 use Rattle.crossbeam_queue.specs.Passes.{Pass, view}
-use Rattle.tile_serving.specs.Crew.{HasGathered, HasWorked, IsReady}
+use Rattle.tile_serving.specs.Crew.{AreKept, AreServedBy, HasGathered, HasWorked, IsReady}
 use Rattle.tile_serving.specs.Hands.{IsEven, IsHand, hand, with_other}
-use Rattle.tile_serving.specs.Stints.{AreServed, HeldSession, IsStint, Service, links_in, links_of}
+use Rattle.tile_serving.specs.Stints.{AreServed, HeldSession, IsStint, Service, Stint, links_in, links_of, passes_of}
 use Rattle.tile_serving.specs.Weights.{weigh}
 use Rattle.tile_serving.specs.declared.hand.Hand.{Hand}
+use Rattle.turnstile.proofs.Notes.{the_one}
+use Rattle.turnstile.specs.Line.{AreInLine}
+use Rattle.catalog.specs.Valid.{IsValid}
+use Rattle.tile_serving.proofs.Between.{are_newer}
 use Rattle.tile_serving.proofs.Holding.{stint_of}
 use Rattle.tile_serving.proofs.Sums.{weigh-append}
 
+abbrev stint : {L : Type 0} → List (HeldSession L) → HallPass → Stint L
+stint sessions pass = record { sessions = sessions; pass = pass }
+
+-- one stint more, and its pass
+keeps_one : {L : Type 0} (stints : List (Stint L)) (passes : List HallPass) (sessions : List (HeldSession L)) (pass : HallPass) → AreKept stints passes → AreKept (stint sessions pass ∷ stints) (passes ++ pass ∷ [])
+keeps_one stints passes sessions pass kept p c = ⊎_elim
+    (λ (first : Contains (pass ∷ []) p). subst (Contains (passes ++ pass ∷ [])) (the_one pass p first) (Contains-push passes pass))
+    (λ (later : Contains (passes_of stints) p). Contains-append_left passes (pass ∷ []) p (kept p later))
+    (Contains-append_cases (pass ∷ []) (passes_of stints) p c)
+
+-- a pass more
+pub served_with : {L : Type 0} (s : Service L) (links : List L) (passes : List HallPass) (pass : HallPass) → AreServedBy s links passes → AreServedBy s links (passes ++ pass ∷ [])
+served_with s links passes pass by = record { stints = by.stints; held = by.held; each = by.each; kept = λ p c. Contains-append_left passes (pass ∷ []) p (by.kept p c) }
+
+-- all served in one line, where all passes stand in it
+pub served_in_line : {L : Type 0} (s : Service L) (links : List L) (passes : List HallPass) → IsValid s.catalogue → s.first.made ≡ [] → AreServedBy s links passes → AreInLine passes → AreServed s links
+served_in_line s links passes valid none by line = record {
+  stints = by.stints;
+  held = by.held;
+  each = by.each;
+  line = stand;
+  newer = are_newer s by.stints valid none by.held stand;
+}
+  where
+    stand : AreInLine (passes_of by.stints)
+    stand p q cp cq m n cm cn = line p q (by.kept p cp) (by.kept q cq) m n cm cn
+
 module _ {L : Type 0} (s : Service L) where
-  pub gathers_none : (pass : HallPass) (renders : ℕ) (mine : Pass L (Hand L)) → HasWorked s (hand 1 [] []) pass renders mine → HasGathered s 1 pass renders mine
-  gathers_none pass renders mine w = record { stints = []; held = tt; last = w }
+  pub gathers_none : (pass : HallPass) (renders : ℕ) (mine : Pass L (Hand L)) → HasWorked s (hand 1 [] []) pass renders mine → HasGathered s 1 pass renders mine []
+  gathers_none pass renders mine w = record { stints = []; held = tt; last = w; kept = λ p c. c }
 
   -- one worker more
-  pub gathers_one : (parts : ℕ) (pass other_pass : HallPass) (renders other_renders : ℕ) (mine other later : Pass L (Hand L)) → HasGathered s parts pass renders mine → HasWorked s (hand 1 [] []) other_pass other_renders other
-      → view later ≡ with_other (view mine) (view other) → HasGathered s (parts + 1) pass renders later
-  gathers_one parts pass other_pass renders other_renders mine other later g w took = record {
-    stints = w.sessions ∷ g.stints;
+  pub gathers_one : (parts : ℕ) (pass other_pass : HallPass) (renders other_renders : ℕ) (mine other later : Pass L (Hand L)) (passes : List HallPass) → HasGathered s parts pass renders mine passes → HasWorked s (hand 1 [] []) other_pass other_renders other
+      → view later ≡ with_other (view mine) (view other) → HasGathered s (parts + 1) pass renders later (passes ++ other_pass ∷ [])
+  gathers_one parts pass other_pass renders other_renders mine other later passes g w took = record {
+    stints = stint w.sessions other_pass ∷ g.stints;
+    kept = keeps_one g.stints passes w.sessions other_pass g.kept;
     held = (stint_of s (hand 1 [] []) other_pass other_renders other w, g.held);
     last = record {
       sessions = g.last.sessions;
@@ -33,9 +66,9 @@ module _ {L : Type 0} (s : Service L) where
   }
 
   -- and the hand that put the links: it has taken none
-  pub gathers_put : (parts more : ℕ) (put : List L) (pass : HallPass) (renders : ℕ) (mine other later : Pass L (Hand L)) (g : HasGathered s parts pass renders mine) → view other ≡ hand more put [] → view later ≡ with_other (view mine) (view other)
+  pub gathers_put : (parts more : ℕ) (put : List L) (pass : HallPass) (renders : ℕ) (mine other later : Pass L (Hand L)) (passes : List HallPass) (g : HasGathered s parts pass renders mine passes) → view other ≡ hand more put [] → view later ≡ with_other (view mine) (view other)
       → HasWorked s (hand (parts + more) put (links_in g.stints)) pass renders later
-  gathers_put parts more put pass renders mine other later g puts took = record {
+  gathers_put parts more put pass renders mine other later passes g puts took = record {
     sessions = g.last.sessions;
     renders_before = g.last.renders_before;
     held = g.last.held;
@@ -43,10 +76,11 @@ module _ {L : Type 0} (s : Service L) where
   }
 
   -- who is alone at the queue and has taken what was put has served all of it, with the others
-  pub all_served : (parts : ℕ) (put : List L) (stints : List (List (HeldSession L))) (pass : HallPass) (renders : ℕ) (mine : Pass L (Hand L)) → AllByRecursion (IsStint s) stints → HasWorked s (hand parts put (links_in stints)) pass renders mine → IsEven (view mine)
-      → AreServed s put
-  all_served parts put stints pass renders mine held w even = record {
-    stints = w.sessions ∷ stints;
+  pub all_served : (parts : ℕ) (put : List L) (stints : List (Stint L)) (pass : HallPass) (renders : ℕ) (mine : Pass L (Hand L)) (passes : List HallPass) → AllByRecursion (IsStint s) stints → AreKept stints passes
+      → HasWorked s (hand parts put (links_in stints)) pass renders mine → IsEven (view mine) → AreServedBy s put (passes ++ pass ∷ [])
+  all_served parts put stints pass renders mine passes held kept w even = record {
+    stints = stint w.sessions pass ∷ stints;
+    kept = keeps_one stints passes w.sessions pass kept;
     held = (stint_of s (hand parts put (links_in stints)) pass renders mine w, held);
     each = λ f.
         let had = ap (λ (v : Hand L). weigh f v.put) w.took in
@@ -56,24 +90,24 @@ module _ {L : Type 0} (s : Service L) where
   }
 
   -- of so many others as there were, so many are left
-  pub record Gather (all left : ℕ) (pass : HallPass) (renders : ℕ) (mine : Pass L (Hand L)) : Type 0 where
+  pub record Gather (all left : ℕ) (pass : HallPass) (renders : ℕ) (mine : Pass L (Hand L)) (passes : List HallPass) : Type 0 where
     pub gone : ℕ
     pub each : gone + left ≡ all
-    pub gathered : HasGathered s (1 + gone) pass renders mine
+    pub gathered : HasGathered s (1 + gone) pass renders mine passes
 
-  pub gather_begins : (all : ℕ) (pass : HallPass) (renders : ℕ) (mine : Pass L (Hand L)) → HasWorked s (hand 1 [] []) pass renders mine → Gather all all pass renders mine
+  pub gather_begins : (all : ℕ) (pass : HallPass) (renders : ℕ) (mine : Pass L (Hand L)) → HasWorked s (hand 1 [] []) pass renders mine → Gather all all pass renders mine []
   gather_begins all pass renders mine w = record { gone = 0; each = omega arith; gathered = gathers_none pass renders mine w }
 
-  pub gather_goes_on : (all left next : ℕ) (pass other_pass : HallPass) (renders other_renders : ℕ) (mine other later : Pass L (Hand L)) → left ≡ next + 1 → Gather all left pass renders mine → HasWorked s (hand 1 [] []) other_pass other_renders other
-      → view later ≡ with_other (view mine) (view other) → Gather all next pass renders later
-  gather_goes_on all left next pass other_pass renders other_renders mine other later e g w took = record {
+  pub gather_goes_on : (all left next : ℕ) (pass other_pass : HallPass) (renders other_renders : ℕ) (mine other later : Pass L (Hand L)) (passes : List HallPass) → left ≡ next + 1 → Gather all left pass renders mine passes → HasWorked s (hand 1 [] []) other_pass other_renders other
+      → view later ≡ with_other (view mine) (view other) → Gather all next pass renders later (passes ++ other_pass ∷ [])
+  gather_goes_on all left next pass other_pass renders other_renders mine other later passes e g w took = record {
     gone = g.gone + 1;
     each = omega (arith, e, g.each);
-    gathered = subst (λ n. HasGathered s n pass renders later) (omega arith) (gathers_one (1 + g.gone) pass other_pass renders other_renders mine other later g.gathered w took);
+    gathered = subst (λ n. HasGathered s n pass renders later (passes ++ other_pass ∷ [])) (omega arith) (gathers_one (1 + g.gone) pass other_pass renders other_renders mine other later passes g.gathered w took);
   }
 
-  pub gather_ends : (all left : ℕ) (pass : HallPass) (renders : ℕ) (mine : Pass L (Hand L)) → left ≡ 0 → Gather all left pass renders mine → HasGathered s (1 + all) pass renders mine
-  gather_ends all left pass renders mine none g = subst (λ n. HasGathered s n pass renders mine) (omega (arith, none, g.each)) g.gathered
+  pub gather_ends : (all left : ℕ) (pass : HallPass) (renders : ℕ) (mine : Pass L (Hand L)) (passes : List HallPass) → left ≡ 0 → Gather all left pass renders mine passes → HasGathered s (1 + all) pass renders mine passes
+  gather_ends all left pass renders mine passes none g = subst (λ n. HasGathered s n pass renders mine passes) (omega (arith, none, g.each)) g.gathered
 
 -- a worker that has taken over another hand may serve
 pub ready_with : {L : Type 0} (queue table : TableId) (c : Catalogue) (tells : Option ℕ) (pass : HallPass) (mine other later : Pass L (Hand L)) → IsReady queue table c tells pass mine → IsHand queue (with_other (view mine) (view other)) later

@@ -33,8 +33,8 @@ module _ {L : Type 0} (s : Service L) where
   new_has_worked queue tells pass renders mine new = record { sessions = []; renders_before = renders; held = (new.pass_is, refl); took = new.hand_is.knows }
 
   -- what a worker held from its first hand on is a stint
-  pub stint_of : (before : Hand L) (pass : HallPass) (renders : ℕ) (mine : Pass L (Hand L)) (w : HasWorked s before pass renders mine) → IsStint s w.sessions
-  stint_of before pass renders mine w = record { renders_before = w.renders_before; pass_after = pass; renders_after = renders; held = w.held }
+  pub stint_of : (before : Hand L) (pass : HallPass) (renders : ℕ) (mine : Pass L (Hand L)) (w : HasWorked s before pass renders mine) → IsStint s (record { sessions = w.sessions; pass = pass })
+  stint_of before pass renders mine w = record { renders_before = w.renders_before; renders_after = renders; held = w.held }
 
   -- a new worker may serve
   pub new_is_ready : (queue : TableId) (tells : Option ℕ) (pass : HallPass) (mine : Pass L (Hand L)) → s.first.charter ≡ Some s.catalogue → IsNew queue s tells pass mine → IsReady queue s.first.table s.catalogue tells pass mine

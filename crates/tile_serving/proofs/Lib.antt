@@ -5,6 +5,7 @@ pub mod Sums
 pub mod Balance
 pub mod Arrivals
 pub mod Holding
+pub mod Between
 pub mod Gathering
 pub mod Telling
 pub mod Passes

@@ -1,14 +1,15 @@
 -- The workers of a server.
 -- A tie between the code and its definitions: the promise can be read without it.
 use Rattle.std.specs.Prelude.{ℕ, ◌≡◌, ◌<◌, ◌++◌, Bool, true, List, [], length, MatchBool, Option, Some}
-use Rattle.std.specs.List.{AllByRecursion}
+use Rattle.std.specs.List.{AllByRecursion, Contains}
 use Rattle.atomic_table.specs.Seated.{TableId}
 use Rattle.cache_hall.specs.Turned.{HallPass, IsPassOf}
 use Rattle.catalog.specs.declared.catalogue.Catalogue.{Catalogue}
 use Rattle.causes.specs.Causes.{Rose}
 use Rattle.crossbeam_queue.specs.Passes.{Pass, view}
 use Rattle.tile_serving.specs.Hands.{IsHand, hand}
-use Rattle.tile_serving.specs.Stints.{AreHeld, AreServed, HeldSession, IsStint, Service, links_in, links_of}
+use Rattle.tile_serving.specs.Stints.{AreHeld, HeldSession, IsStint, Service, Stint, links_in, links_of, passes_of}
+use Rattle.tile_serving.specs.Weights.{WeighAlike}
 use Rattle.tile_serving.specs.declared.hand.Hand.{Hand}
 
 -- a worker of this queue and of this turnstile may serve: where its pass is told, its source tells the catalogue's number
@@ -31,15 +32,29 @@ pub record HasWorked {L : Type 0} (s : Service L) (before : Hand L) (pass : Hall
   pub held : AreHeld s s.first renders_before sessions pass renders
   pub took : view mine ≡ hand before.parts before.put (before.taken ++ links_of sessions)
 
--- the worker has taken over the hands of others, and with them the links of the stints that those held; its hand has so many parts
-pub record HasGathered {L : Type 0} (s : Service L) (parts : ℕ) (pass : HallPass) (renders : ℕ) (mine : Pass L (Hand L)) : Type 0 where
-  pub stints : List (List (HeldSession L))
+-- the passes that these stints left are among those
+abbrev pub AreKept : {L : Type 0} → List (Stint L) → List HallPass → Type 0
+AreKept stints passes = (p : HallPass) → Contains (passes_of stints) p → Contains passes p
+
+-- the worker has taken over the hands of others, and with them the links of the stints that those held; its hand has so many parts, and
+-- the passes of the others are among these
+pub record HasGathered {L : Type 0} (s : Service L) (parts : ℕ) (pass : HallPass) (renders : ℕ) (mine : Pass L (Hand L)) (passes : List HallPass) : Type 0 where
+  pub stints : List (Stint L)
   pub held : AllByRecursion (IsStint s) stints
   pub last : HasWorked s (hand parts [] (links_in stints)) pass renders mine
+  pub kept : AreKept stints passes
 
--- so many links were asked for; the listener gave these, each of which was served; and where it gave fewer, an accept had failed
-pub record HasServedLinks {L : Type 0} (s : Service L) (asked : ℕ) (given_before given_after : List L) (faults_before faults_after : ℕ) (all : Bool) : Type 0 where
+-- each of these links was served in one session of one stint, whose passes are among these
+pub record AreServedBy {L : Type 0} (s : Service L) (links : List L) (passes : List HallPass) : Type 0 where
+  pub stints : List (Stint L)
+  pub held : AllByRecursion (IsStint s) stints
+  pub each : WeighAlike links (links_in stints)
+  pub kept : AreKept stints passes
+
+-- so many links were asked for; the listener gave these, each of which was served, by passes that are among these; and where it gave
+-- fewer, an accept had failed
+pub record HasServedLinks {L : Type 0} (s : Service L) (asked : ℕ) (given_before given_after : List L) (faults_before faults_after : ℕ) (passes : List HallPass) (all : Bool) : Type 0 where
   pub links : List L
   pub given : given_after ≡ given_before ++ links
-  pub served : AreServed s links
+  pub served : AreServedBy s links passes
   pub each : MatchBool all (length links ≡ asked) (Rose faults_before faults_after)

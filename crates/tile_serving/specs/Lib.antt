@@ -1,5 +1,6 @@
 pub mod Ends
 pub mod Weights
+pub mod Between
 pub mod Stints
 pub mod Opened
 pub mod Hands

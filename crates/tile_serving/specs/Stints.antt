@@ -6,6 +6,8 @@ use Rattle.cache_hall.specs.Turned.{HallPass}
 use Rattle.hall_sessions.specs.Sessions.{HasHallSession, output_of}
 use Rattle.tile_service.specs.Outside.{FaultCounts, counts}
 use Rattle.tile_service.specs.declared.session.SessionEnd.{SessionEnd}
+use Rattle.turnstile.specs.Line.{AreInLine}
+use Rattle.tile_serving.specs.Between.{AreNewer}
 use Rattle.tile_serving.specs.Weights.{WeighAlike}
 
 -- how contracts read a link: the bytes that are left to take of it and those that it has taken, where these are modelled, and how often a
@@ -28,8 +30,16 @@ pub record HeldSession (L : Type 0) : Type 0 where
 abbrev pub links_of : {L : Type 0} → List (HeldSession L) → List L
 links_of sessions = map (λ h. h.link) sessions
 
-abbrev pub links_in : {L : Type 0} → List (List (HeldSession L)) → List L
-links_in stints = flat_map links_of stints
+-- all that one worker held, one session after the other, and the pass that the last of them left
+pub record Stint (L : Type 0) : Type 0 where
+  pub sessions : List (HeldSession L)
+  pub pass : HallPass
+
+abbrev pub links_in : {L : Type 0} → List (Stint L) → List L
+links_in stints = flat_map (λ t. links_of t.sessions) stints
+
+abbrev pub passes_of : {L : Type 0} → List (Stint L) → List HallPass
+passes_of stints = map (λ t. t.pass) stints
 
 -- what is served: how its links are read, the capabilities document, the catalogue, and a pass of its hall that has made nothing yet
 pub record Service (L : Type 0) : Type 0 where
@@ -53,15 +63,17 @@ module _ {L : Type 0} (s : Service L) where
   AreHeld pass renders [] pass_after renders_after = (pass_after ≡ pass) × (renders_after ≡ renders)
   AreHeld pass renders (h ∷ hs) pass_after renders_after = (h.pass ≡ pass) × (h.renders.before ≡ renders) × IsHeld h × AreHeld h.pass_after h.renders.after hs pass_after renders_after
 
-  -- all that one worker held, from the first of them by a pass that had made nothing
-  pub record IsStint (sessions : List (HeldSession L)) : Type 0 where
+  -- the first of the sessions was held by a pass that had made nothing
+  pub record IsStint (t : Stint L) : Type 0 where
     pub renders_before : ℕ
-    pub pass_after : HallPass
     pub renders_after : ℕ
-    pub held : AreHeld s.first renders_before sessions pass_after renders_after
+    pub held : AreHeld s.first renders_before t.sessions t.pass renders_after
 
-  -- each of these links was served in one session of one stint, to its end
+  -- Each of these links was served in one session of one stint, to its end. The turns of all stints stand in one line: of any two, the one
+  -- found all that the other left. So a tile that was asked for after a truncation, on whichever links, is newer.
   pub record AreServed (links : List L) : Type 0 where
-    pub stints : List (List (HeldSession L))
+    pub stints : List (Stint L)
     pub held : AllByRecursion IsStint stints
     pub each : WeighAlike links (links_in stints)
+    pub line : AreInLine (passes_of stints)
+    pub newer : AreNewer s.catalogue (passes_of stints)

@@ -1,5 +1,5 @@
 //! Who works for a server.
-ghost use Rattle.std.specs.Prelude.{All, IfOk, length, true, [], ◌+◌, ◌-◌, ◌<◌, ◌≡◌};
+ghost use Rattle.std.specs.Prelude.{All, IfOk, length, true, vec_capacity, [], ◌+◌, ◌-◌, ◌<◌, ◌≡◌, ◌≤◌};
 ghost use Rattle.std.specs.declared.option.Option.TheVariants.{Some};
 ghost use Rattle.tile_serving.specs.Crew.{IsNew};
 ghost use Rattle.tile_serving.specs.Hands.{IsHand, all_parts, hand, table_of};
@@ -35,23 +35,25 @@ pub(crate) struct Staff<K: Keeper, S: Source, L: Link> {
     pub(crate) acceptor: LinkHand<L>,
 }
 
-/// A crew: a worker for each source, with a hand at the queue, and the upkeep. `AllocError` where memory runs out.
+/// A crew: a worker for each source, with a hand at the queue, and the upkeep. The passes are taken out of their list, which keeps its
+/// room for them. `AllocError` where memory runs out.
 pub(crate) fn crew_of<K: Keeper, S: Source, L: Link>(
     alloc: Global,
     queue: &LinkQueue<L>,
     mine: &mut LinkHand<L>,
     sources: Vec<S>,
-    passes: Vec<Pass<CabinetChest<K>>>,
+    passes: &mut Vec<Pass<CabinetChest<K>>>,
 ) -> Result<Crew<K, S, L>, AllocError>
-    requires each { length passes.items ≡ length sources.items + 1 }
+    requires each { length passes.old.items ≡ length sources.items + 1 }
     requires few { length sources.items < all_parts }
     requires mine { IsHand (table_of queue.now.links) (hand all_parts [] []) mine.old }
     ensures mine { IfOk result (λ crew. IsHand (table_of queue.now.links) (hand (all_parts - length sources.items) [] []) mine.new) }
     ensures each { IfOk result (λ crew. length crew.workers.items ≡ length sources.items) }
-    ensures new { (s : Service L) → All (λ p. p ≡ s.first) passes.items → All (λ x. s.first.told ≡ true → S.told x ≡ Some s.catalogue.source) sources.items
+    ensures empty { IfOk result (λ crew. passes.new.items ≡ []) }
+    ensures room { length passes.old.items ≤ vec_capacity passes.new }
+    ensures new { (s : Service L) → All (λ p. p ≡ s.first) passes.old.items → All (λ x. s.first.told ≡ true → S.told x ≡ Some s.catalogue.source) sources.items
         → IfOk result (λ crew. All (λ w. IsNew (table_of queue.now.links) s (S.told w.source) w.pass w.hand) crew.workers.items × (crew.upkeep ≡ s.first)) }
 {
-    let mut passes = passes;
     let mut sources = sources;
     let mut workers = Vec::new(alloc);
     while let Some(source) = sources.pop() {

@@ -6,9 +6,10 @@ ghost use Rattle.tile_serving.specs.Opened.{HoldsPictures, TellAll};
 ghost use Rattle.tile_serving.specs.Served.{HasEnded};
 
 use crate::crew::{Staff, crew_of};
+use crate::ending::close;
 use crate::ends::ServerEnd;
 use crate::queue::LinkQueue;
-use crate::serving::{WORKERS, serve_links};
+use crate::serving::{Served, WORKERS, serve_links};
 use crate::setup::{Stage, made_ready};
 use clock::clock::Clock;
 use disk_model::disk::Disk;
@@ -66,18 +67,21 @@ where
         (record { disk = disk; told = D.told disk; seen = (D.state disk).seen; faults = D.faults })
         (capabilities.new ≡ capabilities.old) (listener.new ≡ listener.old) result }
 {
-    let Stage { world, passes } = match made_ready(alloc, catalogue, capabilities, clock, disk) {
+    let Stage { world, mut passes } = match made_ready(alloc, catalogue, capabilities, clock, disk) {
         Ok(stage) => stage,
         Err(end) => return end,
     };
     let Ok((queue, mut acceptor)) = LinkQueue::new(alloc) else {
         return ServerEnd::OutOfMemory;
     };
-    let Ok(crew) = crew_of(alloc, &queue, &mut acceptor, sources, passes) else {
+    let Ok(crew) = crew_of(alloc, &queue, &mut acceptor, sources, &mut passes) else {
         return ServerEnd::OutOfMemory;
     };
     let staff = Staff { crew, acceptor };
-    if serve_links(rt, alloc, connections, &world, &queue, staff, listener) {
+    let Served { all, passes } =
+        serve_links(rt, alloc, connections, &world, &queue, staff, passes, listener);
+    close(world, passes);
+    if all {
         ServerEnd::Done
     } else {
         ServerEnd::ListenFault

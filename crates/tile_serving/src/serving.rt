@@ -1,5 +1,5 @@
 //! The threads of a server.
-ghost use Rattle.std.specs.Prelude.{All, MatchBool, length, [], ◌+◌, ◌-◌, ◌<◌, ◌≡◌};
+ghost use Rattle.std.specs.Prelude.{All, MatchBool, length, vec_capacity, [], ◌+◌, ◌-◌, ◌<◌, ◌≡◌, ◌≤◌};
 ghost use Rattle.cache_hall.specs.Turned.{HallPass, IsPassOf};
 ghost use Rattle.catalog.specs.Valid.{IsValid};
 ghost use Rattle.crossbeam_queue.specs.Passes.{view};
@@ -17,6 +17,7 @@ use crate::queue::LinkQueue;
 use crate::upkeep::{Shift, keep_up};
 use crate::workers::work;
 use cabinet::keeper::Keeper;
+use cabinet_chest::chest::CabinetChest;
 use hall_sessions::world::World;
 use http_wire::links::Link;
 use listeners::listener::Listener;
@@ -25,6 +26,7 @@ use std::alloc::Global;
 use std::convert::identity;
 use std::sync::Wait;
 use std::thread::{Threads, for_each_mut, join_mut};
+use turnstile::pass::Pass;
 use wmts_rest::table::RestTable;
 
 /// How many workers serve links at a time.
@@ -80,6 +82,7 @@ fn serve_all<R: Threads + Wait + Sync, K: Keeper + Send, S: Source + Send, L: Li
     ensures worked { (first : HallPass) (before : Hand L)
         → All (λ w. HasWorked (serving L.left L.taken L.ByteSource.faults L.ByteSink.faults world.now.capabilities world.now.hall.catalogue first) before w.pass (S.faults w.source) w.hand) crew.old.workers.items
         → All (λ w. HasWorked (serving L.left L.taken L.ByteSource.faults L.ByteSink.faults world.now.capabilities world.now.hall.catalogue first) before w.pass (S.faults w.source) w.hand) crew.new.workers.items }
+    ensures upkeep { IsPassOf world.now.hall.turnstile.table world.now.hall.catalogue crew.new.upkeep }
     ensures each { length crew.new.workers.items ≡ length crew.old.workers.items }
 {
     let Crew { workers, upkeep } = crew;
@@ -89,6 +92,7 @@ fn serve_all<R: Threads + Wait + Sync, K: Keeper + Send, S: Source + Send, L: Li
         rt,
         &mut ||
             requires { IsPassOf hall.now.turnstile.table hall.now.catalogue upkeep.now }
+            ensures { IsPassOf hall.entry.now.turnstile.table hall.entry.now.catalogue upkeep.exit.now }
         { keep_up(rt, hall, shift, upkeep) },
         &mut ||
             requires { IsValid world.now.hall.catalogue × All (λ w. IsReady (table_of queue.now.links) world.now.hall.turnstile.table world.now.hall.catalogue (S.told w.source) w.pass w.hand) workers.now }
@@ -120,6 +124,7 @@ where
     requires parts { 0 < (view staff.old.acceptor).parts }
     ensures accepted { HasAccepted (table_of queue.now.links) connections (view staff.old.acceptor) staff.new.acceptor (N.given listener.old) (N.given listener.new) (N.faults listener.old) (N.faults listener.new) result }
     ensures ready { All (λ w. IsReady (table_of queue.now.links) world.now.hall.turnstile.table world.now.hall.catalogue (S.told w.source) w.pass w.hand) staff.new.crew.workers.items }
+    ensures upkeep { IsPassOf world.now.hall.turnstile.table world.now.hall.catalogue staff.new.crew.upkeep }
     ensures each { length staff.new.crew.workers.items ≡ length staff.old.crew.workers.items }
     ensures worked { (first : HallPass) (before : Hand N.L)
         → All (λ w. HasWorked (serving N.L.left N.L.taken N.L.ByteSource.faults N.L.ByteSink.faults world.now.capabilities world.now.hall.catalogue first) before w.pass (S.faults w.source) w.hand) staff.old.crew.workers.items
@@ -140,6 +145,7 @@ where
             ensures worked { (first : HallPass) (before : Hand N.L)
                 → All (λ w. HasWorked (serving N.L.left N.L.taken N.L.ByteSource.faults N.L.ByteSink.faults world.entry.now.capabilities world.entry.now.hall.catalogue first) before w.pass (S.faults w.source) w.hand) crew.entry.now.workers.items
                 → All (λ w. HasWorked (serving N.L.left N.L.taken N.L.ByteSource.faults N.L.ByteSink.faults world.entry.now.capabilities world.entry.now.hall.catalogue first) before w.pass (S.faults w.source) w.hand) crew.exit.now.workers.items }
+            ensures upkeep { IsPassOf world.entry.now.hall.turnstile.table world.entry.now.hall.catalogue crew.exit.now.upkeep }
             ensures each { length crew.exit.now.workers.items ≡ length crew.entry.now.workers.items }
         { serve_all(rt, alloc, world, queue, shift, crew) },
         &mut || -> bool
@@ -150,8 +156,15 @@ where
     all
 }
 
-/// Accepts so many links of a listener in this thread, while a crew serves them, and sees that each is served to its end. False where an
-/// accept failed.
+/// How the serving of links ended: whether no accept failed, and the passes of all that worked.
+#[derive(Drop)]
+pub(crate) struct Served<K: Keeper> {
+    pub(crate) all: bool,
+    pub(crate) passes: Vec<Pass<CabinetChest<K>>>,
+}
+
+/// Accepts so many links of a listener in this thread, while a crew serves them, and sees that each is served to its end. All passes come
+/// back in a list that has room for them.
 pub(crate) fn serve_links<
     R: Threads + Wait + Sync,
     K: Keeper + Send,
@@ -164,22 +177,29 @@ pub(crate) fn serve_links<
     world: &World<K>,
     queue: &LinkQueue<N::L>,
     staff: Staff<K, S, N::L>,
+    passes: Vec<Pass<CabinetChest<K>>>,
     listener: &mut N,
-) -> bool
+) -> Served<K>
 where
     N::L: Send,
     requires valid { IsValid world.now.hall.catalogue }
     requires ready { All (λ w. IsReady (table_of queue.now.links) world.now.hall.turnstile.table world.now.hall.catalogue (S.told w.source) w.pass w.hand) staff.crew.workers.items }
     requires upkeep { IsPassOf world.now.hall.turnstile.table world.now.hall.catalogue staff.crew.upkeep }
     requires each { length staff.crew.workers.items ≡ WORKERS }
+    requires empty { passes.items ≡ [] }
+    requires room { WORKERS + 1 ≤ vec_capacity passes }
     requires acceptor { IsHand (table_of queue.now.links) (hand (all_parts - WORKERS) [] []) staff.acceptor }
-    ensures { (first : HallPass)
+    ensures of { All (λ p. p.table ≡ world.now.hall.turnstile.table) result.passes.items }
+    ensures count { length result.passes.items ≡ WORKERS + 1 }
+    ensures served { (first : HallPass)
         → All (λ w. HasWorked (serving N.L.left N.L.taken N.L.ByteSource.faults N.L.ByteSink.faults world.now.capabilities world.now.hall.catalogue first) (hand 1 [] []) w.pass (S.faults w.source) w.hand) staff.crew.workers.items
-        → HasServedLinks (serving N.L.left N.L.taken N.L.ByteSource.faults N.L.ByteSink.faults world.now.capabilities world.now.hall.catalogue first) connections (N.given listener.old) (N.given listener.new) (N.faults listener.old) (N.faults listener.new) result }
+        → HasServedLinks (serving N.L.left N.L.taken N.L.ByteSource.faults N.L.ByteSink.faults world.now.capabilities world.now.hall.catalogue first) connections (N.given listener.old) (N.given listener.new) (N.faults listener.old) (N.faults listener.new) result.passes.items result.all }
 {
     let mut staff = staff;
     let all = accept_and_serve(rt, alloc, connections, world, queue, &mut staff, listener);
     let Staff { crew, acceptor } = staff;
-    serve_rest(rt, alloc, world, queue, acceptor, crew.workers);
-    all
+    let Crew { workers, upkeep } = crew;
+    let mut passes = serve_rest(rt, alloc, world, queue, acceptor, workers, passes);
+    passes.push_reserved(upkeep);
+    Served { all, passes }
 }

@@ -68,7 +68,7 @@ fn world_of<K: Keeper>(
     requires sound { told ≡ true → IsSound (K.state keeper) }
     ensures catalogue { IfOk result (λ o. o.world.hall.catalogue ≡ (K.state keeper).catalogue) }
     ensures document { IfOk result (λ o. o.world.capabilities ≡ capabilities) }
-    ensures count { IfOk result (λ o. length o.passes.items ≡ PASSES) }
+    ensures count { IfOk result (λ o. (length o.passes.items ≡ PASSES) × (o.world.hall.turnstile.passes ≡ PASSES)) }
     ensures first { IfOk result (λ o. All (λ p. p ≡ first_pass o.world.hall.turnstile.table (K.state keeper).catalogue told (K.state keeper)) o.passes.items) }
 {
     match Hall::make(alloc, keeper, PASSES) {
@@ -98,7 +98,7 @@ fn world_on<D: Disk>(
     requires sound { told ≡ true → IsTrue (D.told disk) × IsSoundImage catalogue (D.state disk).seen }
     ensures catalogue { IfOk result (λ o. o.world.hall.catalogue ≡ catalogue) }
     ensures document { IfOk result (λ o. o.world.capabilities ≡ capabilities) }
-    ensures count { IfOk result (λ o. length o.passes.items ≡ PASSES) }
+    ensures count { IfOk result (λ o. (length o.passes.items ≡ PASSES) × (o.world.hall.turnstile.passes ≡ PASSES)) }
     ensures first { IfOk result (λ o. AreFirst (record { disk = disk; told = D.told disk; seen = (D.state disk).seen; faults = D.faults }) catalogue clock told o.world.hall.turnstile.table o.passes.items) }
     ensures refused { IfErr result (λ end. Refuses (record { disk = disk; told = D.told disk; seen = (D.state disk).seen; faults = D.faults }) catalogue end) }
 {
@@ -127,7 +127,7 @@ pub(crate) fn made_ready<D: Disk, I: ByteSource>(
     requires holds { HoldsFile (I.left catalogue.old) (D.told disk) (D.state disk).seen }
     requires sound { told ≡ true → IsTrue (D.told disk) × HoldsPictures (I.left catalogue.old) (D.state disk).seen }
     ensures valid { IfOk result (λ o. IsValid o.world.hall.catalogue) }
-    ensures count { IfOk result (λ o. length o.passes.items ≡ PASSES) }
+    ensures count { IfOk result (λ o. (length o.passes.items ≡ PASSES) × (o.world.hall.turnstile.passes ≡ PASSES)) }
     ensures staged { IfOk result (λ o. IsStaged
         (record { reads = counts (I.faults catalogue.old) (I.faults catalogue.new); from = I.left catalogue.old; to = I.left catalogue.new })
         (record { reads = counts (I.faults capabilities.old) (I.faults capabilities.new); from = I.left capabilities.old; to = I.left capabilities.new })

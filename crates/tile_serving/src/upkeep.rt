@@ -70,6 +70,7 @@ pub(crate) fn keep_up<R: Wait, K: Keeper>(
     pass: &mut Pass<CabinetChest<K>>,
 )
     requires { IsPassOf hall.now.turnstile.table hall.now.catalogue pass.old }
+    ensures { IsPassOf hall.now.turnstile.table hall.now.catalogue pass.new }
 {
     'keeping: for _ in rt.forever() {
         let heard = hall.changes();

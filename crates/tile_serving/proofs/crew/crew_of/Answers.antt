@@ -15,6 +15,7 @@ loop-source-preserved g c =
     record {
       each = omega arith;
       some = omega arith;
+      room = omega (arith, i.room, c.pop-in-Some.ensures.capacity);
       mine = dealt _ _ _ _ _ i.mine c.one_more-hand.ensures.mine workers;
       new = λ s first tell.
           let had = i.new s first tell in

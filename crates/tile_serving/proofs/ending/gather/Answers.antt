@@ -1,7 +1,8 @@
-use Rattle.std.proofs.Common.{rules, []}
+use Rattle.std.proofs.Common.{rules, arith, ◌≡◌, ◌∙◌, ◌+◌, [], ◌∷◌, All, length, length-append, ap, refl}
+use Rattle.std.proofs.lemmas.List.Elements.{All-nil}
 use Rattle.tile_serving.specs.Crew.{HasWorked, IsReady}
 use Rattle.tile_serving.specs.Hands.{hand, table_of}
-use Rattle.tile_serving.proofs.Crews.{one_longer, popped}
+use Rattle.tile_serving.proofs.Crews.{one_longer, popped, pushed}
 use Rattle.tile_serving.proofs.Gathering.{gather_begins, gather_goes_on, gather_ends, ready_with}
 use Rattle.tile_serving.proofs.ending.gather.Goals as goal
 
@@ -9,7 +10,10 @@ pub gathering-init : goal.gathering-init
 gathering-init g c = record {
   last = c.requires.last;
   others = c.requires.others;
-  gathered = λ s last others. (others, gather_begins s _ _ _ _ last);
+  of = rw c.requires.empty (All-nil (λ p. p.table ≡ c.args.world.now.hall.turnstile.table));
+  count = ap (λ ps. length ps + length c.args.others.items) c.requires.empty;
+  room = refl;
+  gathered = λ s last others. (others, rw c.requires.empty (gather_begins s _ _ _ _ last));
 }
 
 pub gathering-preserved : goal.gathering-preserved
@@ -23,11 +27,14 @@ gathering-preserved g c =
     record {
       last = ready_with _ _ _ _ _ last.hand other.hand c.take_over.new.mine i.last c.take_over.ensures;
       others = r.0;
+      of = pushed (λ p. p.table ≡ c.args.world.now.hall.turnstile.table) c.push_reserved.new.self.items c.gathering.passes.items other.pass c.push_reserved.ensures.items i.of r.1.of.same_table;
+      count = omega (arith, left, i.count, ap length c.push_reserved.ensures.items, length-append c.gathering.passes.items (other.pass ∷ []));
+      room = c.push_reserved.ensures.capacity ∙ i.room;
       gathered = λ s began others.
           let had = i.gathered s began others in
           let w = popped (λ w. HasWorked s (hand 1 [] []) w.pass (g.S.Source.faults w.source) w.hand) c.gathering.others.items c.pop.new.self.items other c.in-Some.ensures.items had.0 in
-          (w.0, gather_goes_on s _ _ _ last.pass other.pass _ _ last.hand other.hand c.take_over.new.mine left had.1 w.1 c.take_over.ensures.knows);
+          (w.0, rw c.push_reserved.ensures.items (gather_goes_on s _ _ _ last.pass other.pass _ _ last.hand other.hand c.take_over.new.mine c.gathering.passes.items left had.1 w.1 c.take_over.ensures.knows));
     }
 
 pub returns-clause-gathered : goal.returns-clause-gathered
-returns-clause-gathered g c = λ s last others. gather_ends s _ _ _ _ _ (search rules) (c.gathering.invariant.gathered s last others).1
+returns-clause-gathered g c = λ s last others. gather_ends s _ _ _ _ _ _ (search rules) (c.gathering.invariant.gathered s last others).1

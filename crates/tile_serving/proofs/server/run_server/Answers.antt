@@ -3,6 +3,7 @@ use Rattle.std.proofs.lemmas.Bool.{MatchBool-at_true, MatchBool-at_false}
 use Rattle.tile_serving.specs.Opened.{first_pass}
 use Rattle.tile_serving.specs.Stints.{Service, serving}
 use Rattle.tile_serving.proofs.Fitting.{may_be}
+use Rattle.tile_serving.proofs.Gathering.{served_in_line}
 use Rattle.tile_serving.proofs.Holding.{new_has_worked, new_is_ready}
 use Rattle.tile_serving.proofs.server.run_server.Goals as goal
 
@@ -31,12 +32,13 @@ returns-then-serve_links g c =
     let first = first_pass c.in-Ok.stage.world.hall.turnstile.table catalogue c.args.told.value st.first.opened in
     let s : Service g.row.N-L.Denot = serving g.N.L.ByteSource.left g.N.L.ByteSink.taken g.N.L.ByteSource.faults g.N.L.ByteSink.faults c.in-Ok.stage.world.capabilities catalogue first in
     let new = c.in-Ok-crew_of.ensures.new s st.first.first (λ i e inside told. (c.requires.told told).2 catalogue (may_be _ _ st.read.read) i e inside) in
-    let h = c.serve_links.ensures first (λ k d lt. new_has_worked s _ _ _ _ _ (new.0 k d lt)) in (
+    let h = c.serve_links.ensures.served first (λ k d lt. new_has_worked s _ _ _ _ _ (new.0 k d lt)) in
+    let served = served_in_line s h.links c.serve_links.result.passes.items c.in-Ok.ensures.valid refl h.served c.close.ensures in (
       catalogue,
       c.in-Ok.stage.world.capabilities,
       st.read,
       (
-        record { opened = st.first.opened; is_opened = st.first.is_opened; table = c.in-Ok.stage.world.hall.turnstile.table; links = h.links; given = h.given; served = h.served },
+        record { opened = st.first.opened; is_opened = st.first.is_opened; table = c.in-Ok.stage.world.hall.turnstile.table; links = h.links; given = h.given; served = served },
         MatchBool-at_true _ _ c.if-serve_links.true h.each,
       ),
     )
@@ -48,12 +50,13 @@ returns g c =
     let first = first_pass c.in-Ok.stage.world.hall.turnstile.table catalogue c.args.told.value st.first.opened in
     let s : Service g.row.N-L.Denot = serving g.N.L.ByteSource.left g.N.L.ByteSink.taken g.N.L.ByteSource.faults g.N.L.ByteSink.faults c.in-Ok.stage.world.capabilities catalogue first in
     let new = c.in-Ok-crew_of.ensures.new s st.first.first (λ i e inside told. (c.requires.told told).2 catalogue (may_be _ _ st.read.read) i e inside) in
-    let h = c.serve_links.ensures first (λ k d lt. new_has_worked s _ _ _ _ _ (new.0 k d lt)) in (
+    let h = c.serve_links.ensures.served first (λ k d lt. new_has_worked s _ _ _ _ _ (new.0 k d lt)) in
+    let served = served_in_line s h.links c.serve_links.result.passes.items c.in-Ok.ensures.valid refl h.served c.close.ensures in (
       (
         catalogue,
         c.in-Ok.stage.world.capabilities,
         st.read,
-        record { opened = st.first.opened; is_opened = st.first.is_opened; table = c.in-Ok.stage.world.hall.turnstile.table; links = h.links; given = h.given; served = h.served },
+        record { opened = st.first.opened; is_opened = st.first.is_opened; table = c.in-Ok.stage.world.hall.turnstile.table; links = h.links; given = h.given; served = served },
       ),
       MatchBool-at_false _ _ c.if-serve_links.false h.each,
     )
