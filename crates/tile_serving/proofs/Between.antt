@@ -1,9 +1,8 @@
 -- An ask that found what a truncation left gives a render that is newer.
-use Rattle.std.proofs.Common.{arith, ◌≡◌, ◌∙◌, ℕ, ◌<◌, ◌⊎◌, inl, inr, ⊎_elim, Bool, true, List, [], ◌∷◌, ◌++◌, flat_map, sym, refl, ap, subst}
-use Rattle.std.proofs.lemmas.List.Concat.{flat_map-cons}
-use Rattle.std.proofs.lemmas.List.Elements.{All-contains, Contains-append_cases}
+use Rattle.std.proofs.Common.{arith, ◌≡◌, ◌∙◌, ℕ, ◌<◌, ◌⊎◌, inl, inr, ⊎_elim, Bool, List, [], ◌∷◌, sym, ap, subst}
+use Rattle.std.proofs.lemmas.List.Elements.{Contains-append_cases}
 use Rattle.std.specs.List.{AllByRecursion, Contains}
-use Rattle.std.specs.Prelude.{IsTrue, map}
+use Rattle.std.specs.Prelude.{IsTrue}
 use Rattle.cabinet.specs.Hits.{covers_in}
 use Rattle.cabinet.specs.State.{fronted, now}
 use Rattle.cabinet.specs.declared.replies.Asked.{Asked}
@@ -28,7 +27,7 @@ use Rattle.hall_sessions.specs.Exchanges.{AreExchanges, Exchange, turns_of}
 use Rattle.matrix_geometry.specs.declared.address.Address.{Address}
 use Rattle.truncation_list.specs.declared.book.Cut.{Cut}
 use Rattle.truncation_list.specs.declared.book.FrontedBook.{FrontedBook}
-use Rattle.truncation_list.specs.Books.{AnswersFor, AnswersForFronted}
+use Rattle.truncation_list.specs.Books.{AnswersForFronted}
 use Rattle.truncation_list.proofs.Answering.{answers_for_cut}
 use Rattle.turnstile.specs.Line.{AreInLine, InLine, IsBefore}
 use Rattle.turnstile.specs.declared.view.Made.{Made}

@@ -67,7 +67,14 @@ where
         (record { disk = disk; told = D.told disk; seen = (D.state disk).seen; faults = D.faults })
         (capabilities.new ≡ capabilities.old) (listener.new ≡ listener.old) result }
 {
-    let Stage { world, mut passes } = match made_ready(alloc, catalogue, capabilities, clock, disk) {
+    let Stage { world, mut passes } = match made_ready(
+        alloc,
+        catalogue,
+        capabilities,
+        clock,
+        disk,
+        &told,
+    ) {
         Ok(stage) => stage,
         Err(end) => return end,
     };
@@ -78,8 +85,16 @@ where
         return ServerEnd::OutOfMemory;
     };
     let staff = Staff { crew, acceptor };
-    let Served { all, passes } =
-        serve_links(rt, alloc, connections, &world, &queue, staff, passes, listener);
+    let Served { all, passes } = serve_links(
+        rt,
+        alloc,
+        connections,
+        &world,
+        &queue,
+        staff,
+        passes,
+        listener,
+    );
     close(world, passes);
     if all {
         ServerEnd::Done

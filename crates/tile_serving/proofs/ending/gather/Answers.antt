@@ -1,4 +1,4 @@
-use Rattle.std.proofs.Common.{rules, arith, ◌≡◌, ◌∙◌, ◌+◌, [], ◌∷◌, All, length, length-append, ap, refl}
+use Rattle.std.proofs.Common.{rules, arith, ◌≡◌, ◌∙◌, [], ◌∷◌, length, length-append, ap, refl}
 use Rattle.std.proofs.lemmas.List.Elements.{All-nil}
 use Rattle.tile_serving.specs.Crew.{HasWorked, IsReady}
 use Rattle.tile_serving.specs.Hands.{hand, table_of}
@@ -11,7 +11,7 @@ gathering-init g c = record {
   last = c.requires.last;
   others = c.requires.others;
   of = rw c.requires.empty (All-nil (λ p. p.table ≡ c.args.world.now.hall.turnstile.table));
-  count = ap (λ ps. length ps + length c.args.others.items) c.requires.empty;
+  count = omega (arith, ap length c.requires.empty);
   room = refl;
   gathered = λ s last others. (others, rw c.requires.empty (gather_begins s _ _ _ _ last));
 }

@@ -7,8 +7,8 @@ use Rattle.tile_serving.proofs.Gathering.{served_in_line}
 use Rattle.tile_serving.proofs.Holding.{new_has_worked, new_is_ready}
 use Rattle.tile_serving.proofs.server.run_server.Goals as goal
 
-pub serve_links-requires-clause-ready : goal.serve_links-requires-clause-ready
-serve_links-requires-clause-ready g c κs within = λ k d lt.
+pub serve_links-all-requires-clause-ready : goal.serve_links-all-requires-clause-ready
+serve_links-all-requires-clause-ready g c κs within = λ k d lt.
     let st = c.in-Ok.ensures.staged in
     let catalogue = c.in-Ok.stage.world.hall.catalogue in
     let first = first_pass c.in-Ok.stage.world.hall.turnstile.table catalogue c.args.told.value st.first.opened in
@@ -16,8 +16,8 @@ serve_links-requires-clause-ready g c κs within = λ k d lt.
     let new = c.in-Ok-crew_of.ensures.new s st.first.first (λ i e inside told. (c.requires.told told).2 catalogue (may_be _ _ st.read.read) i e inside) in
     new_is_ready s _ _ _ _ refl (new.0 k d lt)
 
-pub serve_links-requires-clause-upkeep : goal.serve_links-requires-clause-upkeep
-serve_links-requires-clause-upkeep g c κs within =
+pub serve_links-all-requires-clause-upkeep : goal.serve_links-all-requires-clause-upkeep
+serve_links-all-requires-clause-upkeep g c κs within =
     let st = c.in-Ok.ensures.staged in
     let catalogue = c.in-Ok.stage.world.hall.catalogue in
     let first = first_pass c.in-Ok.stage.world.hall.turnstile.table catalogue c.args.told.value st.first.opened in
@@ -25,21 +25,21 @@ serve_links-requires-clause-upkeep g c κs within =
     let new = c.in-Ok-crew_of.ensures.new s st.first.first (λ i e inside told. (c.requires.told told).2 catalogue (may_be _ _ st.read.read) i e inside) in
     record { same_table = ap (λ p. p.table) new.1; charter = ap (λ p. p.charter) new.1 }
 
-pub returns-then-serve_links : goal.returns-then-serve_links
-returns-then-serve_links g c =
+pub returns-then-all : goal.returns-then-all
+returns-then-all g c =
     let st = c.in-Ok.ensures.staged in
     let catalogue = c.in-Ok.stage.world.hall.catalogue in
     let first = first_pass c.in-Ok.stage.world.hall.turnstile.table catalogue c.args.told.value st.first.opened in
     let s : Service g.row.N-L.Denot = serving g.N.L.ByteSource.left g.N.L.ByteSink.taken g.N.L.ByteSource.faults g.N.L.ByteSink.faults c.in-Ok.stage.world.capabilities catalogue first in
     let new = c.in-Ok-crew_of.ensures.new s st.first.first (λ i e inside told. (c.requires.told told).2 catalogue (may_be _ _ st.read.read) i e inside) in
-    let h = c.serve_links.ensures.served first (λ k d lt. new_has_worked s _ _ _ _ _ (new.0 k d lt)) in
-    let served = served_in_line s h.links c.serve_links.result.passes.items c.in-Ok.ensures.valid refl h.served c.close.ensures in (
+    let h = c.serve_links-all.ensures.served first (λ k d lt. new_has_worked s _ _ _ _ _ (new.0 k d lt)) in
+    let served = served_in_line s h.links c.serve_links-all.result.passes.items c.in-Ok.ensures.valid refl h.served c.close.ensures in (
       catalogue,
       c.in-Ok.stage.world.capabilities,
       st.read,
       (
         record { opened = st.first.opened; is_opened = st.first.is_opened; table = c.in-Ok.stage.world.hall.turnstile.table; links = h.links; given = h.given; served = served },
-        MatchBool-at_true _ _ c.if-serve_links.true h.each,
+        MatchBool-at_true _ _ c.if-all.true h.each,
       ),
     )
 
@@ -50,13 +50,13 @@ returns g c =
     let first = first_pass c.in-Ok.stage.world.hall.turnstile.table catalogue c.args.told.value st.first.opened in
     let s : Service g.row.N-L.Denot = serving g.N.L.ByteSource.left g.N.L.ByteSink.taken g.N.L.ByteSource.faults g.N.L.ByteSink.faults c.in-Ok.stage.world.capabilities catalogue first in
     let new = c.in-Ok-crew_of.ensures.new s st.first.first (λ i e inside told. (c.requires.told told).2 catalogue (may_be _ _ st.read.read) i e inside) in
-    let h = c.serve_links.ensures.served first (λ k d lt. new_has_worked s _ _ _ _ _ (new.0 k d lt)) in
-    let served = served_in_line s h.links c.serve_links.result.passes.items c.in-Ok.ensures.valid refl h.served c.close.ensures in (
+    let h = c.serve_links-all.ensures.served first (λ k d lt. new_has_worked s _ _ _ _ _ (new.0 k d lt)) in
+    let served = served_in_line s h.links c.serve_links-all.result.passes.items c.in-Ok.ensures.valid refl h.served c.close.ensures in (
       (
         catalogue,
         c.in-Ok.stage.world.capabilities,
         st.read,
         record { opened = st.first.opened; is_opened = st.first.is_opened; table = c.in-Ok.stage.world.hall.turnstile.table; links = h.links; given = h.given; served = served },
       ),
-      MatchBool-at_false _ _ c.if-serve_links.false h.each,
+      MatchBool-at_false _ _ c.if-all.false h.each,
     )
