@@ -10,6 +10,7 @@ use silent_disk::SilentDisk;
 use source_render::numbered::Numbered;
 use source_render::source::Source;
 use std::alloc::Global;
+use std::snapshot::Snapshot;
 use std::sync::Wait;
 use std::test::Fail;
 use std::thread::Threads;
@@ -99,5 +100,6 @@ where
         sources,
         disk,
         Clock::listed(Vec::new(alloc)),
+        Snapshot::of(&false),
     )
 }

@@ -16,6 +16,7 @@ use std::io::Eprint;
 use std::net::Net;
 use std::process::ExitCode;
 use std::rt::Files;
+use std::snapshot::Snapshot;
 use std::sync::Wait;
 use std::thread::Threads;
 use tcp_lanes::accept::TcpAccept;
@@ -88,6 +89,7 @@ where
         sources,
         CacheDisk::open(rt, CACHE, false),
         clock,
+        Snapshot::of(&false),
     )
 }
 

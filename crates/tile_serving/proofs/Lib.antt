@@ -8,4 +8,3 @@ pub mod Holding
 pub mod Gathering
 pub mod Telling
 pub mod Passes
-pub mod Untold

@@ -1,7 +1,8 @@
 //! A server, from its files to its last link.
-ghost use Rattle.std.specs.Prelude.{false, length, ◌≡◌, ◌≤◌};
+ghost use Rattle.std.specs.Prelude.{IsTrue, length, true, ◌≡◌, ◌≤◌};
 ghost use Rattle.tile_command.specs.Command.{HoldsFile};
 ghost use Rattle.tile_service.specs.Outside.{counts};
+ghost use Rattle.tile_serving.specs.Opened.{HoldsPictures, TellAll};
 ghost use Rattle.tile_serving.specs.Served.{HasEnded};
 
 use crate::crew::{Staff, crew_of};
@@ -15,6 +16,7 @@ use http_wire::streams::ByteSource;
 use listeners::listener::Listener;
 use source_render::source::Source;
 use std::alloc::Global;
+use std::snapshot::Snapshot;
 use std::sync::Wait;
 use std::thread::Threads;
 
@@ -22,9 +24,9 @@ use std::thread::Threads;
 /// and then four workers serve each link to its end, while quotas are kept and uses are saved. Everything that it needs besides the
 /// sessions is taken before the first link. Each end comes as `HasEnded` says.
 ///
-/// A modelled disk has to hold a file of this program, by the catalogue that is read. The hall isn't told that the cache is sound. Where
-/// the system gives no thread, it may wait for ever.
-#[tactic(auto, using(crate::proofs::Untold::never))]
+/// A modelled disk has to hold a file of this program, by the catalogue that is read. Where its caller sets the mark `told`, the disk is
+/// modelled and keeps blobs of the catalogue's pictures alone, and the sources make these pictures; each tile that is served is then the
+/// encoded tile of its number. The mark has no bytes. Where the system gives no thread, it may wait for ever.
 pub fn run_server<
     R: Threads + Wait + Sync,
     S: Source + Send,
@@ -41,11 +43,13 @@ pub fn run_server<
     sources: Vec<S>,
     disk: D,
     clock: Clock,
+    told: Snapshot<bool>,
 ) -> ServerEnd
 where
     N::L: Send,
     requires sources { length sources.items ≡ WORKERS }
     requires connections { (1 ≤ connections) × (connections ≤ 1000000) }
+    requires told { told.value ≡ true → IsTrue (D.told disk) × HoldsPictures (I.left catalogue.old) (D.state disk).seen × TellAll (I.left catalogue.old) S.told sources.items }
     requires holds { HoldsFile (I.left catalogue.old) (D.told disk) (D.state disk).seen }
     ensures { HasEnded
         (record {
@@ -57,12 +61,19 @@ where
           given_before = N.given listener.old;
           given_after = N.given listener.new;
           accepts = counts (N.faults listener.old) (N.faults listener.new);
-          told = false;
+          told = told.value;
         })
         (record { disk = disk; told = D.told disk; seen = (D.state disk).seen; faults = D.faults })
         (capabilities.new ≡ capabilities.old) (listener.new ≡ listener.old) result }
 {
-    let Stage { world, passes } = match made_ready(alloc, catalogue, capabilities, clock, disk) {
+    let Stage { world, passes } = match made_ready(
+        alloc,
+        catalogue,
+        capabilities,
+        clock,
+        disk,
+        &told,
+    ) {
         Ok(stage) => stage,
         Err(end) => return end,
     };

@@ -1,7 +1,8 @@
-use Rattle.std.proofs.Common.{ap, refl, false}
-use Rattle.std.proofs.lemmas.Bool.{MatchBool-at_true, MatchBool-at_false, false≢true}
+use Rattle.std.proofs.Common.{ap, refl}
+use Rattle.std.proofs.lemmas.Bool.{MatchBool-at_true, MatchBool-at_false}
 use Rattle.tile_serving.specs.Opened.{first_pass}
 use Rattle.tile_serving.specs.Stints.{Service, serving}
+use Rattle.tile_serving.proofs.Fitting.{may_be}
 use Rattle.tile_serving.proofs.Holding.{new_has_worked, new_is_ready}
 use Rattle.tile_serving.proofs.server.run_server.Goals as goal
 
@@ -9,27 +10,27 @@ pub serve_links-requires-clause-ready : goal.serve_links-requires-clause-ready
 serve_links-requires-clause-ready g c κs within = λ k d lt.
     let st = c.in-Ok.ensures.staged in
     let catalogue = c.in-Ok.stage.world.hall.catalogue in
-    let first = first_pass c.in-Ok.stage.world.hall.turnstile.table catalogue false st.first.opened in
+    let first = first_pass c.in-Ok.stage.world.hall.turnstile.table catalogue c.args.told.value st.first.opened in
     let s : Service g.row.N-L.Denot = serving g.N.L.ByteSource.left g.N.L.ByteSink.taken g.N.L.ByteSource.faults g.N.L.ByteSink.faults c.in-Ok.stage.world.capabilities catalogue first in
-    let new = c.in-Ok-crew_of.ensures.new s st.first.first (λ i e inside told. absurd (false≢true told)) in
+    let new = c.in-Ok-crew_of.ensures.new s st.first.first (λ i e inside told. (c.requires.told told).2 catalogue (may_be _ _ st.read.read) i e inside) in
     new_is_ready s _ _ _ _ refl (new.0 k d lt)
 
 pub serve_links-requires-clause-upkeep : goal.serve_links-requires-clause-upkeep
 serve_links-requires-clause-upkeep g c κs within =
     let st = c.in-Ok.ensures.staged in
     let catalogue = c.in-Ok.stage.world.hall.catalogue in
-    let first = first_pass c.in-Ok.stage.world.hall.turnstile.table catalogue false st.first.opened in
+    let first = first_pass c.in-Ok.stage.world.hall.turnstile.table catalogue c.args.told.value st.first.opened in
     let s : Service g.row.N-L.Denot = serving g.N.L.ByteSource.left g.N.L.ByteSink.taken g.N.L.ByteSource.faults g.N.L.ByteSink.faults c.in-Ok.stage.world.capabilities catalogue first in
-    let new = c.in-Ok-crew_of.ensures.new s st.first.first (λ i e inside told. absurd (false≢true told)) in
+    let new = c.in-Ok-crew_of.ensures.new s st.first.first (λ i e inside told. (c.requires.told told).2 catalogue (may_be _ _ st.read.read) i e inside) in
     record { same_table = ap (λ p. p.table) new.1; charter = ap (λ p. p.charter) new.1 }
 
 pub returns-then-serve_links : goal.returns-then-serve_links
 returns-then-serve_links g c =
     let st = c.in-Ok.ensures.staged in
     let catalogue = c.in-Ok.stage.world.hall.catalogue in
-    let first = first_pass c.in-Ok.stage.world.hall.turnstile.table catalogue false st.first.opened in
+    let first = first_pass c.in-Ok.stage.world.hall.turnstile.table catalogue c.args.told.value st.first.opened in
     let s : Service g.row.N-L.Denot = serving g.N.L.ByteSource.left g.N.L.ByteSink.taken g.N.L.ByteSource.faults g.N.L.ByteSink.faults c.in-Ok.stage.world.capabilities catalogue first in
-    let new = c.in-Ok-crew_of.ensures.new s st.first.first (λ i e inside told. absurd (false≢true told)) in
+    let new = c.in-Ok-crew_of.ensures.new s st.first.first (λ i e inside told. (c.requires.told told).2 catalogue (may_be _ _ st.read.read) i e inside) in
     let h = c.serve_links.ensures first (λ k d lt. new_has_worked s _ _ _ _ _ (new.0 k d lt)) in (
       catalogue,
       c.in-Ok.stage.world.capabilities,
@@ -44,9 +45,9 @@ pub returns : goal.returns
 returns g c =
     let st = c.in-Ok.ensures.staged in
     let catalogue = c.in-Ok.stage.world.hall.catalogue in
-    let first = first_pass c.in-Ok.stage.world.hall.turnstile.table catalogue false st.first.opened in
+    let first = first_pass c.in-Ok.stage.world.hall.turnstile.table catalogue c.args.told.value st.first.opened in
     let s : Service g.row.N-L.Denot = serving g.N.L.ByteSource.left g.N.L.ByteSink.taken g.N.L.ByteSource.faults g.N.L.ByteSink.faults c.in-Ok.stage.world.capabilities catalogue first in
-    let new = c.in-Ok-crew_of.ensures.new s st.first.first (λ i e inside told. absurd (false≢true told)) in
+    let new = c.in-Ok-crew_of.ensures.new s st.first.first (λ i e inside told. (c.requires.told told).2 catalogue (may_be _ _ st.read.read) i e inside) in
     let h = c.serve_links.ensures first (λ k d lt. new_has_worked s _ _ _ _ _ (new.0 k d lt)) in (
       (
         catalogue,

@@ -1,5 +1,4 @@
-use Rattle.std.specs.Prelude.{false}
 use Rattle.tile_serving.proofs.server.run_server.Given as goal
 
 abbrev pub ghost-made_ready : goal.ghost-made_ready
-ghost-made_ready g a = false
+ghost-made_ready g a = a._mark.now.value
