@@ -6,12 +6,12 @@ use crate::client::answer_to;
 use crate::held::Hold;
 use crate::stage::{Stage, WORKERS, held_sources, served, sources};
 use source_render::source::Source;
-use std::alloc::{AllocError, Global};
+use std::alloc::Global;
 use std::net::{Net, TcpStream};
 use std::sync::Wait;
 use std::test::Fail;
 use std::thread;
-use std::thread::{JoinHandle, Threads};
+use std::thread::Threads;
 use std::time::Clock;
 use tcp_lanes::accept::TcpAccept;
 use tile_serving::ends::ServerEnd;
@@ -28,7 +28,7 @@ enum Heard {
 }
 
 /// Serves so many connections of the socket, and closes it.
-fn serve<R: Threads + Wait + Net + Clock + Copy + Drop + Send + Sync, S: Source + Send>(
+fn serve<R: Threads + Wait + Clock + Copy + Drop + Send + Sync, S: Source + Send>(
     rt: &R,
     alloc: Global,
     connections: u32,
@@ -52,14 +52,9 @@ fn ask_for_whole<R: Net<Stream = TcpStream>>(rt: &R, alloc: Global, port: u16) -
     }
 }
 
-/// Starts a client that asks for the whole of zoom 0.
-fn start_client<R: Threads + Net<Stream = TcpStream> + Copy + Drop + Send + 'static>(
-    rt: R,
-    alloc: Global,
-    port: u16,
-) -> Result<JoinHandle<Heard>, AllocError> {
-    let job = move || ask_for_whole(&rt, alloc, port);
-    Ok(thread::spawn(&rt, job)?)
+/// How many clients read that.
+fn count(heard: &[Heard], which: Heard) -> usize {
+    heard.iter().filter(|one| **one == which).count()
 }
 
 #[test]
@@ -69,23 +64,14 @@ fn three_clients_read_one_render(rt: HostRuntime) -> Result<(), Fail> {
     let sources = sources(alloc)?;
     let accept = TcpAccept::bind(rt, alloc, 0)?;
     let port = accept.port()?;
-    let first = start_client(rt, alloc, port)?;
-    let second = start_client(rt, alloc, port)?;
-    let third = start_client(rt, alloc, port)?;
+    let first = thread::spawn(&rt, move || ask_for_whole(&rt, alloc, port))?;
+    let second = thread::spawn(&rt, move || ask_for_whole(&rt, alloc, port))?;
+    let third = thread::spawn(&rt, move || ask_for_whole(&rt, alloc, port))?;
     let end = serve(&rt, alloc, 3, accept, stage, sources);
     let heard = [first.join(&rt), second.join(&rt), third.join(&rt)];
     assert_eq!(rt; end, ServerEnd::Done);
-    assert_eq!(rt;
-        heard
-            .iter()
-            .filter(|heard| **heard == Heard::Missed)
-            .count(),
-        1
-    );
-    assert_eq!(rt;
-        heard.iter().filter(|heard| **heard == Heard::Hit).count(),
-        2
-    );
+    assert_eq!(rt; count(&heard, Heard::Missed), 1);
+    assert_eq!(rt; count(&heard, Heard::Hit), 2);
     Ok(())
 }
 
@@ -103,16 +89,6 @@ fn is_answered<R: Net<Stream = TcpStream>>(
     }
 }
 
-/// Starts the client whose tile's render is held. It tells whether it read the tile.
-fn start_held<R: Threads + Net<Stream = TcpStream> + Copy + Drop + Send + 'static>(
-    rt: R,
-    alloc: Global,
-    port: u16,
-) -> Result<JoinHandle<bool>, AllocError> {
-    let job = move || is_answered(&rt, alloc, port, CORNER, CORNER_MISSED);
-    Ok(thread::spawn(&rt, job)?)
-}
-
 /// Asks for the tile beside once the render is held. Whether it was read while the render was held.
 fn is_answered_meanwhile<R: Net<Stream = TcpStream>>(
     rt: &R,
@@ -126,17 +102,6 @@ fn is_answered_meanwhile<R: Net<Stream = TcpStream>>(
     begun && answered && held
 }
 
-/// Starts the client of the tile beside. It tells whether it read the tile while the render was held.
-fn start_beside<R: Threads + Net<Stream = TcpStream> + Copy + Drop + Send + 'static>(
-    rt: R,
-    alloc: Global,
-    port: u16,
-    hold: Hold,
-) -> Result<JoinHandle<bool>, AllocError> {
-    let job = move || is_answered_meanwhile(&rt, alloc, port, &hold);
-    Ok(thread::spawn(&rt, job)?)
-}
-
 #[test]
 fn a_worker_serves_beside_one_that_renders(rt: HostRuntime) -> Result<(), Fail> {
     let alloc = rt.alloc();
@@ -145,8 +110,11 @@ fn a_worker_serves_beside_one_that_renders(rt: HostRuntime) -> Result<(), Fail> 
     let sources = held_sources(alloc, &hold)?;
     let accept = TcpAccept::bind(rt, alloc, 0)?;
     let port = accept.port()?;
-    let held = start_held(rt, alloc, port)?;
-    let beside = start_beside(rt, alloc, port, hold)?;
+    let held = thread::spawn(
+        &rt,
+        move || is_answered(&rt, alloc, port, CORNER, CORNER_MISSED),
+    )?;
+    let beside = thread::spawn(&rt, move || is_answered_meanwhile(&rt, alloc, port, &hold))?;
     let end = serve(&rt, alloc, 2, accept, stage, sources);
     let held = held.join(&rt);
     let beside = beside.join(&rt);
