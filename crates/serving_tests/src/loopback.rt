@@ -52,7 +52,7 @@ fn ask_for_whole<R: Net<Stream = TcpStream>>(rt: &R, alloc: Global, port: u16) -
     }
 }
 
-/// How many clients read that.
+/// How many of the clients read that.
 fn count(heard: &[Heard], which: Heard) -> usize {
     heard.iter().filter(|one| **one == which).count()
 }

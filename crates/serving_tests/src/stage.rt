@@ -55,7 +55,7 @@ pub fn sources(alloc: Global) -> Result<Vec<Numbered>, Fail>
     Ok(sources)
 }
 
-/// A source for each worker, which hold one render.
+/// A source for each worker, all of which hold the render that is to be held.
 pub fn held_sources(alloc: Global, hold: &Hold) -> Result<Vec<HeldSource>, Fail>
     ensures { IfOk result (λ sources. length sources.items ≡ WORKERS) }
 {
