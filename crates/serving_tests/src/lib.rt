@@ -1,11 +1,19 @@
-//! Tests of a server over connections in memory.
+//! Tests of a server, over connections in memory and over sockets of the loopback.
 //!
 //! It has no code of its own and promises nothing.
-//! Stands on tile_serving, and on the crates of what they are called with.
+//! Stands on tile_serving and tcp_lanes, and on the crates of what they are called with.
 #![tactic(auto)]
 
 #[cfg(test)]
+mod answers;
+#[cfg(test)]
+mod client;
+#[cfg(test)]
 mod door;
+#[cfg(test)]
+mod held;
+#[cfg(test)]
+mod loopback;
 #[cfg(test)]
 mod servers;
 #[cfg(test)]

@@ -1,6 +1,7 @@
 //! A server of the tests: its files, its disk and its sources.
 ghost use Rattle.std.specs.Prelude.{IfOk, length, ◌≡◌, ◌≤◌};
 
+use crate::held::{HeldSource, Hold};
 use clock::clock::Clock;
 use exact_ratio::words::Words;
 use http_wire::memory_sink::MemorySink;
@@ -41,16 +42,29 @@ fn made(alloc: Global) -> Result<SilentDisk, Fail> {
     Ok(disk)
 }
 
-/// A source for each of the four workers.
+/// How many workers a server has, each with a source of its own.
+pub const WORKERS: usize = 4;
+
+/// A source for each worker.
 pub fn sources(alloc: Global) -> Result<Vec<Numbered>, Fail>
-    ensures { IfOk result (λ sources. length sources.items ≡ 4) }
+    ensures { IfOk result (λ sources. length sources.items ≡ WORKERS) }
 {
-    Ok(vec![in alloc;
-        Numbered::new(0),
-        Numbered::new(0),
-        Numbered::new(0),
-        Numbered::new(0),
-    ]?)
+    let mut sources = Vec::new(alloc);
+    for _ in 0..WORKERS {
+        sources.push(Numbered::new(0))?;
+    }
+    Ok(sources)
+}
+
+/// A source for each worker, all of which hold the render that is to be held.
+pub fn held_sources(alloc: Global, hold: &Hold) -> Result<Vec<HeldSource>, Fail>
+    ensures { IfOk result (λ sources. length sources.items ≡ WORKERS) }
+{
+    let mut sources = Vec::new(alloc);
+    for _ in 0..WORKERS {
+        sources.push(HeldSource::new(hold.share()?))?;
+    }
+    Ok(sources)
 }
 
 /// What a server of the tests works with: the built-in catalogue, no capabilities document, and an empty cache.
@@ -82,7 +96,7 @@ pub fn served<R: Threads + Wait + Sync, S: Source + Send, N: Listener>(
 ) -> ServerEnd
 where
     N::L: Send,
-    requires sources { length sources.items ≡ 4 }
+    requires sources { length sources.items ≡ WORKERS }
     requires connections { (1 ≤ connections) × (connections ≤ 1000000) }
 {
     let Stage {
