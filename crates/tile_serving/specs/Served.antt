@@ -37,14 +37,16 @@ abbrev pub WithBoth : {L : Type 0} → ServerChange L → (Catalogue → List �
 WithBoth h P = (c : Catalogue) × (document : List ℕ) × AreRead h.catalogue h.capabilities c document × P c document
 
 -- The cache of the disk was opened under the catalogue, and each link that the listener gave was served to the end of one session, by
--- passes of one turnstile, which had seen the opened cabinet's book and made nothing before their first session.
+-- passes of one turnstile, which had seen the opened cabinet's book and made nothing before their first session, and from places at one
+-- board of jobs, on which there was no job at first.
 pub record HasServed {L D : Type 0} (h : ServerChange L) (d : ServerDisk D) (c : Catalogue) (document : List ℕ) : Type 0 where
   pub opened : State
   pub is_opened : IsOpened d c h.clock opened
   pub table : TableId
+  pub board : TableId
   pub links : List L
   pub given : h.given_after ≡ h.given_before ++ links
-  pub served : AreServed (record { reading = h.reading; document = document; catalogue = c; first = first_pass table c h.told opened }) links
+  pub served : AreServed (record { reading = h.reading; document = document; catalogue = c; board = board; first = first_pass table c h.told opened }) links
 
 -- so it was, and as many links were given as were asked for
 abbrev pub HasServedAll : {L D : Type 0} → ServerChange L → ServerDisk D → Catalogue → List ℕ → Type 0

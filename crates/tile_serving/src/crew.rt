@@ -49,7 +49,7 @@ pub(crate) fn crew_of<K: Keeper, S: Source, L: Link>(
     ensures mine { IfOk result (λ crew. IsHand (table_of queue.now.links) (hand (all_parts - length sources.items) [] []) mine.new) }
     ensures each { IfOk result (λ crew. length crew.workers.items ≡ length sources.items) }
     ensures new { (s : Service L) → All (λ p. p ≡ s.first) passes.items → All (λ x. s.first.told ≡ true → S.told x ≡ Some s.catalogue.source) sources.items
-        → IfOk result (λ crew. All (λ w. IsNew (table_of queue.now.links) s (S.told w.source) w.pass w.hand) crew.workers.items × (crew.upkeep ≡ s.first)) }
+        → IfOk result (λ crew. All (λ w. IsNew (table_of queue.now.links) s (S.told w.source) w.pass w.board w.hand) crew.workers.items × (crew.upkeep ≡ s.first)) }
 {
     let mut passes = passes;
     let mut sources = sources;

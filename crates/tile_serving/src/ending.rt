@@ -24,12 +24,12 @@ fn gather<K: Keeper, S: Source, L: Link>(
     last: &mut Worker<K, S, L>,
     others: Vec<Worker<K, S, L>>,
 )
-    requires last { IsReady (table_of queue.now.links) world.now.hall.turnstile.table world.now.hall.catalogue (S.told last.old.source) last.old.pass last.old.hand }
-    requires others { All (λ w. IsReady (table_of queue.now.links) world.now.hall.turnstile.table world.now.hall.catalogue (S.told w.source) w.pass w.hand) others.items }
-    ensures ready { IsReady (table_of queue.now.links) world.now.hall.turnstile.table world.now.hall.catalogue (S.told last.new.source) last.new.pass last.new.hand }
-    ensures gathered { (s : Service L) → HasWorked s (hand 1 [] []) last.old.pass (S.faults last.old.source) last.old.hand
-        → All (λ w. HasWorked s (hand 1 [] []) w.pass (S.faults w.source) w.hand) others.items
-        → HasGathered s (1 + length others.items) last.new.pass (S.faults last.new.source) last.new.hand }
+    requires last { IsReady (table_of queue.now.links) world.now.hall.turnstile.table world.now.board.turnstile.table world.now.hall.catalogue (S.told last.old.source) last.old.pass last.old.board last.old.hand }
+    requires others { All (λ w. IsReady (table_of queue.now.links) world.now.hall.turnstile.table world.now.board.turnstile.table world.now.hall.catalogue (S.told w.source) w.pass w.board w.hand) others.items }
+    ensures ready { IsReady (table_of queue.now.links) world.now.hall.turnstile.table world.now.board.turnstile.table world.now.hall.catalogue (S.told last.new.source) last.new.pass last.new.board last.new.hand }
+    ensures gathered { (s : Service L) → HasWorked s (hand 1 [] []) last.old.pass last.old.board (S.faults last.old.source) last.old.hand
+        → All (λ w. HasWorked s (hand 1 [] []) w.pass w.board (S.faults w.source) w.hand) others.items
+        → HasGathered s (1 + length others.items) last.new.pass last.new.board (S.faults last.new.source) last.new.hand }
 {
     let mut others = others;
     'gathering: while let Some(other) = others.pop() {
@@ -56,10 +56,10 @@ pub(crate) fn serve_rest<R: Wait, K: Keeper, S: Source, L: Link>(
     requires mine { IsHand (table_of queue.now.links) (view mine) mine }
     requires none { (view mine).taken ≡ [] }
     requires parts { (view mine).parts + length workers.items ≡ all_parts }
-    requires ready { All (λ w. IsReady (table_of queue.now.links) world.now.hall.turnstile.table world.now.hall.catalogue (S.told w.source) w.pass w.hand) workers.items }
+    requires ready { All (λ w. IsReady (table_of queue.now.links) world.now.hall.turnstile.table world.now.board.turnstile.table world.now.hall.catalogue (S.told w.source) w.pass w.board w.hand) workers.items }
     ensures { (first : HallPass)
-        → All (λ w. HasWorked (serving L.left L.taken L.ByteSource.faults L.ByteSink.faults world.now.capabilities world.now.hall.catalogue first) (hand 1 [] []) w.pass (S.faults w.source) w.hand) workers.items
-        → AreServed (serving L.left L.taken L.ByteSource.faults L.ByteSink.faults world.now.capabilities world.now.hall.catalogue first) (view mine).put }
+        → All (λ w. HasWorked (serving L.left L.taken L.ByteSource.faults L.ByteSink.faults world.now.capabilities world.now.hall.catalogue world.now.board.turnstile.table first) (hand 1 [] []) w.pass w.board (S.faults w.source) w.hand) workers.items
+        → AreServed (serving L.left L.taken L.ByteSource.faults L.ByteSink.faults world.now.capabilities world.now.hall.catalogue world.now.board.turnstile.table first) (view mine).put }
 {
     let mut workers = workers;
     let Some(last) = workers.pop() else {

@@ -41,11 +41,11 @@ fn work_all<R: Threads + Wait + Sync, K: Keeper + Send, S: Source + Send, L: Lin
     workers: &mut [Worker<K, S, L>],
 )
     requires valid { IsValid world.now.hall.catalogue }
-    requires ready { All (λ w. IsReady (table_of queue.now.links) world.now.hall.turnstile.table world.now.hall.catalogue (S.told w.source) w.pass w.hand) workers.old }
-    ensures ready { All (λ w. IsReady (table_of queue.now.links) world.now.hall.turnstile.table world.now.hall.catalogue (S.told w.source) w.pass w.hand) workers.new }
+    requires ready { All (λ w. IsReady (table_of queue.now.links) world.now.hall.turnstile.table world.now.board.turnstile.table world.now.hall.catalogue (S.told w.source) w.pass w.board w.hand) workers.old }
+    ensures ready { All (λ w. IsReady (table_of queue.now.links) world.now.hall.turnstile.table world.now.board.turnstile.table world.now.hall.catalogue (S.told w.source) w.pass w.board w.hand) workers.new }
     ensures worked { (first : HallPass) (before : Hand L)
-        → All (λ w. HasWorked (serving L.left L.taken L.ByteSource.faults L.ByteSink.faults world.now.capabilities world.now.hall.catalogue first) before w.pass (S.faults w.source) w.hand) workers.old
-        → All (λ w. HasWorked (serving L.left L.taken L.ByteSource.faults L.ByteSink.faults world.now.capabilities world.now.hall.catalogue first) before w.pass (S.faults w.source) w.hand) workers.new }
+        → All (λ w. HasWorked (serving L.left L.taken L.ByteSource.faults L.ByteSink.faults world.now.capabilities world.now.hall.catalogue world.now.board.turnstile.table first) before w.pass w.board (S.faults w.source) w.hand) workers.old
+        → All (λ w. HasWorked (serving L.left L.taken L.ByteSource.faults L.ByteSink.faults world.now.capabilities world.now.hall.catalogue world.now.board.turnstile.table first) before w.pass w.board (S.faults w.source) w.hand) workers.new }
 {
     // The table of routes holds a tree, of which proofs have to be told that threads may share it.
     is_shared::<RestTable>();
@@ -54,11 +54,11 @@ fn work_all<R: Threads + Wait + Sync, K: Keeper + Send, S: Source + Send, L: Lin
         workers,
         WORKERS,
         &|_, worker: &mut Worker<K, S, L>|
-            requires { IsValid world.now.hall.catalogue × IsReady (table_of queue.now.links) world.now.hall.turnstile.table world.now.hall.catalogue (S.told worker.now.source) worker.now.pass worker.now.hand }
-            ensures ready { IsReady (table_of queue.entry.now.links) world.entry.now.hall.turnstile.table world.entry.now.hall.catalogue (S.told worker.exit.now.source) worker.exit.now.pass worker.exit.now.hand }
+            requires { IsValid world.now.hall.catalogue × IsReady (table_of queue.now.links) world.now.hall.turnstile.table world.now.board.turnstile.table world.now.hall.catalogue (S.told worker.now.source) worker.now.pass worker.now.board worker.now.hand }
+            ensures ready { IsReady (table_of queue.entry.now.links) world.entry.now.hall.turnstile.table world.entry.now.board.turnstile.table world.entry.now.hall.catalogue (S.told worker.exit.now.source) worker.exit.now.pass worker.exit.now.board worker.exit.now.hand }
             ensures worked { (first : HallPass) (before : Hand L)
-                → HasWorked (serving L.left L.taken L.ByteSource.faults L.ByteSink.faults world.entry.now.capabilities world.entry.now.hall.catalogue first) before worker.entry.now.pass (S.faults worker.entry.now.source) worker.entry.now.hand
-                → HasWorked (serving L.left L.taken L.ByteSource.faults L.ByteSink.faults world.entry.now.capabilities world.entry.now.hall.catalogue first) before worker.exit.now.pass (S.faults worker.exit.now.source) worker.exit.now.hand }
+                → HasWorked (serving L.left L.taken L.ByteSource.faults L.ByteSink.faults world.entry.now.capabilities world.entry.now.hall.catalogue world.entry.now.board.turnstile.table first) before worker.entry.now.pass worker.entry.now.board (S.faults worker.entry.now.source) worker.entry.now.hand
+                → HasWorked (serving L.left L.taken L.ByteSource.faults L.ByteSink.faults world.entry.now.capabilities world.entry.now.hall.catalogue world.entry.now.board.turnstile.table first) before worker.exit.now.pass worker.exit.now.board (S.faults worker.exit.now.source) worker.exit.now.hand }
         { work(rt, alloc, world, queue, worker) },
     );
     shift.end(rt, &world.hall);
@@ -74,12 +74,12 @@ fn serve_all<R: Threads + Wait + Sync, K: Keeper + Send, S: Source + Send, L: Li
     crew: &mut Crew<K, S, L>,
 )
     requires valid { IsValid world.now.hall.catalogue }
-    requires ready { All (λ w. IsReady (table_of queue.now.links) world.now.hall.turnstile.table world.now.hall.catalogue (S.told w.source) w.pass w.hand) crew.old.workers.items }
+    requires ready { All (λ w. IsReady (table_of queue.now.links) world.now.hall.turnstile.table world.now.board.turnstile.table world.now.hall.catalogue (S.told w.source) w.pass w.board w.hand) crew.old.workers.items }
     requires upkeep { IsPassOf world.now.hall.turnstile.table world.now.hall.catalogue crew.old.upkeep }
-    ensures ready { All (λ w. IsReady (table_of queue.now.links) world.now.hall.turnstile.table world.now.hall.catalogue (S.told w.source) w.pass w.hand) crew.new.workers.items }
+    ensures ready { All (λ w. IsReady (table_of queue.now.links) world.now.hall.turnstile.table world.now.board.turnstile.table world.now.hall.catalogue (S.told w.source) w.pass w.board w.hand) crew.new.workers.items }
     ensures worked { (first : HallPass) (before : Hand L)
-        → All (λ w. HasWorked (serving L.left L.taken L.ByteSource.faults L.ByteSink.faults world.now.capabilities world.now.hall.catalogue first) before w.pass (S.faults w.source) w.hand) crew.old.workers.items
-        → All (λ w. HasWorked (serving L.left L.taken L.ByteSource.faults L.ByteSink.faults world.now.capabilities world.now.hall.catalogue first) before w.pass (S.faults w.source) w.hand) crew.new.workers.items }
+        → All (λ w. HasWorked (serving L.left L.taken L.ByteSource.faults L.ByteSink.faults world.now.capabilities world.now.hall.catalogue world.now.board.turnstile.table first) before w.pass w.board (S.faults w.source) w.hand) crew.old.workers.items
+        → All (λ w. HasWorked (serving L.left L.taken L.ByteSource.faults L.ByteSink.faults world.now.capabilities world.now.hall.catalogue world.now.board.turnstile.table first) before w.pass w.board (S.faults w.source) w.hand) crew.new.workers.items }
     ensures each { length crew.new.workers.items ≡ length crew.old.workers.items }
 {
     let Crew { workers, upkeep } = crew;
@@ -91,11 +91,11 @@ fn serve_all<R: Threads + Wait + Sync, K: Keeper + Send, S: Source + Send, L: Li
             requires { IsPassOf hall.now.turnstile.table hall.now.catalogue upkeep.now }
         { keep_up(rt, hall, shift, upkeep) },
         &mut ||
-            requires { IsValid world.now.hall.catalogue × All (λ w. IsReady (table_of queue.now.links) world.now.hall.turnstile.table world.now.hall.catalogue (S.told w.source) w.pass w.hand) workers.now }
-            ensures ready { All (λ w. IsReady (table_of queue.entry.now.links) world.entry.now.hall.turnstile.table world.entry.now.hall.catalogue (S.told w.source) w.pass w.hand) workers.exit.now }
+            requires { IsValid world.now.hall.catalogue × All (λ w. IsReady (table_of queue.now.links) world.now.hall.turnstile.table world.now.board.turnstile.table world.now.hall.catalogue (S.told w.source) w.pass w.board w.hand) workers.now }
+            ensures ready { All (λ w. IsReady (table_of queue.entry.now.links) world.entry.now.hall.turnstile.table world.entry.now.board.turnstile.table world.entry.now.hall.catalogue (S.told w.source) w.pass w.board w.hand) workers.exit.now }
             ensures worked { (first : HallPass) (before : Hand L)
-                → All (λ w. HasWorked (serving L.left L.taken L.ByteSource.faults L.ByteSink.faults world.entry.now.capabilities world.entry.now.hall.catalogue first) before w.pass (S.faults w.source) w.hand) workers.entry.now
-                → All (λ w. HasWorked (serving L.left L.taken L.ByteSource.faults L.ByteSink.faults world.entry.now.capabilities world.entry.now.hall.catalogue first) before w.pass (S.faults w.source) w.hand) workers.exit.now }
+                → All (λ w. HasWorked (serving L.left L.taken L.ByteSource.faults L.ByteSink.faults world.entry.now.capabilities world.entry.now.hall.catalogue world.entry.now.board.turnstile.table first) before w.pass w.board (S.faults w.source) w.hand) workers.entry.now
+                → All (λ w. HasWorked (serving L.left L.taken L.ByteSource.faults L.ByteSink.faults world.entry.now.capabilities world.entry.now.hall.catalogue world.entry.now.board.turnstile.table first) before w.pass w.board (S.faults w.source) w.hand) workers.exit.now }
         { work_all(rt, alloc, world, queue, shift, workers) },
     );
 }
@@ -114,16 +114,16 @@ fn accept_and_serve<R: Threads + Wait + Sync, K: Keeper + Send, S: Source + Send
 where
     N::L: Send,
     requires valid { IsValid world.now.hall.catalogue }
-    requires ready { All (λ w. IsReady (table_of queue.now.links) world.now.hall.turnstile.table world.now.hall.catalogue (S.told w.source) w.pass w.hand) staff.old.crew.workers.items }
+    requires ready { All (λ w. IsReady (table_of queue.now.links) world.now.hall.turnstile.table world.now.board.turnstile.table world.now.hall.catalogue (S.told w.source) w.pass w.board w.hand) staff.old.crew.workers.items }
     requires upkeep { IsPassOf world.now.hall.turnstile.table world.now.hall.catalogue staff.old.crew.upkeep }
     requires acceptor { IsHand (table_of queue.now.links) (view staff.old.acceptor) staff.old.acceptor }
     requires parts { 0 < (view staff.old.acceptor).parts }
     ensures accepted { HasAccepted (table_of queue.now.links) connections (view staff.old.acceptor) staff.new.acceptor (N.given listener.old) (N.given listener.new) (N.faults listener.old) (N.faults listener.new) result }
-    ensures ready { All (λ w. IsReady (table_of queue.now.links) world.now.hall.turnstile.table world.now.hall.catalogue (S.told w.source) w.pass w.hand) staff.new.crew.workers.items }
+    ensures ready { All (λ w. IsReady (table_of queue.now.links) world.now.hall.turnstile.table world.now.board.turnstile.table world.now.hall.catalogue (S.told w.source) w.pass w.board w.hand) staff.new.crew.workers.items }
     ensures each { length staff.new.crew.workers.items ≡ length staff.old.crew.workers.items }
     ensures worked { (first : HallPass) (before : Hand N.L)
-        → All (λ w. HasWorked (serving N.L.left N.L.taken N.L.ByteSource.faults N.L.ByteSink.faults world.now.capabilities world.now.hall.catalogue first) before w.pass (S.faults w.source) w.hand) staff.old.crew.workers.items
-        → All (λ w. HasWorked (serving N.L.left N.L.taken N.L.ByteSource.faults N.L.ByteSink.faults world.now.capabilities world.now.hall.catalogue first) before w.pass (S.faults w.source) w.hand) staff.new.crew.workers.items }
+        → All (λ w. HasWorked (serving N.L.left N.L.taken N.L.ByteSource.faults N.L.ByteSink.faults world.now.capabilities world.now.hall.catalogue world.now.board.turnstile.table first) before w.pass w.board (S.faults w.source) w.hand) staff.old.crew.workers.items
+        → All (λ w. HasWorked (serving N.L.left N.L.taken N.L.ByteSource.faults N.L.ByteSink.faults world.now.capabilities world.now.hall.catalogue world.now.board.turnstile.table first) before w.pass w.board (S.faults w.source) w.hand) staff.new.crew.workers.items }
 {
     // The table of routes holds a tree, of which proofs have to be told that threads may share it.
     is_shared::<RestTable>();
@@ -135,11 +135,11 @@ where
     let ((), all) = join_mut(
         rt,
         &mut ||
-            requires { IsValid world.now.hall.catalogue × All (λ w. IsReady (table_of queue.now.links) world.now.hall.turnstile.table world.now.hall.catalogue (S.told w.source) w.pass w.hand) crew.now.workers.items × IsPassOf world.now.hall.turnstile.table world.now.hall.catalogue crew.now.upkeep }
-            ensures ready { All (λ w. IsReady (table_of queue.entry.now.links) world.entry.now.hall.turnstile.table world.entry.now.hall.catalogue (S.told w.source) w.pass w.hand) crew.exit.now.workers.items }
+            requires { IsValid world.now.hall.catalogue × All (λ w. IsReady (table_of queue.now.links) world.now.hall.turnstile.table world.now.board.turnstile.table world.now.hall.catalogue (S.told w.source) w.pass w.board w.hand) crew.now.workers.items × IsPassOf world.now.hall.turnstile.table world.now.hall.catalogue crew.now.upkeep }
+            ensures ready { All (λ w. IsReady (table_of queue.entry.now.links) world.entry.now.hall.turnstile.table world.entry.now.board.turnstile.table world.entry.now.hall.catalogue (S.told w.source) w.pass w.board w.hand) crew.exit.now.workers.items }
             ensures worked { (first : HallPass) (before : Hand N.L)
-                → All (λ w. HasWorked (serving N.L.left N.L.taken N.L.ByteSource.faults N.L.ByteSink.faults world.entry.now.capabilities world.entry.now.hall.catalogue first) before w.pass (S.faults w.source) w.hand) crew.entry.now.workers.items
-                → All (λ w. HasWorked (serving N.L.left N.L.taken N.L.ByteSource.faults N.L.ByteSink.faults world.entry.now.capabilities world.entry.now.hall.catalogue first) before w.pass (S.faults w.source) w.hand) crew.exit.now.workers.items }
+                → All (λ w. HasWorked (serving N.L.left N.L.taken N.L.ByteSource.faults N.L.ByteSink.faults world.entry.now.capabilities world.entry.now.hall.catalogue world.entry.now.board.turnstile.table first) before w.pass w.board (S.faults w.source) w.hand) crew.entry.now.workers.items
+                → All (λ w. HasWorked (serving N.L.left N.L.taken N.L.ByteSource.faults N.L.ByteSink.faults world.entry.now.capabilities world.entry.now.hall.catalogue world.entry.now.board.turnstile.table first) before w.pass w.board (S.faults w.source) w.hand) crew.exit.now.workers.items }
             ensures each { length crew.exit.now.workers.items ≡ length crew.entry.now.workers.items }
         { serve_all(rt, alloc, world, queue, shift, crew) },
         &mut || -> bool
@@ -169,13 +169,13 @@ pub(crate) fn serve_links<
 where
     N::L: Send,
     requires valid { IsValid world.now.hall.catalogue }
-    requires ready { All (λ w. IsReady (table_of queue.now.links) world.now.hall.turnstile.table world.now.hall.catalogue (S.told w.source) w.pass w.hand) staff.crew.workers.items }
+    requires ready { All (λ w. IsReady (table_of queue.now.links) world.now.hall.turnstile.table world.now.board.turnstile.table world.now.hall.catalogue (S.told w.source) w.pass w.board w.hand) staff.crew.workers.items }
     requires upkeep { IsPassOf world.now.hall.turnstile.table world.now.hall.catalogue staff.crew.upkeep }
     requires each { length staff.crew.workers.items ≡ WORKERS }
     requires acceptor { IsHand (table_of queue.now.links) (hand (all_parts - WORKERS) [] []) staff.acceptor }
     ensures { (first : HallPass)
-        → All (λ w. HasWorked (serving N.L.left N.L.taken N.L.ByteSource.faults N.L.ByteSink.faults world.now.capabilities world.now.hall.catalogue first) (hand 1 [] []) w.pass (S.faults w.source) w.hand) staff.crew.workers.items
-        → HasServedLinks (serving N.L.left N.L.taken N.L.ByteSource.faults N.L.ByteSink.faults world.now.capabilities world.now.hall.catalogue first) connections (N.given listener.old) (N.given listener.new) (N.faults listener.old) (N.faults listener.new) result }
+        → All (λ w. HasWorked (serving N.L.left N.L.taken N.L.ByteSource.faults N.L.ByteSink.faults world.now.capabilities world.now.hall.catalogue world.now.board.turnstile.table first) (hand 1 [] []) w.pass w.board (S.faults w.source) w.hand) staff.crew.workers.items
+        → HasServedLinks (serving N.L.left N.L.taken N.L.ByteSource.faults N.L.ByteSink.faults world.now.capabilities world.now.hall.catalogue world.now.board.turnstile.table first) connections (N.given listener.old) (N.given listener.new) (N.faults listener.old) (N.faults listener.new) result }
 {
     let mut staff = staff;
     let all = accept_and_serve(rt, alloc, connections, world, queue, &mut staff, listener);
