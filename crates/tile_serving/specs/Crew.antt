@@ -1,6 +1,6 @@
 -- The workers of a server.
 -- A tie between the code and its definitions: the promise can be read without it.
-use Rattle.std.specs.Prelude.{ℕ, ◌≡◌, ◌<◌, ◌++◌, Bool, true, List, [], length, MatchBool, Option, Some}
+use Rattle.std.specs.Prelude.{All, ℕ, ◌≡◌, ◌<◌, ◌++◌, Bool, true, List, [], length, MatchBool, Option, Some}
 use Rattle.std.specs.List.{AllByRecursion}
 use Rattle.atomic_table.specs.Seated.{TableId}
 use Rattle.cache_hall.specs.Turned.{HallPass, IsPassOf}
@@ -19,6 +19,13 @@ pub record IsReady {L : Type 0} (queue table at : TableId) (c : Catalogue) (tell
   pub source : pass.told ≡ true → tells ≡ Some c.source
   pub at_queue : IsHand queue (view mine) mine
   pub parts : 0 < (view mine).parts
+
+-- passes of what is served which have made nothing yet, at the hall and at the board; and where the hall is told, sources of the
+-- catalogue's pictures
+pub record AreSupplies {L S : Type 0} (s : Service L) (tells : S → Option ℕ) (passes : List HallPass) (boards : List BoardHolding) (sources : List S) : Type 0 where
+  pub passes_are : All (λ p. p ≡ s.first) passes
+  pub boards_are : All (IsFirstBoardPass s.board) boards
+  pub sources_tell : All (λ x. s.first.told ≡ true → tells x ≡ Some s.catalogue.source) sources
 
 -- a worker that has made nothing yet, and has no link
 pub record IsNew {L : Type 0} (queue : TableId) (s : Service L) (tells : Option ℕ) (pass : HallPass) (board : BoardHolding) (mine : Pass L (Hand L)) : Type 0 where

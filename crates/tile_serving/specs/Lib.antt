@@ -7,3 +7,4 @@ pub mod Accepted
 pub mod Crew
 pub mod Served
 pub mod Setup
+pub mod Running

@@ -1,14 +1,15 @@
 //! A server, from its files to its last link.
-ghost use Rattle.std.specs.Prelude.{IsTrue, length, true, ◌≡◌, ◌≤◌};
+ghost use Rattle.std.specs.Prelude.{IsTrue, length, true, ◌+◌, ◌≡◌, ◌≤◌};
 ghost use Rattle.tile_command.specs.Command.{HoldsFile};
 ghost use Rattle.tile_service.specs.Outside.{counts};
 ghost use Rattle.tile_serving.specs.Opened.{HoldsPictures, TellAll};
 ghost use Rattle.tile_serving.specs.Served.{HasEnded};
 
-use crate::crew::{Staff, crew_of};
+use crate::crew::{Staff, Supplies, WORKERS, crew_of};
 use crate::ends::ServerEnd;
 use crate::queue::LinkQueue;
-use crate::serving::{WORKERS, serve_links};
+use crate::runner::MEMBERS;
+use crate::serving::serve_links;
 use crate::setup::{Stage, made_ready};
 use clock::clock::Clock;
 use disk_model::disk::Disk;
@@ -21,8 +22,8 @@ use std::sync::Wait;
 use std::thread::Threads;
 
 /// Serves so many links of a listener, over the cache of a disk: it reads the catalogue and the capabilities document, opens the cache,
-/// and then four workers serve each link to its end, while quotas are kept and uses are saved. Everything that it needs besides the
-/// sessions is taken before the first link. Each end comes as `HasEnded` says.
+/// and then four workers serve each link to its end, while quotas are kept, uses are saved, and jobs that messages submit are run.
+/// Everything that it needs besides the sessions is taken before the first link. Each end comes as `HasEnded` says.
 ///
 /// A modelled disk has to hold a file of this program, by the catalogue that is read. Where its caller sets the mark `told`, the disk is
 /// modelled and keeps blobs of the catalogue's pictures alone, and the sources make these pictures; each tile that is served is then the
@@ -47,7 +48,7 @@ pub fn run_server<
 ) -> ServerEnd
 where
     N::L: Send,
-    requires sources { length sources.items ≡ WORKERS }
+    requires sources { length sources.items ≡ WORKERS + MEMBERS }
     requires connections { (1 ≤ connections) × (connections ≤ 1000000) }
     requires told { told.value ≡ true → IsTrue (D.told disk) × HoldsPictures (I.left catalogue.old) (D.state disk).seen × TellAll (I.left catalogue.old) S.told sources.items }
     requires holds { HoldsFile (I.left catalogue.old) (D.told disk) (D.state disk).seen }
@@ -66,14 +67,23 @@ where
         (record { disk = disk; told = D.told disk; seen = (D.state disk).seen; faults = D.faults })
         (capabilities.new ≡ capabilities.old) (listener.new ≡ listener.old) result }
 {
-    let Stage { world, passes } = match made_ready(alloc, catalogue, capabilities, clock, disk) {
+    let Stage {
+        world,
+        passes,
+        boards,
+    } = match made_ready(alloc, catalogue, capabilities, clock, disk) {
         Ok(stage) => stage,
         Err(end) => return end,
     };
     let Ok((queue, mut acceptor)) = LinkQueue::new(alloc) else {
         return ServerEnd::OutOfMemory;
     };
-    let Ok(crew) = crew_of(alloc, &queue, &mut acceptor, sources, passes) else {
+    let supplies = Supplies {
+        passes,
+        boards,
+        sources,
+    };
+    let Ok(crew) = crew_of(alloc, &queue, &mut acceptor, supplies) else {
         return ServerEnd::OutOfMemory;
     };
     let staff = Staff { crew, acceptor };

@@ -6,14 +6,17 @@ ghost use Rattle.crossbeam_queue.specs.Passes.{view};
 ghost use Rattle.tile_serving.specs.Accepted.{HasAccepted};
 ghost use Rattle.tile_serving.specs.Crew.{HasServedLinks, HasWorked, IsReady};
 ghost use Rattle.tile_serving.specs.Hands.{IsHand, all_parts, hand, table_of};
+ghost use Rattle.tile_serving.specs.Running.{MayRun};
 ghost use Rattle.tile_serving.specs.Stints.{serving};
 ghost use Rattle.tile_serving.specs.declared.hand.Hand.{Hand};
 
 use crate::accepting::accept_all;
-use crate::crew::{Crew, Staff, Worker};
+use crate::crew::{Crew, Staff, WORKERS, Worker};
 use crate::crossing::is_shared;
 use crate::ending::serve_rest;
 use crate::queue::LinkQueue;
+use crate::runner::Runner;
+use crate::running::run_jobs;
 use crate::upkeep::{Shift, keep_up};
 use crate::workers::work;
 use cabinet::keeper::Keeper;
@@ -27,10 +30,7 @@ use std::sync::Wait;
 use std::thread::{Threads, for_each_mut, join_mut};
 use wmts_rest::table::RestTable;
 
-/// How many workers serve links at a time.
-pub(crate) const WORKERS: usize = 4;
-
-/// Lets all workers serve until no more links come, and then ends the upkeep.
+/// Lets all workers serve until no more links come, and then tells who runs jobs.
 #[tactic(auto, using(crate::proofs::Shared::world_sync))]
 fn work_all<R: Threads + Wait + Sync, K: Keeper + Send, S: Source + Send, L: Link + Send>(
     rt: &R,
@@ -61,28 +61,81 @@ fn work_all<R: Threads + Wait + Sync, K: Keeper + Send, S: Source + Send, L: Lin
                 → HasWorked (serving L.left L.taken L.ByteSource.faults L.ByteSink.faults world.entry.now.capabilities world.entry.now.hall.catalogue world.entry.now.board.turnstile.table first) before worker.exit.now.pass worker.exit.now.board (S.faults worker.exit.now.source) worker.exit.now.hand }
         { work(rt, alloc, world, queue, worker) },
     );
-    shift.end(rt, &world.hall);
+    shift.end();
+    world.board.wake(rt);
 }
 
-/// Serves links until no more come, and keeps the cache up meanwhile.
+/// Serves links until no more come, and runs jobs until then and until none is left; then ends the upkeep.
+#[tactic(auto, using(crate::proofs::Shared::world_sync))]
+fn work_and_run<R: Threads + Wait + Sync, K: Keeper + Send, S: Source + Send, L: Link + Send>(
+    rt: &R,
+    alloc: Global,
+    world: &World<K>,
+    queue: &LinkQueue<L>,
+    upkeep: &Shift,
+    workers: &mut [Worker<K, S, L>],
+    runner: &mut Runner<K, S>,
+)
+    requires valid { IsValid world.now.hall.catalogue }
+    requires ready { All (λ w. IsReady (table_of queue.now.links) world.now.hall.turnstile.table world.now.board.turnstile.table world.now.hall.catalogue (S.told w.source) w.pass w.board w.hand) workers.old }
+    requires runner { MayRun world.now.hall.turnstile.table world.now.board.turnstile.table world.now.hall.catalogue S.told runner.old.board runner.old.passes.items runner.old.sources.items }
+    ensures ready { All (λ w. IsReady (table_of queue.now.links) world.now.hall.turnstile.table world.now.board.turnstile.table world.now.hall.catalogue (S.told w.source) w.pass w.board w.hand) workers.new }
+    ensures runner { MayRun world.now.hall.turnstile.table world.now.board.turnstile.table world.now.hall.catalogue S.told runner.new.board runner.new.passes.items runner.new.sources.items }
+    ensures worked { (first : HallPass) (before : Hand L)
+        → All (λ w. HasWorked (serving L.left L.taken L.ByteSource.faults L.ByteSink.faults world.now.capabilities world.now.hall.catalogue world.now.board.turnstile.table first) before w.pass w.board (S.faults w.source) w.hand) workers.old
+        → All (λ w. HasWorked (serving L.left L.taken L.ByteSource.faults L.ByteSink.faults world.now.capabilities world.now.hall.catalogue world.now.board.turnstile.table first) before w.pass w.board (S.faults w.source) w.hand) workers.new }
+{
+    // The table of routes holds a tree, of which proofs have to be told that threads may share it.
+    is_shared::<RestTable>();
+    let links = Shift::new();
+    let links = &links;
+    let ((), ()) = join_mut(
+        rt,
+        &mut ||
+            requires { MayRun world.now.hall.turnstile.table world.now.board.turnstile.table world.now.hall.catalogue S.told runner.now.board runner.now.passes.items runner.now.sources.items }
+            ensures { MayRun world.entry.now.hall.turnstile.table world.entry.now.board.turnstile.table world.entry.now.hall.catalogue S.told runner.exit.now.board runner.exit.now.passes.items runner.exit.now.sources.items }
+        { run_jobs(rt, alloc, &world.hall, &world.board, links, runner) },
+        &mut ||
+            requires { IsValid world.now.hall.catalogue × All (λ w. IsReady (table_of queue.now.links) world.now.hall.turnstile.table world.now.board.turnstile.table world.now.hall.catalogue (S.told w.source) w.pass w.board w.hand) workers.now }
+            ensures ready { All (λ w. IsReady (table_of queue.entry.now.links) world.entry.now.hall.turnstile.table world.entry.now.board.turnstile.table world.entry.now.hall.catalogue (S.told w.source) w.pass w.board w.hand) workers.exit.now }
+            ensures worked { (first : HallPass) (before : Hand L)
+                → All (λ w. HasWorked (serving L.left L.taken L.ByteSource.faults L.ByteSink.faults world.entry.now.capabilities world.entry.now.hall.catalogue world.entry.now.board.turnstile.table first) before w.pass w.board (S.faults w.source) w.hand) workers.entry.now
+                → All (λ w. HasWorked (serving L.left L.taken L.ByteSource.faults L.ByteSink.faults world.entry.now.capabilities world.entry.now.hall.catalogue world.entry.now.board.turnstile.table first) before w.pass w.board (S.faults w.source) w.hand) workers.exit.now }
+        { work_all(rt, alloc, world, queue, links, workers) },
+    );
+    upkeep.end();
+    world.hall.wake(rt);
+}
+
+/// Serves links until no more come, and runs jobs and keeps the cache up meanwhile.
+#[tactic(auto, using(crate::proofs::Shared::world_sync))]
 fn serve_all<R: Threads + Wait + Sync, K: Keeper + Send, S: Source + Send, L: Link + Send>(
     rt: &R,
     alloc: Global,
     world: &World<K>,
     queue: &LinkQueue<L>,
-    shift: &Shift,
     crew: &mut Crew<K, S, L>,
 )
     requires valid { IsValid world.now.hall.catalogue }
     requires ready { All (λ w. IsReady (table_of queue.now.links) world.now.hall.turnstile.table world.now.board.turnstile.table world.now.hall.catalogue (S.told w.source) w.pass w.board w.hand) crew.old.workers.items }
     requires upkeep { IsPassOf world.now.hall.turnstile.table world.now.hall.catalogue crew.old.upkeep }
+    requires runner { MayRun world.now.hall.turnstile.table world.now.board.turnstile.table world.now.hall.catalogue S.told crew.old.runner.board crew.old.runner.passes.items crew.old.runner.sources.items }
     ensures ready { All (λ w. IsReady (table_of queue.now.links) world.now.hall.turnstile.table world.now.board.turnstile.table world.now.hall.catalogue (S.told w.source) w.pass w.board w.hand) crew.new.workers.items }
+    ensures runner { MayRun world.now.hall.turnstile.table world.now.board.turnstile.table world.now.hall.catalogue S.told crew.new.runner.board crew.new.runner.passes.items crew.new.runner.sources.items }
     ensures worked { (first : HallPass) (before : Hand L)
         → All (λ w. HasWorked (serving L.left L.taken L.ByteSource.faults L.ByteSink.faults world.now.capabilities world.now.hall.catalogue world.now.board.turnstile.table first) before w.pass w.board (S.faults w.source) w.hand) crew.old.workers.items
         → All (λ w. HasWorked (serving L.left L.taken L.ByteSource.faults L.ByteSink.faults world.now.capabilities world.now.hall.catalogue world.now.board.turnstile.table first) before w.pass w.board (S.faults w.source) w.hand) crew.new.workers.items }
     ensures each { length crew.new.workers.items ≡ length crew.old.workers.items }
 {
-    let Crew { workers, upkeep } = crew;
+    // The table of routes holds a tree, of which proofs have to be told that threads may share it.
+    is_shared::<RestTable>();
+    let shift = Shift::new();
+    let shift = &shift;
+    let Crew {
+        workers,
+        upkeep,
+        runner,
+    } = crew;
     let workers = workers.as_mut_slice();
     let hall = &world.hall;
     let ((), ()) = join_mut(
@@ -91,12 +144,13 @@ fn serve_all<R: Threads + Wait + Sync, K: Keeper + Send, S: Source + Send, L: Li
             requires { IsPassOf hall.now.turnstile.table hall.now.catalogue upkeep.now }
         { keep_up(rt, hall, shift, upkeep) },
         &mut ||
-            requires { IsValid world.now.hall.catalogue × All (λ w. IsReady (table_of queue.now.links) world.now.hall.turnstile.table world.now.board.turnstile.table world.now.hall.catalogue (S.told w.source) w.pass w.board w.hand) workers.now }
+            requires { IsValid world.now.hall.catalogue × All (λ w. IsReady (table_of queue.now.links) world.now.hall.turnstile.table world.now.board.turnstile.table world.now.hall.catalogue (S.told w.source) w.pass w.board w.hand) workers.now × MayRun world.now.hall.turnstile.table world.now.board.turnstile.table world.now.hall.catalogue S.told runner.now.board runner.now.passes.items runner.now.sources.items }
             ensures ready { All (λ w. IsReady (table_of queue.entry.now.links) world.entry.now.hall.turnstile.table world.entry.now.board.turnstile.table world.entry.now.hall.catalogue (S.told w.source) w.pass w.board w.hand) workers.exit.now }
+            ensures runner { MayRun world.entry.now.hall.turnstile.table world.entry.now.board.turnstile.table world.entry.now.hall.catalogue S.told runner.exit.now.board runner.exit.now.passes.items runner.exit.now.sources.items }
             ensures worked { (first : HallPass) (before : Hand L)
                 → All (λ w. HasWorked (serving L.left L.taken L.ByteSource.faults L.ByteSink.faults world.entry.now.capabilities world.entry.now.hall.catalogue world.entry.now.board.turnstile.table first) before w.pass w.board (S.faults w.source) w.hand) workers.entry.now
                 → All (λ w. HasWorked (serving L.left L.taken L.ByteSource.faults L.ByteSink.faults world.entry.now.capabilities world.entry.now.hall.catalogue world.entry.now.board.turnstile.table first) before w.pass w.board (S.faults w.source) w.hand) workers.exit.now }
-        { work_all(rt, alloc, world, queue, shift, workers) },
+        { work_and_run(rt, alloc, world, queue, shift, workers, runner) },
     );
 }
 
@@ -116,6 +170,7 @@ where
     requires valid { IsValid world.now.hall.catalogue }
     requires ready { All (λ w. IsReady (table_of queue.now.links) world.now.hall.turnstile.table world.now.board.turnstile.table world.now.hall.catalogue (S.told w.source) w.pass w.board w.hand) staff.old.crew.workers.items }
     requires upkeep { IsPassOf world.now.hall.turnstile.table world.now.hall.catalogue staff.old.crew.upkeep }
+    requires runner { MayRun world.now.hall.turnstile.table world.now.board.turnstile.table world.now.hall.catalogue S.told staff.old.crew.runner.board staff.old.crew.runner.passes.items staff.old.crew.runner.sources.items }
     requires acceptor { IsHand (table_of queue.now.links) (view staff.old.acceptor) staff.old.acceptor }
     requires parts { 0 < (view staff.old.acceptor).parts }
     ensures accepted { HasAccepted (table_of queue.now.links) connections (view staff.old.acceptor) staff.new.acceptor (N.given listener.old) (N.given listener.new) (N.faults listener.old) (N.faults listener.new) result }
@@ -127,21 +182,19 @@ where
 {
     // The table of routes holds a tree, of which proofs have to be told that threads may share it.
     is_shared::<RestTable>();
-    let shift = Shift::new();
-    let shift = &shift;
     let Staff { crew, acceptor } = staff;
     let crew = identity(crew);
     let acceptor = identity(acceptor);
     let ((), all) = join_mut(
         rt,
         &mut ||
-            requires { IsValid world.now.hall.catalogue × All (λ w. IsReady (table_of queue.now.links) world.now.hall.turnstile.table world.now.board.turnstile.table world.now.hall.catalogue (S.told w.source) w.pass w.board w.hand) crew.now.workers.items × IsPassOf world.now.hall.turnstile.table world.now.hall.catalogue crew.now.upkeep }
+            requires { IsValid world.now.hall.catalogue × All (λ w. IsReady (table_of queue.now.links) world.now.hall.turnstile.table world.now.board.turnstile.table world.now.hall.catalogue (S.told w.source) w.pass w.board w.hand) crew.now.workers.items × IsPassOf world.now.hall.turnstile.table world.now.hall.catalogue crew.now.upkeep × MayRun world.now.hall.turnstile.table world.now.board.turnstile.table world.now.hall.catalogue S.told crew.now.runner.board crew.now.runner.passes.items crew.now.runner.sources.items }
             ensures ready { All (λ w. IsReady (table_of queue.entry.now.links) world.entry.now.hall.turnstile.table world.entry.now.board.turnstile.table world.entry.now.hall.catalogue (S.told w.source) w.pass w.board w.hand) crew.exit.now.workers.items }
             ensures worked { (first : HallPass) (before : Hand N.L)
                 → All (λ w. HasWorked (serving N.L.left N.L.taken N.L.ByteSource.faults N.L.ByteSink.faults world.entry.now.capabilities world.entry.now.hall.catalogue world.entry.now.board.turnstile.table first) before w.pass w.board (S.faults w.source) w.hand) crew.entry.now.workers.items
                 → All (λ w. HasWorked (serving N.L.left N.L.taken N.L.ByteSource.faults N.L.ByteSink.faults world.entry.now.capabilities world.entry.now.hall.catalogue world.entry.now.board.turnstile.table first) before w.pass w.board (S.faults w.source) w.hand) crew.exit.now.workers.items }
             ensures each { length crew.exit.now.workers.items ≡ length crew.entry.now.workers.items }
-        { serve_all(rt, alloc, world, queue, shift, crew) },
+        { serve_all(rt, alloc, world, queue, crew) },
         &mut || -> bool
             requires { IsHand (table_of queue.now.links) (view acceptor.now) acceptor.now × (0 < (view acceptor.now).parts) }
             ensures { HasAccepted (table_of queue.entry.now.links) connections (view acceptor.entry.now) acceptor.exit.now (N.given listener.entry.now) (N.given listener.exit.now) (N.faults listener.entry.now) (N.faults listener.exit.now) result }
@@ -171,6 +224,7 @@ where
     requires valid { IsValid world.now.hall.catalogue }
     requires ready { All (λ w. IsReady (table_of queue.now.links) world.now.hall.turnstile.table world.now.board.turnstile.table world.now.hall.catalogue (S.told w.source) w.pass w.board w.hand) staff.crew.workers.items }
     requires upkeep { IsPassOf world.now.hall.turnstile.table world.now.hall.catalogue staff.crew.upkeep }
+    requires runner { MayRun world.now.hall.turnstile.table world.now.board.turnstile.table world.now.hall.catalogue S.told staff.crew.runner.board staff.crew.runner.passes.items staff.crew.runner.sources.items }
     requires each { length staff.crew.workers.items ≡ WORKERS }
     requires acceptor { IsHand (table_of queue.now.links) (hand (all_parts - WORKERS) [] []) staff.acceptor }
     ensures { (first : HallPass)

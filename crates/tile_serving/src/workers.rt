@@ -44,6 +44,7 @@ pub(crate) fn work<R: Wait, K: Keeper, S: Source, L: Link>(
             alloc,
             world,
             &mut worker.pass,
+            &mut worker.board,
             &mut worker.source,
             &mut link,
         );

@@ -11,17 +11,17 @@ serve_links-requires-clause-ready g c κs within = λ k d lt.
     let st = c.in-Ok.ensures.staged in
     let catalogue = c.in-Ok.stage.world.hall.catalogue in
     let first = first_pass c.in-Ok.stage.world.hall.turnstile.table catalogue c.args.told.value st.first.opened in
-    let s : Service g.row.N-L.Denot = serving g.N.L.ByteSource.left g.N.L.ByteSink.taken g.N.L.ByteSource.faults g.N.L.ByteSink.faults c.in-Ok.stage.world.capabilities catalogue first in
-    let new = c.in-Ok-crew_of.ensures.new s st.first.first (λ i e inside told. (c.requires.told told).2 catalogue (may_be _ _ st.read.read) i e inside) in
-    new_is_ready s _ _ _ _ refl (new.0 k d lt)
+    let s : Service g.row.N-L.Denot = serving g.N.L.ByteSource.left g.N.L.ByteSink.taken g.N.L.ByteSource.faults g.N.L.ByteSink.faults c.in-Ok.stage.world.capabilities catalogue c.in-Ok.stage.world.board.turnstile.table first in
+    let new = c.in-Ok-crew_of.ensures.new s (record { passes_are = st.first.first; boards_are = c.in-Ok.ensures.boards.first; sources_tell = λ i e inside told. (c.requires.told told).2 catalogue (may_be _ _ st.read.read) i e inside }) in
+    new_is_ready s _ _ _ _ _ refl (new.0 k d lt)
 
 pub serve_links-requires-clause-upkeep : goal.serve_links-requires-clause-upkeep
 serve_links-requires-clause-upkeep g c κs within =
     let st = c.in-Ok.ensures.staged in
     let catalogue = c.in-Ok.stage.world.hall.catalogue in
     let first = first_pass c.in-Ok.stage.world.hall.turnstile.table catalogue c.args.told.value st.first.opened in
-    let s : Service g.row.N-L.Denot = serving g.N.L.ByteSource.left g.N.L.ByteSink.taken g.N.L.ByteSource.faults g.N.L.ByteSink.faults c.in-Ok.stage.world.capabilities catalogue first in
-    let new = c.in-Ok-crew_of.ensures.new s st.first.first (λ i e inside told. (c.requires.told told).2 catalogue (may_be _ _ st.read.read) i e inside) in
+    let s : Service g.row.N-L.Denot = serving g.N.L.ByteSource.left g.N.L.ByteSink.taken g.N.L.ByteSource.faults g.N.L.ByteSink.faults c.in-Ok.stage.world.capabilities catalogue c.in-Ok.stage.world.board.turnstile.table first in
+    let new = c.in-Ok-crew_of.ensures.new s (record { passes_are = st.first.first; boards_are = c.in-Ok.ensures.boards.first; sources_tell = λ i e inside told. (c.requires.told told).2 catalogue (may_be _ _ st.read.read) i e inside }) in
     record { same_table = ap (λ p. p.table) new.1; charter = ap (λ p. p.charter) new.1 }
 
 pub returns-then-serve_links : goal.returns-then-serve_links
@@ -29,14 +29,14 @@ returns-then-serve_links g c =
     let st = c.in-Ok.ensures.staged in
     let catalogue = c.in-Ok.stage.world.hall.catalogue in
     let first = first_pass c.in-Ok.stage.world.hall.turnstile.table catalogue c.args.told.value st.first.opened in
-    let s : Service g.row.N-L.Denot = serving g.N.L.ByteSource.left g.N.L.ByteSink.taken g.N.L.ByteSource.faults g.N.L.ByteSink.faults c.in-Ok.stage.world.capabilities catalogue first in
-    let new = c.in-Ok-crew_of.ensures.new s st.first.first (λ i e inside told. (c.requires.told told).2 catalogue (may_be _ _ st.read.read) i e inside) in
-    let h = c.serve_links.ensures first (λ k d lt. new_has_worked s _ _ _ _ _ (new.0 k d lt)) in (
+    let s : Service g.row.N-L.Denot = serving g.N.L.ByteSource.left g.N.L.ByteSink.taken g.N.L.ByteSource.faults g.N.L.ByteSink.faults c.in-Ok.stage.world.capabilities catalogue c.in-Ok.stage.world.board.turnstile.table first in
+    let new = c.in-Ok-crew_of.ensures.new s (record { passes_are = st.first.first; boards_are = c.in-Ok.ensures.boards.first; sources_tell = λ i e inside told. (c.requires.told told).2 catalogue (may_be _ _ st.read.read) i e inside }) in
+    let h = c.serve_links.ensures first (λ k d lt. new_has_worked s _ _ _ _ _ _ (new.0 k d lt)) in (
       catalogue,
       c.in-Ok.stage.world.capabilities,
       st.read,
       (
-        record { opened = st.first.opened; is_opened = st.first.is_opened; table = c.in-Ok.stage.world.hall.turnstile.table; links = h.links; given = h.given; served = h.served },
+        record { opened = st.first.opened; is_opened = st.first.is_opened; table = c.in-Ok.stage.world.hall.turnstile.table; board = c.in-Ok.stage.world.board.turnstile.table; links = h.links; given = h.given; served = h.served },
         MatchBool-at_true _ _ c.if-serve_links.true h.each,
       ),
     )
@@ -46,14 +46,14 @@ returns g c =
     let st = c.in-Ok.ensures.staged in
     let catalogue = c.in-Ok.stage.world.hall.catalogue in
     let first = first_pass c.in-Ok.stage.world.hall.turnstile.table catalogue c.args.told.value st.first.opened in
-    let s : Service g.row.N-L.Denot = serving g.N.L.ByteSource.left g.N.L.ByteSink.taken g.N.L.ByteSource.faults g.N.L.ByteSink.faults c.in-Ok.stage.world.capabilities catalogue first in
-    let new = c.in-Ok-crew_of.ensures.new s st.first.first (λ i e inside told. (c.requires.told told).2 catalogue (may_be _ _ st.read.read) i e inside) in
-    let h = c.serve_links.ensures first (λ k d lt. new_has_worked s _ _ _ _ _ (new.0 k d lt)) in (
+    let s : Service g.row.N-L.Denot = serving g.N.L.ByteSource.left g.N.L.ByteSink.taken g.N.L.ByteSource.faults g.N.L.ByteSink.faults c.in-Ok.stage.world.capabilities catalogue c.in-Ok.stage.world.board.turnstile.table first in
+    let new = c.in-Ok-crew_of.ensures.new s (record { passes_are = st.first.first; boards_are = c.in-Ok.ensures.boards.first; sources_tell = λ i e inside told. (c.requires.told told).2 catalogue (may_be _ _ st.read.read) i e inside }) in
+    let h = c.serve_links.ensures first (λ k d lt. new_has_worked s _ _ _ _ _ _ (new.0 k d lt)) in (
       (
         catalogue,
         c.in-Ok.stage.world.capabilities,
         st.read,
-        record { opened = st.first.opened; is_opened = st.first.is_opened; table = c.in-Ok.stage.world.hall.turnstile.table; links = h.links; given = h.given; served = h.served },
+        record { opened = st.first.opened; is_opened = st.first.is_opened; table = c.in-Ok.stage.world.hall.turnstile.table; board = c.in-Ok.stage.world.board.turnstile.table; links = h.links; given = h.given; served = h.served },
       ),
       MatchBool-at_false _ _ c.if-serve_links.false h.each,
     )

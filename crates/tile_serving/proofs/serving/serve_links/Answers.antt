@@ -5,7 +5,7 @@ use Rattle.tile_serving.proofs.serving.serve_links.Goals as goal
 
 pub returns : goal.returns
 returns g c = λ first all.
-    let s : Service g.row.N-L.Denot = serving g.N.L.ByteSource.left g.N.L.ByteSink.taken g.N.L.ByteSource.faults g.N.L.ByteSink.faults c.args.world.now.capabilities c.args.world.now.hall.catalogue first in
+    let s : Service g.row.N-L.Denot = serving g.N.L.ByteSource.left g.N.L.ByteSink.taken g.N.L.ByteSource.faults g.N.L.ByteSink.faults c.args.world.now.capabilities c.args.world.now.hall.catalogue c.args.world.now.board.turnstile.table first in
     let a = c.accept_and_serve-all.ensures.accepted in
     let worked = c.accept_and_serve-all.ensures.worked first (hand 1 [] []) all in
     let put = ap (λ v. v.put) a.put.knows ∙ ap (λ v. v.put ++ a.links) c.requires.acceptor.knows in
