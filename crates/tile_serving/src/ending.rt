@@ -35,6 +35,7 @@ fn gather<K: Keeper, S: Source, L: Link>(
     'gathering: while let Some(other) = others.pop() {
         let Worker {
             pass: _,
+            board: _,
             hand,
             source: _,
         } = other;
