@@ -16,7 +16,7 @@ use std::test::Fail;
 use std::thread::Threads;
 use tile_command::command::run_command;
 use tile_serving::ends::ServerEnd;
-use tile_serving::server::run_server;
+use tile_serving::server::{SOURCES, run_server};
 
 /// A source of these bytes.
 pub fn supply(alloc: Global, bytes: &[u8]) -> Result<MemorySource, Fail> {
@@ -41,16 +41,15 @@ fn made(alloc: Global) -> Result<SilentDisk, Fail> {
     Ok(disk)
 }
 
-/// A source for each of the four workers.
+/// The sources that a server takes.
 pub fn sources(alloc: Global) -> Result<Vec<Numbered>, Fail>
-    ensures { IfOk result (λ sources. length sources.items ≡ 4) }
+    ensures { IfOk result (λ sources. length sources.items ≡ SOURCES) }
 {
-    Ok(vec![in alloc;
-        Numbered::new(0),
-        Numbered::new(0),
-        Numbered::new(0),
-        Numbered::new(0),
-    ]?)
+    let mut sources = Vec::new(alloc);
+    'opening: for _ in 0..SOURCES {
+        sources.push(Numbered::new(0))?;
+    }
+    Ok(sources)
 }
 
 /// What a server of the tests works with: the built-in catalogue, no capabilities document, and an empty cache.
@@ -82,7 +81,7 @@ pub fn served<R: Threads + Wait + Sync, S: Source + Send, N: Listener>(
 ) -> ServerEnd
 where
     N::L: Send,
-    requires sources { length sources.items ≡ 4 }
+    requires sources { length sources.items ≡ SOURCES }
     requires connections { (1 ≤ connections) × (connections ≤ 1000000) }
 {
     let Stage {

@@ -1,14 +1,13 @@
 //! A server, from its files to its last link.
-ghost use Rattle.std.specs.Prelude.{IsTrue, length, true, ◌+◌, ◌≡◌, ◌≤◌};
+ghost use Rattle.std.specs.Prelude.{IsTrue, length, true, ◌≡◌, ◌≤◌};
 ghost use Rattle.tile_command.specs.Command.{HoldsFile};
 ghost use Rattle.tile_service.specs.Outside.{counts};
 ghost use Rattle.tile_serving.specs.Opened.{HoldsPictures, TellAll};
 ghost use Rattle.tile_serving.specs.Served.{HasEnded};
 
-use crate::crew::{Staff, Supplies, WORKERS, crew_of};
+use crate::crew::{Staff, Supplies, crew_of};
 use crate::ends::ServerEnd;
 use crate::queue::LinkQueue;
-use crate::runner::MEMBERS;
 use crate::serving::serve_links;
 use crate::setup::{Stage, made_ready};
 use clock::clock::Clock;
@@ -20,6 +19,9 @@ use std::alloc::Global;
 use std::snapshot::Snapshot;
 use std::sync::Wait;
 use std::thread::Threads;
+
+/// How many sources a server takes: one for each worker, and one for each member of a job's crew.
+pub const SOURCES: usize = 12;
 
 /// Serves so many links of a listener, over the cache of a disk: it reads the catalogue and the capabilities document, opens the cache,
 /// and then four workers serve each link to its end, while quotas are kept, uses are saved, and jobs that messages submit are run.
@@ -48,7 +50,7 @@ pub fn run_server<
 ) -> ServerEnd
 where
     N::L: Send,
-    requires sources { length sources.items ≡ WORKERS + MEMBERS }
+    requires sources { length sources.items ≡ SOURCES }
     requires connections { (1 ≤ connections) × (connections ≤ 1000000) }
     requires told { told.value ≡ true → IsTrue (D.told disk) × HoldsPictures (I.left catalogue.old) (D.state disk).seen × TellAll (I.left catalogue.old) S.told sources.items }
     requires holds { HoldsFile (I.left catalogue.old) (D.told disk) (D.state disk).seen }
