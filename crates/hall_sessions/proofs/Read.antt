@@ -10,8 +10,10 @@ use Rattle.job_requests.specs.Routes.{request_for as job_request_for}
 use Rattle.job_requests.specs.Served.{ServesJob, outcome_of_look, outcome_of_submission}
 use Rattle.job_requests.specs.Texts.{progress_text, submitted_text}
 use Rattle.job_sheet.specs.declared.progress.Progress.{Progress}
+use Rattle.cabinet_chest.specs.declared.shown.Note.{Note}
 use Rattle.cache_hall.specs.Turned.{HallPass}
 use Rattle.cache_hall.proofs.Turning.{gains_none}
+use Rattle.turnstile.specs.declared.view.Made.{Made}
 use Rattle.tile_requests.specs.declared.outcome.Outcome.{Outcome}
 use Rattle.tile_requests.specs.declared.outcome.Outcome.TheVariants as outcome
 use Rattle.tile_requests.specs.declared.message_ref.MessageRef.{MessageRef}
@@ -52,6 +54,15 @@ pub asked_of_jobs : (c : Catalogue) (parts : MessageRef) (m : Message) → parts
 unfolding job_request_for
 asked_of_jobs c parts m method target body = rw (method, target, body) refl
 
+-- a message was served by a pass that stood so, by what it asks of jobs
+abbrev IsServedAs : Catalogue → HallPass → Message → Option Request → List (Made Note) → BoardHolding → BoardHolding → Outcome → Option JobRequest → Type 0
+IsServedAs c p m request gained board board_after o asked =
+    MatchOption asked (IsOtherMessageServed c p.told p.book m request gained o × (board_after ≡ board)) (λ r. IsJobMessageServed c r gained board board_after o × (request ≡ None))
+
+unread_as : (c : Catalogue) (p : HallPass) (m : Message) (board : BoardHolding) (asked : Option JobRequest) → IsServedAs c p m None [] board board outcome.NoMemory asked
+unread_as c p m board None = ((refl, refl), refl)
+unread_as c p m board (Some r) = (inr ((refl, refl), refl), refl)
+
 -- REQUESTS AND MESSAGES
 
 module _ (c : Catalogue) (before after : ℕ) (p : HallPass) where
@@ -59,18 +70,9 @@ module _ (c : Catalogue) (before after : ℕ) (p : HallPass) where
   pub nothing_served : (r : Request) (o : Outcome) → IsRequestServed c p.told p.book r [] o → (o ≡ outcome.SourceFailed → ⊥) → ServesRequest c before after r p p o
   nothing_served r o served other = record { gained = []; gains = gains_none c p; served = served; cause = λ e. absurd (other e) }
 
-  -- a message that makes no turn at the cabinet was served, by what it asks of jobs
-  abbrev IsServedAs : Message → BoardHolding → BoardHolding → Outcome → Option JobRequest → Type 0
-  IsServedAs m board board_after o asked =
-      MatchOption asked (IsOtherMessageServed c p.told p.book m None [] o × (board_after ≡ board)) (λ r. IsJobMessageServed c r [] board board_after o × (None {A = Request} ≡ None))
-
-  unread_as : (m : Message) (board : BoardHolding) (asked : Option JobRequest) → IsServedAs m board board outcome.NoMemory asked
-  unread_as m board None = ((refl, refl), refl)
-  unread_as m board (Some r) = (inr ((refl, refl), refl), refl)
-
   -- no memory was left to read the message
   pub unread : (m : Message) (board : BoardHolding) → Serves c before after m p p board board outcome.NoMemory
-  unread m board = record { gained = []; gains = gains_none c p; request = None; served = unread_as m board (job_request_for c m); cause = λ e. absurd (cc) }
+  unread m board = record { gained = []; gains = gains_none c p; request = None; served = unread_as c p m board (job_request_for c m); cause = λ e. absurd (cc) }
 
   -- the message asks this of jobs
   pub served_at_board : (m : Message) (board board_after : BoardHolding) (r : JobRequest) (o : Outcome) → Some r ≡ job_request_for c m → ServesJob c r board board_after o → Serves c before after m p p board board_after o
@@ -78,12 +80,16 @@ module _ (c : Catalogue) (before after : ℕ) (p : HallPass) where
     gained = [];
     gains = gains_none c p;
     request = None;
-    served = subst (IsServedAs m board board_after o) asks (inl (refl, h), refl);
+    served = subst (IsServedAs c p m None [] board board_after o) asks (inl (refl, h), refl);
     cause = λ e. absurd (no_source_failed c board board_after o r h e);
   }
 
   -- the message asks nothing of jobs, and this by the table of paths
   pub read_so : (q : HallPass) (m : Message) (board : BoardHolding) (r : Request) (o : Outcome) → None ≡ job_request_for c m → r ≡ request_for c m → ServesRequest c before after r p q o → Serves c before after m p q board board o
-  read_so q m board r o other is h =
-      let P : Option JobRequest → Type 0 = λ asked. MatchOption asked (IsOtherMessageServed c p.told p.book m (Some r) h.gained o × (board ≡ board)) (λ j. IsJobMessageServed c j h.gained board board o × (Some r ≡ None)) in
-      record { gained = h.gained; gains = h.gains; request = Some r; served = subst P other ((is, h.served), refl); cause = h.cause }
+  read_so q m board r o other is h = record {
+    gained = h.gained;
+    gains = h.gains;
+    request = Some r;
+    served = subst (IsServedAs c p m (Some r) h.gained board board o) other ((is, h.served), refl);
+    cause = h.cause;
+  }

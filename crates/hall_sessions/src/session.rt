@@ -59,7 +59,17 @@ pub fn serve_session<R: Wait, K: Keeper, S: Source, L: Link>(
             Err(WireFault::ReadFault) => return SessionEnd::ReadFault,
             Err(WireFault::OutOfMemory) => return SessionEnd::OutOfMemory,
         };
-        match respond(rt, alloc, world, pass, board, source, link, &message, answered + 1) {
+        match respond(
+            rt,
+            alloc,
+            world,
+            pass,
+            board,
+            source,
+            link,
+            &message,
+            answered + 1,
+        ) {
             Ok(()) => {}
             Err(_) => return SessionEnd::WriteFault,
         }
