@@ -73,7 +73,7 @@ where
         world,
         passes,
         boards,
-    } = match made_ready(alloc, catalogue, capabilities, clock, disk) {
+    } = match made_ready(alloc, catalogue, capabilities, clock, disk, &told) {
         Ok(stage) => stage,
         Err(end) => return end,
     };

@@ -22,6 +22,7 @@ use hall_sessions::world::World;
 use http_wire::streams::ByteSource;
 use job_board::board::{Board, BoardEntry, BoardPass};
 use std::alloc::{AllocError, Global};
+use std::snapshot::Snapshot;
 use turnstile::pass::Pass;
 use wmts_rest::table::RestTable;
 
@@ -128,13 +129,15 @@ fn world_on<D: Disk>(
     }
 }
 
-/// Reads the catalogue and the capabilities document, opens the cabinet of the disk, and makes a world over it.
+/// Reads the catalogue and the capabilities document, opens the cabinet of the disk, and makes a world over it. The mark of being told is
+/// handed in as a value too, since a proof names the mark of a call by what is handed in.
 pub(crate) fn made_ready<D: Disk, I: ByteSource>(
     alloc: Global,
     catalogue: &mut I,
     capabilities: &mut I,
     clock: Clock,
     disk: D,
+    _mark: &Snapshot<bool>,
 ) -> Result<Stage<Cabinet<D>>, ServerEnd>
     ghost told: { Bool }
     requires holds { HoldsFile (I.left catalogue.old) (D.told disk) (D.state disk).seen }
