@@ -2,9 +2,10 @@
 use cabinet::keeper::Keeper;
 use cache_hall::hall::Hall;
 use exact_ratio::words::Words;
+use job_board::board::Board;
 use wmts_rest::table::RestTable;
 
-/// Where many threads are served: a hall, the reading of paths, and the capabilities document.
+/// Where many threads are served: a hall, the reading of paths, the capabilities document, and a board of jobs.
 #[derive(Drop)]
 pub struct World<K: Keeper> {
     pub hall: Hall<K>,
@@ -12,4 +13,6 @@ pub struct World<K: Keeper> {
     pub rest: RestTable,
     /// The document of the service's capabilities, as the operator wrote it.
     pub capabilities: Words,
+    /// The jobs that were submitted.
+    pub board: Board,
 }
