@@ -80,12 +80,7 @@ fn new_visit(alloc: Global) -> Result<Option<Visit>, AllocError>
 }
 
 /// Holds a session over a link of these bytes, and hands the link back.
-fn held<R: Wait>(
-    rt: &R,
-    alloc: Global,
-    visit: Visit,
-    bytes: Vec<u8>,
-) -> (SessionEnd, MemoryLink)
+fn held<R: Wait>(rt: &R, alloc: Global, visit: Visit, bytes: Vec<u8>) -> (SessionEnd, MemoryLink)
     requires fit { IsFit visit.world.hall.turnstile visit.world.hall.catalogue visit.pass }
     requires board { IsBoardPass visit.world.board.turnstile.table visit.board }
 {
@@ -99,7 +94,15 @@ fn held<R: Wait>(
         MemorySource::new(bytes, 4096, Vec::new(alloc)),
         MemorySink::new(alloc, Vec::new(alloc)),
     );
-    let end = serve_session(rt, alloc, &world, &mut pass, &mut board, &mut source, &mut link);
+    let end = serve_session(
+        rt,
+        alloc,
+        &world,
+        &mut pass,
+        &mut board,
+        &mut source,
+        &mut link,
+    );
     (end, link)
 }
 

@@ -1,0 +1,4 @@
+mod Swapping
+mod Joining
+mod Counting
+mod History
