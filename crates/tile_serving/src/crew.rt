@@ -1,15 +1,22 @@
 //! Who works for a server.
-ghost use Rattle.std.specs.Prelude.{All, IfOk, length, [], ◌+◌, ◌-◌, ◌∷◌, ◌≡◌, ◌≤◌};
+ghost use Rattle.std.specs.Prelude.{All, Bool, IfOk, Some, length, true, [], ◌+◌, ◌-◌, ◌≡◌, ◌≤◌};
+ghost use Rattle.atomic_table.specs.Seated.{TableId};
+ghost use Rattle.cache_hall.specs.Turned.{IsPassOf};
+ghost use Rattle.catalog.specs.declared.catalogue.Catalogue.{Catalogue};
+ghost use Rattle.job_runner.specs.Idles.{MayJoin};
 ghost use Rattle.tile_serving.specs.Crew.{AreSupplies, IsNew};
 ghost use Rattle.tile_serving.specs.Hands.{IsHand, all_parts, hand, table_of};
+ghost use Rattle.tile_serving.specs.Runners.{IsNewRunner};
 ghost use Rattle.tile_serving.specs.Stints.{Service};
 
 use crate::queue::{LinkHand, LinkQueue};
-use crate::runner::{MEMBERS, Runner};
 use cabinet::keeper::Keeper;
 use cabinet_chest::chest::CabinetChest;
 use http_wire::links::Link;
 use job_board::board::BoardPass;
+use job_runner::members::idle_members;
+use job_runner::runner::{MEMBERS, Runner};
+use seed_jobs::gate::Gate;
 use source_render::source::Source;
 use std::alloc::{AllocError, Global};
 use turnstile::pass::Pass;
@@ -28,16 +35,16 @@ pub(crate) struct Worker<K: Keeper, S: Source, L: Link> {
 
 /// The workers of a server, the pass for its upkeep, and who runs its jobs.
 #[derive(Drop)]
-pub(crate) struct Crew<K: Keeper, S: Source, L: Link> {
+pub(crate) struct Crew<K: Keeper, S: Source, L: Link, G: Gate> {
     pub(crate) workers: Vec<Worker<K, S, L>>,
     pub(crate) upkeep: Pass<CabinetChest<K>>,
-    pub(crate) runner: Runner<K, S>,
+    pub(crate) runner: Runner<K, S, G>,
 }
 
 /// All that have a hand at the queue: a crew, and who accepts links.
 #[derive(Drop)]
-pub(crate) struct Staff<K: Keeper, S: Source, L: Link> {
-    pub(crate) crew: Crew<K, S, L>,
+pub(crate) struct Staff<K: Keeper, S: Source, L: Link, G: Gate> {
+    pub(crate) crew: Crew<K, S, L, G>,
     pub(crate) acceptor: LinkHand<L>,
 }
 
@@ -91,22 +98,43 @@ fn workers_of<K: Keeper, S: Source, L: Link>(
     Ok(workers)
 }
 
+/// Who runs jobs, with a member for each pass. `AllocError` where memory runs out.
+fn runner_of<K: Keeper, S: Source, G: Gate>(
+    alloc: Global,
+    board: BoardPass,
+    passes: Vec<Pass<CabinetChest<K>>>,
+    sources: Vec<S>,
+    gates: Vec<G>,
+) -> Result<Runner<K, S, G>, AllocError>
+    requires passes { length passes.items ≡ MEMBERS }
+    requires sources { length sources.items ≡ MEMBERS }
+    requires gates { length gates.items ≡ MEMBERS }
+    ensures board { IfOk result (λ runner. runner.board ≡ board) }
+    ensures join { (table : TableId) (c : Catalogue) (told : Bool) → All (IsPassOf table c) passes.items → All (λ p. p.told ≡ told) passes.items
+        → All (λ s. told ≡ true → S.told s ≡ Some c.source) sources.items → IfOk result (λ runner. All (MayJoin table c) runner.idle) }
+{
+    let idle = idle_members(alloc, passes, sources, gates)?;
+    Runner::new(alloc, board, idle)
+}
+
 /// A crew of workers, the upkeep, and who runs jobs with all that is left of the supplies. `AllocError` where memory runs out.
-pub(crate) fn crew_of<K: Keeper, S: Source, L: Link>(
+pub(crate) fn crew_of<K: Keeper, S: Source, L: Link, G: Gate>(
     alloc: Global,
     queue: &LinkQueue<L>,
     mine: &mut LinkHand<L>,
     supplies: Supplies<K, S>,
-) -> Result<Crew<K, S, L>, AllocError>
+    gates: Vec<G>,
+) -> Result<Crew<K, S, L, G>, AllocError>
     requires passes { length supplies.passes.items ≡ WORKERS + 1 + MEMBERS }
     requires boards { length supplies.boards.items ≡ WORKERS + 1 }
     requires sources { length supplies.sources.items ≡ WORKERS + MEMBERS }
+    requires gates { length gates.items ≡ MEMBERS }
     requires mine { IsHand (table_of queue.now.links) (hand all_parts [] []) mine.old }
     ensures mine { IfOk result (λ crew. IsHand (table_of queue.now.links) (hand (all_parts - WORKERS) [] []) mine.new) }
     ensures each { IfOk result (λ crew. length crew.workers.items ≡ WORKERS) }
-    ensures new { (s : Service L) → AreSupplies s S.told supplies.passes.items supplies.boards.items supplies.sources.items
+    ensures new { (s : Service L) → s.first.charter ≡ Some s.catalogue → AreSupplies s S.told supplies.passes.items supplies.boards.items supplies.sources.items
         → IfOk result (λ crew. All (λ w. IsNew (table_of queue.now.links) s (S.told w.source) w.pass w.board w.hand) crew.workers.items
-        × (crew.upkeep ≡ s.first) × AreSupplies s S.told crew.runner.passes.items (crew.runner.board ∷ []) crew.runner.sources.items) }
+        × (crew.upkeep ≡ s.first) × IsNewRunner s crew.runner) }
 {
     let mut supplies = supplies;
     let workers = workers_of(alloc, queue, mine, &mut supplies)?;
@@ -121,7 +149,7 @@ pub(crate) fn crew_of<K: Keeper, S: Source, L: Link>(
     let Some(board) = boards.pop() else {
         unreachable!()
     };
-    let runner = Runner::new(alloc, board, passes, sources)?;
+    let runner = runner_of(alloc, board, passes, sources, gates)?;
     Ok(Crew {
         workers,
         upkeep,

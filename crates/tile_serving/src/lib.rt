@@ -15,8 +15,6 @@ mod ending;
 pub mod ends;
 mod hand;
 mod queue;
-mod runner;
-mod running;
 pub mod server;
 mod serving;
 mod setup;

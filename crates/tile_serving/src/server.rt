@@ -1,5 +1,5 @@
 //! A server, from its files to its last link.
-ghost use Rattle.std.specs.Prelude.{IsTrue, length, true, ◌≡◌, ◌≤◌};
+ghost use Rattle.std.specs.Prelude.{IfOk, IsTrue, length, true, ◌≡◌, ◌≤◌};
 ghost use Rattle.tile_command.specs.Command.{HoldsFile};
 ghost use Rattle.tile_service.specs.Outside.{counts};
 ghost use Rattle.tile_serving.specs.Opened.{HoldsPictures, TellAll};
@@ -13,12 +13,25 @@ use crate::setup::{Stage, made_ready};
 use clock::clock::Clock;
 use disk_model::disk::Disk;
 use http_wire::streams::ByteSource;
+use job_runner::runner::MEMBERS;
 use listeners::listener::Listener;
+use seed_jobs::gate::OpenGate;
 use source_render::source::Source;
-use std::alloc::Global;
+use std::alloc::{AllocError, Global};
 use std::snapshot::Snapshot;
 use std::sync::Wait;
 use std::thread::Threads;
+
+/// A gate for each member of a job's crew. `AllocError` where memory runs out.
+fn open_gates(alloc: Global) -> Result<Vec<OpenGate>, AllocError>
+    ensures { IfOk result (λ gates. length gates.items ≡ MEMBERS) }
+{
+    let mut gates = Vec::new(alloc);
+    'opening: for _ in 0..MEMBERS {
+        gates.push(OpenGate)?;
+    }
+    Ok(gates)
+}
 
 /// How many sources a server takes: one for each worker, and one for each member of a job's crew.
 pub const SOURCES: usize = 12;
@@ -80,12 +93,15 @@ where
     let Ok((queue, mut acceptor)) = LinkQueue::new(alloc) else {
         return ServerEnd::OutOfMemory;
     };
+    let Ok(gates) = open_gates(alloc) else {
+        return ServerEnd::OutOfMemory;
+    };
     let supplies = Supplies {
         passes,
         boards,
         sources,
     };
-    let Ok(crew) = crew_of(alloc, &queue, &mut acceptor, supplies) else {
+    let Ok(crew) = crew_of(alloc, &queue, &mut acceptor, supplies, gates) else {
         return ServerEnd::OutOfMemory;
     };
     let staff = Staff { crew, acceptor };

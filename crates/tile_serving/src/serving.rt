@@ -3,10 +3,12 @@ ghost use Rattle.std.specs.Prelude.{All, MatchBool, length, [], ◌+◌, ◌-◌
 ghost use Rattle.cache_hall.specs.Turned.{HallPass, IsPassOf};
 ghost use Rattle.catalog.specs.Valid.{IsValid};
 ghost use Rattle.crossbeam_queue.specs.Passes.{view};
+ghost use Rattle.job_runner.specs.Idles as idles;
+ghost use Rattle.job_runner.specs.Idles.{Standby};
+ghost use Rattle.job_runner.specs.Runs.{RunsAll};
 ghost use Rattle.tile_serving.specs.Accepted.{HasAccepted};
 ghost use Rattle.tile_serving.specs.Crew.{HasServedLinks, HasWorked, IsReady};
 ghost use Rattle.tile_serving.specs.Hands.{IsHand, all_parts, hand, table_of};
-ghost use Rattle.tile_serving.specs.Running.{MayRun};
 ghost use Rattle.tile_serving.specs.Stints.{serving};
 ghost use Rattle.tile_serving.specs.declared.hand.Hand.{Hand};
 
@@ -15,18 +17,20 @@ use crate::crew::{Crew, Staff, WORKERS, Worker};
 use crate::crossing::is_shared;
 use crate::ending::serve_rest;
 use crate::queue::LinkQueue;
-use crate::runner::Runner;
-use crate::running::run_jobs;
 use crate::upkeep::{Shift, keep_up};
 use crate::workers::work;
 use cabinet::keeper::Keeper;
 use hall_sessions::world::World;
 use http_wire::links::Link;
+use job_runner::runner::Runner;
+use job_runner::running::run_jobs;
 use listeners::listener::Listener;
+use seed_jobs::gate::Gate;
 use source_render::source::Source;
 use std::alloc::Global;
 use std::convert::identity;
 use std::sync::Wait;
+use std::sync::atomic::{AtomicBool, Ordering};
 use std::thread::{Threads, for_each_mut, join_mut};
 use wmts_rest::table::RestTable;
 
@@ -37,7 +41,7 @@ fn work_all<R: Threads + Wait + Sync, K: Keeper + Send, S: Source + Send, L: Lin
     alloc: Global,
     world: &World<K>,
     queue: &LinkQueue<L>,
-    shift: &Shift,
+    is_over: &AtomicBool,
     workers: &mut [Worker<K, S, L>],
 )
     requires valid { IsValid world.now.hall.catalogue }
@@ -61,47 +65,57 @@ fn work_all<R: Threads + Wait + Sync, K: Keeper + Send, S: Source + Send, L: Lin
                 → HasWorked (serving L.left L.taken L.ByteSource.faults L.ByteSink.faults world.entry.now.capabilities world.entry.now.hall.catalogue world.entry.now.board.turnstile.table first) before worker.exit.now.pass worker.exit.now.board (S.faults worker.exit.now.source) worker.exit.now.hand }
         { work(rt, alloc, world, queue, worker) },
     );
-    shift.end();
+    is_over.store(true, Ordering::SeqCst);
     world.board.wake(rt);
 }
 
 /// Serves links until no more come, and runs jobs until then and until none is left; then ends the upkeep.
 #[tactic(auto, using(crate::proofs::Shared::world_sync))]
-fn work_and_run<R: Threads + Wait + Sync, K: Keeper + Send, S: Source + Send, L: Link + Send>(
+fn work_and_run<
+    R: Threads + Wait + Sync,
+    K: Keeper + Send,
+    S: Source + Send,
+    L: Link + Send,
+    G: Gate + Send,
+>(
     rt: &R,
     alloc: Global,
     world: &World<K>,
     queue: &LinkQueue<L>,
     upkeep: &Shift,
     workers: &mut [Worker<K, S, L>],
-    runner: &mut Runner<K, S>,
+    runner: &mut Runner<K, S, G>,
 )
     requires valid { IsValid world.now.hall.catalogue }
     requires ready { All (λ w. IsReady (table_of queue.now.links) world.now.hall.turnstile.table world.now.board.turnstile.table world.now.hall.catalogue (S.told w.source) w.pass w.board w.hand) workers.old }
-    requires runner { MayRun world.now.hall.turnstile.table world.now.board.turnstile.table world.now.hall.catalogue S.told runner.old.board runner.old.passes.items runner.old.sources.items }
+    requires runner { idles.IsReady world.now.board.turnstile.table world.now.hall.turnstile.table world.now.hall.catalogue runner.old }
     ensures ready { All (λ w. IsReady (table_of queue.now.links) world.now.hall.turnstile.table world.now.board.turnstile.table world.now.hall.catalogue (S.told w.source) w.pass w.board w.hand) workers.new }
-    ensures runner { MayRun world.now.hall.turnstile.table world.now.board.turnstile.table world.now.hall.catalogue S.told runner.new.board runner.new.passes.items runner.new.sources.items }
+    ensures runner { idles.IsReady world.now.board.turnstile.table world.now.hall.turnstile.table world.now.hall.catalogue runner.new }
+    ensures runs { RunsAll world.now.hall.catalogue runner.old runner.new }
     ensures worked { (first : HallPass) (before : Hand L)
         → All (λ w. HasWorked (serving L.left L.taken L.ByteSource.faults L.ByteSink.faults world.now.capabilities world.now.hall.catalogue world.now.board.turnstile.table first) before w.pass w.board (S.faults w.source) w.hand) workers.old
         → All (λ w. HasWorked (serving L.left L.taken L.ByteSource.faults L.ByteSink.faults world.now.capabilities world.now.hall.catalogue world.now.board.turnstile.table first) before w.pass w.board (S.faults w.source) w.hand) workers.new }
 {
     // The table of routes holds a tree, of which proofs have to be told that threads may share it.
     is_shared::<RestTable>();
-    let links = Shift::new();
-    let links = &links;
+    let is_over = AtomicBool::new(false);
+    let is_over = &is_over;
+    let workers = identity(workers);
+    let runner = identity(runner);
     let ((), ()) = join_mut(
         rt,
         &mut ||
-            requires { MayRun world.now.hall.turnstile.table world.now.board.turnstile.table world.now.hall.catalogue S.told runner.now.board runner.now.passes.items runner.now.sources.items }
-            ensures { MayRun world.entry.now.hall.turnstile.table world.entry.now.board.turnstile.table world.entry.now.hall.catalogue S.told runner.exit.now.board runner.exit.now.passes.items runner.exit.now.sources.items }
-        { run_jobs(rt, alloc, &world.hall, &world.board, links, runner) },
+            requires { IsValid world.now.hall.catalogue × idles.IsReady world.now.board.turnstile.table world.now.hall.turnstile.table world.now.hall.catalogue runner.now }
+            ensures ready { idles.IsReady world.entry.now.board.turnstile.table world.entry.now.hall.turnstile.table world.entry.now.hall.catalogue runner.exit.now }
+            ensures runs { RunsAll world.entry.now.hall.catalogue runner.entry.now runner.exit.now }
+        { run_jobs(rt, alloc, &world.hall, &world.board, is_over, runner) },
         &mut ||
             requires { IsValid world.now.hall.catalogue × All (λ w. IsReady (table_of queue.now.links) world.now.hall.turnstile.table world.now.board.turnstile.table world.now.hall.catalogue (S.told w.source) w.pass w.board w.hand) workers.now }
             ensures ready { All (λ w. IsReady (table_of queue.entry.now.links) world.entry.now.hall.turnstile.table world.entry.now.board.turnstile.table world.entry.now.hall.catalogue (S.told w.source) w.pass w.board w.hand) workers.exit.now }
             ensures worked { (first : HallPass) (before : Hand L)
                 → All (λ w. HasWorked (serving L.left L.taken L.ByteSource.faults L.ByteSink.faults world.entry.now.capabilities world.entry.now.hall.catalogue world.entry.now.board.turnstile.table first) before w.pass w.board (S.faults w.source) w.hand) workers.entry.now
                 → All (λ w. HasWorked (serving L.left L.taken L.ByteSource.faults L.ByteSink.faults world.entry.now.capabilities world.entry.now.hall.catalogue world.entry.now.board.turnstile.table first) before w.pass w.board (S.faults w.source) w.hand) workers.exit.now }
-        { work_all(rt, alloc, world, queue, links, workers) },
+        { work_all(rt, alloc, world, queue, is_over, workers) },
     );
     upkeep.end();
     world.hall.wake(rt);
@@ -109,19 +123,20 @@ fn work_and_run<R: Threads + Wait + Sync, K: Keeper + Send, S: Source + Send, L:
 
 /// Serves links until no more come, and runs jobs and keeps the cache up meanwhile.
 #[tactic(auto, using(crate::proofs::Shared::world_sync))]
-fn serve_all<R: Threads + Wait + Sync, K: Keeper + Send, S: Source + Send, L: Link + Send>(
-    rt: &R,
-    alloc: Global,
-    world: &World<K>,
-    queue: &LinkQueue<L>,
-    crew: &mut Crew<K, S, L>,
-)
+fn serve_all<
+    R: Threads + Wait + Sync,
+    K: Keeper + Send,
+    S: Source + Send,
+    L: Link + Send,
+    G: Gate + Send,
+>(rt: &R, alloc: Global, world: &World<K>, queue: &LinkQueue<L>, crew: &mut Crew<K, S, L, G>)
     requires valid { IsValid world.now.hall.catalogue }
     requires ready { All (λ w. IsReady (table_of queue.now.links) world.now.hall.turnstile.table world.now.board.turnstile.table world.now.hall.catalogue (S.told w.source) w.pass w.board w.hand) crew.old.workers.items }
     requires upkeep { IsPassOf world.now.hall.turnstile.table world.now.hall.catalogue crew.old.upkeep }
-    requires runner { MayRun world.now.hall.turnstile.table world.now.board.turnstile.table world.now.hall.catalogue S.told crew.old.runner.board crew.old.runner.passes.items crew.old.runner.sources.items }
+    requires runner { idles.IsReady world.now.board.turnstile.table world.now.hall.turnstile.table world.now.hall.catalogue crew.old.runner }
     ensures ready { All (λ w. IsReady (table_of queue.now.links) world.now.hall.turnstile.table world.now.board.turnstile.table world.now.hall.catalogue (S.told w.source) w.pass w.board w.hand) crew.new.workers.items }
-    ensures runner { MayRun world.now.hall.turnstile.table world.now.board.turnstile.table world.now.hall.catalogue S.told crew.new.runner.board crew.new.runner.passes.items crew.new.runner.sources.items }
+    ensures runner { idles.IsReady world.now.board.turnstile.table world.now.hall.turnstile.table world.now.hall.catalogue crew.new.runner }
+    ensures runs { RunsAll world.now.hall.catalogue crew.old.runner crew.new.runner }
     ensures worked { (first : HallPass) (before : Hand L)
         → All (λ w. HasWorked (serving L.left L.taken L.ByteSource.faults L.ByteSink.faults world.now.capabilities world.now.hall.catalogue world.now.board.turnstile.table first) before w.pass w.board (S.faults w.source) w.hand) crew.old.workers.items
         → All (λ w. HasWorked (serving L.left L.taken L.ByteSource.faults L.ByteSink.faults world.now.capabilities world.now.hall.catalogue world.now.board.turnstile.table first) before w.pass w.board (S.faults w.source) w.hand) crew.new.workers.items }
@@ -137,6 +152,8 @@ fn serve_all<R: Threads + Wait + Sync, K: Keeper + Send, S: Source + Send, L: Li
         runner,
     } = crew;
     let workers = workers.as_mut_slice();
+    let upkeep = identity(upkeep);
+    let runner = identity(runner);
     let hall = &world.hall;
     let ((), ()) = join_mut(
         rt,
@@ -144,9 +161,10 @@ fn serve_all<R: Threads + Wait + Sync, K: Keeper + Send, S: Source + Send, L: Li
             requires { IsPassOf hall.now.turnstile.table hall.now.catalogue upkeep.now }
         { keep_up(rt, hall, shift, upkeep) },
         &mut ||
-            requires { IsValid world.now.hall.catalogue × All (λ w. IsReady (table_of queue.now.links) world.now.hall.turnstile.table world.now.board.turnstile.table world.now.hall.catalogue (S.told w.source) w.pass w.board w.hand) workers.now × MayRun world.now.hall.turnstile.table world.now.board.turnstile.table world.now.hall.catalogue S.told runner.now.board runner.now.passes.items runner.now.sources.items }
+            requires { IsValid world.now.hall.catalogue × All (λ w. IsReady (table_of queue.now.links) world.now.hall.turnstile.table world.now.board.turnstile.table world.now.hall.catalogue (S.told w.source) w.pass w.board w.hand) workers.now × idles.IsReady world.now.board.turnstile.table world.now.hall.turnstile.table world.now.hall.catalogue runner.now }
             ensures ready { All (λ w. IsReady (table_of queue.entry.now.links) world.entry.now.hall.turnstile.table world.entry.now.board.turnstile.table world.entry.now.hall.catalogue (S.told w.source) w.pass w.board w.hand) workers.exit.now }
-            ensures runner { MayRun world.entry.now.hall.turnstile.table world.entry.now.board.turnstile.table world.entry.now.hall.catalogue S.told runner.exit.now.board runner.exit.now.passes.items runner.exit.now.sources.items }
+            ensures runner { idles.IsReady world.entry.now.board.turnstile.table world.entry.now.hall.turnstile.table world.entry.now.hall.catalogue runner.exit.now }
+            ensures runs { RunsAll world.entry.now.hall.catalogue runner.entry.now runner.exit.now }
             ensures worked { (first : HallPass) (before : Hand L)
                 → All (λ w. HasWorked (serving L.left L.taken L.ByteSource.faults L.ByteSink.faults world.entry.now.capabilities world.entry.now.hall.catalogue world.entry.now.board.turnstile.table first) before w.pass w.board (S.faults w.source) w.hand) workers.entry.now
                 → All (λ w. HasWorked (serving L.left L.taken L.ByteSource.faults L.ByteSink.faults world.entry.now.capabilities world.entry.now.hall.catalogue world.entry.now.board.turnstile.table first) before w.pass w.board (S.faults w.source) w.hand) workers.exit.now }
@@ -156,13 +174,19 @@ fn serve_all<R: Threads + Wait + Sync, K: Keeper + Send, S: Source + Send, L: Li
 
 /// Accepts so many links in this thread while others serve them. False where an accept failed.
 #[tactic(auto, using(crate::proofs::Shared::world_sync))]
-fn accept_and_serve<R: Threads + Wait + Sync, K: Keeper + Send, S: Source + Send, N: Listener>(
+fn accept_and_serve<
+    R: Threads + Wait + Sync,
+    K: Keeper + Send,
+    S: Source + Send,
+    N: Listener,
+    G: Gate + Send,
+>(
     rt: &R,
     alloc: Global,
     connections: u32,
     world: &World<K>,
     queue: &LinkQueue<N::L>,
-    staff: &mut Staff<K, S, N::L>,
+    staff: &mut Staff<K, S, N::L, G>,
     listener: &mut N,
 ) -> bool
 where
@@ -170,11 +194,12 @@ where
     requires valid { IsValid world.now.hall.catalogue }
     requires ready { All (λ w. IsReady (table_of queue.now.links) world.now.hall.turnstile.table world.now.board.turnstile.table world.now.hall.catalogue (S.told w.source) w.pass w.board w.hand) staff.old.crew.workers.items }
     requires upkeep { IsPassOf world.now.hall.turnstile.table world.now.hall.catalogue staff.old.crew.upkeep }
-    requires runner { MayRun world.now.hall.turnstile.table world.now.board.turnstile.table world.now.hall.catalogue S.told staff.old.crew.runner.board staff.old.crew.runner.passes.items staff.old.crew.runner.sources.items }
+    requires runner { idles.IsReady world.now.board.turnstile.table world.now.hall.turnstile.table world.now.hall.catalogue staff.old.crew.runner }
     requires acceptor { IsHand (table_of queue.now.links) (view staff.old.acceptor) staff.old.acceptor }
     requires parts { 0 < (view staff.old.acceptor).parts }
     ensures accepted { HasAccepted (table_of queue.now.links) connections (view staff.old.acceptor) staff.new.acceptor (N.given listener.old) (N.given listener.new) (N.faults listener.old) (N.faults listener.new) result }
     ensures ready { All (λ w. IsReady (table_of queue.now.links) world.now.hall.turnstile.table world.now.board.turnstile.table world.now.hall.catalogue (S.told w.source) w.pass w.board w.hand) staff.new.crew.workers.items }
+    ensures runs { RunsAll world.now.hall.catalogue staff.old.crew.runner staff.new.crew.runner }
     ensures each { length staff.new.crew.workers.items ≡ length staff.old.crew.workers.items }
     ensures worked { (first : HallPass) (before : Hand N.L)
         → All (λ w. HasWorked (serving N.L.left N.L.taken N.L.ByteSource.faults N.L.ByteSink.faults world.now.capabilities world.now.hall.catalogue world.now.board.turnstile.table first) before w.pass w.board (S.faults w.source) w.hand) staff.old.crew.workers.items
@@ -188,11 +213,12 @@ where
     let ((), all) = join_mut(
         rt,
         &mut ||
-            requires { IsValid world.now.hall.catalogue × All (λ w. IsReady (table_of queue.now.links) world.now.hall.turnstile.table world.now.board.turnstile.table world.now.hall.catalogue (S.told w.source) w.pass w.board w.hand) crew.now.workers.items × IsPassOf world.now.hall.turnstile.table world.now.hall.catalogue crew.now.upkeep × MayRun world.now.hall.turnstile.table world.now.board.turnstile.table world.now.hall.catalogue S.told crew.now.runner.board crew.now.runner.passes.items crew.now.runner.sources.items }
+            requires { IsValid world.now.hall.catalogue × All (λ w. IsReady (table_of queue.now.links) world.now.hall.turnstile.table world.now.board.turnstile.table world.now.hall.catalogue (S.told w.source) w.pass w.board w.hand) crew.now.workers.items × IsPassOf world.now.hall.turnstile.table world.now.hall.catalogue crew.now.upkeep × idles.IsReady world.now.board.turnstile.table world.now.hall.turnstile.table world.now.hall.catalogue crew.now.runner }
             ensures ready { All (λ w. IsReady (table_of queue.entry.now.links) world.entry.now.hall.turnstile.table world.entry.now.board.turnstile.table world.entry.now.hall.catalogue (S.told w.source) w.pass w.board w.hand) crew.exit.now.workers.items }
             ensures worked { (first : HallPass) (before : Hand N.L)
                 → All (λ w. HasWorked (serving N.L.left N.L.taken N.L.ByteSource.faults N.L.ByteSink.faults world.entry.now.capabilities world.entry.now.hall.catalogue world.entry.now.board.turnstile.table first) before w.pass w.board (S.faults w.source) w.hand) crew.entry.now.workers.items
                 → All (λ w. HasWorked (serving N.L.left N.L.taken N.L.ByteSource.faults N.L.ByteSink.faults world.entry.now.capabilities world.entry.now.hall.catalogue world.entry.now.board.turnstile.table first) before w.pass w.board (S.faults w.source) w.hand) crew.exit.now.workers.items }
+            ensures runs { RunsAll world.entry.now.hall.catalogue crew.entry.now.runner crew.exit.now.runner }
             ensures each { length crew.exit.now.workers.items ≡ length crew.entry.now.workers.items }
         { serve_all(rt, alloc, world, queue, crew) },
         &mut || -> bool
@@ -210,13 +236,14 @@ pub(crate) fn serve_links<
     K: Keeper + Send,
     S: Source + Send,
     N: Listener,
+    G: Gate + Send,
 >(
     rt: &R,
     alloc: Global,
     connections: u32,
     world: &World<K>,
     queue: &LinkQueue<N::L>,
-    staff: Staff<K, S, N::L>,
+    staff: Staff<K, S, N::L, G>,
     listener: &mut N,
 ) -> bool
 where
@@ -224,10 +251,11 @@ where
     requires valid { IsValid world.now.hall.catalogue }
     requires ready { All (λ w. IsReady (table_of queue.now.links) world.now.hall.turnstile.table world.now.board.turnstile.table world.now.hall.catalogue (S.told w.source) w.pass w.board w.hand) staff.crew.workers.items }
     requires upkeep { IsPassOf world.now.hall.turnstile.table world.now.hall.catalogue staff.crew.upkeep }
-    requires runner { MayRun world.now.hall.turnstile.table world.now.board.turnstile.table world.now.hall.catalogue S.told staff.crew.runner.board staff.crew.runner.passes.items staff.crew.runner.sources.items }
+    requires runner { idles.IsReady world.now.board.turnstile.table world.now.hall.turnstile.table world.now.hall.catalogue staff.crew.runner }
     requires each { length staff.crew.workers.items ≡ WORKERS }
     requires acceptor { IsHand (table_of queue.now.links) (hand (all_parts - WORKERS) [] []) staff.acceptor }
-    ensures { (first : HallPass)
+    ensures runs { (after : Standby) × RunsAll world.now.hall.catalogue staff.crew.runner after }
+    ensures served { (first : HallPass)
         → All (λ w. HasWorked (serving N.L.left N.L.taken N.L.ByteSource.faults N.L.ByteSink.faults world.now.capabilities world.now.hall.catalogue world.now.board.turnstile.table first) (hand 1 [] []) w.pass w.board (S.faults w.source) w.hand) staff.crew.workers.items
         → HasServedLinks (serving N.L.left N.L.taken N.L.ByteSource.faults N.L.ByteSink.faults world.now.capabilities world.now.hall.catalogue world.now.board.turnstile.table first) connections (N.given listener.old) (N.given listener.new) (N.faults listener.old) (N.faults listener.new) result }
 {

@@ -3,8 +3,11 @@ use Rattle.tile_serving.specs.Hands.{hand}
 use Rattle.tile_serving.specs.Stints.{AreServed, Service, serving}
 use Rattle.tile_serving.proofs.serving.serve_links.Goals as goal
 
-pub returns : goal.returns
-returns g c = λ first all.
+pub returns-clause-runs : goal.returns-clause-runs
+returns-clause-runs g c = (c.accept_and_serve-all.new.staff.crew.runner, c.accept_and_serve-all.ensures.runs)
+
+pub returns-clause-served : goal.returns-clause-served
+returns-clause-served g c = λ first all.
     let s : Service g.row.N-L.Denot = serving g.N.L.ByteSource.left g.N.L.ByteSink.taken g.N.L.ByteSource.faults g.N.L.ByteSink.faults c.args.world.now.capabilities c.args.world.now.hall.catalogue c.args.world.now.board.turnstile.table first in
     let a = c.accept_and_serve-all.ensures.accepted in
     let worked = c.accept_and_serve-all.ensures.worked first (hand 1 [] []) all in
