@@ -2,3 +2,4 @@ mod Swapping
 mod Joining
 mod Counting
 mod History
+mod Pairing
