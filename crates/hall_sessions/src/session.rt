@@ -59,6 +59,7 @@ pub fn serve_session<R: Wait, K: Keeper, S: Source, L: Link>(
             Err(WireFault::ReadFault) => return SessionEnd::ReadFault,
             Err(WireFault::OutOfMemory) => return SessionEnd::OutOfMemory,
         };
+        world.traffic.begin();
         match respond(
             rt,
             alloc,
@@ -70,8 +71,11 @@ pub fn serve_session<R: Wait, K: Keeper, S: Source, L: Link>(
             &message,
             answered + 1,
         ) {
-            Ok(()) => {}
-            Err(_) => return SessionEnd::WriteFault,
+            Ok(()) => world.traffic.end(),
+            Err(_) => {
+                world.traffic.end();
+                return SessionEnd::WriteFault;
+            }
         }
         if message.last {
             return SessionEnd::Closed;

@@ -3,9 +3,10 @@ use cabinet::keeper::Keeper;
 use cache_hall::hall::Hall;
 use exact_ratio::words::Words;
 use job_board::board::Board;
+use traffic::traffic::Traffic;
 use wmts_rest::table::RestTable;
 
-/// Where many threads are served: a hall, the reading of paths, the capabilities document, and a board of jobs.
+/// Where many threads are served: a hall, the reading of paths, the capabilities document, a board of jobs, and the counts of requests.
 #[derive(Drop)]
 pub struct World<K: Keeper> {
     pub hall: Hall<K>,
@@ -15,4 +16,6 @@ pub struct World<K: Keeper> {
     pub capabilities: Words,
     /// The jobs that were submitted.
     pub board: Board,
+    /// How many requests are being served, for work that can wait.
+    pub traffic: Traffic,
 }

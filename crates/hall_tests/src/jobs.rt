@@ -18,6 +18,7 @@ use std::alloc::{AllocError, Global};
 use std::sync::Wait;
 use std::test::Fail;
 use tile_service::session::SessionEnd;
+use traffic::traffic::Traffic;
 use turnstile::pass::Pass;
 use wmts_rest::table::RestTable;
 
@@ -71,6 +72,7 @@ fn new_visit(alloc: Global) -> Result<Option<Visit>, AllocError>
         rest: RestTable::new(alloc)?,
         capabilities: Words::of(Vec::new(alloc)),
         board,
+        traffic: Traffic::new(),
     };
     Ok(Some(Visit {
         world,

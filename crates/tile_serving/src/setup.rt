@@ -23,6 +23,7 @@ use http_wire::streams::ByteSource;
 use job_board::board::{Board, BoardEntry, BoardPass};
 use std::alloc::{AllocError, Global};
 use std::snapshot::Snapshot;
+use traffic::traffic::Traffic;
 use turnstile::pass::Pass;
 use wmts_rest::table::RestTable;
 
@@ -90,6 +91,7 @@ fn world_of<K: Keeper>(
                 rest,
                 capabilities,
                 board,
+                traffic: Traffic::new(),
             },
             passes: passes.into_vec(),
             boards: boards.into_vec(),
