@@ -12,7 +12,7 @@ serve_links-requires-clause-ready g c κs within = λ k d lt.
     let catalogue = c.in-Ok.stage.world.hall.catalogue in
     let first = first_pass c.in-Ok.stage.world.hall.turnstile.table catalogue c.args.told.value st.first.opened in
     let s : Service g.row.N-L.Denot = serving g.N.L.ByteSource.left g.N.L.ByteSink.taken g.N.L.ByteSource.faults g.N.L.ByteSink.faults c.in-Ok.stage.world.capabilities catalogue c.in-Ok.stage.world.board.turnstile.table first in
-    let new = c.in-Ok-crew_of.ensures.new s (record { passes_are = st.first.first; boards_are = c.in-Ok.ensures.boards.first; sources_tell = λ i e inside told. (c.requires.told told).2 catalogue (may_be _ _ st.read.read) i e inside }) in
+    let new = c.in-Ok-crew_of.ensures.new s refl (record { passes_are = st.first.first; boards_are = c.in-Ok.ensures.boards.first; sources_tell = λ i e inside told. (c.requires.told told).2 catalogue (may_be _ _ st.read.read) i e inside }) in
     new_is_ready s _ _ _ _ _ refl (new.0 k d lt)
 
 pub serve_links-requires-clause-upkeep : goal.serve_links-requires-clause-upkeep
@@ -21,8 +21,17 @@ serve_links-requires-clause-upkeep g c κs within =
     let catalogue = c.in-Ok.stage.world.hall.catalogue in
     let first = first_pass c.in-Ok.stage.world.hall.turnstile.table catalogue c.args.told.value st.first.opened in
     let s : Service g.row.N-L.Denot = serving g.N.L.ByteSource.left g.N.L.ByteSink.taken g.N.L.ByteSource.faults g.N.L.ByteSink.faults c.in-Ok.stage.world.capabilities catalogue c.in-Ok.stage.world.board.turnstile.table first in
-    let new = c.in-Ok-crew_of.ensures.new s (record { passes_are = st.first.first; boards_are = c.in-Ok.ensures.boards.first; sources_tell = λ i e inside told. (c.requires.told told).2 catalogue (may_be _ _ st.read.read) i e inside }) in
+    let new = c.in-Ok-crew_of.ensures.new s refl (record { passes_are = st.first.first; boards_are = c.in-Ok.ensures.boards.first; sources_tell = λ i e inside told. (c.requires.told told).2 catalogue (may_be _ _ st.read.read) i e inside }) in
     record { same_table = ap (λ p. p.table) new.1; charter = ap (λ p. p.charter) new.1 }
+
+pub serve_links-requires-clause-runner : goal.serve_links-requires-clause-runner
+serve_links-requires-clause-runner g c κs within =
+    let st = c.in-Ok.ensures.staged in
+    let catalogue = c.in-Ok.stage.world.hall.catalogue in
+    let first = first_pass c.in-Ok.stage.world.hall.turnstile.table catalogue c.args.told.value st.first.opened in
+    let s : Service g.row.N-L.Denot = serving g.N.L.ByteSource.left g.N.L.ByteSink.taken g.N.L.ByteSource.faults g.N.L.ByteSink.faults c.in-Ok.stage.world.capabilities catalogue c.in-Ok.stage.world.board.turnstile.table first in
+    let new = c.in-Ok-crew_of.ensures.new s refl (record { passes_are = st.first.first; boards_are = c.in-Ok.ensures.boards.first; sources_tell = λ i e inside told. (c.requires.told told).2 catalogue (may_be _ _ st.read.read) i e inside }) in
+    record { of_board = new.2.at_board.of; idle = new.2.members }
 
 pub returns-then-serve_links : goal.returns-then-serve_links
 returns-then-serve_links g c =
@@ -30,13 +39,13 @@ returns-then-serve_links g c =
     let catalogue = c.in-Ok.stage.world.hall.catalogue in
     let first = first_pass c.in-Ok.stage.world.hall.turnstile.table catalogue c.args.told.value st.first.opened in
     let s : Service g.row.N-L.Denot = serving g.N.L.ByteSource.left g.N.L.ByteSink.taken g.N.L.ByteSource.faults g.N.L.ByteSink.faults c.in-Ok.stage.world.capabilities catalogue c.in-Ok.stage.world.board.turnstile.table first in
-    let new = c.in-Ok-crew_of.ensures.new s (record { passes_are = st.first.first; boards_are = c.in-Ok.ensures.boards.first; sources_tell = λ i e inside told. (c.requires.told told).2 catalogue (may_be _ _ st.read.read) i e inside }) in
-    let h = c.serve_links.ensures first (λ k d lt. new_has_worked s _ _ _ _ _ _ (new.0 k d lt)) in (
+    let new = c.in-Ok-crew_of.ensures.new s refl (record { passes_are = st.first.first; boards_are = c.in-Ok.ensures.boards.first; sources_tell = λ i e inside told. (c.requires.told told).2 catalogue (may_be _ _ st.read.read) i e inside }) in
+    let h = c.serve_links.ensures.served first (λ k d lt. new_has_worked s _ _ _ _ _ _ (new.0 k d lt)) in (
       catalogue,
       c.in-Ok.stage.world.capabilities,
       st.read,
       (
-        record { opened = st.first.opened; is_opened = st.first.is_opened; table = c.in-Ok.stage.world.hall.turnstile.table; board = c.in-Ok.stage.world.board.turnstile.table; links = h.links; given = h.given; served = h.served },
+        record { opened = st.first.opened; is_opened = st.first.is_opened; table = c.in-Ok.stage.world.hall.turnstile.table; board = c.in-Ok.stage.world.board.turnstile.table; links = h.links; given = h.given; served = h.served; jobs = record { before = c.in-Ok-crew_of.crew.runner; new = new.2; after = c.serve_links.ensures.runs.0; runs = c.serve_links.ensures.runs.1 } },
         MatchBool-at_true _ _ c.if-serve_links.true h.each,
       ),
     )
@@ -47,13 +56,13 @@ returns g c =
     let catalogue = c.in-Ok.stage.world.hall.catalogue in
     let first = first_pass c.in-Ok.stage.world.hall.turnstile.table catalogue c.args.told.value st.first.opened in
     let s : Service g.row.N-L.Denot = serving g.N.L.ByteSource.left g.N.L.ByteSink.taken g.N.L.ByteSource.faults g.N.L.ByteSink.faults c.in-Ok.stage.world.capabilities catalogue c.in-Ok.stage.world.board.turnstile.table first in
-    let new = c.in-Ok-crew_of.ensures.new s (record { passes_are = st.first.first; boards_are = c.in-Ok.ensures.boards.first; sources_tell = λ i e inside told. (c.requires.told told).2 catalogue (may_be _ _ st.read.read) i e inside }) in
-    let h = c.serve_links.ensures first (λ k d lt. new_has_worked s _ _ _ _ _ _ (new.0 k d lt)) in (
+    let new = c.in-Ok-crew_of.ensures.new s refl (record { passes_are = st.first.first; boards_are = c.in-Ok.ensures.boards.first; sources_tell = λ i e inside told. (c.requires.told told).2 catalogue (may_be _ _ st.read.read) i e inside }) in
+    let h = c.serve_links.ensures.served first (λ k d lt. new_has_worked s _ _ _ _ _ _ (new.0 k d lt)) in (
       (
         catalogue,
         c.in-Ok.stage.world.capabilities,
         st.read,
-        record { opened = st.first.opened; is_opened = st.first.is_opened; table = c.in-Ok.stage.world.hall.turnstile.table; board = c.in-Ok.stage.world.board.turnstile.table; links = h.links; given = h.given; served = h.served },
+        record { opened = st.first.opened; is_opened = st.first.is_opened; table = c.in-Ok.stage.world.hall.turnstile.table; board = c.in-Ok.stage.world.board.turnstile.table; links = h.links; given = h.given; served = h.served; jobs = record { before = c.in-Ok-crew_of.crew.runner; new = new.2; after = c.serve_links.ensures.runs.0; runs = c.serve_links.ensures.runs.1 } },
       ),
       MatchBool-at_false _ _ c.if-serve_links.false h.each,
     )
