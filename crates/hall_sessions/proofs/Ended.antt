@@ -49,11 +49,11 @@ output a b = output_of (counts a.wire.writes b.wire.writes) a.wire.taken b.wire.
 
 -- the session was held from one moment to another
 abbrev pub IsHeld : Catalogue → List ℕ → Moment → Moment → SessionEnd → Type 0
-IsHeld c document start now end = HasHallSession (input start now) (output start now) (counts start.renders now.renders) document c start.pass now.pass end
+IsHeld c document start now end = HasHallSession (input start now) (output start now) (counts start.renders now.renders) document c start.pass now.pass start.board now.board end
 
 -- the exchanges, and the end after their messages
 module _ {c : Catalogue} {document : List ℕ} {start now : Moment} (held : List ℕ) (messages : List Message) (answers : List Answer) (end : SessionEnd) where
-  pub is_held : StandIn start.wire.left messages (prepend_known held now.wire.left) → HasExchanged c start.pass now.pass start.renders now.renders messages answers
+  pub is_held : StandIn start.wire.left messages (prepend_known held now.wire.left) → HasExchanged c start.pass now.pass start.board now.board start.renders now.renders messages answers
       → Ends (input start now) (output start now) document messages answers held (prepend_known held now.wire.left) end → IsHeld c document start now end
   is_held stand h ends = record {
     exchanges = h.exchanges;
@@ -69,7 +69,7 @@ module _ {c : Catalogue} {document : List ℕ} {start now : Moment} (held : List
 -- no memory was there to read at all
 pub unbegun : {c : Catalogue} {document : List ℕ} {start : Moment} → IsHeld c document start start OutOfMemory
 unbegun {c} {document} {start} =
-    is_held {now = start} [] [] [] OutOfMemory (stand_none start.wire.left) (exchanged_none c start.pass start.renders) (record { all_open = tt; few = omega arith }, appends_nothing start.wire.taken)
+    is_held {now = start} [] [] [] OutOfMemory (stand_none start.wire.left) (exchanged_none c start.pass start.board start.renders) (record { all_open = tt; few = omega arith }, appends_nothing start.wire.taken)
 
 -- WHERE NO FURTHER MESSAGE CAME
 

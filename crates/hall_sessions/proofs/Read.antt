@@ -1,15 +1,69 @@
--- Requests and messages over a hall.
-use Rattle.std.proofs.Common.{ℕ, ◌≡◌, [], Some, None, refl}
+-- Requests and messages over a hall and a board.
+use Rattle.std.proofs.Common.{ℕ, ◌≡◌, Bool, true, false, List, [], Option, Some, None, inl, inr, refl, sym, subst, ◌∙◌}
+use Rattle.std.specs.Prelude.{MatchOption}
 use Rattle.catalog.specs.declared.catalogue.Catalogue.{Catalogue}
 use Rattle.http_wire.specs.declared.message.Message.{Message}
+use Rattle.job_board.specs.Calls.{BoardHolding}
+use Rattle.job_requests.specs.declared.request.JobRequest.{JobRequest}
+use Rattle.job_requests.specs.declared.request.JobRequest.TheVariants as job_request
+use Rattle.job_requests.specs.Routes.{request_for as job_request_for}
+use Rattle.job_requests.specs.Served.{ServesJob, outcome_of_look, outcome_of_submission}
+use Rattle.job_requests.specs.Texts.{progress_text, submitted_text}
+use Rattle.job_sheet.specs.declared.progress.Progress.{Progress}
+use Rattle.cabinet_chest.specs.declared.shown.Note.{Note}
 use Rattle.cache_hall.specs.Turned.{HallPass}
 use Rattle.cache_hall.proofs.Turning.{gains_none}
+use Rattle.turnstile.specs.declared.view.Made.{Made}
 use Rattle.tile_requests.specs.declared.outcome.Outcome.{Outcome}
 use Rattle.tile_requests.specs.declared.outcome.Outcome.TheVariants as outcome
+use Rattle.tile_requests.specs.declared.message_ref.MessageRef.{MessageRef}
 use Rattle.tile_requests.specs.declared.request.Request.{Request}
+use Rattle.tile_requests.specs.Requests.{told_at}
 use Rattle.tile_requests.specs.Routes.{request_for}
+use Rattle.tile_requests.specs.Shown.{shown_message}
 use Rattle.hall_sessions.specs.Requested.{ServesRequest}
-use Rattle.hall_sessions.specs.Served.{IsRequestServed, Serves}
+use Rattle.hall_sessions.specs.Served.{IsJobMessageServed, IsOtherMessageServed, IsRequestServed, Serves}
+
+-- WHERE A JOB IS ASKED FOR THE SOURCE HAS NO PART
+
+told_of_job : (left : Bool) (text : List ℕ) → told_at left (outcome.Job text) ≡ outcome.SourceFailed → ⊥
+told_of_job true text e = absurd (cc)
+told_of_job false text e = absurd (cc)
+
+told_of_look : (n : ℕ) (p : Option Progress) (left : Bool) → outcome_of_look n p left ≡ outcome.SourceFailed → ⊥
+told_of_look n (Some p) left e = told_of_job left (progress_text n p) e
+told_of_look n None left e = absurd (cc)
+
+told_of_submission : (n : Option ℕ) (left : Bool) → outcome_of_submission n left ≡ outcome.SourceFailed → ⊥
+told_of_submission (Some n) left e = told_of_job left (submitted_text n) e
+told_of_submission None left e = absurd (cc)
+
+module _ (c : Catalogue) (board board_after : BoardHolding) (o : Outcome) where
+  no_source_failed : (r : JobRequest) → ServesJob c r board board_after o → o ≡ outcome.SourceFailed → ⊥
+  no_source_failed (job_request.Submission job) (inl h) e = told_of_submission h.0 h.1 (sym h.3 ∙ e)
+  no_source_failed (job_request.Submission job) (inr h) e = let is = h.1 in absurd (cc)
+  no_source_failed (job_request.Unformed fault) h e = let is = h.1 in absurd (cc)
+  no_source_failed (job_request.Look n) h e = told_of_look n h.0 h.1 (sym h.3 ∙ e)
+  no_source_failed (job_request.Stop n) (inl h) e = let is = h.1 in absurd (cc)
+  no_source_failed (job_request.Stop n) (inr h) e = let look = h.2 in told_of_look n look.0 look.1 (sym look.3 ∙ e)
+  no_source_failed job_request.NotFound h e = let is = h.1 in absurd (cc)
+  no_source_failed job_request.WrongMethod h e = let is = h.1 in absurd (cc)
+
+-- what a message asks of jobs is the same whether it is the last of its connection or not
+pub asked_of_jobs : (c : Catalogue) (parts : MessageRef) (m : Message) → parts.method ≡ m.method → parts.target.now ≡ m.target → parts.body.now ≡ m.body → job_request_for c (shown_message parts) ≡ job_request_for c m
+unfolding job_request_for
+asked_of_jobs c parts m method target body = rw (method, target, body) refl
+
+-- a message was served by a pass that stood so, by what it asks of jobs
+abbrev IsServedAs : Catalogue → HallPass → Message → Option Request → List (Made Note) → BoardHolding → BoardHolding → Outcome → Option JobRequest → Type 0
+IsServedAs c p m request gained board board_after o asked =
+    MatchOption asked (IsOtherMessageServed c p.told p.book m request gained o × (board_after ≡ board)) (λ r. IsJobMessageServed c r gained board board_after o × (request ≡ None))
+
+unread_as : (c : Catalogue) (p : HallPass) (m : Message) (board : BoardHolding) (asked : Option JobRequest) → IsServedAs c p m None [] board board outcome.NoMemory asked
+unread_as c p m board None = ((refl, refl), refl)
+unread_as c p m board (Some r) = (inr ((refl, refl), refl), refl)
+
+-- REQUESTS AND MESSAGES
 
 module _ (c : Catalogue) (before after : ℕ) (p : HallPass) where
   -- a request that makes no turn
@@ -17,9 +71,25 @@ module _ (c : Catalogue) (before after : ℕ) (p : HallPass) where
   nothing_served r o served other = record { gained = []; gains = gains_none c p; served = served; cause = λ e. absurd (other e) }
 
   -- no memory was left to read the message
-  pub unread : (m : Message) → Serves c before after m p p outcome.NoMemory
-  unread m = record { gained = []; gains = gains_none c p; request = None; served = (refl, refl); cause = λ e. absurd (cc) }
+  pub unread : (m : Message) (board : BoardHolding) → Serves c before after m p p board board outcome.NoMemory
+  unread m board = record { gained = []; gains = gains_none c p; request = None; served = unread_as c p m board (job_request_for c m); cause = λ e. absurd (cc) }
 
-  -- the message asks for this
-  pub read_so : (q : HallPass) (m : Message) (r : Request) (o : Outcome) → r ≡ request_for c m → ServesRequest c before after r p q o → Serves c before after m p q o
-  read_so q m r o is h = record { gained = h.gained; gains = h.gains; request = Some r; served = (is, h.served); cause = h.cause }
+  -- the message asks this of jobs
+  pub served_at_board : (m : Message) (board board_after : BoardHolding) (r : JobRequest) (o : Outcome) → Some r ≡ job_request_for c m → ServesJob c r board board_after o → Serves c before after m p p board board_after o
+  served_at_board m board board_after r o asks h = record {
+    gained = [];
+    gains = gains_none c p;
+    request = None;
+    served = subst (IsServedAs c p m None [] board board_after o) asks (inl (refl, h), refl);
+    cause = λ e. absurd (no_source_failed c board board_after o r h e);
+  }
+
+  -- the message asks nothing of jobs, and this by the table of paths
+  pub read_so : (q : HallPass) (m : Message) (board : BoardHolding) (r : Request) (o : Outcome) → None ≡ job_request_for c m → r ≡ request_for c m → ServesRequest c before after r p q o → Serves c before after m p q board board o
+  read_so q m board r o other is h = record {
+    gained = h.gained;
+    gains = h.gains;
+    request = Some r;
+    served = subst (IsServedAs c p m (Some r) h.gained board board o) other ((is, h.served), refl);
+    cause = h.cause;
+  }

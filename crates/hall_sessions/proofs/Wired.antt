@@ -10,6 +10,7 @@ use Rattle.http_wire.specs.Streams.{StandIn}
 use Rattle.http_wire.specs.declared.message.Message.{Message}
 use Rattle.http_wire.proofs.StreamGrows.{stand_in_more}
 use Rattle.cache_hall.specs.Turned.{HallPass}
+use Rattle.job_board.specs.Calls.{BoardHolding}
 use Rattle.tile_requests.specs.declared.outcome.Outcome.{Outcome}
 use Rattle.tile_requests.specs.Requests.{answered_at}
 use Rattle.tile_requests.specs.Response.{response}
@@ -23,9 +24,10 @@ use Rattle.hall_sessions.specs.Exchanges.{answer_of}
 use Rattle.hall_sessions.specs.Served.{Serves}
 use Rattle.hall_sessions.proofs.Exchanging.{HasExchanged, exchanged_more, exchanged_none, place_is, the_exchange}
 
--- how all stands at a moment of a session: the pass, how often the source has failed, and the link
+-- how all stands at a moment of a session: the passes, how often the source has failed, and the link
 pub record Moment : Type 0 where
   pub pass : HallPass
+  pub board : BoardHolding
   pub renders : ℕ
   pub wire : Wire
 
@@ -36,7 +38,7 @@ pub record IsUnderWay (c : Catalogue) (document : List ℕ) (start now : Moment)
   pub all_open : AreOpen messages
   pub many : length messages ≡ n
   pub stand : StandIn start.wire.left messages (prepend_known held now.wire.left)
-  pub exchanged : HasExchanged c start.pass now.pass start.renders now.renders messages answers
+  pub exchanged : HasExchanged c start.pass now.pass start.board now.board start.renders now.renders messages answers
   pub text : Appends start.wire.taken now.wire.taken (replies document answers)
 
 pub under_way_start : {c : Catalogue} {document : List ℕ} {start : Moment} (reading : Reading) → reading ≡ record { held = []; ended = None } → IsUnderWay c document start start reading.held 0
@@ -47,7 +49,7 @@ under_way_start {c} {document} {start} reading e =
       all_open = tt;
       many = refl;
       stand = rw e (stand_none start.wire.left);
-      exchanged = exchanged_none c start.pass start.renders;
+      exchanged = exchanged_none c start.pass start.board start.renders;
       text = appends_nothing start.wire.taken;
     }
 
@@ -57,7 +59,7 @@ under_way_start {c} {document} {start} reading e =
 pub record Meets (c : Catalogue) (document : List ℕ) (Sends : Sending) (now there : Moment) (held later : List ℕ) (n : ℕ) (m : Message) : Type 0 where
   pub takes : TakesMessage (prepend_known held now.wire.left) m (prepend_known later there.wire.left)
   pub outcome : Outcome
-  pub serves : Serves c now.renders there.renders m now.pass there.pass outcome
+  pub serves : Serves c now.renders there.renders m now.pass there.pass now.board there.board outcome
   pub later_renders : now.renders ≤ there.renders
   pub sends : MayTell outcome (λ o. Sends now.wire.taken there.wire.taken (response document m (n + 1) o))
 
@@ -69,7 +71,7 @@ pub record IsAnswered (c : Catalogue) (document : List ℕ) (Sends : Sending) (s
   pub all_open : AreOpen earlier
   pub many : length earlier ≡ n
   pub stand : StandIn start.wire.left (earlier ++ m ∷ []) (prepend_known held now.wire.left)
-  pub exchanged : HasExchanged c start.pass now.pass start.renders now.renders (earlier ++ m ∷ []) (before_it ++ answer ∷ [])
+  pub exchanged : HasExchanged c start.pass now.pass start.board now.board start.renders now.renders (earlier ++ m ∷ []) (before_it ++ answer ∷ [])
   pub between : Option (List ℕ)
   pub text : Appends start.wire.taken between (replies document before_it)
   pub sent : Sends between now.wire.taken (reply_text document answer)

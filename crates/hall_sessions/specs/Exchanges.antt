@@ -1,9 +1,10 @@
--- The messages of a session over a hall, each with what it came to.
+-- The messages of a session over a hall and a board, each with what it came to.
 use Rattle.std.specs.Prelude.{ℕ, ◌≡◌, ◌+◌, ◌≤◌, Bool, List, [], ◌∷◌, map, flat_map, Option}
 use Rattle.cabinet_chest.specs.declared.shown.Note.{Note}
 use Rattle.catalog.specs.declared.catalogue.Catalogue.{Catalogue}
 use Rattle.causes.specs.Causes.{Rose}
 use Rattle.http_wire.specs.declared.message.Message.{Message}
+use Rattle.job_board.specs.Calls.{BoardHolding}
 use Rattle.truncation_list.specs.declared.book.FrontedBook.{FrontedBook}
 use Rattle.turnstile.specs.declared.view.Made.{Made}
 use Rattle.cache_hall.specs.Turned.{AreTurns}
@@ -15,8 +16,9 @@ use Rattle.tile_service.specs.Run.{Answer}
 use Rattle.tile_service.specs.Serving.{answer_to}
 use Rattle.hall_sessions.specs.Served.{IsMessageServed}
 
--- a message, what it asked for where memory was left to read it, the turns that were made for it, its outcome, whether memory was left
--- for the text of its response, the book that the pass had seen before and after it, and how often the source had failed
+-- a message, what it asked for by the table of paths (none where it is for jobs, or no memory was left to read it), the turns that were
+-- made for it at the cabinet, its outcome, and whether memory was left for the text of its response; before it and after it the
+-- book that the pass had seen, the pass of the board, and how often the source had failed
 pub record Exchange : Type 0 where
   pub message : Message
   pub request : Option Request
@@ -25,6 +27,8 @@ pub record Exchange : Type 0 where
   pub left : Bool
   pub seen : FrontedBook
   pub sees : FrontedBook
+  pub board_before : BoardHolding
+  pub board_after : BoardHolding
   pub renders_before : ℕ
   pub renders_after : ℕ
 
@@ -40,18 +44,20 @@ answers_of i (e ∷ es) = answer_of i e ∷ answers_of (i + 1) es
 abbrev pub messages_of : List Exchange → List Message
 messages_of es = map (λ e. e.message) es
 
--- all turns that were made
+-- all turns that were made at the cabinet
 abbrev pub turns_of : List Exchange → List (Made Note)
 turns_of es = flat_map (λ e. e.gained) es
 
 -- the message was served by these turns, and its outcome says that the source failed only where its count rose
 pub record IsExchange (c : Catalogue) (told : Bool) (e : Exchange) : Type 0 where
-  pub served : IsMessageServed c told e.seen e.message e.request e.gained e.came_to
+  pub served : IsMessageServed c told e.seen e.message e.request e.gained e.board_before e.board_after e.came_to
   pub turns : AreTurns c told e.seen e.gained e.sees
   pub later : e.renders_before ≤ e.renders_after
   pub cause : e.came_to ≡ outcome.SourceFailed → Rose e.renders_before e.renders_after
 
--- one after the other: the pass had seen one book at first and sees the other one at last, and the source's count went from one to another
-abbrev pub AreExchanges : Catalogue → Bool → FrontedBook → ℕ → List Exchange → FrontedBook → ℕ → Type 0
-AreExchanges c told seen renders [] sees after = (sees ≡ seen) × (after ≡ renders)
-AreExchanges c told seen renders (e ∷ es) sees after = (e.seen ≡ seen) × (e.renders_before ≡ renders) × IsExchange c told e × AreExchanges c told e.sees e.renders_after es sees after
+-- one after the other: the pass had seen one book at first and sees the other one at last, and the board's pass and the source's count
+-- went from one to another
+abbrev pub AreExchanges : Catalogue → Bool → FrontedBook → BoardHolding → ℕ → List Exchange → FrontedBook → BoardHolding → ℕ → Type 0
+AreExchanges c told seen board renders [] sees board_after after = (sees ≡ seen) × (board_after ≡ board) × (after ≡ renders)
+AreExchanges c told seen board renders (e ∷ es) sees board_after after =
+    (e.seen ≡ seen) × (e.board_before ≡ board) × (e.renders_before ≡ renders) × IsExchange c told e × AreExchanges c told e.sees e.board_after e.renders_after es sees board_after after

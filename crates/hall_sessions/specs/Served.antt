@@ -1,5 +1,5 @@
--- What a message comes to over a hall: the turns of its commands, and the outcome that they are answered by.
-use Rattle.std.specs.Prelude.{ℕ, ◌≡◌, ◌⊎◌, Bool, List, [], ◌∷◌, ◌++◌, length, Option, Some, None, Result, Ok, Err}
+-- What a message comes to over a hall and a board: the turns that are made for it, and the outcome that they are answered by.
+use Rattle.std.specs.Prelude.{ℕ, ◌≡◌, ◌⊎◌, Bool, List, [], ◌∷◌, ◌++◌, length, Option, Some, None, MatchOption, Result, Ok, Err}
 use Rattle.std.specs.List.{AllByRecursion}
 use Rattle.cabinet.specs.declared.replies.CutReply.{CutReply}
 use Rattle.cabinet.specs.declared.replies.CutReply.TheVariants as cut
@@ -12,6 +12,10 @@ use Rattle.cabinet_chest.specs.declared.shown.Note.{Note}
 use Rattle.cache_core.specs.declared.outcome.Tile.{Tile}
 use Rattle.catalog.specs.declared.catalogue.Catalogue.{Catalogue}
 use Rattle.http_wire.specs.declared.message.Message.{Message}
+use Rattle.job_board.specs.Calls.{BoardHolding}
+use Rattle.job_requests.specs.declared.request.JobRequest.{JobRequest}
+use Rattle.job_requests.specs.Routes.{request_for as job_request_for}
+use Rattle.job_requests.specs.Served.{ServesJob}
 use Rattle.matrix_geometry.specs.declared.address.Address.{Address}
 use Rattle.truncation_list.specs.declared.book.FrontedBook.{FrontedBook}
 use Rattle.truncation_list.specs.declared.cover.Cover.{Cover}
@@ -103,15 +107,30 @@ IsRequestServed c told seen (request.Truncation cover) gained o = IsCutServed co
 IsRequestServed c told seen (request.Unformed fault) gained o = (gained ≡ []) × (o ≡ outcome.Unformed fault)
 IsRequestServed c told seen request.Expiry gained o = IsExpiryServed c gained o
 
--- A MESSAGE: what it asks for by the table of paths is served, unless memory ran out for reading it
-abbrev pub IsMessageServed : Catalogue → Bool → FrontedBook → Message → Option Request → List (Made Note) → Outcome → Type 0
-IsMessageServed c told seen m None gained o = (gained ≡ []) × (o ≡ outcome.NoMemory)
-IsMessageServed c told seen m (Some r) gained o = (r ≡ request_for c m) × IsRequestServed c told seen r gained o
+-- A MESSAGE
 
--- a message was served over a hall, while its source went from one count of faults to another: it failed only where that rose
-pub record Serves (c : Catalogue) (renders_before renders_after : ℕ) (m : Message) (before after : HallPass) (o : Outcome) : Type 0 where
+-- no memory was left to read it
+abbrev pub IsUnread : List (Made Note) → Outcome → Type 0
+IsUnread gained o = (gained ≡ []) × (o ≡ outcome.NoMemory)
+
+-- one for jobs, which asks for this: its turns at the board, unless no memory was left to read it
+abbrev pub IsJobMessageServed : Catalogue → JobRequest → List (Made Note) → BoardHolding → BoardHolding → Outcome → Type 0
+IsJobMessageServed c r gained board_before board_after o = ((gained ≡ []) × ServesJob c r board_before board_after o) ⊎ (IsUnread gained o × (board_after ≡ board_before))
+
+-- any other: what it asks for by the table of paths is served, unless no memory was left to read it
+abbrev pub IsOtherMessageServed : Catalogue → Bool → FrontedBook → Message → Option Request → List (Made Note) → Outcome → Type 0
+IsOtherMessageServed c told seen m None gained o = IsUnread gained o
+IsOtherMessageServed c told seen m (Some r) gained o = (r ≡ request_for c m) × IsRequestServed c told seen r gained o
+
+-- one for jobs asks nothing of the cabinet, and any other asks nothing of the board
+abbrev pub IsMessageServed : Catalogue → Bool → FrontedBook → Message → Option Request → List (Made Note) → BoardHolding → BoardHolding → Outcome → Type 0
+IsMessageServed c told seen m request gained board_before board_after o =
+    MatchOption (job_request_for c m) (IsOtherMessageServed c told seen m request gained o × (board_after ≡ board_before)) (λ r. IsJobMessageServed c r gained board_before board_after o × (request ≡ None))
+
+-- a message was served over a hall and a board, while its source went from one count of faults to another: it failed only where that rose
+pub record Serves (c : Catalogue) (renders_before renders_after : ℕ) (m : Message) (before after : HallPass) (board_before board_after : BoardHolding) (o : Outcome) : Type 0 where
   pub gained : List (Made Note)
   pub gains : Gains c before after gained
   pub request : Option Request
-  pub served : IsMessageServed c before.told before.book m request gained o
+  pub served : IsMessageServed c before.told before.book m request gained board_before board_after o
   pub cause : o ≡ outcome.SourceFailed → Rose renders_before renders_after

@@ -1,10 +1,10 @@
-//! Sessions over a hall: the messages of connections, served by many threads at one cache.
+//! Sessions over a hall and a board of jobs: the messages of connections, served by many threads at one cache.
 //!
 //! Promises: a session writes the responses to the messages of its link's bytes, in order, and ends as the stream does, after its last
 //! message or at a fault (`specs/Sessions.antt`); for each message its pass made the turns of that message's commands, and what
 //! they were answered is the outcome of its response (`specs/Served.antt`): for a tile those of a get, for a truncation and an
-//! expiry one, and for what is kept one for each line.
-//! Stands on cache_hall and tile_service.
+//! expiry one, and for what is kept one for each line. For a message for jobs the turns are the board's, by its own pass.
+//! Stands on cache_hall, tile_service and job_requests.
 #![tactic(auto)]
 
 pub mod counted;

@@ -1,10 +1,11 @@
-//! A message of a session over a hall, served to its outcome.
+//! A message of a session over a hall and a board, served to its outcome.
 ghost use Rattle.std.specs.Prelude.{ℕ, ◌≡◌, ◌≤◌, Some, true};
 ghost use Rattle.cache_hall.specs.Turned.{IsPassOf};
 ghost use Rattle.catalog.specs.LookUp.{IsTile};
 ghost use Rattle.catalog.specs.Valid.{IsValid};
 ghost use Rattle.hall_sessions.specs.Requested.{ServesRequest};
 ghost use Rattle.hall_sessions.specs.Served.{Serves, outcome_of_get};
+ghost use Rattle.job_board.specs.Calls.{IsBoardPass};
 ghost use Rattle.served_covers.specs.OfCatalogue.{IsCoverOf};
 ghost use Rattle.tile_requests.specs.declared.request.Request.TheVariants as request;
 ghost use Rattle.tile_requests.specs.Requests.{IsOf};
@@ -20,6 +21,9 @@ use cache_hall::get::get;
 use cache_hall::hall::Hall;
 use cache_hall::upkeep::{expire_once, truncate};
 use http_wire::message::Message;
+use job_board::board::BoardPass;
+use job_requests::routes::read_job_request;
+use job_requests::serving::serve_job;
 use matrix_geometry::address::Address;
 use source_render::source::Source;
 use std::alloc::Global;
@@ -157,26 +161,35 @@ fn served<R: Wait, K: Keeper, S: Source>(
     }
 }
 
-/// Serves a message: what it asks for by the table of paths. Where memory runs out, its outcome says so.
+/// Serves a message: at the board where it is for jobs, and else what it asks for by the table of paths. Where memory runs out, its
+/// outcome says so.
 pub fn serve<R: Wait, K: Keeper, S: Source>(
     rt: &R,
     alloc: Global,
     world: &World<K>,
     pass: &mut Pass<CabinetChest<K>>,
+    board: &mut BoardPass,
     source: &mut S,
     message: &Message,
 ) -> Outcome
     requires of { IsPassOf world.now.hall.turnstile.table world.now.hall.catalogue pass.old }
     requires valid { IsValid world.now.hall.catalogue }
     requires source { pass.old.told ≡ true → S.told source.old ≡ Some world.now.hall.catalogue.source }
-    ensures serves { Serves world.now.hall.catalogue (S.faults source.old) (S.faults source.new) message.now pass.old pass.new result }
+    requires board { IsBoardPass world.now.board.turnstile.table board.old }
+    ensures serves { Serves world.now.hall.catalogue (S.faults source.old) (S.faults source.new) message.now pass.old pass.new board.old board.new result }
     ensures of { IsPassOf world.now.hall.turnstile.table world.now.hall.catalogue pass.new }
+    ensures board { IsBoardPass world.now.board.turnstile.table board.new }
     ensures later { S.faults source.old ≤ S.faults source.new }
     ensures told { S.told source.new ≡ S.told source.old }
 {
     let parts = MessageRef::of(message);
-    match read_request(alloc, &world.hall.catalogue, &world.rest, &parts) {
+    let catalogue = &world.hall.catalogue;
+    match read_job_request(alloc, catalogue, &parts) {
         Err(_) => Outcome::NoMemory,
-        Ok(request) => served(rt, alloc, &world.hall, pass, source, request),
+        Ok(Some(request)) => serve_job(rt, alloc, catalogue, &world.board, board, request),
+        Ok(None) => match read_request(alloc, catalogue, &world.rest, &parts) {
+            Err(_) => Outcome::NoMemory,
+            Ok(request) => served(rt, alloc, &world.hall, pass, source, request),
+        },
     }
 }

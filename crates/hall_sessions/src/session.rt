@@ -1,8 +1,9 @@
-//! The messages of one connection, served over a hall in order.
+//! The messages of one connection, served over a hall and a board in order.
 ghost use Rattle.std.specs.Prelude.{◌≡◌, ◌≤◌, Some, true};
 ghost use Rattle.cache_hall.specs.Turned.{IsPassOf};
 ghost use Rattle.catalog.specs.Valid.{IsValid};
 ghost use Rattle.hall_sessions.specs.Sessions.{HasHallSession, output_of};
+ghost use Rattle.job_board.specs.Calls.{IsBoardPass};
 ghost use Rattle.tile_service.specs.Outside.{counts};
 
 use crate::responding::respond;
@@ -12,6 +13,7 @@ use cabinet_chest::chest::CabinetChest;
 use http_wire::links::Link;
 use http_wire::message::{Next, WireFault};
 use http_wire::reader::MessageReader;
+use job_board::board::BoardPass;
 use source_render::source::Source;
 use std::alloc::Global;
 use std::sync::Wait;
@@ -19,24 +21,27 @@ use tile_service::answer::write_refusal;
 use tile_service::session::{SESSION_LIMIT, SessionEnd};
 use turnstile::pass::Pass;
 
-/// Serves the messages of one connection (RFC 9112) over a hall, in order, each before the next is looked for, at most 10,000 of them.
-/// Each end comes as `SessionEnd` says.
+/// Serves the messages of one connection (RFC 9112) over a hall and a board of jobs, in order, each before the next is looked for, at
+/// most 10,000 of them. Each end comes as `SessionEnd` says.
 pub fn serve_session<R: Wait, K: Keeper, S: Source, L: Link>(
     rt: &R,
     alloc: Global,
     world: &World<K>,
     pass: &mut Pass<CabinetChest<K>>,
+    board: &mut BoardPass,
     source: &mut S,
     link: &mut L,
 ) -> SessionEnd
     requires of { IsPassOf world.now.hall.turnstile.table world.now.hall.catalogue pass.old }
     requires valid { IsValid world.now.hall.catalogue }
     requires source { pass.old.told ≡ true → S.told source.old ≡ Some world.now.hall.catalogue.source }
+    requires board { IsBoardPass world.now.board.turnstile.table board.old }
     ensures session { HasHallSession
         (record { reads = counts (L.ByteSource.faults link.old) (L.ByteSource.faults link.new); from = L.left link.old; to = L.left link.new })
         (output_of (counts (L.ByteSink.faults link.old) (L.ByteSink.faults link.new)) (L.taken link.old) (L.taken link.new))
-        (counts (S.faults source.old) (S.faults source.new)) world.now.capabilities world.now.hall.catalogue pass.old pass.new result }
+        (counts (S.faults source.old) (S.faults source.new)) world.now.capabilities world.now.hall.catalogue pass.old pass.new board.old board.new result }
     ensures of { IsPassOf world.now.hall.turnstile.table world.now.hall.catalogue pass.new }
+    ensures board { IsBoardPass world.now.board.turnstile.table board.new }
     ensures told { S.told source.new ≡ S.told source.old }
 {
     let Ok(mut reader) = MessageReader::new(alloc) else {
@@ -54,9 +59,23 @@ pub fn serve_session<R: Wait, K: Keeper, S: Source, L: Link>(
             Err(WireFault::ReadFault) => return SessionEnd::ReadFault,
             Err(WireFault::OutOfMemory) => return SessionEnd::OutOfMemory,
         };
-        match respond(rt, alloc, world, pass, source, link, &message, answered + 1) {
-            Ok(()) => {}
-            Err(_) => return SessionEnd::WriteFault,
+        world.traffic.begin();
+        match respond(
+            rt,
+            alloc,
+            world,
+            pass,
+            board,
+            source,
+            link,
+            &message,
+            answered + 1,
+        ) {
+            Ok(()) => world.traffic.end(),
+            Err(_) => {
+                world.traffic.end();
+                return SessionEnd::WriteFault;
+            }
         }
         if message.last {
             return SessionEnd::Closed;

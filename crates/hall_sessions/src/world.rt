@@ -2,9 +2,11 @@
 use cabinet::keeper::Keeper;
 use cache_hall::hall::Hall;
 use exact_ratio::words::Words;
+use job_board::board::Board;
+use traffic::traffic::Traffic;
 use wmts_rest::table::RestTable;
 
-/// Where many threads are served: a hall, the reading of paths, and the capabilities document.
+/// Where many threads are served: a hall, the reading of paths, the capabilities document, a board of jobs, and the counts of requests.
 #[derive(Drop)]
 pub struct World<K: Keeper> {
     pub hall: Hall<K>,
@@ -12,4 +14,8 @@ pub struct World<K: Keeper> {
     pub rest: RestTable,
     /// The document of the service's capabilities, as the operator wrote it.
     pub capabilities: Words,
+    /// The jobs that were submitted.
+    pub board: Board,
+    /// How many requests are being served, for work that can wait.
+    pub traffic: Traffic,
 }

@@ -4,7 +4,7 @@ ghost use Rattle.std.specs.Prelude.{length, ◌≡◌, ◌≤◌};
 use crate::answers::{CORNER, CORNER_MISSED, RIGHT, RIGHT_MISSED, WHOLE, WHOLE_HIT, WHOLE_MISSED};
 use crate::client::answer_to;
 use crate::held::Hold;
-use crate::stage::{Stage, WORKERS, held_sources, served, sources};
+use crate::stage::{Stage, held_sources, served, sources};
 use source_render::source::Source;
 use std::alloc::Global;
 use std::net::{Net, TcpStream};
@@ -15,6 +15,7 @@ use std::thread::Threads;
 use std::time::Clock;
 use tcp_lanes::accept::TcpAccept;
 use tile_serving::ends::ServerEnd;
+use tile_serving::server::SOURCES;
 
 /// What a client read.
 #[derive(Clone, Copy, Debug, PartialEq, Eq)]
@@ -36,7 +37,7 @@ fn serve<R: Threads + Wait + Clock + Copy + Drop + Send + Sync, S: Source + Send
     stage: Stage,
     sources: Vec<S>,
 ) -> ServerEnd
-    requires sources { length sources.items ≡ WORKERS }
+    requires sources { length sources.items ≡ SOURCES }
     requires connections { (1 ≤ connections) × (connections ≤ 1000000) }
 {
     let mut accept = accept;

@@ -17,7 +17,7 @@ use std::test::Fail;
 use std::thread::Threads;
 use tile_command::command::run_command;
 use tile_serving::ends::ServerEnd;
-use tile_serving::server::run_server;
+use tile_serving::server::{SOURCES, run_server};
 
 /// A source of these bytes.
 pub fn supply(alloc: Global, bytes: &[u8]) -> Result<MemorySource, Fail> {
@@ -42,26 +42,23 @@ fn made(alloc: Global) -> Result<SilentDisk, Fail> {
     Ok(disk)
 }
 
-/// How many workers a server has, each with a source of its own.
-pub const WORKERS: usize = 4;
-
-/// A source for each worker.
+/// The sources that a server takes.
 pub fn sources(alloc: Global) -> Result<Vec<Numbered>, Fail>
-    ensures { IfOk result (λ sources. length sources.items ≡ WORKERS) }
+    ensures { IfOk result (λ sources. length sources.items ≡ SOURCES) }
 {
     let mut sources = Vec::new(alloc);
-    for _ in 0..WORKERS {
+    for _ in 0..SOURCES {
         sources.push(Numbered::new(0))?;
     }
     Ok(sources)
 }
 
-/// A source for each worker, all of which hold the render that is to be held.
+/// The sources that a server takes, all of which hold the render that is to be held.
 pub fn held_sources(alloc: Global, hold: &Hold) -> Result<Vec<HeldSource>, Fail>
-    ensures { IfOk result (λ sources. length sources.items ≡ WORKERS) }
+    ensures { IfOk result (λ sources. length sources.items ≡ SOURCES) }
 {
     let mut sources = Vec::new(alloc);
-    for _ in 0..WORKERS {
+    for _ in 0..SOURCES {
         sources.push(HeldSource::new(hold.share()?))?;
     }
     Ok(sources)
@@ -86,7 +83,7 @@ impl Stage {
 }
 
 /// Serves so many connections on a stage.
-pub fn served<R: Threads + Wait + Sync, S: Source + Send, N: Listener>(
+pub fn served<R: Threads + Wait + std::time::Clock + Sync, S: Source + Send, N: Listener>(
     rt: &R,
     alloc: Global,
     connections: u32,
@@ -96,7 +93,7 @@ pub fn served<R: Threads + Wait + Sync, S: Source + Send, N: Listener>(
 ) -> ServerEnd
 where
     N::L: Send,
-    requires sources { length sources.items ≡ WORKERS }
+    requires sources { length sources.items ≡ SOURCES }
     requires connections { (1 ≤ connections) × (connections ≤ 1000000) }
 {
     let Stage {

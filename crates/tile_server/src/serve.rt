@@ -22,21 +22,20 @@ use std::thread::Threads;
 use tcp_lanes::accept::TcpAccept;
 use tile_command::status::Status;
 use tile_serving::ends::ServerEnd;
-use tile_serving::server::run_server;
+use tile_serving::server::{SOURCES, run_server};
 
-/// The sources of the workers, one for each.
+/// The sources that a server takes.
 fn sources_of(
     rt: &(impl Files<File = File> + AllocGlobal),
     id: u32,
 ) -> Result<Vec<AnySource>, AllocError>
-    ensures { IfOk result (λ sources. length sources.items ≡ 4) }
+    ensures { IfOk result (λ sources. length sources.items ≡ SOURCES) }
 {
-    Ok(vec![in rt.alloc();
-        AnySource::open(rt, CELLS, id),
-        AnySource::open(rt, CELLS, id),
-        AnySource::open(rt, CELLS, id),
-        AnySource::open(rt, CELLS, id),
-    ]?)
+    let mut sources = Vec::new(rt.alloc());
+    'opening: for _ in 0..SOURCES {
+        sources.push(AnySource::open(rt, CELLS, id))?;
+    }
+    Ok(sources)
 }
 
 /// The end of a server whose port isn't had.

@@ -1,5 +1,5 @@
 -- An ask that found what a truncation left gives a render that is newer.
-use Rattle.std.proofs.Common.{arith, ◌≡◌, ◌∙◌, ℕ, ◌<◌, ◌⊎◌, inl, inr, ⊎_elim, Bool, List, [], ◌∷◌, sym, ap, subst}
+use Rattle.std.proofs.Common.{arith, ◌≡◌, ◌∙◌, ℕ, ◌<◌, ◌⊎◌, inl, inr, ⊎_elim, Bool, List, [], ◌∷◌, ◌++◌, sym, ap, subst}
 use Rattle.std.proofs.lemmas.List.Elements.{Contains-append_cases}
 use Rattle.std.specs.List.{AllByRecursion, Contains}
 use Rattle.std.specs.Prelude.{IsTrue}
@@ -24,6 +24,7 @@ use Rattle.catalog.specs.declared.catalogue.Catalogue.{Catalogue}
 use Rattle.catalog.specs.LookUp.{IsTile}
 use Rattle.catalog.specs.Valid.{IsValid}
 use Rattle.hall_sessions.specs.Exchanges.{AreExchanges, Exchange, turns_of}
+use Rattle.job_board.specs.Calls.{BoardHolding}
 use Rattle.matrix_geometry.specs.declared.address.Address.{Address}
 use Rattle.truncation_list.specs.declared.book.Cut.{Cut}
 use Rattle.truncation_list.specs.declared.book.FrontedBook.{FrontedBook}
@@ -46,40 +47,50 @@ pub record IsTurnAt (c : Catalogue) (turn : Made Note) : Type 0 where
   pub seen : FrontedBook
   pub is : IsTurn c told seen turn
 
+-- all turns of a pass are such
+abbrev pub HasTurnsAt : Catalogue → HallPass → Type 0
+HasTurnsAt c pass = (turn : Made Note) → Contains pass.made turn → IsTurnAt c turn
+
+-- a pass that has made nothing has none
+pub no_turns : (c : Catalogue) (pass : HallPass) → pass.made ≡ [] → HasTurnsAt c pass
+no_turns c pass none turn at = absurd (empty (subst (λ (ms : List (Made Note)). Contains ms turn) none at))
+  where
+    empty : Contains {X = Made Note} [] turn → ⊥
+    empty (k, lt, _) = omega (arith, lt)
+
 module _ (c : Catalogue) where
-  of_turns : (told : Bool) (seen left : FrontedBook) (ms : List (Made Note)) → AreTurns c told seen ms left → (m : Made Note) → Contains ms m → IsTurnAt c m
+  pub of_turns : (told : Bool) (seen left : FrontedBook) (ms : List (Made Note)) → AreTurns c told seen ms left → (m : Made Note) → Contains ms m → IsTurnAt c m
   of_turns told seen left [] turns m (k, lt, _) = absurd (omega (arith, lt))
   of_turns told seen left (x ∷ xs) turns m at = ⊎_elim (λ (e : x ≡ m). subst (IsTurnAt c) e record { told = told; seen = seen; is = turns.0 }) (λ (d : Contains xs m). of_turns told (left_by x) left xs turns.1 m d) (first_or_later x m xs at)
 
-  of_exchanges : (told : Bool) (seen sees : FrontedBook) (renders after : ℕ) (es : List Exchange) → AreExchanges c told seen renders es sees after → (m : Made Note) → Contains (turns_of es) m → IsTurnAt c m
-  of_exchanges told seen sees renders after [] are m (k, lt, _) = absurd (omega (arith, lt))
-  of_exchanges told seen sees renders after (e ∷ es) are m at =
-      ⊎_elim (λ (mine : Contains e.gained m). of_turns told e.seen e.sees e.gained are.2.turns m mine) (λ (later : Contains (turns_of es) m). of_exchanges told e.sees sees e.renders_after after es are.3 m later)
+  of_exchanges : (told : Bool) (seen : FrontedBook) (board : BoardHolding) (renders : ℕ) (es : List Exchange) (sees : FrontedBook) (board_after : BoardHolding) (after : ℕ) → AreExchanges c told seen board renders es sees board_after after
+      → (m : Made Note) → Contains (turns_of es) m → IsTurnAt c m
+  of_exchanges told seen board renders [] sees board_after after are m (k, lt, _) = absurd (omega (arith, lt))
+  of_exchanges told seen board renders (e ∷ es) sees board_after after are m at =
+      ⊎_elim (λ (mine : Contains e.gained m). of_turns told e.seen e.sees e.gained are.3.turns m mine)
+      (λ (later : Contains (turns_of es) m). of_exchanges told e.sees e.board_after e.renders_after es sees board_after after are.4 m later)
       (Contains-append_cases e.gained (turns_of es) m at)
 
--- a stint's turns are at a cabinet of the catalogue
+  -- a pass that made more of them
+  pub more_turns : (before after : HallPass) (gained : List (Made Note)) → after.made ≡ before.made ++ gained → HasTurnsAt c before → ((m : Made Note) → Contains gained m → IsTurnAt c m) → HasTurnsAt c after
+  more_turns before after gained is had new m at =
+      ⊎_elim (λ (old : Contains before.made m). had m old) (λ (d : Contains gained m). new m d) (Contains-append_cases before.made gained m (subst (λ (ms : List (Made Note)). Contains ms m) is at))
+
+-- the turns of a stint
 module _ {L : Type 0} (s : Service L) where
-  of_sessions : (pass : HallPass) (renders : ℕ) (hs : List (HeldSession L)) (left : HallPass) (after : ℕ) → AreHeld s pass renders hs left after → (m : Made Note) → Contains left.made m → Contains pass.made m ⊎ IsTurnAt s.catalogue m
-  of_sessions pass renders [] left after held m at = inl (subst (λ (p : HallPass). Contains p.made m) held.0 at)
-  of_sessions pass renders (h ∷ hs) left after held m at = ⊎_elim now (λ (t : IsTurnAt s.catalogue m). inr t) (of_sessions h.pass_after h.renders.after hs left after held.3 m at)
-    where
-      now : Contains h.pass_after.made m → Contains pass.made m ⊎ IsTurnAt s.catalogue m
-      now gained =
-          let session = held.2 in
-          ⊎_elim (λ (before : Contains h.pass.made m). inl (subst (λ (p : HallPass). Contains p.made m) held.0 before))
-          (λ (new : Contains (turns_of session.exchanges) m). inr (of_exchanges s.catalogue h.pass.told h.pass.book h.pass_after.book h.renders.before h.renders.after session.exchanges session.served m new))
-          (Contains-append_cases h.pass.made (turns_of session.exchanges) m (subst (λ (p : HallPass). Contains p.made m) session.made gained))
+  of_sessions : (pass : HallPass) (board : BoardHolding) (renders : ℕ) (hs : List (HeldSession L)) (left : HallPass) (board_after : BoardHolding) (after : ℕ) → AreHeld s pass board renders hs left board_after after → HasTurnsAt s.catalogue pass → HasTurnsAt s.catalogue left
+  of_sessions pass board renders [] left board_after after held had = subst (HasTurnsAt s.catalogue) (sym held.0) had
+  of_sessions pass board renders (h ∷ hs) left board_after after held had =
+      let session = held.3 in
+      of_sessions h.pass_after h.board_after h.renders.after hs left board_after after held.4
+      (more_turns s.catalogue h.pass h.pass_after (turns_of session.exchanges) (ap (λ (p : HallPass). p.made) session.made) (subst (HasTurnsAt s.catalogue) (sym held.0) had)
+          (of_exchanges s.catalogue h.pass.told h.pass.book h.board h.renders.before session.exchanges h.pass_after.book h.board_after h.renders.after session.served))
 
-  pub of_stint : (t : Stint L) → s.first.made ≡ [] → IsStint s t → (m : Made Note) → Contains t.pass.made m → IsTurnAt s.catalogue m
-  of_stint t none is m at = ⊎_elim (λ (before : Contains s.first.made m). absurd (empty (subst (λ (ms : List (Made Note)). Contains ms m) none before))) (λ (new : IsTurnAt s.catalogue m). new) (of_sessions s.first is.renders_before t.sessions t.pass is.renders_after is.held m at)
-    where
-      empty : Contains {X = Made Note} [] m → ⊥
-      empty (k, lt, _) = omega (arith, lt)
-
-  pub of_stints : (ts : List (Stint L)) → s.first.made ≡ [] → AllByRecursion (IsStint s) ts → (p : HallPass) → Contains (passes_of ts) p → (m : Made Note) → Contains p.made m → IsTurnAt s.catalogue m
-  of_stints [] none are p (k, lt, _) m at = absurd (omega (arith, lt))
-  of_stints (t ∷ ts) none are p among m at = ⊎_elim (λ (e : t.pass ≡ p). of_stint t none are.0 m (subst (λ (q : HallPass). Contains q.made m) (sym e) at)) (λ (later : Contains (passes_of ts) p). of_stints ts none are.1 p later m at)
-      (first_or_later t.pass p (passes_of ts) among)
+  pub of_stints : (ts : List (Stint L)) → s.first.made ≡ [] → AllByRecursion (IsStint s) ts → (p : HallPass) → Contains (passes_of ts) p → HasTurnsAt s.catalogue p
+  of_stints [] none are p (k, lt, _) = absurd (omega (arith, lt))
+  of_stints (t ∷ ts) none are p among = ⊎_elim
+      (λ (e : t.pass ≡ p). subst (HasTurnsAt s.catalogue) e (of_sessions s.first are.0.board_before are.0.renders_before t.sessions t.pass are.0.board_after are.0.renders_after are.0.held (no_turns s.catalogue s.first none)))
+      (λ (later : Contains (passes_of ts) p). of_stints ts none are.1 p later) (first_or_later t.pass p (passes_of ts) among)
 
 -- NEWER, OR BEFORE
 
@@ -118,7 +129,7 @@ newer_or_before c valid ask cut a number t tile at at' (inr (inl after)) for of 
     let found : AnswersForFronted (fronted (now ask.note.before.state)) (fronted (now cut.note.after.state)) = subst (λ (f : FrontedBook). AnswersForFronted f (fronted (now cut.note.after.state))) at.is.found left in
     inl (answered_below c a valid tile (book_in ask.note.before) number t above (answers_for_cut (book_in ask.note.before) (book_in cut.note.after) t found.book (inl listed)) covers)
 
--- stints in one line
-pub are_newer : {L : Type 0} (s : Service L) (ts : List (Stint L)) → IsValid s.catalogue → s.first.made ≡ [] → AllByRecursion (IsStint s) ts → AreInLine (passes_of ts) → AreNewer s.catalogue (passes_of ts)
-are_newer s ts valid none are line p q cp cq ask cut ca cc' a number t tile for of covers =
-    newer_or_before s.catalogue valid ask cut a number t tile (of_stints s ts none are p cp ask ca) (of_stints s ts none are q cq cut cc') (line p q cp cq ask cut ca cc') for of covers
+-- passes whose turns stand in one line
+pub are_newer : (c : Catalogue) (passes : List HallPass) → IsValid c → ((p : HallPass) → Contains passes p → HasTurnsAt c p) → AreInLine passes → AreNewer c passes
+are_newer c passes valid turns line p q cp cq ask cut ca cc' a number t tile for of covers =
+    newer_or_before c valid ask cut a number t tile (turns p cp ask ca) (turns q cq cut cc') (line p q cp cq ask cut ca cc') for of covers

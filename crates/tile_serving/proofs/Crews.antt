@@ -1,7 +1,7 @@
 -- What holds of each pass holds of those that were handed out.
 use Rattle.std.proofs.Common.{◌≡◌, ◌+◌, ◌-◌, ℕ, List, [], ◌∷◌, ◌++◌, All, length, length-append, arith, ap, sym, subst}
 use Rattle.std.proofs.lemmas.List.Elements.{All-pop, All-push}
-use Rattle.std.specs.Prelude.{Some}
+use Rattle.std.specs.Prelude.{Err, IfOk, Ok, Result, Some}
 use Rattle.atomic_table.specs.Seated.{TableId}
 use Rattle.crossbeam_queue.specs.Passes.{Pass, view}
 use Rattle.tile_serving.specs.Hands.{IsHand, all_parts, hand}
@@ -21,3 +21,8 @@ pub dealt : {L : Type 0} (queue : TableId) (n m : ℕ) (before after : Pass L (H
     → IsHand queue (hand (all_parts - m) [] []) after
 dealt queue n m before after had less e =
     subst (λ k. IsHand queue (hand k [] []) after) (omega (arith, e)) (subst (λ v. IsHand queue (hand (v.parts - 1) v.put v.taken) after) had.knows less)
+
+-- what follows of a value follows of a result that may be an error
+pub ok_so : {A E : Type 0} (P Q : A → Type 0) (r : Result A E) → IfOk r P → ((a : A) → P a → Q a) → IfOk r Q
+ok_so P Q (Ok a) holds so = so a holds
+ok_so P Q (Err e) holds so = tt

@@ -1,5 +1,5 @@
 -- The hands of all workers, gathered in one.
-use Rattle.std.proofs.Common.{◌≡◌, ◌∙◌, ◌<◌, ℕ, ◌+◌, ⊎_elim, List, [], ◌∷◌, ◌++◌, append_assoc, append-nil, refl, sym, ap, subst, arith}
+use Rattle.std.proofs.Common.{⊎_elim, ◌≡◌, ◌∙◌, ◌<◌, ℕ, ◌+◌, List, [], ◌∷◌, ◌++◌, append_assoc, append-nil, refl, sym, ap, subst, arith}
 use Rattle.std.proofs.lemmas.List.Elements.{Contains-append_cases, Contains-append_left, Contains-push}
 use Rattle.std.specs.List.{AllByRecursion, Contains}
 use Rattle.std.specs.Prelude.{Option}
@@ -7,15 +7,13 @@ use Rattle.atomic_table.specs.Seated.{TableId}
 use Rattle.cache_hall.specs.Turned.{HallPass}
 use Rattle.catalog.specs.declared.catalogue.Catalogue.{Catalogue}
 use Rattle.crossbeam_queue.specs.Passes.{Pass, view}
+use Rattle.job_board.specs.Calls.{BoardHolding}
 use Rattle.tile_serving.specs.Crew.{AreKept, AreServedBy, HasGathered, HasWorked, IsReady}
 use Rattle.tile_serving.specs.Hands.{IsEven, IsHand, hand, with_other}
 use Rattle.tile_serving.specs.Stints.{AreServed, HeldSession, IsStint, Service, Stint, links_in, links_of, passes_of}
 use Rattle.tile_serving.specs.Weights.{weigh}
 use Rattle.tile_serving.specs.declared.hand.Hand.{Hand}
 use Rattle.turnstile.proofs.Notes.{the_one}
-use Rattle.turnstile.specs.Line.{AreInLine}
-use Rattle.catalog.specs.Valid.{IsValid}
-use Rattle.tile_serving.proofs.Between.{are_newer}
 use Rattle.tile_serving.proofs.Holding.{stint_of}
 use Rattle.tile_serving.proofs.Sums.{weigh-append}
 
@@ -29,36 +27,25 @@ keeps_one stints passes sessions pass kept p c = ⊎_elim
     (λ (later : Contains (passes_of stints) p). Contains-append_left passes (pass ∷ []) p (kept p later))
     (Contains-append_cases (pass ∷ []) (passes_of stints) p c)
 
--- a pass more
-pub served_with : {L : Type 0} (s : Service L) (links : List L) (passes : List HallPass) (pass : HallPass) → AreServedBy s links passes → AreServedBy s links (passes ++ pass ∷ [])
-served_with s links passes pass by = record { stints = by.stints; held = by.held; each = by.each; kept = λ p c. Contains-append_left passes (pass ∷ []) p (by.kept p c) }
-
--- all served in one line, where all passes stand in it
-pub served_in_line : {L : Type 0} (s : Service L) (links : List L) (passes : List HallPass) → IsValid s.catalogue → s.first.made ≡ [] → AreServedBy s links passes → AreInLine passes → AreServed s links
-served_in_line s links passes valid none by line = record {
-  stints = by.stints;
-  held = by.held;
-  each = by.each;
-  line = stand;
-  newer = are_newer s by.stints valid none by.held stand;
-}
-  where
-    stand : AreInLine (passes_of by.stints)
-    stand p q cp cq m n cm cn = line p q (by.kept p cp) (by.kept q cq) m n cm cn
+-- more passes
+pub served_with : {L : Type 0} (s : Service L) (links : List L) (passes more : List HallPass) → AreServedBy s links passes → AreServedBy s links (passes ++ more)
+served_with s links passes more by = record { served = by.served; kept = λ p c. Contains-append_left passes more p (by.kept p c) }
 
 module _ {L : Type 0} (s : Service L) where
-  pub gathers_none : (pass : HallPass) (renders : ℕ) (mine : Pass L (Hand L)) → HasWorked s (hand 1 [] []) pass renders mine → HasGathered s 1 pass renders mine []
-  gathers_none pass renders mine w = record { stints = []; held = tt; last = w; kept = λ p c. c }
+  pub gathers_none : (pass : HallPass) (board : BoardHolding) (renders : ℕ) (mine : Pass L (Hand L)) → HasWorked s (hand 1 [] []) pass board renders mine → HasGathered s 1 pass board renders mine []
+  gathers_none pass board renders mine w = record { stints = []; held = tt; last = w; kept = λ p c. c }
 
   -- one worker more
-  pub gathers_one : (parts : ℕ) (pass other_pass : HallPass) (renders other_renders : ℕ) (mine other later : Pass L (Hand L)) (passes : List HallPass) → HasGathered s parts pass renders mine passes → HasWorked s (hand 1 [] []) other_pass other_renders other
-      → view later ≡ with_other (view mine) (view other) → HasGathered s (parts + 1) pass renders later (passes ++ other_pass ∷ [])
-  gathers_one parts pass other_pass renders other_renders mine other later passes g w took = record {
+  pub gathers_one : (parts : ℕ) (pass other_pass : HallPass) (board other_board : BoardHolding) (renders other_renders : ℕ) (mine other later : Pass L (Hand L)) (passes : List HallPass) → HasGathered s parts pass board renders mine passes → HasWorked s (hand 1 [] []) other_pass other_board other_renders other
+      → view later ≡ with_other (view mine) (view other) → HasGathered s (parts + 1) pass board renders later (passes ++ other_pass ∷ [])
+  gathers_one parts pass other_pass board other_board renders other_renders mine other later passes g w took = record {
     stints = stint w.sessions other_pass ∷ g.stints;
     kept = keeps_one g.stints passes w.sessions other_pass g.kept;
-    held = (stint_of s (hand 1 [] []) other_pass other_renders other w, g.held);
+    held = (stint_of s (hand 1 [] []) other_pass other_board other_renders other w, g.held);
     last = record {
       sessions = g.last.sessions;
+      board_before = g.last.board_before;
+      at_board = g.last.at_board;
       renders_before = g.last.renders_before;
       held = g.last.held;
       took = took ∙ (λ i. with_other (g.last.took i) (w.took i)) ∙ ap (hand (parts + 1) []) (sym (append_assoc (links_of w.sessions) (links_in g.stints) (links_of g.last.sessions)));
@@ -66,54 +53,59 @@ module _ {L : Type 0} (s : Service L) where
   }
 
   -- and the hand that put the links: it has taken none
-  pub gathers_put : (parts more : ℕ) (put : List L) (pass : HallPass) (renders : ℕ) (mine other later : Pass L (Hand L)) (passes : List HallPass) (g : HasGathered s parts pass renders mine passes) → view other ≡ hand more put [] → view later ≡ with_other (view mine) (view other)
-      → HasWorked s (hand (parts + more) put (links_in g.stints)) pass renders later
-  gathers_put parts more put pass renders mine other later passes g puts took = record {
+  pub gathers_put : (parts more : ℕ) (put : List L) (pass : HallPass) (board : BoardHolding) (renders : ℕ) (mine other later : Pass L (Hand L)) (passes : List HallPass) (g : HasGathered s parts pass board renders mine passes) → view other ≡ hand more put [] → view later ≡ with_other (view mine) (view other)
+      → HasWorked s (hand (parts + more) put (links_in g.stints)) pass board renders later
+  gathers_put parts more put pass board renders mine other later passes g puts took = record {
     sessions = g.last.sessions;
+    board_before = g.last.board_before;
+    at_board = g.last.at_board;
     renders_before = g.last.renders_before;
     held = g.last.held;
     took = took ∙ (λ i. with_other (g.last.took i) (puts i)) ∙ ap (λ (xs : List L). hand (parts + more) xs (links_in g.stints ++ links_of g.last.sessions)) (append-nil put);
   }
 
   -- who is alone at the queue and has taken what was put has served all of it, with the others
-  pub all_served : (parts : ℕ) (put : List L) (stints : List (Stint L)) (pass : HallPass) (renders : ℕ) (mine : Pass L (Hand L)) (passes : List HallPass) → AllByRecursion (IsStint s) stints → AreKept stints passes
-      → HasWorked s (hand parts put (links_in stints)) pass renders mine → IsEven (view mine) → AreServedBy s put (passes ++ pass ∷ [])
-  all_served parts put stints pass renders mine passes held kept w even = record {
-    stints = stint w.sessions pass ∷ stints;
+  pub all_served : (parts : ℕ) (put : List L) (stints : List (Stint L)) (pass : HallPass) (board : BoardHolding) (renders : ℕ) (mine : Pass L (Hand L)) (passes : List HallPass) → AllByRecursion (IsStint s) stints → AreKept stints passes
+      → HasWorked s (hand parts put (links_in stints)) pass board renders mine → IsEven (view mine) → AreServedBy s put (passes ++ pass ∷ [])
+  all_served parts put stints pass board renders mine passes held kept w even = record {
     kept = keeps_one stints passes w.sessions pass kept;
-    held = (stint_of s (hand parts put (links_in stints)) pass renders mine w, held);
+    served = record {
+    stints = stint w.sessions pass ∷ stints;
+    held = (stint_of s (hand parts put (links_in stints)) pass board renders mine w, held);
     each = λ f.
         let had = ap (λ (v : Hand L). weigh f v.put) w.took in
         let took = ap (λ (v : Hand L). weigh f v.taken) w.took in
         let e = even f in
         omega (arith, weigh-append f (links_in stints) (links_of w.sessions), weigh-append f (links_of w.sessions) (links_in stints));
+    };
   }
 
   -- of so many others as there were, so many are left
-  pub record Gather (all left : ℕ) (pass : HallPass) (renders : ℕ) (mine : Pass L (Hand L)) (passes : List HallPass) : Type 0 where
+  pub record Gather (all left : ℕ) (pass : HallPass) (board : BoardHolding) (renders : ℕ) (mine : Pass L (Hand L)) (passes : List HallPass) : Type 0 where
     pub gone : ℕ
     pub each : gone + left ≡ all
-    pub gathered : HasGathered s (1 + gone) pass renders mine passes
+    pub gathered : HasGathered s (1 + gone) pass board renders mine passes
 
-  pub gather_begins : (all : ℕ) (pass : HallPass) (renders : ℕ) (mine : Pass L (Hand L)) → HasWorked s (hand 1 [] []) pass renders mine → Gather all all pass renders mine []
-  gather_begins all pass renders mine w = record { gone = 0; each = omega arith; gathered = gathers_none pass renders mine w }
+  pub gather_begins : (all : ℕ) (pass : HallPass) (board : BoardHolding) (renders : ℕ) (mine : Pass L (Hand L)) → HasWorked s (hand 1 [] []) pass board renders mine → Gather all all pass board renders mine []
+  gather_begins all pass board renders mine w = record { gone = 0; each = omega arith; gathered = gathers_none pass board renders mine w }
 
-  pub gather_goes_on : (all left next : ℕ) (pass other_pass : HallPass) (renders other_renders : ℕ) (mine other later : Pass L (Hand L)) (passes : List HallPass) → left ≡ next + 1 → Gather all left pass renders mine passes → HasWorked s (hand 1 [] []) other_pass other_renders other
-      → view later ≡ with_other (view mine) (view other) → Gather all next pass renders later (passes ++ other_pass ∷ [])
-  gather_goes_on all left next pass other_pass renders other_renders mine other later passes e g w took = record {
+  pub gather_goes_on : (all left next : ℕ) (pass other_pass : HallPass) (board other_board : BoardHolding) (renders other_renders : ℕ) (mine other later : Pass L (Hand L)) (passes : List HallPass) → left ≡ next + 1 → Gather all left pass board renders mine passes → HasWorked s (hand 1 [] []) other_pass other_board other_renders other
+      → view later ≡ with_other (view mine) (view other) → Gather all next pass board renders later (passes ++ other_pass ∷ [])
+  gather_goes_on all left next pass other_pass board other_board renders other_renders mine other later passes e g w took = record {
     gone = g.gone + 1;
     each = omega (arith, e, g.each);
-    gathered = subst (λ n. HasGathered s n pass renders later (passes ++ other_pass ∷ [])) (omega arith) (gathers_one (1 + g.gone) pass other_pass renders other_renders mine other later passes g.gathered w took);
+    gathered = subst (λ n. HasGathered s n pass board renders later (passes ++ other_pass ∷ [])) (omega arith) (gathers_one (1 + g.gone) pass other_pass board other_board renders other_renders mine other later passes g.gathered w took);
   }
 
-  pub gather_ends : (all left : ℕ) (pass : HallPass) (renders : ℕ) (mine : Pass L (Hand L)) (passes : List HallPass) → left ≡ 0 → Gather all left pass renders mine passes → HasGathered s (1 + all) pass renders mine passes
-  gather_ends all left pass renders mine passes none g = subst (λ n. HasGathered s n pass renders mine passes) (omega (arith, none, g.each)) g.gathered
+  pub gather_ends : (all left : ℕ) (pass : HallPass) (board : BoardHolding) (renders : ℕ) (mine : Pass L (Hand L)) (passes : List HallPass) → left ≡ 0 → Gather all left pass board renders mine passes → HasGathered s (1 + all) pass board renders mine passes
+  gather_ends all left pass board renders mine passes none g = subst (λ n. HasGathered s n pass board renders mine passes) (omega (arith, none, g.each)) g.gathered
 
 -- a worker that has taken over another hand may serve
-pub ready_with : {L : Type 0} (queue table : TableId) (c : Catalogue) (tells : Option ℕ) (pass : HallPass) (mine other later : Pass L (Hand L)) → IsReady queue table c tells pass mine → IsHand queue (with_other (view mine) (view other)) later
-    → IsReady queue table c tells pass later
-ready_with queue table c tells pass mine other later ready took = record {
+pub ready_with : {L : Type 0} (queue table at : TableId) (c : Catalogue) (tells : Option ℕ) (pass : HallPass) (board : BoardHolding) (mine other later : Pass L (Hand L)) → IsReady queue table at c tells pass board mine → IsHand queue (with_other (view mine) (view other)) later
+    → IsReady queue table at c tells pass board later
+ready_with queue table at c tells pass board mine other later ready took = record {
   of = ready.of;
+  at_board = ready.at_board;
   source = ready.source;
   at_queue = record { of = took.of; carries = took.carries; knows = refl };
   parts = subst (λ v. 0 < v.parts) (sym took.knows) (omega (arith, ready.parts));

@@ -1,35 +1,46 @@
 -- The workers of a server.
 -- A tie between the code and its definitions: the promise can be read without it.
-use Rattle.std.specs.Prelude.{ℕ, ◌≡◌, ◌<◌, ◌++◌, Bool, true, List, [], length, MatchBool, Option, Some}
+use Rattle.std.specs.Prelude.{All, ℕ, ◌≡◌, ◌<◌, ◌++◌, Bool, true, List, [], length, MatchBool, Option, Some}
 use Rattle.std.specs.List.{AllByRecursion, Contains}
 use Rattle.atomic_table.specs.Seated.{TableId}
 use Rattle.cache_hall.specs.Turned.{HallPass, IsPassOf}
 use Rattle.catalog.specs.declared.catalogue.Catalogue.{Catalogue}
 use Rattle.causes.specs.Causes.{Rose}
 use Rattle.crossbeam_queue.specs.Passes.{Pass, view}
+use Rattle.job_board.specs.Calls.{BoardHolding, IsBoardPass, IsFirstBoardPass}
 use Rattle.tile_serving.specs.Hands.{IsHand, hand}
-use Rattle.tile_serving.specs.Stints.{AreHeld, HeldSession, IsStint, Service, Stint, links_in, links_of, passes_of}
-use Rattle.tile_serving.specs.Weights.{WeighAlike}
+use Rattle.tile_serving.specs.Stints.{AreHeld, AreServed, HeldSession, IsStint, Service, Stint, links_in, links_of, passes_of}
 use Rattle.tile_serving.specs.declared.hand.Hand.{Hand}
 
--- a worker of this queue and of this turnstile may serve: where its pass is told, its source tells the catalogue's number
-pub record IsReady {L : Type 0} (queue table : TableId) (c : Catalogue) (tells : Option ℕ) (pass : HallPass) (mine : Pass L (Hand L)) : Type 0 where
+-- a worker of this queue, of this turnstile and of this board may serve: where its pass is told, its source tells the catalogue's number
+pub record IsReady {L : Type 0} (queue table at : TableId) (c : Catalogue) (tells : Option ℕ) (pass : HallPass) (board : BoardHolding) (mine : Pass L (Hand L)) : Type 0 where
   pub of : IsPassOf table c pass
+  pub at_board : IsBoardPass at board
   pub source : pass.told ≡ true → tells ≡ Some c.source
   pub at_queue : IsHand queue (view mine) mine
   pub parts : 0 < (view mine).parts
 
+-- passes of what is served which have made nothing yet, at the hall and at the board; and where the hall is told, sources of the
+-- catalogue's pictures
+pub record AreSupplies {L S : Type 0} (s : Service L) (tells : S → Option ℕ) (passes : List HallPass) (boards : List BoardHolding) (sources : List S) : Type 0 where
+  pub passes_are : All (λ p. p ≡ s.first) passes
+  pub boards_are : All (IsFirstBoardPass s.board) boards
+  pub sources_tell : All (λ x. s.first.told ≡ true → tells x ≡ Some s.catalogue.source) sources
+
 -- a worker that has made nothing yet, and has no link
-pub record IsNew {L : Type 0} (queue : TableId) (s : Service L) (tells : Option ℕ) (pass : HallPass) (mine : Pass L (Hand L)) : Type 0 where
+pub record IsNew {L : Type 0} (queue : TableId) (s : Service L) (tells : Option ℕ) (pass : HallPass) (board : BoardHolding) (mine : Pass L (Hand L)) : Type 0 where
   pub pass_is : pass ≡ s.first
+  pub at_board : IsFirstBoardPass s.board board
   pub source : s.first.told ≡ true → tells ≡ Some s.catalogue.source
   pub hand_is : IsHand queue (hand 1 [] []) mine
 
 -- a worker has held a session over each link that it took since its hand was as before
-pub record HasWorked {L : Type 0} (s : Service L) (before : Hand L) (pass : HallPass) (renders : ℕ) (mine : Pass L (Hand L)) : Type 0 where
+pub record HasWorked {L : Type 0} (s : Service L) (before : Hand L) (pass : HallPass) (board : BoardHolding) (renders : ℕ) (mine : Pass L (Hand L)) : Type 0 where
   pub sessions : List (HeldSession L)
+  pub board_before : BoardHolding
+  pub at_board : IsFirstBoardPass s.board board_before
   pub renders_before : ℕ
-  pub held : AreHeld s s.first renders_before sessions pass renders
+  pub held : AreHeld s s.first board_before renders_before sessions pass board renders
   pub took : view mine ≡ hand before.parts before.put (before.taken ++ links_of sessions)
 
 -- the passes that these stints left are among those
@@ -38,18 +49,16 @@ AreKept stints passes = (p : HallPass) → Contains (passes_of stints) p → Con
 
 -- the worker has taken over the hands of others, and with them the links of the stints that those held; its hand has so many parts, and
 -- the passes of the others are among these
-pub record HasGathered {L : Type 0} (s : Service L) (parts : ℕ) (pass : HallPass) (renders : ℕ) (mine : Pass L (Hand L)) (passes : List HallPass) : Type 0 where
+pub record HasGathered {L : Type 0} (s : Service L) (parts : ℕ) (pass : HallPass) (board : BoardHolding) (renders : ℕ) (mine : Pass L (Hand L)) (passes : List HallPass) : Type 0 where
   pub stints : List (Stint L)
   pub held : AllByRecursion (IsStint s) stints
-  pub last : HasWorked s (hand parts [] (links_in stints)) pass renders mine
+  pub last : HasWorked s (hand parts [] (links_in stints)) pass board renders mine
   pub kept : AreKept stints passes
 
 -- each of these links was served in one session of one stint, whose passes are among these
 pub record AreServedBy {L : Type 0} (s : Service L) (links : List L) (passes : List HallPass) : Type 0 where
-  pub stints : List (Stint L)
-  pub held : AllByRecursion (IsStint s) stints
-  pub each : WeighAlike links (links_in stints)
-  pub kept : AreKept stints passes
+  pub served : AreServed s links
+  pub kept : AreKept served.stints passes
 
 -- so many links were asked for; the listener gave these, each of which was served, by passes that are among these; and where it gave
 -- fewer, an accept had failed

@@ -6,5 +6,6 @@ pub mod Opened
 pub mod Hands
 pub mod Accepted
 pub mod Crew
+pub mod Runners
 pub mod Served
 pub mod Setup

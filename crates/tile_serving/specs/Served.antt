@@ -11,7 +11,11 @@ use Rattle.gate_journal.specs.declared.fault.OpenFault.{OpenFault}
 use Rattle.gate_journal.specs.declared.fault.OpenFault.TheVariants as fault
 use Rattle.tile_service.specs.Outside.{FaultCounts, InputChange}
 use Rattle.tile_serving.specs.Opened.{IsOpened, IsUnopened, ServerDisk, first_pass}
-use Rattle.tile_serving.specs.Stints.{AreServed, LinkReading}
+use Rattle.job_runner.specs.Idles as idles
+use Rattle.tile_serving.specs.Runners.{HasRunJobs}
+use Rattle.turnstile.specs.Line.{AreInLine}
+use Rattle.tile_serving.specs.Between.{AreNewer}
+use Rattle.tile_serving.specs.Stints.{AreServed, LinkReading, Service, passes_of}
 use Rattle.tile_serving.specs.declared.ends.ServerEnd.{ServerEnd}
 use Rattle.tile_serving.specs.declared.ends.ServerEnd.TheVariants as end
 
@@ -36,15 +40,24 @@ pub record ServerChange (L : Type 0) : Type 0 where
 abbrev pub WithBoth : {L : Type 0} → ServerChange L → (Catalogue → List ℕ → Type 0) → Type 0
 WithBoth h P = (c : Catalogue) × (document : List ℕ) × AreRead h.catalogue h.capabilities c document × P c document
 
+-- how the links of a server are served: by passes that had seen the opened cabinet's book, and from places at one board of jobs
+abbrev pub service_of : {L : Type 0} → ServerChange L → Catalogue → List ℕ → TableId → TableId → State → Service L
+service_of h c document table board opened = record { reading = h.reading; document = document; catalogue = c; board = board; first = first_pass table c h.told opened }
+
 -- The cache of the disk was opened under the catalogue, and each link that the listener gave was served to the end of one session, by
--- passes of one turnstile, which had seen the opened cabinet's book and made nothing before their first session.
+-- passes of one turnstile, which had seen the opened cabinet's book and made nothing before their first session, and from places at one
+-- board, on which there was no job at first; jobs were run from that board until none waited.
 pub record HasServed {L D : Type 0} (h : ServerChange L) (d : ServerDisk D) (c : Catalogue) (document : List ℕ) : Type 0 where
   pub opened : State
   pub is_opened : IsOpened d c h.clock opened
   pub table : TableId
+  pub board : TableId
   pub links : List L
   pub given : h.given_after ≡ h.given_before ++ links
-  pub served : AreServed (record { reading = h.reading; document = document; catalogue = c; first = first_pass table c h.told opened }) links
+  pub served : AreServed (service_of h c document table board opened) links
+  pub jobs : HasRunJobs (service_of h c document table board opened)
+  pub line : AreInLine (passes_of served.stints ++ idles.passes_of jobs.after.idle)
+  pub newer : AreNewer c (passes_of served.stints ++ idles.passes_of jobs.after.idle)
 
 -- so it was, and as many links were given as were asked for
 abbrev pub HasServedAll : {L D : Type 0} → ServerChange L → ServerDisk D → Catalogue → List ℕ → Type 0

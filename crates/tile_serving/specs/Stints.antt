@@ -1,13 +1,13 @@
 -- The sessions that the workers of a server held.
 use Rattle.std.specs.Prelude.{ℕ, ◌≡◌, List, [], ◌∷◌, flat_map, map, Option}
 use Rattle.std.specs.List.{AllByRecursion}
+use Rattle.atomic_table.specs.Seated.{TableId}
 use Rattle.catalog.specs.declared.catalogue.Catalogue.{Catalogue}
 use Rattle.cache_hall.specs.Turned.{HallPass}
 use Rattle.hall_sessions.specs.Sessions.{HasHallSession, output_of}
+use Rattle.job_board.specs.Calls.{BoardHolding, IsFirstBoardPass}
 use Rattle.tile_service.specs.Outside.{FaultCounts, counts}
 use Rattle.tile_service.specs.declared.session.SessionEnd.{SessionEnd}
-use Rattle.turnstile.specs.Line.{AreInLine}
-use Rattle.tile_serving.specs.Between.{AreNewer}
 use Rattle.tile_serving.specs.Weights.{WeighAlike}
 
 -- how contracts read a link: the bytes that are left to take of it and those that it has taken, where these are modelled, and how often a
@@ -18,12 +18,15 @@ pub record LinkReading (L : Type 0) : Type 0 where
   pub reads : L → ℕ
   pub writes : L → ℕ
 
--- a session that was held: its link and its pass, before it and after it, the faults of its source, and its end
+-- a session that was held: its link, its pass and its place at the board of jobs, before it and after it, the faults of its source, and its
+-- end
 pub record HeldSession (L : Type 0) : Type 0 where
   pub link : L
   pub link_after : L
   pub pass : HallPass
   pub pass_after : HallPass
+  pub board : BoardHolding
+  pub board_after : BoardHolding
   pub renders : FaultCounts
   pub end : SessionEnd
 
@@ -41,39 +44,42 @@ links_in stints = flat_map (λ t. links_of t.sessions) stints
 abbrev pub passes_of : {L : Type 0} → List (Stint L) → List HallPass
 passes_of stints = map (λ t. t.pass) stints
 
--- what is served: how its links are read, the capabilities document, the catalogue, and a pass of its hall that has made nothing yet
+-- what is served: how its links are read, the capabilities document, the catalogue, the board of jobs, and a pass of its hall that has made
+-- nothing yet
 pub record Service (L : Type 0) : Type 0 where
   pub reading : LinkReading L
   pub document : List ℕ
   pub catalogue : Catalogue
+  pub board : TableId
   pub first : HallPass
 
-abbrev pub serving : {L : Type 0} → (left taken : L → Option (List ℕ)) → (reads writes : L → ℕ) → List ℕ → Catalogue → HallPass → Service L
-serving left taken reads writes document c first = record { reading = record { left = left; taken = taken; reads = reads; writes = writes }; document = document; catalogue = c; first = first }
+abbrev pub serving : {L : Type 0} → (left taken : L → Option (List ℕ)) → (reads writes : L → ℕ) → List ℕ → Catalogue → TableId → HallPass → Service L
+serving left taken reads writes document c board first = record { reading = record { left = left; taken = taken; reads = reads; writes = writes }; document = document; catalogue = c; board = board; first = first }
 
 module _ {L : Type 0} (s : Service L) where
   abbrev pub IsHeld : HeldSession L → Type 0
   IsHeld h =
       HasHallSession
       (record { reads = counts (s.reading.reads h.link) (s.reading.reads h.link_after); from = s.reading.left h.link; to = s.reading.left h.link_after })
-      (output_of (counts (s.reading.writes h.link) (s.reading.writes h.link_after)) (s.reading.taken h.link) (s.reading.taken h.link_after)) h.renders s.document s.catalogue h.pass h.pass_after h.end
+      (output_of (counts (s.reading.writes h.link) (s.reading.writes h.link_after)) (s.reading.taken h.link) (s.reading.taken h.link_after)) h.renders s.document s.catalogue h.pass h.pass_after h.board h.board_after h.end
 
-  -- sessions one after the other, each by the pass and with the source that the one before left
-  abbrev pub AreHeld : HallPass → ℕ → List (HeldSession L) → HallPass → ℕ → Type 0
-  AreHeld pass renders [] pass_after renders_after = (pass_after ≡ pass) × (renders_after ≡ renders)
-  AreHeld pass renders (h ∷ hs) pass_after renders_after = (h.pass ≡ pass) × (h.renders.before ≡ renders) × IsHeld h × AreHeld h.pass_after h.renders.after hs pass_after renders_after
+  -- sessions one after the other, each by the pass, with the place at the board and with the source that the one before left
+  abbrev pub AreHeld : HallPass → BoardHolding → ℕ → List (HeldSession L) → HallPass → BoardHolding → ℕ → Type 0
+  AreHeld pass board renders [] pass_after board_after renders_after = (pass_after ≡ pass) × (board_after ≡ board) × (renders_after ≡ renders)
+  AreHeld pass board renders (h ∷ hs) pass_after board_after renders_after =
+      (h.pass ≡ pass) × (h.board ≡ board) × (h.renders.before ≡ renders) × IsHeld h × AreHeld h.pass_after h.board_after h.renders.after hs pass_after board_after renders_after
 
-  -- the first of the sessions was held by a pass that had made nothing
+  -- the first of the sessions was held by a pass that had made nothing, at the hall and at the board
   pub record IsStint (t : Stint L) : Type 0 where
+    pub board_before : BoardHolding
+    pub at_board : IsFirstBoardPass s.board board_before
     pub renders_before : ℕ
+    pub board_after : BoardHolding
     pub renders_after : ℕ
-    pub held : AreHeld s.first renders_before t.sessions t.pass renders_after
+    pub held : AreHeld s.first board_before renders_before t.sessions t.pass board_after renders_after
 
-  -- Each of these links was served in one session of one stint, to its end. The turns of all stints stand in one line: of any two, the one
-  -- found all that the other left. So a tile that was asked for after a truncation, on whichever links, is newer.
+  -- each of these links was served in one session of one stint, to its end
   pub record AreServed (links : List L) : Type 0 where
     pub stints : List (Stint L)
     pub held : AllByRecursion IsStint stints
     pub each : WeighAlike links (links_in stints)
-    pub line : AreInLine (passes_of stints)
-    pub newer : AreNewer s.catalogue (passes_of stints)

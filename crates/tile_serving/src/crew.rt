@@ -1,70 +1,158 @@
 //! Who works for a server.
-ghost use Rattle.std.specs.Prelude.{All, IfOk, length, true, vec_capacity, [], ◌+◌, ◌-◌, ◌<◌, ◌≡◌, ◌≤◌};
-ghost use Rattle.std.specs.declared.option.Option.TheVariants.{Some};
-ghost use Rattle.tile_serving.specs.Crew.{IsNew};
+ghost use Rattle.std.specs.Prelude.{All, Bool, IfOk, Some, length, true, [], ◌+◌, ◌-◌, ◌≡◌, ◌≤◌};
+ghost use Rattle.atomic_table.specs.Seated.{TableId};
+ghost use Rattle.cache_hall.specs.Turned.{IsPassOf};
+ghost use Rattle.catalog.specs.declared.catalogue.Catalogue.{Catalogue};
+ghost use Rattle.job_runner.specs.Idles.{MayJoin};
+ghost use Rattle.tile_serving.specs.Crew.{AreSupplies, IsNew};
 ghost use Rattle.tile_serving.specs.Hands.{IsHand, all_parts, hand, table_of};
+ghost use Rattle.tile_serving.specs.Runners.{IsNewRunner};
 ghost use Rattle.tile_serving.specs.Stints.{Service};
 
 use crate::queue::{LinkHand, LinkQueue};
 use cabinet::keeper::Keeper;
 use cabinet_chest::chest::CabinetChest;
 use http_wire::links::Link;
+use job_board::board::BoardPass;
+use job_runner::members::idle_members;
+use job_runner::runner::{MEMBERS, Runner};
+use seed_jobs::gate::Gate;
 use source_render::source::Source;
 use std::alloc::{AllocError, Global};
 use turnstile::pass::Pass;
 
-/// A worker: its pass at the hall, its hand at the queue, and the source that it renders with.
+/// How many workers serve links at a time.
+pub(crate) const WORKERS: usize = 4;
+
+/// A worker: its pass of the hall, its place at the board of jobs, its hand at the queue, and the source that it renders with.
 #[derive(Drop)]
 pub(crate) struct Worker<K: Keeper, S: Source, L: Link> {
     pub(crate) pass: Pass<CabinetChest<K>>,
+    pub(crate) board: BoardPass,
     pub(crate) hand: LinkHand<L>,
     pub(crate) source: S,
 }
 
-/// The workers of a server, and the pass for its upkeep.
+/// The workers of a server, the pass for its upkeep, and who runs its jobs.
 #[derive(Drop)]
-pub(crate) struct Crew<K: Keeper, S: Source, L: Link> {
+pub(crate) struct Crew<K: Keeper, S: Source, L: Link, G: Gate> {
     pub(crate) workers: Vec<Worker<K, S, L>>,
     pub(crate) upkeep: Pass<CabinetChest<K>>,
+    pub(crate) runner: Runner<K, S, G>,
 }
 
 /// All that have a hand at the queue: a crew, and who accepts links.
 #[derive(Drop)]
-pub(crate) struct Staff<K: Keeper, S: Source, L: Link> {
-    pub(crate) crew: Crew<K, S, L>,
+pub(crate) struct Staff<K: Keeper, S: Source, L: Link, G: Gate> {
+    pub(crate) crew: Crew<K, S, L, G>,
     pub(crate) acceptor: LinkHand<L>,
 }
 
-/// A crew: a worker for each source, with a hand at the queue, and the upkeep. The passes are taken out of their list, which keeps its
-/// room for them. `AllocError` where memory runs out.
-pub(crate) fn crew_of<K: Keeper, S: Source, L: Link>(
+/// What a crew is made of: passes of the hall, places at the board of jobs, and sources, which nobody has yet.
+#[derive(Drop)]
+pub(crate) struct Supplies<K: Keeper, S: Source> {
+    pub(crate) passes: Vec<Pass<CabinetChest<K>>>,
+    pub(crate) boards: Vec<BoardPass>,
+    pub(crate) sources: Vec<S>,
+}
+
+/// The workers of a crew, each with a hand at the queue. `AllocError` where memory runs out.
+fn workers_of<K: Keeper, S: Source, L: Link>(
     alloc: Global,
     queue: &LinkQueue<L>,
     mine: &mut LinkHand<L>,
-    sources: Vec<S>,
-    passes: &mut Vec<Pass<CabinetChest<K>>>,
-) -> Result<Crew<K, S, L>, AllocError>
-    requires each { length passes.old.items ≡ length sources.items + 1 }
-    requires few { length sources.items < all_parts }
+    supplies: &mut Supplies<K, S>,
+) -> Result<Vec<Worker<K, S, L>>, AllocError>
+    requires passes { WORKERS ≤ length supplies.old.passes.items }
+    requires boards { WORKERS ≤ length supplies.old.boards.items }
+    requires sources { WORKERS ≤ length supplies.old.sources.items }
     requires mine { IsHand (table_of queue.now.links) (hand all_parts [] []) mine.old }
-    ensures mine { IfOk result (λ crew. IsHand (table_of queue.now.links) (hand (all_parts - length sources.items) [] []) mine.new) }
-    ensures each { IfOk result (λ crew. length crew.workers.items ≡ length sources.items) }
-    ensures empty { IfOk result (λ crew. passes.new.items ≡ []) }
-    ensures room { length passes.old.items ≤ vec_capacity passes.new }
-    ensures new { (s : Service L) → All (λ p. p ≡ s.first) passes.old.items → All (λ x. s.first.told ≡ true → S.told x ≡ Some s.catalogue.source) sources.items
-        → IfOk result (λ crew. All (λ w. IsNew (table_of queue.now.links) s (S.told w.source) w.pass w.hand) crew.workers.items × (crew.upkeep ≡ s.first)) }
+    ensures mine { IfOk result (λ workers. IsHand (table_of queue.now.links) (hand (all_parts - WORKERS) [] []) mine.new) }
+    ensures each { IfOk result (λ workers. length workers.items ≡ WORKERS) }
+    ensures passes { IfOk result (λ workers. length supplies.new.passes.items + WORKERS ≡ length supplies.old.passes.items) }
+    ensures boards { IfOk result (λ workers. length supplies.new.boards.items + WORKERS ≡ length supplies.old.boards.items) }
+    ensures sources { IfOk result (λ workers. length supplies.new.sources.items + WORKERS ≡ length supplies.old.sources.items) }
+    ensures new { (s : Service L) → AreSupplies s S.told supplies.old.passes.items supplies.old.boards.items supplies.old.sources.items
+        → IfOk result (λ workers. All (λ w. IsNew (table_of queue.now.links) s (S.told w.source) w.pass w.board w.hand) workers.items
+        × AreSupplies s S.told supplies.new.passes.items supplies.new.boards.items supplies.new.sources.items) }
 {
-    let mut sources = sources;
     let mut workers = Vec::new(alloc);
-    while let Some(source) = sources.pop() {
-        let Some(pass) = passes.pop() else {
+    'hiring: for _ in 0..WORKERS {
+        let Some(pass) = supplies.passes.pop() else {
+            unreachable!()
+        };
+        let Some(board) = supplies.boards.pop() else {
+            unreachable!()
+        };
+        let Some(source) = supplies.sources.pop() else {
             unreachable!()
         };
         let hand = queue.one_more(mine);
-        workers.push(Worker { pass, hand, source })?;
+        workers.push(Worker {
+            pass,
+            board,
+            hand,
+            source,
+        })?;
     }
+    Ok(workers)
+}
+
+/// Who runs jobs, with a member for each pass. `AllocError` where memory runs out.
+fn runner_of<K: Keeper, S: Source, G: Gate>(
+    alloc: Global,
+    board: BoardPass,
+    passes: Vec<Pass<CabinetChest<K>>>,
+    sources: Vec<S>,
+    gates: Vec<G>,
+) -> Result<Runner<K, S, G>, AllocError>
+    requires passes { length passes.items ≡ MEMBERS }
+    requires sources { length sources.items ≡ MEMBERS }
+    requires gates { length gates.items ≡ MEMBERS }
+    ensures board { IfOk result (λ runner. runner.board ≡ board) }
+    ensures join { (table : TableId) (c : Catalogue) (told : Bool) → All (IsPassOf table c) passes.items → All (λ p. p.told ≡ told) passes.items
+        → All (λ s. told ≡ true → S.told s ≡ Some c.source) sources.items → IfOk result (λ runner. All (MayJoin table c) runner.idle) }
+{
+    let idle = idle_members(alloc, passes, sources, gates)?;
+    Runner::new(alloc, board, idle)
+}
+
+/// A crew of workers, the upkeep, and who runs jobs with all that is left of the supplies. `AllocError` where memory runs out.
+pub(crate) fn crew_of<K: Keeper, S: Source, L: Link, G: Gate>(
+    alloc: Global,
+    queue: &LinkQueue<L>,
+    mine: &mut LinkHand<L>,
+    supplies: Supplies<K, S>,
+    gates: Vec<G>,
+) -> Result<Crew<K, S, L, G>, AllocError>
+    requires passes { length supplies.passes.items ≡ WORKERS + 1 + MEMBERS }
+    requires boards { length supplies.boards.items ≡ WORKERS + 1 }
+    requires sources { length supplies.sources.items ≡ WORKERS + MEMBERS }
+    requires gates { length gates.items ≡ MEMBERS }
+    requires mine { IsHand (table_of queue.now.links) (hand all_parts [] []) mine.old }
+    ensures mine { IfOk result (λ crew. IsHand (table_of queue.now.links) (hand (all_parts - WORKERS) [] []) mine.new) }
+    ensures each { IfOk result (λ crew. length crew.workers.items ≡ WORKERS) }
+    ensures new { (s : Service L) → s.first.charter ≡ Some s.catalogue → AreSupplies s S.told supplies.passes.items supplies.boards.items supplies.sources.items
+        → IfOk result (λ crew. All (λ w. IsNew (table_of queue.now.links) s (S.told w.source) w.pass w.board w.hand) crew.workers.items
+        × (crew.upkeep ≡ s.first) × IsNewRunner s crew.runner) }
+{
+    let mut supplies = supplies;
+    let workers = workers_of(alloc, queue, mine, &mut supplies)?;
+    let Supplies {
+        mut passes,
+        mut boards,
+        sources,
+    } = supplies;
     let Some(upkeep) = passes.pop() else {
         unreachable!()
     };
-    Ok(Crew { workers, upkeep })
+    let Some(board) = boards.pop() else {
+        unreachable!()
+    };
+    let runner = runner_of(alloc, board, passes, sources, gates)?;
+    Ok(Crew {
+        workers,
+        upkeep,
+        runner,
+    })
 }

@@ -30,20 +30,21 @@ fn gather<K: Keeper, S: Source, L: Link>(
 )
     requires empty { passes.old.items ≡ [] }
     requires room { length others.items ≤ vec_capacity passes.old }
-    requires last { IsReady (table_of queue.now.links) world.now.hall.turnstile.table world.now.hall.catalogue (S.told last.old.source) last.old.pass last.old.hand }
-    requires others { All (λ w. IsReady (table_of queue.now.links) world.now.hall.turnstile.table world.now.hall.catalogue (S.told w.source) w.pass w.hand) others.items }
-    ensures ready { IsReady (table_of queue.now.links) world.now.hall.turnstile.table world.now.hall.catalogue (S.told last.new.source) last.new.pass last.new.hand }
+    requires last { IsReady (table_of queue.now.links) world.now.hall.turnstile.table world.now.board.turnstile.table world.now.hall.catalogue (S.told last.old.source) last.old.pass last.old.board last.old.hand }
+    requires others { All (λ w. IsReady (table_of queue.now.links) world.now.hall.turnstile.table world.now.board.turnstile.table world.now.hall.catalogue (S.told w.source) w.pass w.board w.hand) others.items }
+    ensures ready { IsReady (table_of queue.now.links) world.now.hall.turnstile.table world.now.board.turnstile.table world.now.hall.catalogue (S.told last.new.source) last.new.pass last.new.board last.new.hand }
     ensures of { All (λ p. p.table ≡ world.now.hall.turnstile.table) passes.new.items }
     ensures count { length passes.new.items ≡ length others.items }
     ensures room { vec_capacity passes.new ≡ vec_capacity passes.old }
-    ensures gathered { (s : Service L) → HasWorked s (hand 1 [] []) last.old.pass (S.faults last.old.source) last.old.hand
-        → All (λ w. HasWorked s (hand 1 [] []) w.pass (S.faults w.source) w.hand) others.items
-        → HasGathered s (1 + length others.items) last.new.pass (S.faults last.new.source) last.new.hand passes.new.items }
+    ensures gathered { (s : Service L) → HasWorked s (hand 1 [] []) last.old.pass last.old.board (S.faults last.old.source) last.old.hand
+        → All (λ w. HasWorked s (hand 1 [] []) w.pass w.board (S.faults w.source) w.hand) others.items
+        → HasGathered s (1 + length others.items) last.new.pass last.new.board (S.faults last.new.source) last.new.hand passes.new.items }
 {
     let mut others = others;
     'gathering: while let Some(other) = others.pop() {
         let Worker {
             pass,
+            board: _,
             hand,
             source: _,
         } = other;
@@ -70,13 +71,13 @@ pub(crate) fn serve_rest<R: Wait, K: Keeper, S: Source, L: Link>(
     requires mine { IsHand (table_of queue.now.links) (view mine) mine }
     requires none { (view mine).taken ≡ [] }
     requires parts { (view mine).parts + length workers.items ≡ all_parts }
-    requires ready { All (λ w. IsReady (table_of queue.now.links) world.now.hall.turnstile.table world.now.hall.catalogue (S.told w.source) w.pass w.hand) workers.items }
+    requires ready { All (λ w. IsReady (table_of queue.now.links) world.now.hall.turnstile.table world.now.board.turnstile.table world.now.hall.catalogue (S.told w.source) w.pass w.board w.hand) workers.items }
     ensures of { All (λ p. p.table ≡ world.now.hall.turnstile.table) result.items }
     ensures count { length result.items ≡ length workers.items }
     ensures room { vec_capacity result ≡ vec_capacity passes }
     ensures served { (first : HallPass)
-        → All (λ w. HasWorked (serving L.left L.taken L.ByteSource.faults L.ByteSink.faults world.now.capabilities world.now.hall.catalogue first) (hand 1 [] []) w.pass (S.faults w.source) w.hand) workers.items
-        → AreServedBy (serving L.left L.taken L.ByteSource.faults L.ByteSink.faults world.now.capabilities world.now.hall.catalogue first) (view mine).put result.items }
+        → All (λ w. HasWorked (serving L.left L.taken L.ByteSource.faults L.ByteSink.faults world.now.capabilities world.now.hall.catalogue world.now.board.turnstile.table first) (hand 1 [] []) w.pass w.board (S.faults w.source) w.hand) workers.items
+        → AreServedBy (serving L.left L.taken L.ByteSource.faults L.ByteSink.faults world.now.capabilities world.now.hall.catalogue world.now.board.turnstile.table first) (view mine).put result.items }
 {
     let mut workers = workers;
     let Some(last) = workers.pop() else {
@@ -102,6 +103,8 @@ pub(crate) fn close<K: Keeper>(world: World<K>, passes: Vec<Pass<CabinetChest<K>
         hall,
         rest: _,
         capabilities: _,
+        board: _,
+        traffic: _,
     } = world;
     match hall.close(passes) {
         Ok(cabinet) => drop(cabinet),

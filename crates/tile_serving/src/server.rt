@@ -1,35 +1,57 @@
 //! A server, from its files to its last link.
-ghost use Rattle.std.specs.Prelude.{IsTrue, length, true, ◌≡◌, ◌≤◌};
+ghost use Rattle.std.specs.Prelude.{IfOk, IsTrue, length, true, ◌≡◌, ◌≤◌};
 ghost use Rattle.tile_command.specs.Command.{HoldsFile};
 ghost use Rattle.tile_service.specs.Outside.{counts};
 ghost use Rattle.tile_serving.specs.Opened.{HoldsPictures, TellAll};
 ghost use Rattle.tile_serving.specs.Served.{HasEnded};
 
-use crate::crew::{Staff, crew_of};
+use crate::crew::{Staff, Supplies, crew_of};
 use crate::ending::close;
 use crate::ends::ServerEnd;
 use crate::queue::LinkQueue;
-use crate::serving::{Served, WORKERS, serve_links};
-use crate::setup::{Stage, made_ready};
+use crate::serving::{Served, serve_links};
+use crate::setup::{made_ready, PASSES, Stage};
 use clock::clock::Clock;
 use disk_model::disk::Disk;
 use http_wire::streams::ByteSource;
+use job_runner::pacing::{Pace, PacedGate};
+use job_runner::runner::MEMBERS;
 use listeners::listener::Listener;
 use source_render::source::Source;
-use std::alloc::Global;
+use std::alloc::{AllocError, Global};
 use std::snapshot::Snapshot;
 use std::sync::Wait;
 use std::thread::Threads;
+use traffic::traffic::Traffic;
+
+/// A gate for each member of a job's crew, by which they rest together while requests come. `AllocError` where memory runs out.
+fn paced_gates<'a, R: std::time::Clock>(
+    rt: &'a R,
+    alloc: Global,
+    traffic: &'a Traffic,
+    pace: &'a Pace,
+) -> Result<Vec<PacedGate<'a, R>>, AllocError>
+    ensures { IfOk result (λ gates. length gates.items ≡ MEMBERS) }
+{
+    let mut gates = Vec::new(alloc);
+    'pacing: for _ in 0..MEMBERS {
+        gates.push(PacedGate::new(rt, traffic, pace))?;
+    }
+    Ok(gates)
+}
+
+/// How many sources a server takes: one for each worker, and one for each member of a job's crew.
+pub const SOURCES: usize = 12;
 
 /// Serves so many links of a listener, over the cache of a disk: it reads the catalogue and the capabilities document, opens the cache,
-/// and then four workers serve each link to its end, while quotas are kept and uses are saved. Everything that it needs besides the
-/// sessions is taken before the first link. Each end comes as `HasEnded` says.
+/// and then four workers serve each link to its end, while quotas are kept, uses are saved, and jobs that messages submit are run.
+/// Everything that it needs besides the sessions is taken before the first link. Each end comes as `HasEnded` says.
 ///
 /// A modelled disk has to hold a file of this program, by the catalogue that is read. Where its caller sets the mark `told`, the disk is
 /// modelled and keeps blobs of the catalogue's pictures alone, and the sources make these pictures; each tile that is served is then the
 /// encoded tile of its number. The mark has no bytes. Where the system gives no thread, it may wait for ever.
 pub fn run_server<
-    R: Threads + Wait + Sync,
+    R: Threads + Wait + std::time::Clock + Sync,
     S: Source + Send,
     N: Listener,
     D: Disk + Send,
@@ -48,7 +70,7 @@ pub fn run_server<
 ) -> ServerEnd
 where
     N::L: Send,
-    requires sources { length sources.items ≡ WORKERS }
+    requires sources { length sources.items ≡ SOURCES }
     requires connections { (1 ≤ connections) × (connections ≤ 1000000) }
     requires told { told.value ≡ true → IsTrue (D.told disk) × HoldsPictures (I.left catalogue.old) (D.state disk).seen × TellAll (I.left catalogue.old) S.told sources.items }
     requires holds { HoldsFile (I.left catalogue.old) (D.told disk) (D.state disk).seen }
@@ -67,34 +89,35 @@ where
         (record { disk = disk; told = D.told disk; seen = (D.state disk).seen; faults = D.faults })
         (capabilities.new ≡ capabilities.old) (listener.new ≡ listener.old) result }
 {
-    let Stage { world, mut passes } = match made_ready(
-        alloc,
-        catalogue,
-        capabilities,
-        clock,
-        disk,
-        &told,
-    ) {
+    let Stage {
+        world,
+        passes,
+        boards,
+    } = match made_ready(alloc, catalogue, capabilities, clock, disk, &told) {
         Ok(stage) => stage,
         Err(end) => return end,
     };
     let Ok((queue, mut acceptor)) = LinkQueue::new(alloc) else {
         return ServerEnd::OutOfMemory;
     };
-    let Ok(crew) = crew_of(alloc, &queue, &mut acceptor, sources, &mut passes) else {
+    let pace = Pace::new();
+    let Ok(gates) = paced_gates(rt, alloc, &world.traffic, &pace) else {
+        return ServerEnd::OutOfMemory;
+    };
+    let supplies = Supplies {
+        passes,
+        boards,
+        sources,
+    };
+    let Ok(crew) = crew_of(alloc, &queue, &mut acceptor, supplies, gates) else {
+        return ServerEnd::OutOfMemory;
+    };
+    let Ok(room) = Vec::with_capacity(alloc, PASSES as usize) else {
         return ServerEnd::OutOfMemory;
     };
     let staff = Staff { crew, acceptor };
-    let Served { all, passes } = serve_links(
-        rt,
-        alloc,
-        connections,
-        &world,
-        &queue,
-        staff,
-        passes,
-        listener,
-    );
+    let Served { all, passes } =
+        serve_links(rt, alloc, connections, &world, &queue, staff, room, listener);
     close(world, passes);
     if all {
         ServerEnd::Done

@@ -6,7 +6,7 @@ ghost use Rattle.durable_cabinet.specs.Images.{IsOurs, IsSoundImage};
 ghost use Rattle.tile_command.specs.Command.{HoldsFile};
 ghost use Rattle.tile_service.specs.Outside.{InputChange, counts};
 ghost use Rattle.tile_serving.specs.Opened.{HoldsPictures, IsOpened, first_pass};
-ghost use Rattle.tile_serving.specs.Setup.{AreFirst, IsStaged, IsUnready, Refuses};
+ghost use Rattle.tile_serving.specs.Setup.{AreFirst, AreFirstAtBoard, IsStaged, IsUnready, Refuses};
 
 use crate::ends::{ServerEnd, end_of_opening, end_of_refusal};
 use cabinet::keeper::Keeper;
@@ -20,19 +20,25 @@ use durable_cabinet::durable::Cabinet;
 use exact_ratio::words::Words;
 use hall_sessions::world::World;
 use http_wire::streams::ByteSource;
+use job_board::board::{Board, BoardEntry, BoardPass};
 use std::alloc::{AllocError, Global};
 use std::snapshot::Snapshot;
+use traffic::traffic::Traffic;
 use turnstile::pass::Pass;
 use wmts_rest::table::RestTable;
 
-/// How many passes a server has: one for each worker, and one for the upkeep.
-pub(crate) const PASSES: u32 = 5;
+/// How many passes of the hall a server has: one for each worker, one for the upkeep, and one for each member of a job's crew.
+pub(crate) const PASSES: u32 = 13;
 
-/// What is served, and the passes of it.
+/// How many places at the board of jobs a server has: one for each worker, and one for who runs jobs.
+pub(crate) const BOARD_PASSES: u32 = 5;
+
+/// What is served, the passes of its hall, and the places at its board.
 #[derive(Drop)]
 pub(crate) struct Stage<K: Keeper> {
     pub(crate) world: World<K>,
     pub(crate) passes: Vec<Pass<CabinetChest<K>>>,
+    pub(crate) boards: Vec<BoardPass>,
 }
 
 /// Opens the cabinet of a disk.
@@ -57,8 +63,8 @@ fn cabinet_of<D: Disk>(
     }
 }
 
-/// A world over a cabinet, with its capabilities document, and the passes of it. Where the caller sets the mark of being told, the cabinet
-/// is sound.
+/// A world over a cabinet, with its capabilities document and a board without jobs, and the passes of it. Where the caller sets the mark of
+/// being told, the cabinet is sound.
 fn world_of<K: Keeper>(
     alloc: Global,
     rest: RestTable,
@@ -70,8 +76,13 @@ fn world_of<K: Keeper>(
     ensures catalogue { IfOk result (λ o. o.world.hall.catalogue ≡ (K.state keeper).catalogue) }
     ensures document { IfOk result (λ o. o.world.capabilities ≡ capabilities) }
     ensures count { IfOk result (λ o. (length o.passes.items ≡ PASSES) × (o.world.hall.turnstile.passes ≡ PASSES)) }
+    ensures boards { IfOk result (λ o. AreFirstAtBoard o.world.board.turnstile.table BOARD_PASSES o.boards.items) }
     ensures first { IfOk result (λ o. All (λ p. p ≡ first_pass o.world.hall.turnstile.table (K.state keeper).catalogue told (K.state keeper)) o.passes.items) }
 {
+    let BoardEntry {
+        board,
+        passes: boards,
+    } = Board::make(alloc, BOARD_PASSES)?;
     match Hall::make(alloc, keeper, PASSES) {
         Err(fault) => Err(fault),
         Ok(HallEntry { hall, passes }) => Ok(Stage {
@@ -79,8 +90,11 @@ fn world_of<K: Keeper>(
                 hall,
                 rest,
                 capabilities,
+                board,
+                traffic: Traffic::new(),
             },
             passes: passes.into_vec(),
+            boards: boards.into_vec(),
         }),
     }
 }
@@ -100,6 +114,7 @@ fn world_on<D: Disk>(
     ensures catalogue { IfOk result (λ o. o.world.hall.catalogue ≡ catalogue) }
     ensures document { IfOk result (λ o. o.world.capabilities ≡ capabilities) }
     ensures count { IfOk result (λ o. (length o.passes.items ≡ PASSES) × (o.world.hall.turnstile.passes ≡ PASSES)) }
+    ensures boards { IfOk result (λ o. AreFirstAtBoard o.world.board.turnstile.table BOARD_PASSES o.boards.items) }
     ensures first { IfOk result (λ o. AreFirst (record { disk = disk; told = D.told disk; seen = (D.state disk).seen; faults = D.faults }) catalogue clock told o.world.hall.turnstile.table o.passes.items) }
     ensures refused { IfErr result (λ end. Refuses (record { disk = disk; told = D.told disk; seen = (D.state disk).seen; faults = D.faults }) catalogue end) }
 {
@@ -131,6 +146,7 @@ pub(crate) fn made_ready<D: Disk, I: ByteSource>(
     requires sound { told ≡ true → IsTrue (D.told disk) × HoldsPictures (I.left catalogue.old) (D.state disk).seen }
     ensures valid { IfOk result (λ o. IsValid o.world.hall.catalogue) }
     ensures count { IfOk result (λ o. (length o.passes.items ≡ PASSES) × (o.world.hall.turnstile.passes ≡ PASSES)) }
+    ensures boards { IfOk result (λ o. AreFirstAtBoard o.world.board.turnstile.table BOARD_PASSES o.boards.items) }
     ensures staged { IfOk result (λ o. IsStaged
         (record { reads = counts (I.faults catalogue.old) (I.faults catalogue.new); from = I.left catalogue.old; to = I.left catalogue.new })
         (record { reads = counts (I.faults capabilities.old) (I.faults capabilities.new); from = I.left capabilities.old; to = I.left capabilities.new })

@@ -11,7 +11,7 @@ use std::sync::Wait;
 use std::sync::atomic::{AtomicBool, Ordering};
 use turnstile::pass::Pass;
 
-/// What tells the upkeep that no more links come.
+/// What tells others that a work has ended.
 #[derive(Drop)]
 pub(crate) struct Shift {
     is_over: AtomicBool,
@@ -25,10 +25,14 @@ impl Shift {
         }
     }
 
-    /// Ends it, and wakes the upkeep a last time.
-    pub(crate) fn end<R: Wait, K: Keeper>(&self, rt: &R, hall: &Hall<K>) {
+    /// Ends it. Who rests has to be woken after this.
+    pub(crate) fn end(&self) {
         self.is_over.store(true, Ordering::SeqCst);
-        hall.wake(rt);
+    }
+
+    /// Whether it has ended.
+    pub(crate) fn is_over(&self) -> bool {
+        self.is_over.load(Ordering::SeqCst)
     }
 }
 
@@ -74,7 +78,7 @@ pub(crate) fn keep_up<R: Wait, K: Keeper>(
 {
     'keeping: for _ in rt.forever() {
         let heard = hall.changes();
-        let is_over = shift.is_over.load(Ordering::SeqCst);
+        let is_over = shift.is_over();
         expire_all(rt, hall, pass);
         if is_over {
             save_all(rt, hall, pass);

@@ -28,11 +28,11 @@ pub(crate) fn work<R: Wait, K: Keeper, S: Source, L: Link>(
     worker: &mut Worker<K, S, L>,
 )
     requires valid { IsValid world.now.hall.catalogue }
-    requires ready { IsReady (table_of queue.now.links) world.now.hall.turnstile.table world.now.hall.catalogue (S.told worker.old.source) worker.old.pass worker.old.hand }
-    ensures ready { IsReady (table_of queue.now.links) world.now.hall.turnstile.table world.now.hall.catalogue (S.told worker.new.source) worker.new.pass worker.new.hand }
+    requires ready { IsReady (table_of queue.now.links) world.now.hall.turnstile.table world.now.board.turnstile.table world.now.hall.catalogue (S.told worker.old.source) worker.old.pass worker.old.board worker.old.hand }
+    ensures ready { IsReady (table_of queue.now.links) world.now.hall.turnstile.table world.now.board.turnstile.table world.now.hall.catalogue (S.told worker.new.source) worker.new.pass worker.new.board worker.new.hand }
     ensures worked { (first : HallPass) (before : Hand L)
-        → HasWorked (serving L.left L.taken L.ByteSource.faults L.ByteSink.faults world.now.capabilities world.now.hall.catalogue first) before worker.old.pass (S.faults worker.old.source) worker.old.hand
-        → HasWorked (serving L.left L.taken L.ByteSource.faults L.ByteSink.faults world.now.capabilities world.now.hall.catalogue first) before worker.new.pass (S.faults worker.new.source) worker.new.hand }
+        → HasWorked (serving L.left L.taken L.ByteSource.faults L.ByteSink.faults world.now.capabilities world.now.hall.catalogue world.now.board.turnstile.table first) before worker.old.pass worker.old.board (S.faults worker.old.source) worker.old.hand
+        → HasWorked (serving L.left L.taken L.ByteSource.faults L.ByteSink.faults world.now.capabilities world.now.hall.catalogue world.now.board.turnstile.table first) before worker.new.pass worker.new.board (S.faults worker.new.source) worker.new.hand }
     ensures all { (view worker.new.hand).parts ≡ all_parts → IsEven (view worker.new.hand) }
 {
     'working: for _ in rt.forever() {
@@ -44,6 +44,7 @@ pub(crate) fn work<R: Wait, K: Keeper, S: Source, L: Link>(
             alloc,
             world,
             &mut worker.pass,
+            &mut worker.board,
             &mut worker.source,
             &mut link,
         );

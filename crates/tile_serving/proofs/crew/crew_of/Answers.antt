@@ -1,9 +1,9 @@
-use Rattle.std.proofs.Common.{arith, ◌≡◌, true, Some}
-use Rattle.tile_serving.specs.Crew.{IsNew}
-use Rattle.tile_serving.specs.Hands.{table_of}
-use Rattle.tile_serving.proofs.Crews.{dealt, one_longer, popped, pushed}
+use Rattle.std.proofs.Common.{◌≡◌, ◌∙◌, ap, subst, sym}
+use Rattle.job_board.specs.Calls.{IsFirstBoardPass}
+use Rattle.tile_serving.proofs.Crews.{popped}
 use Rattle.tile_serving.proofs.crew.crew_of.Goals as goal
 
+<<<<<<< HEAD
 pub loop-source-preserved : goal.loop-source-preserved
 loop-source-preserved g c =
     let sources = one_longer _ _ _ c.in-Some.ensures.items in
@@ -28,8 +28,14 @@ loop-source-preserved g c =
           );
     }
 
+=======
+>>>>>>> 0b9eaba5eaca3f0b85da2c877033a5d39b567411
 pub returns-clause-new : goal.returns-clause-new
-returns-clause-new g c = λ s first tell.
-    let had = c.loop-source.invariant.new s first tell in
-    let p = popped (λ p. p ≡ s.first) c.loop-source.passes.items c.pop-2.new.self.items c.in-Some-pop-2.upkeep c.in-Some-pop-2.ensures.items had.0 in
-    (had.2, p.1)
+returns-clause-new g c = λ s charter supplies.
+    let had = c.in_ok-workers.ensures.new s supplies in
+    let p = popped (λ p. p ≡ s.first) c.workers_of.new.supplies.passes.items c.pop.new.self.items c.in-Some.upkeep c.in-Some.ensures.items had.1.passes_are in
+    let b = popped (IsFirstBoardPass s.board) c.workers_of.new.supplies.boards.items c.pop-2.new.self.items c.in-Some-pop.board c.in-Some-pop.ensures.items had.1.boards_are in
+    let join = c.in_ok-runner.ensures.join s.first.table s.catalogue s.first.told
+        (λ k d lt. record { same_table = ap (λ p. p.table) (p.0 k d lt); charter = ap (λ p. p.charter) (p.0 k d lt) ∙ charter })
+        (λ k d lt. ap (λ p. p.told) (p.0 k d lt)) had.1.sources_tell in
+    (had.0, p.1, record { at_board = subst (IsFirstBoardPass s.board) (sym c.in_ok-runner.ensures.board) b.1; members = join })

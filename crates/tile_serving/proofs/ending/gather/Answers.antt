@@ -1,4 +1,4 @@
-use Rattle.std.proofs.Common.{rules, arith, ◌≡◌, ◌∙◌, [], ◌∷◌, length, length-append, ap, refl}
+use Rattle.std.proofs.Common.{rules, arith, ◌≡◌, ◌∙◌, ◌+◌, [], ◌∷◌, length, length-append, ap, refl}
 use Rattle.std.proofs.lemmas.List.Elements.{All-nil}
 use Rattle.tile_serving.specs.Crew.{HasWorked, IsReady}
 use Rattle.tile_serving.specs.Hands.{hand, table_of}
@@ -13,7 +13,7 @@ gathering-init g c = record {
   of = rw c.requires.empty (All-nil (λ p. p.table ≡ c.args.world.now.hall.turnstile.table));
   count = omega (arith, ap length c.requires.empty);
   room = refl;
-  gathered = λ s last others. (others, rw c.requires.empty (gather_begins s _ _ _ _ last));
+  gathered = λ s last others. (others, rw c.requires.empty (gather_begins s _ _ _ _ _ last));
 }
 
 pub gathering-preserved : goal.gathering-preserved
@@ -22,19 +22,19 @@ gathering-preserved g c =
     let i = c.gathering.invariant in
     let last = c.gathering.last in
     let other = c.in-Some.other in
-    let r = popped (λ w. IsReady (table_of c.args.queue.now.links) c.args.world.now.hall.turnstile.table c.args.world.now.hall.catalogue (g.S.Source.told w.source) w.pass w.hand)
+    let r = popped (λ w. IsReady (table_of c.args.queue.now.links) c.args.world.now.hall.turnstile.table c.args.world.now.board.turnstile.table c.args.world.now.hall.catalogue (g.S.Source.told w.source) w.pass w.board w.hand)
     c.gathering.others.items c.pop.new.self.items other c.in-Some.ensures.items i.others in
     record {
-      last = ready_with _ _ _ _ _ last.hand other.hand c.take_over.new.mine i.last c.take_over.ensures;
+      last = ready_with _ _ _ _ _ _ _ last.hand other.hand c.take_over.new.mine i.last c.take_over.ensures;
       others = r.0;
       of = pushed (λ p. p.table ≡ c.args.world.now.hall.turnstile.table) c.push_reserved.new.self.items c.gathering.passes.items other.pass c.push_reserved.ensures.items i.of r.1.of.same_table;
       count = omega (arith, left, i.count, ap length c.push_reserved.ensures.items, length-append c.gathering.passes.items (other.pass ∷ []));
       room = c.push_reserved.ensures.capacity ∙ i.room;
       gathered = λ s began others.
           let had = i.gathered s began others in
-          let w = popped (λ w. HasWorked s (hand 1 [] []) w.pass (g.S.Source.faults w.source) w.hand) c.gathering.others.items c.pop.new.self.items other c.in-Some.ensures.items had.0 in
-          (w.0, rw c.push_reserved.ensures.items (gather_goes_on s _ _ _ last.pass other.pass _ _ last.hand other.hand c.take_over.new.mine c.gathering.passes.items left had.1 w.1 c.take_over.ensures.knows));
+          let w = popped (λ w. HasWorked s (hand 1 [] []) w.pass w.board (g.S.Source.faults w.source) w.hand) c.gathering.others.items c.pop.new.self.items other c.in-Some.ensures.items had.0 in
+          (w.0, rw c.push_reserved.ensures.items (gather_goes_on s _ _ _ last.pass other.pass _ _ _ _ last.hand other.hand c.take_over.new.mine c.gathering.passes.items left had.1 w.1 c.take_over.ensures.knows));
     }
 
 pub returns-clause-gathered : goal.returns-clause-gathered
-returns-clause-gathered g c = λ s last others. gather_ends s _ _ _ _ _ _ (search rules) (c.gathering.invariant.gathered s last others).1
+returns-clause-gathered g c = λ s last others. gather_ends s _ _ _ _ _ _ _ (search rules) (c.gathering.invariant.gathered s last others).1

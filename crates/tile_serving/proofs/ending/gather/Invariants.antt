@@ -8,15 +8,15 @@ use Rattle.tile_serving.proofs.ending.gather.Given as goal
 
 abbrev pub invariant-gathering : goal.invariant-gathering
 invariant-gathering g l = record {
-  last : IsReady (table_of l.queue.links) l.world.hall.turnstile.table l.world.hall.catalogue (g.S.Source.told l.last.source) l.last.pass l.last.hand;
-  others : All (λ w. IsReady (table_of l.queue.links) l.world.hall.turnstile.table l.world.hall.catalogue (g.S.Source.told w.source) w.pass w.hand) l.others.items;
+  last : IsReady (table_of l.queue.links) l.world.hall.turnstile.table l.world.board.turnstile.table l.world.hall.catalogue (g.S.Source.told l.last.source) l.last.pass l.last.board l.last.hand;
+  others : All (λ w. IsReady (table_of l.queue.links) l.world.hall.turnstile.table l.world.board.turnstile.table l.world.hall.catalogue (g.S.Source.told w.source) w.pass w.board w.hand) l.others.items;
   of : All (λ p. p.table ≡ l.world.hall.turnstile.table) l.passes.items;
   count : length l.passes.items + length l.others.items ≡ length l.fn.others.items;
   room : vec_capacity l.passes ≡ vec_capacity l.initial.passes;
-  gathered : (s : Service g.row.L.Denot) → HasWorked s (hand 1 [] []) l.initial.last.pass (g.S.Source.faults l.initial.last.source) l.initial.last.hand
-      → All (λ w. HasWorked s (hand 1 [] []) w.pass (g.S.Source.faults w.source) w.hand) l.fn.others.items
-      → All (λ w. HasWorked s (hand 1 [] []) w.pass (g.S.Source.faults w.source) w.hand) l.others.items
-      × Gather s (length l.fn.others.items) (length l.others.items) l.last.pass (g.S.Source.faults l.last.source) l.last.hand l.passes.items;
+  gathered : (s : Service g.row.L.Denot) → HasWorked s (hand 1 [] []) l.initial.last.pass l.initial.last.board (g.S.Source.faults l.initial.last.source) l.initial.last.hand
+      → All (λ w. HasWorked s (hand 1 [] []) w.pass w.board (g.S.Source.faults w.source) w.hand) l.fn.others.items
+      → All (λ w. HasWorked s (hand 1 [] []) w.pass w.board (g.S.Source.faults w.source) w.hand) l.others.items
+      × Gather s (length l.fn.others.items) (length l.others.items) l.last.pass l.last.board (g.S.Source.faults l.last.source) l.last.hand l.passes.items;
 }
 
 abbrev pub decreases-gathering : goal.decreases-gathering

@@ -1,16 +1,36 @@
-use Rattle.std.proofs.Common.{◌∙◌, ◌++◌, [], List, ap, subst}
+use Rattle.std.proofs.Common.{rules, arith, ◌≡◌, ◌∙◌, ◌++◌, [], ◌∷◌, List, ap, subst, sym}
+use Rattle.job_runner.specs.Idles.{passes_of}
 use Rattle.tile_serving.specs.Crew.{AreServedBy}
 use Rattle.tile_serving.specs.Hands.{hand}
 use Rattle.tile_serving.specs.Stints.{Service, serving}
+use Rattle.tile_serving.proofs.Crews.{pushed}
 use Rattle.tile_serving.proofs.Gathering.{served_with}
+use Rattle.tile_serving.proofs.JobTurns.{all_of_hall, idle_among}
 use Rattle.tile_serving.proofs.serving.serve_links.Goals as goal
+
+pub returns-clause-of : goal.returns-clause-of
+returns-clause-of g c =
+    let upkeep = c.accept_and_serve-all.ensures.upkeep in
+    let before = c.push_reserved.new.self.items in
+    let these = pushed (λ p. p.table ≡ c.args.world.now.hall.turnstile.table) before c.serve_rest-passes.result.items c.accept_and_serve-all.new.staff.crew.upkeep c.push_reserved.ensures.items c.serve_rest-passes.ensures.of upkeep.same_table in
+    all_of_hall c.args.world.now.hall.turnstile.table c.args.world.now.hall.catalogue before c.into_passes.result.items c.accept_and_serve-all.new.staff.crew.runner.idle c.into_passes.ensures.items these c.accept_and_serve-all.ensures.runner.idle
+
+pub returns-clause-runs : goal.returns-clause-runs
+returns-clause-runs g c = (
+  c.accept_and_serve-all.new.staff.crew.runner,
+  c.accept_and_serve-all.ensures.runs,
+  idle_among c.push_reserved.new.self.items c.into_passes.result.items c.accept_and_serve-all.new.staff.crew.runner.idle c.into_passes.ensures.items,
+)
 
 pub returns-clause-served : goal.returns-clause-served
 returns-clause-served g c = λ first all.
-    let s : Service g.row.N-L.Denot = serving g.N.L.ByteSource.left g.N.L.ByteSink.taken g.N.L.ByteSource.faults g.N.L.ByteSink.faults c.args.world.now.capabilities c.args.world.now.hall.catalogue first in
+    let s : Service g.row.N-L.Denot = serving g.N.L.ByteSource.left g.N.L.ByteSink.taken g.N.L.ByteSource.faults g.N.L.ByteSink.faults c.args.world.now.capabilities c.args.world.now.hall.catalogue c.args.world.now.board.turnstile.table first in
     let a = c.accept_and_serve-all.ensures.accepted in
     let worked = c.accept_and_serve-all.ensures.worked first (hand 1 [] []) all in
     let put = ap (λ v. v.put) a.put.knows ∙ ap (λ v. v.put ++ a.links) c.requires.acceptor.knows in
     let rest = c.serve_rest-passes.result.items in
     let served = subst (λ (xs : List g.row.N-L.Denot). AreServedBy s xs rest) put (c.serve_rest-passes.ensures.served first worked) in
-    record { links = a.links; given = a.given; served = rw c.push_reserved.ensures.items (served_with s a.links rest _ served); each = a.each }
+    let more = served_with s a.links rest (c.accept_and_serve-all.new.staff.crew.upkeep ∷ []) served in
+    let before = subst (λ ps. AreServedBy s a.links ps) (sym c.push_reserved.ensures.items) more in
+    let every = served_with s a.links c.push_reserved.new.self.items _ before in
+    record { links = a.links; given = a.given; served = subst (λ ps. AreServedBy s a.links ps) (sym c.into_passes.ensures.items) every; each = a.each }

@@ -1,0 +1,6 @@
+mod Swapping
+mod Joining
+mod Counting
+mod History
+mod Pairing
+mod Putting

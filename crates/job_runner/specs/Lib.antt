@@ -1,0 +1,3 @@
+pub mod Idles
+pub mod Turns
+pub mod Runs

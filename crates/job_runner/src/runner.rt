@@ -1,0 +1,96 @@
+//! Who runs jobs.
+ghost use Rattle.std.specs.Prelude.{length, reverse, vec_capacity, ◌+◌, ◌++◌, ◌≡◌, ◌≤◌};
+ghost use Rattle.job_runner.specs.Idles.{all_idle, passes_of};
+
+use cabinet::keeper::Keeper;
+use cabinet_chest::chest::CabinetChest;
+use job_board::board::BoardPass;
+use seed_jobs::gate::Gate;
+use seed_jobs::member::Member;
+use source_render::source::Source;
+use std::alloc::{AllocError, Global};
+use std::marker::Model;
+use turnstile::pass::Pass;
+
+/// How many members a runner has: as many as a job may have threads.
+pub const MEMBERS: usize = 8;
+
+/// A member of a crew while it has no job.
+#[derive(Drop)]
+pub struct IdleMember<K: Keeper, S: Source, G: Gate> {
+    pub pass: Pass<CabinetChest<K>>,
+    pub source: S,
+    pub gate: G,
+}
+
+/// Who runs the jobs of a board: a pass of the board, eight members, and the room that a crew of them takes. Contracts see the pass, and
+/// the members, none of whom has a job.
+#[derive(Drop)]
+pub struct Runner<K: Keeper, S: Source, G: Gate> {
+    pub(crate) board: BoardPass,
+    pub(crate) idle: Vec<IdleMember<K, S, G>>,
+    pub(crate) crew: Vec<Member<K, S, G>>,
+}
+
+impl<K: Keeper, S: Source, G: Gate> Model for Runner<K, S, G> {
+    ghost use Rattle.std.specs.Prelude.{length, vec_capacity, [], ◌≡◌, ◌≤◌};
+    ghost use Rattle.job_runner.specs.Idles.{Standby, all_idle};
+
+    ghost Value = { Standby };
+
+    ghost view = { λ r. record { board = r.board; idle = all_idle S.told S.faults r.idle.items } };
+
+    ghost invariant = { λ r. (length r.idle.items ≡ 8) × (8 ≤ vec_capacity r.idle) × (r.crew.items ≡ []) × (vec_capacity r.crew ≡ 8) };
+}
+
+/// Puts the passes of members to others in a list that has room for them, that of the last member first.
+fn put_passes<K: Keeper, S: Source, G: Gate>(
+    idle: Vec<IdleMember<K, S, G>>,
+    passes: Vec<Pass<CabinetChest<K>>>,
+) -> Vec<Pass<CabinetChest<K>>>
+    requires room { length passes.items + length idle.items ≤ vec_capacity passes }
+    ensures items { result.items ≡ passes.items ++ reverse (passes_of (all_idle S.told S.faults idle.items)) }
+    ensures count { length result.items ≡ length passes.items + length idle.items }
+    ensures room { vec_capacity result ≡ vec_capacity passes }
+{
+    let mut idle = idle;
+    let mut passes = passes;
+    'putting: while let Some(member) = idle.pop() {
+        passes.push_reserved(member.pass);
+    }
+    passes
+}
+
+impl<K: Keeper, S: Source, G: Gate> Runner<K, S, G> {
+    ghost use Rattle.std.specs.Prelude.{IfOk, length, reverse, vec_capacity, ◌+◌, ◌++◌, ◌≡◌, ◌≤◌};
+    ghost use Rattle.job_runner.specs.Idles.{all_idle, passes_of};
+
+    /// A runner with these members. All room that it needs is taken here. `AllocError` where memory runs out.
+    pub fn new(
+        alloc: Global,
+        board: BoardPass,
+        idle: Vec<IdleMember<K, S, G>>,
+    ) -> Result<Runner<K, S, G>, AllocError>
+        requires members { length idle.items ≡ MEMBERS }
+        ensures board { IfOk result (λ r. r.board ≡ board) }
+        ensures idle { IfOk result (λ r. r.idle ≡ all_idle S.told S.faults idle.items) }
+    {
+        let crew = Vec::with_capacity(alloc, MEMBERS)?;
+        Ok(Runner { board, idle, crew })
+    }
+
+    /// Puts the passes of its members to others in a list that has room for them, that of the last member first, and ends with that.
+    pub fn into_passes(self, passes: Vec<Pass<CabinetChest<K>>>) -> Vec<Pass<CabinetChest<K>>>
+        requires room { length passes.items + MEMBERS ≤ vec_capacity passes }
+        ensures items { result.items ≡ passes.items ++ reverse (passes_of self.idle) }
+        ensures count { length result.items ≡ length passes.items + MEMBERS }
+        ensures room { vec_capacity result ≡ vec_capacity passes }
+    {
+        let Runner {
+            board: _,
+            idle,
+            crew: _,
+        } = self;
+        put_passes(idle, passes)
+    }
+}

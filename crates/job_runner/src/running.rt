@@ -1,0 +1,116 @@
+//! How posted jobs are run, one after the other.
+ghost use Rattle.std.specs.Prelude.{All, length, true, vec_capacity, [], ◌≡◌, ◌≤◌, ◌↔◌};
+ghost use Rattle.catalog.specs.Valid.{IsValid};
+ghost use Rattle.job_runner.specs.Idles.{IsReady, MayJoin, all_idle};
+ghost use Rattle.job_runner.specs.Runs.{IsRunnable, Runs, RunsAll, RunsNext};
+
+use crate::crews::run_by_crew;
+use crate::runner::{IdleMember, Runner};
+use cabinet::keeper::Keeper;
+use cache_hall::hall::Hall;
+use catalog::catalogue::Catalogue;
+use job_board::board::Board;
+use job_board::posted::Posted;
+use jobs::places::{count, fits};
+use seed_jobs::gate::Gate;
+use seed_jobs::member::Member;
+use source_render::source::Source;
+use std::alloc::Global;
+use std::sync::Wait;
+use std::sync::atomic::{AtomicBool, Ordering};
+use std::thread::Threads;
+
+/// Whether a posted job can be run over a catalogue: it fits, its sheet has the job's places, and there is a hand for each of its threads.
+fn is_runnable(catalogue: &Catalogue, posted: &Posted) -> bool
+    requires { IsValid catalogue.now }
+    ensures { (result ≡ true) ↔ IsRunnable catalogue.now posted.now }
+{
+    if !fits(catalogue, &posted.job) {
+        return false;
+    }
+    if posted.sheet.places() != count(catalogue, &posted.job) {
+        return false;
+    }
+    posted.hands.len() == posted.job.threads as usize
+}
+
+/// Runs a posted job by the last members that are idle, who are idle again then. A job that can't be run over the hall's catalogue is
+/// left.
+fn run_posted<R: Threads + Wait + Sync, K: Keeper + Send, S: Source + Send, G: Gate + Send>(
+    rt: &R,
+    alloc: Global,
+    hall: &Hall<K>,
+    posted: Posted,
+    idle: &mut Vec<IdleMember<K, S, G>>,
+    crew: &mut Vec<Member<K, S, G>>,
+)
+    requires valid { IsValid hall.now.catalogue }
+    requires idle { All (MayJoin hall.now.turnstile.table hall.now.catalogue) (all_idle S.told S.faults idle.old.items) }
+    requires members { (length idle.old.items ≡ 8) × (8 ≤ vec_capacity idle.old) }
+    requires room { (crew.old.items ≡ []) × (vec_capacity crew.old ≡ 8) }
+    ensures runs { Runs hall.now.catalogue posted (all_idle S.told S.faults idle.old.items) (all_idle S.told S.faults idle.new.items) }
+    ensures idle { All (MayJoin hall.now.turnstile.table hall.now.catalogue) (all_idle S.told S.faults idle.new.items) }
+    ensures members { (length idle.new.items ≡ 8) × (8 ≤ vec_capacity idle.new) }
+    ensures room { (crew.new.items ≡ []) × (vec_capacity crew.new ≡ 8) }
+{
+    if !is_runnable(&hall.catalogue, &posted) {
+        return;
+    }
+    let Posted {
+        number: _,
+        job,
+        sheet,
+        hands,
+    } = posted;
+    run_by_crew(rt, alloc, hall, &job, &sheet, hands, idle, crew);
+}
+
+/// Takes the next job of a board, if one waits, runs it, and says whether one was taken.
+fn run_next<R: Threads + Wait + Sync, K: Keeper + Send, S: Source + Send, G: Gate + Send>(
+    rt: &R,
+    alloc: Global,
+    hall: &Hall<K>,
+    board: &Board,
+    runner: &mut Runner<K, S, G>,
+) -> bool
+    requires valid { IsValid hall.now.catalogue }
+    requires ready { IsReady board.now.turnstile.table hall.now.turnstile.table hall.now.catalogue runner.old }
+    ensures ready { IsReady board.now.turnstile.table hall.now.turnstile.table hall.now.catalogue runner.new }
+    ensures next { RunsNext hall.now.catalogue runner.old runner.new result }
+{
+    match board.next(rt, &mut runner.board) {
+        Some(posted) => {
+            run_posted(rt, alloc, hall, posted, &mut runner.idle, &mut runner.crew);
+            true
+        }
+        None => false,
+    }
+}
+
+/// Takes jobs from a board and runs each by a crew of as many members as it has threads, and sleeps while none waits. It returns where it
+/// is over and no job waits any more. To be woken by `wake` of the board where it is over.
+pub fn run_jobs<R: Threads + Wait + Sync, K: Keeper + Send, S: Source + Send, G: Gate + Send>(
+    rt: &R,
+    alloc: Global,
+    hall: &Hall<K>,
+    board: &Board,
+    is_over: &AtomicBool,
+    runner: &mut Runner<K, S, G>,
+)
+    requires valid { IsValid hall.now.catalogue }
+    requires ready { IsReady board.now.turnstile.table hall.now.turnstile.table hall.now.catalogue runner.old }
+    ensures ready { IsReady board.now.turnstile.table hall.now.turnstile.table hall.now.catalogue runner.new }
+    ensures runs { RunsAll hall.now.catalogue runner.old runner.new }
+{
+    'running: for _ in rt.forever() {
+        let heard = board.changes();
+        let ends = is_over.load(Ordering::SeqCst);
+        if !run_next(rt, alloc, hall, board, runner) {
+            if ends {
+                return;
+            }
+            board.rest(rt, heard);
+        }
+    }
+    unreachable!()
+}
