@@ -15,6 +15,7 @@
 pub mod accept;
 mod conn;
 mod desk;
+mod intake;
 mod lane;
 pub mod limits;
 pub mod link;
