@@ -1,6 +1,6 @@
 -- A head at the front of the bytes that are held, and where its message ends.
-use Rattle.std.proofs.Common.{◌≡◌, ℕ, ◌+◌, ◌<◌, ◌≤◌, ◌⊎◌, inl, inr, List, [], ◌∷◌, ◌++◌, length, length-append, length-take, length-take-le, length-drop, get_or, map, take, drop, Ok, Err, Some, refl, sym, ◌∙◌, ap, subst, arith, append_assoc, append-nil}
-use Rattle.std.proofs.lemmas.List.{take-append-drop}
+use Rattle.std.proofs.Common.{◌≡◌, ℕ, ◌+◌, ◌<◌, ◌≤◌, ◌⊎◌, inl, inr, List, [], ◌∷◌, ◌++◌, length, length-append, length-take, length-take-le, length-drop, replicate, ◌-◌, get_or, map, take, drop, Ok, Err, Some, refl, sym, ◌∙◌, ap, subst, arith, append_assoc, append-nil}
+use Rattle.std.proofs.lemmas.List.{take-append-drop, drop-append-le, take_all, length-replicate}
 use Rattle.std.proofs.Math.Seq.{take-append-add, get_or-append_seam}
 use Rattle.std.specs.List.{list_any}
 use Rattle.httparse.specs.Grammar.{RequestHead, print_request, ReadsRequest}
@@ -10,14 +10,14 @@ use Rattle.httparse.specs.declared.spans.RequestSpans.{RequestSpans}
 use Rattle.http_wire.specs.Fields.{says_close}
 use Rattle.http_wire.specs.Lines.{HasNoLineEnd}
 use Rattle.http_wire.specs.Looks.{MayHaveHead, HoldsHead}
-use Rattle.http_wire.specs.Messages.{front, method_of, is_last, fields_of, IsNext, HoldsMessage, StopsAs}
+use Rattle.http_wire.specs.Messages.{front, method_of, is_last, fields_of, BeginsWith, IsNext, HoldsMessage, StopsAs}
 use Rattle.http_wire.specs.Outlines.{Judges, IsOutline}
 use Rattle.http_wire.specs.declared.message.Message.{Message}
 use Rattle.http_wire.specs.declared.message.Stop.{Stop}
 use Rattle.http_wire.specs.declared.message.Stop.TheVariants.{Bad}
 use Rattle.http_wire.specs.declared.outline.Outline.{Outline}
 use Rattle.http_wire.proofs.NoHeadYet.{head_ends, head_within}
-use Rattle.http_wire.proofs.HeadAtFront.{begins_of, same_fields, outlined, refused, no_head_none, no_message_short}
+use Rattle.http_wire.proofs.HeadAtFront.{begins_of, begins_more, same_fields, outlined, refused, no_head_none, no_message_short}
 use Rattle.http_wire.proofs.OneReading.{message_or_stop}
 
 -- NONE EVER
@@ -106,4 +106,31 @@ whole held o is fits =
         target = is.target;
         ends = is.ends;
       },
+    )
+
+-- the body that is needed can be of any bytes
+outline_more : (held more : List ℕ) (o : Outline) → IsOutline held o → IsOutline (held ++ more) o
+outline_more held more o is =
+    record {
+      head = is.head;
+      begins = subst (BeginsWith (held ++ more) is.head) (sym (drop-append-le o.start held more is.fits)) (begins_more held more is.head (drop o.start held) is.begins);
+      fits = omega (arith, length-append held more, is.fits);
+      said = is.said;
+      plain = is.plain;
+      bounded = is.bounded;
+      method = is.method;
+      target = is.target;
+      ends = is.ends;
+    }
+
+pub can_be_whole : (held : List ℕ) (o : Outline) → IsOutline held o → length held < o.start + o.size → (more : List ℕ) × (length (held ++ more) ≡ o.start + o.size) × HoldsMessage (held ++ more)
+can_be_whole held o is short =
+    let n : ℕ = o.start + o.size - length held in
+    let more : List ℕ = replicate n 0 in
+    let count : length (held ++ more) ≡ o.start + o.size = omega (arith, length-append held more, length-replicate {A = ℕ} n 0, short) in
+    let one = whole (held ++ more) o (outline_more held more o is) (omega (arith, count)) in
+    let all : take (o.start + o.size) (held ++ more) ≡ held ++ more = take_all (o.start + o.size) (held ++ more) (omega (arith, count)) in (
+      more,
+      count,
+      (one.0, [], subst (λ (l : List ℕ). IsNext l one.0 []) all one.1),
     )

@@ -146,7 +146,7 @@ impl Conn {
         if !self.is_overdue(now) {
             return Filled::Part;
         }
-        match self.intake.look_again() {
+        match self.intake.look() {
             Some(front) => filled_by(front),
             None => Filled::Part,
         }
@@ -273,7 +273,8 @@ impl Conn {
     /// Lets it end: no further message of it is served, and what was read of one is let go.
     pub fn part(&mut self, now: u64) {
         self.parting = true;
-        self.intake.clear();
+        self.intake.take_all();
+        self.intake.let_go();
         self.since = now;
     }
 
