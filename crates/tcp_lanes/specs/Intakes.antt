@@ -25,16 +25,21 @@ at_hand n old = record { bytes = old.bytes; at_hand = n; given = old.given }
 abbrev pub given_more : ℕ → Taken → Taken
 given_more n old = record { bytes = old.bytes; at_hand = old.at_hand; given = old.given + n }
 
--- what is known of bytes of which none is at hand: no head stands in those that were searched, or no message is whole before as
--- many are there as are needed
+-- what is known of bytes of which none is at hand: no message stands in those that were searched, and no head where it isn't known
+-- how many are needed, before which no message is whole
 pub record IsSearched (bytes : List ℕ) (searched needed : ℕ) : Type 0 where
   pub within : searched ≤ length bytes
+  pub messageless : HoldsMessage (take searched bytes) → ⊥
   pub headless : needed ≡ 0 → HoldsHead (take searched bytes) → ⊥
   pub none : (more : List ℕ) → length (bytes ++ more) < needed → HoldsMessage (bytes ++ more) → ⊥
 
 -- all of them are searched, and no message is whole
 abbrev pub HoldsNone : List ℕ → ℕ → Type 0
 HoldsNone bytes needed = IsSearched bytes (length bytes) needed × (HoldsMessage bytes → ⊥)
+
+-- where none is at hand, no message is whole
+abbrev pub HasNone : Taken → Type 0
+HasNone taken = taken.at_hand ≡ 0 → HoldsMessage taken.bytes → ⊥
 
 -- the message at the front may still become whole
 abbrev pub IsHopeful : List ℕ → Type 0
@@ -53,4 +58,4 @@ LooksAs old new None = (new ≡ old) × IsHopeful old.bytes
 -- a search finds each whole message
 abbrev pub SearchesAs : Taken → Taken → Option Front → Type 0
 SearchesAs old new (Some front) = Finds old new front
-SearchesAs old new None = (new ≡ old) × (old.at_hand ≡ 0 → HoldsMessage old.bytes → ⊥)
+SearchesAs old new None = (new ≡ old) × HasNone old

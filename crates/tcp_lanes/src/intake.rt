@@ -1,6 +1,6 @@
 //! The bytes that were read of a connection and aren't answered, and the message at their front.
 ghost use Rattle.std.specs.Prelude.{◌≡◌, ◌≤◌, ◌+◌, ◌-◌, ◌++◌, ◌==◌, min, take, drop, length, false, IfOk, OnOk, OnErr, []};
-ghost use Rattle.tcp_lanes.specs.Intakes.{waiting, at_hand, given_more, IsSearched, HoldsNone, LooksAs, SearchesAs};
+ghost use Rattle.tcp_lanes.specs.Intakes.{waiting, at_hand, given_more, IsSearched, HoldsNone, HasNone, LooksAs, SearchesAs};
 
 use crate::limits::{LOOKING, READ_SIZE};
 use crate::message_end::{End, may_end_head, message_end};
@@ -60,8 +60,11 @@ fn drop_front(held: &mut Vec<u8>, count: usize)
 fn is_worth_a_look(held: &[u8], searched: usize, spent: usize, needed: usize) -> bool
     ensures { result ≡ false → IsSearched held.now searched needed → HoldsNone held.now needed }
 {
+    if needed > held.len() {
+        return false;
+    }
     if needed > 0 {
-        return held.len() >= needed;
+        return true;
     }
     if may_end_head(held, searched) {
         return true;
@@ -91,8 +94,10 @@ impl Intake {
         self.held.is_empty()
     }
 
-    /// Whether there are some that weren't searched.
-    pub fn has_new(&self) -> bool {
+    /// Whether there are some that weren't searched, in which a message may be whole.
+    pub fn has_new(&self) -> bool
+        ensures { result ≡ false → HasNone self.now }
+    {
         self.held.len() > self.searched
     }
 
