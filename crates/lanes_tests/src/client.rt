@@ -30,6 +30,16 @@ impl Client {
         self.stream.write_all(bytes).is_ok()
     }
 
+    /// Sends the same bytes so many times, each time by themselves.
+    pub fn sends_often(&mut self, bytes: &[u8], times: usize) -> bool {
+        for _ in 0..times {
+            if !self.sends(bytes) {
+                return false;
+            }
+        }
+        true
+    }
+
     /// Closes the side on which it sends.
     pub fn hangs_up(&mut self) -> bool {
         self.stream.shutdown(Shutdown::Write).is_ok()
@@ -56,12 +66,34 @@ impl Client {
         false
     }
 
+    /// Whether an answer of that status without a body comes next.
+    pub fn hears_status(&mut self, status: &[u8]) -> bool {
+        self.hears(b"HTTP/1.1 ")
+            && self.hears(status)
+            && self.hears(b" X\r\nContent-Length: 0\r\n\r\n")
+    }
+
+    /// Whether nothing comes for a while.
+    pub fn hears_nothing(&mut self) -> bool {
+        let short = Some(Duration::from_millis(50));
+        let long = Some(Duration::from_secs(30));
+        let mut piece = [0; 1];
+        self.stream.set_read_timeout(short).is_ok()
+            && self.stream.read(&mut piece).is_err()
+            && self.stream.set_read_timeout(long).is_ok()
+    }
+
     /// Whether a whole long answer comes next.
     pub fn hears_long(&mut self) -> bool {
+        self.hears_front(LONG / 1000)
+    }
+
+    /// Whether a long answer comes next, of which it hears so many times a thousand bytes.
+    pub fn hears_front(&mut self, times: usize) -> bool {
         if !self.hears(b"HTTP/1.1 200 X\r\nContent-Length: 1000000\r\n\r\n") {
             return false;
         }
-        for _ in 0..LONG / 1000 {
+        for _ in 0..times {
             if !self.hears(&[BYTE; 1000]) {
                 return false;
             }
@@ -77,7 +109,6 @@ impl Client {
 
     /// Sends a message without a body, and hears its answer.
     pub fn is_served(&mut self) -> bool {
-        self.sends(b"GET / HTTP/1.1\r\n\r\n")
-            && self.hears(b"HTTP/1.1 200 X\r\nContent-Length: 0\r\n\r\n")
+        self.sends(b"GET / HTTP/1.1\r\n\r\n") && self.hears_status(b"200")
     }
 }

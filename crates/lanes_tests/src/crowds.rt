@@ -7,13 +7,15 @@ use std::test::Fail;
 
 const CROWD: usize = 100;
 
-fn connect_all<R: Net<Stream = TcpStream>>(
+/// So many clients, or fewer where the system refuses some.
+pub fn connect_all<R: Net<Stream = TcpStream>>(
     rt: &R,
     alloc: Global,
     port: u16,
+    count: usize,
 ) -> Result<Vec<Client>, AllocError> {
     let mut clients = Vec::new(alloc);
-    for _ in 0..CROWD {
+    for _ in 0..count {
         if let Ok(client) = Client::new(rt, port) {
             clients.push(client).map_err(AllocError::from)?;
         }
@@ -40,7 +42,7 @@ fn hear_all(clients: &mut Vec<Client>) -> bool {
 }
 
 fn are_served_at_once<R: Net<Stream = TcpStream>>(rt: &R, alloc: Global, port: u16) -> bool {
-    let Ok(mut clients) = connect_all(rt, alloc, port) else {
+    let Ok(mut clients) = connect_all(rt, alloc, port, CROWD) else {
         return false;
     };
     clients.len() == CROWD && ask_all(&mut clients) && hear_all(&mut clients)

@@ -16,6 +16,10 @@ mod ends;
 #[cfg(test)]
 mod hindrances;
 #[cfg(test)]
+mod limits;
+#[cfg(test)]
+mod refusals;
+#[cfg(test)]
 mod server;
 #[cfg(test)]
 mod session;

@@ -1,20 +1,23 @@
 -- A head at the front of the bytes that are held, and where its message ends.
-use Rattle.std.proofs.Common.{◌≡◌, ℕ, ◌+◌, ◌<◌, ◌≤◌, List, [], ◌++◌, length, length-append, length-take-le, length-drop, map, take, drop, Ok, Err, Some, refl, sym, ◌∙◌, ap, arith, append-nil}
-use Rattle.std.proofs.Math.Seq.{take-append-add}
+use Rattle.std.proofs.Common.{◌≡◌, ℕ, ◌+◌, ◌<◌, ◌≤◌, ◌⊎◌, inl, inr, List, [], ◌∷◌, ◌++◌, length, length-append, length-take, length-take-le, length-drop, replicate, ◌-◌, get_or, map, take, drop, Ok, Err, Some, refl, sym, ◌∙◌, ap, subst, arith, append_assoc, append-nil}
+use Rattle.std.proofs.lemmas.List.{take-append-drop, drop-append-le, take_all, length-replicate}
+use Rattle.std.proofs.Math.Seq.{take-append-add, get_or-append_seam}
 use Rattle.std.specs.List.{list_any}
-use Rattle.httparse.specs.Grammar.{RequestHead, print_request}
+use Rattle.httparse.specs.Grammar.{RequestHead, print_request, ReadsRequest}
 use Rattle.httparse.specs.Spans.{header_bytes, IsRequestAt, IsRequestWithin}
 use Rattle.httparse.specs.declared.spans.HeaderSpan.{HeaderSpan}
 use Rattle.httparse.specs.declared.spans.RequestSpans.{RequestSpans}
 use Rattle.http_wire.specs.Fields.{says_close}
-use Rattle.http_wire.specs.Looks.{MayHaveHead}
-use Rattle.http_wire.specs.Messages.{front, method_of, is_last, fields_of, IsNext, HoldsMessage, StopsAs}
+use Rattle.http_wire.specs.Lines.{HasNoLineEnd}
+use Rattle.http_wire.specs.Looks.{MayHaveHead, HoldsHead}
+use Rattle.http_wire.specs.Messages.{front, method_of, is_last, fields_of, BeginsWith, IsNext, HoldsMessage, StopsAs}
 use Rattle.http_wire.specs.Outlines.{Judges, IsOutline}
 use Rattle.http_wire.specs.declared.message.Message.{Message}
 use Rattle.http_wire.specs.declared.message.Stop.{Stop}
 use Rattle.http_wire.specs.declared.message.Stop.TheVariants.{Bad}
 use Rattle.http_wire.specs.declared.outline.Outline.{Outline}
-use Rattle.http_wire.proofs.HeadAtFront.{begins_of, same_fields, outlined, refused, no_head_none, no_message_short}
+use Rattle.http_wire.proofs.NoHeadYet.{head_ends, head_within}
+use Rattle.http_wire.proofs.HeadAtFront.{begins_of, begins_more, same_fields, outlined, refused, no_head_none, no_message_short}
 use Rattle.http_wire.proofs.OneReading.{message_or_stop}
 
 -- NONE EVER
@@ -33,8 +36,34 @@ never_refused held first headers some spans h status room is within e f judged =
 -- NONE YET
 
 -- a head that may still come isn't there
-pub none_held : (held : List ℕ) → MayHaveHead held → HoldsMessage held → ⊥
-none_held held may holds = no_head_none held holds.2.head (holds.0.body ++ holds.1) holds.2.begins may.unfinished.none
+pub none_held : (held : List ℕ) → MayHaveHead held → HoldsHead held → ⊥
+none_held held may holds = no_head_none held holds.0 holds.1 holds.2 may.unfinished.none
+
+-- without a line end in the new bytes no head is there that wasn't
+pub none_new : (held : List ℕ) (seen from : ℕ) → from ≤ seen → HasNoLineEnd from (length held) held → (HoldsHead (take seen held) → ⊥) → HoldsHead held → ⊥
+none_new held seen from before quiet none holds = elim_place (places (length (print_request h)))
+  where
+    h : RequestHead
+    h = holds.0
+
+    rest : List ℕ
+    rest = holds.1
+
+    count : length held ≡ length (print_request h) + length rest
+    count = ap length holds.2.reads.1 ∙ length-append (print_request h) rest
+
+    places : (n : ℕ) → (n ≤ seen) ⊎ (seen < n)
+    places n = grind arith
+
+    elim_place : (length (print_request h) ≤ seen) ⊎ (seen < length (print_request h)) → ⊥
+    elim_place (inl short) =
+        let here = head_within (take seen held) (drop seen held) h rest (subst (λ (l : List ℕ). ReadsRequest l h rest) (sym (take-append-drop seen held)) holds.2.reads) (omega (arith, short, count, length-take seen held)) in
+        none (h, here.0, record { reads = here.1; short = holds.2.short; few = holds.2.few })
+    elim_place (inr long) =
+        let ends = head_ends h in
+        let size : length (print_request h) ≡ length ends.0 + 1 = ap length ends.1 ∙ length-append ends.0 (10 ∷ []) in
+        let whole : held ≡ ends.0 ++ 10 ∷ rest = holds.2.reads.1 ∙ ap (λ (l : List ℕ). l ++ rest) ends.1 ∙ append_assoc ends.0 (10 ∷ []) rest in
+        quiet (length ends.0) (omega (arith, before, long, size)) (omega (arith, count, size)) (ap (λ (l : List ℕ). get_or l (length ends.0) 0) whole ∙ get_or-append_seam ends.0 10 rest 0)
 
 -- what a message takes of a head, and of the size of its body
 abbrev pub outline_of_head : RequestHead → ℕ → ℕ → Outline
@@ -77,4 +106,31 @@ whole held o is fits =
         target = is.target;
         ends = is.ends;
       },
+    )
+
+-- the body that is needed can be of any bytes
+outline_more : (held more : List ℕ) (o : Outline) → IsOutline held o → IsOutline (held ++ more) o
+outline_more held more o is =
+    record {
+      head = is.head;
+      begins = subst (BeginsWith (held ++ more) is.head) (sym (drop-append-le o.start held more is.fits)) (begins_more held more is.head (drop o.start held) is.begins);
+      fits = omega (arith, length-append held more, is.fits);
+      said = is.said;
+      plain = is.plain;
+      bounded = is.bounded;
+      method = is.method;
+      target = is.target;
+      ends = is.ends;
+    }
+
+pub can_be_whole : (held : List ℕ) (o : Outline) → IsOutline held o → length held < o.start + o.size → (more : List ℕ) × (length (held ++ more) ≡ o.start + o.size) × HoldsMessage (held ++ more)
+can_be_whole held o is short =
+    let n : ℕ = o.start + o.size - length held in
+    let more : List ℕ = replicate n 0 in
+    let count : length (held ++ more) ≡ o.start + o.size = omega (arith, length-append held more, length-replicate {A = ℕ} n 0, short) in
+    let one = whole (held ++ more) o (outline_more held more o is) (omega (arith, count)) in
+    let all : take (o.start + o.size) (held ++ more) ≡ held ++ more = take_all (o.start + o.size) (held ++ more) (omega (arith, count)) in (
+      more,
+      count,
+      (one.0, [], subst (λ (l : List ℕ). IsNext l one.0 []) all one.1),
     )

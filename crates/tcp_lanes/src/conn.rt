@@ -3,9 +3,8 @@
 //! Nothing here waits. Each call reads or writes what the socket gives or takes at once.
 ghost use Rattle.std.specs.Prelude.{◌≤◌, length};
 
+use crate::intake::{Front, Intake};
 use crate::limits::{ANSWER, IGNORED, MESSAGE, READ_SIZE, REST};
-use crate::message_end::{End, message_end};
-use http_wire::look::HEAD_LIMIT;
 use mio::net::TcpStream;
 use mio::{Interest, Registry, Token};
 use std::alloc::{AllocError, Global};
@@ -37,21 +36,21 @@ pub enum Sent {
     Failed,
 }
 
+/// What a reading comes to that found this at the front.
+fn filled_by(front: Front) -> Filled {
+    match front {
+        Front::Whole => Filled::Whole,
+        Front::Hopeless => Filled::Final,
+    }
+}
+
 /// An open connection.
 #[derive(Drop)]
 pub struct Conn {
     alloc: Global,
     stream: TcpStream,
     /// What was read and isn't answered.
-    held: Vec<u8>,
-    /// How many bytes of `held` are the message at hand.
-    message: usize,
-    /// How many of those were given.
-    given: usize,
-    /// How many bytes of `held` were looked at, in which no message is whole.
-    looked: usize,
-    /// How many bytes the next message has, where its head is there; 0 where not.
-    needed: usize,
+    intake: Intake,
     /// An answer that the socket hasn't taken whole, and how much of it was sent.
     answer: Vec<u8>,
     sent: usize,
@@ -75,11 +74,7 @@ impl Conn {
         Ok(Conn {
             alloc,
             stream,
-            held: Vec::with_capacity(alloc, READ_SIZE)?,
-            message: 0,
-            given: 0,
-            looked: 0,
-            needed: 0,
+            intake: Intake::new(alloc)?,
             answer: Vec::new(alloc),
             sent: 0,
             since: now,
@@ -107,12 +102,7 @@ impl Conn {
 
     /// Whether there may be something to do of which the system won't tell.
     pub fn is_due(&self) -> bool {
-        self.answer.is_empty() && (self.more || self.hung_up || self.has_next())
-    }
-
-    /// Whether it has bytes of a next message that weren't looked at.
-    fn has_next(&self) -> bool {
-        self.held.len() > self.looked
+        self.answer.is_empty() && (self.more || self.hung_up || self.intake.has_new())
     }
 
     /// Whether it has waited too long for its client.
@@ -124,7 +114,7 @@ impl Conn {
     fn patience(&self) -> u64 {
         if self.parting || !self.answer.is_empty() {
             ANSWER
-        } else if self.held.is_empty() {
+        } else if self.intake.is_empty() {
             REST
         } else {
             MESSAGE
@@ -137,11 +127,11 @@ impl Conn {
     /// Reads until the next message is at hand or the socket has nothing more.
     pub fn fill(&mut self, now: u64) -> Filled {
         for _ in 0..u32::MAX {
-            if let Some(filled) = self.find() {
-                return filled;
+            if let Some(front) = self.intake.find() {
+                return filled_by(front);
             }
             if !self.more {
-                return Filled::Part;
+                return self.part_of_one(now);
             }
             if !self.read_piece(now) {
                 return self.last_of_all();
@@ -150,42 +140,15 @@ impl Conn {
         Filled::Part
     }
 
-    /// Whether a message may be whole that wasn't when the bytes were last looked at: its body is there, or a line ended, without
-    /// which no head ends. A look costs as much as the bytes are many, so single bytes don't cost one each.
-    fn may_be_whole(&self) -> bool {
-        if self.needed > 0 {
-            return self.held.len() >= self.needed;
+    /// What is at hand where the next message isn't whole. Once its time is over it is looked at again, since bytes that can't
+    /// become one are answered.
+    fn part_of_one(&mut self, now: u64) -> Filled {
+        if !self.is_overdue(now) {
+            return Filled::Part;
         }
-        if self.looked == 0 {
-            return !self.held.is_empty();
-        }
-        match self.held.get(self.looked..) {
-            Some(new) => new.contains(&b'\n') || self.held.len() >= HEAD_LIMIT,
-            None => true,
-        }
-    }
-
-    /// Looks for the next message among the bytes that were read.
-    fn find(&mut self) -> Option<Filled> {
-        if !self.may_be_whole() {
-            self.looked = self.held.len();
-            return None;
-        }
-        self.looked = self.held.len();
-        match message_end(self.held.as_slice()) {
-            End::Whole(size) => {
-                self.message = size;
-                Some(Filled::Whole)
-            }
-            End::Headless => None,
-            End::Short(size) => {
-                self.needed = size;
-                None
-            }
-            End::Hopeless => {
-                self.message = self.held.len();
-                Some(Filled::Final)
-            }
+        match self.intake.look() {
+            Some(front) => filled_by(front),
+            None => Filled::Part,
         }
     }
 
@@ -198,11 +161,11 @@ impl Conn {
                 false
             }
             Ok(count) => {
-                if self.held.is_empty() {
+                if self.intake.is_empty() {
                     self.since = now;
                 }
                 self.more = count == READ_SIZE || self.hung_up;
-                self.held.extend_from_slice(&piece[..count]).is_ok()
+                self.intake.add(&piece[..count]).is_ok()
             }
             Err(error) => {
                 self.more = error.kind() == ErrorKind::Interrupted;
@@ -214,10 +177,10 @@ impl Conn {
 
     /// What is at hand where nothing further can be read.
     fn last_of_all(&mut self) -> Filled {
-        if !self.closed || self.held.is_empty() {
+        if !self.closed || self.intake.is_empty() {
             return Filled::Gone;
         }
-        self.message = self.held.len();
+        self.intake.take_all();
         Filled::Final
     }
 
@@ -225,25 +188,12 @@ impl Conn {
     pub fn give(&mut self, into: &mut [u8]) -> usize
         ensures { result ≤ length into.new }
     {
-        let Some(rest) = self.held.get(self.given..self.message) else {
-            return 0;
-        };
-        let count = rest.len().min(into.len());
-        into[..count].copy_from_slice(&rest[..count]);
-        self.given = self.given.saturating_add(count);
-        count
+        self.intake.give(into)
     }
 
     /// Lets the message at hand go. What was read behind it is looked at as that of a next message.
     pub fn let_go(&mut self, now: u64) {
-        let end = self.message.min(self.held.len());
-        let left = self.held.len() - end;
-        self.held.copy_within(end.., 0);
-        self.held.truncate(left);
-        self.message = 0;
-        self.given = 0;
-        self.looked = 0;
-        self.needed = 0;
+        self.intake.let_go();
         self.since = now;
     }
 }
@@ -323,8 +273,8 @@ impl Conn {
     /// Lets it end: no further message of it is served, and what was read of one is let go.
     pub fn part(&mut self, now: u64) {
         self.parting = true;
-        self.held = Vec::new(self.alloc);
-        self.looked = 0;
+        self.intake.take_all();
+        self.intake.let_go();
         self.since = now;
     }
 

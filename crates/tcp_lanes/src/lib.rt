@@ -6,15 +6,24 @@
 //! So no client holds a worker by being silent, by sending slowly or by not reading, and clients are served in the order in
 //! which they became ready. A link ends with the connection at hand, so that links given are connections ended; one that
 //! waits too long is closed (`limits`) and uses up no link.
-//! Promises: `message_end` finds exactly the message at the front of the bytes, and tells none where there is none; `TcpAccept`
-//! gives one link more or fails with its cause. What the system gives and takes isn't modelled: this is trusted, and tested on
-//! the loopback.
+//! Bytes that can never become a message are answered as a reader answers them: at once where looking for them is cheap, else
+//! when the time for a whole message is over.
+//! Memory: an open connection holds fewer than 86,016 bytes of what its client sent, in a buffer of at most 131,072, since it
+//! reads 4,096 at a time and only while no whole message is there, which has at most 16,384 of head and 65,536 of body; between
+//! two messages the buffer has at most 16,384. Beside these it holds what is left of one answer, since its next message waits until
+//! that has gone. So N connections hold at most N such buffers and N answers, and N is at most `limits::CONNECTIONS`. Where memory
+//! runs out for one, that one ends.
+//! Promises: `message_end` finds exactly the message at the front of the bytes, how many bytes it needs, or that none ever is
+//! there; `Intake` keeps each byte in its order, misses no whole message, gives exactly it, and gives a front up only where no
+//! message ever is; `TcpAccept` gives one link more or fails with its cause. What the system gives and takes isn't modelled: this
+//! is trusted, and tested on the loopback.
 //! Stands on listeners, http_wire, causes and exact_ratio, on `httparse`, and on `mio` for epoll.
 #![tactic(auto)]
 
 pub mod accept;
 mod conn;
 mod desk;
+pub mod intake;
 mod lane;
 pub mod limits;
 pub mod link;

@@ -25,6 +25,10 @@ pub const WELCOMES: usize = 64;
 /// The most bytes that one read takes.
 pub const READ_SIZE: usize = 4096;
 
+/// How many bytes the looks for the end of one head may cost, all together, before it is looked for only where a line ends.
+/// Messages of less than 700 bytes never cost so many, nor heads that come in no more pieces than a network makes of them.
+pub const LOOKING: usize = 262_144;
+
 /// The most reads of one turn whose bytes are ignored, since the last answer was given.
 pub const IGNORED: usize = 16;
 

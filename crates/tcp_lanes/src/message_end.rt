@@ -1,6 +1,8 @@
 //! Where the message at the front of the bytes held ends, by the functions with which the reader of messages finds it.
-ghost use Rattle.std.specs.Prelude.{◌≡◌, length};
+ghost use Rattle.std.specs.Prelude.{◌≡◌, ◌≤◌, false, take, length};
 ghost use Rattle.httparse.specs.Spans.{IsRequestOf, IsRequestWithin};
+ghost use Rattle.http_wire.specs.Lines.{HasNoLineEnd};
+ghost use Rattle.http_wire.specs.Looks.{HoldsHead};
 ghost use Rattle.http_wire.specs.Messages.{front};
 ghost use Rattle.tcp_lanes.specs.Ends.{EndsAs};
 
@@ -52,4 +54,21 @@ pub fn message_end(held: &[u8]) -> End
         Some(Found::Stopped(_)) => End::Hopeless,
         Some(Found::Head(spans)) => end_behind(held, &headers, &spans),
     }
+}
+
+/// Whether a line ends in the bytes from a place on.
+fn has_line_end(held: &[u8], from: usize) -> bool
+    requires { from ≤ length held.now }
+    ensures { result ≡ false → HasNoLineEnd from (length held.now) held.now }
+{
+    let (_, new) = held.split_at(from);
+    new.contains(&b'\n')
+}
+
+/// Whether a head may be whole that wasn't when only the first `seen` bytes were there: a line ends in the others, without which
+/// no head ends.
+pub fn may_end_head(held: &[u8], seen: usize) -> bool
+    ensures { result ≡ false → (HoldsHead (take seen held.now) → ⊥) → HoldsHead held.now → ⊥ }
+{
+    has_line_end(held, seen.min(held.len()))
 }

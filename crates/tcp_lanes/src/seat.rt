@@ -25,6 +25,19 @@ pub struct Ready {
     pub hung_up: bool,
 }
 
+impl Ready {
+    /// The same behind what the system told before: that a client closed its side is told once.
+    pub fn after(self, before: Option<Ready>) -> Ready {
+        match before {
+            Some(before) => Ready {
+                token: self.token,
+                hung_up: self.hung_up || before.hung_up,
+            },
+            None => self,
+        }
+    }
+}
+
 /// What is known of a socket that is in line or isn't.
 #[derive(Clone, Copy, Debug, PartialEq, Eq)]
 struct Mark {

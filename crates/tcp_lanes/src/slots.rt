@@ -60,8 +60,8 @@ impl Slots {
                 conn.stir(ready.hung_up);
                 Some(conn)
             }
-            Slot::Out(_) => {
-                *slot = Slot::Out(Some(ready));
+            Slot::Out(told) => {
+                *slot = Slot::Out(Some(ready.after(told)));
                 None
             }
             Slot::Vacant => {
