@@ -84,7 +84,7 @@ module _ {L : Type 0} (s : Service L) where
       let session = held.3 in
       of_sessions h.pass_after h.board_after h.renders.after hs left board_after after held.4
       (more_turns s.catalogue h.pass h.pass_after (turns_of session.exchanges) (ap (λ (p : HallPass). p.made) session.made) (subst (HasTurnsAt s.catalogue) (sym held.0) had)
-          (of_exchanges s.catalogue h.pass.told h.pass.book h.board h.renders.before session.exchanges h.pass_after.book h.board_after h.renders.after session.served))
+      (of_exchanges s.catalogue h.pass.told h.pass.book h.board h.renders.before session.exchanges h.pass_after.book h.board_after h.renders.after session.served))
 
   pub of_stints : (ts : List (Stint L)) → s.first.made ≡ [] → AllByRecursion (IsStint s) ts → (p : HallPass) → Contains (passes_of ts) p → HasTurnsAt s.catalogue p
   of_stints [] none are p (k, lt, _) = absurd (omega (arith, lt))

@@ -70,13 +70,13 @@ module _ {L : Type 0} (s : Service L) where
   all_served parts put stints pass board renders mine passes held kept w even = record {
     kept = keeps_one stints passes w.sessions pass kept;
     served = record {
-    stints = stint w.sessions pass ∷ stints;
-    held = (stint_of s (hand parts put (links_in stints)) pass board renders mine w, held);
-    each = λ f.
-        let had = ap (λ (v : Hand L). weigh f v.put) w.took in
-        let took = ap (λ (v : Hand L). weigh f v.taken) w.took in
-        let e = even f in
-        omega (arith, weigh-append f (links_in stints) (links_of w.sessions), weigh-append f (links_of w.sessions) (links_in stints));
+      stints = stint w.sessions pass ∷ stints;
+      held = (stint_of s (hand parts put (links_in stints)) pass board renders mine w, held);
+      each = λ f.
+          let had = ap (λ (v : Hand L). weigh f v.put) w.took in
+          let took = ap (λ (v : Hand L). weigh f v.taken) w.took in
+          let e = even f in
+          omega (arith, weigh-append f (links_in stints) (links_of w.sessions), weigh-append f (links_of w.sessions) (links_in stints));
     };
   }
 

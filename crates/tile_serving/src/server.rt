@@ -1,5 +1,5 @@
 //! A server, from its files to its last link.
-ghost use Rattle.std.specs.Prelude.{IfOk, IsTrue, length, true, ◌≡◌, ◌≤◌};
+ghost use Rattle.std.specs.Prelude.{IsTrue, length, true, ◌≡◌, ◌≤◌};
 ghost use Rattle.tile_command.specs.Command.{HoldsFile};
 ghost use Rattle.tile_service.specs.Outside.{counts};
 ghost use Rattle.tile_serving.specs.Opened.{HoldsPictures, TellAll};
@@ -8,37 +8,20 @@ ghost use Rattle.tile_serving.specs.Served.{HasEnded};
 use crate::crew::{Staff, Supplies, crew_of};
 use crate::ending::close;
 use crate::ends::ServerEnd;
+use crate::gates::paced_gates;
 use crate::queue::LinkQueue;
 use crate::serving::{Served, serve_links};
-use crate::setup::{made_ready, PASSES, Stage};
+use crate::setup::{PASSES, Stage, made_ready};
 use clock::clock::Clock;
 use disk_model::disk::Disk;
 use http_wire::streams::ByteSource;
-use job_runner::pacing::{Pace, PacedGate};
-use job_runner::runner::MEMBERS;
+use job_runner::pacing::Pace;
 use listeners::listener::Listener;
 use source_render::source::Source;
-use std::alloc::{AllocError, Global};
+use std::alloc::Global;
 use std::snapshot::Snapshot;
 use std::sync::Wait;
 use std::thread::Threads;
-use traffic::traffic::Traffic;
-
-/// A gate for each member of a job's crew, by which they rest together while requests come. `AllocError` where memory runs out.
-fn paced_gates<'a, R: std::time::Clock>(
-    rt: &'a R,
-    alloc: Global,
-    traffic: &'a Traffic,
-    pace: &'a Pace,
-) -> Result<Vec<PacedGate<'a, R>>, AllocError>
-    ensures { IfOk result (λ gates. length gates.items ≡ MEMBERS) }
-{
-    let mut gates = Vec::new(alloc);
-    'pacing: for _ in 0..MEMBERS {
-        gates.push(PacedGate::new(rt, traffic, pace))?;
-    }
-    Ok(gates)
-}
 
 /// How many sources a server takes: one for each worker, and one for each member of a job's crew.
 pub const SOURCES: usize = 12;
@@ -116,8 +99,16 @@ where
         return ServerEnd::OutOfMemory;
     };
     let staff = Staff { crew, acceptor };
-    let Served { all, passes } =
-        serve_links(rt, alloc, connections, &world, &queue, staff, room, listener);
+    let Served { all, passes } = serve_links(
+        rt,
+        alloc,
+        connections,
+        &world,
+        &queue,
+        staff,
+        room,
+        listener,
+    );
     close(world, passes);
     if all {
         ServerEnd::Done
