@@ -2,4 +2,4 @@ use Rattle.std.proofs.Common.{◌≡◌, length}
 use Rattle.serving_tests.proofs.stage.sources.Given as goal
 
 abbrev pub invariant-opening : goal.invariant-opening
-invariant-opening g l = length l.sources.items ≡ l.counter
+invariant-opening l = length l.sources.items ≡ l.counter
