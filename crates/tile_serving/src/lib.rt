@@ -13,6 +13,7 @@ mod crew;
 mod crossing;
 mod ending;
 pub mod ends;
+mod gates;
 mod hand;
 mod queue;
 pub mod server;

@@ -1,5 +1,5 @@
 //! A server, from its files to its last link.
-ghost use Rattle.std.specs.Prelude.{IfOk, IsTrue, length, true, ◌≡◌, ◌≤◌};
+ghost use Rattle.std.specs.Prelude.{IsTrue, length, true, ◌≡◌, ◌≤◌};
 ghost use Rattle.tile_command.specs.Command.{HoldsFile};
 ghost use Rattle.tile_service.specs.Outside.{counts};
 ghost use Rattle.tile_serving.specs.Opened.{HoldsPictures, TellAll};
@@ -7,31 +7,20 @@ ghost use Rattle.tile_serving.specs.Served.{HasEnded};
 
 use crate::crew::{Staff, Supplies, crew_of};
 use crate::ends::ServerEnd;
+use crate::gates::paced_gates;
 use crate::queue::LinkQueue;
 use crate::serving::serve_links;
 use crate::setup::{Stage, made_ready};
 use clock::clock::Clock;
 use disk_model::disk::Disk;
 use http_wire::streams::ByteSource;
-use job_runner::runner::MEMBERS;
+use job_runner::pacing::Pace;
 use listeners::listener::Listener;
-use seed_jobs::gate::OpenGate;
 use source_render::source::Source;
-use std::alloc::{AllocError, Global};
+use std::alloc::Global;
 use std::snapshot::Snapshot;
 use std::sync::Wait;
 use std::thread::Threads;
-
-/// A gate for each member of a job's crew. `AllocError` where memory runs out.
-fn open_gates(alloc: Global) -> Result<Vec<OpenGate>, AllocError>
-    ensures { IfOk result (λ gates. length gates.items ≡ MEMBERS) }
-{
-    let mut gates = Vec::new(alloc);
-    'opening: for _ in 0..MEMBERS {
-        gates.push(OpenGate)?;
-    }
-    Ok(gates)
-}
 
 /// How many sources a server takes: one for each worker, and one for each member of a job's crew.
 pub const SOURCES: usize = 12;
@@ -44,7 +33,7 @@ pub const SOURCES: usize = 12;
 /// modelled and keeps blobs of the catalogue's pictures alone, and the sources make these pictures; each tile that is served is then the
 /// encoded tile of its number. The mark has no bytes. Where the system gives no thread, it may wait for ever.
 pub fn run_server<
-    R: Threads + Wait + Sync,
+    R: Threads + Wait + std::time::Clock + Sync,
     S: Source + Send,
     N: Listener,
     D: Disk + Send,
@@ -93,7 +82,8 @@ where
     let Ok((queue, mut acceptor)) = LinkQueue::new(alloc) else {
         return ServerEnd::OutOfMemory;
     };
-    let Ok(gates) = open_gates(alloc) else {
+    let pace = Pace::new();
+    let Ok(gates) = paced_gates(rt, alloc, &world.traffic, &pace) else {
         return ServerEnd::OutOfMemory;
     };
     let supplies = Supplies {
