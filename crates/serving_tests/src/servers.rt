@@ -56,7 +56,7 @@ fn a_listener_that_gives_too_few(rt: HostRuntime) -> Result<(), Fail> {
 }
 
 /// Serves two connections of the message, whose outputs go to these.
-fn serve_two<R: Threads + Wait + Sync>(
+fn serve_two<R: Threads + Wait + std::time::Clock + Sync>(
     rt: &R,
     alloc: Global,
     first: &Mutex<Vec<u8>>,

@@ -71,7 +71,7 @@ impl Stage {
 }
 
 /// Serves so many connections on a stage.
-pub fn served<R: Threads + Wait + Sync, S: Source + Send, N: Listener>(
+pub fn served<R: Threads + Wait + std::time::Clock + Sync, S: Source + Send, N: Listener>(
     rt: &R,
     alloc: Global,
     connections: u32,
