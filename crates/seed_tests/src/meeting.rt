@@ -1,4 +1,5 @@
 //! Gates at which two members wait for each other.
+use job_runner::gates::JobGate;
 use seed_jobs::gate::Gate;
 use std::sync::atomic::{AtomicU64, Ordering};
 use std::thread;
@@ -64,4 +65,8 @@ impl<'a> Gate for MeetingGate<'a> {
             self.meeting.come();
         }
     }
+}
+
+impl<'a> JobGate for MeetingGate<'a> {
+    fn begin(&mut self) {}
 }

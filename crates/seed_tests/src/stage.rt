@@ -14,13 +14,13 @@ use catalog::catalogue::Catalogue;
 use clock::clock::Clock;
 use config_text::read::read_catalogue;
 use job_board::board::{Board, BoardEntry, BoardPass};
+use job_runner::gates::JobGate;
 use job_runner::members::idle_members;
 use job_runner::runner::Runner;
 use job_runner::running::run_jobs;
 use job_sheet::progress::Progress;
 use jobs::job::{Job, JobKind};
 use matrix_geometry::theme::Filter;
-use seed_jobs::gate::Gate;
 use source_render::numbered::Numbered;
 use std::alloc::{AllocError, Global};
 use std::sync::Wait;
@@ -94,7 +94,7 @@ fn board_of(alloc: Global) -> Result<Option<(Board, BoardPass, BoardPass)>, Allo
 }
 
 /// A runner of these passes, with sources of numbered pictures.
-fn runner_of<G: Gate>(
+fn runner_of<G: JobGate>(
     alloc: Global,
     board: BoardPass,
     passes: Vec<Pass<CabinetChest<Cabinet>>>,
@@ -121,7 +121,7 @@ fn runner_of<G: Gate>(
 
 /// A hall over an empty cabinet, a board without jobs with a pass, and who runs its jobs.
 #[derive(Drop)]
-pub struct Stage<G: Gate> {
+pub struct Stage<G: JobGate> {
     hall: Hall<Cabinet>,
     board: Board,
     pass: BoardPass,
@@ -129,7 +129,7 @@ pub struct Stage<G: Gate> {
 }
 
 /// A stage on the web's grid; none where its catalogue is refused.
-pub fn new_stage<G: Gate>(alloc: Global, gates: Vec<G>) -> Result<Option<Stage<G>>, AllocError>
+pub fn new_stage<G: JobGate>(alloc: Global, gates: Vec<G>) -> Result<Option<Stage<G>>, AllocError>
     requires gates { length gates.items ≡ 8 }
     ensures valid { IfOk result (λ o. IfSome o (λ s. IsValid s.hall.catalogue)) }
     ensures ready { IfOk result (λ o. IfSome o (λ s. IsReady s.board.turnstile.table s.hall.turnstile.table s.hall.catalogue s.runner)) }
@@ -152,7 +152,7 @@ pub fn new_stage<G: Gate>(alloc: Global, gates: Vec<G>) -> Result<Option<Stage<G
 }
 
 /// Submits a seed, and tells how far it is before it is run and after all jobs were.
-pub fn run<R: Threads + Wait + Sync, G: Gate + Send>(
+pub fn run<R: Threads + Wait + Sync, G: JobGate + Send>(
     rt: &R,
     alloc: Global,
     stage: Stage<G>,
