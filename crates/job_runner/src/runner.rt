@@ -1,8 +1,8 @@
 //! Who runs jobs.
+use crate::gates::JobGate;
 use cabinet::keeper::Keeper;
 use cabinet_chest::chest::CabinetChest;
 use job_board::board::BoardPass;
-use seed_jobs::gate::Gate;
 use seed_jobs::member::Member;
 use source_render::source::Source;
 use std::alloc::{AllocError, Global};
@@ -14,7 +14,7 @@ pub const MEMBERS: usize = 8;
 
 /// A member of a crew while it has no job.
 #[derive(Drop)]
-pub struct IdleMember<K: Keeper, S: Source, G: Gate> {
+pub struct IdleMember<K: Keeper, S: Source, G: JobGate> {
     pub pass: Pass<CabinetChest<K>>,
     pub source: S,
     pub gate: G,
@@ -23,13 +23,13 @@ pub struct IdleMember<K: Keeper, S: Source, G: Gate> {
 /// Who runs the jobs of a board: a pass of the board, eight members, and the room that a crew of them takes. Contracts see the pass, and
 /// the members, none of whom has a job.
 #[derive(Drop)]
-pub struct Runner<K: Keeper, S: Source, G: Gate> {
+pub struct Runner<K: Keeper, S: Source, G: JobGate> {
     pub(crate) board: BoardPass,
     pub(crate) idle: Vec<IdleMember<K, S, G>>,
     pub(crate) crew: Vec<Member<K, S, G>>,
 }
 
-impl<K: Keeper, S: Source, G: Gate> Model for Runner<K, S, G> {
+impl<K: Keeper, S: Source, G: JobGate> Model for Runner<K, S, G> {
     ghost use Rattle.std.specs.Prelude.{length, vec_capacity, [], ◌≡◌, ◌≤◌};
     ghost use Rattle.job_runner.specs.Idles.{Standby, all_idle};
 
@@ -40,7 +40,7 @@ impl<K: Keeper, S: Source, G: Gate> Model for Runner<K, S, G> {
     ghost invariant = { λ r. (length r.idle.items ≡ 8) × (8 ≤ vec_capacity r.idle) × (r.crew.items ≡ []) × (vec_capacity r.crew ≡ 8) };
 }
 
-impl<K: Keeper, S: Source, G: Gate> Runner<K, S, G> {
+impl<K: Keeper, S: Source, G: JobGate> Runner<K, S, G> {
     ghost use Rattle.std.specs.Prelude.{IfOk, length, ◌≡◌};
     ghost use Rattle.job_runner.specs.Idles.{all_idle};
 
