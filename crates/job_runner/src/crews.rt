@@ -10,6 +10,7 @@ ghost use Rattle.seed_jobs.specs.Crews.{AreShared, HaveWorked, hands_of, total_o
 ghost use Rattle.seed_jobs.specs.Members.{tallies_of, workers_of};
 ghost use Rattle.seed_jobs.specs.Workers.{MayWork};
 
+use crate::gates::JobGate;
 use crate::runner::IdleMember;
 use cabinet::keeper::Keeper;
 use cache_hall::hall::Hall;
@@ -17,7 +18,6 @@ use job_sheet::hand::Hand;
 use job_sheet::sheet::JobSheet;
 use jobs::job::Job;
 use seed_jobs::crew::run_seed;
-use seed_jobs::gate::Gate;
 use seed_jobs::member::Member;
 use seed_jobs::tally::Tally;
 use source_render::source::Source;
@@ -25,8 +25,8 @@ use std::alloc::Global;
 use std::sync::Wait;
 use std::thread::Threads;
 
-/// Makes a crew of these hands, in their order: each goes to the last member that is idle.
-fn assemble<K: Keeper, S: Source, G: Gate>(
+/// Makes a crew of these hands, in their order: each goes to the last member that is idle, whose gate is told that a job begins.
+fn assemble<K: Keeper, S: Source, G: JobGate>(
     hands: Vec<Hand>,
     idle: &mut Vec<IdleMember<K, S, G>>,
     crew: &mut Vec<Member<K, S, G>>,
@@ -42,6 +42,8 @@ fn assemble<K: Keeper, S: Source, G: Gate>(
         let Some(IdleMember { pass, source, gate }) = idle.pop() else {
             unreachable!()
         };
+        let mut gate = gate;
+        gate.begin();
         crew.push_reserved(Member {
             hand,
             pass,
@@ -53,7 +55,7 @@ fn assemble<K: Keeper, S: Source, G: Gate>(
 }
 
 /// The members of a crew are idle again, the last one first. Their hands are dropped.
-fn disband<K: Keeper, S: Source, G: Gate>(
+fn disband<K: Keeper, S: Source, G: JobGate>(
     crew: &mut Vec<Member<K, S, G>>,
     idle: &mut Vec<IdleMember<K, S, G>>,
 )
@@ -75,7 +77,7 @@ fn disband<K: Keeper, S: Source, G: Gate>(
 }
 
 /// Lets a crew that has all hands of a job's sheet do the job.
-fn crew_works<R: Threads + Wait + Sync, K: Keeper + Send, S: Source + Send, G: Gate + Send>(
+fn crew_works<R: Threads + Wait + Sync, K: Keeper + Send, S: Source + Send, G: JobGate + Send>(
     rt: &R,
     alloc: Global,
     hall: &Hall<K>,
@@ -102,7 +104,7 @@ pub(crate) fn run_by_crew<
     R: Threads + Wait + Sync,
     K: Keeper + Send,
     S: Source + Send,
-    G: Gate + Send,
+    G: JobGate + Send,
 >(
     rt: &R,
     alloc: Global,

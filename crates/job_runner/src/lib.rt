@@ -8,6 +8,7 @@
 #![tactic(auto)]
 
 mod crews;
+pub mod gates;
 pub mod members;
 pub mod pacing;
 pub mod runner;

@@ -5,17 +5,17 @@ ghost use Rattle.cache_hall.specs.Turned.{HallPass, IsPassOf};
 ghost use Rattle.catalog.specs.declared.catalogue.Catalogue.{Catalogue};
 ghost use Rattle.job_runner.specs.Idles.{MayJoin, all_idle};
 
+use crate::gates::JobGate;
 use crate::runner::IdleMember;
 use cabinet::keeper::Keeper;
 use cabinet_chest::chest::CabinetChest;
-use seed_jobs::gate::Gate;
 use source_render::source::Source;
 use std::alloc::{AllocError, Global};
 use turnstile::pass::Pass;
 
 /// A member of each pass, with a source and a gate. Where all passes are alike, each member has such a one; and where the passes are of one hall, and the sources render its catalogue's pictures if
 /// the passes are told to be sound, they may join a crew. `AllocError` where memory runs out.
-pub fn idle_members<K: Keeper, S: Source, G: Gate>(
+pub fn idle_members<K: Keeper, S: Source, G: JobGate>(
     alloc: Global,
     passes: Vec<Pass<CabinetChest<K>>>,
     sources: Vec<S>,

@@ -2,6 +2,7 @@
 //!
 //! A place of a job takes processors, and a cabinet on a disk has no turn for others while it writes. So after each place, where requests
 //! came meanwhile, the whole crew rests, so that requests have most of the time for themselves; where none comes, nobody rests.
+use crate::gates::JobGate;
 use seed_jobs::gate::Gate;
 use std::sync::atomic::{AtomicU64, Ordering};
 use std::thread;
@@ -12,7 +13,7 @@ use traffic::traffic::Traffic;
 const REST_HALVES: u64 = 5;
 
 /// The longest rest that is taken for a place, in microseconds.
-const LONGEST_REST: u64 = 1_000_000;
+const LONGEST_REST: u64 = 2_000_000;
 
 /// The longest time between two looks whether requests still come, in microseconds.
 const STEP: u64 = 5_000;
@@ -56,8 +57,8 @@ impl Pace {
     }
 }
 
-/// The gate of a member that rests after a place where requests came meanwhile, two and a half times as long as the place took and a second
-/// at most, unless no more requests come.
+/// The gate of a member that rests after a place where requests came meanwhile, two and a half times as long as the place took and five$
+/// seconds at most, unless no more requests come.
 #[derive(Drop)]
 pub struct PacedGate<'a, R: Clock> {
     clock: &'a R,
@@ -65,7 +66,7 @@ pub struct PacedGate<'a, R: Clock> {
     pace: &'a Pace,
     /// How many requests had begun at the last look.
     heard: u64,
-    /// When the last place was let through, in microseconds.
+    /// When the last place was let through or the job began, in microseconds.
     passed: u64,
 }
 
@@ -110,6 +111,12 @@ impl<'a, R: Clock> Gate for PacedGate<'a, R> {
             self.pace.rest_for(now.saturating_sub(self.passed), now);
             self.rest();
         }
+        self.passed = micros(self.clock);
+    }
+}
+
+impl<'a, R: Clock> JobGate for PacedGate<'a, R> {
+    fn begin(&mut self) {
         self.passed = micros(self.clock);
     }
 }

@@ -2,10 +2,10 @@
 ghost use Rattle.std.specs.Prelude.{length, reverse, vec_capacity, ◌+◌, ◌++◌, ◌≡◌, ◌≤◌};
 ghost use Rattle.job_runner.specs.Idles.{all_idle, passes_of};
 
+use crate::gates::JobGate;
 use cabinet::keeper::Keeper;
 use cabinet_chest::chest::CabinetChest;
 use job_board::board::BoardPass;
-use seed_jobs::gate::Gate;
 use seed_jobs::member::Member;
 use source_render::source::Source;
 use std::alloc::{AllocError, Global};
@@ -17,7 +17,7 @@ pub const MEMBERS: usize = 8;
 
 /// A member of a crew while it has no job.
 #[derive(Drop)]
-pub struct IdleMember<K: Keeper, S: Source, G: Gate> {
+pub struct IdleMember<K: Keeper, S: Source, G: JobGate> {
     pub pass: Pass<CabinetChest<K>>,
     pub source: S,
     pub gate: G,
@@ -26,13 +26,13 @@ pub struct IdleMember<K: Keeper, S: Source, G: Gate> {
 /// Who runs the jobs of a board: a pass of the board, eight members, and the room that a crew of them takes. Contracts see the pass, and
 /// the members, none of whom has a job.
 #[derive(Drop)]
-pub struct Runner<K: Keeper, S: Source, G: Gate> {
+pub struct Runner<K: Keeper, S: Source, G: JobGate> {
     pub(crate) board: BoardPass,
     pub(crate) idle: Vec<IdleMember<K, S, G>>,
     pub(crate) crew: Vec<Member<K, S, G>>,
 }
 
-impl<K: Keeper, S: Source, G: Gate> Model for Runner<K, S, G> {
+impl<K: Keeper, S: Source, G: JobGate> Model for Runner<K, S, G> {
     ghost use Rattle.std.specs.Prelude.{length, vec_capacity, [], ◌≡◌, ◌≤◌};
     ghost use Rattle.job_runner.specs.Idles.{Standby, all_idle};
 
@@ -44,7 +44,7 @@ impl<K: Keeper, S: Source, G: Gate> Model for Runner<K, S, G> {
 }
 
 /// Puts the passes of members to others in a list that has room for them, that of the last member first.
-fn put_passes<K: Keeper, S: Source, G: Gate>(
+fn put_passes<K: Keeper, S: Source, G: JobGate>(
     idle: Vec<IdleMember<K, S, G>>,
     passes: Vec<Pass<CabinetChest<K>>>,
 ) -> Vec<Pass<CabinetChest<K>>>
@@ -61,7 +61,7 @@ fn put_passes<K: Keeper, S: Source, G: Gate>(
     passes
 }
 
-impl<K: Keeper, S: Source, G: Gate> Runner<K, S, G> {
+impl<K: Keeper, S: Source, G: JobGate> Runner<K, S, G> {
     ghost use Rattle.std.specs.Prelude.{IfOk, length, reverse, vec_capacity, ◌+◌, ◌++◌, ◌≡◌, ◌≤◌};
     ghost use Rattle.job_runner.specs.Idles.{all_idle, passes_of};
 

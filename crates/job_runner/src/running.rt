@@ -5,6 +5,7 @@ ghost use Rattle.job_runner.specs.Idles.{IsReady, MayJoin, all_idle};
 ghost use Rattle.job_runner.specs.Runs.{IsRunnable, Runs, RunsAll, RunsNext};
 
 use crate::crews::run_by_crew;
+use crate::gates::JobGate;
 use crate::runner::{IdleMember, Runner};
 use cabinet::keeper::Keeper;
 use cache_hall::hall::Hall;
@@ -12,7 +13,6 @@ use catalog::catalogue::Catalogue;
 use job_board::board::Board;
 use job_board::posted::Posted;
 use jobs::places::{count, fits};
-use seed_jobs::gate::Gate;
 use seed_jobs::member::Member;
 use source_render::source::Source;
 use std::alloc::Global;
@@ -36,7 +36,7 @@ fn is_runnable(catalogue: &Catalogue, posted: &Posted) -> bool
 
 /// Runs a posted job by the last members that are idle, who are idle again then. A job that can't be run over the hall's catalogue is
 /// left.
-fn run_posted<R: Threads + Wait + Sync, K: Keeper + Send, S: Source + Send, G: Gate + Send>(
+fn run_posted<R: Threads + Wait + Sync, K: Keeper + Send, S: Source + Send, G: JobGate + Send>(
     rt: &R,
     alloc: Global,
     hall: &Hall<K>,
@@ -66,7 +66,7 @@ fn run_posted<R: Threads + Wait + Sync, K: Keeper + Send, S: Source + Send, G: G
 }
 
 /// Takes the next job of a board, if one waits, runs it, and says whether one was taken.
-fn run_next<R: Threads + Wait + Sync, K: Keeper + Send, S: Source + Send, G: Gate + Send>(
+fn run_next<R: Threads + Wait + Sync, K: Keeper + Send, S: Source + Send, G: JobGate + Send>(
     rt: &R,
     alloc: Global,
     hall: &Hall<K>,
@@ -89,7 +89,7 @@ fn run_next<R: Threads + Wait + Sync, K: Keeper + Send, S: Source + Send, G: Gat
 
 /// Takes jobs from a board and runs each by a crew of as many members as it has threads, and sleeps while none waits. It returns where it
 /// is over and no job waits any more. To be woken by `wake` of the board where it is over.
-pub fn run_jobs<R: Threads + Wait + Sync, K: Keeper + Send, S: Source + Send, G: Gate + Send>(
+pub fn run_jobs<R: Threads + Wait + Sync, K: Keeper + Send, S: Source + Send, G: JobGate + Send>(
     rt: &R,
     alloc: Global,
     hall: &Hall<K>,

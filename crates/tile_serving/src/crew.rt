@@ -14,9 +14,9 @@ use cabinet::keeper::Keeper;
 use cabinet_chest::chest::CabinetChest;
 use http_wire::links::Link;
 use job_board::board::BoardPass;
+use job_runner::gates::JobGate;
 use job_runner::members::idle_members;
 use job_runner::runner::{MEMBERS, Runner};
-use seed_jobs::gate::Gate;
 use source_render::source::Source;
 use std::alloc::{AllocError, Global};
 use turnstile::pass::Pass;
@@ -35,7 +35,7 @@ pub(crate) struct Worker<K: Keeper, S: Source, L: Link> {
 
 /// The workers of a server, the pass for its upkeep, and who runs its jobs.
 #[derive(Drop)]
-pub(crate) struct Crew<K: Keeper, S: Source, L: Link, G: Gate> {
+pub(crate) struct Crew<K: Keeper, S: Source, L: Link, G: JobGate> {
     pub(crate) workers: Vec<Worker<K, S, L>>,
     pub(crate) upkeep: Pass<CabinetChest<K>>,
     pub(crate) runner: Runner<K, S, G>,
@@ -43,7 +43,7 @@ pub(crate) struct Crew<K: Keeper, S: Source, L: Link, G: Gate> {
 
 /// All that have a hand at the queue: a crew, and who accepts links.
 #[derive(Drop)]
-pub(crate) struct Staff<K: Keeper, S: Source, L: Link, G: Gate> {
+pub(crate) struct Staff<K: Keeper, S: Source, L: Link, G: JobGate> {
     pub(crate) crew: Crew<K, S, L, G>,
     pub(crate) acceptor: LinkHand<L>,
 }
@@ -99,7 +99,7 @@ fn workers_of<K: Keeper, S: Source, L: Link>(
 }
 
 /// Who runs jobs, with a member for each pass. `AllocError` where memory runs out.
-fn runner_of<K: Keeper, S: Source, G: Gate>(
+fn runner_of<K: Keeper, S: Source, G: JobGate>(
     alloc: Global,
     board: BoardPass,
     passes: Vec<Pass<CabinetChest<K>>>,
@@ -118,7 +118,7 @@ fn runner_of<K: Keeper, S: Source, G: Gate>(
 }
 
 /// A crew of workers, the upkeep, and who runs jobs with all that is left of the supplies. `AllocError` where memory runs out.
-pub(crate) fn crew_of<K: Keeper, S: Source, L: Link, G: Gate>(
+pub(crate) fn crew_of<K: Keeper, S: Source, L: Link, G: JobGate>(
     alloc: Global,
     queue: &LinkQueue<L>,
     mine: &mut LinkHand<L>,

@@ -24,10 +24,10 @@ use cabinet::keeper::Keeper;
 use cabinet_chest::chest::CabinetChest;
 use hall_sessions::world::World;
 use http_wire::links::Link;
+use job_runner::gates::JobGate;
 use job_runner::runner::{MEMBERS, Runner};
 use job_runner::running::run_jobs;
 use listeners::listener::Listener;
-use seed_jobs::gate::Gate;
 use source_render::source::Source;
 use std::alloc::Global;
 use std::convert::identity;
@@ -79,7 +79,7 @@ fn work_and_run<
     K: Keeper + Send,
     S: Source + Send,
     L: Link + Send,
-    G: Gate + Send,
+    G: JobGate + Send,
 >(
     rt: &R,
     alloc: Global,
@@ -131,7 +131,7 @@ fn serve_all<
     K: Keeper + Send,
     S: Source + Send,
     L: Link + Send,
-    G: Gate + Send,
+    G: JobGate + Send,
 >(rt: &R, alloc: Global, world: &World<K>, queue: &LinkQueue<L>, crew: &mut Crew<K, S, L, G>)
     requires valid { IsValid world.now.hall.catalogue }
     requires ready { All (λ w. IsReady (table_of queue.now.links) world.now.hall.turnstile.table world.now.board.turnstile.table world.now.hall.catalogue (S.told w.source) w.pass w.board w.hand) crew.old.workers.items }
@@ -184,7 +184,7 @@ fn accept_and_serve<
     K: Keeper + Send,
     S: Source + Send,
     N: Listener,
-    G: Gate + Send,
+    G: JobGate + Send,
 >(
     rt: &R,
     alloc: Global,
@@ -252,7 +252,7 @@ pub(crate) fn serve_links<
     K: Keeper + Send,
     S: Source + Send,
     N: Listener,
-    G: Gate + Send,
+    G: JobGate + Send,
 >(
     rt: &R,
     alloc: Global,
