@@ -1,7 +1,7 @@
 //! Who works for a server.
 ghost use Rattle.std.specs.Prelude.{All, Bool, IfOk, Some, length, true, [], ◌+◌, ◌-◌, ◌≡◌, ◌≤◌};
 ghost use Rattle.atomic_table.specs.Seated.{TableId};
-ghost use Rattle.cache_hall.specs.Turned.{IsPassOf};
+ghost use Rattle.cache_hall.specs.Turned.{HallPass, IsPassOf};
 ghost use Rattle.catalog.specs.declared.catalogue.Catalogue.{Catalogue};
 ghost use Rattle.job_runner.specs.Idles.{MayJoin};
 ghost use Rattle.tile_serving.specs.Crew.{AreSupplies, IsNew};
@@ -110,6 +110,7 @@ fn runner_of<K: Keeper, S: Source, G: JobGate>(
     requires sources { length sources.items ≡ MEMBERS }
     requires gates { length gates.items ≡ MEMBERS }
     ensures board { IfOk result (λ runner. runner.board ≡ board) }
+    ensures first { (p : HallPass) → All (λ q. q ≡ p) passes.items → IfOk result (λ runner. All (λ i. i.pass ≡ p) runner.idle) }
     ensures join { (table : TableId) (c : Catalogue) (told : Bool) → All (IsPassOf table c) passes.items → All (λ p. p.told ≡ told) passes.items
         → All (λ s. told ≡ true → S.told s ≡ Some c.source) sources.items → IfOk result (λ runner. All (MayJoin table c) runner.idle) }
 {
