@@ -6,7 +6,6 @@ pub mod Balance
 pub mod Arrivals
 pub mod Holding
 pub mod Between
-pub mod Between
 pub mod JobTurns
 pub mod Closing
 pub mod Gathering
