@@ -1,5 +1,5 @@
 -- The members of a runner while they have no job.
-use Rattle.std.specs.Prelude.{ℕ, ◌≡◌, true, List, map, Option, Some, All, length}
+use Rattle.std.specs.Prelude.{ℕ, ◌≡◌, true, List, map, Option, Some, All}
 use Rattle.atomic_table.specs.Seated.{TableId}
 use Rattle.cache_hall.specs.Turned.{HallPass, IsPassOf}
 use Rattle.catalog.specs.declared.catalogue.Catalogue.{Catalogue}

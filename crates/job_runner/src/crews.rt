@@ -54,7 +54,7 @@ fn assemble<K: Keeper, S: Source, G: JobGate>(
     }
 }
 
-/// The members of a crew are idle again, the last one first. Their hands are dropped.
+/// The members of a crew are idle again, the last one first, and their gates are told that the job has ended. Their hands are dropped.
 fn disband<K: Keeper, S: Source, G: JobGate>(
     crew: &mut Vec<Member<K, S, G>>,
     idle: &mut Vec<IdleMember<K, S, G>>,
@@ -72,6 +72,8 @@ fn disband<K: Keeper, S: Source, G: JobGate>(
             gate,
             tally: _,
         } = member;
+        let mut gate = gate;
+        gate.end();
         idle.push_reserved(IdleMember { pass, source, gate });
     }
 }

@@ -1,10 +1,10 @@
 //! The runner of a server's jobs: it takes posted jobs from a board, one after the other, and runs each by a crew over a hall.
 //!
-//! Promises (`specs/Runs.antt`): each job that the runner took was run by a crew that got all hands of the job's sheet, each place by
-//! one refresh or one truncation as seed_jobs says, or couldn't be run over this catalogue and was left; between two jobs no member
-//! does anything; the runner returns only where its last look found no job waiting. No memory is asked for that a job could lack, save by
-//! the refreshes themselves.
-//! Stands on seed_jobs, job_board, job_sheet, jobs and cache_hall.
+//! Promises (`specs/Runs.antt`): each job that the runner took at the board was run, before the next one was taken, by a crew that got all
+//! hands of the job's sheet, or couldn't be run over this catalogue and was left; between two jobs no member does anything; the runner
+//! returns only where its last look found no job waiting. What a crew does, seed_jobs says. That it rests while requests are served, or
+//! that it goes on, no clause says.
+//! Stands on seed_jobs, job_board, job_sheet, jobs and cache_hall, and on traffic, by which it looks for requests.
 #![tactic(auto)]
 
 mod crews;

@@ -9,8 +9,8 @@ use std::thread;
 use std::time::{Clock, Duration};
 use traffic::traffic::Traffic;
 
-/// How many halves of the time that a place took the crew rests for it.
-const REST_HALVES: u64 = 5;
+/// How many times as long as a place took the crew rests for it.
+const REST: u64 = 2;
 
 /// The longest rest that is taken for a place, in microseconds.
 const LONGEST_REST: u64 = 2_000_000;
@@ -46,7 +46,7 @@ impl Pace {
 
     /// All rest for a place at which a member worked so long until now.
     fn rest_for(&self, worked: u64, now: u64) {
-        let rest = (worked.min(LONGEST_REST) * REST_HALVES / 2).min(LONGEST_REST);
+        let rest = (worked.min(LONGEST_REST) * REST).min(LONGEST_REST);
         self.rests_until
             .fetch_max(now.saturating_add(rest), Ordering::SeqCst);
     }
@@ -57,8 +57,8 @@ impl Pace {
     }
 }
 
-/// The gate of a member that rests after a place where requests came meanwhile, two and a half times as long as the place took and five$
-/// seconds at most, unless no more requests come.
+/// The gate of a member that rests after a place where requests came meanwhile, twice as long as the place took and two seconds at most,
+/// unless no more requests come.
 #[derive(Drop)]
 pub struct PacedGate<'a, R: Clock> {
     clock: &'a R,
@@ -66,19 +66,23 @@ pub struct PacedGate<'a, R: Clock> {
     pace: &'a Pace,
     /// How many requests had begun at the last look.
     heard: u64,
-    /// When the last place was let through or the job began, in microseconds.
+    /// Whether a place of the job was let through, when the last one was, and how long one took at most, in microseconds.
+    has_worked: bool,
     passed: u64,
+    longest: u64,
 }
 
 impl<'a, R: Clock> PacedGate<'a, R> {
-    /// A gate of a member that begins now.
+    /// A gate of a member without a job.
     pub fn new(clock: &'a R, traffic: &'a Traffic, pace: &'a Pace) -> PacedGate<'a, R> {
         PacedGate {
             clock,
             traffic,
             pace,
             heard: traffic.begun(),
-            passed: micros(clock),
+            has_worked: false,
+            passed: 0,
+            longest: 0,
         }
     }
 
@@ -87,6 +91,15 @@ impl<'a, R: Clock> PacedGate<'a, R> {
         let heard = self.heard;
         self.heard = self.traffic.begun();
         !self.traffic.is_quiet_since(heard)
+    }
+
+    /// How long the member has worked at its last place until now, 0 where the job has given it none.
+    fn worked(&self, now: u64) -> u64 {
+        if self.has_worked {
+            now.saturating_sub(self.passed)
+        } else {
+            0
+        }
     }
 
     /// Rests with the others, unless no more requests come.
@@ -106,17 +119,34 @@ impl<'a, R: Clock> PacedGate<'a, R> {
 
 impl<'a, R: Clock> Gate for PacedGate<'a, R> {
     fn at(&mut self, _place: u64) {
+        let now = micros(self.clock);
+        let worked = self.worked(now);
+        self.longest = self.longest.max(worked);
         if self.is_busy() {
-            let now = micros(self.clock);
-            self.pace.rest_for(now.saturating_sub(self.passed), now);
+            self.pace.rest_for(worked, now);
             self.rest();
         }
+        self.has_worked = true;
         self.passed = micros(self.clock);
     }
 }
 
 impl<'a, R: Clock> JobGate for PacedGate<'a, R> {
     fn begin(&mut self) {
-        self.passed = micros(self.clock);
+        self.has_worked = false;
+        self.longest = 0;
+    }
+
+    /// The members of the next job rest for the last place, too. The others may have worked on since that was done, so it counts no longer
+    /// than the places before.
+    fn end(&mut self) {
+        let now = micros(self.clock);
+        let mut worked = self.worked(now);
+        if self.longest > 0 {
+            worked = worked.min(self.longest);
+        }
+        if self.is_busy() {
+            self.pace.rest_for(worked, now);
+        }
     }
 }

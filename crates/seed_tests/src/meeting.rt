@@ -69,4 +69,6 @@ impl<'a> Gate for MeetingGate<'a> {
 
 impl<'a> JobGate for MeetingGate<'a> {
     fn begin(&mut self) {}
+
+    fn end(&mut self) {}
 }
