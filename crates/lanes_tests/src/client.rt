@@ -1,5 +1,5 @@
 //! A client, whose calls answer whether all went as it should.
-use crate::session::{BYTE, FIRST, LONG};
+use crate::session::{BYTE, FIRST, LONG, VAST};
 use std::io::{Read, Write};
 use std::net::{Ipv4Addr, Net, Shutdown, SocketAddr, TcpStream};
 use std::str::from_utf8;
@@ -110,9 +110,25 @@ impl Client {
 
     /// Whether a long answer comes next, of which it hears so many times a thousand bytes.
     pub fn hears_front(&mut self, times: usize) -> bool {
-        if !self.hears(b"HTTP/1.1 200 X\r\nContent-Length: 1000000\r\n\r\n") {
+        self.hears(b"HTTP/1.1 200 X\r\nContent-Length: 1000000\r\n\r\n") && self.hears_body(times)
+    }
+
+    /// Whether a vast answer comes next, of which it hears a sixteenth each tenth of a second.
+    pub fn hears_vast_slowly<R: Clock>(&mut self, rt: &R) -> bool {
+        if !self.hears(b"HTTP/1.1 200 X\r\nContent-Length: 16000000\r\n\r\n") {
             return false;
         }
+        for _ in 0..16 {
+            thread::sleep(rt, Duration::from_millis(100));
+            if !self.hears_body(VAST / 16_000) {
+                return false;
+            }
+        }
+        true
+    }
+
+    /// Whether so many times a thousand bytes of such an answer come next.
+    fn hears_body(&mut self, times: usize) -> bool {
         for _ in 0..times {
             if !self.hears(&[BYTE; 1000]) {
                 return false;

@@ -8,38 +8,25 @@ use std::thread::Threads;
 use std::time::Clock;
 use tcp_lanes::limits::Limits;
 
-/// How long the server waits where the test has nothing to do meanwhile, in milliseconds.
-const LIMIT: u64 = 300;
+/// A limit in milliseconds for a client that does nothing meanwhile.
+const SHORT: u64 = 300;
 
-/// How long it lets a connection rest.
-const REST: u64 = 1000;
+/// A limit for one that is at work meanwhile.
+const MIDDLE: u64 = 1000;
 
-/// Limits of which only the time to rest is short.
-const SHORT_REST: Limits = Limits {
-    rest: REST,
-    message: 60_000,
-    answer: 60_000,
-    sweep: 50,
-    connections: 3,
-};
+/// A limit that no test reaches.
+const AMPLE: u64 = 60_000;
 
-/// Limits of which only the time for a message is short.
-const SHORT_MESSAGE: Limits = Limits {
-    rest: 60_000,
-    message: LIMIT,
-    answer: 60_000,
-    sweep: 50,
-    connections: 3,
-};
-
-/// Limits of which only the time for an answer is short.
-const SHORT_ANSWER: Limits = Limits {
-    rest: 60_000,
-    message: 60_000,
-    answer: LIMIT,
-    sweep: 50,
-    connections: 3,
-};
+/// How long connections may rest, messages take, and answers wait, of three clients at a time.
+fn within(rest: u64, message: u64, answer: u64) -> Limits {
+    Limits {
+        rest,
+        message,
+        answer,
+        sweep: 50,
+        connections: 3,
+    }
+}
 
 /// Whether the limit is over since then. The server reads its clock in whole milliseconds.
 fn is_over<R: Clock>(rt: &R, limit: u64, since: u64) -> bool {
@@ -65,7 +52,7 @@ fn are_closed_that_rest<R: Net<Stream = TcpStream> + Clock>(rt: &R, port: u16) -
     served.is_served()
         && slow.sends(b"GET / HTTP/1.1\r\nConnection: close\r\n")
         && late.is_served_last()
-        && is_over(rt, REST, begun)
+        && is_over(rt, MIDDLE, begun)
         && silent.is_closed()
         && served.is_closed()
         && slow.sends(b"\r\n")
@@ -74,7 +61,7 @@ fn are_closed_that_rest<R: Net<Stream = TcpStream> + Clock>(rt: &R, port: u16) -
 
 #[test]
 fn one_that_rests_too_long_is_closed(rt: HostRuntime) -> Result<(), Fail> {
-    let server = server::start_within(rt, rt.alloc(), 2, SHORT_REST)?;
+    let server = server::start_within(rt, rt.alloc(), 2, within(MIDDLE, AMPLE, AMPLE))?;
     let good = are_closed_that_rest(&rt, server.port);
     server.wait(&rt);
     assert!(rt; good);
@@ -92,13 +79,13 @@ fn is_let_go_that_sends_slowly<R: Net<Stream = TcpStream> + Clock>(rt: &R, port:
     };
     slow.sends(b"GET /")
         && slow.is_let_go(rt)
-        && is_over(rt, LIMIT, begun)
+        && is_over(rt, SHORT, begun)
         && silent.is_served_last()
 }
 
 #[test]
 fn one_that_sends_too_slowly_is_let_go(rt: HostRuntime) -> Result<(), Fail> {
-    let server = server::start_within(rt, rt.alloc(), 1, SHORT_MESSAGE)?;
+    let server = server::start_within(rt, rt.alloc(), 1, within(AMPLE, SHORT, AMPLE))?;
     let good = is_let_go_that_sends_slowly(&rt, server.port);
     server.wait(&rt);
     assert!(rt; good);
@@ -126,15 +113,27 @@ fn stays_that_goes_on<R: Net<Stream = TcpStream> + Clock>(rt: &R, port: u16) -> 
 
 #[test]
 fn one_that_goes_on_stays(rt: HostRuntime) -> Result<(), Fail> {
-    let limits = Limits {
-        rest: 1000,
-        message: 1000,
-        answer: 1000,
-        sweep: 50,
-        connections: 3,
-    };
-    let server = server::start_within(rt, rt.alloc(), 1, limits)?;
+    let server = server::start_within(rt, rt.alloc(), 1, within(MIDDLE, MIDDLE, MIDDLE))?;
     let good = stays_that_goes_on(&rt, server.port);
+    server.wait(&rt);
+    assert!(rt; good);
+    Ok(())
+}
+
+/// Whether one hears all of an answer that takes it slowly, for longer than one may wait.
+fn hears_all_that_takes_slowly<R: Net<Stream = TcpStream> + Clock>(rt: &R, port: u16) -> bool {
+    let Ok(mut client) = Client::new(rt, port) else {
+        return false;
+    };
+    client.sends(b"GET /vast HTTP/1.1\r\n\r\n")
+        && client.hears_vast_slowly(rt)
+        && client.is_served_last()
+}
+
+#[test]
+fn one_that_takes_its_answer_slowly_hears_it_all(rt: HostRuntime) -> Result<(), Fail> {
+    let server = server::start_within(rt, rt.alloc(), 1, within(AMPLE, AMPLE, MIDDLE))?;
+    let good = hears_all_that_takes_slowly(&rt, server.port);
     server.wait(&rt);
     assert!(rt; good);
     Ok(())
@@ -151,13 +150,13 @@ fn is_let_go_that_takes_nothing<R: Net<Stream = TcpStream> + Clock>(rt: &R, port
     };
     deaf.sends(b"GET /vast HTTP/1.1\r\n\r\n")
         && deaf.is_let_go(rt)
-        && is_over(rt, LIMIT, begun)
+        && is_over(rt, SHORT, begun)
         && silent.is_served_last()
 }
 
 #[test]
 fn one_that_takes_nothing_of_its_answer_is_let_go(rt: HostRuntime) -> Result<(), Fail> {
-    let server = server::start_within(rt, rt.alloc(), 1, SHORT_ANSWER)?;
+    let server = server::start_within(rt, rt.alloc(), 1, within(AMPLE, AMPLE, SHORT))?;
     let good = is_let_go_that_takes_nothing(&rt, server.port);
     server.wait(&rt);
     assert!(rt; good);
@@ -175,13 +174,13 @@ fn is_let_go_that_stays<R: Net<Stream = TcpStream> + Clock>(rt: &R, port: u16) -
     };
     staying.is_served_last()
         && staying.is_let_go(rt)
-        && is_over(rt, LIMIT, begun)
+        && is_over(rt, SHORT, begun)
         && silent.is_served_last()
 }
 
 #[test]
 fn one_that_stays_behind_its_last_answer_is_let_go(rt: HostRuntime) -> Result<(), Fail> {
-    let server = server::start_within(rt, rt.alloc(), 2, SHORT_ANSWER)?;
+    let server = server::start_within(rt, rt.alloc(), 2, within(AMPLE, AMPLE, SHORT))?;
     let good = is_let_go_that_stays(&rt, server.port);
     server.wait(&rt);
     assert!(rt; good);
@@ -196,12 +195,12 @@ fn is_given_up<R: Net<Stream = TcpStream> + Threads + Clock>(rt: &R, server: Ser
     };
     let asked = deaf.sends(b"GET /vast HTTP/1.1\r\nConnection: close\r\n\r\n");
     server.wait(rt);
-    asked && is_over(rt, LIMIT, begun)
+    asked && is_over(rt, SHORT, begun)
 }
 
 #[test]
 fn a_last_answer_that_nobody_takes_is_given_up(rt: HostRuntime) -> Result<(), Fail> {
-    let server = server::start_within(rt, rt.alloc(), 1, SHORT_ANSWER)?;
+    let server = server::start_within(rt, rt.alloc(), 1, within(AMPLE, AMPLE, SHORT))?;
     let good = is_given_up(&rt, server);
     assert!(rt; good);
     Ok(())
