@@ -4,6 +4,7 @@ use crate::server;
 use std::net::{Net, TcpStream};
 use std::test::Fail;
 use std::time::Clock;
+use tcp_lanes::limits::Limits;
 
 /// Whether one that is no message is refused, while another client goes on.
 fn is_refused_beside<R: Net<Stream = TcpStream>>(rt: &R, port: u16) -> bool {
@@ -74,9 +75,9 @@ fn sends_late_fault<R: Clock>(rt: &R, client: &mut Client) -> bool {
     if !client.sends(b"GET /") {
         return false;
     }
-    for _ in 0..100 {
+    for _ in 0..40 {
         pause(rt);
-        if !client.sends(&[b'a'; 100]) {
+        if !client.sends(&[b'a'; 400]) {
             return false;
         }
     }
@@ -105,7 +106,14 @@ fn are_given_up<R: Net<Stream = TcpStream> + Clock>(rt: &R, port: u16) -> bool {
 
 #[test]
 fn a_message_is_given_up_after_its_time(rt: HostRuntime) -> Result<(), Fail> {
-    let server = server::start(rt, rt.alloc(), 2)?;
+    let limits = Limits {
+        rest: 60_000,
+        message: 2000,
+        answer: 60_000,
+        sweep: 50,
+        connections: 8,
+    };
+    let server = server::start_within(rt, rt.alloc(), 2, limits)?;
     let good = are_given_up(&rt, server.port);
     server.wait(&rt);
     assert!(rt; good);

@@ -1,4 +1,5 @@
-//! Tests of lanes on the loopback: messages that are cut and mixed in every way, and clients that are silent, slow, deaf or wrong.
+//! Tests of lanes on the loopback: messages that are cut and mixed in every way, clients that are silent, slow, deaf or wrong, the
+//! order in which clients are served, and each limit, made short.
 //!
 //! It has no code of its own and promises nothing. What the system gives and takes isn't modelled, so that what lanes do with
 //! it is tested here and not proved.
@@ -18,8 +19,14 @@ mod hindrances;
 #[cfg(test)]
 mod limits;
 #[cfg(test)]
+mod links;
+#[cfg(test)]
+mod order;
+#[cfg(test)]
 mod refusals;
 #[cfg(test)]
 mod server;
 #[cfg(test)]
 mod session;
+#[cfg(test)]
+mod waits;

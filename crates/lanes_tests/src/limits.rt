@@ -6,7 +6,7 @@ use std::alloc::Global;
 use std::fs::{File, Files};
 use std::net::{Net, TcpStream};
 use std::test::Fail;
-use tcp_lanes::limits::CONNECTIONS;
+use tcp_lanes::limits::Limits;
 
 fn are_served(clients: &mut Vec<Client>) -> bool {
     for client in clients.iter_mut() {
@@ -35,11 +35,12 @@ fn are_served_up_to_the_limit<R: Net<Stream = TcpStream>>(
     rt: &R,
     alloc: Global,
     port: u16,
+    count: usize,
 ) -> bool {
-    let Ok(mut clients) = connect_all(rt, alloc, port, CONNECTIONS) else {
+    let Ok(mut clients) = connect_all(rt, alloc, port, count) else {
         return false;
     };
-    clients.len() == CONNECTIONS
+    clients.len() == count
         && are_served(&mut clients)
         && one_more_waits(rt, port, &mut clients)
         && are_served(&mut clients)
@@ -59,14 +60,31 @@ fn may_open<R: Files>(rt: &R, alloc: Global, count: usize) -> bool {
     true
 }
 
+#[test]
+fn clients_are_connected_up_to_the_limit(rt: HostRuntime) -> Result<(), Fail> {
+    let limits = Limits {
+        rest: 60_000,
+        message: 60_000,
+        answer: 60_000,
+        sweep: 50,
+        connections: 8,
+    };
+    let server = server::start_within(rt, rt.alloc(), 3, limits)?;
+    let good = are_served_up_to_the_limit(&rt, rt.alloc(), server.port, 8);
+    server.wait(&rt);
+    assert!(rt; good);
+    Ok(())
+}
+
 // The clients are of the same process, so that it has two files open for each connection. Where it may not, nothing is tested.
 #[test]
 fn a_thousand_are_connected_and_the_next_one_waits(rt: HostRuntime) -> Result<(), Fail> {
-    if !may_open(&rt, rt.alloc(), 2 * CONNECTIONS + 100) {
+    let limits = Limits::standard();
+    if !may_open(&rt, rt.alloc(), 2 * limits.connections + 100) {
         return Ok(());
     }
     let server = server::start(rt, rt.alloc(), 3)?;
-    let good = are_served_up_to_the_limit(&rt, rt.alloc(), server.port);
+    let good = are_served_up_to_the_limit(&rt, rt.alloc(), server.port, limits.connections);
     server.wait(&rt);
     assert!(rt; good);
     Ok(())

@@ -1,4 +1,4 @@
-//! A server of four workers, which ends when so many links have ended.
+//! A server of some workers, which ends when so many links have ended.
 use crate::session;
 use listeners::listener::Listener;
 use std::alloc::{AllocError, Global};
@@ -8,6 +8,7 @@ use std::thread::{JoinHandle, Threads};
 use std::time::Clock;
 use std::{io, thread};
 use tcp_lanes::accept::TcpAccept;
+use tcp_lanes::limits::Limits;
 use tcp_lanes::link::TcpLink;
 
 /// The socket, and how many links are to be given.
@@ -15,6 +16,13 @@ use tcp_lanes::link::TcpLink;
 struct Door<R: Wait + Clock + Copy + Drop> {
     accept: TcpAccept<R>,
     left: u64,
+}
+
+/// A server that listens, and serves nobody yet.
+#[derive(Drop)]
+pub struct Opened<R: Wait + Clock + Copy + Drop> {
+    pub port: u16,
+    door: Arc<Mutex<Door<R>>>,
 }
 
 /// A server that runs.
@@ -36,7 +44,7 @@ fn work<R: Wait + Clock + Copy + Drop>(rt: R, alloc: Global, door: Arc<Mutex<Doo
         let Some(mut link) = next_link(&rt, &door) else {
             return;
         };
-        session::serve(alloc, &mut link);
+        session::serve(&rt, alloc, &mut link);
     }
 }
 
@@ -49,25 +57,56 @@ fn start_worker<R: Threads + Wait + Clock + Copy + Drop + Send + 'static>(
     Ok(thread::spawn(&rt, job)?)
 }
 
-/// Starts a server on a port that the system picks, which ends when that many links have ended.
-pub fn start<R: Threads + Wait + Net + Clock + Copy + Drop + Send + 'static>(
+/// Opens a server on a port that the system picks, which ends when that many links have ended.
+pub fn open<R: Wait + Net + Clock + Copy + Drop>(
     rt: R,
     alloc: Global,
     links: u64,
-) -> io::Result<Server> {
-    let accept = TcpAccept::bind(rt, alloc, 0)?;
+    limits: Limits,
+) -> io::Result<Opened<R>> {
+    let accept = TcpAccept::bind_within(rt, alloc, 0, limits)?;
     let port = accept.port()?;
     let door = Mutex::new(Door {
         accept,
         left: links,
     });
     let door = Arc::new(alloc, door).map_err(AllocError::from)?;
-    let mut workers = Vec::new(alloc);
-    for _ in 0..4 {
-        let worker = start_worker(rt, alloc, door.clone()?)?;
-        workers.push(worker).map_err(AllocError::from)?;
+    Ok(Opened { port, door })
+}
+
+impl<R: Threads + Wait + Clock + Copy + Drop + Send + 'static> Opened<R> {
+    /// Starts to serve, with so many workers.
+    pub fn start(self, rt: R, alloc: Global, count: usize) -> Result<Server, AllocError> {
+        let mut workers = Vec::new(alloc);
+        for _ in 0..count {
+            let worker = start_worker(rt, alloc, self.door.clone()?)?;
+            workers.push(worker).map_err(AllocError::from)?;
+        }
+        Ok(Server {
+            port: self.port,
+            workers,
+        })
     }
-    Ok(Server { port, workers })
+}
+
+/// Starts a server of four workers on a port that the system picks, which ends when that many links have ended.
+pub fn start<R: Threads + Wait + Net + Clock + Copy + Drop + Send + 'static>(
+    rt: R,
+    alloc: Global,
+    links: u64,
+) -> io::Result<Server> {
+    start_within(rt, alloc, links, Limits::standard())
+}
+
+/// The same, with limits of its own.
+pub fn start_within<R: Threads + Wait + Net + Clock + Copy + Drop + Send + 'static>(
+    rt: R,
+    alloc: Global,
+    links: u64,
+    limits: Limits,
+) -> io::Result<Server> {
+    let opened = open(rt, alloc, links, limits)?;
+    Ok(opened.start(rt, alloc, 4)?)
 }
 
 impl Server {

@@ -1,6 +1,6 @@
 //! The listening socket, which gives lanes.
 use crate::lane::Lane;
-use crate::limits::EVENTS;
+use crate::limits::{EVENTS, Limits};
 use crate::link::TcpLink;
 use crate::lobby::{Lobby, time};
 use crate::seat::Poller;
@@ -24,15 +24,25 @@ pub struct TcpAccept<R: Wait + Clock + Copy + Drop> {
 }
 
 impl<R: Wait + Clock + Net + Copy + Drop> TcpAccept<R> {
-    /// Listens on that port of all addresses; port 0 is one that the system picks. An error where the port can't be had, or memory
-    /// runs out.
+    /// Listens on that port of all addresses, within the standard limits; port 0 is one that the system picks. An error where the
+    /// port can't be had, or memory runs out.
     pub fn bind(rt: R, alloc: Global, port: u16) -> io::Result<TcpAccept<R>> {
+        TcpAccept::bind_within(rt, alloc, port, Limits::standard())
+    }
+
+    /// The same, with limits of one's own.
+    pub fn bind_within(
+        rt: R,
+        alloc: Global,
+        port: u16,
+        limits: Limits,
+    ) -> io::Result<TcpAccept<R>> {
         let socket = TcpListener::bind(&rt, SocketAddr::from((Ipv4Addr::UNSPECIFIED, port)))?;
         let poller = Poller {
             poll: Poll::new(&rt)?,
             events: Events::with_capacity(alloc, EVENTS)?,
         };
-        let lobby = Lobby::new(alloc, socket, poller, time(&rt))?;
+        let lobby = Lobby::new(alloc, socket, poller, limits, time(&rt))?;
         Ok(TcpAccept {
             rt,
             lobby: Arc::new(alloc, lobby).map_err(AllocError::from)?,

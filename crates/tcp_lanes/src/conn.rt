@@ -4,7 +4,7 @@
 ghost use Rattle.std.specs.Prelude.{◌≤◌, length};
 
 use crate::intake::{Front, Intake};
-use crate::limits::{ANSWER, IGNORED, MESSAGE, READ_SIZE, REST};
+use crate::limits::{IGNORED, Limits, READ_SIZE};
 use mio::net::TcpStream;
 use mio::{Interest, Registry, Token};
 use std::alloc::{AllocError, Global};
@@ -48,6 +48,7 @@ fn filled_by(front: Front) -> Filled {
 #[derive(Drop)]
 pub struct Conn {
     alloc: Global,
+    limits: Limits,
     stream: TcpStream,
     /// What was read and isn't answered.
     intake: Intake,
@@ -70,9 +71,15 @@ pub struct Conn {
 
 impl Conn {
     /// A connection that has read nothing. `AllocError` where memory runs out.
-    pub fn new(alloc: Global, stream: TcpStream, now: u64) -> Result<Conn, AllocError> {
+    pub fn new(
+        alloc: Global,
+        limits: Limits,
+        stream: TcpStream,
+        now: u64,
+    ) -> Result<Conn, AllocError> {
         Ok(Conn {
             alloc,
+            limits,
             stream,
             intake: Intake::new(alloc)?,
             answer: Vec::new(alloc),
@@ -113,11 +120,11 @@ impl Conn {
     /// How long it may wait for what it waits for.
     fn patience(&self) -> u64 {
         if self.parting || !self.answer.is_empty() {
-            ANSWER
+            self.limits.answer
         } else if self.intake.is_empty() {
-            REST
+            self.limits.rest
         } else {
-            MESSAGE
+            self.limits.message
         }
     }
 }

@@ -1,6 +1,6 @@
 //! What a lane does with a socket that is ready: it accepts connections, reads what came, and sends what waits.
 use crate::conn::{Conn, Filled, Sent};
-use crate::limits::{ANSWER, PAUSE, WELCOMES};
+use crate::limits::{PAUSE, WELCOMES};
 use crate::lobby::{Lobby, time};
 use crate::seat::{LISTENING, Ready};
 use mio::net::TcpStream;
@@ -147,7 +147,7 @@ impl Lobby {
 
     fn admit<R: Wait + Clock>(&self, rt: &R, token: usize, stream: TcpStream) -> io::Result<()> {
         stream.set_nodelay(true)?;
-        let conn = Conn::new(self.alloc, stream, time(rt))?;
+        let conn = Conn::new(self.alloc, self.limits, stream, time(rt))?;
         let conn = Box::new(self.alloc, conn).map_err(AllocError::from)?;
         self.slots.place(rt, &self.registry, token, conn)
     }
@@ -158,7 +158,7 @@ impl Lobby {
     /// Sends the answers that wait of connections whose lane has ended, as far as their clients take them within the time of
     /// one answer.
     pub fn see_off<R: Wait + Clock>(&self, rt: &R) {
-        for _ in 0..ANSWER / PAUSE {
+        for _ in 0..self.limits.answer / PAUSE {
             if !self.has_parting(rt) {
                 return;
             }
@@ -169,7 +169,7 @@ impl Lobby {
     /// Goes on with the connections that part. Whether one has an answer that isn't sent.
     fn has_parting<R: Wait + Clock>(&self, rt: &R) -> bool {
         let mut some = false;
-        for token in 0..LISTENING {
+        for token in 1..=self.limits.connections {
             if self.slots.is_parting(rt, token) {
                 let ready = Ready {
                     token,

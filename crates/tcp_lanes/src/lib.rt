@@ -11,7 +11,7 @@
 //! Memory: an open connection holds fewer than 86,016 bytes of what its client sent, in a buffer of at most 131,072, since it
 //! reads 4,096 at a time and only while no whole message is there, which has at most 16,384 of head and 65,536 of body; between
 //! two messages the buffer has at most 16,384. Beside these it holds what is left of one answer, since its next message waits until
-//! that has gone. So N connections hold at most N such buffers and N answers, and N is at most `limits::CONNECTIONS`. Where memory
+//! that has gone. So N connections hold at most N such buffers and N answers, and N is at most `Limits::connections`. Where memory
 //! runs out for one, that one ends.
 //! Promises: `message_end` finds exactly the message at the front of the bytes, how many bytes it needs, or that none ever is
 //! there; `Intake` keeps each byte in its order, misses no whole message, gives exactly it, and gives a front up only where no

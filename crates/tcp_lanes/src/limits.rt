@@ -1,20 +1,42 @@
-//! How long a connection may wait for its client, in milliseconds, and how many there may be.
+//! How long a connection may wait for its client, how many there may be, and what a lane does at a time.
+ghost use Rattle.std.specs.Prelude.{◌≡◌};
 
-/// How long a connection may rest between two messages, and before its first.
-pub const REST: u64 = 60_000;
+/// What a server grants its clients. Times are in milliseconds.
+#[derive(Clone, Copy, Debug, PartialEq, Eq)]
+pub struct Limits {
+    /// How long a connection may rest between two messages, and before its first.
+    pub rest: u64,
+    /// How long a message may take to be whole, from its first byte on.
+    pub message: u64,
+    /// How long an answer may wait while its client takes nothing of it, and how long a client may take to close once its last
+    /// answer went out.
+    pub answer: u64,
+    /// How often connections are looked for that waited too long. None waits longer than its limit and this. At 0 a server
+    /// that waits looks all the time.
+    pub sweep: u64,
+    /// The most connections that are open at a time. Further ones wait in the backlog of the system.
+    pub connections: usize,
+}
 
-/// How long a message may take to be whole, from its first byte on.
-pub const MESSAGE: u64 = 10_000;
-
-/// How long an answer may wait while its client takes nothing of it, and how long a client may take to close once its last
-/// answer went out.
-pub const ANSWER: u64 = 10_000;
-
-/// How often connections are looked for that waited too long. None waits longer than its limit and this.
-pub const SWEEP: u64 = 1_000;
-
-/// The most connections that are open at a time. Further ones wait in the backlog of the system.
-pub const CONNECTIONS: usize = 1000;
+impl Limits {
+    /// A minute between two messages, ten seconds for a message and for an answer, a look each second, and a thousand
+    /// connections.
+    pub fn standard() -> Limits
+        ensures rest { result.rest ≡ 60000 }
+        ensures message { result.message ≡ 10000 }
+        ensures answer { result.answer ≡ 10000 }
+        ensures sweep { result.sweep ≡ 1000 }
+        ensures connections { result.connections ≡ 1000 }
+    {
+        Limits {
+            rest: 60_000,
+            message: 10_000,
+            answer: 10_000,
+            sweep: 1_000,
+            connections: 1000,
+        }
+    }
+}
 
 /// The most lanes that are out at a time: as many as there are workers.
 pub const LANES: usize = 4;

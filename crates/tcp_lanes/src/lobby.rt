@@ -1,5 +1,5 @@
 //! What the lanes share: the listening socket, the connections that rest, and the line of those that are ready.
-use crate::limits::{HELD_BACK, LANES, WATCH};
+use crate::limits::{HELD_BACK, LANES, Limits, WATCH};
 use crate::seat::{LISTENING, Poller, Ready, Seat, Step, Vigil};
 use crate::slots::Slots;
 use mio::net::TcpListener;
@@ -13,6 +13,7 @@ use std::time::{Clock, Duration};
 #[derive(Drop)]
 pub struct Lobby {
     pub alloc: Global,
+    pub limits: Limits,
     pub socket: TcpListener,
     pub registry: Registry,
     pub slots: Slots,
@@ -48,16 +49,18 @@ impl Lobby {
         alloc: Global,
         mut socket: TcpListener,
         poller: Poller,
+        limits: Limits,
         now: u64,
     ) -> io::Result<Lobby> {
         let registry = poller.poll.registry().try_clone()?;
         registry.register(&mut socket, Token(LISTENING), Interest::READABLE)?;
         Ok(Lobby {
             alloc,
+            limits,
             socket,
             registry,
-            slots: Slots::new(alloc)?,
-            seat: Mutex::new(Seat::new(alloc, poller, now)?),
+            slots: Slots::new(alloc, limits.connections)?,
+            seat: Mutex::new(Seat::new(alloc, poller, limits, now)?),
             parked: Condvar::new(),
             heads: Mutex::new(heads(alloc)?),
             ended: Condvar::new(),
@@ -171,7 +174,7 @@ impl Lobby {
 
     /// Puts the connections in line that have waited too long. Who takes them up looks once more before it closes them.
     fn sweep<R: Wait>(&self, rt: &R, now: u64) {
-        for token in 0..LISTENING {
+        for token in 1..=self.limits.connections {
             if self.slots.is_overdue(rt, token, now) {
                 self.tell(rt, token);
             }

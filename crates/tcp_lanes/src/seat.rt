@@ -2,14 +2,14 @@
 //!
 //! One lane at a time asks the system, and the others are parked. One of those may watch: it looks every millisecond whether
 //! somebody asks, and does so itself where nobody does, so that a lane which is long at work keeps no newcomer waiting.
-use crate::limits::{CONNECTIONS, LOOKS, SERVED, SWEEP};
+use crate::limits::{LOOKS, Limits, SERVED};
 use mio::{Events, Poll};
 use std::alloc::{AllocError, Global};
 use std::collections::VecDeque;
 use std::time::Duration;
 
-/// The number of the listening socket, after those of the connections.
-pub const LISTENING: usize = CONNECTIONS;
+/// The number of the listening socket, before those of the connections.
+pub const LISTENING: usize = 0;
 
 /// What waits for the system.
 #[derive(Drop)]
@@ -67,6 +67,7 @@ pub enum Step {
 /// What the lanes share under one lock.
 #[derive(Drop)]
 pub struct Seat {
+    limits: Limits,
     line: VecDeque<usize>,
     marks: Vec<Mark>,
     /// Absent while a lane asks the system.
@@ -102,20 +103,27 @@ impl Vigil {
 
 impl Seat {
     /// A seat with room for every socket. `AllocError` where memory runs out.
-    pub fn new(alloc: Global, poller: Poller, now: u64) -> Result<Seat, AllocError> {
-        let mut marks = Vec::with_capacity(alloc, CONNECTIONS + 1)?;
-        let mut vacant = Vec::with_capacity(alloc, CONNECTIONS)?;
-        for token in 0..=CONNECTIONS {
+    pub fn new(
+        alloc: Global,
+        poller: Poller,
+        limits: Limits,
+        now: u64,
+    ) -> Result<Seat, AllocError> {
+        let sockets = limits.connections.saturating_add(1);
+        let mut marks = Vec::with_capacity(alloc, sockets)?;
+        let mut vacant = Vec::with_capacity(alloc, limits.connections)?;
+        for token in 0..=limits.connections {
             marks.push(Mark {
                 queued: false,
                 hung_up: false,
             })?;
-            if token < CONNECTIONS {
+            if token != LISTENING {
                 vacant.push(token)?;
             }
         }
         Ok(Seat {
-            line: VecDeque::with_capacity(alloc, CONNECTIONS + 1)?,
+            limits,
+            line: VecDeque::with_capacity(alloc, sockets)?,
             marks,
             poller: Some(poller),
             asked: 0,
@@ -173,8 +181,8 @@ impl Seat {
     pub fn patience(&self) -> Option<Duration> {
         if !self.line.is_empty() {
             Some(Duration::ZERO)
-        } else if self.working > 0 || self.backlog || self.vacant.len() < CONNECTIONS {
-            Some(Duration::from_millis(SWEEP))
+        } else if self.working > 0 || self.backlog || self.vacant.len() < self.limits.connections {
+            Some(Duration::from_millis(self.limits.sweep))
         } else {
             None
         }
@@ -186,7 +194,7 @@ impl Seat {
             self.tell(event.token().0, event.is_read_closed());
         }
         self.poller = Some(poller);
-        if now.saturating_sub(self.swept) < SWEEP {
+        if now.saturating_sub(self.swept) < self.limits.sweep {
             return false;
         }
         self.swept = now;

@@ -1,6 +1,5 @@
 //! Where the connections rest, each in a slot with a lock of its own.
 use crate::conn::Conn;
-use crate::limits::CONNECTIONS;
 use crate::seat::Ready;
 use mio::Registry;
 use std::alloc::{AllocError, Global};
@@ -16,17 +15,17 @@ enum Slot {
     Out(Option<Ready>),
 }
 
-/// The slots of all tokens.
+/// The slots of all tokens. That of the listening socket stays vacant.
 #[derive(Drop)]
 pub struct Slots {
     places: Vec<Mutex<Slot>>,
 }
 
 impl Slots {
-    /// Slots without a connection. `AllocError` where memory runs out.
-    pub fn new(alloc: Global) -> Result<Slots, AllocError> {
-        let mut places = Vec::with_capacity(alloc, CONNECTIONS)?;
-        for _ in 0..CONNECTIONS {
+    /// Slots for so many connections. `AllocError` where memory runs out.
+    pub fn new(alloc: Global, connections: usize) -> Result<Slots, AllocError> {
+        let mut places = Vec::with_capacity(alloc, connections.saturating_add(1))?;
+        for _ in 0..=connections {
             places
                 .push(Mutex::new(Slot::Vacant))
                 .map_err(AllocError::from)?;
