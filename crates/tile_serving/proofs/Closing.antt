@@ -25,9 +25,9 @@ module _ {L : Type 0} (s : Service L) where
       there r c = ⊎_elim (λ (d : Contains (passes_of stints) r). kept r d) (λ (d : Contains (idles.passes_of after.idle) r). among r d) (Contains-append_cases (passes_of stints) (idles.passes_of after.idle) r c)
 
   -- so a tile that is asked for after a truncation is newer
-  pub served_newer : (before after : Standby) (stints : List (Stint L)) → IsValid s.catalogue → s.first.made ≡ [] → AllByRecursion (IsStint s) stints → {turns : List (Made board.Note)} → AreRun s.catalogue turns before.idle after.idle → All (λ (i : Idle). i.pass ≡ s.first) before.idle
+  pub served_newer : (before after : Standby) (stints : List (Stint L)) → IsValid s.catalogue → s.first.made ≡ [] → AllByRecursion (IsStint s) stints → (turns : List (Made board.Note)) → AreRun s.catalogue turns before.idle after.idle → All (λ (i : Idle). i.pass ≡ s.first) before.idle
       → AreInLine (passes_of stints ++ idles.passes_of after.idle) → AreNewer s.catalogue (passes_of stints ++ idles.passes_of after.idle)
-  served_newer before after stints valid none held {turns} run nothing line = are_newer s.catalogue (passes_of stints ++ idles.passes_of after.idle) valid at line
+  served_newer before after stints valid none held turns run nothing line = are_newer s.catalogue (passes_of stints ++ idles.passes_of after.idle) valid at line
     where
       at : (p : HallPass) → Contains (passes_of stints ++ idles.passes_of after.idle) p → HasTurnsAt s.catalogue p
       at p c = ⊎_elim (λ (d : Contains (passes_of stints) p). of_stints s stints none held p d) (λ (d : Contains (idles.passes_of after.idle) p). of_idle s.catalogue s.first turns before.idle after.idle run nothing none p d) (Contains-append_cases (passes_of stints) (idles.passes_of after.idle) p c)

@@ -10,7 +10,7 @@ use Rattle.crossbeam_queue.specs.Passes.{Pass, view}
 use Rattle.job_board.specs.Calls.{BoardHolding}
 use Rattle.tile_serving.specs.Crew.{AreKept, AreServedBy, HasGathered, HasWorked, IsReady}
 use Rattle.tile_serving.specs.Hands.{IsEven, IsHand, hand, with_other}
-use Rattle.tile_serving.specs.Stints.{AreServed, HeldSession, IsStint, Service, Stint, links_in, links_of, passes_of}
+use Rattle.tile_serving.specs.Stints.{HeldSession, IsStint, Service, Stint, links_in, links_of, passes_of}
 use Rattle.tile_serving.specs.Weights.{weigh}
 use Rattle.tile_serving.specs.declared.hand.Hand.{Hand}
 use Rattle.turnstile.proofs.Notes.{the_one}

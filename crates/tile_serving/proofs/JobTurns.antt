@@ -1,12 +1,12 @@
 -- The turns of members that run jobs are at a cabinet of the catalogue.
-use Rattle.std.proofs.Common.{arith, ◌≡◌, ◌∙◌, ℕ, ◌<◌, ◌⊎◌, inl, inr, ⊎_elim, Bool, List, [], ◌∷◌, ◌++◌, map, sym, ap, subst}
+use Rattle.std.proofs.Common.{arith, ◌≡◌, ℕ, inl, inr, ⊎_elim, Bool, List, [], ◌∷◌, ◌++◌, map, sym, ap, subst}
 use Rattle.std.proofs.lemmas.List.{reverse-append, reverse-reverse}
 use Rattle.std.proofs.lemmas.List.Elements.{All-append, All-cons, All-contains, All-contains_itself, All-from_recursion, All-head, All-map, All-nil, All-tail, All-weaker, Contains-append_cases, Contains-append_right, recursion_from_All}
 use Rattle.std.specs.List.{All, AllByRecursion, Contains}
 use Rattle.std.specs.Prelude.{None, Some, reverse}
 use Rattle.atomic_table.specs.Seated.{TableId}
 use Rattle.cabinet_chest.specs.declared.shown.Note.{Note}
-use Rattle.cache_hall.specs.Turned.{HallPass, IsPassOf}
+use Rattle.cache_hall.specs.Turned.{HallPass}
 use Rattle.catalog.specs.declared.catalogue.Catalogue.{Catalogue}
 use Rattle.job_board.specs.declared.shown.Note as board
 use Rattle.job_board.specs.declared.shown.Reply.{Reply}

@@ -1,6 +1,6 @@
 use Rattle.std.proofs.Common.{arith, refl, ◌≡◌, true, Some}
 use Rattle.job_board.specs.Calls.{IsFirstBoardPass}
-use Rattle.tile_serving.specs.Crew.{AreSupplies, IsNew}
+use Rattle.tile_serving.specs.Crew.{IsNew}
 use Rattle.tile_serving.specs.Hands.{table_of}
 use Rattle.tile_serving.proofs.Crews.{dealt, one_longer, popped, pushed}
 use Rattle.tile_serving.proofs.crew.workers_of.Goals as goal

@@ -1,4 +1,4 @@
-use Rattle.std.proofs.Common.{rules, arith, ◌≡◌, ◌∙◌, ◌+◌, [], ◌∷◌, length, length-append, ap, refl}
+use Rattle.std.proofs.Common.{rules, arith, ◌≡◌, ◌∙◌, [], ◌∷◌, length, length-append, ap, refl}
 use Rattle.std.proofs.lemmas.List.Elements.{All-nil}
 use Rattle.tile_serving.specs.Crew.{HasWorked, IsReady}
 use Rattle.tile_serving.specs.Hands.{hand, table_of}

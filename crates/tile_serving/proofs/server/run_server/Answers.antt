@@ -45,7 +45,7 @@ returns-then-all g c =
     let runs = c.serve_links-all.ensures.runs in
     let all = c.serve_links-all.result.passes.items in
     let stands = served_in_line s runs.0 h.served.served.stints all h.served.kept runs.2 c.close.ensures in
-    let newer = served_newer s c.in-Ok-crew_of.crew.runner runs.0 h.served.served.stints c.in-Ok.ensures.valid refl h.served.served.held runs.1.has_run.are_run new.2.nothing stands in (
+    let newer = served_newer s c.in-Ok-crew_of.crew.runner runs.0 h.served.served.stints c.in-Ok.ensures.valid refl h.served.served.held runs.1.has_run.turns runs.1.has_run.are_run new.2.nothing stands in (
       catalogue,
       c.in-Ok.stage.world.capabilities,
       st.read,
@@ -66,7 +66,7 @@ returns g c =
     let runs = c.serve_links-all.ensures.runs in
     let all = c.serve_links-all.result.passes.items in
     let stands = served_in_line s runs.0 h.served.served.stints all h.served.kept runs.2 c.close.ensures in
-    let newer = served_newer s c.in-Ok-crew_of.crew.runner runs.0 h.served.served.stints c.in-Ok.ensures.valid refl h.served.served.held runs.1.has_run.are_run new.2.nothing stands in (
+    let newer = served_newer s c.in-Ok-crew_of.crew.runner runs.0 h.served.served.stints c.in-Ok.ensures.valid refl h.served.served.held runs.1.has_run.turns runs.1.has_run.are_run new.2.nothing stands in (
       (
         catalogue,
         c.in-Ok.stage.world.capabilities,

@@ -1,5 +1,4 @@
-use Rattle.std.proofs.Common.{rules, arith, ◌≡◌, ◌∙◌, ◌++◌, [], ◌∷◌, List, ap, subst, sym}
-use Rattle.job_runner.specs.Idles.{passes_of}
+use Rattle.std.proofs.Common.{◌≡◌, ◌∙◌, ◌++◌, [], ◌∷◌, List, ap, subst, sym}
 use Rattle.tile_serving.specs.Crew.{AreServedBy}
 use Rattle.tile_serving.specs.Hands.{hand}
 use Rattle.tile_serving.specs.Stints.{Service, serving}
