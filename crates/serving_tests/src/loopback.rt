@@ -1,7 +1,10 @@
 //! A server over sockets of the loopback.
 ghost use Rattle.std.specs.Prelude.{length, ◌≡◌, ◌≤◌};
 
-use crate::answers::{CORNER, CORNER_MISSED, RIGHT, RIGHT_MISSED, WHOLE, WHOLE_HIT, WHOLE_MISSED};
+use crate::answers::{
+    CORNER, CORNER_HIT, CORNER_MISSED, JOB, JOB_SUBMITTED, RIGHT, RIGHT_MISSED, WHOLE, WHOLE_HIT,
+    WHOLE_MISSED,
+};
 use crate::client::answer_to;
 use crate::held::Hold;
 use crate::stage::{Stage, held_sources, served, sources};
@@ -122,5 +125,29 @@ fn a_worker_serves_beside_one_that_renders(rt: HostRuntime) -> Result<(), Fail> 
     assert_eq!(rt; end, ServerEnd::Done);
     assert!(rt; beside);
     assert!(rt; held);
+    Ok(())
+}
+
+/// Submits a job, and asks for the tile of its first place once that is being rendered. Whether it is the job's render.
+fn is_seeded<R: Net<Stream = TcpStream>>(rt: &R, alloc: Global, port: u16, hold: &Hold) -> bool {
+    let submitted = is_answered(rt, alloc, port, JOB, JOB_SUBMITTED);
+    let begun = hold.begins();
+    let held = hold.release();
+    submitted && begun && held && is_answered(rt, alloc, port, CORNER, CORNER_HIT)
+}
+
+#[test]
+fn a_job_is_run_while_links_are_served(rt: HostRuntime) -> Result<(), Fail> {
+    let alloc = rt.alloc();
+    let stage = Stage::new(alloc)?;
+    let hold = Hold::new(alloc)?;
+    let sources = held_sources(alloc, &hold)?;
+    let accept = TcpAccept::bind(rt, alloc, 0)?;
+    let port = accept.port()?;
+    let client = thread::spawn(&rt, move || is_seeded(&rt, alloc, port, &hold))?;
+    let end = serve(&rt, alloc, 2, accept, stage, sources);
+    let seeded = client.join(&rt);
+    assert_eq!(rt; end, ServerEnd::Done);
+    assert!(rt; seeded);
     Ok(())
 }
