@@ -39,7 +39,7 @@ const WEB: &[u8] = br#"{"keptLimit":4096,"cutLimit":256,"blobBytes":1000000000,
 "layers":[{"id":"world","grids":["web"],"styles":[{"id":"grey","breaks":[]}],"meta":[4,4],"gutter":8,"cell":1000}]}"#;
 
 /// How many metatiles a seed of all four matrices has: one at each of the zooms 0 to 2, and four at zoom 3.
-const PLACES: u64 = 7;
+pub const PLACES: u64 = 7;
 
 /// A seed of all four matrices.
 pub fn seed(threads: u32) -> Job
@@ -79,7 +79,7 @@ fn hall_of(
 }
 
 /// A board without jobs, and two passes of it.
-fn board_of(alloc: Global) -> Result<Option<(Board, BoardPass, BoardPass)>, AllocError>
+pub fn board_of(alloc: Global) -> Result<Option<(Board, BoardPass, BoardPass)>, AllocError>
     ensures { IfOk result (λ o. IfSome o (λ t. IsBoardPass t.0.turnstile.table t.1 × IsBoardPass t.0.turnstile.table t.2)) }
 {
     let BoardEntry { board, passes } = Board::make(alloc, 2)?;
