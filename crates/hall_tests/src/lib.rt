@@ -7,7 +7,7 @@
 #[cfg(test)]
 mod held;
 #[cfg(test)]
-mod jobs;
+mod job_messages;
 #[cfg(test)]
 mod pair;
 #[cfg(test)]
