@@ -3,6 +3,8 @@ use Rattle.std.proofs.Common.{◌≡◌, ◌∙◌, Bool, true, false, List, [],
 use Rattle.std.proofs.lemmas.List.{append-nil, append_assoc}
 use Rattle.catalog.specs.declared.catalogue.Catalogue.{Catalogue}
 use Rattle.truncation_list.specs.declared.book.FrontedBook.{FrontedBook}
+use Rattle.truncation_list.specs.Books.{AnswersForFronted}
+use Rattle.truncation_list.proofs.Answering.{fronted_itself, fronted_through}
 use Rattle.turnstile.specs.declared.view.Made.{Made}
 use Rattle.turnstile.specs.Passes.{seen_by}
 use Rattle.job_board.specs.declared.posted.Posted.{Posted}
@@ -10,7 +12,9 @@ use Rattle.job_board.specs.declared.shown.Command.TheVariants as command
 use Rattle.job_board.specs.declared.shown.Note.{Note}
 use Rattle.job_board.specs.declared.shown.Reply.{Reply}
 use Rattle.job_board.specs.declared.shown.Reply.TheVariants as reply
-use Rattle.job_board.specs.Boards.{book_of}
+use Rattle.job_board.specs.declared.shown.Command.{Command}
+use Rattle.job_board.specs.declared.shown.Shown.{Shown}
+use Rattle.job_board.specs.Boards.{MayReply, TakesNext, book_of}
 use Rattle.job_board.specs.Calls.{BoardHolding, IsBoardTurn, MakesOne}
 use Rattle.job_runner.specs.Idles.{Idle, Standby}
 use Rattle.job_runner.specs.Runs.{AreRun, DoesAfter, HasRun, Runs, RunsAll, RunsNext}
@@ -75,7 +79,41 @@ none_next c before after found is one same =
       none = λ _. one.reply_is ∙ ap reply.Next is;
     }
 
+-- WHAT THE RUNNER KNOWS OF THE BOARD
+
+-- who takes a job leaves as many jobs as there were
+taken : (b a : Shown) (p : Option Posted) → TakesNext b p a → book_of a ≡ book_of b
+taken b a (Some p) is = sym (ap book_of is)
+taken b a None is = ap book_of is.1
+
+is_absurd : (c : Catalogue) (r : Reply) (before after : List Idle) (other : Reply) → r ≡ other → DoesAfter c r before after → DoesAfter c other before after
+is_absurd c r before after other e does = subst (λ (x : Reply). DoesAfter c x before after) e does
+
+turn_keeps : (c : Catalogue) (b a : Shown) (does : Command) (r : Reply) (before after : List Idle) → MayReply b does r a → DoesAfter c r before after → book_of a ≡ book_of b
+turn_keeps c b a (command.Submit job places) r before after may so = absurd (is_absurd c r before after (reply.Submit may.0) may.1 so)
+turn_keeps c b a command.Next r before after may so = taken b a may.0 may.2
+turn_keeps c b a (command.Look n) r before after may so = absurd (is_absurd c r before after (reply.Look may.0) may.1 so)
+turn_keeps c b a (command.Stop n) r before after may so = absurd (is_absurd c r before after (reply.Stop may.0) may.1 so)
+
+-- after such a turn it knows of all jobs of which it knew
+turn_knows : (c : Catalogue) (seen : FrontedBook) (m : Made Note) (before after : List Idle) → IsBoardTurn seen m → DoesAfter c m.note.reply before after → AnswersForFronted (book_of m.note.after) seen
+turn_knows c seen m before after is does =
+    let same = turn_keeps c m.note.before m.note.after m.note.command m.note.reply before after is.reply does in
+    subst (λ (b : FrontedBook). AnswersForFronted b seen) (is.found ∙ sym same) is.answers
+
+all_known : (c : Catalogue) (seen : FrontedBook) (turns : List (Made Note)) (left : FrontedBook) (before after : List Idle) → AreBoardTurns seen turns left → AreRun c turns before after → AnswersForFronted left seen
+all_known c seen [] left before after same run = subst (λ (b : FrontedBook). AnswersForFronted b seen) (sym same) (fronted_itself seen)
+all_known c seen (t ∷ ts) left before after are run =
+    fronted_through left (book_of t.note.after) seen (all_known c (book_of t.note.after) ts left run.0 after are.1 run.2) (turn_knows c seen t before run.0 are.0 run.1)
+
 pub all_run : (c : Catalogue) (before mid after : Standby) (is_run : Bool) → is_run ≡ false → HasRun c before mid → RunsNext c mid after is_run → RunsAll c before after
 unfolding one_more
 all_run c before mid after is_run isnt had next =
-    record { has_run = one_more c before mid after is_run had next; but_last = had.turns; last_turn = next.turn; turns_are = refl; found_none = next.none isnt }
+    record {
+      has_run = one_more c before mid after is_run had next;
+      but_last = had.turns;
+      last_turn = next.turn;
+      turns_are = refl;
+      found_none = next.none isnt;
+      found = fronted_through next.turn.found mid.board.book before.board.book next.may.answers (all_known c before.board.book had.turns mid.board.book before.idle mid.idle had.makes.are_turns had.are_run);
+    }

@@ -1,10 +1,12 @@
 -- The members of a runner while they have no job.
-use Rattle.std.specs.Prelude.{ℕ, ◌≡◌, true, List, map, Option, Some, All}
+use Rattle.std.specs.Prelude.{ℕ, ◌≡◌, true, List, [], map, Option, Some, All}
 use Rattle.atomic_table.specs.Seated.{TableId}
 use Rattle.cache_hall.specs.Turned.{HallPass, IsPassOf}
 use Rattle.catalog.specs.declared.catalogue.Catalogue.{Catalogue}
 use Rattle.job_board.specs.Calls.{BoardHolding, IsBoardPass}
 use Rattle.seed_jobs.specs.Workers.{Worker}
+use Rattle.truncation_list.specs.Books.{AnswersForFronted}
+use Rattle.turnstile.specs.Passes.{seen_by}
 use Rattle.job_runner.specs.declared.runner.IdleMember.{IdleMember}
 
 -- a member without a job: its pass of the hall, the number that its source tells, and how often that has failed
@@ -42,3 +44,10 @@ pub record MayJoin (table : TableId) (c : Catalogue) (i : Idle) : Type 0 where
 pub record IsReady (boards table : TableId) (c : Catalogue) (r : Standby) : Type 0 where
   pub of_board : IsBoardPass boards r.board
   pub idle : All (MayJoin table c) r.idle
+
+-- the runner has heard of all jobs of which these passes of the board know, and did nothing else
+pub record HasHeard (before after : Standby) (others : List BoardHolding) : Type 0 where
+  pub idle : after.idle ≡ before.idle
+  pub is : after.board ≡ seen_by before.board after.board.book []
+  pub mine : AnswersForFronted after.board.book before.board.book
+  pub theirs : All (λ p. AnswersForFronted after.board.book p.book) others

@@ -14,6 +14,7 @@ use Rattle.jobs.specs.Places.{places}
 use Rattle.seed_jobs.specs.declared.tally.Tally.{Tally}
 use Rattle.seed_jobs.specs.Crews.{AreShared, HaveWorked, hands_of, total_of}
 use Rattle.seed_jobs.specs.Workers.{Worker}
+use Rattle.truncation_list.specs.Books.{AnswersForFronted}
 use Rattle.turnstile.specs.declared.view.Made.{Made}
 use Rattle.turnstile.specs.Passes.{seen_by}
 use Rattle.job_runner.specs.Idles.{Idle, Standby, without_hand}
@@ -69,10 +70,11 @@ pub record HasRun (c : Catalogue) (before after : Standby) : Type 0 where
   pub makes : MakesTurns before.board after.board turns
   pub are_run : AreRun c turns before.idle after.idle
 
--- THE WHOLE: the last turn found no job waiting
+-- THE WHOLE: the last turn found no job waiting, on a board with all jobs of which the runner knew before
 pub record RunsAll (c : Catalogue) (before after : Standby) : Type 0 where
   pub has_run : HasRun c before after
   pub but_last : List (Made Note)
   pub last_turn : Made Note
   pub turns_are : has_run.turns ≡ but_last ++ last_turn ∷ []
   pub found_none : last_turn.note.reply ≡ reply.Next None
+  pub found : AnswersForFronted last_turn.found before.board.book

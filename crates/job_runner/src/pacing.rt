@@ -9,8 +9,8 @@ use std::thread;
 use std::time::{Clock, Duration};
 use traffic::traffic::Traffic;
 
-/// How many times as long as a place took the crew rests for it.
-const REST: u64 = 2;
+/// How long the crew rests for a place, in halves of the time that it took.
+const HALVES: u64 = 5;
 
 /// The longest rest that is taken for a place, in microseconds.
 const LONGEST_REST: u64 = 2_000_000;
@@ -46,7 +46,7 @@ impl Pace {
 
     /// All rest for a place at which a member worked so long until now.
     fn rest_for(&self, worked: u64, now: u64) {
-        let rest = (worked.min(LONGEST_REST) * REST).min(LONGEST_REST);
+        let rest = (worked.min(LONGEST_REST) * HALVES / 2).min(LONGEST_REST);
         self.rests_until
             .fetch_max(now.saturating_add(rest), Ordering::SeqCst);
     }
@@ -57,8 +57,8 @@ impl Pace {
     }
 }
 
-/// The gate of a member that rests after a place where requests came meanwhile, twice as long as the place took and two seconds at most,
-/// unless no more requests come.
+/// The gate of a member that rests after a place where requests came meanwhile, two and a half times as long as the place took and two
+/// seconds at most, unless no more requests come.
 #[derive(Drop)]
 pub struct PacedGate<'a, R: Clock> {
     clock: &'a R,

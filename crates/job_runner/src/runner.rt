@@ -5,7 +5,7 @@ ghost use Rattle.job_runner.specs.Idles.{all_idle, passes_of};
 use crate::gates::JobGate;
 use cabinet::keeper::Keeper;
 use cabinet_chest::chest::CabinetChest;
-use job_board::board::BoardPass;
+use job_board::board::{Board, BoardPass};
 use seed_jobs::member::Member;
 use source_render::source::Source;
 use std::alloc::{AllocError, Global};
@@ -62,8 +62,9 @@ fn put_passes<K: Keeper, S: Source, G: JobGate>(
 }
 
 impl<K: Keeper, S: Source, G: JobGate> Runner<K, S, G> {
-    ghost use Rattle.std.specs.Prelude.{IfOk, length, reverse, vec_capacity, ◌+◌, ◌++◌, ◌≡◌, ◌≤◌};
-    ghost use Rattle.job_runner.specs.Idles.{all_idle, passes_of};
+    ghost use Rattle.std.specs.Prelude.{IfOk, length, reverse, vec_capacity, [], ◌+◌, ◌++◌, ◌∷◌, ◌≡◌, ◌≤◌};
+    ghost use Rattle.job_board.specs.Calls.{IsBoardPass};
+    ghost use Rattle.job_runner.specs.Idles.{HasHeard, all_idle, passes_of};
 
     /// A runner with these members. All room that it needs is taken here. `AllocError` where memory runs out.
     pub fn new(
@@ -77,6 +78,16 @@ impl<K: Keeper, S: Source, G: JobGate> Runner<K, S, G> {
     {
         let crew = Vec::with_capacity(alloc, MEMBERS)?;
         Ok(Runner { board, idle, crew })
+    }
+
+    /// Tells the runner of all jobs of which another pass of its board knows: its next look finds a board with all of them. Nobody waits.
+    pub fn hear(&mut self, board: &Board, other: &mut BoardPass)
+        requires mine { IsBoardPass board.now.turnstile.table self.old.board }
+        requires theirs { IsBoardPass board.now.turnstile.table other.old }
+        ensures heard { HasHeard self.old self.new (other.old ∷ []) }
+        ensures theirs { IsBoardPass board.now.turnstile.table other.new }
+    {
+        board.turnstile.meet(&mut self.board, other);
     }
 
     /// Puts the passes of its members to others in a list that has room for them, that of the last member first, and ends with that.

@@ -32,7 +32,7 @@ fn nobody_rests_where_nobody_asks(rt: HostRuntime) {
 
 #[test]
 fn a_member_rests_while_a_request_is_served(rt: HostRuntime) {
-    assert!(rt; let_through(1, 0) == (100_000, 400_000));
+    assert!(rt; let_through(1, 0) == (100_000, 450_000));
 }
 
 #[test]
