@@ -89,7 +89,7 @@ module _ {L : Type 0} (s : Service L) where
   pub of_stints : (ts : List (Stint L)) → s.first.made ≡ [] → AllByRecursion (IsStint s) ts → (p : HallPass) → Contains (passes_of ts) p → HasTurnsAt s.catalogue p
   of_stints [] none are p (k, lt, _) = absurd (omega (arith, lt))
   of_stints (t ∷ ts) none are p among = ⊎_elim
-      (λ (e : t.pass ≡ p). subst (HasTurnsAt s.catalogue) e (of_sessions s.first are.0.board_before are.0.renders_before t.sessions t.pass are.0.board_after are.0.renders_after are.0.held (no_turns s.catalogue s.first none)))
+      (λ (e : t.pass ≡ p). subst (HasTurnsAt s.catalogue) e (of_sessions s.first are.0.board_before are.0.renders_before t.sessions t.pass t.board are.0.renders_after are.0.held (no_turns s.catalogue s.first none)))
       (λ (later : Contains (passes_of ts) p). of_stints ts none are.1 p later) (first_or_later t.pass p (passes_of ts) among)
 
 -- NEWER, OR BEFORE

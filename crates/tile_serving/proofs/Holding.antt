@@ -38,9 +38,9 @@ module _ {L : Type 0} (s : Service L) where
       record { sessions = []; board_before = board; at_board = new.at_board; renders_before = renders; held = (new.pass_is, refl, refl); took = new.hand_is.knows }
 
   -- what a worker held from its first hand on is a stint
-  pub stint_of : (before : Hand L) (pass : HallPass) (board : BoardHolding) (renders : ℕ) (mine : Pass L (Hand L)) (w : HasWorked s before pass board renders mine) → IsStint s (record { sessions = w.sessions; pass = pass })
+  pub stint_of : (before : Hand L) (pass : HallPass) (board : BoardHolding) (renders : ℕ) (mine : Pass L (Hand L)) (w : HasWorked s before pass board renders mine) → IsStint s (record { sessions = w.sessions; pass = pass; board = board })
   stint_of before pass board renders mine w =
-      record { board_before = w.board_before; at_board = w.at_board; renders_before = w.renders_before; board_after = board; renders_after = renders; held = w.held }
+      record { board_before = w.board_before; at_board = w.at_board; renders_before = w.renders_before; renders_after = renders; held = w.held }
 
   -- a new worker may serve
   pub new_is_ready : (queue : TableId) (tells : Option ℕ) (pass : HallPass) (board : BoardHolding) (mine : Pass L (Hand L)) → s.first.charter ≡ Some s.catalogue → IsNew queue s tells pass board mine → IsReady queue s.first.table s.board s.catalogue tells pass board mine

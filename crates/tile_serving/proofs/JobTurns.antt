@@ -11,7 +11,7 @@ use Rattle.catalog.specs.declared.catalogue.Catalogue.{Catalogue}
 use Rattle.job_board.specs.declared.shown.Note as board
 use Rattle.job_board.specs.declared.shown.Reply.{Reply}
 use Rattle.job_board.specs.declared.shown.Reply.TheVariants as reply
-use Rattle.job_runner.specs.Idles.{Idle, MayJoin, passes_of, without_hand}
+use Rattle.job_runner.specs.Idles.{Idle, MayJoin, Standby, passes_of, without_hand}
 use Rattle.job_runner.specs.Runs.{AreRun, DoesAfter, IsRun}
 use Rattle.job_sheet.specs.Hands.{Holding, Sheet}
 use Rattle.jobs.specs.declared.job.Job.{Job}
@@ -22,6 +22,7 @@ use Rattle.seed_jobs.specs.Workers.{Worker}
 use Rattle.truncation_list.specs.declared.book.FrontedBook.{FrontedBook}
 use Rattle.turnstile.specs.declared.view.Made.{Made}
 use Rattle.turnstile.proofs.Notes.{back_of, front_of}
+use Rattle.tile_serving.specs.Runners.{HasRunOn}
 use Rattle.tile_serving.proofs.Between.{HasTurnsAt, IsTurnAt, more_turns, no_turns, of_turns}
 
 -- LISTS FROM BEHIND
@@ -95,10 +96,12 @@ runs_keep c [] before after same had = subst (All (IdleHas c)) (sym same) had
 runs_keep c (t ∷ ts) before after (between, does, later) had = runs_keep c ts between after later (does_keep c t.note.reply before between does had)
 
 -- members that had made nothing have made such turns
-pub of_idle : (c : Catalogue) (first : HallPass) (turns : List (Made board.Note)) (before after : List Idle) → AreRun c turns before after → All (λ (i : Idle). i.pass ≡ first) before → first.made ≡ [] → (p : HallPass) → Contains (passes_of after) p → HasTurnsAt c p
-of_idle c first turns before after run nothing none p at =
-    let had = All-weaker (λ (i : Idle). i.pass ≡ first) (IdleHas c) (λ i e. subst (HasTurnsAt c) (sym e) (no_turns c first none)) before nothing in
-    All-contains (HasTurnsAt c) (passes_of after) p (All-map (HasTurnsAt c) (λ (i : Idle). i.pass) after (runs_keep c turns before after run had)) at
+pub of_idle : (c : Catalogue) (first : HallPass) (before : Standby) (on : HasRunOn c before) → on.heard.idle ≡ on.between.idle → All (λ (i : Idle). i.pass ≡ first) before.idle → first.made ≡ [] → (p : HallPass) → Contains (passes_of on.after.idle) p → HasTurnsAt c p
+of_idle c first before on same nothing none p at =
+    let had = All-weaker (λ (i : Idle). i.pass ≡ first) (IdleHas c) (λ i e. subst (HasTurnsAt c) (sym e) (no_turns c first none)) before.idle nothing in
+    let between = runs_keep c on.runs.has_run.turns before.idle on.between.idle on.runs.has_run.are_run had in
+    let after = runs_keep c on.runs_on.has_run.turns on.heard.idle on.after.idle on.runs_on.has_run.are_run (subst (All (IdleHas c)) (sym same) between) in
+    All-contains (HasTurnsAt c) (passes_of on.after.idle) p (All-map (HasTurnsAt c) (λ (i : Idle). i.pass) on.after.idle after) at
 
 -- THE PASSES OF ALL THAT WORKED
 

@@ -4,6 +4,7 @@ pub mod Shared
 pub mod Sums
 pub mod Balance
 pub mod Arrivals
+pub mod Hearing
 pub mod Holding
 pub mod Between
 pub mod JobTurns

@@ -8,8 +8,9 @@ use Rattle.catalog.specs.declared.catalogue.Catalogue.{Catalogue}
 use Rattle.causes.specs.Causes.{Rose}
 use Rattle.crossbeam_queue.specs.Passes.{Pass, view}
 use Rattle.job_board.specs.Calls.{BoardHolding, IsBoardPass, IsFirstBoardPass}
+use Rattle.job_runner.specs.Idles.{HasHeard, Standby}
 use Rattle.tile_serving.specs.Hands.{IsHand, hand}
-use Rattle.tile_serving.specs.Stints.{AreHeld, AreServed, HeldSession, IsStint, Service, Stint, links_in, links_of, passes_of}
+use Rattle.tile_serving.specs.Stints.{AreHeld, AreServed, HeldSession, IsStint, Service, Stint, boards_of, links_in, links_of, passes_of}
 use Rattle.tile_serving.specs.declared.hand.Hand.{Hand}
 
 -- a worker of this queue, of this turnstile and of this board may serve: where its pass is told, its source tells the catalogue's number
@@ -47,23 +48,26 @@ pub record HasWorked {L : Type 0} (s : Service L) (before : Hand L) (pass : Hall
 abbrev pub AreKept : {L : Type 0} → List (Stint L) → List HallPass → Type 0
 AreKept stints passes = (p : HallPass) → Contains (passes_of stints) p → Contains passes p
 
--- the worker has taken over the hands of others, and with them the links of the stints that those held; its hand has so many parts, and
--- the passes of the others are among these
-pub record HasGathered {L : Type 0} (s : Service L) (parts : ℕ) (pass : HallPass) (board : BoardHolding) (renders : ℕ) (mine : Pass L (Hand L)) (passes : List HallPass) : Type 0 where
+-- the worker has taken over the hands of others, and with them the links of the stints that those held; its hand has so many parts, the
+-- passes of the others are among these, and who runs jobs has heard what they know of the board
+pub record HasGathered {L : Type 0} (s : Service L) (parts : ℕ) (pass : HallPass) (board : BoardHolding) (renders : ℕ) (mine : Pass L (Hand L)) (passes : List HallPass) (before after : Standby) : Type 0 where
   pub stints : List (Stint L)
   pub held : AllByRecursion (IsStint s) stints
   pub last : HasWorked s (hand parts [] (links_in stints)) pass board renders mine
   pub kept : AreKept stints passes
+  pub heard : HasHeard before after (boards_of stints)
 
--- each of these links was served in one session of one stint, whose passes are among these
-pub record AreServedBy {L : Type 0} (s : Service L) (links : List L) (passes : List HallPass) : Type 0 where
+-- each of these links was served in one session of one stint, whose passes are among these, and who runs jobs has heard what they know of
+-- the board
+pub record AreServedBy {L : Type 0} (s : Service L) (links : List L) (passes : List HallPass) (before after : Standby) : Type 0 where
   pub served : AreServed s links
   pub kept : AreKept served.stints passes
+  pub heard : HasHeard before after (boards_of served.stints)
 
 -- so many links were asked for; the listener gave these, each of which was served, by passes that are among these; and where it gave
 -- fewer, an accept had failed
-pub record HasServedLinks {L : Type 0} (s : Service L) (asked : ℕ) (given_before given_after : List L) (faults_before faults_after : ℕ) (passes : List HallPass) (all : Bool) : Type 0 where
+pub record HasServedLinks {L : Type 0} (s : Service L) (asked : ℕ) (given_before given_after : List L) (faults_before faults_after : ℕ) (passes : List HallPass) (before after : Standby) (all : Bool) : Type 0 where
   pub links : List L
   pub given : given_after ≡ given_before ++ links
-  pub served : AreServedBy s links passes
+  pub served : AreServedBy s links passes before after
   pub each : MatchBool all (length links ≡ asked) (Rose faults_before faults_after)

@@ -15,7 +15,7 @@ use Rattle.job_runner.specs.Idles as idles
 use Rattle.tile_serving.specs.Runners.{HasRunJobs}
 use Rattle.turnstile.specs.Line.{AreInLine}
 use Rattle.tile_serving.specs.Between.{AreNewer}
-use Rattle.tile_serving.specs.Stints.{AreServed, LinkReading, Service, passes_of}
+use Rattle.tile_serving.specs.Stints.{AreServed, LinkReading, Service, boards_of, passes_of}
 use Rattle.tile_serving.specs.declared.ends.ServerEnd.{ServerEnd}
 use Rattle.tile_serving.specs.declared.ends.ServerEnd.TheVariants as end
 
@@ -46,7 +46,7 @@ service_of h c document table board opened = record { reading = h.reading; docum
 
 -- The cache of the disk was opened under the catalogue, and each link that the listener gave was served to the end of one session, by
 -- passes of one turnstile, which had seen the opened cabinet's book and made nothing before their first session, and from places at one
--- board, on which there was no job at first; jobs were run from that board until none waited.
+-- board, on which there was no job at first; jobs were run from that board until none waited of all that the sessions had submitted.
 pub record HasServed {L D : Type 0} (h : ServerChange L) (d : ServerDisk D) (c : Catalogue) (document : List ℕ) : Type 0 where
   pub opened : State
   pub is_opened : IsOpened d c h.clock opened
@@ -55,9 +55,9 @@ pub record HasServed {L D : Type 0} (h : ServerChange L) (d : ServerDisk D) (c :
   pub links : List L
   pub given : h.given_after ≡ h.given_before ++ links
   pub served : AreServed (service_of h c document table board opened) links
-  pub jobs : HasRunJobs (service_of h c document table board opened)
-  pub line : AreInLine (passes_of served.stints ++ idles.passes_of jobs.after.idle)
-  pub newer : AreNewer c (passes_of served.stints ++ idles.passes_of jobs.after.idle)
+  pub jobs : HasRunJobs (service_of h c document table board opened) (boards_of served.stints)
+  pub line : AreInLine (passes_of served.stints ++ idles.passes_of jobs.on.after.idle)
+  pub newer : AreNewer c (passes_of served.stints ++ idles.passes_of jobs.on.after.idle)
 
 -- so it was, and as many links were given as were asked for
 abbrev pub HasServedAll : {L D : Type 0} → ServerChange L → ServerDisk D → Catalogue → List ℕ → Type 0

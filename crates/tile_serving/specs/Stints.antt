@@ -33,16 +33,20 @@ pub record HeldSession (L : Type 0) : Type 0 where
 abbrev pub links_of : {L : Type 0} → List (HeldSession L) → List L
 links_of sessions = map (λ h. h.link) sessions
 
--- all that one worker held, one session after the other, and the pass that the last of them left
+-- all that one worker held, one session after the other, and the pass and the place at the board that the last of them left
 pub record Stint (L : Type 0) : Type 0 where
   pub sessions : List (HeldSession L)
   pub pass : HallPass
+  pub board : BoardHolding
 
 abbrev pub links_in : {L : Type 0} → List (Stint L) → List L
 links_in stints = flat_map (λ t. links_of t.sessions) stints
 
 abbrev pub passes_of : {L : Type 0} → List (Stint L) → List HallPass
 passes_of stints = map (λ t. t.pass) stints
+
+abbrev pub boards_of : {L : Type 0} → List (Stint L) → List BoardHolding
+boards_of stints = map (λ t. t.board) stints
 
 -- what is served: how its links are read, the capabilities document, the catalogue, the board of jobs, and a pass of its hall that has made
 -- nothing yet
@@ -74,9 +78,8 @@ module _ {L : Type 0} (s : Service L) where
     pub board_before : BoardHolding
     pub at_board : IsFirstBoardPass s.board board_before
     pub renders_before : ℕ
-    pub board_after : BoardHolding
     pub renders_after : ℕ
-    pub held : AreHeld s.first board_before renders_before t.sessions t.pass board_after renders_after
+    pub held : AreHeld s.first board_before renders_before t.sessions t.pass t.board renders_after
 
   -- each of these links was served in one session of one stint, to its end
   pub record AreServed (links : List L) : Type 0 where

@@ -5,11 +5,12 @@ ghost use Rattle.cache_hall.specs.Turned.{HallPass, IsPassOf};
 ghost use Rattle.catalog.specs.Valid.{IsValid};
 ghost use Rattle.crossbeam_queue.specs.Passes.{view};
 ghost use Rattle.job_runner.specs.Idles as idles;
-ghost use Rattle.job_runner.specs.Idles.{Standby, passes_of};
+ghost use Rattle.job_runner.specs.Idles.{passes_of};
 ghost use Rattle.job_runner.specs.Runs.{RunsAll};
 ghost use Rattle.tile_serving.specs.Accepted.{HasAccepted};
 ghost use Rattle.tile_serving.specs.Crew.{HasServedLinks, HasWorked, IsReady};
 ghost use Rattle.tile_serving.specs.Hands.{IsHand, all_parts, hand, table_of};
+ghost use Rattle.tile_serving.specs.Runners.{HasRunOn};
 ghost use Rattle.tile_serving.specs.Stints.{serving};
 ghost use Rattle.tile_serving.specs.declared.hand.Hand.{Hand};
 
@@ -245,8 +246,8 @@ pub(crate) struct Served<K: Keeper> {
     pub(crate) passes: Vec<Pass<CabinetChest<K>>>,
 }
 
-/// Accepts so many links of a listener in this thread, while a crew serves them, and sees that each is served to its end. All passes come
-/// back in a list that has room for them.
+/// Accepts so many links of a listener in this thread, while a crew serves them, and sees that each is served to its end and that each job
+/// is run which a session has submitted. All passes come back in a list that has room for them.
 pub(crate) fn serve_links<
     R: Threads + Wait + Sync,
     K: Keeper + Send,
@@ -275,10 +276,9 @@ where
     requires acceptor { IsHand (table_of queue.now.links) (hand (all_parts - WORKERS) [] []) staff.acceptor }
     ensures of { All (λ p. p.table ≡ world.now.hall.turnstile.table) result.passes.items }
     ensures count { length result.passes.items ≡ WORKERS + 1 + MEMBERS }
-    ensures runs { (after : Standby) × RunsAll world.now.hall.catalogue staff.crew.runner after × ((p : HallPass) → Contains (passes_of after.idle) p → Contains result.passes.items p) }
-    ensures served { (first : HallPass)
+    ensures served { (j : HasRunOn world.now.hall.catalogue staff.crew.runner) × ((p : HallPass) → Contains (passes_of j.after.idle) p → Contains result.passes.items p) × ((first : HallPass)
         → All (λ w. HasWorked (serving N.L.left N.L.taken N.L.ByteSource.faults N.L.ByteSink.faults world.now.capabilities world.now.hall.catalogue world.now.board.turnstile.table first) (hand 1 [] []) w.pass w.board (S.faults w.source) w.hand) staff.crew.workers.items
-        → HasServedLinks (serving N.L.left N.L.taken N.L.ByteSource.faults N.L.ByteSink.faults world.now.capabilities world.now.hall.catalogue world.now.board.turnstile.table first) connections (N.given listener.old) (N.given listener.new) (N.faults listener.old) (N.faults listener.new) result.passes.items result.all }
+        → HasServedLinks (serving N.L.left N.L.taken N.L.ByteSource.faults N.L.ByteSink.faults world.now.capabilities world.now.hall.catalogue world.now.board.turnstile.table first) connections (N.given listener.old) (N.given listener.new) (N.faults listener.old) (N.faults listener.new) result.passes.items j.between j.heard result.all) }
 {
     let mut staff = staff;
     let all = accept_and_serve(rt, alloc, connections, world, queue, &mut staff, listener);
@@ -288,7 +288,25 @@ where
         upkeep,
         runner,
     } = crew;
-    let mut passes = serve_rest(rt, alloc, world, queue, acceptor, workers, passes);
+    let mut runner = runner;
+    let mut passes = serve_rest(
+        rt,
+        alloc,
+        world,
+        queue,
+        acceptor,
+        workers,
+        passes,
+        &mut runner,
+    );
+    run_jobs(
+        rt,
+        alloc,
+        &world.hall,
+        &world.board,
+        &AtomicBool::new(true),
+        &mut runner,
+    );
     passes.push_reserved(upkeep);
     Served {
         all,

@@ -4,6 +4,7 @@ use Rattle.tile_serving.specs.Crew.{HasWorked, IsReady}
 use Rattle.tile_serving.specs.Hands.{hand, table_of}
 use Rattle.tile_serving.proofs.Crews.{one_longer, popped, pushed}
 use Rattle.tile_serving.proofs.Gathering.{gather_begins, gather_goes_on, gather_ends, ready_with}
+use Rattle.tile_serving.proofs.Hearing.{ready_heard}
 use Rattle.tile_serving.proofs.ending.gather.Goals as goal
 
 pub gathering-init : goal.gathering-init
@@ -13,7 +14,8 @@ gathering-init g c = record {
   of = rw c.requires.empty (All-nil (λ p. p.table ≡ c.args.world.now.hall.turnstile.table));
   count = omega (arith, ap length c.requires.empty);
   room = refl;
-  gathered = λ s last others. (others, rw c.requires.empty (gather_begins s _ _ _ _ _ last));
+  gathered = λ s last others. (others, rw c.requires.empty (gather_begins s _ _ _ _ _ c.args.runner.now last));
+  runner = c.requires.runner;
 }
 
 pub gathering-preserved : goal.gathering-preserved
@@ -33,8 +35,9 @@ gathering-preserved g c =
       gathered = λ s began others.
           let had = i.gathered s began others in
           let w = popped (λ w. HasWorked s (hand 1 [] []) w.pass w.board (g.S.Source.faults w.source) w.hand) c.gathering.others.items c.pop.new.self.items other c.in-Some.ensures.items had.0 in
-          (w.0, rw c.push_reserved.ensures.items (gather_goes_on s _ _ _ last.pass other.pass _ _ _ _ last.hand other.hand c.take_over.new.mine c.gathering.passes.items left had.1 w.1 c.take_over.ensures.knows));
+          (w.0, rw c.push_reserved.ensures.items (gather_goes_on s _ _ _ last.pass other.pass _ _ _ _ last.hand other.hand c.take_over.new.mine c.gathering.passes.items c.args.runner.now c.gathering.runner c.hear.new.self left had.1 w.1 c.hear.ensures.heard c.take_over.ensures.knows));
+      runner = ready_heard _ _ _ c.gathering.runner c.hear.new.self _ i.runner c.hear.ensures.heard;
     }
 
 pub returns-clause-gathered : goal.returns-clause-gathered
-returns-clause-gathered g c = λ s last others. gather_ends s _ _ _ _ _ _ _ (search rules) (c.gathering.invariant.gathered s last others).1
+returns-clause-gathered g c = λ s last others. gather_ends s _ _ _ _ _ _ _ _ _ (search rules) (c.gathering.invariant.gathered s last others).1

@@ -1,5 +1,6 @@
 use Rattle.std.proofs.Common.{◌≡◌, ◌+◌, [], All, length, vec_len}
 use Rattle.std.specs.Prelude.{vec_capacity}
+use Rattle.job_runner.specs.Idles as idles
 use Rattle.tile_serving.specs.Crew.{HasWorked, IsReady}
 use Rattle.tile_serving.specs.Hands.{hand, table_of}
 use Rattle.tile_serving.specs.Stints.{Service}
@@ -16,7 +17,8 @@ invariant-gathering g l = record {
   gathered : (s : Service g.row.L.Denot) → HasWorked s (hand 1 [] []) l.initial.last.pass l.initial.last.board (g.S.Source.faults l.initial.last.source) l.initial.last.hand
       → All (λ w. HasWorked s (hand 1 [] []) w.pass w.board (g.S.Source.faults w.source) w.hand) l.fn.others.items
       → All (λ w. HasWorked s (hand 1 [] []) w.pass w.board (g.S.Source.faults w.source) w.hand) l.others.items
-      × Gather s (length l.fn.others.items) (length l.others.items) l.last.pass l.last.board (g.S.Source.faults l.last.source) l.last.hand l.passes.items;
+      × Gather s (length l.fn.others.items) (length l.others.items) l.last.pass l.last.board (g.S.Source.faults l.last.source) l.last.hand l.passes.items l.initial.runner l.runner;
+  runner : idles.IsReady l.world.board.turnstile.table l.world.hall.turnstile.table l.world.hall.catalogue l.runner;
 }
 
 abbrev pub decreases-gathering : goal.decreases-gathering

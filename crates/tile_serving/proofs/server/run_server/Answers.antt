@@ -41,16 +41,16 @@ returns-then-all g c =
     let first = first_pass c.in-Ok.stage.world.hall.turnstile.table catalogue c.args.told.value st.first.opened in
     let s : Service g.row.N-L.Denot = serving g.N.L.ByteSource.left g.N.L.ByteSink.taken g.N.L.ByteSource.faults g.N.L.ByteSink.faults c.in-Ok.stage.world.capabilities catalogue c.in-Ok.stage.world.board.turnstile.table first in
     let new = c.in-Ok-crew_of.ensures.new s refl (record { passes_are = st.first.first; boards_are = c.in-Ok.ensures.boards.first; sources_tell = λ i e inside told. (c.requires.told told).2 catalogue (may_be _ _ st.read.read) i e inside }) in
-    let h = c.serve_links-all.ensures.served first (λ k d lt. new_has_worked s _ _ _ _ _ _ (new.0 k d lt)) in
-    let runs = c.serve_links-all.ensures.runs in
+    let on = c.serve_links-all.ensures.served.0 in
+    let h = c.serve_links-all.ensures.served.2 first (λ k d lt. new_has_worked s _ _ _ _ _ _ (new.0 k d lt)) in
     let all = c.serve_links-all.result.passes.items in
-    let stands = served_in_line s runs.0 h.served.served.stints all h.served.kept runs.2 c.close.ensures in
-    let newer = served_newer s c.in-Ok-crew_of.crew.runner runs.0 h.served.served.stints c.in-Ok.ensures.valid refl h.served.served.held runs.1.has_run.turns runs.1.has_run.are_run new.2.nothing stands in (
+    let stands = served_in_line s on.after h.served.served.stints all h.served.kept c.serve_links-all.ensures.served.1 c.close.ensures in
+    let newer = served_newer s c.in-Ok-crew_of.crew.runner on h.served.served.stints c.in-Ok.ensures.valid refl h.served.served.held h.served.heard.idle new.2.nothing stands in (
       catalogue,
       c.in-Ok.stage.world.capabilities,
       st.read,
       (
-        record { opened = st.first.opened; is_opened = st.first.is_opened; table = c.in-Ok.stage.world.hall.turnstile.table; board = c.in-Ok.stage.world.board.turnstile.table; links = h.links; given = h.given; served = h.served.served; line = stands; newer = newer; jobs = record { before = c.in-Ok-crew_of.crew.runner; new = new.2; after = runs.0; runs = runs.1 } },
+        record { opened = st.first.opened; is_opened = st.first.is_opened; table = c.in-Ok.stage.world.hall.turnstile.table; board = c.in-Ok.stage.world.board.turnstile.table; links = h.links; given = h.given; served = h.served.served; line = stands; newer = newer; jobs = record { before = c.in-Ok-crew_of.crew.runner; new = new.2; on = on; heard = h.served.heard } },
         MatchBool-at_true _ _ c.if-all.true h.each,
       ),
     )
@@ -62,16 +62,16 @@ returns g c =
     let first = first_pass c.in-Ok.stage.world.hall.turnstile.table catalogue c.args.told.value st.first.opened in
     let s : Service g.row.N-L.Denot = serving g.N.L.ByteSource.left g.N.L.ByteSink.taken g.N.L.ByteSource.faults g.N.L.ByteSink.faults c.in-Ok.stage.world.capabilities catalogue c.in-Ok.stage.world.board.turnstile.table first in
     let new = c.in-Ok-crew_of.ensures.new s refl (record { passes_are = st.first.first; boards_are = c.in-Ok.ensures.boards.first; sources_tell = λ i e inside told. (c.requires.told told).2 catalogue (may_be _ _ st.read.read) i e inside }) in
-    let h = c.serve_links-all.ensures.served first (λ k d lt. new_has_worked s _ _ _ _ _ _ (new.0 k d lt)) in
-    let runs = c.serve_links-all.ensures.runs in
+    let on = c.serve_links-all.ensures.served.0 in
+    let h = c.serve_links-all.ensures.served.2 first (λ k d lt. new_has_worked s _ _ _ _ _ _ (new.0 k d lt)) in
     let all = c.serve_links-all.result.passes.items in
-    let stands = served_in_line s runs.0 h.served.served.stints all h.served.kept runs.2 c.close.ensures in
-    let newer = served_newer s c.in-Ok-crew_of.crew.runner runs.0 h.served.served.stints c.in-Ok.ensures.valid refl h.served.served.held runs.1.has_run.turns runs.1.has_run.are_run new.2.nothing stands in (
+    let stands = served_in_line s on.after h.served.served.stints all h.served.kept c.serve_links-all.ensures.served.1 c.close.ensures in
+    let newer = served_newer s c.in-Ok-crew_of.crew.runner on h.served.served.stints c.in-Ok.ensures.valid refl h.served.served.held h.served.heard.idle new.2.nothing stands in (
       (
         catalogue,
         c.in-Ok.stage.world.capabilities,
         st.read,
-        record { opened = st.first.opened; is_opened = st.first.is_opened; table = c.in-Ok.stage.world.hall.turnstile.table; board = c.in-Ok.stage.world.board.turnstile.table; links = h.links; given = h.given; served = h.served.served; line = stands; newer = newer; jobs = record { before = c.in-Ok-crew_of.crew.runner; new = new.2; after = runs.0; runs = runs.1 } },
+        record { opened = st.first.opened; is_opened = st.first.is_opened; table = c.in-Ok.stage.world.hall.turnstile.table; board = c.in-Ok.stage.world.board.turnstile.table; links = h.links; given = h.given; served = h.served.served; line = stands; newer = newer; jobs = record { before = c.in-Ok-crew_of.crew.runner; new = new.2; on = on; heard = h.served.heard } },
       ),
       MatchBool-at_false _ _ c.if-all.false h.each,
     )

@@ -12,24 +12,29 @@ returns-clause-of g c =
     let upkeep = c.accept_and_serve-all.ensures.upkeep in
     let before = c.push_reserved.new.self.items in
     let these = pushed (λ p. p.table ≡ c.args.world.now.hall.turnstile.table) before c.serve_rest-passes.result.items c.accept_and_serve-all.new.staff.crew.upkeep c.push_reserved.ensures.items c.serve_rest-passes.ensures.of upkeep.same_table in
-    all_of_hall c.args.world.now.hall.turnstile.table c.args.world.now.hall.catalogue before c.into_passes.result.items c.accept_and_serve-all.new.staff.crew.runner.idle c.into_passes.ensures.items these c.accept_and_serve-all.ensures.runner.idle
-
-pub returns-clause-runs : goal.returns-clause-runs
-returns-clause-runs g c = (
-  c.accept_and_serve-all.new.staff.crew.runner,
-  c.accept_and_serve-all.ensures.runs,
-  idle_among c.push_reserved.new.self.items c.into_passes.result.items c.accept_and_serve-all.new.staff.crew.runner.idle c.into_passes.ensures.items,
-)
+    all_of_hall c.args.world.now.hall.turnstile.table c.args.world.now.hall.catalogue before c.into_passes.result.items c.run_jobs.new.runner.idle c.into_passes.ensures.items these c.run_jobs.ensures.ready.idle
 
 pub returns-clause-served : goal.returns-clause-served
-returns-clause-served g c = λ first all.
-    let s : Service g.row.N-L.Denot = serving g.N.L.ByteSource.left g.N.L.ByteSink.taken g.N.L.ByteSource.faults g.N.L.ByteSink.faults c.args.world.now.capabilities c.args.world.now.hall.catalogue c.args.world.now.board.turnstile.table first in
-    let a = c.accept_and_serve-all.ensures.accepted in
-    let worked = c.accept_and_serve-all.ensures.worked first (hand 1 [] []) all in
-    let put = ap (λ v. v.put) a.put.knows ∙ ap (λ v. v.put ++ a.links) c.requires.acceptor.knows in
-    let rest = c.serve_rest-passes.result.items in
-    let served = subst (λ (xs : List g.row.N-L.Denot). AreServedBy s xs rest) put (c.serve_rest-passes.ensures.served first worked) in
-    let more = served_with s a.links rest (c.accept_and_serve-all.new.staff.crew.upkeep ∷ []) served in
-    let before = subst (λ ps. AreServedBy s a.links ps) (sym c.push_reserved.ensures.items) more in
-    let every = served_with s a.links c.push_reserved.new.self.items _ before in
-    record { links = a.links; given = a.given; served = subst (λ ps. AreServedBy s a.links ps) (sym c.into_passes.ensures.items) every; each = a.each }
+returns-clause-served g c = (
+  record {
+    between = c.accept_and_serve-all.new.staff.crew.runner;
+    runs = c.accept_and_serve-all.ensures.runs;
+    heard = c.serve_rest-passes.new.runner;
+    after = c.run_jobs.new.runner;
+    runs_on = c.run_jobs.ensures.runs;
+  },
+  idle_among c.push_reserved.new.self.items c.into_passes.result.items c.run_jobs.new.runner.idle c.into_passes.ensures.items,
+  λ first all.
+      let s : Service g.row.N-L.Denot = serving g.N.L.ByteSource.left g.N.L.ByteSink.taken g.N.L.ByteSource.faults g.N.L.ByteSink.faults c.args.world.now.capabilities c.args.world.now.hall.catalogue c.args.world.now.board.turnstile.table first in
+      let between = c.accept_and_serve-all.new.staff.crew.runner in
+      let heard = c.serve_rest-passes.new.runner in
+      let a = c.accept_and_serve-all.ensures.accepted in
+      let worked = c.accept_and_serve-all.ensures.worked first (hand 1 [] []) all in
+      let put = ap (λ v. v.put) a.put.knows ∙ ap (λ v. v.put ++ a.links) c.requires.acceptor.knows in
+      let rest = c.serve_rest-passes.result.items in
+      let served = subst (λ (xs : List g.row.N-L.Denot). AreServedBy s xs rest between heard) put (c.serve_rest-passes.ensures.served first worked) in
+      let more = served_with s a.links rest (c.accept_and_serve-all.new.staff.crew.upkeep ∷ []) between heard served in
+      let before = subst (λ ps. AreServedBy s a.links ps between heard) (sym c.push_reserved.ensures.items) more in
+      let every = served_with s a.links c.push_reserved.new.self.items _ between heard before in
+      record { links = a.links; given = a.given; served = subst (λ ps. AreServedBy s a.links ps between heard) (sym c.into_passes.ensures.items) every; each = a.each },
+)
