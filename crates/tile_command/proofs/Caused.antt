@@ -1,5 +1,5 @@
 -- Each status that a word tells has its cause.
-use Rattle.std.specs.Prelude.{ℕ, ◌≡◌, ◌<◌, ◌+◌, ◌++◌, ◌⊎◌, List, [], ◌∷◌, length, Option, Some, None, IfSome, Ok, Err, false}
+use Rattle.std.specs.Prelude.{ℕ, ◌≡◌, ◌<◌, ◌≤◌, ◌+◌, ◌++◌, ◌⊎◌, List, [], ◌∷◌, length, Option, Some, None, IfSome, Ok, Err, false}
 use Rattle.std.specs.Io.KnownBytes.{Consumes, IsAtEnd, prepend_known}
 use Rattle.std.proofs.Common.{ap, sym, subst, ◌∙◌, append-nil, inl, inr, refl, arith, length-append}
 use Rattle.cabinet.specs.Commands.{Cuts}
@@ -22,12 +22,14 @@ use Rattle.command_words.specs.declared.words.UpkeepWord.TheVariants as upkeep
 use Rattle.command_words.specs.declared.words.Word.{Word}
 use Rattle.command_words.specs.declared.words.Word.TheVariants as word
 use Rattle.http_wire.specs.declared.message.Message.{Message}
+use Rattle.config_text.specs.Text.{catalogue_of}
 use Rattle.gate_journal.specs.declared.fault.OpenFault.TheVariants as open_fault
 use Rattle.job_forms.specs.Cover.{cover_of}
 use Rattle.job_forms.specs.declared.fault.JobFault.{JobFault}
 use Rattle.job_forms.specs.declared.fault.JobFault.TheVariants as form
 use Rattle.job_words.specs.Ends.{RunsJob}
 use Rattle.job_words.specs.Input as jobs
+use Rattle.jobs.specs.declared.job.Job.{Job}
 use Rattle.jobs.specs.Reading.{job_of}
 use Rattle.kept_words.specs.Change.{DiskChange, HasFailed}
 use Rattle.kept_words.specs.Covers as covers
@@ -39,13 +41,12 @@ use Rattle.kept_words.specs.Opened.{HasOpened}
 use Rattle.kept_words.specs.Runs.{HasReplayed, HasScheduled}
 use Rattle.tile_command.specs.Causes.{BreaksOff, CutReplies, HasCause, HasReadFault, IsCaused, IsComplete, IsInOrder, IsOver, NothingFails, OfDisk, OfDocument, OfInput, RunRefuses}
 use Rattle.tile_command.specs.Change.{CommandChange, Stays, output_of, without_disk}
-use Rattle.tile_command.specs.Command.{HasServed, MayBe}
+use Rattle.tile_command.specs.Command.{HasServed}
 use Rattle.tile_command.specs.Kept.{HasKeptUp, HasRun}
 use Rattle.tile_command.specs.Memory.{HasWorked, MemoryTells}
 use Rattle.tile_command.specs.Statuses.{status_of_drill, status_of_kept, status_of_refusal, status_of_schedule, status_of_session}
 use Rattle.tile_command.specs.declared.status.Status.{Status}
 use Rattle.tile_command.specs.declared.status.Status.TheVariants as status
-use Rattle.tile_command.proofs.Fitting.{may_be}
 use Rattle.tile_drill.specs.declared.drill.DrillEnd.{DrillEnd}
 use Rattle.tile_drill.specs.declared.drill.DrillEnd.TheVariants as drill_end
 use Rattle.tile_drill.specs.Drill.{Drills}
@@ -75,11 +76,25 @@ over limit None to text read long = tt
 over limit (Some all) None text read long = absurd read
 over limit (Some all) (Some rest) text read long = rw (read, length-append text rest) (omega arith)
 
+-- it is the catalogue of its text
+abbrev pub IsOf : InputChange → Catalogue → Type 0
+IsOf i c = IfSome i.from (λ text. (length text ≤ 1048576) × (catalogue_of text ≡ Ok c))
+
+read_in : (i : InputChange) (c : Catalogue) → setup.IsRead i (Ok c) → IsOf i c
+read_in i c r = whole_text _ _ _ r.text r.read r.at_end (r.short, r.comes)
+
+-- it is this document
+abbrev pub Tells : InputChange → List ℕ → Type 0
+Tells i document = IfSome i.from (λ text. (length text ≤ 4194304) × (text ≡ document))
+
+document_of : (i : InputChange) (document : List ℕ) → IsDocument i document → Tells i document
+document_of i document r = whole_text _ _ _ document r.read r.at_end (r.short, refl)
+
 -- THE REFUSALS before the work
 
 module _ (h : CommandChange) (d : DiskChange) (clock : Readings) (w : Word) where
   faulty : (fault : CatalogueFault) → setup.IsRead h.catalogue (Err fault) → IsCaused h d clock w (status.Catalogue fault)
-  faulty fault r = whole_text _ _ _ r.text r.read r.at_end r.comes
+  faulty fault r = whole_text _ _ _ r.text r.read r.at_end (r.short, r.comes)
 
   long_catalogue : IsTooLongText h.catalogue → IsCaused h d clock w status.TooLong
   long_catalogue t = inl (over 1048576 _ _ t.0 t.1 t.2)
@@ -96,19 +111,21 @@ module _ (h : CommandChange) (d : DiskChange) (clock : Readings) (w : Word) wher
   by_both takes Stay unconfigured.ReadFault (inl c) = inl c.0
   by_both takes Stay unconfigured.ReadFault (inr c) = inr (inl (takes _ c.2))
   by_both takes Stay unconfigured.TooLong (inl c) = long_catalogue c.0
-  by_both takes Stay unconfigured.TooLong (inr c) = inr (inl (takes _ (over 4194304 _ _ c.2.0 c.2.1 c.2.2)))
+  by_both takes Stay unconfigured.TooLong (inr c) = inr (inl (takes _ (c.0, read_in h.catalogue c.0 c.1, over 4194304 _ _ c.2.0 c.2.1 c.2.2)))
   by_both takes Stay (unconfigured.Fault fault) c = faulty fault c.0
   by_both takes Stay unconfigured.OutOfMemory c = tt
 
 -- RUNS
 
-document_of : (i : InputChange) (text : List ℕ) → IsDocument i text → IfSome i.from (λ all. text ≡ all)
-document_of i text r = whole_text (λ all. text ≡ all) _ _ text r.read r.at_end refl
-
-run_refuses : (h : CommandChange) (o : Outside) (s : State) (document : List ℕ) (t : World) (n : ℕ)
-    → IfSome h.capabilities.from (λ all. document ≡ all) → HasRunAll h.input o (world_of s document free_seats) t (run_end.Line n) → RunRefuses h o.disk s n
-run_refuses h o s document t n has r =
-    (document, r.ran.chances, has, r.ran.faults, whole_text (λ text. (run (world_of s document free_seats) 1 (lines_of text) r.ran.chances).refused ≡ Some n) _ _ r.text r.read r.at_end (subst (λ lines. (run (world_of s document free_seats) 1 lines r.ran.chances).refused ≡ Some n) r.ran.through r.ran.ends.0))
+run_refuses : (h : CommandChange) (o : Outside) (s : State) (document : List ℕ) (t : World) (n : ℕ) → HasRunAll h.input o (world_of s document free_seats) t (run_end.Line n) → RunRefuses h o.disk document s n
+run_refuses h o s document t n r = (
+  r.ran.chances,
+  r.ran.faults,
+  whole_text (λ text. (length text ≤ 16777216) × ((run (world_of s document free_seats) 1 (lines_of text) r.ran.chances).refused ≡ Some n)) _ _ r.text r.read r.at_end (
+    r.short,
+    subst (λ lines. (run (world_of s document free_seats) 1 lines r.ran.chances).refused ≡ Some n) r.ran.through r.ran.ends.0,
+  ),
+)
 
 all_open : (ms : List Message) (m : Message) → AreOpen ms → m.last ≡ false → AreOpen (ms ++ m ∷ [])
 all_open [] m h f = (f, tt)
@@ -122,17 +139,17 @@ module _ (h : CommandChange) (d : DiskChange) (clock : Readings) (w : Word) (tak
   read_fails rose = inr (inr (takes _ rose))
 
   -- a schedule's end
-  by_schedule : (o : Outside) (s : State) (document : List ℕ) → IfSome h.capabilities.from (λ all. document ≡ all)
+  by_schedule : (o : Outside) (s : State) (document : List ℕ)
       → (Rose o.writes.before o.writes.after → Rose h.outside.writes.before h.outside.writes.after)
       → (IsOver 16777216 h.input → IsCaused h d clock w status.TooLong)
-      → ((n : ℕ) → RunRefuses h o.disk s n → IsCaused h d clock w (status.Line n))
+      → ((n : ℕ) → RunRefuses h o.disk document s n → IsCaused h d clock w (status.Line n))
       → (U : Type 0) (after : World) (e : ScheduleEnd) → Schedules h.input o U (world_of s document free_seats) after e → IsCaused h d clock w (status_of_schedule e)
-  by_schedule o s document has writes long line U after schedule_end.Done x = tt
-  by_schedule o s document has writes long line U after (schedule_end.Line n) x = line n (run_refuses h o s document after n has x)
-  by_schedule o s document has writes long line U after schedule_end.ReadFault x = read_fails x.0
-  by_schedule o s document has writes long line U after schedule_end.WriteFault x = writes x.ran.ends.1
-  by_schedule o s document has writes long line U after schedule_end.TooLong x = long (over 16777216 _ _ x.0.0 x.0.1 x.0.2)
-  by_schedule o s document has writes long line U after schedule_end.OutOfMemory x = tt
+  by_schedule o s document writes long line U after schedule_end.Done x = tt
+  by_schedule o s document writes long line U after (schedule_end.Line n) x = line n (run_refuses h o s document after n x)
+  by_schedule o s document writes long line U after schedule_end.ReadFault x = read_fails x.0
+  by_schedule o s document writes long line U after schedule_end.WriteFault x = writes x.ran.ends.1
+  by_schedule o s document writes long line U after schedule_end.TooLong x = long (over 16777216 _ _ x.0.0 x.0.1 x.0.2)
+  by_schedule o s document writes long line U after schedule_end.OutOfMemory x = tt
 
   -- a session's end
   by_session : (o : Outside) (document : List ℕ) (s t : State)
@@ -157,31 +174,31 @@ module _ (h : CommandChange) (stays : Stays) (d : DiskChange) (clock : Readings)
   by_drill number o U n w t drill_end.WriteFault writes x = writes x.5
   by_drill number o U n w t drill_end.OutOfMemory writes x = tt
 
-  by_work : (c : Catalogue) (document : List ℕ) (w : MemoryWord) (s : Status) → MayBe h.catalogue.from c → IfSome h.capabilities.from (λ all. document ≡ all)
+  by_work : (c : Catalogue) (document : List ℕ) (w : MemoryWord) (s : Status) → IsOf h.catalogue c → Tells h.capabilities document
       → HasWorked h.input (without_disk h).outside stays (fresh_state c clock) document w s → IsCaused h d clock (word.InMemory w) s
   by_work c document memory.Schedule s be has x =
       subst (IsCaused h d clock (word.InMemory memory.Schedule)) (sym x.1)
-      (by_schedule h d clock (word.InMemory memory.Schedule) (λ P p. p) (without_disk h).outside (fresh_state c clock) document has (λ rose. rose) (λ o. inr (inr o)) (λ n r. (c, be, r)) _ x.2 x.0 x.4)
+      (by_schedule h d clock (word.InMemory memory.Schedule) (λ P p. p) (without_disk h).outside (fresh_state c clock) document (λ rose. rose) (λ o. inr (inr (c, be, (document, has, o)))) (λ n r. (c, be, (document, has, r))) _ x.2 x.0 x.4)
   by_work c document memory.Replay s be has x =
       subst (IsCaused h d clock (word.InMemory memory.Replay)) (sym x.1)
-      (by_session h d clock (word.InMemory memory.Replay) (λ P p. p) (without_disk h).outside document (fresh_state c clock) x.2 (λ rose. rose) (λ e b. b) x.0 x.4)
+      (by_session h d clock (word.InMemory memory.Replay) (λ P p. p) (without_disk h).outside document (fresh_state c clock) x.2 (λ rose. rose) (λ e b. (c, be, (document, has, b))) x.0 x.4)
   by_work c document (memory.Drill number) s be has x =
       subst (IsCaused h d clock (word.InMemory (memory.Drill number))) (sym x.1) (by_drill number (without_disk h).outside _ number _ x.2 x.0 (λ rose. rose) x.5)
 
   by_memory : (w : MemoryWord) (s : Status) → MemoryTells (without_disk h) stays clock w s → IsCaused h d clock (word.InMemory w) s
   by_memory w s (inl x) = subst (IsCaused h d clock (word.InMemory w)) (sym x.1) (by_both h d clock (word.InMemory w) (λ P p. p) stays.capabilities x.0 x.2)
-  by_memory w s (inr x) = by_work x.0 x.1 w s (may_be h.catalogue x.0 x.2.read) (document_of h.capabilities x.1 x.2.describes) x.3
+  by_memory w s (inr x) = by_work x.0 x.1 w s (read_in h.catalogue x.0 x.2.read) (document_of h.capabilities x.1 x.2.describes) x.3
 
 -- ON THE CACHE OF A DISK
 
-module _ (h : CommandChange) (stays : Stays) (d : DiskChange) (DiskStays : Type 0) (clock : Readings) (c : Catalogue) (be : MayBe h.catalogue.from c) where
-  module _ (document : List ℕ) (has : IfSome h.capabilities.from (λ all. document ≡ all)) where
+module _ (h : CommandChange) (stays : Stays) (d : DiskChange) (DiskStays : Type 0) (clock : Readings) (c : Catalogue) (be : IsOf h.catalogue c) where
+  module _ (document : List ℕ) (has : Tells h.capabilities document) where
     scheduled : (e : ScheduleEnd) → HasScheduled c clock document h.input h.outside d (stays.output × stays.source) e → IsCaused h d clock (word.Kept kept.Schedule) (status_of_schedule e)
     scheduled e x =
-        by_schedule h d clock (word.Kept kept.Schedule) (λ P p. p) h.outside x.0 document has (λ rose. rose) (λ o. inr (inr o)) (λ n r. (c, be, (x.0, x.2.opened, r))) _ x.3.world e x.3.schedules
+        by_schedule h d clock (word.Kept kept.Schedule) (λ P p. p) h.outside x.0 document (λ rose. rose) (λ o. inr (inr (c, be, (document, has, (x.0, x.2.opened, o))))) (λ n r. (c, be, (document, has, (x.0, x.2.opened, r)))) _ x.3.world e x.3.schedules
 
     replayed : (e : SessionEnd) → HasReplayed c clock document h.input h.outside d e → IsCaused h d clock (word.Kept kept.Replay) (status_of_session e)
-    replayed e x = by_session h d clock (word.Kept kept.Replay) (λ P p. p) h.outside document x.0 x.3.served (λ rose. rose) (λ e b. b) e x.3.session
+    replayed e x = by_session h d clock (word.Kept kept.Replay) (λ P p. p) h.outside document x.0 x.3.served (λ rose. rose) (λ e b. (c, be, (document, has, (x.0, x.2.opened, b)))) e x.3.session
 
     by_run : (w : KeptWord) (e : KeptEnd) → HasRun h.input h.outside stays d clock w c document e → IsCaused h d clock (word.Kept w) (status_of_kept e)
     by_run kept.Schedule end.Done x = tt
@@ -190,7 +207,7 @@ module _ (h : CommandChange) (stays : Stays) (d : DiskChange) (DiskStays : Type 
     by_run kept.Schedule end.WriteFault x = scheduled schedule_end.WriteFault x
     by_run kept.Schedule end.TooLong x = scheduled schedule_end.TooLong x
     by_run kept.Schedule end.OutOfMemory x = tt
-    by_run kept.Schedule (end.Refused cause) x = (c, be, x.0)
+    by_run kept.Schedule (end.Refused cause) x = (c, be, (document, has, x.0))
     by_run kept.Schedule end.DiskFault x = x.0
     by_run kept.Schedule (end.Form fault) x = absurd x
     by_run kept.Schedule end.CutsFull x = absurd x
@@ -206,7 +223,7 @@ module _ (h : CommandChange) (stays : Stays) (d : DiskChange) (DiskStays : Type 
     by_run kept.Replay end.ReadFault x = replayed session_end.ReadFault x
     by_run kept.Replay end.WriteFault x = replayed session_end.WriteFault x
     by_run kept.Replay end.OutOfMemory x = tt
-    by_run kept.Replay (end.Refused cause) x = (c, be, x.0)
+    by_run kept.Replay (end.Refused cause) x = (c, be, (document, has, x.0))
     by_run kept.Replay end.DiskFault x = x.0
     by_run kept.Replay (end.Line n) x = absurd x
     by_run kept.Replay end.TooLong x = absurd x
@@ -215,29 +232,29 @@ module _ (h : CommandChange) (stays : Stays) (d : DiskChange) (DiskStays : Type 
 
   -- UPKEEP
 
-  cover_formed : (fault : JobFault) → covers.IsFormedSo c h.input fault → IfSome h.input.from (λ text. cover_of c text ≡ Err fault)
-  cover_formed form.NotJson r = whole_text _ _ _ r.text r.read r.at_end r.comes
-  cover_formed (form.Missing field) r = whole_text _ _ _ r.text r.read r.at_end r.comes
-  cover_formed (form.Bad field) r = whole_text _ _ _ r.text r.read r.at_end r.comes
-  cover_formed (form.Limit field) r = whole_text _ _ _ r.text r.read r.at_end r.comes
+  cover_formed : (fault : JobFault) → covers.IsFormedSo c h.input fault → IfSome h.input.from (λ text. (length text ≤ 65536) × (cover_of c text ≡ Err fault))
+  cover_formed form.NotJson r = whole_text _ _ _ r.text r.read r.at_end (r.short, r.comes)
+  cover_formed (form.Missing field) r = whole_text _ _ _ r.text r.read r.at_end (r.short, r.comes)
+  cover_formed (form.Bad field) r = whole_text _ _ _ r.text r.read r.at_end (r.short, r.comes)
+  cover_formed (form.Limit field) r = whole_text _ _ _ r.text r.read r.at_end (r.short, r.comes)
   cover_formed form.OutOfMemory r = absurd r
 
-  cover_in : (cover : Cover) → covers.IsCoverIn c h.input cover → IfSome h.input.from (λ text. cover_of c text ≡ Ok cover)
-  cover_in cover r = whole_text _ _ _ r.text r.read r.at_end r.comes
+  cover_in : (cover : Cover) → covers.IsCoverIn c h.input cover → IfSome h.input.from (λ text. (length text ≤ 65536) × (cover_of c text ≡ Ok cover))
+  cover_in cover r = whole_text _ _ _ r.text r.read r.at_end (r.short, r.comes)
 
   truncated : (e : KeptEnd) → Truncates c clock h.input d (output_of h.outside) DiskStays stays.output e → IsCaused h d clock (word.Upkeep upkeep.Truncate) (status_of_kept e)
   truncated end.Done x = tt
   truncated end.OutOfMemory x = tt
   truncated end.ReadFault x = inr (inr x.0)
-  truncated end.TooLong x = inr (inr (over 65536 _ _ x.0.0 x.0.1 x.0.2))
+  truncated end.TooLong x = inr (inr (c, be, over 65536 _ _ x.0.0 x.0.1 x.0.2))
   truncated (end.Form fault) x = (c, be, cover_formed fault x.0)
   truncated end.WriteFault x = x.2.5.1
-  truncated end.CutsFull x = (c, be, (x.0, cover_in x.0 x.1, (x.2.0, x.2.1, x.2.2.opened, x.2.3)))
-  truncated (end.Refused cause) x = (c, be, refused x.2.0)
+  truncated end.CutsFull x = (c, be, (x.0, cover_in x.0 x.1, (x.2.0, x.2.2.opened, (x.2.1, x.2.3))))
+  truncated (end.Refused cause) x = (c, be, (x.0, cover_in x.0 x.1, refused x.2.0))
     where
-      refused : opened.IsRefused c d cause ⊎ ((cause ≡ open_fault.Spent) × ((s : State) × (u : State) × HasOpened c clock d s u × Cuts s x.0 cut.Spent u)) → opened.IsRefused c d cause ⊎ ((cause ≡ open_fault.Spent) × CutReplies h d clock c cut.Spent)
+      refused : opened.IsRefused c d cause ⊎ ((cause ≡ open_fault.Spent) × ((s : State) × (u : State) × HasOpened c clock d s u × Cuts s x.0 cut.Spent u)) → opened.IsRefused c d cause ⊎ ((cause ≡ open_fault.Spent) × CutReplies d clock c x.0 cut.Spent)
       refused (inl r) = inl r
-      refused (inr r) = inr (r.0, (x.0, cover_in x.0 x.1, (r.1.0, r.1.1, r.1.2.opened, r.1.3)))
+      refused (inr r) = inr (r.0, (r.1.0, r.1.2.opened, (r.1.1, r.1.3)))
   truncated end.DiskFault x = x.2.0
   truncated (end.Line n) x = absurd x
   truncated (end.Stream how) x = absurd x
@@ -289,21 +306,24 @@ module _ (h : CommandChange) (stays : Stays) (d : DiskChange) (DiskStays : Type 
 
   -- A JOB
 
-  job_formed : (fault : JobFault) → jobs.IsFormedSo c h.input fault → IfSome h.input.from (λ text. job_of c text ≡ Err fault)
-  job_formed form.NotJson r = whole_text _ _ _ r.text r.read r.at_end r.comes
-  job_formed (form.Missing field) r = whole_text _ _ _ r.text r.read r.at_end r.comes
-  job_formed (form.Bad field) r = whole_text _ _ _ r.text r.read r.at_end r.comes
-  job_formed (form.Limit field) r = whole_text _ _ _ r.text r.read r.at_end r.comes
+  job_formed : (fault : JobFault) → jobs.IsFormedSo c h.input fault → IfSome h.input.from (λ text. (length text ≤ 65536) × (job_of c text ≡ Err fault))
+  job_formed form.NotJson r = whole_text _ _ _ r.text r.read r.at_end (r.short, r.comes)
+  job_formed (form.Missing field) r = whole_text _ _ _ r.text r.read r.at_end (r.short, r.comes)
+  job_formed (form.Bad field) r = whole_text _ _ _ r.text r.read r.at_end (r.short, r.comes)
+  job_formed (form.Limit field) r = whole_text _ _ _ r.text r.read r.at_end (r.short, r.comes)
   job_formed form.OutOfMemory r = absurd r
+
+  job_in : (job : Job) → jobs.IsJobIn c h.input job → IfSome h.input.from (λ text. (length text ≤ 65536) × (job_of c text ≡ Ok job))
+  job_in job r = whole_text _ _ _ r.text r.read r.at_end (r.short, r.comes)
 
   by_job : (e : KeptEnd) → RunsJob c clock h.input h.outside d DiskStays (stays.output × stays.source) e → IsCaused h d clock word.Job (status_of_kept e)
   by_job end.Done x = tt
   by_job end.OutOfMemory x = tt
   by_job end.ReadFault x = inr (inr x.0)
-  by_job end.TooLong x = inr (inr (over 65536 _ _ x.0.0 x.0.1 x.0.2))
+  by_job end.TooLong x = inr (inr (c, be, over 65536 _ _ x.0.0 x.0.1 x.0.2))
   by_job (end.Form fault) x = (c, be, job_formed fault x.0)
   by_job end.WriteFault x = x.2.5.1
-  by_job (end.Refused cause) x = (c, be, x.2.0)
+  by_job (end.Refused cause) x = (c, be, (x.0, job_in x.0 x.1, x.2.0))
   by_job end.DiskFault x = x.2.0
   by_job end.CutsFull x = absurd x
   by_job (end.Line n) x = absurd x
@@ -316,11 +336,11 @@ module _ (h : CommandChange) (stays : Stays) (d : DiskChange) (DiskStays : Type 
   by_word (word.InMemory w) s x = by_memory h stays d clock w s x.0
   by_word (word.Kept w) s (inl x) = subst (IsCaused h d clock (word.Kept w)) (sym x.0.1) (by_both h d clock (word.Kept w) (λ P p. p) stays.capabilities x.0.0 x.0.2)
   by_word (word.Kept w) s (inr x) =
-      subst (IsCaused h d clock (word.Kept w)) (sym x.3.1) (by_run h stays d DiskStays clock x.0 (may_be h.catalogue x.0 x.2.read) x.1 (document_of h.capabilities x.1 x.2.describes) w x.3.0 x.3.2)
+      subst (IsCaused h d clock (word.Kept w)) (sym x.3.1) (by_run h stays d DiskStays clock x.0 (read_in h.catalogue x.0 x.2.read) x.1 (document_of h.capabilities x.1 x.2.describes) w x.3.0 x.3.2)
   by_word (word.Upkeep w) s (inl x, first, second) = subst (IsCaused h d clock (word.Upkeep w)) (sym x.1) (by_catalogue h d clock (word.Upkeep w) x.0 x.2)
-  by_word (word.Upkeep w) s (inr x, first, second) = subst (IsCaused h d clock (word.Upkeep w)) (sym x.2.1) (by_upkeep h stays d DiskStays clock x.0 (may_be h.catalogue x.0 x.1) w x.2.0 x.2.2)
+  by_word (word.Upkeep w) s (inr x, first, second) = subst (IsCaused h d clock (word.Upkeep w)) (sym x.2.1) (by_upkeep h stays d DiskStays clock x.0 (read_in h.catalogue x.0 x.1) w x.2.0 x.2.2)
   by_word word.Job s (inl x, same) = subst (IsCaused h d clock word.Job) (sym x.1) (by_catalogue h d clock word.Job x.0 x.2)
-  by_word word.Job s (inr x, same) = subst (IsCaused h d clock word.Job) (sym x.2.1) (by_job h stays d DiskStays clock x.0 (may_be h.catalogue x.0 x.1) x.2.0 x.2.2)
+  by_word word.Job s (inr x, same) = subst (IsCaused h d clock word.Job) (sym x.2.1) (by_job h stays d DiskStays clock x.0 (read_in h.catalogue x.0 x.1) x.2.0 x.2.2)
 
 -- WHAT IS VALID IS DONE
 

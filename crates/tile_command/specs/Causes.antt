@@ -1,6 +1,6 @@
 -- Why a command ends with each status: the tests of what it is handed, and the counts that rose. A test of bytes that aren't modelled
 -- says nothing, and so is met.
-use Rattle.std.specs.Prelude.{ℕ, ◌≡◌, ◌<◌, ◌⊎◌, List, length, Option, Some, None, IfSome, Ok, Err, ⊤}
+use Rattle.std.specs.Prelude.{ℕ, ◌≡◌, ◌<◌, ◌≤◌, ◌⊎◌, List, length, Option, Some, None, IfSome, Ok, Err, ⊤}
 use Rattle.cabinet.specs.Commands.{Cuts}
 use Rattle.cabinet.specs.declared.replies.CutReply.{CutReply}
 use Rattle.cabinet.specs.declared.replies.CutReply.TheVariants as cut
@@ -23,11 +23,11 @@ use Rattle.http_wire.specs.declared.message.Stop.TheVariants as stop
 use Rattle.http_wire.specs.Streams.{StandIn}
 use Rattle.job_forms.specs.Cover.{cover_of}
 use Rattle.job_forms.specs.declared.fault.JobFault.{JobFault}
+use Rattle.job_forms.specs.Outcome.{Outcome}
 use Rattle.jobs.specs.Reading.{job_of}
 use Rattle.kept_words.specs.Change.{DiskChange, HasFailed}
 use Rattle.kept_words.specs.Opened.{IsOpened, IsRefused}
 use Rattle.tile_command.specs.Change.{CommandChange}
-use Rattle.tile_command.specs.Command.{MayBe}
 use Rattle.tile_command.specs.declared.status.Status.{Status}
 use Rattle.tile_command.specs.declared.status.Status.TheVariants as status
 use Rattle.tile_requests.specs.Requests.{Chance}
@@ -67,6 +67,25 @@ OfDisk (word.Kept w) P = P
 OfDisk (word.Upkeep w) P = P
 OfDisk word.Job P = P
 
+-- WHAT STANDS BEFORE
+-- The tests are in the order of the work: what comes before a test has passed its own.
+
+-- P holds of the catalogue of the text, which isn't too long
+abbrev pub UnderCatalogue : CommandChange → (Catalogue → Type 0) → Type 0
+UnderCatalogue h P = (c : Catalogue) × IfSome h.catalogue.from (λ text. (length text ≤ 1048576) × (catalogue_of text ≡ Ok c)) × P c
+
+-- P holds of it and of the capabilities document, which isn't too long
+abbrev pub UnderBoth : CommandChange → (Catalogue → List ℕ → Type 0) → Type 0
+UnderBoth h P = UnderCatalogue h (λ c. (document : List ℕ) × IfSome h.capabilities.from (λ text. (length text ≤ 4194304) × (text ≡ document)) × P c document)
+
+-- P holds of it and of the cover, or the job, that the input has, where it is read so
+abbrev pub UnderInput : {A : Type 0} → CommandChange → (Catalogue → List ℕ → Outcome A) → (Catalogue → A → Type 0) → Type 0
+UnderInput {A} h reading P = UnderCatalogue h (λ c. (x : A) × IfSome h.input.from (λ text. (length text ≤ 65536) × (reading c text ≡ Ok x)) × P c x)
+
+-- P holds of what the disk opens to
+abbrev pub Opening : DiskChange → Readings → Catalogue → (State → Type 0) → Type 0
+Opening d clock c P = (s : State) × IsOpened c clock d s × P s
+
 -- THE FILES
 
 -- a read failed of a file that the word takes
@@ -78,55 +97,55 @@ abbrev pub IsOver : ℕ → InputChange → Type 0
 IsOver limit i = IfSome i.from (λ text. limit < length text)
 
 -- the input has more bytes than the word's may have; a connection may have any number
-abbrev pub IsInputOver : InputChange → Word → Type 0
-IsInputOver i (word.InMemory memory.Schedule) = IsOver 16777216 i
-IsInputOver i (word.InMemory memory.Replay) = ⊥
-IsInputOver i (word.InMemory (memory.Drill number)) = ⊥
-IsInputOver i (word.Kept kept.Schedule) = IsOver 16777216 i
-IsInputOver i (word.Kept kept.Replay) = ⊥
-IsInputOver i (word.Upkeep upkeep.Make) = ⊥
-IsInputOver i (word.Upkeep upkeep.Truncate) = IsOver 65536 i
-IsInputOver i (word.Upkeep upkeep.Expire) = ⊥
-IsInputOver i (word.Upkeep upkeep.Usage) = ⊥
-IsInputOver i word.Job = IsOver 65536 i
+abbrev pub IsInputOver : CommandChange → DiskChange → Readings → Word → Type 0
+IsInputOver h d clock (word.InMemory memory.Schedule) = UnderBoth h (λ c document. IsOver 16777216 h.input)
+IsInputOver h d clock (word.InMemory memory.Replay) = ⊥
+IsInputOver h d clock (word.InMemory (memory.Drill number)) = ⊥
+IsInputOver h d clock (word.Kept kept.Schedule) = UnderBoth h (λ c document. Opening d clock c (λ s. IsOver 16777216 h.input))
+IsInputOver h d clock (word.Kept kept.Replay) = ⊥
+IsInputOver h d clock (word.Upkeep upkeep.Make) = ⊥
+IsInputOver h d clock (word.Upkeep upkeep.Truncate) = UnderCatalogue h (λ c. IsOver 65536 h.input)
+IsInputOver h d clock (word.Upkeep upkeep.Expire) = ⊥
+IsInputOver h d clock (word.Upkeep upkeep.Usage) = ⊥
+IsInputOver h d clock word.Job = UnderCatalogue h (λ c. IsOver 65536 h.input)
 
 -- a file that the word takes has more bytes than it may have
-abbrev pub IsTooLong : CommandChange → Word → Type 0
-IsTooLong h w = IsOver 1048576 h.catalogue ⊎ OfDocument w (IsOver 4194304 h.capabilities) ⊎ IsInputOver h.input w
+abbrev pub IsTooLong : CommandChange → DiskChange → Readings → Word → Type 0
+IsTooLong h d clock w = IsOver 1048576 h.catalogue ⊎ OfDocument w (UnderCatalogue h (λ c. IsOver 4194304 h.capabilities)) ⊎ IsInputOver h d clock w
 
 -- the text of the catalogue has this fault
 abbrev pub IsFaulty : CommandChange → CatalogueFault → Type 0
-IsFaulty h fault = IfSome h.catalogue.from (λ text. catalogue_of text ≡ Err fault)
+IsFaulty h fault = IfSome h.catalogue.from (λ text. (length text ≤ 1048576) × (catalogue_of text ≡ Err fault))
 
--- P holds of the catalogue of the text
-abbrev pub Under : CommandChange → (Catalogue → Type 0) → Type 0
-Under h P = (c : Catalogue) × MayBe h.catalogue.from c × P c
+-- a cover or a job, where it is read so, has this fault
+abbrev pub IsMalformedAs : {A : Type 0} → CommandChange → (Catalogue → List ℕ → Outcome A) → JobFault → Type 0
+IsMalformedAs h reading fault = UnderCatalogue h (λ c. IfSome h.input.from (λ text. (length text ≤ 65536) × (reading c text ≡ Err fault)))
 
--- the cover of a truncation, or the job, has this fault
+-- so has the cover of a truncation, or the job
 abbrev pub IsMalformed : CommandChange → Word → JobFault → Type 0
 IsMalformed h (word.InMemory w) fault = ⊥
 IsMalformed h (word.Kept w) fault = ⊥
 IsMalformed h (word.Upkeep upkeep.Make) fault = ⊥
-IsMalformed h (word.Upkeep upkeep.Truncate) fault = Under h (λ c. IfSome h.input.from (λ text. cover_of c text ≡ Err fault))
+IsMalformed h (word.Upkeep upkeep.Truncate) fault = IsMalformedAs h cover_of fault
 IsMalformed h (word.Upkeep upkeep.Expire) fault = ⊥
 IsMalformed h (word.Upkeep upkeep.Usage) fault = ⊥
-IsMalformed h word.Job fault = Under h (λ c. IfSome h.input.from (λ text. job_of c text ≡ Err fault))
+IsMalformed h word.Job fault = IsMalformedAs h job_of fault
 
 -- LINES
 
 -- A run of the lines of the input from this cabinet refuses line n, under chances that name no more faults of the disk than its count
 -- rose by: it is no line of a schedule, steps an idle actor, or starts a busy one.
-abbrev pub RunRefuses : CommandChange → FaultCounts → State → ℕ → Type 0
-RunRefuses h disk s n =
-    (document : List ℕ) × (chances : List Chance) × IfSome h.capabilities.from (λ text. document ≡ text) × RoseBy (disk_faults chances) disk.before disk.after
-    × IfSome h.input.from (λ text. (run (world_of s document free_seats) 1 (lines_of text) chances).refused ≡ Some n)
+abbrev pub RunRefuses : CommandChange → FaultCounts → List ℕ → State → ℕ → Type 0
+RunRefuses h disk document s n =
+    (chances : List Chance) × RoseBy (disk_faults chances) disk.before disk.after
+    × IfSome h.input.from (λ text. (length text ≤ 16777216) × ((run (world_of s document free_seats) 1 (lines_of text) chances).refused ≡ Some n))
 
 -- so it is of the schedule of a word: it begins with a cabinet in which nothing has happened, or with what the disk opens to
 abbrev pub RefusesLine : CommandChange → DiskChange → Readings → Word → ℕ → Type 0
-RefusesLine h d clock (word.InMemory memory.Schedule) n = Under h (λ c. RunRefuses h (counts 0 0) (fresh_state c clock) n)
+RefusesLine h d clock (word.InMemory memory.Schedule) n = UnderBoth h (λ c document. RunRefuses h (counts 0 0) document (fresh_state c clock) n)
 RefusesLine h d clock (word.InMemory memory.Replay) n = ⊥
 RefusesLine h d clock (word.InMemory (memory.Drill number)) n = ⊥
-RefusesLine h d clock (word.Kept kept.Schedule) n = Under h (λ c. (s : State) × IsOpened c clock d s × RunRefuses h h.outside.disk s n)
+RefusesLine h d clock (word.Kept kept.Schedule) n = UnderBoth h (λ c document. Opening d clock c (λ s. RunRefuses h h.outside.disk document s n))
 RefusesLine h d clock (word.Kept kept.Replay) n = ⊥
 RefusesLine h d clock (word.Upkeep w) n = ⊥
 RefusesLine h d clock word.Job n = ⊥
@@ -145,38 +164,37 @@ BreaksOff from session.WriteFault = ⊥
 BreaksOff from session.OutOfMemory = ⊥
 
 -- so does the connection that a word serves
-abbrev pub BreaksStream : CommandChange → Word → SessionEnd → Type 0
-BreaksStream h (word.InMemory memory.Schedule) end = ⊥
-BreaksStream h (word.InMemory memory.Replay) end = BreaksOff h.input.from end
-BreaksStream h (word.InMemory (memory.Drill number)) end = ⊥
-BreaksStream h (word.Kept kept.Schedule) end = ⊥
-BreaksStream h (word.Kept kept.Replay) end = BreaksOff h.input.from end
-BreaksStream h (word.Upkeep w) end = ⊥
-BreaksStream h word.Job end = ⊥
+abbrev pub BreaksStream : CommandChange → DiskChange → Readings → Word → SessionEnd → Type 0
+BreaksStream h d clock (word.InMemory memory.Schedule) end = ⊥
+BreaksStream h d clock (word.InMemory memory.Replay) end = UnderBoth h (λ c document. BreaksOff h.input.from end)
+BreaksStream h d clock (word.InMemory (memory.Drill number)) end = ⊥
+BreaksStream h d clock (word.Kept kept.Schedule) end = ⊥
+BreaksStream h d clock (word.Kept kept.Replay) end = UnderBoth h (λ c document. Opening d clock c (λ s. BreaksOff h.input.from end))
+BreaksStream h d clock (word.Upkeep w) end = ⊥
+BreaksStream h d clock word.Job end = ⊥
 
 -- THE CACHE
 
--- the one cut of the cover that the input has, on what the disk opens to, has this reply
-abbrev pub CutReplies : CommandChange → DiskChange → Readings → Catalogue → CutReply → Type 0
-CutReplies h d clock c reply =
-    (cover : Cover) × IfSome h.input.from (λ text. cover_of c text ≡ Ok cover) × ((s : State) × (u : State) × IsOpened c clock d s × Cuts s cover reply u)
+-- the one cut of a cover, on what the disk opens to, has this reply
+abbrev pub CutReplies : DiskChange → Readings → Catalogue → Cover → CutReply → Type 0
+CutReplies d clock c cover reply = Opening d clock c (λ s. (u : State) × Cuts s cover reply u)
 
 -- the cache isn't opened for this cause, or no number is left for the one cut
 abbrev pub IsCacheRefused : CommandChange → DiskChange → Readings → Word → OpenFault → Type 0
 IsCacheRefused h d clock (word.InMemory w) cause = ⊥
-IsCacheRefused h d clock (word.Kept w) cause = Under h (λ c. IsRefused c d cause)
+IsCacheRefused h d clock (word.Kept w) cause = UnderBoth h (λ c document. IsRefused c d cause)
 IsCacheRefused h d clock (word.Upkeep upkeep.Make) cause = ⊥
-IsCacheRefused h d clock (word.Upkeep upkeep.Truncate) cause = Under h (λ c. IsRefused c d cause ⊎ ((cause ≡ open_fault.Spent) × CutReplies h d clock c cut.Spent))
-IsCacheRefused h d clock (word.Upkeep upkeep.Expire) cause = Under h (λ c. IsRefused c d cause)
-IsCacheRefused h d clock (word.Upkeep upkeep.Usage) cause = Under h (λ c. IsRefused c d cause)
-IsCacheRefused h d clock word.Job cause = Under h (λ c. IsRefused c d cause)
+IsCacheRefused h d clock (word.Upkeep upkeep.Truncate) cause = UnderInput h cover_of (λ c cover. IsRefused c d cause ⊎ ((cause ≡ open_fault.Spent) × CutReplies d clock c cover cut.Spent))
+IsCacheRefused h d clock (word.Upkeep upkeep.Expire) cause = UnderCatalogue h (λ c. IsRefused c d cause)
+IsCacheRefused h d clock (word.Upkeep upkeep.Usage) cause = UnderCatalogue h (λ c. IsRefused c d cause)
+IsCacheRefused h d clock word.Job cause = UnderInput h job_of (λ c job. IsRefused c d cause)
 
 -- as many cuts would stay in force as may be
 abbrev pub AreCutsFull : CommandChange → DiskChange → Readings → Word → Type 0
 AreCutsFull h d clock (word.InMemory w) = ⊥
 AreCutsFull h d clock (word.Kept w) = ⊥
 AreCutsFull h d clock (word.Upkeep upkeep.Make) = ⊥
-AreCutsFull h d clock (word.Upkeep upkeep.Truncate) = Under h (λ c. CutReplies h d clock c cut.Full)
+AreCutsFull h d clock (word.Upkeep upkeep.Truncate) = UnderInput h cover_of (λ c cover. CutReplies d clock c cover cut.Full)
 AreCutsFull h d clock (word.Upkeep upkeep.Expire) = ⊥
 AreCutsFull h d clock (word.Upkeep upkeep.Usage) = ⊥
 AreCutsFull h d clock word.Job = ⊥
@@ -195,8 +213,8 @@ IsCaused h d clock w status.DiskFault = OfDisk w (HasFailed d)
 IsCaused h d clock w (status.Line n) = RefusesLine h d clock w n
 IsCaused h d clock w (status.Cache cause) = IsCacheRefused h d clock w cause
 IsCaused h d clock w status.CutsFull = AreCutsFull h d clock w
-IsCaused h d clock w (status.Stream end) = BreaksStream h w end
-IsCaused h d clock w status.TooLong = IsTooLong h w
+IsCaused h d clock w (status.Stream end) = BreaksStream h d clock w end
+IsCaused h d clock w status.TooLong = IsTooLong h d clock w
 IsCaused h d clock w (status.Form fault) = IsMalformed h w fault
 
 -- of any words
@@ -208,13 +226,13 @@ HasCause h d clock (Some w) s = IsCaused h d clock w s
 
 -- none of the tests is met of what a word works on
 pub record IsInOrder (h : CommandChange) (d : DiskChange) (clock : Readings) (w : Word) : Type 0 where
-  pub short : IsTooLong h w → ⊥
+  pub short : IsTooLong h d clock w → ⊥
   pub catalogue : (fault : CatalogueFault) → IsFaulty h fault → ⊥
   pub form : (fault : JobFault) → IsMalformed h w fault → ⊥
   pub cache : (cause : OpenFault) → IsCacheRefused h d clock w cause → ⊥
   pub cuts : AreCutsFull h d clock w → ⊥
   pub lines : (n : ℕ) → RefusesLine h d clock w n → ⊥
-  pub stream : (end : SessionEnd) → BreaksStream h w end → ⊥
+  pub stream : (end : SessionEnd) → BreaksStream h d clock w end → ⊥
 
 -- no read failed, and neither the output nor the disk did
 pub record NothingFails (h : CommandChange) (d : DiskChange) : Type 0 where
