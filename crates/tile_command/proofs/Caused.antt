@@ -1,18 +1,13 @@
--- Each status that a word tells has its cause.
-use Rattle.std.specs.Prelude.{ℕ, ◌≡◌, ◌<◌, ◌≤◌, ◌+◌, ◌++◌, ◌⊎◌, List, [], ◌∷◌, length, Option, Some, None, IfSome, Ok, Err, false}
-use Rattle.std.specs.Io.KnownBytes.{Consumes, IsAtEnd, prepend_known}
-use Rattle.std.proofs.Common.{ap, sym, subst, ◌∙◌, append-nil, inl, inr, refl, arith, length-append}
+-- Each status that a word tells has its cause, and so what is in order is done.
+use Rattle.std.specs.Prelude.{ℕ, ◌≡◌, ◌≤◌, ◌⊎◌, List, length, Option, Some, None, IfSome, Ok, Err, ⊤}
+use Rattle.std.proofs.Common.{sym, subst, inl, inr, refl}
 use Rattle.cabinet.specs.Commands.{Cuts}
 use Rattle.cabinet.specs.declared.replies.CutReply.TheVariants as cut
 use Rattle.cabinet.specs.State.{State, fresh_state}
 use Rattle.catalog.specs.declared.catalogue.Catalogue.{Catalogue}
-use Rattle.catalog.specs.declared.fault.CatalogueFault.{CatalogueFault}
 use Rattle.causes.specs.Causes.{Rose}
 use Rattle.clock.specs.Readings.{Readings}
-use Rattle.command_setup.specs.declared.configured.Unconfigured.{Unconfigured}
-use Rattle.command_setup.specs.declared.configured.Unconfigured.TheVariants as unconfigured
-use Rattle.command_setup.specs.Setup as setup
-use Rattle.command_setup.specs.Setup.{AreRead, Configures, HasRisen, IsDocument, IsRefused, IsTooLongDocument, IsTooLongText}
+use Rattle.command_setup.specs.Setup.{HasRisen}
 use Rattle.command_words.specs.declared.words.KeptWord.{KeptWord}
 use Rattle.command_words.specs.declared.words.KeptWord.TheVariants as kept
 use Rattle.command_words.specs.declared.words.MemoryWord.{MemoryWord}
@@ -21,8 +16,6 @@ use Rattle.command_words.specs.declared.words.UpkeepWord.{UpkeepWord}
 use Rattle.command_words.specs.declared.words.UpkeepWord.TheVariants as upkeep
 use Rattle.command_words.specs.declared.words.Word.{Word}
 use Rattle.command_words.specs.declared.words.Word.TheVariants as word
-use Rattle.http_wire.specs.declared.message.Message.{Message}
-use Rattle.config_text.specs.Text.{catalogue_of}
 use Rattle.gate_journal.specs.declared.fault.OpenFault.TheVariants as open_fault
 use Rattle.job_forms.specs.Cover.{cover_of}
 use Rattle.job_forms.specs.declared.fault.JobFault.{JobFault}
@@ -39,151 +32,45 @@ use Rattle.kept_words.specs.Ends.{DropsAll, Makes, TellsUsage, Truncates}
 use Rattle.kept_words.specs.Opened as opened
 use Rattle.kept_words.specs.Opened.{HasOpened}
 use Rattle.kept_words.specs.Runs.{HasReplayed, HasScheduled}
-use Rattle.tile_command.specs.Causes.{BreaksOff, CutReplies, HasCause, HasReadFault, IsCaused, IsComplete, IsInOrder, IsOver, NothingFails, OfDisk, OfDocument, OfInput, RunRefuses}
+use Rattle.tile_command.specs.Causes.{CutReplies, HasCause, HasReadFault, IsCaused, IsComplete, IsInOrder, NothingFails, OfDisk, OfDocument, OfInput, UnderBoth}
 use Rattle.tile_command.specs.Change.{CommandChange, Stays, output_of, without_disk}
 use Rattle.tile_command.specs.Command.{HasServed}
 use Rattle.tile_command.specs.Kept.{HasKeptUp, HasRun}
 use Rattle.tile_command.specs.Memory.{HasWorked, MemoryTells}
-use Rattle.tile_command.specs.Statuses.{status_of_drill, status_of_kept, status_of_refusal, status_of_schedule, status_of_session}
+use Rattle.tile_command.specs.Statuses.{status_of_drill, status_of_kept, status_of_schedule, status_of_session}
 use Rattle.tile_command.specs.declared.status.Status.{Status}
 use Rattle.tile_command.specs.declared.status.Status.TheVariants as status
 use Rattle.tile_drill.specs.declared.drill.DrillEnd.{DrillEnd}
 use Rattle.tile_drill.specs.declared.drill.DrillEnd.TheVariants as drill_end
 use Rattle.tile_drill.specs.Drill.{Drills}
-use Rattle.tile_service.specs.declared.run_lines.RunEnd.TheVariants as run_end
 use Rattle.tile_service.specs.declared.schedule.ScheduleEnd.{ScheduleEnd}
 use Rattle.tile_service.specs.declared.schedule.ScheduleEnd.TheVariants as schedule_end
 use Rattle.tile_service.specs.declared.session.SessionEnd.{SessionEnd}
 use Rattle.tile_service.specs.declared.session.SessionEnd.TheVariants as session_end
-use Rattle.tile_service.specs.Lines.{lines_of}
-use Rattle.tile_service.specs.Outside.{InputChange, Outside}
-use Rattle.tile_service.specs.Run.{World, free_seats, run, world_of}
-use Rattle.tile_service.specs.Schedules.{HasRunAll, Schedules}
-use Rattle.tile_service.specs.SessionEnds.{AreOpen, GoBefore, HasSession}
+use Rattle.tile_service.specs.Outside.{Outside}
+use Rattle.tile_service.specs.Run.{World}
 use Rattle.truncation_list.specs.declared.cover.Cover.{Cover}
-
--- WHAT A FILE HAD
-
--- what was read to the end is what the file had
-whole_text : (P : List ℕ → Type 0) (from to : Option (List ℕ)) (text : List ℕ) → Consumes from to text → IsAtEnd to → P text → IfSome from P
-whole_text P None to text read ended h = tt
-whole_text P (Some all) None text read ended h = absurd read
-whole_text P (Some all) (Some rest) text read ended h = subst P (sym (read ∙ ap (λ r. text ++ r) ended ∙ append-nil text)) h
-
--- one byte more than the limit was taken
-over : (limit : ℕ) (from to : Option (List ℕ)) (text : List ℕ) → Consumes from to text → length text ≡ limit + 1 → IfSome from (λ all. limit < length all)
-over limit None to text read long = tt
-over limit (Some all) None text read long = absurd read
-over limit (Some all) (Some rest) text read long = rw (read, length-append text rest) (omega arith)
-
--- it is the catalogue of its text
-abbrev pub IsOf : InputChange → Catalogue → Type 0
-IsOf i c = IfSome i.from (λ text. (length text ≤ 1048576) × (catalogue_of text ≡ Ok c))
-
-read_in : (i : InputChange) (c : Catalogue) → setup.IsRead i (Ok c) → IsOf i c
-read_in i c r = whole_text _ _ _ r.text r.read r.at_end (r.short, r.comes)
-
--- it is this document
-abbrev pub Tells : InputChange → List ℕ → Type 0
-Tells i document = IfSome i.from (λ text. (length text ≤ 4194304) × (text ≡ document))
-
-document_of : (i : InputChange) (document : List ℕ) → IsDocument i document → Tells i document
-document_of i document r = whole_text _ _ _ document r.read r.at_end (r.short, refl)
-
--- THE REFUSALS before the work
-
-module _ (h : CommandChange) (d : DiskChange) (clock : Readings) (w : Word) where
-  faulty : (fault : CatalogueFault) → setup.IsRead h.catalogue (Err fault) → IsCaused h d clock w (status.Catalogue fault)
-  faulty fault r = whole_text _ _ _ r.text r.read r.at_end (r.short, r.comes)
-
-  long_catalogue : IsTooLongText h.catalogue → IsCaused h d clock w status.TooLong
-  long_catalogue t = inl (over 1048576 _ _ t.0 t.1 t.2)
-
-  -- of a word that takes the catalogue alone, or looks at it first
-  by_catalogue : (e : Unconfigured) → Configures h.catalogue (Err e) → IsCaused h d clock w (status_of_refusal e)
-  by_catalogue unconfigured.ReadFault c = inl c
-  by_catalogue unconfigured.TooLong c = long_catalogue c
-  by_catalogue (unconfigured.Fault fault) c = faulty fault c
-  by_catalogue unconfigured.OutOfMemory c = tt
-
-  -- of a word that takes the capabilities document too
-  by_both : ((P : Type 0) → P → OfDocument w P) → (Stay : Type 0) (e : Unconfigured) → IsRefused h.catalogue h.capabilities Stay e → IsCaused h d clock w (status_of_refusal e)
-  by_both takes Stay unconfigured.ReadFault (inl c) = inl c.0
-  by_both takes Stay unconfigured.ReadFault (inr c) = inr (inl (takes _ c.2))
-  by_both takes Stay unconfigured.TooLong (inl c) = long_catalogue c.0
-  by_both takes Stay unconfigured.TooLong (inr c) = inr (inl (takes _ (c.0, read_in h.catalogue c.0 c.1, over 4194304 _ _ c.2.0 c.2.1 c.2.2)))
-  by_both takes Stay (unconfigured.Fault fault) c = faulty fault c.0
-  by_both takes Stay unconfigured.OutOfMemory c = tt
-
--- RUNS
-
-run_refuses : (h : CommandChange) (o : Outside) (s : State) (document : List ℕ) (t : World) (n : ℕ) → HasRunAll h.input o (world_of s document free_seats) t (run_end.Line n) → RunRefuses h o.disk document s n
-run_refuses h o s document t n r = (
-  r.ran.chances,
-  r.ran.faults,
-  whole_text (λ text. (length text ≤ 16777216) × ((run (world_of s document free_seats) 1 (lines_of text) r.ran.chances).refused ≡ Some n)) _ _ r.text r.read r.at_end (
-    r.short,
-    subst (λ lines. (run (world_of s document free_seats) 1 lines r.ran.chances).refused ≡ Some n) r.ran.through r.ran.ends.0,
-  ),
-)
-
-all_open : (ms : List Message) (m : Message) → AreOpen ms → m.last ≡ false → AreOpen (ms ++ m ∷ [])
-all_open [] m h f = (f, tt)
-all_open (x ∷ ms) m h f = (h.0, all_open ms m h.1 f)
-
-open_before : (messages : List Message) (held : List ℕ) (m : Message) → GoBefore messages held m → m.last ≡ false → AreOpen messages
-open_before messages held m g f = subst AreOpen (sym g.whole) (all_open g.before m g.go_on.all_open f)
-
-module _ (h : CommandChange) (d : DiskChange) (clock : Readings) (w : Word) (takes : (P : Type 0) → P → OfInput w P) where
-  read_fails : HasRisen h.input → IsCaused h d clock w status.ReadFault
-  read_fails rose = inr (inr (takes _ rose))
-
-  -- a schedule's end
-  by_schedule : (o : Outside) (s : State) (document : List ℕ)
-      → (Rose o.writes.before o.writes.after → Rose h.outside.writes.before h.outside.writes.after)
-      → (IsOver 16777216 h.input → IsCaused h d clock w status.TooLong)
-      → ((n : ℕ) → RunRefuses h o.disk document s n → IsCaused h d clock w (status.Line n))
-      → (U : Type 0) (after : World) (e : ScheduleEnd) → Schedules h.input o U (world_of s document free_seats) after e → IsCaused h d clock w (status_of_schedule e)
-  by_schedule o s document writes long line U after schedule_end.Done x = tt
-  by_schedule o s document writes long line U after (schedule_end.Line n) x = line n (run_refuses h o s document after n x)
-  by_schedule o s document writes long line U after schedule_end.ReadFault x = read_fails x.0
-  by_schedule o s document writes long line U after schedule_end.WriteFault x = writes x.ran.ends.1
-  by_schedule o s document writes long line U after schedule_end.TooLong x = long (over 16777216 _ _ x.0.0 x.0.1 x.0.2)
-  by_schedule o s document writes long line U after schedule_end.OutOfMemory x = tt
-
-  -- a session's end
-  by_session : (o : Outside) (document : List ℕ) (s t : State)
-      → (Rose o.writes.before o.writes.after → Rose h.outside.writes.before h.outside.writes.after)
-      → ((e : SessionEnd) → BreaksOff h.input.from e → IsCaused h d clock w (status.Stream e))
-      → (e : SessionEnd) → HasSession h.input o document s t e → IsCaused h d clock w (status_of_session e)
-  by_session o document s t writes breaks session_end.Closed x = tt
-  by_session o document s t writes breaks session_end.Truncated x = breaks session_end.Truncated (x.messages, prepend_known x.held h.input.to, x.stand, x.ends.0, x.ends.1)
-  by_session o document s t writes breaks (session_end.Bad code) x = breaks (session_end.Bad code) (x.messages, prepend_known x.held h.input.to, x.stand, x.ends.0, x.ends.1)
-  by_session o document s t writes breaks session_end.TooMany x =
-      breaks session_end.TooMany (x.messages, prepend_known x.held h.input.to, x.stand, open_before x.messages x.held x.ends.0 x.ends.1 x.ends.2, x.ends.3)
-  by_session o document s t writes breaks session_end.ReadFault x = read_fails x.ends.2
-  by_session o document s t writes breaks session_end.WriteFault x = writes x.ends.3
-  by_session o document s t writes breaks session_end.OutOfMemory x = tt
+use Rattle.tile_command.proofs.Causes.{IsOf, Tells, by_both, by_catalogue, by_schedule, by_session, document_of, over, read_in, whole_text}
 
 -- ON A CABINET IN MEMORY
 
 module _ (h : CommandChange) (stays : Stays) (d : DiskChange) (clock : Readings) where
-  by_drill : (number : ℕ) (o : Outside) (U : Type 0) (n : ℕ) (w t : World) (e : DrillEnd) → (Rose o.writes.before o.writes.after → Rose h.outside.writes.before h.outside.writes.after)
+  by_drill : UnderBoth h (λ c document. ⊤) → (number : ℕ) (o : Outside) (U : Type 0) (n : ℕ) (w t : World) (e : DrillEnd) → (Rose o.writes.before o.writes.after → Rose h.outside.writes.before h.outside.writes.after)
       → Drills o U n w t e → IsCaused h d clock (word.InMemory (memory.Drill number)) (status_of_drill e)
-  by_drill number o U n w t drill_end.Done writes x = tt
-  by_drill number o U n w t drill_end.WriteFault writes x = writes x.5
-  by_drill number o U n w t drill_end.OutOfMemory writes x = tt
+  by_drill through number o U n w t drill_end.Done writes x = through
+  by_drill through number o U n w t drill_end.WriteFault writes x = writes x.5
+  by_drill through number o U n w t drill_end.OutOfMemory writes x = tt
 
   by_work : (c : Catalogue) (document : List ℕ) (w : MemoryWord) (s : Status) → IsOf h.catalogue c → Tells h.capabilities document
       → HasWorked h.input (without_disk h).outside stays (fresh_state c clock) document w s → IsCaused h d clock (word.InMemory w) s
   by_work c document memory.Schedule s be has x =
       subst (IsCaused h d clock (word.InMemory memory.Schedule)) (sym x.1)
-      (by_schedule h d clock (word.InMemory memory.Schedule) (λ P p. p) (without_disk h).outside (fresh_state c clock) document (λ rose. rose) (λ o. inr (inr (c, be, (document, has, o)))) (λ n r. (c, be, (document, has, r))) _ x.2 x.0 x.4)
+      (by_schedule h d clock (word.InMemory memory.Schedule) (λ P p. p) (without_disk h).outside (fresh_state c clock) document (λ rose. rose) (λ o. inr (inr (c, be, (document, has, o)))) (λ r. (c, be, (document, has, r))) (λ n r. (c, be, (document, has, r))) _ x.2 x.0 x.4)
   by_work c document memory.Replay s be has x =
       subst (IsCaused h d clock (word.InMemory memory.Replay)) (sym x.1)
-      (by_session h d clock (word.InMemory memory.Replay) (λ P p. p) (without_disk h).outside document (fresh_state c clock) x.2 (λ rose. rose) (λ e b. (c, be, (document, has, b))) x.0 x.4)
+      (by_session h d clock (word.InMemory memory.Replay) (λ P p. p) (without_disk h).outside document (fresh_state c clock) x.2 (λ rose. rose) (λ r. (c, be, (document, has, r))) (λ e b. (c, be, (document, has, b))) x.0 x.4)
   by_work c document (memory.Drill number) s be has x =
-      subst (IsCaused h d clock (word.InMemory (memory.Drill number))) (sym x.1) (by_drill number (without_disk h).outside _ number _ x.2 x.0 (λ rose. rose) x.5)
+      subst (IsCaused h d clock (word.InMemory (memory.Drill number))) (sym x.1) (by_drill (c, be, (document, has, tt)) number (without_disk h).outside _ number _ x.2 x.0 (λ rose. rose) x.5)
 
   by_memory : (w : MemoryWord) (s : Status) → MemoryTells (without_disk h) stays clock w s → IsCaused h d clock (word.InMemory w) s
   by_memory w s (inl x) = subst (IsCaused h d clock (word.InMemory w)) (sym x.1) (by_both h d clock (word.InMemory w) (λ P p. p) stays.capabilities x.0 x.2)
@@ -195,13 +82,13 @@ module _ (h : CommandChange) (stays : Stays) (d : DiskChange) (DiskStays : Type 
   module _ (document : List ℕ) (has : Tells h.capabilities document) where
     scheduled : (e : ScheduleEnd) → HasScheduled c clock document h.input h.outside d (stays.output × stays.source) e → IsCaused h d clock (word.Kept kept.Schedule) (status_of_schedule e)
     scheduled e x =
-        by_schedule h d clock (word.Kept kept.Schedule) (λ P p. p) h.outside x.0 document (λ rose. rose) (λ o. inr (inr (c, be, (document, has, (x.0, x.2.opened, o))))) (λ n r. (c, be, (document, has, (x.0, x.2.opened, r)))) _ x.3.world e x.3.schedules
+        by_schedule h d clock (word.Kept kept.Schedule) (λ P p. p) h.outside x.0 document (λ rose. rose) (λ o. inr (inr (c, be, (document, has, (x.0, x.2.opened, o))))) (λ r. (c, be, (document, has, (x.0, x.2.opened, r)))) (λ n r. (c, be, (document, has, (x.0, x.2.opened, r)))) _ x.3.world e x.3.schedules
 
     replayed : (e : SessionEnd) → HasReplayed c clock document h.input h.outside d e → IsCaused h d clock (word.Kept kept.Replay) (status_of_session e)
-    replayed e x = by_session h d clock (word.Kept kept.Replay) (λ P p. p) h.outside document x.0 x.3.served (λ rose. rose) (λ e b. (c, be, (document, has, (x.0, x.2.opened, b)))) e x.3.session
+    replayed e x = by_session h d clock (word.Kept kept.Replay) (λ P p. p) h.outside document x.0 x.3.served (λ rose. rose) (λ r. (c, be, (document, has, (x.0, x.2.opened, r)))) (λ e b. (c, be, (document, has, (x.0, x.2.opened, b)))) e x.3.session
 
     by_run : (w : KeptWord) (e : KeptEnd) → HasRun h.input h.outside stays d clock w c document e → IsCaused h d clock (word.Kept w) (status_of_kept e)
-    by_run kept.Schedule end.Done x = tt
+    by_run kept.Schedule end.Done x = scheduled schedule_end.Done x
     by_run kept.Schedule (end.Line n) x = scheduled (schedule_end.Line n) x
     by_run kept.Schedule end.ReadFault x = scheduled schedule_end.ReadFault x
     by_run kept.Schedule end.WriteFault x = scheduled schedule_end.WriteFault x
@@ -212,7 +99,7 @@ module _ (h : CommandChange) (stays : Stays) (d : DiskChange) (DiskStays : Type 
     by_run kept.Schedule (end.Form fault) x = absurd x
     by_run kept.Schedule end.CutsFull x = absurd x
     by_run kept.Schedule (end.Stream how) x = absurd x
-    by_run kept.Replay end.Done x = tt
+    by_run kept.Replay end.Done x = replayed session_end.Closed x
     by_run kept.Replay (end.Stream session_end.Truncated) x = replayed session_end.Truncated x
     by_run kept.Replay (end.Stream (session_end.Bad code)) x = replayed (session_end.Bad code) x
     by_run kept.Replay (end.Stream session_end.TooMany) x = replayed session_end.TooMany x
@@ -243,7 +130,7 @@ module _ (h : CommandChange) (stays : Stays) (d : DiskChange) (DiskStays : Type 
   cover_in cover r = whole_text _ _ _ r.text r.read r.at_end (r.short, r.comes)
 
   truncated : (e : KeptEnd) → Truncates c clock h.input d (output_of h.outside) DiskStays stays.output e → IsCaused h d clock (word.Upkeep upkeep.Truncate) (status_of_kept e)
-  truncated end.Done x = tt
+  truncated end.Done x = (c, be, (x.0, cover_in x.0 x.1, (x.2.2, (x.2.0, x.2.3.opened, (x.2.1, x.2.4)))))
   truncated end.OutOfMemory x = tt
   truncated end.ReadFault x = inr (inr x.0)
   truncated end.TooLong x = inr (inr (c, be, over 65536 _ _ x.0.0 x.0.1 x.0.2))
@@ -260,7 +147,7 @@ module _ (h : CommandChange) (stays : Stays) (d : DiskChange) (DiskStays : Type 
   truncated (end.Stream how) x = absurd x
 
   dropped : (e : KeptEnd) → DropsAll c clock d (output_of h.outside) stays.output e → IsCaused h d clock (word.Upkeep upkeep.Expire) (status_of_kept e)
-  dropped end.Done x = tt
+  dropped end.Done x = (c, be, (x.1.0, x.1.2.opened, tt))
   dropped end.WriteFault x = x.2.1
   dropped (end.Refused cause) x = (c, be, x.0)
   dropped end.DiskFault x = x.0
@@ -273,7 +160,7 @@ module _ (h : CommandChange) (stays : Stays) (d : DiskChange) (DiskStays : Type 
   dropped (end.Stream how) x = absurd x
 
   told : (e : KeptEnd) → TellsUsage c clock d (output_of h.outside) stays.output e → IsCaused h d clock (word.Upkeep upkeep.Usage) (status_of_kept e)
-  told end.Done x = tt
+  told end.Done x = (c, be, (x.0, x.1.opened, tt))
   told end.WriteFault x = x.2.1
   told (end.Refused cause) x = (c, be, x.0)
   told end.DiskFault x = x.0
@@ -286,7 +173,7 @@ module _ (h : CommandChange) (stays : Stays) (d : DiskChange) (DiskStays : Type 
   told (end.Stream how) x = absurd x
 
   made : (e : KeptEnd) → Makes c d (output_of h.outside) stays.output e → IsCaused h d clock (word.Upkeep upkeep.Make) (status_of_kept e)
-  made end.Done x = tt
+  made end.Done x = (c, be, tt)
   made end.WriteFault x = x.1.1
   made end.DiskFault x = x.0
   made end.ReadFault x = absurd x
@@ -317,7 +204,7 @@ module _ (h : CommandChange) (stays : Stays) (d : DiskChange) (DiskStays : Type 
   job_in job r = whole_text _ _ _ r.text r.read r.at_end (r.short, r.comes)
 
   by_job : (e : KeptEnd) → RunsJob c clock h.input h.outside d DiskStays (stays.output × stays.source) e → IsCaused h d clock word.Job (status_of_kept e)
-  by_job end.Done x = tt
+  by_job end.Done x = (c, be, (x.0, job_in x.0 x.1, (x.2.0, x.2.2.opened, tt)))
   by_job end.OutOfMemory x = tt
   by_job end.ReadFault x = inr (inr x.0)
   by_job end.TooLong x = inr (inr (c, be, over 65536 _ _ x.0.0 x.0.1 x.0.2))

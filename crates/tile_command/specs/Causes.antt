@@ -1,6 +1,6 @@
 -- Why a command ends with each status: the tests of what it is handed, and the counts that rose. A test of bytes that aren't modelled
 -- says nothing, and so is met.
-use Rattle.std.specs.Prelude.{ℕ, ◌≡◌, ◌<◌, ◌≤◌, ◌⊎◌, List, length, Option, Some, None, IfSome, Ok, Err, ⊤}
+use Rattle.std.specs.Prelude.{ℕ, ◌≡◌, ◌<◌, ◌≤◌, ◌⊎◌, ◌++◌, true, List, [], ◌∷◌, length, Option, Some, None, IfSome, Ok, Err, ⊤}
 use Rattle.cabinet.specs.Commands.{Cuts}
 use Rattle.cabinet.specs.declared.replies.CutReply.{CutReply}
 use Rattle.cabinet.specs.declared.replies.CutReply.TheVariants as cut
@@ -133,19 +133,19 @@ IsMalformed h word.Job fault = IsMalformedAs h job_of fault
 
 -- LINES
 
--- A run of the lines of the input from this cabinet refuses line n, under chances that name no more faults of the disk than its count
--- rose by: it is no line of a schedule, steps an idle actor, or starts a busy one.
-abbrev pub RunRefuses : CommandChange → FaultCounts → List ℕ → State → ℕ → Type 0
-RunRefuses h disk document s n =
+-- A run of the lines of the input from this cabinet refuses this line, or none, under chances that name no more faults of the disk than
+-- its count rose by. A line is refused that is no line of a schedule, steps an idle actor, or starts a busy one.
+abbrev pub RunRefuses : CommandChange → FaultCounts → List ℕ → State → Option ℕ → Type 0
+RunRefuses h disk document s refused =
     (chances : List Chance) × RoseBy (disk_faults chances) disk.before disk.after
-    × IfSome h.input.from (λ text. (length text ≤ 16777216) × ((run (world_of s document free_seats) 1 (lines_of text) chances).refused ≡ Some n))
+    × IfSome h.input.from (λ text. (length text ≤ 16777216) × ((run (world_of s document free_seats) 1 (lines_of text) chances).refused ≡ refused))
 
 -- so it is of the schedule of a word: it begins with a cabinet in which nothing has happened, or with what the disk opens to
 abbrev pub RefusesLine : CommandChange → DiskChange → Readings → Word → ℕ → Type 0
-RefusesLine h d clock (word.InMemory memory.Schedule) n = UnderBoth h (λ c document. RunRefuses h (counts 0 0) document (fresh_state c clock) n)
+RefusesLine h d clock (word.InMemory memory.Schedule) n = UnderBoth h (λ c document. RunRefuses h (counts 0 0) document (fresh_state c clock) (Some n))
 RefusesLine h d clock (word.InMemory memory.Replay) n = ⊥
 RefusesLine h d clock (word.InMemory (memory.Drill number)) n = ⊥
-RefusesLine h d clock (word.Kept kept.Schedule) n = UnderBoth h (λ c document. Opening d clock c (λ s. RunRefuses h h.outside.disk document s n))
+RefusesLine h d clock (word.Kept kept.Schedule) n = UnderBoth h (λ c document. Opening d clock c (λ s. RunRefuses h h.outside.disk document s (Some n)))
 RefusesLine h d clock (word.Kept kept.Replay) n = ⊥
 RefusesLine h d clock (word.Upkeep w) n = ⊥
 RefusesLine h d clock word.Job n = ⊥
@@ -163,7 +163,15 @@ BreaksOff from session.ReadFault = ⊥
 BreaksOff from session.WriteFault = ⊥
 BreaksOff from session.OutOfMemory = ⊥
 
--- so does the connection that a word serves
+-- the last of these messages is the last of its connection; none before it is, and they are fewer than 10,000
+abbrev pub HaveLast : List Message → Type 0
+HaveLast messages = (before : List Message) × (last : Message) × (messages ≡ before ++ last ∷ []) × GoOn before × (last.last ≡ true)
+
+-- or it doesn't: the last of the connection stands among its first 10,000 messages, or the stream ends behind a message
+abbrev pub ComesToEnd : Option (List ℕ) → Type 0
+ComesToEnd from = (messages : List Message) × (rest : Option (List ℕ)) × StandIn from messages rest × (HaveLast messages ⊎ (GoOn messages × StopsThere rest stop.End))
+
+-- so the connection that a word serves breaks off
 abbrev pub BreaksStream : CommandChange → DiskChange → Readings → Word → SessionEnd → Type 0
 BreaksStream h d clock (word.InMemory memory.Schedule) end = ⊥
 BreaksStream h d clock (word.InMemory memory.Replay) end = UnderBoth h (λ c document. BreaksOff h.input.from end)
@@ -201,9 +209,22 @@ AreCutsFull h d clock word.Job = ⊥
 
 -- THE CAUSE OF EACH STATUS
 
+-- what a word works on passed all tests
+abbrev pub IsThrough : CommandChange → DiskChange → Readings → Word → Type 0
+IsThrough h d clock (word.InMemory memory.Schedule) = UnderBoth h (λ c document. RunRefuses h (counts 0 0) document (fresh_state c clock) None)
+IsThrough h d clock (word.InMemory memory.Replay) = UnderBoth h (λ c document. ComesToEnd h.input.from)
+IsThrough h d clock (word.InMemory (memory.Drill number)) = UnderBoth h (λ c document. ⊤)
+IsThrough h d clock (word.Kept kept.Schedule) = UnderBoth h (λ c document. Opening d clock c (λ s. RunRefuses h h.outside.disk document s None))
+IsThrough h d clock (word.Kept kept.Replay) = UnderBoth h (λ c document. Opening d clock c (λ s. ComesToEnd h.input.from))
+IsThrough h d clock (word.Upkeep upkeep.Make) = UnderCatalogue h (λ c. ⊤)
+IsThrough h d clock (word.Upkeep upkeep.Truncate) = UnderInput h cover_of (λ c cover. (t : ℕ) × CutReplies d clock c cover (cut.Done t))
+IsThrough h d clock (word.Upkeep upkeep.Expire) = UnderCatalogue h (λ c. Opening d clock c (λ s. ⊤))
+IsThrough h d clock (word.Upkeep upkeep.Usage) = UnderCatalogue h (λ c. Opening d clock c (λ s. ⊤))
+IsThrough h d clock word.Job = UnderInput h job_of (λ c job. Opening d clock c (λ s. ⊤))
+
 -- a status of words that are a command; want of memory alone is free
 abbrev pub IsCaused : CommandChange → DiskChange → Readings → Word → Status → Type 0
-IsCaused h d clock w status.Done = ⊤
+IsCaused h d clock w status.Done = IsThrough h d clock w
 IsCaused h d clock w status.OutOfMemory = ⊤
 IsCaused h d clock w status.Usage = ⊥
 IsCaused h d clock w (status.Catalogue fault) = IsFaulty h fault
