@@ -130,6 +130,7 @@ module _ (i : InputChange) (o : Outside) (f : FaultCounts) (earlier : f.before â
       faults = rose_within _ f.before o.disk.before o.disk.after f.after earlier later h.served.faults;
       truth = h.served.truth;
       fresh = h.served.fresh;
+      tiles = h.served.tiles;
     };
     ends = session_ends h.messages h.answers h.held _ e h.ends;
   }

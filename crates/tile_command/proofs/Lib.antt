@@ -1,2 +1,4 @@
 pub mod Fitting
 pub mod Serving
+pub mod Causes
+pub mod Caused

@@ -4,3 +4,4 @@ pub mod Memory
 pub mod Kept
 pub mod Job
 pub mod Command
+pub mod Causes

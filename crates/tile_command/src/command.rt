@@ -2,6 +2,7 @@
 ghost use Rattle.std.specs.Prelude.{◌≡◌, ◌↔◌, None};
 ghost use Rattle.command_words.specs.Words.{word_of};
 ghost use Rattle.kept_words.specs.Change.{DiskChange};
+ghost use Rattle.tile_command.specs.Causes.{HasCause, IsComplete};
 ghost use Rattle.tile_command.specs.Change.{CommandChange, Stays};
 ghost use Rattle.tile_command.specs.Command.{HasLastedBy, HasServed, IsFitFor};
 ghost use Rattle.tile_service.specs.Outside.{InputChange, Outside, counts};
@@ -25,9 +26,10 @@ use std::alloc::Global;
 /// on the cache of the disk. `make` makes that cache, `truncate` cuts the cover that the input has, `expire` drops metatiles until no
 /// quota is exceeded, `usage` tells what is kept, and `job` runs the job that the input has, place by place. Each ask and force takes its moment from the clock.
 ///
-/// `Usage` exactly where the words are none of these; each other status comes as `HasServed` says. At every moment of every word but
-/// `make` a crash leaves what `HasLastedBy` says. A modelled disk has to hold a file of this program, by the catalogue that
-/// is read, where a word opens it.
+/// `Usage` exactly where the words are none of these; each other status comes as `HasServed` says, and for no other cause than
+/// `HasCause` says, so that what is in order is done, unless something failed or memory ran out (`IsComplete`). At every moment of every
+/// word but `make` a crash leaves what `HasLastedBy` says. A modelled disk has to hold a file of this program, by the catalogue that is
+/// read, where a word opens it.
 pub fn run_command<S: Source, D: Disk, I: ByteSource, O: ByteSink>(
     alloc: Global,
     words: &[Words],
@@ -51,6 +53,24 @@ pub fn run_command<S: Source, D: Disk, I: ByteSource, O: ByteSink>(
         (record { catalogue = (catalogue.new ≡ catalogue.old); capabilities = (capabilities.new ≡ capabilities.old); input = (input.new ≡ input.old); output = (output.new ≡ output.old); source = (source.new ≡ source.old) })
         (record { told = D.told disk.old; faults = counts (D.faults disk.old) (D.faults disk.new); from = D.state disk.old; to = D.state disk.new })
         (disk.new ≡ disk.old) clock (word_of words.now) result }
+    ensures cause { HasCause
+        (record {
+          catalogue = record { reads = counts (I.faults catalogue.old) (I.faults catalogue.new); from = I.left catalogue.old; to = I.left catalogue.new };
+          capabilities = record { reads = counts (I.faults capabilities.old) (I.faults capabilities.new); from = I.left capabilities.old; to = I.left capabilities.new };
+          input = record { reads = counts (I.faults input.old) (I.faults input.new); from = I.left input.old; to = I.left input.new };
+          outside = record { told = S.told source.old; renders = counts (S.faults source.old) (S.faults source.new); disk = counts (D.faults disk.old) (D.faults disk.new); writes = counts (O.faults output.old) (O.faults output.new); from = O.taken output.old; to = O.taken output.new };
+        })
+        (record { told = D.told disk.old; faults = counts (D.faults disk.old) (D.faults disk.new); from = D.state disk.old; to = D.state disk.new })
+        clock (word_of words.now) result }
+    ensures complete { IsComplete
+        (record {
+          catalogue = record { reads = counts (I.faults catalogue.old) (I.faults catalogue.new); from = I.left catalogue.old; to = I.left catalogue.new };
+          capabilities = record { reads = counts (I.faults capabilities.old) (I.faults capabilities.new); from = I.left capabilities.old; to = I.left capabilities.new };
+          input = record { reads = counts (I.faults input.old) (I.faults input.new); from = I.left input.old; to = I.left input.new };
+          outside = record { told = S.told source.old; renders = counts (S.faults source.old) (S.faults source.new); disk = counts (D.faults disk.old) (D.faults disk.new); writes = counts (O.faults output.old) (O.faults output.new); from = O.taken output.old; to = O.taken output.new };
+        })
+        (record { told = D.told disk.old; faults = counts (D.faults disk.old) (D.faults disk.new); from = D.state disk.old; to = D.state disk.new })
+        clock (word_of words.now) result }
     ensures lasts { HasLastedBy
         (record {
           catalogue = record { reads = counts (I.faults catalogue.old) (I.faults catalogue.new); from = I.left catalogue.old; to = I.left catalogue.new };

@@ -1,5 +1,5 @@
 -- How far a run has come, one more line, and its ends.
-use Rattle.std.proofs.Common.{◌≡◌, ℕ, zero, suc, map, replicate, ◌+◌, ◌≤◌, List, [], ◌∷◌, ◌++◌, Option, Some, None, length, refl, sym, ap, ◌∙◌, arith, append_assoc, append-nil}
+use Rattle.std.proofs.Common.{◌≡◌, ℕ, zero, suc, map, replicate, ◌+◌, ◌≤◌, List, [], ◌∷◌, ◌++◌, Option, Some, None, length, refl, sym, ap, subst, ◌∙◌, arith, append_assoc, append-nil}
 use Rattle.std.specs.List.{AllByRecursion}
 use Rattle.std.specs.Option.{IfSome}
 use Rattle.std.proofs.lemmas.List.Folds.{sum_by-replicate}
@@ -23,6 +23,7 @@ use Rattle.tile_service.specs.Outside.{FaultCounts, counts}
 use Rattle.tile_service.specs.Run.{PendingRequest, free_seats, owed_at, World, Answer, Run, run, behind, disk_faults, line_done, failures, unanswered, IsTrue, IsFresh, IsFreshFor, world_of}
 use Rattle.tile_service.specs.Schedules.{IsUpheld}
 use Rattle.tile_requests.proofs.Moving.{within_longer}
+use Rattle.tile_service.proofs.Tiles.{IsAnsweredRun, run_answered}
 
 -- FRESH LATER
 
@@ -188,6 +189,7 @@ module _ {told : Option ℕ} {before after : ℕ} {disk : FaultCounts} {w : Worl
         failed = f.failed;
         truth = λ h is. f.truth h (is, f.free);
         fresh = all_fresh w.cabinet.catalogue t.cabinet.history answers f.fresh;
+        tiles = (subst (IsAnsweredRun w.cabinet) ends_done (run_answered w 1 done made)).1;
       } in
       rw e h
 

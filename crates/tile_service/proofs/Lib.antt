@@ -6,6 +6,7 @@ pub mod Immediately
 pub mod Performed
 pub mod Served
 pub mod Writing
+pub mod Tiles
 pub mod Far
 pub mod Scheduling
 pub mod Leaving

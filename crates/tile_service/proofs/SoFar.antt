@@ -1,5 +1,5 @@
 -- How far a session has come: its messages so far and their answers, one message more, and what is promised of them.
-use Rattle.std.proofs.Common.{◌≡◌, ℕ, ◌+◌, ◌≤◌, Bool, List, [], ◌∷◌, ◌++◌, length, map, Option, Some, refl, sym, ap, ◌∙◌, arith, append_assoc, append-nil}
+use Rattle.std.proofs.Common.{◌≡◌, ℕ, ◌+◌, ◌≤◌, Bool, List, [], ◌∷◌, ◌++◌, length, map, Option, Some, refl, sym, ap, subst, ◌∙◌, arith, append_assoc, append-nil}
 use Rattle.std.specs.List.{AllByRecursion}
 use Rattle.std.proofs.lemmas.List.{length-append, map-append}
 use Rattle.std.proofs.lemmas.List.Sums.{sum_by-append}
@@ -15,6 +15,7 @@ use Rattle.tile_service.specs.Run.{World, Answer, disk_faults, sent, failures, I
 use Rattle.tile_service.specs.Serving.{answer_to, Serves}
 use Rattle.tile_service.specs.Session.{lone, and_then, session, IsServed}
 use Rattle.tile_service.proofs.Far.{IsPlaced, answers_later, all_fresh, all_append}
+use Rattle.tile_service.proofs.Tiles.{AreAnswered, session_answered}
 
 -- n messages came to these answers
 pub record HasServed (told : Option ℕ) (before now : ℕ) (disk : FaultCounts) (document : List ℕ) (s t : State) (messages : List Message) (answers : List Answer) (n : ℕ) : Type 0 where
@@ -119,13 +120,15 @@ module _ {told told' : Option ℕ} {before mid after disk_before disk_mid disk_a
 -- that is what is promised
 pub is_served : {told : Option ℕ} {before now : ℕ} {disk : FaultCounts} {document : List ℕ} {s t : State} {messages : List Message} {answers : List Answer} {n : ℕ}
     → HasServed told before now disk document s t messages answers n → IsServed told (record { before = before; after = now }) disk document s t messages answers
-is_served {s = s} {t} {messages} {answers} f =
+is_served {document = document} {s} {t} {messages} {answers} f =
+    let made : session (lone s document) 1 messages f.made ≡ (lone t document, answers) = rw (append-nil messages, append-nil f.made, append-nil answers) at (f.goes [] []) in
     record {
       chances = f.made;
-      made = rw (append-nil messages, append-nil f.made, append-nil answers) at (f.goes [] []);
+      made = made;
       each = f.each;
       failed = f.failed;
       faults = f.faults;
       truth = f.truth;
       fresh = all_fresh s.catalogue t.history answers f.fresh;
+      tiles = (subst (λ d. AreAnswered s d.0.cabinet d.1) made (session_answered (lone s document) 1 messages f.made)).1;
     }

@@ -1,8 +1,8 @@
 -- The run of a schedule: it goes through the lines with the cabinet and what its actors are busy with, and each line has its
 -- answers. What happens by chance in a line is taken as it happened; all else is fixed.
-use Rattle.std.specs.Prelude.{ℕ, ◌≡◌, ◌+◌, Bool, true, false, if◌then◌else◌, List, [], ◌∷◌, ◌++◌, length, replicate, fold, slice_get, slice_set, Option, Some, None, IfSome, flat_map, count_by, sum_by}
-use Rattle.cabinet.specs.History.{History}
-use Rattle.cabinet.specs.State.{State}
+use Rattle.std.specs.Prelude.{ℕ, ◌≡◌, ◌<◌, ◌+◌, ◌⊎◌, Bool, true, false, if◌then◌else◌, List, [], ◌∷◌, ◌++◌, length, replicate, fold, slice_get, slice_set, Option, Some, None, IfSome, IsSome, flat_map, count_by, sum_by}
+use Rattle.cabinet.specs.History.{History, last_number}
+use Rattle.cabinet.specs.State.{State, now}
 use Rattle.cache_core.specs.declared.actor.Actor.{Actor}
 use Rattle.cache_core.specs.declared.actor.Actor.TheVariants as actor
 use Rattle.cache_core.specs.declared.outcome.TileOutcome as cached
@@ -18,7 +18,7 @@ use Rattle.tile_requests.specs.declared.request.Request.{Request}
 use Rattle.tile_requests.specs.declared.request.Request.TheVariants as request
 use Rattle.tile_service.specs.declared.seats.TheConstants.{ACTORS}
 use Rattle.tile_service.specs.Lines.{Action, Nothing, Sends, Steps, action_in}
-use Rattle.tile_requests.specs.Requests.{owed, Chance, calm, disk_faults_in, events, outcome_of, answered_at, told_usage, cut, expired, IsTrueAnswer, IsFreshAnswer}
+use Rattle.tile_requests.specs.Requests.{owed, Chance, calm, disk_faults_in, events, outcome_of, answered_at, told_usage, cut, expired, tile_in, tile_of, IsTrueAnswer, IsFreshAnswer}
 use Rattle.tile_requests.specs.Response.{answered}
 use Rattle.tile_requests.specs.Routes.{request_for}
 
@@ -226,3 +226,11 @@ IsFreshFor c h p r o = IfSome r (λ asked. IsFreshAnswer c h p asked o)
 
 abbrev pub IsFresh : Catalogue → History → Answer → Type 0
 IsFresh c h a = IsFreshFor c h a.place a.request a.outcome
+
+-- the opening of a cabinet has numbers left
+abbrev pub HasNumbers : State → Type 0
+HasNumbers s = (now s).front < last_number s.opening
+
+-- a request for a tile is answered with the tile, unless memory ran out or the source failed
+abbrev pub IsAnsweredTile : Answer → Type 0
+IsAnsweredTile a = IfSome a.request (λ r. IfSome (tile_of r) (λ b. IsSome (tile_in a.outcome) ⊎ (a.outcome ≡ NoMemory) ⊎ (a.outcome ≡ SourceFailed)))

@@ -9,7 +9,7 @@ use Rattle.tile_requests.specs.declared.request.Mode.TheVariants.{Gets}
 use Rattle.tile_service.specs.Outside.{FaultCounts}
 use Rattle.tile_requests.specs.Requests.{Chance}
 use Rattle.tile_requests.specs.Response.{bare, response, response_text}
-use Rattle.tile_service.specs.Run.{World, Answer, disk_faults, sent, first_of, rest_of, failures, IsTrue, IsFresh}
+use Rattle.tile_service.specs.Run.{World, Answer, disk_faults, sent, first_of, rest_of, failures, HasNumbers, IsAnsweredTile, IsTrue, IsFresh}
 
 -- no render runs
 abbrev pub IsAtRest : State → Type 0
@@ -42,8 +42,10 @@ bad_text status = response_text true (bare status)
 -- WHAT IS PROMISED OF IT
 
 -- From s these messages of a session came to t with these answers, under some chances: each message has one. No more answers
--- say that the source failed than its count rose by, and the chances name no more faults of the disk than its count rose by. Where the source is modelled as the catalogue's, each tile is the
--- picture of its number; and each tile is fresh at its ask.
+-- say that the source failed than its count rose by, and the chances name no more faults of the disk than its count rose by. Where the
+-- source is modelled as the catalogue's, each tile is the picture of its number; and each tile is fresh at its ask. While numbers are
+-- left, each request for a tile is answered with the tile, but where memory ran out or the source failed: no fault of a disk comes
+-- between.
 pub record IsServed (told : Option ℕ) (renders disk : FaultCounts) (document : List ℕ) (s t : State) (messages : List Message) (answers : List Answer) : Type 0 where
   pub chances : List Chance
   pub made : session (lone s document) 1 messages chances ≡ (lone t document, answers)
@@ -52,3 +54,4 @@ pub record IsServed (told : Option ℕ) (renders disk : FaultCounts) (document :
   pub faults : RoseBy (disk_faults chances) disk.before disk.after
   pub truth : told ≡ Some s.catalogue.source → IsSound s → AllByRecursion (IsTrue s.catalogue) answers
   pub fresh : AllByRecursion (IsFresh s.catalogue t.history) answers
+  pub tiles : HasNumbers t → AllByRecursion IsAnsweredTile answers
