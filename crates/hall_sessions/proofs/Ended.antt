@@ -25,6 +25,7 @@ use Rattle.tile_service.specs.SessionEnds.{AreOpen, Ends, GoBefore, GoOn}
 use Rattle.tile_service.proofs.Replaying.{Sending, Wire, stand_none}
 use Rattle.hall_sessions.specs.Exchanges.{answers_of}
 use Rattle.hall_sessions.specs.Sessions.{HasHallSession, output_of}
+use Rattle.hall_sessions.proofs.Causing.{have_answers}
 use Rattle.hall_sessions.proofs.Exchanging.{HasExchanged, exchanged_none}
 use Rattle.hall_sessions.proofs.Wired.{IsAnswered, IsUnderWay, Moment, whole_text}
 
@@ -61,6 +62,7 @@ module _ {c : Catalogue} {document : List ℕ} {start now : Moment} (held : List
     stand = subst (λ (ms : List Message). StandIn start.wire.left ms (prepend_known held now.wire.left)) h.are_messages stand;
     made = h.made;
     served = h.served;
+    answered = have_answers c start.pass.told start.pass.book start.board start.renders h.exchanges now.pass.book now.board now.renders h.served;
     ends =
         subst (λ (ms : List Message). Ends (input start now) (output start now) document ms (answers_of 1 h.exchanges) held (prepend_known held now.wire.left) end) h.are_messages
         (subst (λ (them : List Answer). Ends (input start now) (output start now) document messages them held (prepend_known held now.wire.left) end) h.are_answers ends);

@@ -3,4 +3,5 @@ pub mod Served
 pub mod Counting
 pub mod Requested
 pub mod Exchanges
+pub mod Caused
 pub mod Sessions

@@ -1,0 +1,151 @@
+-- Why each answer of a session came: who asks for a tile gets it, but for the causes that stand here, and each other answer has its cause
+-- too.
+use Rattle.std.specs.Prelude.{ℕ, ◌≡◌, ◌⊎◌, Bool, true, false, List, [], ◌∷◌, length, Option, Some, None, ⊤}
+use Rattle.cabinet.specs.declared.replies.CutReply.{CutReply}
+use Rattle.cabinet.specs.declared.replies.CutReply.TheVariants as cut
+use Rattle.cabinet.specs.declared.replies.Expired.{Expired}
+use Rattle.cabinet.specs.declared.replies.Expired.TheVariants as expired
+use Rattle.cabinet_chest.specs.declared.command.Command.TheVariants as command
+use Rattle.cabinet_chest.specs.declared.command.Reply.TheVariants as reply
+use Rattle.cabinet_chest.specs.declared.shown.Note.{Note}
+use Rattle.cache_core.specs.declared.outcome.Tile.{Tile}
+use Rattle.catalog.specs.declared.catalogue.Catalogue.{Catalogue}
+use Rattle.causes.specs.Causes.{Rose}
+use Rattle.http_wire.specs.declared.message.Message.{Message}
+use Rattle.job_board.specs.declared.shown.Command.TheVariants as board_command
+use Rattle.job_board.specs.declared.shown.Reply.TheVariants as board_reply
+use Rattle.job_board.specs.Calls.{BoardHolding, MakesOne}
+use Rattle.job_requests.specs.declared.request.JobRequest.{JobRequest}
+use Rattle.job_requests.specs.declared.request.JobRequest.TheVariants as job_request
+use Rattle.job_requests.specs.Routes.{request_for as job_request_for}
+use Rattle.job_requests.specs.Texts.{progress_text, submitted_text}
+use Rattle.job_sheet.specs.declared.progress.Progress.{Progress}
+use Rattle.jobs.specs.declared.job.Job.{Job}
+use Rattle.jobs.specs.Places.{places}
+use Rattle.matrix_geometry.specs.declared.address.Address.{Address}
+use Rattle.metatile_plan.specs.declared.metatile.MetaKey.{MetaKey}
+use Rattle.truncation_list.specs.declared.cover.Cover.{Cover}
+use Rattle.turnstile.specs.declared.view.Made.{Made}
+use Rattle.cache_hall.specs.Gets.{HasAbandoned, HasGot, HasMetSpent}
+use Rattle.cache_hall.specs.Turned.{IsOf}
+use Rattle.tile_requests.specs.declared.outcome.Outcome.{Outcome}
+use Rattle.tile_requests.specs.declared.outcome.Outcome.TheVariants as outcome
+use Rattle.tile_requests.specs.declared.request.Request.{Request}
+use Rattle.tile_requests.specs.declared.request.Request.TheVariants as request
+use Rattle.tile_requests.specs.Requests.{answered_at}
+use Rattle.tile_requests.specs.Routes.{request_for}
+use Rattle.tile_requests.specs.Texts.{dropped_text}
+use Rattle.hall_sessions.specs.Exchanges.{Exchange}
+use Rattle.hall_sessions.specs.Served.{IsCounted}
+
+-- the outcome that a message is answered by
+abbrev pub outcome_told : Exchange → Outcome
+outcome_told e = answered_at e.left e.came_to
+
+-- WHAT IS ASKED FOR
+
+-- the message asks for this by the table of paths
+pub record AsksFor (c : Catalogue) (m : Message) (r : Request) : Type 0 where
+  pub no_job : job_request_for c m ≡ None
+  pub is : request_for c m ≡ r
+
+-- the message asks for this at /jobs or below it
+abbrev pub AsksOfJobs : Catalogue → Message → JobRequest → Type 0
+AsksOfJobs c m r = job_request_for c m ≡ Some r
+
+-- WHO ASKS FOR A TILE
+
+-- the answer is the tile of a get by the message's turns
+pub record IsGiven (c : Catalogue) (told : Bool) (a : Address) (e : Exchange) : Type 0 where
+  pub tile : Tile
+  pub is : outcome_told e ≡ outcome.Tile tile.hit tile.number tile.bytes
+  pub got : HasGot c told a e.seen e.gained tile
+
+-- WHO ASKS FOR A TILE GETS IT, with status 200, or 503 where memory ran out. The answer is that the source failed, only where its count
+-- of faults rose while the message was served; and that no number is left, only where the last ask was told so. That a disk failed is no
+-- cause.
+abbrev pub TilesAreGiven : Catalogue → Bool → Exchange → Type 0
+TilesAreGiven c told e =
+    (a : Address) → AsksFor c e.message (request.Tile a)
+    → IsGiven c told a e ⊎ ((outcome_told e ≡ outcome.NoMemory) ⊎ (((outcome_told e ≡ outcome.SourceFailed) × Rose e.renders_before e.renders_after) ⊎ ((outcome_told e ≡ outcome.Spent) × HasMetSpent a e.gained)))
+
+-- WHO CHANGES WHAT IS KEPT
+
+-- the message asks for a truncation, and its one turn at the cabinet was this truncation and was answered so
+pub record HasCutTurn (c : Catalogue) (e : Exchange) (r : CutReply) : Type 0 where
+  pub cover : Cover
+  pub asks : AsksFor c e.message (request.Truncation cover)
+  pub turn : Made Note
+  pub one : e.gained ≡ turn ∷ []
+  pub of : IsOf (command.Cut cover) (reply.Cut r) turn
+
+-- the message asks for an expiry, and its one turn was one and was answered so
+pub record HasExpiryTurn (c : Catalogue) (e : Exchange) (r : Expired) : Type 0 where
+  pub asks : AsksFor c e.message request.Expiry
+  pub turn : Made Note
+  pub one : e.gained ≡ turn ∷ []
+  pub of : IsOf command.Expire (reply.Expired r) turn
+
+-- the disk's count of faults rose in the turn
+abbrev pub DiskFailedIn : Made Note → Type 0
+DiskFailedIn turn = Rose turn.note.before.faults turn.note.after.faults
+
+abbrev pub HasFailedCut : Catalogue → Exchange → Type 0
+HasFailedCut c e = (b : ℕ) × (a : ℕ) × (h : HasCutTurn c e (cut.DiskFault b a)) × DiskFailedIn h.turn
+
+abbrev pub HasFailedExpiry : Catalogue → Exchange → Type 0
+HasFailedExpiry c e = (b : ℕ) × (a : ℕ) × (h : HasExpiryTurn c e (expired.DiskFault b a)) × DiskFailedIn h.turn
+
+-- WHO ASKS FOR A JOB
+
+-- the message submits a job, and its one turn at the board did and was answered so
+pub record HasSubmitTurn (c : Catalogue) (e : Exchange) (n : Option ℕ) : Type 0 where
+  pub job : Job
+  pub asks : AsksOfJobs c e.message (job_request.Submission job)
+  pub one : MakesOne e.board_before e.board_after (board_command.Submit job (length (places c job))) (board_reply.Submit n)
+
+-- the message looks at the job of a number, or ends it early and then looks, and was told this of it
+pub record HasLookTurn (c : Catalogue) (e : Exchange) (n : ℕ) (p : Progress) : Type 0 where
+  pub before : BoardHolding
+  pub asks :
+      (AsksOfJobs c e.message (job_request.Look n) × (before ≡ e.board_before))
+      ⊎ (AsksOfJobs c e.message (job_request.Stop n) × MakesOne e.board_before before (board_command.Stop n) (board_reply.Stop true))
+  pub one : MakesOne before e.board_after (board_command.Look n) (board_reply.Look (Some p))
+
+-- the message asks for the job of a number, and its one turn found none of this number
+pub record HasNoJob (c : Catalogue) (e : Exchange) : Type 0 where
+  pub number : ℕ
+  pub found_none :
+      (AsksOfJobs c e.message (job_request.Look number) × MakesOne e.board_before e.board_after (board_command.Look number) (board_reply.Look None))
+      ⊎ (AsksOfJobs c e.message (job_request.Stop number) × MakesOne e.board_before e.board_after (board_command.Stop number) (board_reply.Stop false))
+
+-- what is told of a job
+abbrev pub IsJobText : Catalogue → Exchange → List ℕ → Type 0
+IsJobText c e text =
+    ((n : ℕ) × HasSubmitTurn c e (Some n) × (text ≡ submitted_text n)) ⊎ ((n : ℕ) × (p : Progress) × HasLookTurn c e n p × (text ≡ progress_text n p))
+
+-- WHY THIS ANSWER: each has its cause, in what the message asks for and in the turns that were made for it. Want of memory alone is free.
+abbrev pub IsCaused : Catalogue → Bool → Exchange → Outcome → Type 0
+IsCaused c told e (outcome.Tile hit k bytes) = (a : Address) × AsksFor c e.message (request.Tile a) × HasGot c told a e.seen e.gained (record { hit = hit; number = k; bytes = bytes })
+IsCaused c told e outcome.Document = AsksFor c e.message request.Capabilities
+IsCaused c told e (outcome.Refused code locator) = AsksFor c e.message (request.Refused code locator)
+IsCaused c told e outcome.NotFound = AsksFor c e.message request.NotFound ⊎ (AsksOfJobs c e.message job_request.NotFound ⊎ HasNoJob c e)
+IsCaused c told e outcome.WrongMethod = AsksFor c e.message request.WrongMethod ⊎ AsksOfJobs c e.message job_request.WrongMethod
+IsCaused c told e outcome.SourceFailed = (a : Address) × AsksFor c e.message (request.Tile a) × HasAbandoned a e.gained × Rose e.renders_before e.renders_after
+IsCaused c told e outcome.Spent = (a : Address) × AsksFor c e.message (request.Tile a) × HasMetSpent a e.gained
+IsCaused c told e (outcome.Usage text) = AsksFor c e.message request.Usage × IsCounted c e.gained text
+IsCaused c told e (outcome.Cut k) = HasCutTurn c e (cut.Done k)
+IsCaused c told e outcome.CutsFull = HasCutTurn c e cut.Full
+IsCaused c told e outcome.CutSpent = HasCutTurn c e cut.Spent
+IsCaused c told e (outcome.Unformed fault) = AsksFor c e.message (request.Unformed fault) ⊎ AsksOfJobs c e.message (job_request.Unformed fault)
+IsCaused c told e (outcome.Dropped text) = (m : MetaKey) × HasExpiryTurn c e (expired.Dropped m) × (text ≡ dropped_text c m)
+IsCaused c told e outcome.Within = HasExpiryTurn c e expired.Within
+IsCaused c told e (outcome.Job text) = IsJobText c e text
+IsCaused c told e outcome.BoardFull = HasSubmitTurn c e None
+IsCaused c told e outcome.DiskFault = HasFailedCut c e ⊎ HasFailedExpiry c e
+IsCaused c told e outcome.NoMemory = ⊤
+
+-- both of a message
+pub record HasAnswer (c : Catalogue) (told : Bool) (e : Exchange) : Type 0 where
+  pub tiles : TilesAreGiven c told e
+  pub cause : IsCaused c told e (outcome_told e)
