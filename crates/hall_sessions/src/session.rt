@@ -22,7 +22,8 @@ use tile_service::session::{SESSION_LIMIT, SessionEnd};
 use turnstile::pass::Pass;
 
 /// Serves the messages of one connection (RFC 9112) over a hall and a board of jobs, in order, each before the next is looked for, at
-/// most 10,000 of them. Each end comes as `SessionEnd` says.
+/// most 10,000 of them. Who asks for a tile gets it, or 503, unless the source failed for it or no number of a render is left. Each end
+/// comes as `SessionEnd` says.
 pub fn serve_session<R: Wait, K: Keeper, S: Source, L: Link>(
     rt: &R,
     alloc: Global,
