@@ -3,7 +3,7 @@
 //!
 //! Promises: `run_server` opens the cache of its disk, and at its end each link that the listener gave was served in one session, by a
 //! pass of one turnstile, which had seen the opened cabinet's book, and from a place at one board of jobs; each job that was taken from
-//! that board was run over the hall, and the last look there found none waiting; the turns of all workers and of all that ran jobs stand
+//! that board was run over the hall, and at the end none waits there of all that the sessions submitted; the turns of all workers and of all that ran jobs stand
 //! in one line, and a tile that was asked for in a later turn than a truncation is newer than it; `Done` comes only where as many links
 //! were given as were asked for, and each other end has its cause (`specs/Served.antt`, `specs/Stints.antt`, `specs/Runners.antt`,
 //! `specs/Between.antt`). What a session is, hall_sessions says, and what the run of a job is, job_runner. That a thread gets on, or a
