@@ -38,7 +38,7 @@ use Rattle.tile_requests.specs.Texts.{dropped_text}
 use Rattle.hall_sessions.specs.Exchanges.{Exchange}
 use Rattle.hall_sessions.specs.Served.{IsCounted}
 
--- the outcome that a message is answered by: that of its answer, and so of its response
+-- the outcome that a message is answered by: that of its answer and of its response
 abbrev pub outcome_told : Exchange → Outcome
 outcome_told e = answered_at e.left e.came_to
 
