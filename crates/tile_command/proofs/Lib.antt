@@ -2,3 +2,4 @@ pub mod Fitting
 pub mod Serving
 pub mod Causes
 pub mod Caused
+pub mod Exact
