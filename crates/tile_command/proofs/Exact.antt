@@ -18,11 +18,11 @@ use Rattle.job_forms.specs.declared.fault.JobFault.{JobFault}
 use Rattle.job_forms.specs.Outcome.{Outcome}
 use Rattle.jobs.specs.Reading.{job_of}
 use Rattle.kept_words.specs.Change.{DiskChange}
-use Rattle.tile_command.specs.Causes.{AreCutsFull, BreaksStream, HasCause, IsCacheRefused, IsCaused, IsFaulty, IsInputOver, IsMalformed, IsMalformedAs, IsOver, IsThrough, NothingFails, OfDocument, RefusesLine, UnderBoth, UnderCatalogue, UnderInput}
+use Rattle.tile_command.specs.Causes.{AreCutsFull, BreaksStream, IsCacheRefused, IsCaused, IsFaulty, IsInputOver, IsMalformed, IsMalformedAs, IsOver, IsThrough, NothingFails, OfDocument, RefusesLine, UnderBoth, UnderCatalogue, UnderInput}
 use Rattle.tile_command.specs.Change.{CommandChange}
 use Rattle.tile_command.specs.declared.status.Status.{Status}
 use Rattle.tile_command.specs.declared.status.Status.TheVariants as status
-use Rattle.tile_command.specs.Exact.{AreModelled, IsExact, IsTold, TellsTests}
+use Rattle.tile_command.specs.Exact.{AreModelled, IsTold}
 use Rattle.tile_command.proofs.Caused.{no_disk, no_read}
 use Rattle.tile_service.specs.declared.session.SessionEnd.{SessionEnd}
 
@@ -33,7 +33,7 @@ one_text : {P Q : List ℕ → Type 0} (from : Option (List ℕ)) → IsSome fro
 one_text None some p q = absurd (cc)
 one_text (Some text) some p q = (text, p, q)
 
-not_both : {P Q : List ℕ → Type 0} (from : Option (List ℕ)) → IsSome from → ((text : List ℕ) → P text → Q text → ⊥) → IfSome from P → IfSome from Q → ⊥
+pub not_both : {P Q : List ℕ → Type 0} (from : Option (List ℕ)) → IsSome from → ((text : List ℕ) → P text → Q text → ⊥) → IfSome from P → IfSome from Q → ⊥
 not_both None some apart p q = absurd (cc)
 not_both (Some text) some apart p q = apart text p q
 
@@ -43,7 +43,7 @@ long_and_short limit R text long short = let le = short.0 in absurd (omega arith
 module _ (h : CommandChange) (d : DiskChange) (clock : Readings) (m : AreModelled h) (quiet : NothingFails h d) where
   -- THE CATALOGUE comes first
 
-  abbrev Past : Type 0
+  abbrev pub Past : Type 0
   Past = UnderCatalogue h (λ c. ⊤)
 
   through_past : (w : Word) → IsThrough h d clock w → Past
@@ -125,7 +125,7 @@ module _ (h : CommandChange) (d : DiskChange) (clock : Readings) (m : AreModelle
   abbrev OfCatalogue : Status → Type 0
   OfCatalogue s = (s ≡ status.OutOfMemory) ⊎ ((fault : CatalogueFault) × (s ≡ status.Catalogue fault) × IsFaulty h fault) ⊎ ((s ≡ status.TooLong) × IsOver 1048576 h.catalogue) ⊎ Past
 
-  of_catalogue : (w : Word) (s : Status) → IsCaused h d clock w s → OfCatalogue s
+  pub of_catalogue : (w : Word) (s : Status) → IsCaused h d clock w s → OfCatalogue s
   of_catalogue w status.Done x = inr (inr (inr (through_past w x)))
   of_catalogue w status.OutOfMemory x = inl refl
   of_catalogue w status.Usage x = absurd x
@@ -145,16 +145,16 @@ module _ (h : CommandChange) (d : DiskChange) (clock : Readings) (m : AreModelle
   long_not_faulty : (fault : CatalogueFault) → IsOver 1048576 h.catalogue → IsFaulty h fault → ⊥
   long_not_faulty fault = not_both h.catalogue.from m.catalogue (λ text long short. long_and_short 1048576 (λ t. catalogue_of t ≡ Err fault) text long short)
 
-  long_not_past : IsOver 1048576 h.catalogue → Past → ⊥
+  pub long_not_past : IsOver 1048576 h.catalogue → Past → ⊥
   long_not_past long past = not_both h.catalogue.from m.catalogue (λ text l short. long_and_short 1048576 (λ t. catalogue_of t ≡ Ok past.0) text l short) long past.1
 
-  faulty_not_past : (fault : CatalogueFault) → IsFaulty h fault → Past → ⊥
+  pub faulty_not_past : (fault : CatalogueFault) → IsFaulty h fault → Past → ⊥
   faulty_not_past fault faulty past = not_both h.catalogue.from m.catalogue (λ text bad good. no_two text bad.1 good.1) faulty past.1
     where
       no_two : (text : List ℕ) → catalogue_of text ≡ Err fault → catalogue_of text ≡ Ok past.0 → ⊥
       no_two text e f = cc
 
-  long_told : (s : Status) → IsOver 1048576 h.catalogue → OfCatalogue s → IsTold status.TooLong s
+  pub long_told : (s : Status) → IsOver 1048576 h.catalogue → OfCatalogue s → IsTold status.TooLong s
   long_told s long (inl is) = inr is
   long_told s long (inr (inl x)) = absurd (long_not_faulty x.0 long x.2)
   long_told s long (inr (inr (inl x))) = inl x.0
@@ -166,13 +166,13 @@ module _ (h : CommandChange) (d : DiskChange) (clock : Readings) (m : AreModelle
       same : (text : List ℕ) → catalogue_of text ≡ Err f → catalogue_of text ≡ Err g → f ≡ g
       same text e k = cc
 
-  faulty_told : (s : Status) (fault : CatalogueFault) → IsFaulty h fault → OfCatalogue s → IsTold (status.Catalogue fault) s
+  pub faulty_told : (s : Status) (fault : CatalogueFault) → IsFaulty h fault → OfCatalogue s → IsTold (status.Catalogue fault) s
   faulty_told s fault faulty (inl is) = inr is
   faulty_told s fault faulty (inr (inl x)) = inl (x.1 ∙ ap (λ f. status.Catalogue f) (one_fault x.0 fault x.2 faulty))
   faulty_told s fault faulty (inr (inr (inl x))) = absurd (long_not_faulty fault x.1 faulty)
   faulty_told s fault faulty (inr (inr (inr past))) = absurd (faulty_not_past fault faulty past)
 
-  same_catalogue : (x y : Past) → x.0 ≡ y.0
+  pub same_catalogue : (x y : Past) → x.0 ≡ y.0
   same_catalogue x y = let t = one_text h.catalogue.from m.catalogue x.1 y.1 in same t.0 t.1.1 t.2.1
     where
       same : (text : List ℕ) → catalogue_of text ≡ Ok x.0 → catalogue_of text ≡ Ok y.0 → x.0 ≡ y.0
@@ -180,7 +180,7 @@ module _ (h : CommandChange) (d : DiskChange) (clock : Readings) (m : AreModelle
 
   -- THE DOCUMENT
 
-  both_past : (P : Catalogue → List ℕ → Type 0) → IsOver 4194304 h.capabilities → UnderBoth h P → ⊥
+  pub both_past : (P : Catalogue → List ℕ → Type 0) → IsOver 4194304 h.capabilities → UnderBoth h P → ⊥
   both_past P long x = not_both h.capabilities.from m.capabilities (λ text l short. long_and_short 4194304 (λ t. t ≡ x.2.0) text l short) long x.2.1
 
   memory_told : (w : MemoryWord) (s : Status) → Past → IsOver 4194304 h.capabilities → IsCaused h d clock (word.InMemory w) s → IsTold status.TooLong s
@@ -222,7 +222,7 @@ module _ (h : CommandChange) (d : DiskChange) (clock : Readings) (m : AreModelle
   kept_told w status.CutsFull past long x = absurd x
   kept_told w (status.Form fault) past long x = absurd x
 
-  document_told : (w : Word) (s : Status) → IsCaused h d clock w s → OfDocument w (UnderCatalogue h (λ c. IsOver 4194304 h.capabilities)) → IsTold status.TooLong s
+  pub document_told : (w : Word) (s : Status) → IsCaused h d clock w s → OfDocument w (UnderCatalogue h (λ c. IsOver 4194304 h.capabilities)) → IsTold status.TooLong s
   document_told (word.InMemory w) s x long = memory_told w s (long.0, long.1, tt) long.2 x
   document_told (word.Kept w) s x long = kept_told w s (long.0, long.1, tt) long.2 x
   document_told (word.Upkeep w) s x long = absurd long
@@ -233,7 +233,7 @@ module _ (h : CommandChange) (d : DiskChange) (clock : Readings) (m : AreModelle
   abbrev NotRefused : Word → Type 0
   NotRefused w = (cause : OpenFault) → IsCacheRefused h d clock w cause → ⊥
 
-  input_short : (limit : ℕ) (R : List ℕ → Type 0) → IsOver limit h.input → IfSome h.input.from (λ text. (length text ≤ limit) × R text) → ⊥
+  pub input_short : (limit : ℕ) (R : List ℕ → Type 0) → IsOver limit h.input → IfSome h.input.from (λ text. (length text ≤ limit) × R text) → ⊥
   input_short limit R long short = not_both h.input.from m.input (λ text l e. long_and_short limit R text l e) long short
 
   -- of a word of which each other status says that the input isn't longer
@@ -254,7 +254,7 @@ module _ (h : CommandChange) (d : DiskChange) (clock : Readings) (m : AreModelle
   long_input w (status.Stream end) past refused through line stream cuts form x = absurd (stream end x)
   long_input w (status.Form fault) past refused through line stream cuts form x = absurd (form fault x)
 
-  input_told : (w : Word) (s : Status) → IsCaused h d clock w s → IsInputOver h d clock w → NotRefused w → IsTold status.TooLong s
+  pub input_told : (w : Word) (s : Status) → IsCaused h d clock w s → IsInputOver h d clock w → NotRefused w → IsTold status.TooLong s
   input_told (word.InMemory memory.Schedule) s x long refused =
       long_input (word.InMemory memory.Schedule) s (long.0, long.1, tt) refused (λ y. input_short 16777216 _ long.2.2 y.2.2.2) (λ n y. input_short 16777216 _ long.2.2 y.2.2.2) (λ end y. y) (λ y. y) (λ fault y. y) x
   input_told (word.InMemory memory.Replay) s x long refused = absurd long
@@ -272,7 +272,7 @@ module _ (h : CommandChange) (d : DiskChange) (clock : Readings) (m : AreModelle
 
   -- A COVER OR A JOB
 
-  well_and_ill : {A : Type 0} (reading : Catalogue → List ℕ → Outcome A) (fault : JobFault) (P : Catalogue → A → Type 0) → IsMalformedAs h reading fault → UnderInput h reading P → ⊥
+  pub well_and_ill : {A : Type 0} (reading : Catalogue → List ℕ → Outcome A) (fault : JobFault) (P : Catalogue → A → Type 0) → IsMalformedAs h reading fault → UnderInput h reading P → ⊥
   well_and_ill reading fault P bad good = not_both h.input.from m.input (λ text ill well. apart text ill.1 well.1) bad.2 good.2.1
     where
       apart : (text : List ℕ) → reading bad.0 text ≡ Err fault → reading good.0 text ≡ Ok good.2.0 → ⊥
@@ -305,7 +305,7 @@ module _ (h : CommandChange) (d : DiskChange) (clock : Readings) (m : AreModelle
   ill_told reading fault bad w status.TooLong through line stream cache cuts long document same (inr (inl x)) = absurd (document x)
   ill_told reading fault bad w status.TooLong through line stream cache cuts long document same (inr (inr x)) = absurd (long x)
 
-  form_told : (w : Word) (s : Status) (fault : JobFault) → IsCaused h d clock w s → IsMalformed h w fault → IsTold (status.Form fault) s
+  pub form_told : (w : Word) (s : Status) (fault : JobFault) → IsCaused h d clock w s → IsMalformed h w fault → IsTold (status.Form fault) s
   form_told (word.InMemory w) s fault x bad = absurd bad
   form_told (word.Kept w) s fault x bad = absurd bad
   form_told (word.Upkeep upkeep.Make) s fault x bad = absurd bad
@@ -317,19 +317,3 @@ module _ (h : CommandChange) (d : DiskChange) (clock : Readings) (m : AreModelle
   form_told word.Job s fault x bad =
       ill_told job_of fault bad word.Job s (λ y. well_and_ill job_of fault _ bad y) (λ n y. y) (λ end y. y) (λ cause y. well_and_ill job_of fault _ bad y)
       (λ y. y) (λ y. input_short 65536 _ y.2 bad.2) (λ y. y) (λ f y. one_form job_of f fault y bad) x
-
-  -- ALL TESTS of the files
-
-  tests_told : (w : Word) (s : Status) → IsCaused h d clock w s → TellsTests h d clock w s
-  tests_told w s x =
-      record {
-        long_catalogue = λ long. long_told s long (of_catalogue w s x);
-        catalogue = λ fault faulty. faulty_told s fault faulty (of_catalogue w s x);
-        long_document = λ long. document_told w s x long;
-        long_input = λ long refused. input_told w s x long refused;
-        form = λ fault bad. form_told w s fault x bad;
-      }
-
-pub exact : (h : CommandChange) (d : DiskChange) (clock : Readings) (read : Option Word) (s : Status) → HasCause h d clock read s → IsExact h d clock read s
-exact h d clock None s cause = tt
-exact h d clock (Some w) s cause = λ modelled quiet. tests_told h d clock modelled quiet w s cause
