@@ -29,7 +29,7 @@ use Rattle.tile_service.specs.declared.session.SessionEnd.{SessionEnd}
 -- ONE TEXT of a file
 
 -- a modelled file has one text
-one_text : {P Q : List ℕ → Type 0} (from : Option (List ℕ)) → IsSome from → IfSome from P → IfSome from Q → (text : List ℕ) × P text × Q text
+pub one_text : {P Q : List ℕ → Type 0} (from : Option (List ℕ)) → IsSome from → IfSome from P → IfSome from Q → (text : List ℕ) × P text × Q text
 one_text None some p q = absurd (cc)
 one_text (Some text) some p q = (text, p, q)
 

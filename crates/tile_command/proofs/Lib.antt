@@ -3,4 +3,4 @@ pub mod Serving
 pub mod Causes
 pub mod Caused
 pub mod Exact
-pub mod Foreign
+pub mod Disks

@@ -7,7 +7,7 @@ use Rattle.gate_journal.specs.declared.fault.OpenFault.{OpenFault}
 use Rattle.gate_journal.specs.declared.fault.OpenFault.TheVariants as open_fault
 use Rattle.job_forms.specs.declared.fault.JobFault.{JobFault}
 use Rattle.kept_words.specs.Change.{DiskChange}
-use Rattle.tile_command.specs.Causes.{IsCacheRefused, IsFaulty, IsInputOver, IsMalformed, IsOver, NothingFails, OfDocument, UnderCatalogue}
+use Rattle.tile_command.specs.Causes.{AreCutsFull, IsCacheRefused, IsFaulty, IsInputOver, IsMalformed, IsOver, NothingFails, OfDocument, UnderCatalogue}
 use Rattle.tile_command.specs.Change.{CommandChange}
 use Rattle.tile_command.specs.declared.status.Status.{Status}
 use Rattle.tile_command.specs.declared.status.Status.TheVariants as status
@@ -33,7 +33,7 @@ IsForeign open_fault.OutOfMemory = ⊥
 
 -- each file of more bytes than it may have is told as too long, and each fault of the catalogue, of the cover or of the job as that fault;
 -- the input of a schedule on the cache of the disk is looked at where that is opened. So is a modelled disk that isn't this catalogue's
--- cache, by any word that opens it.
+-- cache, by any word that opens it, and that no cut has room, where it is opened.
 pub record TellsTests (h : CommandChange) (d : DiskChange) (clock : Readings) (w : Word) (s : Status) : Type 0 where
   pub long_catalogue : IsOver 1048576 h.catalogue → IsTold status.TooLong s
   pub catalogue : (fault : CatalogueFault) → IsFaulty h fault → IsTold (status.Catalogue fault) s
@@ -41,6 +41,7 @@ pub record TellsTests (h : CommandChange) (d : DiskChange) (clock : Readings) (w
   pub long_input : IsInputOver h d clock w → ((cause : OpenFault) → IsCacheRefused h d clock w cause → ⊥) → IsTold status.TooLong s
   pub form : (fault : JobFault) → IsMalformed h w fault → IsTold (status.Form fault) s
   pub cache : IsTrue d.told → (cause : OpenFault) → IsForeign cause → IsCacheRefused h d clock w cause → IsTold (status.Cache cause) s
+  pub cuts : IsTrue d.told → AreCutsFull h d clock w → ((cause : OpenFault) → IsCacheRefused h d clock w cause → ⊥) → IsTold status.CutsFull s
 
 -- so it is of modelled files, where nothing fails
 abbrev pub IsExact : CommandChange → DiskChange → Readings → Option Word → Status → Type 0

@@ -2,7 +2,7 @@ use Rattle.std.proofs.Common.{None, Some, ap, sym, ◌∙◌}
 use Rattle.std.specs.Prelude.{⊤}
 use Rattle.command_words.specs.declared.words.Word.TheVariants as word
 use Rattle.tile_command.proofs.Caused.{caused, completed}
-use Rattle.tile_command.proofs.Foreign.{exact}
+use Rattle.tile_command.proofs.Disks.{exact}
 use Rattle.tile_command.proofs.command.run_command.Goals as goal
 use Rattle.tile_service.specs.Outside.{counts}
 

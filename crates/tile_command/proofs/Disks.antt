@@ -1,6 +1,6 @@
--- A modelled disk that isn't the catalogue's cache is told so; and so each test of the files and of the disk is.
-use Rattle.std.specs.Prelude.{ℕ, ◌≡◌, ◌⊎◌, List, Option, Some, None}
-use Rattle.std.proofs.Common.{ap, inl, inr, refl}
+-- What is refused of a modelled disk is told: that it isn't the catalogue's cache, or that no cut has room. So each test is.
+use Rattle.std.specs.Prelude.{ℕ, ◌≡◌, ◌⊎◌, IsTrue, List, Option, Some, None}
+use Rattle.std.proofs.Common.{Ok, ap, arith, inl, inr, refl, subst, sym, ◌∙◌}
 use Rattle.catalog.specs.declared.catalogue.Catalogue.{Catalogue}
 use Rattle.clock.specs.Readings.{Readings}
 use Rattle.command_words.specs.declared.words.KeptWord.TheVariants as kept
@@ -19,13 +19,16 @@ use Rattle.tile_command.specs.declared.status.Status.TheVariants as status
 use Rattle.tile_command.specs.Exact.{AreModelled, IsTold}
 use Rattle.tile_command.proofs.Caused.{no_disk, no_read}
 use Rattle.tile_service.specs.declared.session.SessionEnd.{SessionEnd}
-use Rattle.std.specs.Prelude.{IsTrue}
-use Rattle.std.proofs.Common.{subst}
+use Rattle.cabinet.specs.Commands.{Cuts}
+use Rattle.durable_cabinet.specs.Filed.{opened_as}
+use Rattle.durable_cabinet.proofs.Once.{opens_once}
+use Rattle.truncation_list.specs.declared.cover.Cover.{Cover}
+use Rattle.tile_command.specs.Causes.{UnderInput}
 use Rattle.cabinet.specs.State.{State}
 use Rattle.durable_cabinet.specs.Images.{slots_for}
 use Rattle.gate_journal.specs.declared.fault.OpenFault.TheVariants as open_fault
 use Rattle.gate_journal.specs.Opened as journal
-use Rattle.kept_words.specs.Opened.{IsRefused}
+use Rattle.kept_words.specs.Opened.{IsOpened, IsRefused}
 use Rattle.cabinet.specs.declared.replies.CutReply.TheVariants as cut
 use Rattle.tile_command.specs.Causes.{CutReplies, Opening}
 use Rattle.tile_command.specs.Exact.{IsExact, IsForeign, TellsTests}
@@ -149,6 +152,56 @@ module _ (h : CommandChange) (d : DiskChange) (clock : Readings) (m : AreModelle
       cache_told word.Job s b (λ y. apart b (y.0, y.1, tt) bad.2.2 _ y.2.2) (λ n y. y) (λ end y. y) (λ y. y)
       (λ y. files.input_short h d clock m quiet 65536 _ y.2 bad.2.1) (λ y. y) (λ fault y. files.well_and_ill h d clock m quiet job_of fault _ y bad) (λ other y. alike b (y.0, y.1, tt) other bad.2.2 y.2.2) x
 
+-- FULL CUTS
+
+full_or_done : (s : State) (cover : Cover) (u v : State) (t : ℕ) → Cuts s cover cut.Full u → Cuts s cover (cut.Done t) v → ⊥
+full_or_done s cover u v t full done = let a = full.1 in let b = done.1 in absurd (omega arith)
+
+module _ (h : CommandChange) (d : DiskChange) (clock : Readings) (m : AreModelled h) (quiet : NothingFails h d) (told : IsTrue d.told) where
+  opened_once : (c : Catalogue) (s t : State) → IsOpened c clock d s → IsOpened c clock d t → s ≡ t
+  opened_once c s t a b = a.begins ∙ ap (λ r. opened_as d.told d.from.seen c clock r) (opens_once c d.from.seen a.replayed b.replayed (a.opens told) (b.opens told)) ∙ sym b.begins
+
+  one_cover : (P Q : Catalogue → Cover → Type 0) (x : UnderInput h cover_of P) (y : UnderInput h cover_of Q) → x.2.0 ≡ y.2.0
+  one_cover P Q x y = let t = files.one_text h.input.from m.input x.2.1 y.2.1 in same t.0 t.1.1 t.2.1
+    where
+      same : (text : List ℕ) → cover_of x.0 text ≡ Ok x.2.0 → cover_of y.0 text ≡ Ok y.2.0 → x.2.0 ≡ y.2.0
+      same text e k = let j : cover_of x.0 text ≡ Ok y.2.0 = ap (λ c. cover_of c text) (files.same_catalogue h d clock m quiet (x.0, x.1, tt) (y.0, y.1, tt)) ∙ k in cc
+
+  not_done : AreCutsFull h d clock (word.Upkeep upkeep.Truncate) → IsThrough h d clock (word.Upkeep upkeep.Truncate) → ⊥
+  not_done x y =
+      let c = files.same_catalogue h d clock m quiet (x.0, x.1, tt) (y.0, y.1, tt) in
+      let s = x.2.2 in
+      let t = y.2.2.1 in
+      let opened : IsOpened y.0 clock d s.0 = subst (λ c. IsOpened c clock d s.0) c s.1 in
+      let full : Cuts s.0 y.2.0 cut.Full s.2.0 = subst (λ (v : Cover). Cuts s.0 v cut.Full s.2.0) (one_cover _ _ x y) s.2.1 in
+      full_or_done t.0 y.2.0 s.2.0 t.2.0 y.2.2.0 (subst (λ (v : State). Cuts v y.2.0 cut.Full s.2.0) (opened_once y.0 s.0 t.0 opened t.1) full) t.2.1
+
+  cut_told : (s : Status) → AreCutsFull h d clock (word.Upkeep upkeep.Truncate) → ((cause : OpenFault) → IsCacheRefused h d clock (word.Upkeep upkeep.Truncate) cause → ⊥) → IsCaused h d clock (word.Upkeep upkeep.Truncate) s → IsTold status.CutsFull s
+  cut_told status.CutsFull full refused x = inl refl
+  cut_told status.OutOfMemory full refused x = inr refl
+  cut_told status.Done full refused x = absurd (not_done full x)
+  cut_told status.Usage full refused x = absurd x
+  cut_told (status.Catalogue f) full refused x = absurd (files.faulty_not_past h d clock m quiet f x (full.0, full.1, tt))
+  cut_told status.ReadFault full refused x = absurd (no_read h d (word.Upkeep upkeep.Truncate) quiet x)
+  cut_told status.WriteFault full refused x = absurd (quiet.output x)
+  cut_told status.DiskFault full refused x = absurd (quiet.disk x)
+  cut_told (status.Line n) full refused x = absurd x
+  cut_told (status.Cache cause) full refused x = absurd (refused cause x)
+  cut_told (status.Stream end) full refused x = absurd x
+  cut_told (status.Form fault) full refused x = absurd (files.well_and_ill h d clock m quiet cover_of fault _ x full)
+  cut_told status.TooLong full refused (inl x) = absurd (files.long_not_past h d clock m quiet x (full.0, full.1, tt))
+  cut_told status.TooLong full refused (inr (inl x)) = absurd x
+  cut_told status.TooLong full refused (inr (inr x)) = absurd (files.input_short h d clock m quiet 65536 _ x.2 full.2.1)
+
+  cuts_told : (w : Word) (s : Status) → IsCaused h d clock w s → AreCutsFull h d clock w → ((cause : OpenFault) → IsCacheRefused h d clock w cause → ⊥) → IsTold status.CutsFull s
+  cuts_told (word.InMemory w) s x full refused = absurd full
+  cuts_told (word.Kept w) s x full refused = absurd full
+  cuts_told (word.Upkeep upkeep.Make) s x full refused = absurd full
+  cuts_told (word.Upkeep upkeep.Truncate) s x full refused = cut_told s full refused x
+  cuts_told (word.Upkeep upkeep.Expire) s x full refused = absurd full
+  cuts_told (word.Upkeep upkeep.Usage) s x full refused = absurd full
+  cuts_told word.Job s x full refused = absurd full
+
 -- ALL TESTS
 
 tests_told : (h : CommandChange) (d : DiskChange) (clock : Readings) (m : AreModelled h) (quiet : NothingFails h d) (w : Word) (s : Status) → IsCaused h d clock w s → TellsTests h d clock w s
@@ -160,6 +213,7 @@ tests_told h d clock m quiet w s x =
       long_input = λ long refused. files.input_told h d clock m quiet w s x long refused;
       form = λ fault bad. files.form_told h d clock m quiet w s fault x bad;
       cache = λ told cause foreign bad. foreign_told h d clock m quiet told cause foreign w s x bad;
+      cuts = λ told full refused. cuts_told h d clock m quiet told w s x full refused;
     }
 
 pub exact : (h : CommandChange) (d : DiskChange) (clock : Readings) (read : Option Word) (s : Status) → HasCause h d clock read s → IsExact h d clock read s
