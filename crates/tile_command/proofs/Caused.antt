@@ -231,8 +231,8 @@ module _ (h : CommandChange) (stays : Stays) (d : DiskChange) (DiskStays : Type 
 
 -- WHAT IS VALID IS DONE
 
-module _ (h : CommandChange) (d : DiskChange) (clock : Readings) (w : Word) (valid : IsInOrder h d clock w) (quiet : NothingFails h d) where
-  no_read : HasReadFault h w → ⊥
+module _ (h : CommandChange) (d : DiskChange) (w : Word) (quiet : NothingFails h d) where
+  pub no_read : HasReadFault h w → ⊥
   no_read (inl rose) = quiet.catalogue rose
   no_read (inr (inl rose)) = quiet.capabilities (of_document w rose)
     where
@@ -254,20 +254,21 @@ module _ (h : CommandChange) (d : DiskChange) (clock : Readings) (w : Word) (val
       of_input (word.Upkeep upkeep.Usage) rose = absurd rose
       of_input word.Job rose = rose
 
-  no_disk : (w : Word) → OfDisk w (HasFailed d) → ⊥
+  pub no_disk : (w : Word) → OfDisk w (HasFailed d) → ⊥
   no_disk (word.InMemory w) failed = failed
   no_disk (word.Kept w) failed = quiet.disk failed
   no_disk (word.Upkeep w) failed = quiet.disk failed
   no_disk word.Job failed = quiet.disk failed
 
+module _ (h : CommandChange) (d : DiskChange) (clock : Readings) (w : Word) (valid : IsInOrder h d clock w) (quiet : NothingFails h d) where
   done : (s : Status) → IsCaused h d clock w s → (s ≡ status.Done) ⊎ (s ≡ status.OutOfMemory)
   done status.Done x = inl refl
   done status.OutOfMemory x = inr refl
   done status.Usage x = absurd x
   done (status.Catalogue fault) x = absurd (valid.catalogue fault x)
-  done status.ReadFault x = absurd (no_read x)
+  done status.ReadFault x = absurd (no_read h d w quiet x)
   done status.WriteFault x = absurd (quiet.output x)
-  done status.DiskFault x = absurd (no_disk w x)
+  done status.DiskFault x = absurd (no_disk h d w quiet w x)
   done (status.Line n) x = absurd (valid.lines n x)
   done (status.Cache cause) x = absurd (valid.cache cause x)
   done status.CutsFull x = absurd (valid.cuts x)

@@ -5,3 +5,4 @@ pub mod Kept
 pub mod Job
 pub mod Command
 pub mod Causes
+pub mod Exact

@@ -5,6 +5,7 @@ ghost use Rattle.kept_words.specs.Change.{DiskChange};
 ghost use Rattle.tile_command.specs.Causes.{HasCause, IsComplete};
 ghost use Rattle.tile_command.specs.Change.{CommandChange, Stays};
 ghost use Rattle.tile_command.specs.Command.{HasLastedBy, HasServed, IsFitFor};
+ghost use Rattle.tile_command.specs.Exact.{IsExact};
 ghost use Rattle.tile_service.specs.Outside.{InputChange, Outside, counts};
 
 use crate::job::job_run;
@@ -27,9 +28,9 @@ use std::alloc::Global;
 /// quota is exceeded, `usage` tells what is kept, and `job` runs the job that the input has, place by place. Each ask and force takes its moment from the clock.
 ///
 /// `Usage` exactly where the words are none of these; each other status comes as `HasServed` says, and for no other cause than
-/// `HasCause` says, so that what is in order is done, unless something failed or memory ran out (`IsComplete`). At every moment of every
-/// word but `make` a crash leaves what `HasLastedBy` says. A modelled disk has to hold a file of this program, by the catalogue that is
-/// read, where a word opens it.
+/// `HasCause` says, so that what is in order is done, and what is refused of the files is told, unless something failed or memory ran out
+/// (`IsComplete`, `IsExact`). At every moment of every word but `make` a crash leaves what `HasLastedBy` says. A modelled disk has to hold
+/// a file of this program, by the catalogue that is read, where a word opens it.
 pub fn run_command<S: Source, D: Disk, I: ByteSource, O: ByteSink>(
     alloc: Global,
     words: &[Words],
@@ -63,6 +64,15 @@ pub fn run_command<S: Source, D: Disk, I: ByteSource, O: ByteSink>(
         (record { told = D.told disk.old; faults = counts (D.faults disk.old) (D.faults disk.new); from = D.state disk.old; to = D.state disk.new })
         clock (word_of words.now) result }
     ensures complete { IsComplete
+        (record {
+          catalogue = record { reads = counts (I.faults catalogue.old) (I.faults catalogue.new); from = I.left catalogue.old; to = I.left catalogue.new };
+          capabilities = record { reads = counts (I.faults capabilities.old) (I.faults capabilities.new); from = I.left capabilities.old; to = I.left capabilities.new };
+          input = record { reads = counts (I.faults input.old) (I.faults input.new); from = I.left input.old; to = I.left input.new };
+          outside = record { told = S.told source.old; renders = counts (S.faults source.old) (S.faults source.new); disk = counts (D.faults disk.old) (D.faults disk.new); writes = counts (O.faults output.old) (O.faults output.new); from = O.taken output.old; to = O.taken output.new };
+        })
+        (record { told = D.told disk.old; faults = counts (D.faults disk.old) (D.faults disk.new); from = D.state disk.old; to = D.state disk.new })
+        clock (word_of words.now) result }
+    ensures exact { IsExact
         (record {
           catalogue = record { reads = counts (I.faults catalogue.old) (I.faults catalogue.new); from = I.left catalogue.old; to = I.left catalogue.new };
           capabilities = record { reads = counts (I.faults capabilities.old) (I.faults capabilities.new); from = I.left capabilities.old; to = I.left capabilities.new };

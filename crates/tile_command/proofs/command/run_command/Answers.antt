@@ -2,6 +2,7 @@ use Rattle.std.proofs.Common.{None, Some, ap, sym, ◌∙◌}
 use Rattle.std.specs.Prelude.{⊤}
 use Rattle.command_words.specs.declared.words.Word.TheVariants as word
 use Rattle.tile_command.proofs.Caused.{caused, completed}
+use Rattle.tile_command.proofs.Disks.{exact}
 use Rattle.tile_command.proofs.command.run_command.Goals as goal
 use Rattle.tile_service.specs.Outside.{counts}
 
@@ -36,3 +37,15 @@ returns-in-Some-Upkeep-clause-complete g c = completed _ _ _ _ _ (returns-in-Som
 
 pub returns-in-Some-Job-clause-complete : goal.returns-in-Some-Job-clause-complete
 returns-in-Some-Job-clause-complete g c = completed _ _ _ _ _ (returns-in-Some-Job-clause-cause g c)
+
+pub returns-in-Some-InMemory-clause-exact : goal.returns-in-Some-InMemory-clause-exact
+returns-in-Some-InMemory-clause-exact g c = exact _ _ _ _ _ (returns-in-Some-InMemory-clause-cause g c)
+
+pub returns-in-Some-Kept-clause-exact : goal.returns-in-Some-Kept-clause-exact
+returns-in-Some-Kept-clause-exact g c = exact _ _ _ _ _ (returns-in-Some-Kept-clause-cause g c)
+
+pub returns-in-Some-Upkeep-clause-exact : goal.returns-in-Some-Upkeep-clause-exact
+returns-in-Some-Upkeep-clause-exact g c = exact _ _ _ _ _ (returns-in-Some-Upkeep-clause-cause g c)
+
+pub returns-in-Some-Job-clause-exact : goal.returns-in-Some-Job-clause-exact
+returns-in-Some-Job-clause-exact g c = exact _ _ _ _ _ (returns-in-Some-Job-clause-cause g c)
