@@ -40,7 +40,7 @@ const RESPONSES: &[u8] =
     HTTP/1.1 404 Not Found\r\nContent-Length: 0\r\n\r\n";
 
 /// A board without jobs, and a pass of it.
-fn new_board(alloc: Global) -> Result<Option<(Board, BoardPass)>, AllocError>
+pub fn new_board(alloc: Global) -> Result<Option<(Board, BoardPass)>, AllocError>
     ensures { IfOk result (λ o. IfSome o (λ t. IsBoardPass t.0.turnstile.table t.1)) }
 {
     let BoardEntry { board, passes } = Board::make(alloc, 1)?;

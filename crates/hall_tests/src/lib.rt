@@ -1,14 +1,21 @@
-//! Tests of a hall: passes that get, truncate and meet, one after the other and in threads, and a session with a board of jobs.
+//! Tests of a hall: passes that get, truncate and meet, one after the other and in threads, and
+//! sessions: one with a board of jobs, and some whose source, link or disk fails at one call after the other.
 //!
 //! It has no code of its own and promises nothing.
-//! Stands on cache_hall and hall_sessions, and on the crates of what they are called with.
+//! Stands on cache_hall, hall_sessions, durable_cabinet and silent_disk, and on the crates of what they are called with.
 #![tactic(auto)]
 
+#[cfg(test)]
+mod faults;
 #[cfg(test)]
 mod held;
 #[cfg(test)]
 mod job_messages;
 #[cfg(test)]
+mod on_disk;
+#[cfg(test)]
 mod pair;
 #[cfg(test)]
 mod passes;
+#[cfg(test)]
+mod texts;

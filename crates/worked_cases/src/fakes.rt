@@ -12,6 +12,8 @@ pub struct Fake {
     pub piece: u64,
     /// How often the bytes of its file stand, one after the other.
     pub times: u64,
+    /// How many of the bytes there are at most.
+    pub ends: u64,
     /// The calls that fail, counted from 1.
     pub fails: Vec<u64>,
     /// Whether the next call after the run has to be a failing one.
@@ -24,6 +26,7 @@ impl Fake {
         Fake {
             piece: USUAL_PIECE,
             times: 1,
+            ends: u64::MAX,
             fails: Vec::new(alloc),
             fails_next: false,
         }
@@ -34,6 +37,7 @@ impl Fake {
         match verb {
             "pieces" => self.piece = number,
             "times" => self.times = number,
+            "ends" => self.ends = number,
             "fails" => self.fails.push(number)?,
             "next" => {
                 self.fails.push(number)?;

@@ -9,6 +9,7 @@
 
 mod disk_fake;
 mod fakes;
+mod faults;
 mod folders;
 mod moments;
 mod run;

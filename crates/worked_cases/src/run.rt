@@ -7,7 +7,7 @@ use disk_model::pick::Pick;
 use exact_ratio::words::Words;
 use http_wire::memory_sink::MemorySink;
 use http_wire::memory_source::MemorySource;
-use http_wire::streams::ByteSource;
+use http_wire::streams::{ByteSink, ByteSource};
 use silent_disk::SilentDisk;
 use source_render::scripted::Scripted;
 use std::alloc::{AllocError, Global};
@@ -40,10 +40,12 @@ pub struct Expected {
 #[derive(Drop)]
 pub struct Outcome {
     /// The code and the line of its status.
-    status: String,
+    pub status: String,
     pub output: Vec<u8>,
     /// Whether a take of the input was due to fail next, and didn't.
     took_more: bool,
+    /// Whether a call of another object than the disk failed.
+    failed: bool,
     disk: SilentDisk,
     /// How many bytes the disk has to hold, where that is said.
     length: Option<u64>,
@@ -60,38 +62,89 @@ fn words_in(alloc: Global, text: &str) -> Result<Vec<Words>, AllocError> {
 
 /// A stream of these bytes that behaves so.
 fn stream(alloc: Global, bytes: &[u8], fake: &Fake) -> Result<MemorySource, AllocError> {
-    let bytes = Vec::from_slice(alloc, bytes)?;
+    let end = usize::try_from(fake.ends).unwrap_or(usize::MAX);
+    let bytes = Vec::from_slice(alloc, &bytes[..bytes.len().min(end)])?;
     let fails = Vec::from_slice(alloc, fake.fails.as_slice())?;
     let piece = usize::try_from(fake.piece).unwrap_or(usize::MAX);
     Ok(MemorySource::new(bytes, piece, fails))
 }
 
+/// Whether a stream ended before its bytes did, or is past the call that was to fail. Where the run came just before that call, the
+/// take that is made here is it.
+fn has_faulted(fake: &Fake, stream: &mut MemorySource, bytes: &[u8]) -> bool {
+    if fake.ends < bytes.len() as u64 {
+        return true;
+    }
+    if fake.fails.is_empty() {
+        return false;
+    }
+    stream.take(&mut [0]).is_ok()
+}
+
+/// Whether a sink is past the call that was to fail.
+fn has_refused(fake: &Fake, sink: &mut MemorySink) -> bool {
+    if fake.fails.is_empty() {
+        return false;
+    }
+    sink.put(&[0]).is_ok()
+}
+
+/// Whether a rendering failed. A source tells that only where it is printed.
+fn has_failed(alloc: Global, source: &Scripted) -> Result<bool, AllocError> {
+    let printed = format!(in alloc; "{source:?}")?;
+    Ok(!printed.as_str().ends_with("faults: 0 }"))
+}
+
 /// Runs the command over a disk.
 pub fn came_to(alloc: Global, given: &Given, disk: SilentDisk) -> io::Result<Outcome> {
-    let fakes = &given.fakes;
+    came_to_by(alloc, given, &given.fakes, disk)
+}
+
+/// Runs the command over a disk, where its other objects behave as these fakes say.
+pub fn came_to_by(
+    alloc: Global,
+    given: &Given,
+    fakes: &Fakes,
+    disk: SilentDisk,
+) -> io::Result<Outcome> {
     let words = words_in(alloc, given.words.as_str())?;
+    let mut catalogue = stream(alloc, given.catalogue.as_slice(), &fakes.catalogue)?;
+    let mut capabilities = stream(alloc, given.capabilities.as_slice(), &fakes.capabilities)?;
     let mut input = stream(alloc, given.input.as_slice(), &fakes.input)?;
     let output_fails = Vec::from_slice(alloc, fakes.output.fails.as_slice())?;
     let mut output = MemorySink::new(alloc, output_fails);
     let number = source_number(alloc, given.catalogue.as_slice());
     let source_fails = Vec::from_slice(alloc, fakes.source.fails.as_slice())?;
+    let mut source = Scripted::new(number, source_fails);
     let mut disk = disk;
     let status = run_command(
         alloc,
         words.as_slice(),
-        &mut stream(alloc, given.catalogue.as_slice(), &fakes.catalogue)?,
-        &mut stream(alloc, given.capabilities.as_slice(), &fakes.capabilities)?,
+        &mut catalogue,
+        &mut capabilities,
         &mut input,
         &mut output,
-        &mut Scripted::new(number, source_fails),
+        &mut source,
         &mut disk,
         Clock::listed(Vec::from_slice(alloc, given.moments.as_slice())?),
     );
     let code = status.code();
+    let written = Vec::from_slice(alloc, output.taken())?;
+    let took_more = has_faulted(&fakes.input, &mut input, given.input.as_slice());
+    let failed = took_more
+        || has_faulted(&fakes.catalogue, &mut catalogue, given.catalogue.as_slice())
+        || has_faulted(
+            &fakes.capabilities,
+            &mut capabilities,
+            given.capabilities.as_slice(),
+        )
+        || has_refused(&fakes.output, &mut output)
+        || has_failed(alloc, &source)?;
     Ok(Outcome {
         status: format!(in alloc; "{code} {status}")?,
-        output: Vec::from_slice(alloc, output.taken())?,
-        took_more: fakes.input.fails_next && input.take(&mut [0]).is_ok(),
+        output: written,
+        took_more: fakes.input.fails_next && took_more,
+        failed,
         disk,
         length: fakes.disk.length,
     })
@@ -138,9 +191,9 @@ impl Outcome {
         Ok(None)
     }
 
-    /// Whether a call of the disk failed.
+    /// Whether a call of an object failed.
     pub fn has_failed(&self) -> bool {
-        self.disk.fault_count() > 0
+        self.failed || self.disk.fault_count() > 0
     }
 
     /// The bytes that the disk is left with: what this crash leaves, or where there is none what a read gives.

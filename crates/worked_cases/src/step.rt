@@ -1,8 +1,10 @@
 //! A step: the files that say what a command is given and what has to come of it.
 use crate::fakes::Fakes;
+use crate::faults;
+use crate::faults::Line;
 use crate::folders::{bytes_of, bytes_or_none, repeated};
 use crate::moments::moments_in;
-use crate::run::{Expected, Given, came_to};
+use crate::run::{Expected, Given, Outcome, came_to};
 use crate::stops::Table;
 use std::alloc::{AllocError, Global};
 use std::fs::File;
@@ -120,12 +122,12 @@ fn images_of<R: Files<File = File> + AllocGlobal>(
     Ok(images)
 }
 
-/// The table of stops of a step, which works with this catalogue. It has no image where the step has none.
+/// The table of stops of a step, whose look is given the same documents. It has no image where the step has none.
 fn table_of<R: Files<File = File> + AllocGlobal>(
     rt: &R,
     case: &str,
     step: &str,
-    catalogue: &[u8],
+    given: &Given,
 ) -> io::Result<Table> {
     let alloc = rt.alloc();
     let told = text(rt, case, step, "look")?;
@@ -135,8 +137,8 @@ fn table_of<R: Files<File = File> + AllocGlobal>(
     };
     let look = Given {
         words: String::from_str(alloc, words)?,
-        catalogue: Vec::from_slice(alloc, catalogue)?,
-        capabilities: Vec::new(alloc),
+        catalogue: Vec::from_slice(alloc, given.catalogue.as_slice())?,
+        capabilities: Vec::from_slice(alloc, given.capabilities.as_slice())?,
         input: own(rt, case, step, "look_input")?,
         moments: Vec::new(alloc),
         fakes: Fakes::new(alloc),
@@ -147,22 +149,93 @@ fn table_of<R: Files<File = File> + AllocGlobal>(
     })
 }
 
-/// Runs what a step gives over a disk, and tells what came of it.
+/// A line of a table of faults: an object, the verb of its fault, the names of two files, with what is written and with what the look
+/// then writes, and behind a colon the status. `None` where it is of another form.
+fn line_of<R: Files<File = File> + AllocGlobal>(
+    rt: &R,
+    case: &str,
+    step: &str,
+    line: &str,
+) -> io::Result<Option<Line>> {
+    let alloc = rt.alloc();
+    let Some((front, status)) = line.split_once(": ") else {
+        return Ok(None);
+    };
+    let mut words = front.split(' ');
+    let (Some(object), Some(verb), Some(written), Some(seen)) = (
+        words.next(),
+        words.next(),
+        words.next(),
+        words.next(),
+    ) else {
+        return Ok(None);
+    };
+    Ok(Some(Line {
+        fault: format!(in alloc; "{object} {verb}")?,
+        status: String::from_str(alloc, status)?,
+        written: shared(rt, case, step, written)?,
+        seen: shared(rt, case, step, seen)?,
+    }))
+}
+
+/// The lines of a step's table of faults, as its file `faults` has them; `None` where one of them is of another form.
+fn lines_of<R: Files<File = File> + AllocGlobal>(
+    rt: &R,
+    case: &str,
+    step: &str,
+) -> io::Result<Option<Vec<Line>>> {
+    let mut lines = Vec::new(rt.alloc());
+    let all = text(rt, case, step, "faults")?;
+    for line in all.as_str().lines() {
+        let Some(line) = line_of(rt, case, step, line)? else {
+            return Ok(None);
+        };
+        lines.push(line)?;
+    }
+    Ok(Some(lines))
+}
+
+/// What a step's one run, its table of stops and its table of faults have to come to.
+#[derive(Drop)]
+struct Wanted {
+    expected: Expected,
+    table: Table,
+    lines: Vec<Line>,
+}
+
+/// How what a step gives differs from what is wanted of it, where its own run came to this.
+fn difference_of(
+    alloc: Global,
+    given: &Given,
+    outcome: &Outcome,
+    wanted: &Wanted,
+    rest: &str,
+    disk: &[u8],
+) -> io::Result<Option<String>> {
+    let difference = outcome.differs_from(alloc, &wanted.expected)?;
+    if difference.is_some() {
+        return Ok(difference);
+    }
+    let difference = wanted.table.difference_of(alloc, given, disk)?;
+    if difference.is_some() {
+        return Ok(difference);
+    }
+    let lines = wanted.lines.as_slice();
+    faults::differs_from(alloc, given, &wanted.table, lines, rest, disk)
+}
+
+/// Runs what a step gives over a disk, and tells what came of it. The lines of its fakes are `rest`.
 fn judged(
     alloc: Global,
     given: &Given,
+    wanted: &Wanted,
+    rest: &str,
     disk: &[u8],
-    expected: &Expected,
-    table: &Table,
 ) -> io::Result<Ran> {
     let faked = &given.fakes.disk;
     let outcome = came_to(alloc, given, faked.over(alloc, disk)?)?;
-    let difference = match outcome.differs_from(alloc, expected)? {
-        Some(difference) => Some(difference),
-        None => table.difference_of(alloc, given, disk)?,
-    };
     Ok(Ran {
-        difference,
+        difference: difference_of(alloc, given, &outcome, wanted, rest, disk)?,
         disk: outcome.left(alloc, faked.crash)?,
     })
 }
@@ -191,10 +264,18 @@ pub fn run_step<R: Files<File = File> + AllocGlobal>(
     let Some(moments) = moments_in(alloc, numbers.as_str())? else {
         return Ok(unread(alloc, left, "its file moments has a word that is no number")?);
     };
+    let Some(faults) = lines_of(rt, case, step)? else {
+        return Ok(unread(alloc, left, "its file faults has a line of another form")?);
+    };
     let expected = expected_of(rt, case, step, fakes.expected.times)?;
     let given = given_by(rt, case, step, moments, fakes)?;
-    let table = table_of(rt, case, step, given.catalogue.as_slice())?;
+    let table = table_of(rt, case, step, &given)?;
+    let wanted = Wanted {
+        expected,
+        table,
+        lines: faults,
+    };
     let path = format!(in alloc; "{case}/{step}/disk")?;
     let disk = bytes_of(rt, path.as_str())?.unwrap_or(left);
-    Ok(judged(alloc, &given, disk.as_slice(), &expected, &table)?)
+    judged(alloc, &given, &wanted, lines.as_str(), disk.as_slice())
 }

@@ -67,7 +67,7 @@ impl Table {
     }
 
     /// What the look writes where the disk is left so.
-    fn seen_in(&self, alloc: Global, image: Vec<u8>) -> io::Result<Vec<u8>> {
+    pub fn seen_in(&self, alloc: Global, image: Vec<u8>) -> io::Result<Vec<u8>> {
         let disk = SilentDisk::new(alloc, image, Vec::new(alloc));
         let outcome = came_to(alloc, &self.look, disk)?;
         Ok(Vec::from_slice(alloc, outcome.output.as_slice())?)
