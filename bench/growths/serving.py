@@ -62,7 +62,8 @@ class Served:
 
     def __init__(self, program, connections=1_000_000):
         self.program, self.port = program, free_port()
-        self.book, self.moment, self.jobs = Book(read(SERVED)), 0, 0
+        self.book, self.moment = Book(read(SERVED)), 0
+        self.jobs, self.most_jobs = 0, 0  # those that were told, and those that may be there, since no number of theirs was told
         self.process = program.start("serve", "--port", str(self.port), "--connections", str(connections))
 
     def connect(self, seconds=20):
@@ -71,7 +72,7 @@ class Served:
         while time.monotonic() < until:
             try:
                 return socket.create_connection(("127.0.0.1", self.port), timeout=seconds)
-            except ConnectionRefusedError:
+            except ConnectionError:
                 if self.process.poll() is not None:
                     return None
                 time.sleep(0.002)
@@ -96,6 +97,7 @@ class Served:
         at, wants, count, (sent, stops) = 0, self.book.wants, 0, messages_of(data)
         self.moment += 1
         for it in sent:
+            self.most_jobs += it.target == b"/jobs"
             if at == len(got):
                 break
             head, body, at = response_at(got, at)
@@ -113,12 +115,14 @@ class Served:
         demand(head[0] + body in (response(404, closes=True), response(int(head[1]), JSON, body, closes=True)), "another form of an answer")
         if sent.method == b"POST" and sent.body != b"[":
             told = SUBMITTED.fullmatch(body)
-            demand(told and int(told[1]) == self.jobs + 1, "another number of a job")
-            self.jobs += 1
+            demand(told and self.jobs < int(told[1]) <= self.most_jobs, "another number of a job")
+            self.jobs = self.most_jobs = int(told[1])
         elif sent.method == b"POST":
             demand(body == b'{"fault":"not json","field":""}\n', "another refusal of a job")
+            self.most_jobs -= 1
         else:
-            demand((head[1] == b"404") == (self.jobs < int(sent.target[6:])), "another job")
+            number = int(sent.target[6:])
+            demand(number > self.jobs if head[1] == b"404" else number <= self.most_jobs, "another job")
             demand(head[1] == b"404" or PROGRESS.fullmatch(body), "another progress")
 
     def ended(self, seconds=20):

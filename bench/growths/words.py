@@ -1,6 +1,7 @@
 """Words of the command line: each growth of each of them refused alone, and all growths from each one on."""
 import re
 import time
+from functools import lru_cache
 
 import covers
 import jobs
@@ -135,6 +136,7 @@ def job_ends(stage, case, ran):
     return [job_cabinet(stage, case, job, it, spends) for it in ways for spends in (False, True)]
 
 
+@lru_cache(maxsize=None)
 def job_cabinet(stage, case, job, failed, spends):
     """The cabinet behind a job whose place of this number failed, before or after a number was spent."""
     cabinet = stage.before(case)

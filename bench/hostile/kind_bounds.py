@@ -10,7 +10,7 @@ from program import Program, Server, read_to_end
 CATALOGUE = """{"blobBytes":4000000,"keptLimit":64,"cutLimit":16,"grids":[{"id":"large","corner":["0","0"],"matrices":[
 {"id":"0","span":"1","tile":[256,256],"size":[2,2]}]}],
 "layers":[{"id":"large","grids":["large"],"styles":[{"id":"grey","breaks":[]}],"meta":[1,1]}]}"""
-KIND, CLIENTS, BUFFER, BESIDE = "bounds", 1000, 1 << 17, 16 << 20
+KIND, BUFFER, BESIDE = "bounds", 1 << 17, 16 << 20
 TARGET = b"/rest/wmts/large/grey/large/0/0/0.ppm"
 ANSWER = 196_623 + 400
 
@@ -26,12 +26,13 @@ def longest(line):
     return long_head(line, 16_384, b"Content-Length: 65536\r\n") + b"z" * 65_536
 
 
-# What each client sends, and what of its answer it leaves to the server.
+# How many clients there are, what each of them sends, and what of its answers it may leave to the server. The system takes some megabytes of
+# answers that nobody takes for each connection, so fewer clients leave some.
 WAYS = {
-    "half a head": (long_head(b"GET /usage", 16_384)[:-1], 0),
-    "half a body": (longest(b"POST /truncate")[:-1], 0),
-    "a tile that nobody takes": (b"GET " + TARGET + b" HTTP/1.1\r\n\r\n", ANSWER),
-    "the longest message for one, and half of a second one": (longest(b"GET " + TARGET) + longest(b"GET " + TARGET)[:-1], ANSWER),
+    "half a head": (1000, long_head(b"GET /usage", 16_384)[:-1], 0),
+    "half a body": (1000, longest(b"POST /truncate")[:-1], 0),
+    "one of the longest messages, of whose tile they take nothing, and a second one": (1000, longest(b"GET " + TARGET) * 2, ANSWER),
+    "sixty tiles that nobody takes": (100, (b"GET " + TARGET + b" HTTP/1.1\r\n\r\n") * 60, ANSWER),
 }
 
 
@@ -51,31 +52,36 @@ def connect(server):
     return link
 
 
-def send_all(links, data):
-    """Sends each of them the bytes, as far as the server takes them within two seconds."""
-    left, until = dict.fromkeys(links, 0), time.monotonic() + 2
+def send_all(links, data, seconds=6):
+    """Sends each of them the bytes, as far as the server takes them in this time. How many of them it took all of."""
+    left, until = dict.fromkeys(links, 0), time.monotonic() + seconds
     while left and time.monotonic() < until:
         for it, at in list(left.items()):
             try:
                 left[it] = at + it.send(data[at:at + (1 << 16)])
             except BlockingIOError:
                 continue
+            except ConnectionError:
+                del left[it]
+                continue
             if left[it] == len(data):
                 del left[it]
         time.sleep(0.001)
+    return len(links) - len(left)
 
 
-def one_way(tally, program, name, data, answer):
+def one_way(tally, program, name, count, data, answer):
     server = Server(program)
     with server.connect() as link:
         link.sendall(b"GET " + TARGET + b" HTTP/1.1\r\nConnection: close\r\n\r\n")
         read_to_end(link)
     before = most_held(server)
-    links = [connect(server) for _ in range(CLIENTS)]
-    send_all(links, data)
-    time.sleep(1)
-    held, most = most_held(server) - before, CLIENTS * (BUFFER + answer) + BESIDE
-    print(f"{KIND}: {CLIENTS:,} clients with {name}: {held / 1e6:.1f} MB of at most {most / 1e6:.1f}, beside {before / 1e6:.1f}", flush=True)
+    links = [connect(server) for _ in range(count)]
+    sent = send_all(links, data)
+    time.sleep(2)
+    held, most = most_held(server) - before, count * (BUFFER + answer) + BESIDE
+    print(f"{KIND}: {count:,} clients with {name} ({sent:,} of them sent all): {held / 1e6:.1f} MB of at most {most / 1e6:.1f}, beside "
+          f"{before / 1e6:.1f}", flush=True)
     tally.count(KIND, name)
     if held > most:
         tally.finding(KIND, name.replace(" ", "_"), f"{name}: {held:,} bytes instead of {most:,}")
@@ -94,5 +100,5 @@ def run(tally, path, folder, _seed, _cases):
     (folder / "capabilities.xml").write_bytes(CAPABILITIES)
     most = resource.getrlimit(resource.RLIMIT_NOFILE)[1]
     resource.setrlimit(resource.RLIMIT_NOFILE, (min(8192, most), most))
-    for name, (data, answer) in WAYS.items():
-        one_way(tally, Program(path, folder), name, data, answer)
+    for name, way in WAYS.items():
+        one_way(tally, Program(path, folder), name, *way)
