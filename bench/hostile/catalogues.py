@@ -46,6 +46,15 @@ TIGHT = MANY.replace('"keptLimit":4096,"cutLimit":12,"blobBytes":2000000000,"pol
                      '"keptLimit":9,"cutLimit":4,"blobBytes":700,"quota":500,"policy":"lfu"').replace(
                      '"meta":[1,1]}', '"meta":[1,1],"quota":46}')
 
+# The same, with a layer of which most jobs have too many places: one row more, and its first matrix has more than ten million tiles.
+WIDE = TIGHT.replace('{"id":"apart"', '{"id":"wide","corner":["0","11"],"matrices":[{"id":"0","span":"1","tile":[1,1],"size":[909091,11]}]},\n{"id":"apart"').replace(
+    '{"id":"bare"', '{"id":"wide","grids":["wide","apart"],"styles":[{"id":"grey","breaks":[]}],"meta":[1,1]},\n{"id":"bare"')
+
+# The same with room for all tiles of the others, and a second matrix of exactly ten million tiles.
+WIDER = WIDE.replace('"size":[909091,11]}', '"size":[909091,11]},{"id":"1","span":"1","tile":[1,1],"size":[4000,2500]}').replace(
+    '"keptLimit":9,"cutLimit":4,"blobBytes":700,"quota":500,"policy":"lfu"', '"keptLimit":200000,"cutLimit":12,"blobBytes":2000000000').replace(
+    '"quota":46', '"quota":1000000')
+
 
 def matrix_of(grid, text):
     """A matrix of a grid's text; a scale gives the span by the pixel of 0.28 mm."""

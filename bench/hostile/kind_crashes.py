@@ -20,7 +20,7 @@ def client(crowd, chance, over):
     try:
         link = Link(crowd.server)
         while not over.is_set():
-            messages = [message_in(chance, crowd.catalogue) for _ in range(chance.choice((1, 1, 3)))]
+            messages = [message_in(chance, crowd) for _ in range(chance.choice((1, 1, 3)))]
             if not ask(crowd, chance, link, messages)[1]:
                 link = Link(crowd.server)
     except (Broken, OSError) as error:
@@ -54,7 +54,7 @@ def broken_rule(crowd, cabinet):
 
 
 def one_case(tally, chance, number, program, crowd):
-    crowd.server = Server(program, makes=False)
+    crowd.server, crowd.jobs = Server(program, makes=False), {}
     work_and_kill(crowd, chance)
     image = (program.folder / "cache.disk").read_bytes()
     try:

@@ -1,6 +1,6 @@
-"""Crowds: many clients at once ask, truncate, expire and misbehave. Which tiles are hits depends on their order, so the rules are fewer:
-the form of each answer, the bytes of each tile under its number, each refusal, and that no tile is older than a truncation that was
-answered before its request."""
+"""Crowds: many clients at once ask, truncate, expire, submit jobs and misbehave. Which tiles are hits depends on their order, so the rules are
+fewer: the form of each answer, the bytes of each tile under its number, each refusal, that no number is given twice, and that no tile is older
+than a truncation that was answered before its request, or than a job's truncation that was told as done."""
 import random
 import re
 import socket
@@ -8,7 +8,8 @@ import threading
 import time
 
 import covers
-from answers import PPM, TEXT, XML, refusal, response, wanted
+import jobs
+from answers import JSON, PPM, TEXT, XML, refusal, response, wanted
 from catalogues import TIGHT, Address, read
 from kind_queries import CAPABILITIES
 from pictures import block_of, tile_text
@@ -16,7 +17,7 @@ from program import Program, Server
 from reading import CAPABILITIES as THE_CAPABILITIES, Refused
 from streams import WHOLES
 from targets import target_in
-from texts import cover_in
+from texts import cover_in, job_in
 
 KIND, CLIENTS, LOOKED_AT = "crowds", 24, 20
 CATALOGUE = TIGHT.replace('"cutLimit":4', '"cutLimit":40')
@@ -25,6 +26,8 @@ HEAD = re.compile(rb"HTTP/1\.1 ([0-9]{3}) [A-Za-z ]+\r\n(?:Content-Type: [a-z/-]
 CUT = re.compile(rb'\{"cut":([1-9][0-9]*)\}\n')
 DROPPED = re.compile(rb'\{"within":true\}\n|\{"dropped":\{"layer":"[^"]+","style":"[^"]+","dimensions":\[[^]]*\],"grid":"[^"]+",'
                      rb'"z":[0-9]+,"row":[0-9]+,"col":[0-9]+\}\}\n')
+SUBMITTED = re.compile(rb'\{"job":([1-9][0-9]*)\}\n')
+PROGRESS = re.compile(rb'\{"job":([0-9]+),"places":([0-9]+),"claimed":([0-9]+),"done":([0-9]+),"failed":([0-9]+),"cancelled":(true|false)\}\n')
 USAGE = re.compile(rb"(layer [^ ]+ [0-9]+ [0-9]+ ([0-9]+|-)\n){4}total [0-9]+ [0-9]+ ([0-9]+|-)\ncuts [0-9]+\n")
 
 
@@ -37,13 +40,21 @@ class Crowd:
 
     def __init__(self, tally, server):
         self.tally, self.server, self.catalogue = tally, server, read(CATALOGUE)
-        self.lock, self.cuts, self.numbers = threading.Lock(), [], set()
+        self.lock, self.cuts, self.numbers, self.top = threading.Lock(), [], set(), 0
+        self.jobs = {}  # each job that was submitted, with a number that was given before it was
 
     def new_number(self, number):
         with self.lock:
             if number in self.numbers:
                 raise Broken("a number was given twice")
             self.numbers.add(number)
+            self.top = max(self.top, number)
+
+    def new_job(self, number, job, top):
+        with self.lock:
+            if number in self.jobs:
+                raise Broken("a job's number was given twice")
+            self.jobs[number] = job, jobs.count(self.catalogue, job), top
 
 
 class Link:
@@ -116,9 +127,52 @@ def check_cut(crowd, known, body_sent, head, body):
     return None
 
 
-def check(crowd, known, message, head, body):
+def check_submission(crowd, top, sent, head, body):
+    """Compares an answer to a job's text; `top` is a number that was given before it was sent."""
+    try:
+        job = jobs.read(crowd.catalogue, sent)
+    except covers.Fault as fault:
+        told = b'{"fault":"%s","field":"%s"}\n' % (fault.kind.encode(), fault.field.encode())
+        return demand(plain(head, body) == response(400, JSON, told), "another refusal of a job")
+    if head[1] == b"409":
+        return demand(plain(head, body) == response(409, JSON, b'{"fault":"board full"}\n'), "another 409 to a job")
+    told = SUBMITTED.fullmatch(body)
+    demand(told and plain(head, body) == response(200, JSON, body), "another answer to a job")
+    return crowd.new_job(int(told[1]), job, top)
+
+
+def check_progress(crowd, known, submitted, method, number, head, body):
+    """Compares how far a job is; a truncation that is told as done is known from then on. `submitted` are the jobs that were before."""
+    if head[1] == b"404":
+        return demand(plain(head, body) == response(404) and number not in submitted, "a job that is gone")
+    told = PROGRESS.fullmatch(body)
+    demand(told and plain(head, body) == response(200, JSON, body) and int(told[1]) == number, "another form of a progress")
+    places, claimed, done, failed = (int(told[at]) for at in range(2, 6))
+    demand(done + failed <= min(claimed, places) and claimed <= places + 8, "another count of places")
+    demand(method == b"GET" or told[6] == b"true", "a job that isn't ended")
+    if number in submitted:
+        job, count, top = submitted[number]
+        demand(places == count, "another number of places")
+        if job.kind == "truncate" and done:
+            known.append((top, job.cover))
+            with crowd.lock:
+                crowd.cuts.append(known[-1])
+    return None
+
+
+def check_job(crowd, known, before, message, head, body):
+    """Compares an answer to a message below the path of jobs."""
+    (top, submitted), (method, target, sent) = before, message
+    if target == b"/jobs":
+        return check_submission(crowd, top, sent, head, body)
+    return check_progress(crowd, known, submitted, method, int(target.removeprefix(b"/jobs/")), head, body)
+
+
+def check(crowd, known, before, message, head, body):
     """Compares an answer with what may come to a message; `known` are the truncations answered before it was sent."""
     method, target, sent = message
+    if target.startswith(b"/jobs"):
+        return check_job(crowd, known, before, message, head, body)
     try:
         found = wanted(crowd.catalogue, method, target)
     except Refused as refused:
@@ -140,12 +194,16 @@ def plain(head, body):
     return head[0].replace(b"Connection: close\r\n", b"") + body
 
 
-def message_in(chance, catalogue):
-    way = chance.random()
+def message_in(chance, crowd):
+    way, catalogue = chance.random(), crowd.catalogue
     if way < 0.08:
         return b"POST", b"/truncate", cover_in(chance, catalogue)
     if way < 0.11:
         return (b"POST", b"/expire", b"") if chance.random() < 0.5 else (b"GET", b"/usage", b"")
+    if way < 0.12:
+        return b"POST", b"/jobs", job_in(chance, catalogue)
+    if way < 0.15:
+        return chance.choice((b"GET", b"GET", b"DELETE")), b"/jobs/%d" % chance.randint(1, len(crowd.jobs) + 2), b""
     return b"GET", target_in(chance, catalogue), b""
 
 
@@ -165,11 +223,12 @@ def bytes_of(message):
 
 def ask(crowd, chance, link, messages):
     """Sends messages in one go and checks their answers. How many were answered, and whether the connection goes on."""
-    known = crowd.cuts[:]
+    with crowd.lock:
+        known, before = crowd.cuts[:], (crowd.top, dict(crowd.jobs))
     link.send(chance, b"".join(map(bytes_of, messages)))
     for count, message in enumerate(messages, 1):
         head, body = link.answer()
-        check(crowd, known, message, head, body)
+        check(crowd, known, before, message, head, body)
         crowd.tally.count(KIND, head[1].decode())
         if b"Connection: close\r\n" in head[0]:
             return count, False
@@ -179,7 +238,7 @@ def ask(crowd, chance, link, messages):
 def client(crowd, chance, count, ended):
     link, left = Link(crowd.server), []
     while count > 0:
-        left = left or [message_in(chance, crowd.catalogue) for _ in range(chance.choice((1, 1, 1, 2, 5, 20)))]
+        left = left or [message_in(chance, crowd) for _ in range(chance.choice((1, 1, 1, 2, 5, 20)))]
         try:
             answered, goes_on = ask(crowd, chance, link, left)
             count, left = count - answered, left[answered:]
@@ -209,4 +268,4 @@ def run(tally, path, folder, seed, cases):
     if len(ended) < CLIENTS or not crowd.server.lives():
         tally.finding(KIND, "all", "the server ended, or takes no connection")
     crowd.server.stop()
-    print(f"{KIND}: {cases:,} of {CLIENTS} clients in {time.monotonic() - begun:.0f} s, {len(crowd.cuts)} truncations", flush=True)
+    print(f"{KIND}: {cases:,} of {CLIENTS} clients in {time.monotonic() - begun:.0f} s, {len(crowd.cuts)} truncations, {len(crowd.jobs)} jobs", flush=True)

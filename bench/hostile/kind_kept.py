@@ -3,6 +3,7 @@ import random
 import time
 
 import covers
+import jobs
 from answers import usage
 from catalogues import DEMO, TIGHT, read
 from journal import opened
@@ -11,10 +12,10 @@ from kind_queries import CAPABILITIES
 from program import Program
 from runs import replayed, scheduled
 from streams import stream_in
-from texts import cover_in, schedule_in
+from texts import cover_in, job_in, schedule_in
 
 KIND, CODES = "kept", (0, 7, 9, 11, 13)
-WORDS = [("schedule", "--kept")] * 4 + [("replay", "--kept")] * 2 + [("truncate",)] * 2 + [("expire",), ("usage",)]
+WORDS = [("schedule", "--kept")] * 4 + [("replay", "--kept")] * 2 + [("truncate",)] * 2 + [("job",)] * 2 + [("expire",), ("usage",)]
 
 
 class Cache:
@@ -35,6 +36,8 @@ def input_for(chance, words, catalogue):
         return schedule_in(chance, catalogue, Taken(catalogue))
     if words[0] == "replay":
         return stream_in(chance, catalogue)
+    if words[0] == "job":
+        return job_in(chance, catalogue)
     return cover_in(chance, catalogue) if words[0] == "truncate" else b""
 
 
@@ -50,6 +53,11 @@ def expired(cabinet):
     return b"dropped %d\n" % count, "0"
 
 
+def worked(cabinet, data):
+    job = jobs.read(cabinet.catalogue, data)
+    return jobs.told(job, *jobs.run(cabinet, job)), "0"
+
+
 def ends_of(cache, words, data):
     """The ends that are right, and the cabinet behind them; None where the cache isn't opened."""
     cabinet = cache.opened()
@@ -62,7 +70,7 @@ def ends_of(cache, words, data):
     if words[0] == "expire":
         return {expired(cabinet)}, cabinet
     try:
-        return {truncated(cabinet, data)}, cabinet
+        return {(worked if words[0] == "job" else truncated)(cabinet, data)}, cabinet
     except covers.Fault as fault:
         return {(b"", f"13 form {fault.kind} {fault.field}")}, None
 
@@ -85,7 +93,7 @@ def one_case(tally, chance, number, cache):
     if not rule and cabinet and (left := state_of(cache.opened())) != state_of(cabinet):
         rule = "the file has another state"
     if not rule and not cabinet and cache.disk.read_bytes() != before:
-        rule = "a refused cover changed the file"
+        rule = "a refused text changed the file"
     tally.count(KIND, " ".join([words[0], *ran.status.split()[:1]]))
     if rule:
         right, told = (ends, cabinet and state_of(cabinet)), (ran.output, ran.status, left)

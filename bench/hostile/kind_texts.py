@@ -1,17 +1,18 @@
-"""Catalogues and covers: the code, the line of a fault and the output of the program are compared with those of the model."""
+"""Catalogues, covers and jobs: the code, the line of a fault and the output of the program are compared with those of the model."""
 import random
 import time
 
 import covers
-from answers import answer
+import jobs
+from answers import answer, usage
 from cabinet import Cabinet
 from catalogue_faults import first_fault
-from catalogues import TIGHT, read
+from catalogues import TIGHT, WIDE, read
 from kind_lines import Taken
 from program import Program
 from runs import scheduled
 from targets import path, sendable
-from texts import catalogue_in, cover_in, schedule_in
+from texts import catalogue_in, cover_in, job_in, schedule_in
 
 LARGEST = 4096  # pixels of a tile that the model draws
 
@@ -54,9 +55,9 @@ def run_catalogues(tally, program_path, folder, seed, cases):
 class KeptModel:
     """A cache on the disk that some tiles were put into, and its model, opened again for each word."""
 
-    def __init__(self, program, chance):
-        self.program, self.cabinet, self.opening = program, Cabinet(read(TIGHT)), 0
-        (program.folder / "catalogue.json").write_text(TIGHT)
+    def __init__(self, program, chance, text=TIGHT):
+        self.program, self.cabinet, self.opening = program, Cabinet(read(text)), 0
+        (program.folder / "catalogue.json").write_text(text)
         self.made = program.run("make")
         self.fill(chance)
 
@@ -82,6 +83,35 @@ class KeptModel:
         self.reopen()
         number = self.cabinet.cut(cover)
         return ("9 cuts full", b"") if number is None else ("0", b"cut %d\n" % number)
+
+    def worked(self, text):
+        """The same of a job."""
+        try:
+            job = jobs.read(self.cabinet.catalogue, text)
+        except covers.Fault as fault:
+            return f"13 form {fault.kind} {fault.field}", b""
+        self.reopen()
+        return "0", jobs.told(job, *jobs.run(self.cabinet, job))
+
+
+def run_jobs(tally, program_path, folder, seed, cases):
+    """Jobs for `job` on a cache, compared with the model's reading, and with what it keeps."""
+    folder.mkdir(parents=True, exist_ok=True)
+    program, kept = Program(program_path, folder), None
+    for number in range(cases):
+        chance = random.Random(f"{seed} jobs {number}")
+        if kept is None or number % 20 == 0:
+            kept = KeptModel(program, chance, WIDE)
+        text = job_in(chance, kept.cabinet.catalogue)
+        ran, expected = program.run("job", data=text), kept.worked(text)
+        rule = ran.broken_rule((0, 13)) or (None if (ran.status, ran.output) == expected else "another answer")
+        if not rule and number % 5 == 0:
+            kept.reopen()
+            rule = None if program.run("usage").output == usage(kept.cabinet) else "another usage behind it"
+        tally.count("jobs", " ".join(ran.status.split()[:3]) if ran.code else "0")
+        if rule:
+            tally.finding("jobs", number, rule, job=text, expected=expected, received=(ran.status, ran.output))
+            kept = None
 
 
 def run_covers(tally, program_path, folder, seed, cases):
@@ -109,4 +139,5 @@ def run(tally, program_path, folder, seed, cases):
     begun = time.monotonic()
     run_catalogues(tally, program_path, folder / "catalogues", seed, cases)
     run_covers(tally, program_path, folder / "covers", seed, cases)
-    print(f"catalogues and covers: {cases:,} each in {time.monotonic() - begun:.0f} s", flush=True)
+    run_jobs(tally, program_path, folder / "jobs", seed, cases)
+    print(f"catalogues, covers and jobs: {cases:,} each in {time.monotonic() - begun:.0f} s", flush=True)

@@ -9,7 +9,8 @@ from program import Program
 KIND = "words"
 ENDS = {
     (b"schedule",): "0", (b"schedule", b"--kept"): "0", (b"replay",): "0", (b"replay", b"--kept"): "0", (b"make",): "0",
-    (b"expire",): "0", (b"usage",): "0", (b"truncate",): "13 form not json ", (b"--help",): "0", (b"--version",): "0",
+    (b"expire",): "0", (b"usage",): "0", (b"truncate",): "13 form not json ", (b"job",): "13 form not json ",
+    (b"--help",): "0", (b"--version",): "0",
 }
 OTHERS = {b"drill", b"1", b"", b"-", b"--", b"-h", b"help", b"--kept=1", b"serve", b"--port", b"\xff", b"\xc3\xa9", b"a" * 5000}
 WORDS = sorted({it for words in ENDS for it in words} | OTHERS)
@@ -50,8 +51,8 @@ def expected(words):
 
 
 def is_tried(words):
-    """Whether the model knows the end: `serve` with many words may be served, and `job` alone may be a command one day."""
-    return words != [b"job"] and not (words[:1] == [b"serve"] and len(words) > 3)
+    """Whether the model knows the end: `serve` with many words may be served."""
+    return words[:1] != [b"serve"] or len(words) <= 3
 
 
 def run(tally, path, folder, seed, cases):

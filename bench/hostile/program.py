@@ -15,7 +15,7 @@ FAULTS = {
 }
 FIELDS = set("Source KeptLimit CutLimit BlobBytes Quota Policy Grids Layers GridId Meters Corner Matrices MatrixId MatrixCorner Span Scale "
              "Tile Size LayerId LayerGrids Styles StyleId Breaks Dimensions DimensionId Values Default Meta Gutter Cell LayerQuota Ages".split())
-COVER_FIELDS = set("Layer Grid ZoomStart ZoomStop Bounds Format Style Dimensions".split())
+COVER_FIELDS = set("Layer Grid ZoomStart ZoomStop Bounds Format Style Dimensions Kind Threads".split())
 
 
 class Ran:

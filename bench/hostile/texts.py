@@ -12,6 +12,9 @@ BOUNDS = [
 ]
 VALUES = [None, True, -1, 0, 1, 2, 3, 1.0, 1e400, 2**64, "", "grey", "none", [], {}, ["0"], {"time": "a"}, "image/x-portable-pixmap"]
 
+KINDS = ["seed", "seed", "reseed", "truncate"]
+THREADS = [1, 1, 2, 2, 3, 4, 5, 7, 8, 8, 0, 9, 2**64 - 1, 2**64, -1, 1.0, "1", None]
+
 MEMBERS = ["layer", "grid", "zoomStart", "zoomStop", "bounds", "format", "style", "dimensions", "type", "threads", "x"]
 
 
@@ -41,9 +44,8 @@ def members_in(chance, catalogue):
     return told
 
 
-def cover_in(chance, catalogue):
-    """The bytes of a cover."""
-    told = members_in(chance, catalogue)
+def text_of(chance, told):
+    """The bytes of an object of such members, now and then a little off."""
     for _ in range(chance.choice((0, 0, 0, 1, 2))):
         if chance.random() < 0.4 and told:
             told.pop(chance.choice(sorted(told)))
@@ -53,6 +55,20 @@ def cover_in(chance, catalogue):
     if chance.random() < 0.03:
         text = with_odd_member(chance, text)
     return mutated(chance, text) if chance.random() < 0.15 else text
+
+
+def cover_in(chance, catalogue):
+    """The bytes of a cover."""
+    return text_of(chance, members_in(chance, catalogue))
+
+
+def job_in(chance, catalogue):
+    """The bytes of a job."""
+    told = members_in(chance, catalogue)
+    told["type"] = chance.choice(KINDS)
+    if chance.random() < 0.5:
+        told["threads"] = chance.choice(THREADS)
+    return text_of(chance, told)
 
 
 def with_odd_member(chance, text):
