@@ -31,7 +31,7 @@ use Rattle.kept_words.specs.Opened.{IsOpened, IsRefused}
 use Rattle.cabinet.specs.declared.replies.CutReply.{CutReply}
 use Rattle.cabinet.specs.declared.replies.CutReply.TheVariants as cut
 use Rattle.tile_command.specs.Causes.{CutReplies, Opening}
-use Rattle.tile_command.specs.Exact.{IsExact, TellsTests}
+use Rattle.tile_command.specs.Exact.{IsExact, OpensModelled, TellsTests}
 use Rattle.tile_command.proofs.Exact as files
 
 -- TWO REPLIES of one cut
@@ -194,6 +194,22 @@ module _ (h : CommandChange) (d : DiskChange) (clock : Readings) (m : AreModelle
   cuts_told (word.Upkeep upkeep.Usage) s x full = absurd full
   cuts_told word.Job s x full = absurd full
 
+-- A LONG INPUT
+
+-- where it is looked at the cache was opened
+not_kept_out : (h : CommandChange) (d : DiskChange) (clock : Readings) (m : AreModelled h) (quiet : NothingFails h d) (w : Word) → OpensModelled d w → IsInputOver h d clock w
+    → (cause : OpenFault) → IsCacheRefused h d clock w cause → ⊥
+not_kept_out h d clock m quiet (word.InMemory w) modelled long cause bad = bad
+not_kept_out h d clock m quiet (word.Kept kept.Schedule) told long cause bad =
+    let same = files.same_catalogue h d clock m quiet (bad.0, bad.1, tt) (long.0, long.1, tt) in
+    not_opened long.0 d told clock long.2.2.0 cause (subst (λ c. IsRefused c d cause) same bad.2.2) long.2.2.1
+not_kept_out h d clock m quiet (word.Kept kept.Replay) told long cause bad = long
+not_kept_out h d clock m quiet (word.Upkeep upkeep.Make) modelled long cause bad = bad
+not_kept_out h d clock m quiet (word.Upkeep upkeep.Truncate) modelled long cause bad = files.input_short h d clock m quiet 65536 _ long.2 bad.2.1
+not_kept_out h d clock m quiet (word.Upkeep upkeep.Expire) modelled long cause bad = long
+not_kept_out h d clock m quiet (word.Upkeep upkeep.Usage) modelled long cause bad = long
+not_kept_out h d clock m quiet word.Job modelled long cause bad = files.input_short h d clock m quiet 65536 _ long.2 bad.2.1
+
 -- ALL TESTS
 
 tests_told : (h : CommandChange) (d : DiskChange) (clock : Readings) (m : AreModelled h) (quiet : NothingFails h d) (w : Word) (s : Status) → IsCaused h d clock w s → TellsTests h d clock w s
@@ -202,7 +218,7 @@ tests_told h d clock m quiet w s x =
       long_catalogue = λ long. files.long_told h d clock m quiet s long (files.of_catalogue h d clock m quiet w s x);
       catalogue = λ fault faulty. files.faulty_told h d clock m quiet s fault faulty (files.of_catalogue h d clock m quiet w s x);
       long_document = λ long. files.document_told h d clock m quiet w s x long;
-      long_input = λ long refused. files.input_told h d clock m quiet w s x long refused;
+      long_input = λ modelled long. files.input_told h d clock m quiet w s x long (not_kept_out h d clock m quiet w modelled long);
       form = λ fault bad. files.form_told h d clock m quiet w s fault x bad;
       cache = λ told cause bad. refused_told h d clock m quiet told cause w s x bad;
       cuts = λ told full. cuts_told h d clock m quiet told w s x full;
