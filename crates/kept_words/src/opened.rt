@@ -57,10 +57,7 @@ pub fn opened<'a, D: Disk, L: Loan>(
     ensures refused_later { IfErr result (λ r. D.faults disk.entry.now ≤ D.faults r.1.now) }
 {
     match Cabinet::open(alloc, catalogue, clock, LentDisk::<D, L>::new(disk)) {
-        Ok(cabinet) => {
-            cabinet.known();
-            Ok(cabinet)
-        }
+        Ok(cabinet) => Ok(cabinet),
         Err(refusal) => {
             let (fault, lent) = refusal;
             Err((fault, lent.into_disk()))
