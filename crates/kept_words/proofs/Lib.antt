@@ -4,3 +4,4 @@ pub mod Dropping
 pub mod Unsaved
 pub mod Within
 pub mod Running
+pub mod Refusing

@@ -39,7 +39,7 @@ pub has_opened : (c : Catalogue) (clock : Readings) (told last_told : Bool) (mid
     → (IsTrue last_told → Every new.may_leave (IsLeftBy u.catalogue u)) → Rose faults.before faults.after ⊎ (IsTrue told → Every new.may_leave (Restores u))
     → HasOpened c clock (record { told = told; faults = faults; from = old; to = new }) s u
 has_opened c clock told last_told mid_faults faults old mid new s u opened same same_told left restored = record {
-  opened = record { replayed = opened.replayed; begins = opened.begins; opens = opened.opens };
+  opened = record { replayed = opened.replayed; begins = opened.begins; opens = opened.opens; number = opened.number };
   left = λ is. subst (λ x. Every new.may_leave (IsLeftBy x u)) (same ∙ ap (λ (x : State). x.catalogue) opened.begins) (left (subst IsTrue (sym same_told) is));
   restored = restored;
 }

@@ -1,5 +1,5 @@
 -- How the cabinet of a disk is opened for a word, and how it is refused.
-use Rattle.std.specs.Prelude.{◌≡◌, IsTrue}
+use Rattle.std.specs.Prelude.{◌≡◌, ◌<◌, ◌^◌, IsTrue}
 use Rattle.cabinet.specs.State.{State}
 use Rattle.cabinet_records.specs.Replay.{Replayed}
 use Rattle.catalog.specs.declared.catalogue.Catalogue.{Catalogue}
@@ -13,11 +13,13 @@ use Rattle.kept_words.specs.declared.end.KeptEnd.TheVariants as end
 use Rattle.kept_words.specs.Change.{DiskChange}
 use Rattle.kept_words.specs.Crash.{IsLeft, IsRestored}
 
--- where the disk is modelled its content opened to these records, and the cabinet began with what they come to
+-- where the disk is modelled its content opened to these records, and the cabinet began with what they come to, under a number
+-- below 2^24
 pub record IsOpened (c : Catalogue) (clock : Readings) (d : DiskChange) (s : State) : Type 0 where
   pub replayed : Replayed
   pub begins : s ≡ opened_as d.told d.from.seen c clock replayed
   pub opens : IsTrue d.told → OpensTo c d.from.seen replayed
+  pub number : s.opening.number < 2 ^ 24
 
 -- a cabinet was opened, came from one state to another, and left its disk
 pub record HasOpened (c : Catalogue) (clock : Readings) (d : DiskChange) (first last : State) : Type 0 where

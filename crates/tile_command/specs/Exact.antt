@@ -3,8 +3,8 @@ use Rattle.std.specs.Prelude.{◌≡◌, ◌⊎◌, IsSome, IsTrue, Option, Some
 use Rattle.catalog.specs.declared.fault.CatalogueFault.{CatalogueFault}
 use Rattle.clock.specs.Readings.{Readings}
 use Rattle.command_words.specs.declared.words.Word.{Word}
+use Rattle.command_words.specs.declared.words.Word.TheVariants as word
 use Rattle.gate_journal.specs.declared.fault.OpenFault.{OpenFault}
-use Rattle.gate_journal.specs.declared.fault.OpenFault.TheVariants as open_fault
 use Rattle.job_forms.specs.declared.fault.JobFault.{JobFault}
 use Rattle.kept_words.specs.Change.{DiskChange}
 use Rattle.tile_command.specs.Causes.{AreCutsFull, IsCacheRefused, IsFaulty, IsInputOver, IsMalformed, IsOver, NothingFails, OfDocument, UnderCatalogue}
@@ -22,26 +22,24 @@ pub record AreModelled (h : CommandChange) : Type 0 where
 abbrev pub IsTold : Status → Status → Type 0
 IsTold told s = (s ≡ told) ⊎ (s ≡ status.OutOfMemory)
 
--- the content of the disk is no cache, or one of another catalogue
-abbrev pub IsForeign : OpenFault → Type 0
-IsForeign open_fault.NotACache = ⊤
-IsForeign (open_fault.CatalogueDiffers found asked) = ⊤
-IsForeign (open_fault.BadRecord slot) = ⊥
-IsForeign open_fault.Spent = ⊥
-IsForeign open_fault.DiskFault = ⊥
-IsForeign open_fault.OutOfMemory = ⊥
+-- the disk is modelled, of a word that opens its cache before it looks at its input
+abbrev pub OpensModelled : DiskChange → Word → Type 0
+OpensModelled d (word.InMemory w) = ⊤
+OpensModelled d (word.Kept w) = IsTrue d.told
+OpensModelled d (word.Upkeep w) = ⊤
+OpensModelled d word.Job = ⊤
 
 -- each file of more bytes than it may have is told as too long, and each fault of the catalogue, of the cover or of the job as that fault;
--- the input of a schedule on the cache of the disk is looked at where that is opened. So is a modelled disk that isn't this catalogue's
--- cache, by any word that opens it, and that no cut has room, where it is opened.
+-- the input of a schedule on the cache of the disk is looked at where that is opened. So is each cause for which a modelled disk isn't
+-- opened, by any word that opens it, the slot of a bad record included, and that no number is left or no cut has room, where it is opened.
 pub record TellsTests (h : CommandChange) (d : DiskChange) (clock : Readings) (w : Word) (s : Status) : Type 0 where
   pub long_catalogue : IsOver 1048576 h.catalogue → IsTold status.TooLong s
   pub catalogue : (fault : CatalogueFault) → IsFaulty h fault → IsTold (status.Catalogue fault) s
   pub long_document : OfDocument w (UnderCatalogue h (λ c. IsOver 4194304 h.capabilities)) → IsTold status.TooLong s
-  pub long_input : IsInputOver h d clock w → ((cause : OpenFault) → IsCacheRefused h d clock w cause → ⊥) → IsTold status.TooLong s
+  pub long_input : OpensModelled d w → IsInputOver h d clock w → IsTold status.TooLong s
   pub form : (fault : JobFault) → IsMalformed h w fault → IsTold (status.Form fault) s
-  pub cache : IsTrue d.told → (cause : OpenFault) → IsForeign cause → IsCacheRefused h d clock w cause → IsTold (status.Cache cause) s
-  pub cuts : IsTrue d.told → AreCutsFull h d clock w → ((cause : OpenFault) → IsCacheRefused h d clock w cause → ⊥) → IsTold status.CutsFull s
+  pub cache : IsTrue d.told → (cause : OpenFault) → IsCacheRefused h d clock w cause → IsTold (status.Cache cause) s
+  pub cuts : IsTrue d.told → AreCutsFull h d clock w → IsTold status.CutsFull s
 
 -- so it is of modelled files, where nothing fails
 abbrev pub IsExact : CommandChange → DiskChange → Readings → Option Word → Status → Type 0
