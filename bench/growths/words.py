@@ -12,9 +12,9 @@ from catalogues import read
 from forks import schedule_ends, session_ends
 from honest import Broken, check_schedule, check_session, demand
 from journal import SLOT, Refusal, bodies_in, half_in_force, opened, slots_in
-from refusals import EVER
+from refusals import ASKED, EVER
 
-OUT = "10 out of memory"
+OUT, FURTHER = "10 out of memory", 300
 CUT, DROPPED = re.compile(rb"cut ([0-9]+)\n"), re.compile(rb"dropped ([0-9]+)\n")
 DONE = re.compile(rb"job (seed|reseed|truncate) places ([0-9]+) done ([0-9]+) failed ([0-9]+)\n")
 SUMMARY = re.compile(rb"drill 7 lines 4096 answers ([0-9]+) hits ([0-9]+) misses ([0-9]+) other ([0-9]+)\nsha256 [0-9a-f]{64}\n")
@@ -252,7 +252,19 @@ def run_case(tally, stage, case, most):
         while number <= most and try_one(tally, stage, case, check, number, last(number)):
             number += 1
         count = number - 1
-    print(f"{case.name}: {count:,} growths{' at least' if count == most else ''}, {time.monotonic() - began:.0f} s", flush=True)
+        if number > most:
+            count = try_further(tally, stage, case, check, most, last)
+    print(f"{case.name}: {count:,} growths, {time.monotonic() - began:.0f} s", flush=True)
+
+
+def try_further(tally, stage, case, check, most, last):
+    """Refuses some of the growths behind the first ones, at equal steps. How many growths a whole run has."""
+    stage.set(case)
+    stage.program.refused(0, 0, *case.words, data=case.data)
+    total = stage.program.growths.number(ASKED)
+    for number in range(most + 1, total + 1, max((total - most) // FURTHER, 1)):
+        try_one(tally, stage, case, check, number, last(number))
+    return total
 
 
 def run(tally, program, names, most):
