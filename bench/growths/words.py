@@ -7,11 +7,12 @@ import covers
 import jobs
 from answers import usage
 from cabinet import Cabinet
-from cases import CASES, DOCUMENT, LINES, KEPT
+from cases import CASES, DOCUMENT, KEPT, LINES
 from catalogues import read
 from forks import schedule_ends, session_ends
 from honest import Broken, check_schedule, check_session, demand
-from journal import SLOT, Refusal, bodies_in, half_in_force, opened, slots_in
+from journal import Refusal, bodies_in, half_in_force, opened, slots_in
+from pictures import tile_text, tiles_of
 from refusals import ASKED, EVER
 
 OUT, FURTHER = "10 out of memory", 300
@@ -30,6 +31,16 @@ def state_of(cabinet, with_uses):
 def upholds(cabinet, cuts):
     """Whether nothing is kept from before one of these truncations that it covers."""
     return all(it.number > number or not covers.hits(cabinet.catalogue, cover, block) for number, cover in cuts for block, it in cabinet.kept.items())
+
+
+def has_pictures(cabinet):
+    """Whether each kept metatile has the tiles of its number."""
+    for block, it in cabinet.kept.items():
+        rows, cols = tiles_of(cabinet.catalogue, block)
+        texts = [tile_text(cabinet.catalogue, it.number, block._replace(row=row, col=col)) for row in rows for col in cols]
+        if b"".join(texts) != cabinet.blobs[block]:
+            return False
+    return True
 
 
 class Stage:
@@ -223,7 +234,9 @@ def opens_again(stage, case):
     """The next run of another word, of which nothing is refused, tells what is kept."""
     if not case.kept:
         return
-    expected = usage(stage.opened())
+    cabinet = stage.opened()
+    demand(has_pictures(cabinet), "a kept metatile has another picture than that of its number")
+    expected = usage(cabinet)
     ran = stage.program.run("usage")
     demand((ran.status, ran.output) == ("0", expected), "the next word has another answer")
 
