@@ -7,14 +7,15 @@ import covers
 import jobs
 from answers import usage
 from cabinet import Cabinet
-from cases import CASES, DOCUMENT, LINES, KEPT
+from cases import CASES, DOCUMENT, KEPT, LINES
 from catalogues import read
 from forks import schedule_ends, session_ends
 from honest import Broken, check_schedule, check_session, demand
-from journal import SLOT, Refusal, bodies_in, half_in_force, opened, slots_in
-from refusals import EVER
+from journal import Refusal, bodies_in, half_in_force, opened, slots_in
+from pictures import tile_text, tiles_of
+from refusals import ASKED, EVER
 
-OUT = "10 out of memory"
+OUT, FURTHER = "10 out of memory", 300
 CUT, DROPPED = re.compile(rb"cut ([0-9]+)\n"), re.compile(rb"dropped ([0-9]+)\n")
 DONE = re.compile(rb"job (seed|reseed|truncate) places ([0-9]+) done ([0-9]+) failed ([0-9]+)\n")
 SUMMARY = re.compile(rb"drill 7 lines 4096 answers ([0-9]+) hits ([0-9]+) misses ([0-9]+) other ([0-9]+)\nsha256 [0-9a-f]{64}\n")
@@ -30,6 +31,16 @@ def state_of(cabinet, with_uses):
 def upholds(cabinet, cuts):
     """Whether nothing is kept from before one of these truncations that it covers."""
     return all(it.number > number or not covers.hits(cabinet.catalogue, cover, block) for number, cover in cuts for block, it in cabinet.kept.items())
+
+
+def has_pictures(cabinet):
+    """Whether each kept metatile has the tiles of its number."""
+    for block, it in cabinet.kept.items():
+        rows, cols = tiles_of(cabinet.catalogue, block)
+        texts = [tile_text(cabinet.catalogue, it.number, block._replace(row=row, col=col)) for row in rows for col in cols]
+        if b"".join(texts) != cabinet.blobs[block]:
+            return False
+    return True
 
 
 class Stage:
@@ -223,7 +234,9 @@ def opens_again(stage, case):
     """The next run of another word, of which nothing is refused, tells what is kept."""
     if not case.kept:
         return
-    expected = usage(stage.opened())
+    cabinet = stage.opened()
+    demand(has_pictures(cabinet), "a kept metatile has another picture than that of its number")
+    expected = usage(cabinet)
     ran = stage.program.run("usage")
     demand((ran.status, ran.output) == ("0", expected), "the next word has another answer")
 
@@ -252,7 +265,19 @@ def run_case(tally, stage, case, most):
         while number <= most and try_one(tally, stage, case, check, number, last(number)):
             number += 1
         count = number - 1
-    print(f"{case.name}: {count:,} growths{' at least' if count == most else ''}, {time.monotonic() - began:.0f} s", flush=True)
+        if number > most:
+            count = try_further(tally, stage, case, check, most, last)
+    print(f"{case.name}: {count:,} growths, {time.monotonic() - began:.0f} s", flush=True)
+
+
+def try_further(tally, stage, case, check, most, last):
+    """Refuses some of the growths behind the first ones, at equal steps. How many growths a whole run has."""
+    stage.set(case)
+    stage.program.refused(0, 0, *case.words, data=case.data)
+    total = stage.program.growths.number(ASKED)
+    for number in range(most + 1, total + 1, max((total - most) // FURTHER, 1)):
+        try_one(tally, stage, case, check, number, last(number))
+    return total
 
 
 def run(tally, program, names, most):
