@@ -29,6 +29,11 @@ Comes (Err unconfigured.TooLong) r = ⊥
 Comes (Err (unconfigured.Fault fault)) r = r ≡ Err fault
 Comes (Err unconfigured.OutOfMemory) r = ⊤
 
+-- the number of the source that a text's catalogue names; 0 where the text is refused
+abbrev pub source_of : Result Catalogue CatalogueFault → ℕ
+source_of (Ok c) = c.source
+source_of (Err fault) = 0
+
 -- the input was read to its end, and its text comes to this
 pub record IsRead (i : InputChange) (r : Result Catalogue CatalogueFault) : Type 0 where
   pub text : List ℕ

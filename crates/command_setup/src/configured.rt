@@ -3,14 +3,14 @@ ghost use Rattle.std.specs.Prelude.{◌≡◌, IfOk};
 ghost use Rattle.catalog.specs.Valid.{IsValid};
 ghost use Rattle.config_text.specs.Text.{catalogue_of};
 ghost use Rattle.tile_service.specs.Outside.{InputChange};
-ghost use Rattle.command_setup.specs.Setup.{Configures, Comes};
+ghost use Rattle.command_setup.specs.Setup.{Configures, Comes, source_of};
 
 use catalog::catalogue::Catalogue;
 use catalog::fault::CatalogueFault;
 use config_text::read::read_catalogue;
 use http_wire::inputs::{InputEnd, read_all};
 use http_wire::streams::ByteSource;
-use std::alloc::Global;
+use std::alloc::{AllocError, Global};
 
 /// The most bytes of a catalogue.
 pub const CATALOGUE_LIMIT: usize = 1_048_576;
@@ -41,9 +41,16 @@ fn catalogue_in(alloc: Global, text: &[u8]) -> Result<Catalogue, Unconfigured>
     }
 }
 
-/// The number of the source in the catalogue of this text; 0 where the text is refused.
-pub fn source_number(alloc: Global, text: &[u8]) -> u32 {
-    read_catalogue(alloc, text).map_or(0, |catalogue| catalogue.source)
+/// The number of the source in the catalogue of this text; 0 where the text is refused. `AllocError` where memory runs out: no number then
+/// stands in for it, since a source of another number makes other pictures.
+pub fn source_number(alloc: Global, text: &[u8]) -> Result<u32, AllocError>
+    ensures { IfOk result (λ number. number ≡ source_of (catalogue_of text.now)) }
+{
+    match catalogue_in(alloc, text) {
+        Ok(catalogue) => Ok(catalogue.source),
+        Err(Unconfigured::Fault(_)) => Ok(0),
+        Err(_) => Err(AllocError),
+    }
 }
 
 /// Reads the catalogue that a command works on.

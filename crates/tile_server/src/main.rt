@@ -100,7 +100,7 @@ fn catalogue_of(rt: &(impl Files<File = File> + AllocGlobal)) -> Result<Catalogu
         Err(InputEnd::TooLong) => (vec![in alloc; b' '; CATALOGUE_LIMIT + 1]?, Vec::new(alloc)),
         Err(InputEnd::OutOfMemory) => return Err(AllocError),
     };
-    let source = source_number(alloc, text.as_slice());
+    let source = source_number(alloc, text.as_slice())?;
     Ok(Catalogue {
         input: Input::Read(MemorySource::new(text, PIECE, fails)),
         source,

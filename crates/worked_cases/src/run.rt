@@ -113,7 +113,7 @@ pub fn came_to_by(
     let mut input = stream(alloc, given.input.as_slice(), &fakes.input)?;
     let output_fails = Vec::from_slice(alloc, fakes.output.fails.as_slice())?;
     let mut output = MemorySink::new(alloc, output_fails);
-    let number = source_number(alloc, given.catalogue.as_slice());
+    let number = source_number(alloc, given.catalogue.as_slice())?;
     let source_fails = Vec::from_slice(alloc, fakes.source.fails.as_slice())?;
     let mut source = Scripted::new(number, source_fails);
     let mut disk = disk;
