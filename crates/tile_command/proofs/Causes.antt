@@ -16,7 +16,7 @@ use Rattle.http_wire.specs.declared.message.Message.{Message}
 use Rattle.http_wire.specs.declared.message.Stop.TheVariants as stop
 use Rattle.config_text.specs.Text.{catalogue_of}
 use Rattle.kept_words.specs.Change.{DiskChange}
-use Rattle.tile_command.specs.Causes.{BreaksOff, ComesToEnd, HaveLast, IsCaused, IsOver, OfDocument, OfInput, RunRefuses}
+use Rattle.tile_command.specs.Causes.{BreaksOff, ComesToEnd, HaveLast, IsCaused, IsOver, OfDocument, OfInput, RefusesSo, RunRefuses}
 use Rattle.tile_command.specs.Change.{CommandChange}
 use Rattle.tile_command.specs.Statuses.{status_of_refusal, status_of_schedule, status_of_session}
 use Rattle.tile_command.specs.declared.status.Status.TheVariants as status
@@ -91,13 +91,13 @@ module _ (h : CommandChange) (d : DiskChange) (clock : Readings) (w : Word) wher
 run_whole : (h : CommandChange) (o : Outside) (s : State) (document : List ℕ) (t : World) (end : RunEnd) (n : Option ℕ)
     → ((lines : List (List ℕ)) (chances : List Chance) (u : World) → Ends o (world_of s document free_seats) lines chances u end → (run (world_of s document free_seats) 1 lines chances).refused ≡ n)
     → ((all lines : List (List ℕ)) → GoesThrough all end lines → lines ≡ all)
-    → HasRunAll h.input o (world_of s document free_seats) t end → RunRefuses h o.disk document s n
+    → HasRunAll h.input o (world_of s document free_seats) t end → RunRefuses h o document s n
 run_whole h o s document t end n refuses all r = (
   r.ran.chances,
   r.ran.faults,
-  whole_text (λ text. (length text ≤ 16777216) × ((run (world_of s document free_seats) 1 (lines_of text) r.ran.chances).refused ≡ n)) _ _ r.text r.read r.at_end (
+  whole_text (λ text. (length text ≤ 16777216) × RefusesSo o (world_of s document free_seats) (run (world_of s document free_seats) 1 (lines_of text) r.ran.chances) n) _ _ r.text r.read r.at_end (
     r.short,
-    subst (λ lines. (run (world_of s document free_seats) 1 lines r.ran.chances).refused ≡ n) (all _ _ r.ran.through) (refuses _ _ _ r.ran.ends),
+    subst (λ lines. RefusesSo o (world_of s document free_seats) (run (world_of s document free_seats) 1 lines r.ran.chances) n) (all _ _ r.ran.through) (refuses _ _ _ r.ran.ends, r.ran.upheld),
   ),
 )
 
@@ -126,8 +126,8 @@ module _ (h : CommandChange) (d : DiskChange) (clock : Readings) (w : Word) (tak
   pub by_schedule : (o : Outside) (s : State) (document : List ℕ)
       → (Rose o.writes.before o.writes.after → Rose h.outside.writes.before h.outside.writes.after)
       → (IsOver 16777216 h.input → IsCaused h d clock w status.TooLong)
-      → (RunRefuses h o.disk document s None → IsCaused h d clock w status.Done)
-      → ((n : ℕ) → RunRefuses h o.disk document s (Some n) → IsCaused h d clock w (status.Line n))
+      → (RunRefuses h o document s None → IsCaused h d clock w status.Done)
+      → ((n : ℕ) → RunRefuses h o document s (Some n) → IsCaused h d clock w (status.Line n))
       → (U : Type 0) (after : World) (e : ScheduleEnd) → Schedules h.input o U (world_of s document free_seats) after e → IsCaused h d clock w (status_of_schedule e)
   by_schedule o s document writes long through line U after schedule_end.Done x = through (run_whole h o s document after run_end.Done None (λ lines chances u e. e.0) (λ all lines e. e) x)
   by_schedule o s document writes long through line U after (schedule_end.Line n) x = line n (run_whole h o s document after (run_end.Line n) (Some n) (λ lines chances u e. e.0) (λ all lines e. e) x)

@@ -1,4 +1,4 @@
--- What is refused of a modelled disk is told: why it isn't opened, or that no cut has room or a number. So each test is.
+-- What is refused of a modelled disk is told: why it isn't opened, or that no cut has room or a number.
 use Rattle.std.specs.Prelude.{ℕ, ◌≡◌, ◌⊎◌, IsSome, IsTrue, List, Option, Some, None}
 use Rattle.std.proofs.Common.{Ok, ap, arith, inl, inr, refl, subst, sym, ◌∙◌}
 use Rattle.catalog.specs.declared.catalogue.Catalogue.{Catalogue}
@@ -12,7 +12,7 @@ use Rattle.job_forms.specs.Cover.{cover_of}
 use Rattle.job_forms.specs.declared.fault.JobFault.{JobFault}
 use Rattle.jobs.specs.Reading.{job_of}
 use Rattle.kept_words.specs.Change.{DiskChange}
-use Rattle.tile_command.specs.Causes.{AreCutsFull, BreaksStream, HasCause, IsCacheRefused, IsCaused, IsInputOver, IsMalformed, IsOver, IsThrough, NothingFails, OfDocument, RefusesLine, UnderCatalogue}
+use Rattle.tile_command.specs.Causes.{AreCutsFull, BreaksStream, IsCacheRefused, IsCaused, IsInputOver, IsMalformed, IsOver, IsThrough, NothingFails, OfDocument, RefusesLine, UnderCatalogue}
 use Rattle.tile_command.specs.Change.{CommandChange}
 use Rattle.tile_command.specs.declared.status.Status.{Status}
 use Rattle.tile_command.specs.declared.status.Status.TheVariants as status
@@ -31,7 +31,7 @@ use Rattle.kept_words.specs.Opened.{IsOpened, IsRefused}
 use Rattle.cabinet.specs.declared.replies.CutReply.{CutReply}
 use Rattle.cabinet.specs.declared.replies.CutReply.TheVariants as cut
 use Rattle.tile_command.specs.Causes.{CutReplies, Opening}
-use Rattle.tile_command.specs.Exact.{IsExact, OpensModelled, TellsTests}
+use Rattle.tile_command.specs.Exact.{OpensModelled}
 use Rattle.tile_command.proofs.Exact as files
 
 -- TWO REPLIES of one cut
@@ -50,7 +50,7 @@ spent_or_full : (s : State) (cover : Cover) (u v : State) → Cuts s cover cut.S
 spent_or_full s cover u v spent full = none_there _ spent.0 full.0
 
 module _ (h : CommandChange) (d : DiskChange) (clock : Readings) (m : AreModelled h) (quiet : NothingFails h d) (told : IsTrue d.told) where
-  opened_once : (c : Catalogue) (s t : State) → IsOpened c clock d s → IsOpened c clock d t → s ≡ t
+  pub opened_once : (c : Catalogue) (s t : State) → IsOpened c clock d s → IsOpened c clock d t → s ≡ t
   opened_once c s t a b = a.begins ∙ ap (λ r. opened_as d.told d.from.seen c clock r) (opens_once c d.from.seen a.replayed b.replayed (a.opens told) (b.opens told)) ∙ sym b.begins
 
   one_cover : (P Q : Catalogue → Cover → Type 0) (x : UnderInput h cover_of P) (y : UnderInput h cover_of Q) → x.2.0 ≡ y.2.0
@@ -139,7 +139,7 @@ module _ (h : CommandChange) (d : DiskChange) (clock : Readings) (m : AreModelle
       (λ n y. y) (λ end y. y) (λ y. cut_apart bad cut.Full spent_or_full y)
       (λ y. files.input_short h d clock m quiet 65536 _ y.2 bad.2.1) (λ y. y) (λ fault y. files.well_and_ill h d clock m quiet cover_of fault _ y bad) (cut_alike bad) x
 
-  refused_told : (w : Word) (s : Status) → IsCaused h d clock w s → IsCacheRefused h d clock w cause → IsTold (status.Cache cause) s
+  pub refused_told : (w : Word) (s : Status) → IsCaused h d clock w s → IsCacheRefused h d clock w cause → IsTold (status.Cache cause) s
   refused_told (word.InMemory w) s x bad = absurd bad
   refused_told (word.Kept kept.Schedule) s x bad =
       let b : Before = (bad.0, bad.1, tt) in
@@ -185,7 +185,7 @@ module _ (h : CommandChange) (d : DiskChange) (clock : Readings) (m : AreModelle
   cut_told status.TooLong full (inr (inl x)) = absurd x
   cut_told status.TooLong full (inr (inr x)) = absurd (files.input_short h d clock m quiet 65536 _ x.2 full.2.1)
 
-  cuts_told : (w : Word) (s : Status) → IsCaused h d clock w s → AreCutsFull h d clock w → IsTold status.CutsFull s
+  pub cuts_told : (w : Word) (s : Status) → IsCaused h d clock w s → AreCutsFull h d clock w → IsTold status.CutsFull s
   cuts_told (word.InMemory w) s x full = absurd full
   cuts_told (word.Kept w) s x full = absurd full
   cuts_told (word.Upkeep upkeep.Make) s x full = absurd full
@@ -197,7 +197,7 @@ module _ (h : CommandChange) (d : DiskChange) (clock : Readings) (m : AreModelle
 -- A LONG INPUT
 
 -- where it is looked at the cache was opened
-not_kept_out : (h : CommandChange) (d : DiskChange) (clock : Readings) (m : AreModelled h) (quiet : NothingFails h d) (w : Word) → OpensModelled d w → IsInputOver h d clock w
+pub not_kept_out : (h : CommandChange) (d : DiskChange) (clock : Readings) (m : AreModelled h) (quiet : NothingFails h d) (w : Word) → OpensModelled d w → IsInputOver h d clock w
     → (cause : OpenFault) → IsCacheRefused h d clock w cause → ⊥
 not_kept_out h d clock m quiet (word.InMemory w) modelled long cause bad = bad
 not_kept_out h d clock m quiet (word.Kept kept.Schedule) told long cause bad =
@@ -209,21 +209,3 @@ not_kept_out h d clock m quiet (word.Upkeep upkeep.Truncate) modelled long cause
 not_kept_out h d clock m quiet (word.Upkeep upkeep.Expire) modelled long cause bad = long
 not_kept_out h d clock m quiet (word.Upkeep upkeep.Usage) modelled long cause bad = long
 not_kept_out h d clock m quiet word.Job modelled long cause bad = files.input_short h d clock m quiet 65536 _ long.2 bad.2.1
-
--- ALL TESTS
-
-tests_told : (h : CommandChange) (d : DiskChange) (clock : Readings) (m : AreModelled h) (quiet : NothingFails h d) (w : Word) (s : Status) → IsCaused h d clock w s → TellsTests h d clock w s
-tests_told h d clock m quiet w s x =
-    record {
-      long_catalogue = λ long. files.long_told h d clock m quiet s long (files.of_catalogue h d clock m quiet w s x);
-      catalogue = λ fault faulty. files.faulty_told h d clock m quiet s fault faulty (files.of_catalogue h d clock m quiet w s x);
-      long_document = λ long. files.document_told h d clock m quiet w s x long;
-      long_input = λ modelled long. files.input_told h d clock m quiet w s x long (not_kept_out h d clock m quiet w modelled long);
-      form = λ fault bad. files.form_told h d clock m quiet w s fault x bad;
-      cache = λ told cause bad. refused_told h d clock m quiet told cause w s x bad;
-      cuts = λ told full. cuts_told h d clock m quiet told w s x full;
-    }
-
-pub exact : (h : CommandChange) (d : DiskChange) (clock : Readings) (read : Option Word) (s : Status) → HasCause h d clock read s → IsExact h d clock read s
-exact h d clock None s cause = tt
-exact h d clock (Some w) s cause = λ modelled quiet. tests_told h d clock modelled quiet w s cause

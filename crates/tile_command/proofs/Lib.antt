@@ -4,3 +4,6 @@ pub mod Causes
 pub mod Caused
 pub mod Exact
 pub mod Disks
+pub mod Breaks
+pub mod Inputs
+pub mod Tests

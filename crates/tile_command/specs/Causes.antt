@@ -27,15 +27,16 @@ use Rattle.job_forms.specs.Outcome.{Outcome}
 use Rattle.jobs.specs.Reading.{job_of}
 use Rattle.kept_words.specs.Change.{DiskChange, HasFailed}
 use Rattle.kept_words.specs.Opened.{IsOpened, IsRefused}
-use Rattle.tile_command.specs.Change.{CommandChange}
+use Rattle.tile_command.specs.Change.{CommandChange, without_disk}
 use Rattle.tile_command.specs.declared.status.Status.{Status}
 use Rattle.tile_command.specs.declared.status.Status.TheVariants as status
 use Rattle.tile_requests.specs.Requests.{Chance}
 use Rattle.tile_service.specs.declared.session.SessionEnd.{SessionEnd}
 use Rattle.tile_service.specs.declared.session.SessionEnd.TheVariants as session
 use Rattle.tile_service.specs.Lines.{lines_of}
-use Rattle.tile_service.specs.Outside.{FaultCounts, InputChange, counts}
-use Rattle.tile_service.specs.Run.{disk_faults, free_seats, run, world_of}
+use Rattle.tile_service.specs.Outside.{InputChange, Outside}
+use Rattle.tile_service.specs.Run.{Run, World, disk_faults, free_seats, run, world_of}
+use Rattle.tile_service.specs.Schedules.{IsUpheld}
 use Rattle.tile_service.specs.SessionEnds.{AreOpen, GoOn, StopsThere}
 use Rattle.truncation_list.specs.declared.cover.Cover.{Cover}
 
@@ -133,19 +134,23 @@ IsMalformed h word.Job fault = IsMalformedAs h job_of fault
 
 -- LINES
 
+-- a run refuses this line, or none, and what is promised of its answers holds: so they tell no more failures of the source than its count rose by
+abbrev pub RefusesSo : Outside → World → Run → Option ℕ → Type 0
+RefusesSo o w r refused = (r.refused ≡ refused) × IsUpheld o.told o.renders w r
+
 -- A run of the lines of the input from this cabinet refuses this line, or none, under chances that name no more faults of the disk than
 -- its count rose by. A line is refused that is no line of a schedule, steps an idle actor, or starts a busy one.
-abbrev pub RunRefuses : CommandChange → FaultCounts → List ℕ → State → Option ℕ → Type 0
-RunRefuses h disk document s refused =
-    (chances : List Chance) × RoseBy (disk_faults chances) disk.before disk.after
-    × IfSome h.input.from (λ text. (length text ≤ 16777216) × ((run (world_of s document free_seats) 1 (lines_of text) chances).refused ≡ refused))
+abbrev pub RunRefuses : CommandChange → Outside → List ℕ → State → Option ℕ → Type 0
+RunRefuses h o document s refused =
+    (chances : List Chance) × RoseBy (disk_faults chances) o.disk.before o.disk.after
+    × IfSome h.input.from (λ text. (length text ≤ 16777216) × RefusesSo o (world_of s document free_seats) (run (world_of s document free_seats) 1 (lines_of text) chances) refused)
 
 -- so it is of the schedule of a word: it begins with a cabinet in which nothing has happened, or with what the disk opens to
 abbrev pub RefusesLine : CommandChange → DiskChange → Readings → Word → ℕ → Type 0
-RefusesLine h d clock (word.InMemory memory.Schedule) n = UnderBoth h (λ c document. RunRefuses h (counts 0 0) document (fresh_state c clock) (Some n))
+RefusesLine h d clock (word.InMemory memory.Schedule) n = UnderBoth h (λ c document. RunRefuses h (without_disk h).outside document (fresh_state c clock) (Some n))
 RefusesLine h d clock (word.InMemory memory.Replay) n = ⊥
 RefusesLine h d clock (word.InMemory (memory.Drill number)) n = ⊥
-RefusesLine h d clock (word.Kept kept.Schedule) n = UnderBoth h (λ c document. Opening d clock c (λ s. RunRefuses h h.outside.disk document s (Some n)))
+RefusesLine h d clock (word.Kept kept.Schedule) n = UnderBoth h (λ c document. Opening d clock c (λ s. RunRefuses h h.outside document s (Some n)))
 RefusesLine h d clock (word.Kept kept.Replay) n = ⊥
 RefusesLine h d clock (word.Upkeep w) n = ⊥
 RefusesLine h d clock word.Job n = ⊥
@@ -211,10 +216,10 @@ AreCutsFull h d clock word.Job = ⊥
 
 -- what a word works on passed all tests
 abbrev pub IsThrough : CommandChange → DiskChange → Readings → Word → Type 0
-IsThrough h d clock (word.InMemory memory.Schedule) = UnderBoth h (λ c document. RunRefuses h (counts 0 0) document (fresh_state c clock) None)
+IsThrough h d clock (word.InMemory memory.Schedule) = UnderBoth h (λ c document. RunRefuses h (without_disk h).outside document (fresh_state c clock) None)
 IsThrough h d clock (word.InMemory memory.Replay) = UnderBoth h (λ c document. ComesToEnd h.input.from)
 IsThrough h d clock (word.InMemory (memory.Drill number)) = UnderBoth h (λ c document. ⊤)
-IsThrough h d clock (word.Kept kept.Schedule) = UnderBoth h (λ c document. Opening d clock c (λ s. RunRefuses h h.outside.disk document s None))
+IsThrough h d clock (word.Kept kept.Schedule) = UnderBoth h (λ c document. Opening d clock c (λ s. RunRefuses h h.outside document s None))
 IsThrough h d clock (word.Kept kept.Replay) = UnderBoth h (λ c document. Opening d clock c (λ s. ComesToEnd h.input.from))
 IsThrough h d clock (word.Upkeep upkeep.Make) = UnderCatalogue h (λ c. ⊤)
 IsThrough h d clock (word.Upkeep upkeep.Truncate) = UnderInput h cover_of (λ c cover. (t : ℕ) × CutReplies d clock c cover (cut.Done t))

@@ -2,9 +2,8 @@ use Rattle.std.proofs.Common.{None, Some, ap, sym, ◌∙◌}
 use Rattle.std.specs.Prelude.{⊤}
 use Rattle.command_words.specs.declared.words.Word.TheVariants as word
 use Rattle.tile_command.proofs.Caused.{caused, completed}
-use Rattle.tile_command.proofs.Disks.{exact}
+use Rattle.tile_command.proofs.Tests.{exact}
 use Rattle.tile_command.proofs.command.run_command.Goals as goal
-use Rattle.tile_service.specs.Outside.{counts}
 
 pub returns-in-Some-InMemory-clause-cause : goal.returns-in-Some-InMemory-clause-cause
 returns-in-Some-InMemory-clause-cause g c =
@@ -17,7 +16,7 @@ returns-in-Some-Kept-clause-cause g c =
 pub returns-in-Some-Upkeep-clause-cause : goal.returns-in-Some-Upkeep-clause-cause
 returns-in-Some-Upkeep-clause-cause g c =
     caused
-    (record { catalogue = _; capabilities = record { reads = _; from = _; to = None }; input = _; outside = record { told = None; renders = counts 0 0; disk = _; writes = _; from = _; to = _ } })
+    (record { catalogue = _; capabilities = record { reads = _; from = _; to = None }; input = _; outside = record { told = _; renders = _; disk = _; writes = _; from = _; to = _ } })
     (record { catalogue = ⊤; capabilities = ⊤; input = _; output = _; source = ⊤ }) _ _ _ (word.Upkeep c.in-Some-Upkeep.word) c.kept_up.result (c.kept_up.ensures.tells, tt, tt) _ (sym c.word_of.ensures ∙ c.in-Some-Upkeep.is ∙ ap (λ w. Some w) c.in-Some-Upkeep.field-0-is)
 
 pub returns-in-Some-Job-clause-cause : goal.returns-in-Some-Job-clause-cause
