@@ -2,8 +2,17 @@
 
     python3 model.py 1
 
-prints the two lines that `./tile_server drill 1` prints. It knows no metatile larger than a tile, no quota and no full list,
-since the built-in catalogue has none of them: 21 tiles of one layer, and at most one truncation in force for each of 3 levels.
+prints the two lines that `./tile_server drill 1` prints;
+
+    python3 model.py 1 5
+
+those of a drill whose source fails at its fifth rendering, and
+
+    python3 model.py 1 each
+
+those of a drill for each rendering that the first one makes, in which that one alone fails. It knows no metatile larger than a
+tile, no quota and no full list, since the built-in catalogue has none of them: 21 tiles of one layer, and at most one truncation
+in force for each of 3 levels.
 """
 
 import hashlib
@@ -14,6 +23,12 @@ ACTORS = 4
 SPANS = [8, 4, 2]  # the side of a pixel at each level, in ground cells
 SIDES = [1, 2, 4]  # how many rows and columns of tiles each level has
 PIXELS = range(2)  # of a tile, across and downwards
+
+FAILED = b"""<?xml version="1.0" encoding="UTF-8"?>
+<ExceptionReport xmlns="http://www.opengis.net/ows/1.1" version="1.1.0">
+<Exception exceptionCode="NoApplicableCode"/>
+</ExceptionReport>
+"""
 
 
 def tile_text(number, tile):
@@ -49,6 +64,9 @@ class Cache:
         if not overtaken:
             self.kept[tile] = number
 
+    def abandon(self, number):
+        del self.running[number]
+
     def truncate(self, level):
         self.last += 1
         self.kept = {tile: number for tile, number in self.kept.items() if tile[0] != level}
@@ -58,8 +76,10 @@ class Cache:
 
 
 class Drill:
-    def __init__(self, number):
+    def __init__(self, number, fails=0):
         self.x = number
+        self.fails = fails  # the rendering that fails, counted from 1
+        self.renderings = 0
         self.cache = Cache()
         self.busy = [None] * ACTORS  # the line of the start, the tile, and what the actor goes on with
         self.digest = hashlib.sha256()
@@ -69,8 +89,13 @@ class Drill:
         self.x = (self.x * 6364136223846793005 + 1442695040888963407) % 2**64
         return self.x // 2**33 % count
 
-    def answer(self, line, actor, start, kind, more, body):
-        head = f"HTTP/1.1 200 OK\r\nContent-Type: {kind}\r\nContent-Length: {len(body)}\r\n{more}\r\n"
+    def renders(self):
+        """Whether a rendering goes well."""
+        self.renderings += 1
+        return self.renderings != self.fails
+
+    def answer(self, line, actor, start, kind, more, body, status="200 OK"):
+        head = f"HTTP/1.1 {status}\r\nContent-Type: {kind}\r\nContent-Length: {len(body)}\r\n{more}\r\n"
         response = head.encode() + body
         self.digest.update(f"answer {line} {actor} {start} {len(response)}\n".encode() + response)
 
@@ -95,14 +120,22 @@ class Drill:
         self.answer_tile(line, actor, start, "MISS", number, tile)
         self.busy[actor] = None
 
+    def give_up(self, line, actor, start, number):
+        self.cache.abandon(number)
+        self.others += 1
+        self.answer(line, actor, start, "text/xml", "", FAILED, "500 Internal Server Error")
+        self.busy[actor] = None
+
     def step(self, line, actor):
         start, tile, (state, value) = self.busy[actor]
         if state == "waits":
             self.go_on(line, actor, start, tile, self.cache.ask(tile, value))
         elif state == "holds":
-            self.busy[actor] = (start, tile, ("rendered", value))
-        else:
+            self.busy[actor] = (start, tile, ("rendered" if self.renders() else "failed", value))
+        elif state == "rendered":
             self.keep(line, actor, start, tile, value)
+        else:
+            self.give_up(line, actor, start, value)
 
     def start(self, line, actor):
         kind, z = self.draw(16), self.draw(len(SPANS))
@@ -113,10 +146,12 @@ class Drill:
             self.answer_json(line, actor, '{"within":true}')
         else:
             state = self.cache.ask(tile, kind == 11)
-            if kind == 10 and state[0] == "holds":
+            if kind != 10 or state[0] != "holds":
+                self.go_on(line, actor, line, tile, state)
+            elif self.renders():
                 self.keep(line, actor, line, tile, state[1])
             else:
-                self.go_on(line, actor, line, tile, state)
+                self.give_up(line, actor, line, state[1])
 
     def run(self, number):
         for line in range(1, LINES + 1):
@@ -127,5 +162,16 @@ class Drill:
         return f"drill {number} lines {LINES} {counts}\nsha256 {self.digest.hexdigest()}"
 
 
+def main():
+    number, fails = int(sys.argv[1]), (sys.argv[2:] or ["0"])[0]
+    whole = Drill(number)
+    text = whole.run(number)
+    if fails == "each":
+        for rendering in range(1, whole.renderings + 1):
+            print(Drill(number, rendering).run(number))
+    else:
+        print(Drill(number, int(fails)).run(number) if int(fails) else text)
+
+
 if __name__ == "__main__":
-    print(Drill(int(sys.argv[1])).run(int(sys.argv[1])))
+    main()
