@@ -1,5 +1,5 @@
 //! A client, whose calls answer whether all went as it should.
-use crate::session::{BYTE, FIRST, LONG, VAST};
+use crate::session::{BYTE, FIRST, LONG, PAGE, VAST};
 use std::io::{Read, Write};
 use std::net::{Ipv4Addr, Net, Shutdown, SocketAddr, TcpStream};
 use std::str::from_utf8;
@@ -111,6 +111,13 @@ impl Client {
     /// Whether a long answer comes next, of which it hears so many times a thousand bytes.
     pub fn hears_front(&mut self, times: usize) -> bool {
         self.hears(b"HTTP/1.1 200 X\r\nContent-Length: 1000000\r\n\r\n") && self.hears_body(times)
+    }
+
+    /// Whether a page comes next, and these bytes of its message behind it.
+    pub fn hears_page(&mut self, message: &[u8]) -> bool {
+        self.hears(b"HTTP/1.1 200 X\r\nContent-Length: 4005\r\n\r\n")
+            && self.hears_body(PAGE / 1000)
+            && self.hears(message)
     }
 
     /// Whether a vast answer comes next, of which it hears a sixteenth each tenth of a second.

@@ -21,6 +21,10 @@ mod limits;
 #[cfg(test)]
 mod links;
 #[cfg(test)]
+mod odd_bytes;
+#[cfg(test)]
+mod one_go;
+#[cfg(test)]
 mod order;
 #[cfg(test)]
 mod refusals;

@@ -13,6 +13,9 @@ pub const LONG: usize = 1_000_000;
 /// How many bytes a vast answer has: more than the sockets of both sides ever take while its client doesn't read.
 pub const VAST: usize = 16_000_000;
 
+/// How many bytes a page has.
+pub const PAGE: usize = 4_000;
+
 /// The number of the first message of a session, so that each number has five digits.
 pub const FIRST: u64 = 10_000;
 
@@ -37,6 +40,14 @@ fn send_bytes<L: Link>(alloc: Global, link: &mut L, size: usize) -> bool {
     send_answer(alloc, link, 200, body.as_slice())
 }
 
+/// Sends a page, and these bytes behind it.
+fn send_page<L: Link>(alloc: Global, link: &mut L, message: &[u8]) -> bool {
+    let Ok(mut body) = Vec::from_elem(alloc, BYTE, PAGE) else {
+        return false;
+    };
+    body.extend_from_slice(message).is_ok() && send_answer(alloc, link, 200, body.as_slice())
+}
+
 /// Sends the number of a message in its session, after a millisecond of work.
 fn send_turn<R: Clock, L: Link>(rt: &R, alloc: Global, link: &mut L, turn: u64) -> bool {
     thread::sleep(rt, Duration::from_millis(1));
@@ -46,7 +57,8 @@ fn send_turn<R: Clock, L: Link>(rt: &R, alloc: Global, link: &mut L, turn: u64) 
     send_answer(alloc, link, 200, number.as_bytes())
 }
 
-/// Answers a message: bytes at `/long` and more at `/vast`, its number at `/turn`, and the message's own body elsewhere.
+/// Answers a message: bytes at `/long` and more at `/vast`, its number at `/turn`, and the message's own body elsewhere, behind a page
+/// at `/page`.
 fn answer<R: Clock, L: Link>(
     rt: &R,
     alloc: Global,
@@ -60,6 +72,9 @@ fn answer<R: Clock, L: Link>(
     }
     if target == b"/vast".as_slice() {
         return send_bytes(alloc, link, VAST);
+    }
+    if target == b"/page".as_slice() {
+        return send_page(alloc, link, message.body.bytes());
     }
     if target == b"/turn".as_slice() {
         return send_turn(rt, alloc, link, turn);
