@@ -21,7 +21,9 @@ const GROWTH: u64 = 1_000;
 fn pile(alloc: Global) -> Result<Vec<u8>, AllocError> {
     let mut pile = Vec::new(alloc);
     for number in FIRST..END {
-        let message = format!(in alloc; "POST /page HTTP/1.1\r\nContent-Length: 5\r\n\r\n{number}")?;
+        let message = format!(in alloc;
+            "POST /page HTTP/1.1\r\nContent-Length: 5\r\n\r\n{number}"
+        )?;
         pile.extend_from_slice(message.as_bytes())?;
     }
     Ok(pile)
