@@ -14,6 +14,8 @@ const MOST_CALLS: u64 = 4_096;
 pub struct Line {
     /// The object and the verb of its fault.
     pub fault: String,
+    /// Whether it is for all runs by this fault, and has what they write one after the other.
+    pub in_order: bool,
     /// The code and the line of the status.
     pub status: String,
     pub written: Vec<u8>,
@@ -39,6 +41,14 @@ impl Line {
             self.written.as_slice() == written
         };
         is_written && self.status == came.status && self.seen == came.seen
+    }
+
+    /// What of these bytes stands behind those that a run wrote; `None` where they don't begin with them, or where it came to something else.
+    fn behind<'b>(&self, came: &Came, bytes: &'b [u8]) -> Option<&'b [u8]> {
+        if self.status != came.status || self.seen != came.seen {
+            return None;
+        }
+        bytes.strip_prefix(came.written.as_slice())
     }
 }
 
@@ -111,6 +121,30 @@ fn first_unmet(lines: &[Line], fault: &str, runs: &[Came]) -> Option<usize> {
     Some(place.saturating_add(1))
 }
 
+/// The line for this fault that is for all of its runs.
+fn line_of_all<'l>(lines: &'l [Line], fault: &str) -> Option<&'l Line> {
+    lines
+        .iter()
+        .find(|line| line.in_order && line.fault.as_str() == fault)
+}
+
+/// How the runs by a fault differ from a line that is for all of them; `None` where they don't.
+fn differs_in_order(alloc: Global, line: &Line, runs: &[Came]) -> io::Result<Option<String>> {
+    let fault = line.fault.as_str();
+    let mut rest = line.written.as_slice();
+    for (place, came) in runs.iter().enumerate() {
+        let call = place.saturating_add(1);
+        let Some(behind) = line.behind(came, rest) else {
+            return Ok(Some(format!(in alloc; "{fault} {call} comes to something else")?));
+        };
+        rest = behind;
+    }
+    if rest.is_empty() {
+        return Ok(None);
+    }
+    Ok(Some(format!(in alloc; "{fault} has fewer runs than its line")?))
+}
+
 /// How the runs by a fault differ from the lines for it; `None` where each run is as a line says, and each line is met.
 fn differs_by(
     alloc: Global,
@@ -118,6 +152,9 @@ fn differs_by(
     fault: &str,
     runs: &[Came],
 ) -> io::Result<Option<String>> {
+    if let Some(line) = line_of_all(lines, fault) {
+        return differs_in_order(alloc, line, runs);
+    }
     if let Some(call) = first_strange(lines, fault, runs) {
         return Ok(Some(format!(in alloc; "no line has what {fault} {call} comes to")?));
     }

@@ -150,7 +150,8 @@ fn table_of<R: Files<File = File> + AllocGlobal>(
 }
 
 /// A line of a table of faults: an object, the verb of its fault, the names of two files, with what is written and with what the look
-/// then writes, and behind a colon the status. `None` where it is of another form.
+/// then writes, and behind a colon the status. The verb `each` is `fails`, and the first file has what all runs write. `None` where the
+/// line is of another form.
 fn line_of<R: Files<File = File> + AllocGlobal>(
     rt: &R,
     case: &str,
@@ -170,8 +171,11 @@ fn line_of<R: Files<File = File> + AllocGlobal>(
     ) else {
         return Ok(None);
     };
+    let in_order = verb == "each";
+    let verb = if in_order { "fails" } else { verb };
     Ok(Some(Line {
         fault: format!(in alloc; "{object} {verb}")?,
+        in_order,
         status: String::from_str(alloc, status)?,
         written: shared(rt, case, step, written)?,
         seen: shared(rt, case, step, seen)?,
