@@ -14,7 +14,8 @@ use std::time::{Clock, Duration};
 /// The number behind the last message that is sent: they are 10,001.
 const END: u64 = FIRST + 10_001;
 
-/// How many pages of 4,096 bytes the process may grow by, where all answers are ten times as long.
+/// How many pages of 4,096 bytes the process may grow by, where all answers are ten times as long. Under `rt try` it grows by more, since
+/// nothing that is freed is used again there.
 const GROWTH: u64 = 1_000;
 
 /// All messages. The answer of each has a page and the number of its message.
