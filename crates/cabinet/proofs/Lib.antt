@@ -11,6 +11,7 @@ pub mod Fresher
 mod Tiles
 pub mod Fronts
 pub mod Rows
+pub mod Endings
 pub mod Sounds
 pub mod Regions
 pub mod Disjoint

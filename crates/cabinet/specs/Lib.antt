@@ -9,6 +9,7 @@ pub mod Shelved
 pub mod Consistent
 pub mod Turns
 pub mod Commands
+pub mod Endings
 pub mod Started
 pub mod Entered
 pub mod Steps

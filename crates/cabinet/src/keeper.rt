@@ -6,6 +6,7 @@ ghost use Rattle.served_covers.specs.OfCatalogue.{IsCoverOf};
 ghost use Rattle.truncation_list.specs.Books.{AnswersForBook, last_seen};
 ghost use Rattle.cabinet.specs.Commands.{Abandons, Asks, Cuts, Expires, Finishes, Forces, IsCountedCut, IsCountedExpired, IsCountedFinished, IsCountedSaved, IsFreshReply, IsTrueHit, Saves};
 ghost use Rattle.cabinet.specs.Counted.{kept_in, used, used_all};
+ghost use Rattle.cabinet.specs.Endings.{IsKeptUnlessFailed};
 ghost use Rattle.cabinet.specs.State.{IsKnown, IsSound, State, now};
 
 use crate::replies::{Asked, CutReply, Expired, Finished, Forced, Saved};
@@ -70,6 +71,7 @@ pub trait Keeper: Drop {
         requires blob { length blob ≡ blob_size (state self.old).catalogue ticket.meta }
         ensures finished { Finishes (state self.old) ticket blob result (state self.new) }
         ensures counted { IsCountedFinished (faults self.old) (faults self.new) result }
+        ensures complete { IsKeptUnlessFailed (faults self.old) (faults self.new) (state self.old) ticket blob result }
         ensures sound { IsSound (state self.old) → blob ≡ block_text (state self.old).catalogue ticket.number ticket.meta → IsSound (state self.new) }
         ensures later { faults self.old ≤ faults self.new }
         ensures lasts { outlasts self.old self.new };

@@ -41,6 +41,7 @@ impl Keeper for Cabinet {
         Cabinet::force(self, alloc, meta)
     }
 
+    #[tactic(auto, using(crate::proofs::Endings::kept_unless_failed))]
     fn finish(&mut self, ticket: Ticket, blob: SharedText) -> Finished {
         Cabinet::finish(self, ticket, blob)
     }
