@@ -73,16 +73,25 @@ def first_tile(catalogue, block):
     return block._replace(row=block.row * layer.meta_y, col=block.col * layer.meta_x)
 
 
-def run(cabinet, job):
-    """Runs the places one after the other. How many are done, and how many failed."""
+def work_on(cabinet, job, block):
+    """Works on a place. The number of its render, or None where there is none."""
+    tile = first_tile(cabinet.catalogue, block)
+    found, number = cabinet.ask(tile) if job.kind == "seed" else cabinet.force(tile)
+    if found != "ticket":
+        return None
+    cabinet.finish(number)
+    return number
+
+
+def run(cabinet, job, numbers=None):
+    """Runs the places one after the other. How many are done, and how many failed. `numbers` gets the number of each place that is rendered."""
     if job.kind == "truncate":
         return (0, 1) if cabinet.cut(job.cover) is None else (1, 0)
     done = 0
     for block in places(cabinet.catalogue, job):
-        tile = first_tile(cabinet.catalogue, block)
-        found, number = cabinet.ask(tile) if job.kind == "seed" else cabinet.force(tile)
-        if found == "ticket":
-            cabinet.finish(number)
+        number = work_on(cabinet, job, block)
+        if number is not None and numbers is not None:
+            numbers[block] = number
         done += 1
     return done, 0
 

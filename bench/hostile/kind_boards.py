@@ -1,5 +1,5 @@
 """Boards: jobs that are submitted to a server, looked at and ended, one message after the other. Each answer is compared with that of the
-model, which runs each job once its last place is told as done; in which order the members of a job take numbers is left open."""
+model, which runs each job once its last place is told as done; which of its places took which of its numbers is left open until it is seen."""
 import random
 import re
 import time
@@ -10,6 +10,7 @@ from answers import JSON, answer, response, wanted
 from cabinet import Cabinet
 from catalogues import WIDER, Address, read
 from kind_queries import CAPABILITIES
+from members import Members
 from pictures import block_of
 from program import Program, Server
 from reading import Refused
@@ -40,10 +41,9 @@ class Kept:
 
 
 class Board:
-    def __init__(self, tally, program):
-        self.tally, self.program, self.catalogue = tally, program, read(WIDER)
-        self.server, self.cabinet, self.jobs = Server(program), Cabinet(self.catalogue, 1), []
-        self.taken = []  # the numbers that each job took, from one exclusive to one inclusive
+    def __init__(self, tally, server):
+        self.tally, self.server, self.catalogue = tally, server, read(WIDER)
+        self.cabinet, self.jobs, self.members = Cabinet(self.catalogue, 1), [], Members()
         self.link, self.sent, self.got, self.expected = None, b"", b"", ()
 
     def close(self):
@@ -61,7 +61,7 @@ class Board:
         self.sent = b"%s %s HTTP/1.1\r\n%s\r\n%s" % (method, target, length, body)
         self.link = self.link or self.server.connect()
         self.link.sendall(self.sent)
-        self.got = self.read()
+        self.got, self.expected = self.read(), ()
         self.tally.count(KIND, self.got[9:12].decode("latin-1"))
         head, blank, text = self.got.partition(b"\r\n\r\n")
         if not head.endswith(b"\r\nConnection: close"):
@@ -134,10 +134,15 @@ class Board:
             self.demand(time.monotonic() < until, "a job that doesn't end")
             time.sleep(pause)
             pause = min(2 * pause, 0.5)
-        job.is_over, before = True, self.cabinet.number
-        done, failed = jobs.run(self.cabinet, job.job)
-        self.demand(job.seen[1:] == (done, failed), "another tally")
-        self.taken.append((before, self.cabinet.number))
+        job.is_over = True
+        self.demand(job.seen[1:] == self.ran(job.job), "another tally")
+
+    def ran(self, job):
+        """Lets the model run a job. How many places are done, and how many failed."""
+        numbers = {}
+        tally = jobs.run(self.cabinet, job, numbers)
+        self.members.add(numbers, job.threads)
+        return tally
 
     def agrees(self, chance, job):
         """Tiles of a job's places are kept under numbers of the job, and the usage is the model's."""
@@ -154,24 +159,16 @@ class Board:
         self.same(got, b"GET", target)
 
     def same(self, got, method, target, body=b""):
-        """Compares an answer with the model's. The number of a kept tile may be that of another place of the job that rendered it."""
+        """Compares an answer with the model's. The number of a kept tile may be another one of the job of several members that rendered it."""
         told = TILE.search(got)
         try:
             address = told and wanted(self.catalogue, method, target)
         except Refused:
             address = None
-        kept = self.cabinet.kept.get(block_of(self.catalogue, address)) if isinstance(address, Address) else None
-        if kept:
-            self.renumber(kept, int(told[1]))
+        block = block_of(self.catalogue, address) if isinstance(address, Address) else None
+        if block in self.cabinet.kept:
+            self.demand(self.members.see(self.cabinet, block, int(told[1])), "the number of another metatile")
         self.equals(got, answer(self.cabinet, CAPABILITIES, method, target, body))
-
-    def renumber(self, kept, number):
-        """Gives a kept metatile the number of another one, where one job rendered both."""
-        if any(first < min(kept.number, number) and max(kept.number, number) <= last for first, last in self.taken):
-            for other in self.cabinet.kept.values():
-                if other.number == number:
-                    other.number, kept.number = kept.number, number
-                    break
 
 
 def nth(catalogue, job, number):
@@ -187,12 +184,13 @@ def end_early(board, number):
     board.jobs[number - 1].is_over = True
 
 
-def empty(board):
-    """Truncates all that a long job is for, so that none of its tiles is kept. The model takes the number that the server gives."""
+def empty(board, number):
+    """Truncates all that a job that was ended early is for, so that none of its tiles is kept. The model takes the number that the server gives,
+    which leaves one to each place that the job was done with, at most."""
     cover = covers.read(board.catalogue, ALL_WIDE)
     got = board.ask(b"POST", b"/truncate", ALL_WIDE)
     told = re.fullmatch(rb'\{"cut":([0-9]+)\}\n', got.partition(b"\r\n\r\n")[2])
-    board.demand(told and int(told[1]) > board.cabinet.number, "another answer to a truncation")
+    board.demand(told and 0 < int(told[1]) - board.cabinet.number <= 1 + sum(board.look(number).seen[1:]), "another answer to a truncation")
     board.cabinet.number = int(told[1]) - 1
     board.cabinet.cut(cover)
 
@@ -221,7 +219,7 @@ def long_job(board, chance):
     for it in sorted(ended):
         board.demand(board.look(it).seen[1:] == (0, 0), "a place of a job that was ended before it began")
         board.jobs[it - 1].is_over = True
-    empty(board)
+    empty(board, number)
 
 
 def odd_message(board, chance):
@@ -256,7 +254,7 @@ def whole_job(board, chance):
     number = len(board.jobs)
     if job.places > MANY_PLACES:
         end_early(board, number)
-        empty(board)
+        empty(board, number)
     else:
         board.wait(number)
         board.agrees(chance, job)
@@ -288,7 +286,7 @@ def run(tally, path, folder, seed, cases):
     (folder / "catalogue.json").write_text(WIDER)
     (folder / "capabilities.xml").write_bytes(CAPABILITIES)
     program, begun = Program(path, folder), time.monotonic()
-    board = Board(tally, program)
+    board = Board(tally, Server(program))
     for number in range(cases):
         try:
             one_case(board, random.Random(f"{seed} {KIND} {number}"))
@@ -298,9 +296,9 @@ def run(tally, path, folder, seed, cases):
             rule = str(error) if board.server.lives() else "the server ended"
             tally.finding(KIND, number, rule, sent=board.sent, received=board.got, expected=board.expected)
             board.stop()
-            board = Board(tally, program)
+            board = Board(tally, Server(program))
         if len(board.jobs) >= SUBMITTED:
             board.stop()
-            board = Board(tally, program)
+            board = Board(tally, Server(program))
     board.stop()
     print(f"{KIND}: {cases:,} in {time.monotonic() - begun:.0f} s", flush=True)
