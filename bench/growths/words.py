@@ -258,16 +258,18 @@ def try_one(tally, stage, case, check, first, last):
     return refused
 
 
-def run_case(tally, stage, case, most):
-    began, count = time.monotonic(), 0
+def run_case(tally, stage, case, most, part):
+    """Refuses each growth of a word, or those of one part alone: a first one, and each so many further on."""
+    began, count, (first, step) = time.monotonic(), 0, part
     for check, last in ((check_one, lambda it: it), (check_all, lambda _: EVER)):
-        number = 1
+        number = first
         while number <= most and try_one(tally, stage, case, check, number, last(number)):
-            number += 1
-        count = number - 1
+            number += step
+        count = number - step
         if number > most:
             count = try_further(tally, stage, case, check, most, last)
-    print(f"{case.name}: {count:,} growths, {time.monotonic() - began:.0f} s", flush=True)
+    told = "growths" if step == 1 else f"was the last growth of each {step}th from {first} on"
+    print(f"{case.name}: {count:,} {told}, {time.monotonic() - began:.0f} s", flush=True)
 
 
 def try_further(tally, stage, case, check, most, last):
@@ -280,8 +282,8 @@ def try_further(tally, stage, case, check, most, last):
     return total
 
 
-def run(tally, program, names, most):
+def run(tally, program, names, most, part):
     stage = Stage(program)
     for case in CASES:
         if not names or case.words[0] in names:
-            run_case(tally, stage, case, most)
+            run_case(tally, stage, case, most, part)

@@ -1,6 +1,6 @@
 """Jobs: how one is read, which places it has, and what its run leaves of a cabinet."""
 from collections import namedtuple
-from itertools import product
+from itertools import islice, product
 
 import covers
 from catalogues import Address
@@ -83,12 +83,13 @@ def work_on(cabinet, job, block):
     return number
 
 
-def run(cabinet, job, numbers=None):
-    """Runs the places one after the other. How many are done, and how many failed. `numbers` gets the number of each place that is rendered."""
+def run(cabinet, job, numbers=None, most=None):
+    """Runs the places one after the other, or only so many of the first ones. How many are done, and how many failed. `numbers` gets the number
+    of each place that is rendered."""
     if job.kind == "truncate":
         return (0, 1) if cabinet.cut(job.cover) is None else (1, 0)
     done = 0
-    for block in places(cabinet.catalogue, job):
+    for block in islice(places(cabinet.catalogue, job), most):
         number = work_on(cabinet, job, block)
         if number is not None and numbers is not None:
             numbers[block] = number

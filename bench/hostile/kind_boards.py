@@ -128,26 +128,30 @@ class Board:
         return self.check_progress(number, got, method == b"DELETE")
 
     def wait(self, number, seconds=60):
-        """Waits until all places of a job that isn't cancelled are ended, and lets the model run it."""
+        """Waits until all places of a job that isn't cancelled are ended."""
         until, pause = time.monotonic() + seconds, 0.001
         while sum((job := self.look(number)).seen[1:]) < job.places:
             self.demand(time.monotonic() < until, "a job that doesn't end")
             time.sleep(pause)
             pause = min(2 * pause, 0.5)
-        job.is_over = True
-        self.demand(job.seen[1:] == self.ran(job.job), "another tally")
 
-    def ran(self, job):
+    def ends(self, number):
+        """A job is over. The model runs it too: where it was ended early, as many of the first places as are done."""
+        job = self.look(number)
+        job.is_over = True
+        self.demand(job.seen[1:] == self.ran(job.job, job.seen[1]), "another tally")
+
+    def ran(self, job, most=None):
         """Lets the model run a job. How many places are done, and how many failed."""
         numbers = {}
-        tally = jobs.run(self.cabinet, job, numbers)
+        tally = jobs.run(self.cabinet, job, numbers, most)
         self.members.add(numbers, job.threads)
         return tally
 
     def agrees(self, chance, job):
-        """Tiles of a job's places are kept under numbers of the job, and the usage is the model's."""
-        if job.job.kind != "truncate" and job.places:
-            for at in {0, job.places - 1, chance.randrange(job.places)}:
+        """Tiles of the places that a job was done with are kept under numbers of the job, and the usage is the model's."""
+        if job.job.kind != "truncate" and (count := job.seen[1]):
+            for at in {0, count - 1, chance.randrange(count)}:
                 self.kept_tile(jobs.first_tile(self.catalogue, nth(self.catalogue, job.job, at)))
         self.equals(self.ask(b"GET", b"/usage"), answer(self.cabinet, CAPABILITIES, b"GET", b"/usage"))
 
@@ -175,24 +179,26 @@ def nth(catalogue, job, number):
     return next(it for at, it in enumerate(jobs.places(catalogue, job)) if at == number)
 
 
-def end_early(board, number):
-    """Ends a job early, and waits until its members are done with the places that they are at."""
-    seen = [board.look(number, b"DELETE").seen]
-    while len(seen) < 4 or len(set(seen[-4:])) > 1:
-        time.sleep(0.04)
-        seen.append(board.look(number).seen)
-    board.jobs[number - 1].is_over = True
+def end_early(board, chance, number, behind):
+    """Ends a job early, waits for the ends of jobs behind it, and looks at what it left. A job is run once the one before it is over, so its members
+    are then done with the places that they were at. All that it left is truncated, since it may be much."""
+    job = board.look(number, b"DELETE")
+    if not behind:  # no more jobs are taken, and the server's run is over
+        return
+    for it in behind:
+        board.wait(it)
+    for it in (number, *behind):
+        board.ends(it)
+    board.agrees(chance, job)
+    board.same(board.ask(b"POST", b"/truncate", ALL_WIDE), b"POST", b"/truncate", ALL_WIDE)
 
 
-def empty(board, number):
-    """Truncates all that a job that was ended early is for, so that none of its tiles is kept. The model takes the number that the server gives,
-    which leaves one to each place that the job was done with, at most."""
-    cover = covers.read(board.catalogue, ALL_WIDE)
-    got = board.ask(b"POST", b"/truncate", ALL_WIDE)
-    told = re.fullmatch(rb'\{"cut":([0-9]+)\}\n', got.partition(b"\r\n\r\n")[2])
-    board.demand(told and 0 < int(told[1]) - board.cabinet.number <= 1 + sum(board.look(number).seen[1:]), "another answer to a truncation")
-    board.cabinet.number = int(told[1]) - 1
-    board.cabinet.cut(cover)
+def submit_behind(board, count):
+    """Submits so many short jobs, or fewer where no more are taken. Their numbers."""
+    first = len(board.jobs) + 1
+    for _ in range(min(count, SUBMITTED - len(board.jobs))):
+        board.submit(SHORT)
+    return range(first, len(board.jobs) + 1)
 
 
 def long_job(board, chance):
@@ -203,23 +209,16 @@ def long_job(board, chance):
     number = len(board.jobs)
     while board.look(number).seen[0] == 0:
         time.sleep(0.002)
-    count = min(chance.choice((0, 1, 64)), SUBMITTED - len(board.jobs))
-    for _ in range(count):
-        board.submit(SHORT)
-    if count == WAITING:
+    behind = submit_behind(board, chance.choice((1, 2, WAITING)))
+    if len(behind) == WAITING:
         board.equals(board.ask(b"POST", b"/jobs", SHORT), response(409, JSON, b'{"fault":"board full"}\n'))
-    behind = range(number + 1, number + 1 + count)
-    ended = {it for it in behind if chance.random() < 0.2}
+    ended = {it for it in behind[:-1] if chance.random() < 0.2}
     for it in sorted(ended):
         board.look(it, b"DELETE")
-    end_early(board, number)
-    for it in behind:
-        if it not in ended:
-            board.wait(it)
+    end_early(board, chance, number, [it for it in behind if it not in ended])
     for it in sorted(ended):
         board.demand(board.look(it).seen[1:] == (0, 0), "a place of a job that was ended before it began")
         board.jobs[it - 1].is_over = True
-    empty(board, number)
 
 
 def odd_message(board, chance):
@@ -253,10 +252,10 @@ def whole_job(board, chance):
         return
     number = len(board.jobs)
     if job.places > MANY_PLACES:
-        end_early(board, number)
-        empty(board, number)
+        end_early(board, chance, number, submit_behind(board, 1))
     else:
         board.wait(number)
+        board.ends(number)
         board.agrees(chance, job)
 
 
