@@ -126,8 +126,8 @@ def page(report, world, folder, port, address, served):
     """Looks at the map, goes nearer, truncates what is in view, and looks at what isn't."""
     driver = Driver(folder, port)
     try:
-        report.versions["Leaflet"] += f", Chromium {driver.version}"
         driver.ask("POST", "/url", {"url": address + "/"})
+        report.versions["Leaflet"] += f" (says {driver.script('return L.version;')}), Chromium {driver.version}"
         it = Page(report, world, driver)
         it.tiles("page, level 2", 2)
         for zoom in (3, 4, 5):

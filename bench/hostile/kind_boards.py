@@ -3,6 +3,7 @@ model, which runs each job once its last place is told as done; which of its pla
 import random
 import re
 import time
+from itertools import islice
 
 import covers
 import jobs
@@ -150,9 +151,9 @@ class Board:
 
     def agrees(self, chance, job):
         """Tiles of the places that a job was done with are kept under numbers of the job, and the usage is the model's."""
-        if job.job.kind != "truncate" and (count := job.seen[1]):
-            for at in {0, count - 1, chance.randrange(count)}:
-                self.kept_tile(jobs.first_tile(self.catalogue, nth(self.catalogue, job.job, at)))
+        if job.job.kind != "truncate" and job.seen[1]:
+            for block in some_of(chance, self.catalogue, job):
+                self.kept_tile(jobs.first_tile(self.catalogue, block))
         self.equals(self.ask(b"GET", b"/usage"), answer(self.cabinet, CAPABILITIES, b"GET", b"/usage"))
 
     def kept_tile(self, address):
@@ -175,8 +176,12 @@ class Board:
         self.equals(got, answer(self.cabinet, CAPABILITIES, method, target, body))
 
 
-def nth(catalogue, job, number):
-    return next(it for at, it in enumerate(jobs.places(catalogue, job)) if at == number)
+def some_of(chance, catalogue, job):
+    """Of the places that a job was done with the first one, the last one, and some beside each other, of which its members had several at once."""
+    count = job.seen[1]
+    first = chance.randrange(count)
+    chosen = {0, count - 1, *range(first, min(first + 3 * job.job.threads, count))}
+    return [block for at, block in enumerate(islice(jobs.places(catalogue, job.job), count)) if at in chosen]
 
 
 def end_early(board, chance, number, behind):
