@@ -268,7 +268,7 @@ def run_case(tally, stage, case, most, part):
         count = number - step
         if number > most:
             count = try_further(tally, stage, case, check, most, last)
-    told = "growths" if step == 1 else f"was the last growth of each {step}th from {first} on"
+    told = "growths" if step == 1 else f"was the last of the growths {step} apart from {first} on"
     print(f"{case.name}: {count:,} {told}, {time.monotonic() - began:.0f} s", flush=True)
 
 
