@@ -15,7 +15,7 @@ from members import Members
 from pictures import block_of
 from program import Program, Server
 from reading import Refused
-from targets import address_in, names_in, target_in
+from targets import names_in, target_in
 from texts import cover_in, job_in
 
 KIND, WAITING, SUBMITTED, MANY_PLACES = "boards", 64, 1024, 20_000
