@@ -43,6 +43,7 @@ impl<D: Disk> Keeper for Cabinet<D> {
         Cabinet::force(self, alloc, meta)
     }
 
+    #[tactic(auto, using(cabinet::proofs::Endings::kept_unless_failed))]
     fn finish(&mut self, ticket: Ticket, blob: SharedText) -> Finished {
         Cabinet::known(self);
         Cabinet::finish(self, ticket, blob)
