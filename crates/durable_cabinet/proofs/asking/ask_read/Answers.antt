@@ -1,4 +1,4 @@
-use Rattle.std.proofs.Common.{None, Option, Some, subst}
+use Rattle.std.proofs.Common.{None, Option, subst}
 use Rattle.cabinet.specs.declared.replies.Forced.{Forced}
 use Rattle.cabinet.specs.Steps.{AsksKept}
 use Rattle.durable_cabinet.proofs.AskingTiles.{hit_on}
