@@ -1,5 +1,5 @@
 -- What a refusal says of what is made ready.
-use Rattle.std.proofs.Common.{◌≡◌, Ok, Err, inl, inr}
+use Rattle.std.proofs.Common.{Ok, Err, inl, inr}
 use Rattle.catalog.specs.declared.catalogue.Catalogue.{Catalogue}
 use Rattle.http_wire.specs.declared.inputs.InputEnd.{InputEnd}
 use Rattle.http_wire.specs.declared.inputs.InputEnd.TheVariants as input_end

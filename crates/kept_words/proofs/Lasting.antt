@@ -8,17 +8,16 @@ use Rattle.clock.specs.Readings.{Readings}
 use Rattle.disk_model.specs.Content.{Content}
 use Rattle.disk_model.specs.Images.{DiskState, Every, IsLawful, Leaves}
 use Rattle.disk_model.specs.Moments.{leaves_as, leaves_then}
-use Rattle.durable_cabinet.specs.Filed.{OpensLike, opened_as}
+use Rattle.durable_cabinet.specs.Filed.{OpensLike}
 use Rattle.durable_cabinet.specs.Images.{IsLeft as IsLeftOn, IsOurs, OpensTo}
 use Rattle.durable_cabinet.specs.Outlasting.{AnswersAs, Outlasts}
 use Rattle.gate_journal.specs.declared.journal.Journal.{Journal}
-use Rattle.kept_words.specs.Crash.{HadCut, HasCut, IsLeftBy, KeepsNearly, Lasts}
+use Rattle.kept_words.specs.Crash.{HadCut, IsLeftBy, KeepsNearly, Lasts}
 use Rattle.kept_words.specs.Opened.{IsOpened}
 use Rattle.durable_cabinet.proofs.Once.{opens_once}
 use Rattle.tile_service.specs.Outside.{FaultCounts}
-use Rattle.truncation_list.specs.declared.book.Book.{Book}
 use Rattle.truncation_list.specs.declared.book.Cut.{Cut}
-use Rattle.truncation_list.specs.Books.{AnswersFor, AnswersForBook}
+use Rattle.truncation_list.specs.Books.{AnswersFor}
 use Rattle.truncation_list.proofs.Answering.{answers_for_cut, answers_through}
 
 module _ (c : Catalogue) (old : DiskState) (lawful : IsLawful old) (r : Replayed) (opens : OpensTo c old.seen r) where

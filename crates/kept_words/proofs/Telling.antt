@@ -1,7 +1,7 @@
 -- What a word tells of the work that it did.
 use Rattle.std.specs.Prelude.{◌⊎◌, IsTrue, IfOk, List, Result, Ok, Err}
 use Rattle.std.specs.declared.alloc.AllocError.{AllocError}
-use Rattle.std.proofs.Common.{ℕ, ◌≡◌, ◌≤◌, ◌+◌, ◌^◌, ◌-◌, min, Bool, inl, inr, ap, arith, refl, sym, subst, ◌∙◌}
+use Rattle.std.proofs.Common.{ℕ, ◌≡◌, ◌≤◌, ◌^◌, ◌-◌, Bool, inl, inr, ap, refl, sym, subst, ◌∙◌}
 use Rattle.cabinet.specs.Commands.{Cuts, IsCountedCut}
 use Rattle.cabinet.specs.declared.replies.CutReply.{CutReply}
 use Rattle.cabinet.specs.declared.replies.CutReply.TheVariants as cut
@@ -12,7 +12,6 @@ use Rattle.clock.specs.Readings.{Readings}
 use Rattle.disk_model.specs.Images.{DiskState, Every}
 use Rattle.durable_cabinet.specs.Images.{Restores}
 use Rattle.durable_cabinet.specs.Outlasting.{StaysSettled}
-use Rattle.gate_journal.specs.declared.fault.OpenFault.TheVariants as fault
 use Rattle.gate_journal.specs.declared.journal.Journal.{Journal}
 use Rattle.gate_journal.specs.Sound.{IsSettled}
 use Rattle.http_wire.proofs.TakesOn.{rose_before}

@@ -1,5 +1,5 @@
 -- What a word sees of its disk and of its output.
-use Rattle.std.specs.Prelude.{ℕ, Bool, List, ◌++◌, codes, Option}
+use Rattle.std.specs.Prelude.{ℕ, Bool, List, Option}
 use Rattle.std.specs.Io.KnownBytes.{Appends}
 use Rattle.causes.specs.Causes.{Rose}
 use Rattle.disk_model.specs.Images.{DiskState}

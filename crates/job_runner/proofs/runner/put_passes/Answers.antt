@@ -1,4 +1,4 @@
-use Rattle.std.proofs.Common.{arith, ◌∙◌, [], ◌∷◌, ap, length, length-append}
+use Rattle.std.proofs.Common.{arith, ◌∙◌}
 use Rattle.job_runner.proofs.Putting.{one_put}
 use Rattle.job_runner.proofs.Swapping.{one_longer}
 use Rattle.job_runner.proofs.runner.put_passes.Goals as goal

@@ -1,4 +1,4 @@
-use Rattle.std.proofs.Common.{◌≡◌, ◌+◌, ◌≤◌, ◌++◌, length, vec_len}
+use Rattle.std.proofs.Common.{◌≡◌, ◌+◌, ◌++◌, length, vec_len}
 use Rattle.std.specs.Prelude.{reverse, vec_capacity}
 use Rattle.job_runner.specs.Idles.{all_idle, passes_of}
 use Rattle.job_runner.proofs.runner.put_passes.Given as goal
