@@ -43,9 +43,9 @@ module _ {L : Type 0} (s : Service L) where
       record { board_before = w.board_before; at_board = w.at_board; renders_before = w.renders_before; renders_after = renders; held = w.held }
 
   -- a new worker may serve
-  pub new_is_ready : (queue : TableId) (tells : Option ℕ) (pass : HallPass) (board : BoardHolding) (mine : Pass L (Hand L)) → s.first.charter ≡ Some s.catalogue → IsNew queue s tells pass board mine → IsReady queue s.first.table s.board s.catalogue tells pass board mine
-  new_is_ready queue tells pass board mine charter new = record {
-    of = record { same_table = ap (λ (p : HallPass). p.table) new.pass_is; charter = ap (λ (p : HallPass). p.charter) new.pass_is ∙ charter };
+  pub new_is_ready : (queue table : TableId) (tells : Option ℕ) (pass : HallPass) (board : BoardHolding) (mine : Pass L (Hand L)) → s.first.table ≡ table → s.first.charter ≡ Some s.catalogue → IsNew queue s tells pass board mine → IsReady queue table s.board s.catalogue tells pass board mine
+  new_is_ready queue table tells pass board mine at charter new = record {
+    of = record { same_table = ap (λ (p : HallPass). p.table) new.pass_is ∙ at; charter = ap (λ (p : HallPass). p.charter) new.pass_is ∙ charter };
     at_board = new.at_board.of;
     source = λ told. new.source (sym (ap (λ (p : HallPass). p.told) new.pass_is) ∙ told);
     at_queue = record { of = new.hand_is.of; carries = new.hand_is.carries; knows = refl };

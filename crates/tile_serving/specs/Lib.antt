@@ -7,5 +7,6 @@ pub mod Hands
 pub mod Accepted
 pub mod Crew
 pub mod Runners
+pub mod Staged
 pub mod Served
 pub mod Setup
