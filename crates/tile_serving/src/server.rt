@@ -120,24 +120,13 @@ where
         passes,
         boards,
     } = stage;
-    let Ok((queue, acceptor)) = LinkQueue::new(alloc) else {
-        return ServerEnd::OutOfMemory;
-    };
     let supplies = Supplies {
         passes,
         boards,
         sources,
     };
-    let Ok(served) = serve_world(
-        rt,
-        alloc,
-        connections,
-        &world,
-        &queue,
-        acceptor,
-        supplies,
-        listener,
-    ) else {
+    let Ok(served) = serve_world(rt, alloc, connections, &world, supplies, listener) else {
+        drop(world);
         return ServerEnd::OutOfMemory;
     };
     let Served { all, passes } = served;
@@ -152,6 +141,51 @@ where
 /// Serves so many links of a listener over a world, by a crew that is made of these supplies. `AllocError` where memory runs out, before
 /// the first link is asked for.
 fn serve_world<
+    R: Threads + Wait + std::time::Clock + Sync,
+    K: Keeper + Send,
+    S: Source + Send,
+    N: Listener,
+>(
+    rt: &R,
+    alloc: Global,
+    connections: u32,
+    world: &World<K>,
+    supplies: Supplies<K, S>,
+    listener: &mut N,
+) -> Result<Served<K>, AllocError>
+where
+    N::L: Send,
+    requires valid { IsValid world.now.hall.catalogue }
+    requires passes { length supplies.passes.items ≡ PASSES }
+    requires boards { length supplies.boards.items ≡ BOARD_PASSES }
+    requires sources { length supplies.sources.items ≡ SOURCES }
+    requires supplied { IsSupplied world.now.hall.turnstile.table (serving N.L.left N.L.taken N.L.ByteSource.faults N.L.ByteSink.faults world.now.capabilities world.now.hall.catalogue world.now.board.turnstile.table) S.told supplies.passes.items supplies.boards.items supplies.sources.items }
+    ensures of { IfOk result (λ s. All (λ p. p.table ≡ world.now.hall.turnstile.table) s.passes.items) }
+    ensures count { IfOk result (λ s. length s.passes.items ≡ PASSES) }
+    ensures served { (first : HallPass) → first.charter ≡ Some world.now.hall.catalogue
+        → AreSupplies (serving N.L.left N.L.taken N.L.ByteSource.faults N.L.ByteSink.faults world.now.capabilities world.now.hall.catalogue world.now.board.turnstile.table first) S.told supplies.passes.items supplies.boards.items supplies.sources.items
+        → IfOk result (λ s. HasServedBy (serving N.L.left N.L.taken N.L.ByteSource.faults N.L.ByteSink.faults world.now.capabilities world.now.hall.catalogue world.now.board.turnstile.table first)
+        (record { connections = connections; given_before = N.given listener.old; given_after = N.given listener.new; accepts = counts (N.faults listener.old) (N.faults listener.new) })
+        s.passes.items s.all) }
+    ensures stays { IfErr result (λ fault. listener.new ≡ listener.old) }
+{
+    let (queue, acceptor) = LinkQueue::new(alloc)?;
+    let served = serve_queue(
+        rt,
+        alloc,
+        connections,
+        world,
+        &queue,
+        acceptor,
+        supplies,
+        listener,
+    );
+    drop(queue);
+    served
+}
+
+/// The same with a queue for the links.
+fn serve_queue<
     R: Threads + Wait + std::time::Clock + Sync,
     K: Keeper + Send,
     S: Source + Send,

@@ -79,23 +79,37 @@ fn world_of<K: Keeper>(
     ensures boards { IfOk result (λ o. AreFirstAtBoard o.world.board.turnstile.table BOARD_PASSES o.boards.items) }
     ensures first { IfOk result (λ o. All (λ p. p ≡ first_pass o.world.hall.turnstile.table (K.state keeper).catalogue told (K.state keeper)) o.passes.items) }
 {
-    let BoardEntry {
-        board,
-        passes: boards,
-    } = Board::make(alloc, BOARD_PASSES)?;
+    // What is large is dropped by a call, since the proof would else go through its parts at each end.
+    let entry = match Board::make(alloc, BOARD_PASSES) {
+        Ok(entry) => entry,
+        Err(fault) => {
+            drop(rest);
+            return Err(fault);
+        }
+    };
     match Hall::make(alloc, keeper, PASSES) {
-        Err(fault) => Err(fault),
-        Ok(HallEntry { hall, passes }) => Ok(Stage {
-            world: World {
-                hall,
-                rest,
-                capabilities,
+        Err(fault) => {
+            drop(rest);
+            drop(entry);
+            Err(fault)
+        }
+        Ok(HallEntry { hall, passes }) => {
+            let BoardEntry {
                 board,
-                traffic: Traffic::new(),
-            },
-            passes: passes.into_vec(),
-            boards: boards.into_vec(),
-        }),
+                passes: boards,
+            } = entry;
+            Ok(Stage {
+                world: World {
+                    hall,
+                    rest,
+                    capabilities,
+                    board,
+                    traffic: Traffic::new(),
+                },
+                passes: passes.into_vec(),
+                boards: boards.into_vec(),
+            })
+        }
     }
 }
 
@@ -119,11 +133,15 @@ fn world_on<D: Disk>(
     ensures refused { IfErr result (λ end. Refuses (record { disk = disk; told = D.told disk; seen = (D.state disk).seen; faults = D.faults }) catalogue end) }
 {
     let Ok(rest) = RestTable::new(alloc) else {
+        drop(catalogue);
         return Err(ServerEnd::OutOfMemory);
     };
     let cabinet = match cabinet_of(alloc, catalogue, clock, disk) {
         Ok(cabinet) => cabinet,
-        Err(end) => return Err(end),
+        Err(end) => {
+            drop(rest);
+            return Err(end);
+        }
     };
     match world_of(alloc, rest, capabilities, cabinet) {
         Ok(stage) => Ok(stage),

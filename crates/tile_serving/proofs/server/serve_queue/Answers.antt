@@ -2,7 +2,7 @@ use Rattle.std.proofs.Common.{All, ap, subst, ◌∙◌}
 use Rattle.job_runner.specs.Idles.{MayJoin}
 use Rattle.tile_serving.specs.Stints.{Service, serving}
 use Rattle.tile_serving.proofs.Holding.{new_has_worked, new_is_ready}
-use Rattle.tile_serving.proofs.server.serve_world.Goals as goal
+use Rattle.tile_serving.proofs.server.serve_queue.Goals as goal
 
 pub serve_links-requires-clause-ready : goal.serve_links-requires-clause-ready
 serve_links-requires-clause-ready g c κs within = λ k d lt.
