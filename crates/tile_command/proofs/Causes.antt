@@ -10,7 +10,7 @@ use Rattle.clock.specs.Readings.{Readings}
 use Rattle.command_setup.specs.declared.configured.Unconfigured.{Unconfigured}
 use Rattle.command_setup.specs.declared.configured.Unconfigured.TheVariants as unconfigured
 use Rattle.command_setup.specs.Setup as setup
-use Rattle.command_setup.specs.Setup.{AreRead, Configures, HasRisen, IsDocument, IsRefused, IsTooLongDocument, IsTooLongText}
+use Rattle.command_setup.specs.Setup.{Configures, HasRisen, IsDocument, IsRefused, IsTooLongText}
 use Rattle.command_words.specs.declared.words.Word.{Word}
 use Rattle.http_wire.specs.declared.message.Message.{Message}
 use Rattle.http_wire.specs.declared.message.Stop.TheVariants as stop
