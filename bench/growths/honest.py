@@ -6,15 +6,11 @@ import covers
 from answers import JSON, PPM, TEXT, XML, refusal, response, wanted
 from cases import DOCUMENT
 from catalogues import Address
+from forms import CUT, DROPPED, HEAD
 from messages import messages_of
 from pictures import block_of, tile_text
 from reading import CAPABILITIES, Refused
 
-HEAD = re.compile(rb"HTTP/1\.1 ([0-9]{3}) [A-Za-z ]+\r\n(?:Content-Type: [a-z/-]+\r\n)?Content-Length: (0|[1-9][0-9]*)\r\n"
-                  rb"(?:geowebcache-cache-result: (HIT|MISS)\r\ntile-render: ([1-9][0-9]*)\r\n)?(Connection: close\r\n)?\r\n")
-CUT = re.compile(rb'\{"cut":([1-9][0-9]*)\}\n')
-DROPPED = re.compile(rb'\{"within":true\}\n|\{"dropped":\{"layer":"[^"]+","style":"[^"]+","dimensions":\[[^]]*\],"grid":"[^"]+",'
-                     rb'"z":[0-9]+,"row":[0-9]+,"col":[0-9]+\}\}\n')
 USAGE = re.compile(rb"(layer [^ ]+ [0-9]+ [0-9]+ ([0-9]+|-)\n)+total [0-9]+ [0-9]+ ([0-9]+|-)\ncuts [0-9]+\n")
 LINE = re.compile(rb"answer ([0-9]+) ([0-9]+) ([0-9]+) ([0-9]+)\n")
 

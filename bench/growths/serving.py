@@ -1,6 +1,5 @@
 """A server whose growths are refused: while it starts, serves and ends, and while it answers one message after the other."""
 import json
-import re
 import socket
 import subprocess
 import time
@@ -8,14 +7,13 @@ import time
 from answers import JSON, response
 from cases import COVER, DOCUMENT, PATH, QUERY, SEED, SERVED
 from catalogues import read
+from forms import PROGRESS, SUBMITTED
 from honest import Book, Broken, demand, response_at
 from messages import messages_of
 from program import free_port, read_to_end
 from refusals import EVER
 
 BIG = b"GET /rest/wmts/large/grey/large/0/0/0.ppm HTTP/1.1\r\nConnection: close\r\n\r\n"
-SUBMITTED = re.compile(rb'\{"job":([1-9][0-9]*)\}\n')
-PROGRESS = re.compile(rb'\{"job":[0-9]+,"places":([0-9]+),"claimed":([0-9]+),"done":([0-9]+),"failed":([0-9]+),"cancelled":(true|false)\}\n')
 
 
 def message(method, target, body=b"", fields=b""):
@@ -150,9 +148,9 @@ def rest_of_jobs(served):
             served.check(ask, got)
             told = PROGRESS.search(got)
             demand(told, "no progress of a job")
-            places, claimed, done, failed = (int(told[at]) for at in range(1, 5))
+            places, claimed, done, failed = (int(told[at]) for at in range(2, 6))
             demand(done + failed <= claimed, "another count of places")
-            if done + failed == places or (told[5] == b"true" and done + failed in range(claimed - 8, claimed + 1)):
+            if done + failed == places or (told[6] == b"true" and done + failed in range(claimed - 8, claimed + 1)):
                 break
             demand(time.monotonic() < until, f"a job of {places} places stays at {claimed} claimed, {done} done and {failed} failed")
             time.sleep(0.005)

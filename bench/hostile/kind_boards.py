@@ -10,6 +10,7 @@ import jobs
 from answers import JSON, answer, response, wanted
 from cabinet import Cabinet
 from catalogues import WIDER, Address, read
+from forms import PROGRESS
 from kind_queries import CAPABILITIES
 from members import Members
 from pictures import block_of
@@ -26,7 +27,6 @@ ODD_NUMBERS = [b"", b"0", b"00", b"-1", b"+1", b"1.0", b"x", b"1/", b"/1", b"%31
                b"\xd9\xa1", b"1;x", b"1&x", b"18446744073709551617"]
 PATHS = [b"/jobs/", b"/jobs//", b"/jobsx", b"/Jobs", b"//jobs", b"/jobs?x=1", b"/jobs?", b"/jobs#x", b"/jobs;x", b"/job", b"/%6aobs"]
 METHODS = [b"GET", b"GET", b"GET", b"POST", b"DELETE", b"PUT", b"HEAD", b"delete", b"OPTIONS"]
-TOLD = re.compile(rb'\{"job":([0-9]+),"places":([0-9]+),"claimed":([0-9]+),"done":([0-9]+),"failed":([0-9]+),"cancelled":(true|false)\}\n')
 TILE = re.compile(rb"geowebcache-cache-result: HIT\r\ntile-render: ([0-9]+)\r\n")
 
 
@@ -113,7 +113,7 @@ class Board:
         """Checks how far a job is: it never goes back, and what is claimed is exact unless it was ended early."""
         job = self.jobs[number - 1]
         job.is_cancelled |= cancels
-        told = TOLD.fullmatch(got.partition(b"\r\n\r\n")[2])
+        told = PROGRESS.fullmatch(got.partition(b"\r\n\r\n")[2])
         self.demand(told and got == response(200, JSON, told[0]), "another form of a progress")
         named, places, *counts = (int(it) for it in told.groups()[:5])
         self.demand((named, places) == (number, job.places) and (told[6] == b"true") == job.is_cancelled, "another job's progress")

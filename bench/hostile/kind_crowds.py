@@ -11,6 +11,7 @@ import covers
 import jobs
 from answers import JSON, PPM, TEXT, XML, refusal, response, wanted
 from catalogues import TIGHT, Address, read
+from forms import CUT, DROPPED, HEAD, PROGRESS, SUBMITTED
 from kind_queries import CAPABILITIES
 from pictures import block_of, tile_text
 from program import Program, Server
@@ -21,13 +22,6 @@ from texts import cover_in, job_in
 
 KIND, CLIENTS, LOOKED_AT = "crowds", 24, 20
 CATALOGUE = TIGHT.replace('"cutLimit":4', '"cutLimit":40')
-HEAD = re.compile(rb"HTTP/1\.1 ([0-9]{3}) [A-Za-z ]+\r\n(?:Content-Type: [a-z/-]+\r\n)?Content-Length: (0|[1-9][0-9]*)\r\n"
-                  rb"(?:geowebcache-cache-result: (HIT|MISS)\r\ntile-render: ([1-9][0-9]*)\r\n)?(?:Connection: close\r\n)?\r\n")
-CUT = re.compile(rb'\{"cut":([1-9][0-9]*)\}\n')
-DROPPED = re.compile(rb'\{"within":true\}\n|\{"dropped":\{"layer":"[^"]+","style":"[^"]+","dimensions":\[[^]]*\],"grid":"[^"]+",'
-                     rb'"z":[0-9]+,"row":[0-9]+,"col":[0-9]+\}\}\n')
-SUBMITTED = re.compile(rb'\{"job":([1-9][0-9]*)\}\n')
-PROGRESS = re.compile(rb'\{"job":([0-9]+),"places":([0-9]+),"claimed":([0-9]+),"done":([0-9]+),"failed":([0-9]+),"cancelled":(true|false)\}\n')
 USAGE = re.compile(rb"(layer [^ ]+ [0-9]+ [0-9]+ ([0-9]+|-)\n){4}total [0-9]+ [0-9]+ ([0-9]+|-)\ncuts [0-9]+\n")
 
 
