@@ -8,6 +8,7 @@ use crate::answers::{
 use crate::client::answer_to;
 use crate::held::Hold;
 use crate::stage::{Stage, held_sources, served, sources};
+use hall_service::stage::SOURCES;
 use source_render::source::Source;
 use std::alloc::Global;
 use std::net::{Net, TcpStream};
@@ -18,7 +19,6 @@ use std::thread::Threads;
 use std::time::Clock;
 use tcp_lanes::accept::TcpAccept;
 use tile_serving::ends::ServerEnd;
-use tile_serving::server::SOURCES;
 
 /// What a client read.
 #[derive(Clone, Copy, Debug, PartialEq, Eq)]

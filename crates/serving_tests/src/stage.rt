@@ -4,6 +4,7 @@ ghost use Rattle.std.specs.Prelude.{IfOk, length, ◌≡◌, ◌≤◌};
 use crate::held::{HeldSource, Hold};
 use clock::clock::Clock;
 use exact_ratio::words::Words;
+use hall_service::stage::SOURCES;
 use http_wire::memory_sink::MemorySink;
 use http_wire::memory_source::MemorySource;
 use listeners::listener::Listener;
@@ -17,7 +18,7 @@ use std::test::Fail;
 use std::thread::Threads;
 use tile_command::command::run_command;
 use tile_serving::ends::ServerEnd;
-use tile_serving::server::{SOURCES, run_server};
+use tile_serving::server::run_server;
 
 /// A source of these bytes.
 pub fn supply(alloc: Global, bytes: &[u8]) -> Result<MemorySource, Fail> {

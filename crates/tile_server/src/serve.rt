@@ -7,6 +7,7 @@ use crate::{CACHE, CAPABILITIES, CELLS, Catalogue, catalogue_of, ended};
 use clock::clock::Clock;
 use command_words::serve_words::{ServeFault, ServeWords, serve_words};
 use exact_ratio::words::Words;
+use hall_service::stage::SOURCES;
 use http_wire::file_source::FileSource;
 use source_render::any::AnySource;
 use std::alloc::AllocError;
@@ -22,7 +23,7 @@ use std::thread::Threads;
 use tcp_lanes::accept::TcpAccept;
 use tile_command::status::Status;
 use tile_serving::ends::ServerEnd;
-use tile_serving::server::{SOURCES, run_server};
+use tile_serving::server::run_server;
 
 /// The sources that a server takes.
 fn sources_of(

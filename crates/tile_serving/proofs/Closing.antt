@@ -1,81 +1,25 @@
--- All passes that worked for a server, as they come back at its end.
-use Rattle.std.proofs.Common.{ℕ, ◌≡◌, ⊎_elim, Bool, false, IsTrue, List, [], ◌++◌, length}
-use Rattle.std.proofs.lemmas.Bool.{MatchBool-at_true, MatchBool-at_false}
-use Rattle.std.proofs.lemmas.List.Elements.{Contains-append_cases}
-use Rattle.std.specs.List.{All, AllByRecursion, Contains}
+-- How a server ends whose links were served.
+use Rattle.std.proofs.Common.{ℕ, ◌≡◌, List, subst, sym}
 use Rattle.atomic_table.specs.Seated.{TableId}
 use Rattle.cabinet.specs.State.{State}
-use Rattle.cache_hall.specs.Turned.{HallPass}
-use Rattle.catalog.specs.Valid.{IsValid}
 use Rattle.catalog.specs.declared.catalogue.Catalogue.{Catalogue}
-use Rattle.causes.specs.Causes.{Rose}
 use Rattle.command_setup.specs.Setup.{AreRead}
-use Rattle.job_runner.specs.Idles.{Idle, Standby}
-use Rattle.job_runner.specs.Idles as idles
-use Rattle.turnstile.specs.Line.{AreInLine}
-use Rattle.tile_serving.specs.Between.{AreNewer}
-use Rattle.tile_serving.specs.Crew.{AreKept}
+use Rattle.hall_service.specs.Served.{HasEndedOver, HasServedOver}
+use Rattle.hall_service.specs.declared.ends.ServiceEnd.{ServiceEnd}
+use Rattle.hall_service.specs.declared.ends.ServiceEnd.TheVariants as service
+use Rattle.tile_serving.specs.Ends.{end_of_service}
 use Rattle.tile_serving.specs.Opened.{IsOpened, ServerDisk}
-use Rattle.tile_serving.specs.Runners.{HasRunOn}
-use Rattle.tile_serving.specs.Served.{HasEnded, HasServed, ServerChange, service_of}
-use Rattle.tile_serving.specs.Staged.{HasEndedOver, HasServedBy, HasServedOver, Listened}
-use Rattle.tile_serving.specs.Stints.{IsStint, Service, Stint, passes_of}
+use Rattle.tile_serving.specs.Served.{HasEnded, HasServed, ServerChange, listened, service_of}
 use Rattle.tile_serving.specs.declared.ends.ServerEnd.{ServerEnd}
-use Rattle.tile_serving.specs.declared.ends.ServerEnd.TheVariants as end
-use Rattle.tile_serving.proofs.Between.{HasTurnsAt, are_newer, of_stints}
-use Rattle.tile_serving.proofs.JobTurns.{of_idle}
 
-module _ {L : Type 0} (s : Service L) where
-  -- the turns of the stints and of the members that ran jobs stand in the line of all passes
-  pub served_in_line : (after : Standby) (stints : List (Stint L)) (all : List HallPass) → AreKept stints all → ((p : HallPass) → Contains (idles.passes_of after.idle) p → Contains all p) → AreInLine all → AreInLine (passes_of stints ++ idles.passes_of after.idle)
-  served_in_line after stints all kept among line p q cp cq m n cm cn = line p q (there p cp) (there q cq) m n cm cn
-    where
-      there : (r : HallPass) → Contains (passes_of stints ++ idles.passes_of after.idle) r → Contains all r
-      there r c = ⊎_elim (λ (d : Contains (passes_of stints) r). kept r d) (λ (d : Contains (idles.passes_of after.idle) r). among r d) (Contains-append_cases (passes_of stints) (idles.passes_of after.idle) r c)
-
-  -- so a tile that is asked for after a truncation is newer
-  pub served_newer : (before : Standby) (on : HasRunOn s.catalogue before) (stints : List (Stint L)) → IsValid s.catalogue → s.first.made ≡ [] → AllByRecursion (IsStint s) stints → on.heard.idle ≡ on.between.idle → All (λ (i : Idle). i.pass ≡ s.first) before.idle
-      → AreInLine (passes_of stints ++ idles.passes_of on.after.idle) → AreNewer s.catalogue (passes_of stints ++ idles.passes_of on.after.idle)
-  served_newer before on stints valid none held same nothing line = are_newer s.catalogue (passes_of stints ++ idles.passes_of on.after.idle) valid at line
-    where
-      at : (p : HallPass) → Contains (passes_of stints ++ idles.passes_of on.after.idle) p → HasTurnsAt s.catalogue p
-      at p c = ⊎_elim (λ (d : Contains (passes_of stints) p). of_stints s stints none held p d) (λ (d : Contains (idles.passes_of on.after.idle) p). of_idle s.catalogue s.first before on same nothing none p d) (Contains-append_cases (passes_of stints) (idles.passes_of on.after.idle) p c)
-
-  -- what was served under a pass that had made nothing
-  abbrev served_over : (h : Listened L) (passes : List HallPass) (all : Bool) → IsValid s.catalogue → s.first.made ≡ [] → HasServedBy s h passes all → AreInLine passes → HasServedOver s h
-  served_over h passes all valid none by line =
-      let served = by.links.served.served in
-      let stands = served_in_line by.on.after served.stints passes by.links.served.kept by.among line in
-      record {
-        links = by.links.links;
-        given = by.links.given;
-        served = served;
-        jobs = record { before = by.before; new = by.new; on = by.on; heard = by.links.served.heard };
-        line = stands;
-        newer = served_newer by.before by.on served.stints valid none served.held by.links.served.heard.idle by.new.nothing stands;
-      }
-
-  -- where no accept failed, and where one did
-  pub all_over : (h : Listened L) (passes : List HallPass) (all : Bool) → IsValid s.catalogue → s.first.made ≡ [] → HasServedBy s h passes all → AreInLine passes → IsTrue all → (o : HasServedOver s h) × (length o.links ≡ h.connections)
-  all_over h passes all valid none by line told = (served_over h passes all valid none by line, MatchBool-at_true _ _ told by.links.each)
-
-  pub some_over : (h : Listened L) (passes : List HallPass) (all : Bool) → IsValid s.catalogue → s.first.made ≡ [] → HasServedBy s h passes all → AreInLine passes → all ≡ false → HasServedOver s h × Rose h.accepts.before h.accepts.after
-  some_over h passes all valid none by line told = (served_over h passes all valid none by line, MatchBool-at_false _ _ told by.links.each)
-
--- how a server ended whose serving ended so
 module _ {L D : Type 0} (h : ServerChange L) (d : ServerDisk D) (c : Catalogue) (document : List ℕ) (table board : TableId) (opened : State) where
-  abbrev listened : Listened L
-  listened = record { connections = h.connections; given_before = h.given_before; given_after = h.given_after; accepts = h.accepts }
+  abbrev served_over : IsOpened d c h.clock opened → HasServedOver (service_of h c document table board opened) (listened h) → HasServed h d c document
+  served_over is o = record { opened = opened; is_opened = is; table = table; board = board; over = o }
 
-  abbrev server_over : IsOpened d c h.clock opened → HasServedOver (service_of h c document table board opened) listened → HasServed h d c document
-  server_over is o = record { opened = opened; is_opened = is; table = table; board = board; links = o.links; given = o.given; served = o.served; jobs = o.jobs; line = o.line; newer = o.newer }
+  of_service : (CapabilitiesStay ListenerStays : Type 0) (e : ServiceEnd) → AreRead h.catalogue h.capabilities c document → IsOpened d c h.clock opened → HasEndedOver (service_of h c document table board opened) (listened h) ListenerStays e → HasEnded h d CapabilitiesStay ListenerStays (end_of_service e)
+  of_service CapabilitiesStay ListenerStays service.Done read is ended = (c, document, read, (served_over is ended.0, ended.1))
+  of_service CapabilitiesStay ListenerStays service.ListenFault read is ended = ((c, document, read, served_over is ended.0), ended.1)
+  of_service CapabilitiesStay ListenerStays service.OutOfMemory read is ended = ended
 
-  pub ended_over : (CapabilitiesStay ListenerStays : Type 0) (e : ServerEnd) → AreRead h.catalogue h.capabilities c document → IsOpened d c h.clock opened → HasEndedOver (service_of h c document table board opened) listened ListenerStays e → HasEnded h d CapabilitiesStay ListenerStays e
-  ended_over CapabilitiesStay ListenerStays end.Done read is ended = (c, document, read, (server_over is ended.0, ended.1))
-  ended_over CapabilitiesStay ListenerStays end.ListenFault read is ended = ((c, document, read, server_over is ended.0), ended.1)
-  ended_over CapabilitiesStay ListenerStays (end.Catalogue f) read is ended = absurd ended
-  ended_over CapabilitiesStay ListenerStays end.ReadFault read is ended = absurd ended
-  ended_over CapabilitiesStay ListenerStays end.TooLong read is ended = absurd ended
-  ended_over CapabilitiesStay ListenerStays (end.Cache f) read is ended = absurd ended
-  ended_over CapabilitiesStay ListenerStays end.DiskFault read is ended = absurd ended
-  ended_over CapabilitiesStay ListenerStays end.OutOfMemory read is ended = ended
+  pub ended_over : (CapabilitiesStay ListenerStays : Type 0) (e : ServiceEnd) (told : ServerEnd) → told ≡ end_of_service e → AreRead h.catalogue h.capabilities c document → IsOpened d c h.clock opened → HasEndedOver (service_of h c document table board opened) (listened h) ListenerStays e → HasEnded h d CapabilitiesStay ListenerStays told
+  ended_over CapabilitiesStay ListenerStays e told is_told read is ended = subst (HasEnded h d CapabilitiesStay ListenerStays) (sym is_told) (of_service CapabilitiesStay ListenerStays e read is ended)

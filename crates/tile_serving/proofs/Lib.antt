@@ -1,14 +1,3 @@
 pub mod Fitting
-pub mod Crews
-pub mod Shared
-pub mod Sums
-pub mod Balance
-pub mod Arrivals
-pub mod Hearing
-pub mod Holding
-pub mod Between
-pub mod JobTurns
-pub mod Closing
-pub mod Gathering
 pub mod Telling
-pub mod Passes
+pub mod Closing

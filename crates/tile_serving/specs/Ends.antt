@@ -1,8 +1,10 @@
--- The end of a server by what was refused before its first link.
+-- The end of a server by what was refused before its first link, or by how its links were served.
 use Rattle.command_setup.specs.declared.configured.Unconfigured.{Unconfigured}
 use Rattle.command_setup.specs.declared.configured.Unconfigured.TheVariants as unconfigured
 use Rattle.gate_journal.specs.declared.fault.OpenFault.{OpenFault}
 use Rattle.gate_journal.specs.declared.fault.OpenFault.TheVariants as fault
+use Rattle.hall_service.specs.declared.ends.ServiceEnd.{ServiceEnd}
+use Rattle.hall_service.specs.declared.ends.ServiceEnd.TheVariants as service
 use Rattle.tile_serving.specs.declared.ends.ServerEnd.{ServerEnd}
 use Rattle.tile_serving.specs.declared.ends.ServerEnd.TheVariants as end
 
@@ -21,3 +23,9 @@ end_of_opening (fault.BadRecord slot) = end.Cache (fault.BadRecord slot)
 end_of_opening fault.Spent = end.Cache fault.Spent
 end_of_opening fault.DiskFault = end.DiskFault
 end_of_opening fault.OutOfMemory = end.OutOfMemory
+
+-- how the links were served
+abbrev pub end_of_service : ServiceEnd → ServerEnd
+end_of_service service.Done = end.Done
+end_of_service service.ListenFault = end.ListenFault
+end_of_service service.OutOfMemory = end.OutOfMemory

@@ -1,12 +1,4 @@
 pub mod Ends
-pub mod Weights
-pub mod Between
-pub mod Stints
 pub mod Opened
-pub mod Hands
-pub mod Accepted
-pub mod Crew
-pub mod Runners
-pub mod Staged
 pub mod Served
 pub mod Setup

@@ -1,9 +1,7 @@
 -- How the cache of a server is opened.
-use Rattle.std.specs.Prelude.{All, ℕ, ◌≡◌, Bool, IsTrue, List, [], Option, Some}
-use Rattle.atomic_table.specs.Seated.{TableId}
-use Rattle.cabinet.specs.State.{State, fronted, now}
+use Rattle.std.specs.Prelude.{All, ℕ, ◌≡◌, Bool, IsTrue, List, Option, Some}
+use Rattle.cabinet.specs.State.{State}
 use Rattle.cabinet_records.specs.Replay.{Replayed}
-use Rattle.cache_hall.specs.Turned.{HallPass}
 use Rattle.catalog.specs.declared.catalogue.Catalogue.{Catalogue}
 use Rattle.clock.specs.Readings.{Readings}
 use Rattle.disk_model.specs.Content.{Content}
@@ -28,10 +26,6 @@ pub record IsOpened {D : Type 0} (d : ServerDisk D) (c : Catalogue) (clock : Rea
   pub replayed : Replayed
   pub opens : IsTrue d.told → OpensTo c d.seen replayed
   pub is : s ≡ opened_as d.told d.seen c clock replayed
-
--- a pass that has seen the book of this cabinet and made nothing, with this mark of being told
-abbrev pub first_pass : TableId → Catalogue → Bool → State → HallPass
-first_pass table c told s = record { table = table; charter = Some c; told = told; book = fronted (now s); made = [] }
 
 -- the cache isn't opened for this cause, and the disk was handed back, which may have failed once more
 abbrev pub IsUnopened : {D : Type 0} → ServerDisk D → OpenFault → Catalogue → Type 0

@@ -1,5 +1,5 @@
 -- What each end of a server says.
-use Rattle.std.specs.Prelude.{ℕ, ◌≡◌, ◌++◌, Bool, List, length}
+use Rattle.std.specs.Prelude.{ℕ, ◌≡◌, Bool, List, length}
 use Rattle.atomic_table.specs.Seated.{TableId}
 use Rattle.cabinet.specs.State.{State}
 use Rattle.catalog.specs.declared.catalogue.Catalogue.{Catalogue}
@@ -9,13 +9,11 @@ use Rattle.command_setup.specs.Setup.{AreRead, IsRefused}
 use Rattle.command_setup.specs.declared.configured.Unconfigured.TheVariants as unconfigured
 use Rattle.gate_journal.specs.declared.fault.OpenFault.{OpenFault}
 use Rattle.gate_journal.specs.declared.fault.OpenFault.TheVariants as fault
+use Rattle.hall_service.specs.First.{first_pass}
+use Rattle.hall_service.specs.Served.{HasServedOver, Listened}
+use Rattle.hall_service.specs.Stints.{LinkReading, Service}
 use Rattle.tile_service.specs.Outside.{FaultCounts, InputChange}
-use Rattle.tile_serving.specs.Opened.{IsOpened, IsUnopened, ServerDisk, first_pass}
-use Rattle.job_runner.specs.Idles as idles
-use Rattle.tile_serving.specs.Runners.{HasRunJobs}
-use Rattle.turnstile.specs.Line.{AreInLine}
-use Rattle.tile_serving.specs.Between.{AreNewer}
-use Rattle.tile_serving.specs.Stints.{AreServed, LinkReading, Service, boards_of, passes_of}
+use Rattle.tile_serving.specs.Opened.{IsOpened, IsUnopened, ServerDisk}
 use Rattle.tile_serving.specs.declared.ends.ServerEnd.{ServerEnd}
 use Rattle.tile_serving.specs.declared.ends.ServerEnd.TheVariants as end
 
@@ -44,24 +42,22 @@ WithBoth h P = (c : Catalogue) × (document : List ℕ) × AreRead h.catalogue h
 abbrev pub service_of : {L : Type 0} → ServerChange L → Catalogue → List ℕ → TableId → TableId → State → Service L
 service_of h c document table board opened = record { reading = h.reading; document = document; catalogue = c; board = board; first = first_pass table c h.told opened }
 
--- The cache of the disk was opened under the catalogue, and each link that the listener gave was served to the end of one session, by
--- passes of one turnstile, which had seen the opened cabinet's book and made nothing before their first session, and from places at one
--- board, on which there was no job at first; jobs were run from that board until none waited of all that the sessions had submitted.
+-- how many links were asked for, those that the listener had given, and how often its accepts had failed
+abbrev pub listened : {L : Type 0} → ServerChange L → Listened L
+listened h = record { connections = h.connections; given_before = h.given_before; given_after = h.given_after; accepts = h.accepts }
+
+-- The cache of the disk was opened under the catalogue, and the links that the listener gave were served over it, by passes that had seen
+-- the opened cabinet's book.
 pub record HasServed {L D : Type 0} (h : ServerChange L) (d : ServerDisk D) (c : Catalogue) (document : List ℕ) : Type 0 where
   pub opened : State
   pub is_opened : IsOpened d c h.clock opened
   pub table : TableId
   pub board : TableId
-  pub links : List L
-  pub given : h.given_after ≡ h.given_before ++ links
-  pub served : AreServed (service_of h c document table board opened) links
-  pub jobs : HasRunJobs (service_of h c document table board opened) (boards_of served.stints)
-  pub line : AreInLine (passes_of served.stints ++ idles.passes_of jobs.on.after.idle)
-  pub newer : AreNewer c (passes_of served.stints ++ idles.passes_of jobs.on.after.idle)
+  pub over : HasServedOver (service_of h c document table board opened) (listened h)
 
 -- so it was, and as many links were given as were asked for
 abbrev pub HasServedAll : {L D : Type 0} → ServerChange L → ServerDisk D → Catalogue → List ℕ → Type 0
-HasServedAll h d c document = (s : HasServed h d c document) × (length s.links ≡ h.connections)
+HasServedAll h d c document = (s : HasServed h d c document) × (length s.over.links ≡ h.connections)
 
 -- A cache is refused by neither a fault of the disk nor want of memory, which are ends of their own.
 abbrev pub IsCacheRefused : {L D : Type 0} → ServerChange L → ServerDisk D → OpenFault → Type 0

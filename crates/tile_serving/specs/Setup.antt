@@ -1,6 +1,6 @@
 -- What comes of the setting up.
 -- A tie between the code and its definitions: the promise can be read without it.
-use Rattle.std.specs.Prelude.{All, ℕ, ◌≡◌, ◌⊎◌, Bool, List, length}
+use Rattle.std.specs.Prelude.{All, ℕ, ◌≡◌, ◌⊎◌, Bool, List}
 use Rattle.atomic_table.specs.Seated.{TableId}
 use Rattle.cabinet.specs.State.{State}
 use Rattle.cache_hall.specs.Turned.{HallPass}
@@ -9,10 +9,10 @@ use Rattle.clock.specs.Readings.{Readings}
 use Rattle.command_setup.specs.Setup.{AreRead, IsRefused}
 use Rattle.command_setup.specs.declared.configured.Unconfigured.{Unconfigured}
 use Rattle.gate_journal.specs.declared.fault.OpenFault.{OpenFault}
-use Rattle.job_board.specs.Calls.{BoardHolding, IsFirstBoardPass}
+use Rattle.hall_service.specs.First.{first_pass}
 use Rattle.tile_service.specs.Outside.{InputChange}
 use Rattle.tile_serving.specs.Ends.{end_of_opening, end_of_refusal}
-use Rattle.tile_serving.specs.Opened.{IsOpened, IsUnopened, ServerDisk, first_pass}
+use Rattle.tile_serving.specs.Opened.{IsOpened, IsUnopened, ServerDisk}
 use Rattle.tile_serving.specs.declared.ends.ServerEnd.{ServerEnd}
 use Rattle.tile_serving.specs.declared.ends.ServerEnd.TheVariants as end
 
@@ -21,11 +21,6 @@ pub record AreFirst {D : Type 0} (d : ServerDisk D) (c : Catalogue) (clock : Rea
   pub opened : State
   pub is_opened : IsOpened d c clock opened
   pub first : All (λ p. p ≡ first_pass table c told opened) passes
-
--- there are so many passes of this board, on which there is no job, and they have made nothing
-pub record AreFirstAtBoard (board : TableId) (many : ℕ) (passes : List BoardHolding) : Type 0 where
-  pub count : length passes ≡ many
-  pub first : All (IsFirstBoardPass board) passes
 
 -- both files were read, and the passes are first ones at the cabinet that the disk opens to
 pub record IsStaged {D : Type 0} (catalogue capabilities : InputChange) (d : ServerDisk D) (clock : Readings) (told : Bool) (c : Catalogue) (document : List ℕ) (table : TableId) (passes : List HallPass) : Type 0 where

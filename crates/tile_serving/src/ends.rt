@@ -1,10 +1,11 @@
 //! How a server ends, and how that is told to the operator.
 ghost use Rattle.std.specs.Prelude.{◌≡◌};
-ghost use Rattle.tile_serving.specs.Ends.{end_of_opening, end_of_refusal};
+ghost use Rattle.tile_serving.specs.Ends.{end_of_opening, end_of_refusal, end_of_service};
 
 use catalog::fault::CatalogueFault;
 use command_setup::configured::Unconfigured;
 use gate_journal::fault::OpenFault;
+use hall_service::ends::ServiceEnd;
 use std::fmt;
 use tile_command::status::Status;
 
@@ -92,5 +93,16 @@ pub(crate) fn end_of_opening(fault: OpenFault) -> ServerEnd
         OpenFault::Spent => ServerEnd::Cache(OpenFault::Spent),
         OpenFault::DiskFault => ServerEnd::DiskFault,
         OpenFault::OutOfMemory => ServerEnd::OutOfMemory,
+    }
+}
+
+/// The end of a server whose links were served over its hall.
+pub(crate) fn end_of_service(end: ServiceEnd) -> ServerEnd
+    ensures { result ≡ end_of_service end }
+{
+    match end {
+        ServiceEnd::Done => ServerEnd::Done,
+        ServiceEnd::ListenFault => ServerEnd::ListenFault,
+        ServiceEnd::OutOfMemory => ServerEnd::OutOfMemory,
     }
 }

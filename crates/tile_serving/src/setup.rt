@@ -1,45 +1,25 @@
 //! What a server works with, made ready before the first link.
-ghost use Rattle.std.specs.Prelude.{All, Bool, IfErr, IfOk, IsTrue, length, true, ◌≡◌};
-ghost use Rattle.cabinet.specs.State.{IsSound};
+ghost use Rattle.std.specs.Prelude.{Bool, IfErr, IfOk, IsTrue, length, true, ◌≡◌};
 ghost use Rattle.catalog.specs.Valid.{IsValid};
 ghost use Rattle.durable_cabinet.specs.Images.{IsOurs, IsSoundImage};
+ghost use Rattle.hall_service.specs.First.{AreFirstAtBoard};
 ghost use Rattle.tile_command.specs.Command.{HoldsFile};
 ghost use Rattle.tile_service.specs.Outside.{InputChange, counts};
-ghost use Rattle.tile_serving.specs.Opened.{HoldsPictures, IsOpened, first_pass};
-ghost use Rattle.tile_serving.specs.Setup.{AreFirst, AreFirstAtBoard, IsStaged, IsUnready, Refuses};
+ghost use Rattle.tile_serving.specs.Opened.{HoldsPictures, IsOpened};
+ghost use Rattle.tile_serving.specs.Setup.{AreFirst, IsStaged, IsUnready, Refuses};
 
 use crate::ends::{ServerEnd, end_of_opening, end_of_refusal};
-use cabinet::keeper::Keeper;
-use cabinet_chest::chest::CabinetChest;
-use cache_hall::hall::{Hall, HallEntry};
 use catalog::catalogue::Catalogue;
 use clock::clock::Clock;
 use command_setup::prepared::both_read;
 use disk_model::disk::Disk;
 use durable_cabinet::durable::Cabinet;
 use exact_ratio::words::Words;
-use hall_sessions::world::World;
+use hall_service::stage::{BOARD_PASSES, PASSES, Stage, stage_of};
 use http_wire::streams::ByteSource;
-use job_board::board::{Board, BoardEntry, BoardPass};
-use std::alloc::{AllocError, Global};
+use std::alloc::Global;
 use std::snapshot::Snapshot;
-use traffic::traffic::Traffic;
-use turnstile::pass::Pass;
 use wmts_rest::table::RestTable;
-
-/// How many passes of the hall a server has: one for each worker, one for the upkeep, and one for each member of a job's crew.
-pub(crate) const PASSES: u32 = 13;
-
-/// How many places at the board of jobs a server has: one for each worker, and one for who runs jobs.
-pub(crate) const BOARD_PASSES: u32 = 5;
-
-/// What is served, the passes of its hall, and the places at its board.
-#[derive(Drop)]
-pub(crate) struct Stage<K: Keeper> {
-    pub(crate) world: World<K>,
-    pub(crate) passes: Vec<Pass<CabinetChest<K>>>,
-    pub(crate) boards: Vec<BoardPass>,
-}
 
 /// Opens the cabinet of a disk.
 fn cabinet_of<D: Disk>(
@@ -59,56 +39,6 @@ fn cabinet_of<D: Disk>(
             let (fault, left) = refusal;
             drop(left);
             Err(end_of_opening(fault))
-        }
-    }
-}
-
-/// A world over a cabinet, with its capabilities document and a board without jobs, and the passes of it. Where the caller sets the mark of
-/// being told, the cabinet is sound.
-fn world_of<K: Keeper>(
-    alloc: Global,
-    rest: RestTable,
-    capabilities: Words,
-    keeper: K,
-) -> Result<Stage<K>, AllocError>
-    ghost told: { Bool }
-    requires sound { told ≡ true → IsSound (K.state keeper) }
-    ensures catalogue { IfOk result (λ o. o.world.hall.catalogue ≡ (K.state keeper).catalogue) }
-    ensures document { IfOk result (λ o. o.world.capabilities ≡ capabilities) }
-    ensures count { IfOk result (λ o. (length o.passes.items ≡ PASSES) × (o.world.hall.turnstile.passes ≡ PASSES)) }
-    ensures boards { IfOk result (λ o. AreFirstAtBoard o.world.board.turnstile.table BOARD_PASSES o.boards.items) }
-    ensures first { IfOk result (λ o. All (λ p. p ≡ first_pass o.world.hall.turnstile.table (K.state keeper).catalogue told (K.state keeper)) o.passes.items) }
-{
-    // What is large is dropped by a call, since the proof would else go through its parts at each end.
-    let entry = match Board::make(alloc, BOARD_PASSES) {
-        Ok(entry) => entry,
-        Err(fault) => {
-            drop(rest);
-            return Err(fault);
-        }
-    };
-    match Hall::make(alloc, keeper, PASSES) {
-        Err(fault) => {
-            drop(rest);
-            drop(entry);
-            Err(fault)
-        }
-        Ok(HallEntry { hall, passes }) => {
-            let BoardEntry {
-                board,
-                passes: boards,
-            } = entry;
-            Ok(Stage {
-                world: World {
-                    hall,
-                    rest,
-                    capabilities,
-                    board,
-                    traffic: Traffic::new(),
-                },
-                passes: passes.into_vec(),
-                boards: boards.into_vec(),
-            })
         }
     }
 }
@@ -143,7 +73,7 @@ fn world_on<D: Disk>(
             return Err(end);
         }
     };
-    match world_of(alloc, rest, capabilities, cabinet) {
+    match stage_of(alloc, rest, capabilities, cabinet) {
         Ok(stage) => Ok(stage),
         Err(_) => Err(ServerEnd::OutOfMemory),
     }

@@ -1,11 +1,11 @@
 use Rattle.std.proofs.Common.{refl}
-use Rattle.tile_serving.specs.Opened.{first_pass}
+use Rattle.hall_service.specs.First.{first_pass}
 use Rattle.tile_serving.proofs.Closing.{ended_over}
 use Rattle.tile_serving.proofs.Fitting.{may_be}
 use Rattle.tile_serving.proofs.server.run_server.Goals as goal
 
-pub serve_stage-requires-clause-supplied : goal.serve_stage-requires-clause-supplied
-serve_stage-requires-clause-supplied g c κs within =
+pub serve_hall-requires-clause-supplied : goal.serve_hall-requires-clause-supplied
+serve_hall-requires-clause-supplied g c κs within =
     let st = c.in-Ok.ensures.staged in
     let catalogue = c.in-Ok.stage.world.hall.catalogue in
     record {
@@ -20,6 +20,6 @@ returns g c =
     let st = c.in-Ok.ensures.staged in
     let catalogue = c.in-Ok.stage.world.hall.catalogue in
     let first = first_pass c.in-Ok.stage.world.hall.turnstile.table catalogue c.args.told.value st.first.opened in
-    ended_over _ _ catalogue c.in-Ok.stage.world.capabilities c.in-Ok.stage.world.hall.turnstile.table c.in-Ok.stage.world.board.turnstile.table st.first.opened _ _ c.serve_stage.result st.read st.first.is_opened
-    (c.serve_stage.ensures first refl refl
+    ended_over _ _ catalogue c.in-Ok.stage.world.capabilities c.in-Ok.stage.world.hall.turnstile.table c.in-Ok.stage.world.board.turnstile.table st.first.opened _ _ c.serve_hall.result c.end_of_service.result c.end_of_service.ensures st.read st.first.is_opened
+    (c.serve_hall.ensures first refl refl
     (record { passes_are = st.first.first; boards_are = c.in-Ok.ensures.boards.first; sources_tell = λ i e inside told. (c.requires.told told).2 catalogue (may_be _ _ st.read.read) i e inside }))

@@ -3,8 +3,8 @@ use Rattle.cabinet.specs.State.{IsSound}
 use Rattle.tile_serving.proofs.Telling.{opened_sound}
 use Rattle.tile_serving.proofs.setup.world_on.Goals as goal
 
-pub world_of-requires : goal.world_of-requires
-world_of-requires g c κs within = (
+pub stage_of-requires : goal.stage_of-requires
+stage_of-requires g c κs within = (
   search (rules, within),
   λ told.
       let holds = c.requires.1.1.1 told in

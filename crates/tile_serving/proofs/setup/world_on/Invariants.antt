@@ -1,4 +1,4 @@
 use Rattle.tile_serving.proofs.setup.world_on.Given as goal
 
-abbrev pub ghost-world_of : goal.ghost-world_of
-ghost-world_of g a = g.told
+abbrev pub ghost-stage_of : goal.ghost-stage_of
+ghost-stage_of g a = g.told

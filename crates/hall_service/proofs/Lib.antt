@@ -1,0 +1,12 @@
+pub mod Crews
+pub mod Shared
+pub mod Sums
+pub mod Balance
+pub mod Arrivals
+pub mod Hearing
+pub mod Holding
+pub mod Between
+pub mod JobTurns
+pub mod Closing
+pub mod Gathering
+pub mod Passes

@@ -1,0 +1,10 @@
+use Rattle.std.proofs.Common.{◌≡◌}
+use Rattle.crossbeam_queue.specs.Passes.{view}
+use Rattle.hall_service.specs.Hands.{IsHand, table_of}
+use Rattle.hall_service.proofs.queue.LinkQueue.hand_in.Given as goal
+
+abbrev pub invariant-handing : goal.invariant-handing
+invariant-handing g l = record {
+  hand : IsHand (table_of l.self.links) (view l.initial.mine) l.mine;
+  same : l.link ≡ l.initial.link;
+}

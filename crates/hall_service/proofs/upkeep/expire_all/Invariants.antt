@@ -1,0 +1,5 @@
+use Rattle.cache_hall.specs.Turned.{IsPassOf}
+use Rattle.hall_service.proofs.upkeep.expire_all.Given as goal
+
+abbrev pub invariant-expiring : goal.invariant-expiring
+invariant-expiring g l = IsPassOf l.hall.turnstile.table l.hall.catalogue l.pass

@@ -1,0 +1,5 @@
+use Rattle.cache_hall.specs.Turned.{IsPassOf}
+use Rattle.hall_service.proofs.upkeep.save_all.Given as goal
+
+abbrev pub invariant-saving : goal.invariant-saving
+invariant-saving g l = IsPassOf l.hall.turnstile.table l.hall.catalogue l.pass

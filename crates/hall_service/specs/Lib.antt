@@ -1,0 +1,10 @@
+pub mod Weights
+pub mod Between
+pub mod Stints
+pub mod Hands
+pub mod Accepted
+pub mod Crew
+pub mod Runners
+pub mod First
+pub mod Served
+pub mod Staged

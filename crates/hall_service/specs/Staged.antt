@@ -1,0 +1,28 @@
+-- What the links of a listener are served with.
+-- A tie between the code and its definitions: the promise can be read without it.
+use Rattle.std.specs.Prelude.{ℕ, ◌≡◌, Bool, List, Option, Some}
+use Rattle.std.specs.List.{Contains}
+use Rattle.atomic_table.specs.Seated.{TableId}
+use Rattle.cache_hall.specs.Turned.{HallPass}
+use Rattle.hall_service.specs.Crew.{AreSupplies, HasServedLinks}
+use Rattle.hall_service.specs.Runners.{HasRunOn, IsNewRunner}
+use Rattle.hall_service.specs.Served.{Listened}
+use Rattle.hall_service.specs.Stints.{Service}
+use Rattle.job_board.specs.Calls.{BoardHolding}
+use Rattle.job_runner.specs.Idles.{Standby}
+use Rattle.job_runner.specs.Idles as idles
+
+-- supplies that nobody has used yet, of what is served under a first pass of this hall
+pub record IsSupplied {L S : Type 0} (table : TableId) (service : HallPass → Service L) (tells : S → Option ℕ) (passes : List HallPass) (boards : List BoardHolding) (sources : List S) : Type 0 where
+  pub first : HallPass
+  pub of : first.table ≡ table
+  pub charter : first.charter ≡ Some (service first).catalogue
+  pub supplies : AreSupplies (service first) tells passes boards sources
+
+-- all links that were given were served and all jobs were run, by passes that are among these
+pub record HasServedBy {L : Type 0} (s : Service L) (h : Listened L) (passes : List HallPass) (all : Bool) : Type 0 where
+  pub before : Standby
+  pub new : IsNewRunner s before
+  pub on : HasRunOn s.catalogue before
+  pub among : (p : HallPass) → Contains (idles.passes_of on.after.idle) p → Contains passes p
+  pub links : HasServedLinks s h.connections h.given_before h.given_after h.accepts.before h.accepts.after passes on.between on.heard all

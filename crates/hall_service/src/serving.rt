@@ -1,0 +1,315 @@
+//! The threads of a server.
+ghost use Rattle.std.specs.List.{Contains};
+ghost use Rattle.std.specs.Prelude.{All, MatchBool, [], length, vec_capacity, ◌+◌, ◌-◌, ◌<◌, ◌≡◌, ◌≤◌};
+ghost use Rattle.cache_hall.specs.Turned.{HallPass, IsPassOf};
+ghost use Rattle.catalog.specs.Valid.{IsValid};
+ghost use Rattle.crossbeam_queue.specs.Passes.{view};
+ghost use Rattle.job_runner.specs.Idles as idles;
+ghost use Rattle.job_runner.specs.Idles.{passes_of};
+ghost use Rattle.job_runner.specs.Runs.{RunsAll};
+ghost use Rattle.hall_service.specs.Accepted.{HasAccepted};
+ghost use Rattle.hall_service.specs.Crew.{HasServedLinks, HasWorked, IsReady};
+ghost use Rattle.hall_service.specs.Hands.{IsHand, all_parts, hand, table_of};
+ghost use Rattle.hall_service.specs.Runners.{HasRunOn};
+ghost use Rattle.hall_service.specs.Stints.{serving};
+ghost use Rattle.hall_service.specs.declared.hand.Hand.{Hand};
+
+use crate::accepting::accept_all;
+use crate::crew::{Crew, Staff, WORKERS, Worker};
+use crate::crossing::is_shared;
+use crate::ending::serve_rest;
+use crate::queue::LinkQueue;
+use crate::upkeep::{Shift, keep_up};
+use crate::workers::work;
+use cabinet::keeper::Keeper;
+use cabinet_chest::chest::CabinetChest;
+use hall_sessions::world::World;
+use http_wire::links::Link;
+use job_runner::gates::JobGate;
+use job_runner::runner::{MEMBERS, Runner};
+use job_runner::running::run_jobs;
+use listeners::listener::Listener;
+use source_render::source::Source;
+use std::alloc::Global;
+use std::convert::identity;
+use std::sync::Wait;
+use std::sync::atomic::{AtomicBool, Ordering};
+use std::thread::{Threads, for_each_mut, join_mut};
+use turnstile::pass::Pass;
+use wmts_rest::table::RestTable;
+
+/// Lets all workers serve until no more links come, and then tells who runs jobs.
+#[tactic(auto, using(crate::proofs::Shared::world_sync))]
+fn work_all<R: Threads + Wait + Sync, K: Keeper + Send, S: Source + Send, L: Link + Send>(
+    rt: &R,
+    alloc: Global,
+    world: &World<K>,
+    queue: &LinkQueue<L>,
+    is_over: &AtomicBool,
+    workers: &mut [Worker<K, S, L>],
+)
+    requires valid { IsValid world.now.hall.catalogue }
+    requires ready { All (λ w. IsReady (table_of queue.now.links) world.now.hall.turnstile.table world.now.board.turnstile.table world.now.hall.catalogue (S.told w.source) w.pass w.board w.hand) workers.old }
+    ensures ready { All (λ w. IsReady (table_of queue.now.links) world.now.hall.turnstile.table world.now.board.turnstile.table world.now.hall.catalogue (S.told w.source) w.pass w.board w.hand) workers.new }
+    ensures worked { (first : HallPass) (before : Hand L)
+        → All (λ w. HasWorked (serving L.left L.taken L.ByteSource.faults L.ByteSink.faults world.now.capabilities world.now.hall.catalogue world.now.board.turnstile.table first) before w.pass w.board (S.faults w.source) w.hand) workers.old
+        → All (λ w. HasWorked (serving L.left L.taken L.ByteSource.faults L.ByteSink.faults world.now.capabilities world.now.hall.catalogue world.now.board.turnstile.table first) before w.pass w.board (S.faults w.source) w.hand) workers.new }
+{
+    // The table of routes holds a tree, of which proofs have to be told that threads may share it.
+    is_shared::<RestTable>();
+    for_each_mut(
+        rt,
+        workers,
+        WORKERS,
+        &|_, worker: &mut Worker<K, S, L>|
+            requires { IsValid world.now.hall.catalogue × IsReady (table_of queue.now.links) world.now.hall.turnstile.table world.now.board.turnstile.table world.now.hall.catalogue (S.told worker.now.source) worker.now.pass worker.now.board worker.now.hand }
+            ensures ready { IsReady (table_of queue.entry.now.links) world.entry.now.hall.turnstile.table world.entry.now.board.turnstile.table world.entry.now.hall.catalogue (S.told worker.exit.now.source) worker.exit.now.pass worker.exit.now.board worker.exit.now.hand }
+            ensures worked { (first : HallPass) (before : Hand L)
+                → HasWorked (serving L.left L.taken L.ByteSource.faults L.ByteSink.faults world.entry.now.capabilities world.entry.now.hall.catalogue world.entry.now.board.turnstile.table first) before worker.entry.now.pass worker.entry.now.board (S.faults worker.entry.now.source) worker.entry.now.hand
+                → HasWorked (serving L.left L.taken L.ByteSource.faults L.ByteSink.faults world.entry.now.capabilities world.entry.now.hall.catalogue world.entry.now.board.turnstile.table first) before worker.exit.now.pass worker.exit.now.board (S.faults worker.exit.now.source) worker.exit.now.hand }
+        { work(rt, alloc, world, queue, worker) },
+    );
+    is_over.store(true, Ordering::SeqCst);
+    world.board.wake(rt);
+}
+
+/// Serves links until no more come, and runs jobs until then and until none is left; then ends the upkeep.
+#[tactic(auto, using(crate::proofs::Shared::world_sync))]
+fn work_and_run<
+    R: Threads + Wait + Sync,
+    K: Keeper + Send,
+    S: Source + Send,
+    L: Link + Send,
+    G: JobGate + Send,
+>(
+    rt: &R,
+    alloc: Global,
+    world: &World<K>,
+    queue: &LinkQueue<L>,
+    upkeep: &Shift,
+    workers: &mut [Worker<K, S, L>],
+    runner: &mut Runner<K, S, G>,
+)
+    requires valid { IsValid world.now.hall.catalogue }
+    requires ready { All (λ w. IsReady (table_of queue.now.links) world.now.hall.turnstile.table world.now.board.turnstile.table world.now.hall.catalogue (S.told w.source) w.pass w.board w.hand) workers.old }
+    requires runner { idles.IsReady world.now.board.turnstile.table world.now.hall.turnstile.table world.now.hall.catalogue runner.old }
+    ensures ready { All (λ w. IsReady (table_of queue.now.links) world.now.hall.turnstile.table world.now.board.turnstile.table world.now.hall.catalogue (S.told w.source) w.pass w.board w.hand) workers.new }
+    ensures runner { idles.IsReady world.now.board.turnstile.table world.now.hall.turnstile.table world.now.hall.catalogue runner.new }
+    ensures runs { RunsAll world.now.hall.catalogue runner.old runner.new }
+    ensures worked { (first : HallPass) (before : Hand L)
+        → All (λ w. HasWorked (serving L.left L.taken L.ByteSource.faults L.ByteSink.faults world.now.capabilities world.now.hall.catalogue world.now.board.turnstile.table first) before w.pass w.board (S.faults w.source) w.hand) workers.old
+        → All (λ w. HasWorked (serving L.left L.taken L.ByteSource.faults L.ByteSink.faults world.now.capabilities world.now.hall.catalogue world.now.board.turnstile.table first) before w.pass w.board (S.faults w.source) w.hand) workers.new }
+{
+    // The table of routes holds a tree, of which proofs have to be told that threads may share it.
+    is_shared::<RestTable>();
+    let is_over = AtomicBool::new(false);
+    let is_over = &is_over;
+    let workers = identity(workers);
+    let runner = identity(runner);
+    let ((), ()) = join_mut(
+        rt,
+        &mut ||
+            requires { IsValid world.now.hall.catalogue × idles.IsReady world.now.board.turnstile.table world.now.hall.turnstile.table world.now.hall.catalogue runner.now }
+            ensures ready { idles.IsReady world.entry.now.board.turnstile.table world.entry.now.hall.turnstile.table world.entry.now.hall.catalogue runner.exit.now }
+            ensures runs { RunsAll world.entry.now.hall.catalogue runner.entry.now runner.exit.now }
+        { run_jobs(rt, alloc, &world.hall, &world.board, is_over, runner) },
+        &mut ||
+            requires { IsValid world.now.hall.catalogue × All (λ w. IsReady (table_of queue.now.links) world.now.hall.turnstile.table world.now.board.turnstile.table world.now.hall.catalogue (S.told w.source) w.pass w.board w.hand) workers.now }
+            ensures ready { All (λ w. IsReady (table_of queue.entry.now.links) world.entry.now.hall.turnstile.table world.entry.now.board.turnstile.table world.entry.now.hall.catalogue (S.told w.source) w.pass w.board w.hand) workers.exit.now }
+            ensures worked { (first : HallPass) (before : Hand L)
+                → All (λ w. HasWorked (serving L.left L.taken L.ByteSource.faults L.ByteSink.faults world.entry.now.capabilities world.entry.now.hall.catalogue world.entry.now.board.turnstile.table first) before w.pass w.board (S.faults w.source) w.hand) workers.entry.now
+                → All (λ w. HasWorked (serving L.left L.taken L.ByteSource.faults L.ByteSink.faults world.entry.now.capabilities world.entry.now.hall.catalogue world.entry.now.board.turnstile.table first) before w.pass w.board (S.faults w.source) w.hand) workers.exit.now }
+        { work_all(rt, alloc, world, queue, is_over, workers) },
+    );
+    upkeep.end();
+    world.hall.wake(rt);
+}
+
+/// Serves links until no more come, and runs jobs and keeps the cache up meanwhile.
+#[tactic(auto, using(crate::proofs::Shared::world_sync))]
+fn serve_all<
+    R: Threads + Wait + Sync,
+    K: Keeper + Send,
+    S: Source + Send,
+    L: Link + Send,
+    G: JobGate + Send,
+>(rt: &R, alloc: Global, world: &World<K>, queue: &LinkQueue<L>, crew: &mut Crew<K, S, L, G>)
+    requires valid { IsValid world.now.hall.catalogue }
+    requires ready { All (λ w. IsReady (table_of queue.now.links) world.now.hall.turnstile.table world.now.board.turnstile.table world.now.hall.catalogue (S.told w.source) w.pass w.board w.hand) crew.old.workers.items }
+    requires upkeep { IsPassOf world.now.hall.turnstile.table world.now.hall.catalogue crew.old.upkeep }
+    requires runner { idles.IsReady world.now.board.turnstile.table world.now.hall.turnstile.table world.now.hall.catalogue crew.old.runner }
+    ensures ready { All (λ w. IsReady (table_of queue.now.links) world.now.hall.turnstile.table world.now.board.turnstile.table world.now.hall.catalogue (S.told w.source) w.pass w.board w.hand) crew.new.workers.items }
+    ensures upkeep { IsPassOf world.now.hall.turnstile.table world.now.hall.catalogue crew.new.upkeep }
+    ensures runner { idles.IsReady world.now.board.turnstile.table world.now.hall.turnstile.table world.now.hall.catalogue crew.new.runner }
+    ensures runs { RunsAll world.now.hall.catalogue crew.old.runner crew.new.runner }
+    ensures worked { (first : HallPass) (before : Hand L)
+        → All (λ w. HasWorked (serving L.left L.taken L.ByteSource.faults L.ByteSink.faults world.now.capabilities world.now.hall.catalogue world.now.board.turnstile.table first) before w.pass w.board (S.faults w.source) w.hand) crew.old.workers.items
+        → All (λ w. HasWorked (serving L.left L.taken L.ByteSource.faults L.ByteSink.faults world.now.capabilities world.now.hall.catalogue world.now.board.turnstile.table first) before w.pass w.board (S.faults w.source) w.hand) crew.new.workers.items }
+    ensures each { length crew.new.workers.items ≡ length crew.old.workers.items }
+{
+    // The table of routes holds a tree, of which proofs have to be told that threads may share it.
+    is_shared::<RestTable>();
+    let shift = Shift::new();
+    let shift = &shift;
+    let Crew {
+        workers,
+        upkeep,
+        runner,
+    } = crew;
+    let workers = workers.as_mut_slice();
+    let upkeep = identity(upkeep);
+    let runner = identity(runner);
+    let hall = &world.hall;
+    let ((), ()) = join_mut(
+        rt,
+        &mut ||
+            requires { IsPassOf hall.now.turnstile.table hall.now.catalogue upkeep.now }
+            ensures { IsPassOf hall.entry.now.turnstile.table hall.entry.now.catalogue upkeep.exit.now }
+        { keep_up(rt, hall, shift, upkeep) },
+        &mut ||
+            requires { IsValid world.now.hall.catalogue × All (λ w. IsReady (table_of queue.now.links) world.now.hall.turnstile.table world.now.board.turnstile.table world.now.hall.catalogue (S.told w.source) w.pass w.board w.hand) workers.now × idles.IsReady world.now.board.turnstile.table world.now.hall.turnstile.table world.now.hall.catalogue runner.now }
+            ensures ready { All (λ w. IsReady (table_of queue.entry.now.links) world.entry.now.hall.turnstile.table world.entry.now.board.turnstile.table world.entry.now.hall.catalogue (S.told w.source) w.pass w.board w.hand) workers.exit.now }
+            ensures runner { idles.IsReady world.entry.now.board.turnstile.table world.entry.now.hall.turnstile.table world.entry.now.hall.catalogue runner.exit.now }
+            ensures runs { RunsAll world.entry.now.hall.catalogue runner.entry.now runner.exit.now }
+            ensures worked { (first : HallPass) (before : Hand L)
+                → All (λ w. HasWorked (serving L.left L.taken L.ByteSource.faults L.ByteSink.faults world.entry.now.capabilities world.entry.now.hall.catalogue world.entry.now.board.turnstile.table first) before w.pass w.board (S.faults w.source) w.hand) workers.entry.now
+                → All (λ w. HasWorked (serving L.left L.taken L.ByteSource.faults L.ByteSink.faults world.entry.now.capabilities world.entry.now.hall.catalogue world.entry.now.board.turnstile.table first) before w.pass w.board (S.faults w.source) w.hand) workers.exit.now }
+        { work_and_run(rt, alloc, world, queue, shift, workers, runner) },
+    );
+}
+
+/// Accepts so many links in this thread while others serve them. False where an accept failed.
+#[tactic(auto, using(crate::proofs::Shared::world_sync))]
+fn accept_and_serve<
+    R: Threads + Wait + Sync,
+    K: Keeper + Send,
+    S: Source + Send,
+    N: Listener,
+    G: JobGate + Send,
+>(
+    rt: &R,
+    alloc: Global,
+    connections: u32,
+    world: &World<K>,
+    queue: &LinkQueue<N::L>,
+    staff: &mut Staff<K, S, N::L, G>,
+    listener: &mut N,
+) -> bool
+where
+    N::L: Send,
+    requires valid { IsValid world.now.hall.catalogue }
+    requires ready { All (λ w. IsReady (table_of queue.now.links) world.now.hall.turnstile.table world.now.board.turnstile.table world.now.hall.catalogue (S.told w.source) w.pass w.board w.hand) staff.old.crew.workers.items }
+    requires upkeep { IsPassOf world.now.hall.turnstile.table world.now.hall.catalogue staff.old.crew.upkeep }
+    requires runner { idles.IsReady world.now.board.turnstile.table world.now.hall.turnstile.table world.now.hall.catalogue staff.old.crew.runner }
+    requires acceptor { IsHand (table_of queue.now.links) (view staff.old.acceptor) staff.old.acceptor }
+    requires parts { 0 < (view staff.old.acceptor).parts }
+    ensures accepted { HasAccepted (table_of queue.now.links) connections (view staff.old.acceptor) staff.new.acceptor (N.given listener.old) (N.given listener.new) (N.faults listener.old) (N.faults listener.new) result }
+    ensures ready { All (λ w. IsReady (table_of queue.now.links) world.now.hall.turnstile.table world.now.board.turnstile.table world.now.hall.catalogue (S.told w.source) w.pass w.board w.hand) staff.new.crew.workers.items }
+    ensures upkeep { IsPassOf world.now.hall.turnstile.table world.now.hall.catalogue staff.new.crew.upkeep }
+    ensures runner { idles.IsReady world.now.board.turnstile.table world.now.hall.turnstile.table world.now.hall.catalogue staff.new.crew.runner }
+    ensures runs { RunsAll world.now.hall.catalogue staff.old.crew.runner staff.new.crew.runner }
+    ensures each { length staff.new.crew.workers.items ≡ length staff.old.crew.workers.items }
+    ensures worked { (first : HallPass) (before : Hand N.L)
+        → All (λ w. HasWorked (serving N.L.left N.L.taken N.L.ByteSource.faults N.L.ByteSink.faults world.now.capabilities world.now.hall.catalogue world.now.board.turnstile.table first) before w.pass w.board (S.faults w.source) w.hand) staff.old.crew.workers.items
+        → All (λ w. HasWorked (serving N.L.left N.L.taken N.L.ByteSource.faults N.L.ByteSink.faults world.now.capabilities world.now.hall.catalogue world.now.board.turnstile.table first) before w.pass w.board (S.faults w.source) w.hand) staff.new.crew.workers.items }
+{
+    // The table of routes holds a tree, of which proofs have to be told that threads may share it.
+    is_shared::<RestTable>();
+    let Staff { crew, acceptor } = staff;
+    let crew = identity(crew);
+    let acceptor = identity(acceptor);
+    let ((), all) = join_mut(
+        rt,
+        &mut ||
+            requires { IsValid world.now.hall.catalogue × All (λ w. IsReady (table_of queue.now.links) world.now.hall.turnstile.table world.now.board.turnstile.table world.now.hall.catalogue (S.told w.source) w.pass w.board w.hand) crew.now.workers.items × IsPassOf world.now.hall.turnstile.table world.now.hall.catalogue crew.now.upkeep × idles.IsReady world.now.board.turnstile.table world.now.hall.turnstile.table world.now.hall.catalogue crew.now.runner }
+            ensures ready { All (λ w. IsReady (table_of queue.entry.now.links) world.entry.now.hall.turnstile.table world.entry.now.board.turnstile.table world.entry.now.hall.catalogue (S.told w.source) w.pass w.board w.hand) crew.exit.now.workers.items }
+            ensures worked { (first : HallPass) (before : Hand N.L)
+                → All (λ w. HasWorked (serving N.L.left N.L.taken N.L.ByteSource.faults N.L.ByteSink.faults world.entry.now.capabilities world.entry.now.hall.catalogue world.entry.now.board.turnstile.table first) before w.pass w.board (S.faults w.source) w.hand) crew.entry.now.workers.items
+                → All (λ w. HasWorked (serving N.L.left N.L.taken N.L.ByteSource.faults N.L.ByteSink.faults world.entry.now.capabilities world.entry.now.hall.catalogue world.entry.now.board.turnstile.table first) before w.pass w.board (S.faults w.source) w.hand) crew.exit.now.workers.items }
+            ensures upkeep { IsPassOf world.entry.now.hall.turnstile.table world.entry.now.hall.catalogue crew.exit.now.upkeep }
+            ensures runner { idles.IsReady world.entry.now.board.turnstile.table world.entry.now.hall.turnstile.table world.entry.now.hall.catalogue crew.exit.now.runner }
+            ensures runs { RunsAll world.entry.now.hall.catalogue crew.entry.now.runner crew.exit.now.runner }
+            ensures each { length crew.exit.now.workers.items ≡ length crew.entry.now.workers.items }
+        { serve_all(rt, alloc, world, queue, crew) },
+        &mut || -> bool
+            requires { IsHand (table_of queue.now.links) (view acceptor.now) acceptor.now × (0 < (view acceptor.now).parts) }
+            ensures { HasAccepted (table_of queue.entry.now.links) connections (view acceptor.entry.now) acceptor.exit.now (N.given listener.entry.now) (N.given listener.exit.now) (N.faults listener.entry.now) (N.faults listener.exit.now) result }
+        { accept_all(rt, connections, queue, acceptor, listener) },
+    );
+    all
+}
+
+/// How the serving of links ended: whether no accept failed, and the passes of all that worked.
+#[derive(Drop)]
+pub(crate) struct Served<K: Keeper> {
+    pub(crate) all: bool,
+    pub(crate) passes: Vec<Pass<CabinetChest<K>>>,
+}
+
+/// Accepts so many links of a listener in this thread, while a crew serves them, and sees that each is served to its end and that each job
+/// is run which a session has submitted. All passes come back in a list that has room for them.
+pub(crate) fn serve_links<
+    R: Threads + Wait + Sync,
+    K: Keeper + Send,
+    S: Source + Send,
+    N: Listener,
+    G: JobGate + Send,
+>(
+    rt: &R,
+    alloc: Global,
+    connections: u32,
+    world: &World<K>,
+    queue: &LinkQueue<N::L>,
+    staff: Staff<K, S, N::L, G>,
+    passes: Vec<Pass<CabinetChest<K>>>,
+    listener: &mut N,
+) -> Served<K>
+where
+    N::L: Send,
+    requires valid { IsValid world.now.hall.catalogue }
+    requires ready { All (λ w. IsReady (table_of queue.now.links) world.now.hall.turnstile.table world.now.board.turnstile.table world.now.hall.catalogue (S.told w.source) w.pass w.board w.hand) staff.crew.workers.items }
+    requires upkeep { IsPassOf world.now.hall.turnstile.table world.now.hall.catalogue staff.crew.upkeep }
+    requires runner { idles.IsReady world.now.board.turnstile.table world.now.hall.turnstile.table world.now.hall.catalogue staff.crew.runner }
+    requires each { length staff.crew.workers.items ≡ WORKERS }
+    requires empty { passes.items ≡ [] }
+    requires room { WORKERS + 1 + MEMBERS ≤ vec_capacity passes }
+    requires acceptor { IsHand (table_of queue.now.links) (hand (all_parts - WORKERS) [] []) staff.acceptor }
+    ensures of { All (λ p. p.table ≡ world.now.hall.turnstile.table) result.passes.items }
+    ensures count { length result.passes.items ≡ WORKERS + 1 + MEMBERS }
+    ensures served { (j : HasRunOn world.now.hall.catalogue staff.crew.runner) × ((p : HallPass) → Contains (passes_of j.after.idle) p → Contains result.passes.items p) × ((first : HallPass)
+        → All (λ w. HasWorked (serving N.L.left N.L.taken N.L.ByteSource.faults N.L.ByteSink.faults world.now.capabilities world.now.hall.catalogue world.now.board.turnstile.table first) (hand 1 [] []) w.pass w.board (S.faults w.source) w.hand) staff.crew.workers.items
+        → HasServedLinks (serving N.L.left N.L.taken N.L.ByteSource.faults N.L.ByteSink.faults world.now.capabilities world.now.hall.catalogue world.now.board.turnstile.table first) connections (N.given listener.old) (N.given listener.new) (N.faults listener.old) (N.faults listener.new) result.passes.items j.between j.heard result.all) }
+{
+    let mut staff = staff;
+    let all = accept_and_serve(rt, alloc, connections, world, queue, &mut staff, listener);
+    let Staff { crew, acceptor } = staff;
+    let Crew {
+        workers,
+        upkeep,
+        runner,
+    } = crew;
+    let mut runner = runner;
+    let mut passes = serve_rest(
+        rt,
+        alloc,
+        world,
+        queue,
+        acceptor,
+        workers,
+        passes,
+        &mut runner,
+    );
+    run_jobs(
+        rt,
+        alloc,
+        &world.hall,
+        &world.board,
+        &AtomicBool::new(true),
+        &mut runner,
+    );
+    passes.push_reserved(upkeep);
+    Served {
+        all,
+        passes: runner.into_passes(passes),
+    }
+}

@@ -1,5 +1,0 @@
-use Rattle.tile_serving.proofs.Balance.{forks}
-use Rattle.tile_serving.proofs.queue.LinkQueue.one_more.Goals as goal
-
-pub another-requires-clause-rule : goal.another-requires-clause-rule
-another-requires-clause-rule g c = forks _ _ c.requires.parts

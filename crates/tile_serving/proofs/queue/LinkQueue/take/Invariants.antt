@@ -1,6 +1,0 @@
-use Rattle.crossbeam_queue.specs.Passes.{view}
-use Rattle.tile_serving.specs.Hands.{IsHand, table_of}
-use Rattle.tile_serving.proofs.queue.LinkQueue.take.Given as goal
-
-abbrev pub invariant-taking : goal.invariant-taking
-invariant-taking g l = IsHand (table_of l.self.links) (view l.initial.mine) l.mine

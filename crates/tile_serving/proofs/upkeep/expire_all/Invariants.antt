@@ -1,5 +1,0 @@
-use Rattle.cache_hall.specs.Turned.{IsPassOf}
-use Rattle.tile_serving.proofs.upkeep.expire_all.Given as goal
-
-abbrev pub invariant-expiring : goal.invariant-expiring
-invariant-expiring g l = IsPassOf l.hall.turnstile.table l.hall.catalogue l.pass

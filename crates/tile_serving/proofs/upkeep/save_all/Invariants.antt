@@ -1,5 +1,0 @@
-use Rattle.cache_hall.specs.Turned.{IsPassOf}
-use Rattle.tile_serving.proofs.upkeep.save_all.Given as goal
-
-abbrev pub invariant-saving : goal.invariant-saving
-invariant-saving g l = IsPassOf l.hall.turnstile.table l.hall.catalogue l.pass
