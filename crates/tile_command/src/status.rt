@@ -1,7 +1,7 @@
 //! How a command ended, and how that is told to the operator: the code that the process ends with, and a line.
-use catalog::fault::CatalogueFault;
+use catalog::fault::{CatalogueFault, Field};
 use gate_journal::fault::OpenFault;
-use job_forms::fault::JobFault;
+use job_forms::fault::{JobFault, JobField};
 use std::fmt;
 use tile_service::session::SessionEnd;
 
@@ -66,50 +66,87 @@ impl Status {
 impl fmt::Display for Status {
     fn fmt<W: fmt::Write>(&self, f: &mut fmt::Formatter<W>) -> fmt::Result {
         match self {
-            Status::Done => Ok(()),
-            Status::Usage => write!(f, "usage"),
             Status::Catalogue(fault) => write_fault(f, *fault),
-            Status::ReadFault => write!(f, "read fault"),
-            Status::WriteFault => write!(f, "write fault"),
-            Status::DiskFault => write!(f, "disk fault"),
             Status::Line(line) => write!(f, "line {line}"),
             Status::Cache(fault) => write_refusal(f, fault),
-            Status::CutsFull => write!(f, "cuts full"),
-            Status::OutOfMemory => write!(f, "out of memory"),
             Status::Stream(end) => write_end(f, *end),
-            Status::TooLong => write!(f, "too long"),
             Status::Form(fault) => write_form(f, *fault),
+            plain => f.write_str(line_of(plain)),
         }
+    }
+}
+
+/// The line of a status that has no values. That of one that has some is written by a function of its own.
+fn line_of(status: &Status) -> &'static str {
+    match status {
+        Status::Usage => "usage",
+        Status::ReadFault => "read fault",
+        Status::WriteFault => "write fault",
+        Status::DiskFault => "disk fault",
+        Status::CutsFull => "cuts full",
+        Status::OutOfMemory => "out of memory",
+        Status::TooLong => "too long",
+        Status::Done
+        | Status::Catalogue(_)
+        | Status::Line(_)
+        | Status::Cache(_)
+        | Status::Stream(_)
+        | Status::Form(_) => "",
     }
 }
 
 /// Writes a catalogue's fault: its kind, its member and the place of the member's object.
 fn write_fault<W: fmt::Write>(f: &mut fmt::Formatter<W>, fault: CatalogueFault) -> fmt::Result {
     match fault {
-        CatalogueFault::NotJson => write!(f, "catalogue not json  0"),
-        CatalogueFault::Missing(field, at) => write!(f, "catalogue missing {field:?} {at}"),
-        CatalogueFault::Bad(field, at) => write!(f, "catalogue bad {field:?} {at}"),
-        CatalogueFault::Duplicate(field, at) => write!(f, "catalogue duplicate {field:?} {at}"),
-        CatalogueFault::Limit(field, at) => write!(f, "catalogue limit {field:?} {at}"),
-        CatalogueFault::OutOfMemory => write!(f, "out of memory"),
+        CatalogueFault::NotJson => f.write_str("catalogue not json  0"),
+        CatalogueFault::Missing(field, at) => write_placed(f, "missing", field, at),
+        CatalogueFault::Bad(field, at) => write_placed(f, "bad", field, at),
+        CatalogueFault::Duplicate(field, at) => write_placed(f, "duplicate", field, at),
+        CatalogueFault::Limit(field, at) => write_placed(f, "limit", field, at),
+        CatalogueFault::OutOfMemory => f.write_str("out of memory"),
     }
+}
+
+/// Writes the kind of a catalogue's fault, and what is at fault.
+fn write_placed<W: fmt::Write>(
+    f: &mut fmt::Formatter<W>,
+    kind: &str,
+    field: Field,
+    at: u32,
+) -> fmt::Result {
+    write!(f, "catalogue {kind} {field:?} {at}")
 }
 
 /// Writes why a cache isn't opened.
 fn write_refusal<W: fmt::Write>(f: &mut fmt::Formatter<W>, fault: &OpenFault) -> fmt::Result {
     match fault {
-        OpenFault::NotACache => write!(f, "not a cache"),
-        OpenFault::CatalogueDiffers(kept, asked) => {
-            write!(f, "catalogue differs ")?;
-            write_hex(f, kept)?;
-            write!(f, " ")?;
-            write_hex(f, asked)
-        }
+        OpenFault::CatalogueDiffers(kept, asked) => write_digests(f, kept, asked),
         OpenFault::BadRecord(slot) => write!(f, "bad record {slot}"),
-        OpenFault::Spent => write!(f, "openings spent"),
-        OpenFault::DiskFault => write!(f, "disk fault"),
-        OpenFault::OutOfMemory => write!(f, "out of memory"),
+        plain => f.write_str(refusal_of(plain)),
     }
+}
+
+/// The line of a refusal that has no values.
+fn refusal_of(fault: &OpenFault) -> &'static str {
+    match fault {
+        OpenFault::NotACache => "not a cache",
+        OpenFault::Spent => "openings spent",
+        OpenFault::DiskFault => "disk fault",
+        OpenFault::OutOfMemory => "out of memory",
+        OpenFault::CatalogueDiffers(_, _) | OpenFault::BadRecord(_) => "",
+    }
+}
+
+/// Writes that the cache is that of another catalogue, by the digests of both.
+fn write_digests<W: fmt::Write>(
+    f: &mut fmt::Formatter<W>,
+    kept: &[u8; 32],
+    asked: &[u8; 32],
+) -> fmt::Result {
+    f.write_str("catalogue differs ")?;
+    write_hex(f, kept)?;
+    f.write_str(" ")?;
+    write_hex(f, asked)
 }
 
 /// Writes a digest, two hexadecimal digits a byte.
@@ -123,20 +160,29 @@ fn write_hex<W: fmt::Write>(f: &mut fmt::Formatter<W>, digest: &[u8; 32]) -> fmt
 /// Writes the fault of a cover or a job: its kind and its member.
 fn write_form<W: fmt::Write>(f: &mut fmt::Formatter<W>, fault: JobFault) -> fmt::Result {
     match fault {
-        JobFault::NotJson => write!(f, "form not json "),
-        JobFault::Missing(field) => write!(f, "form missing {field:?}"),
-        JobFault::Bad(field) => write!(f, "form bad {field:?}"),
-        JobFault::Limit(field) => write!(f, "form limit {field:?}"),
-        JobFault::OutOfMemory => write!(f, "out of memory"),
+        JobFault::NotJson => f.write_str("form not json "),
+        JobFault::Missing(field) => write_member(f, "missing", field),
+        JobFault::Bad(field) => write_member(f, "bad", field),
+        JobFault::Limit(field) => write_member(f, "limit", field),
+        JobFault::OutOfMemory => f.write_str("out of memory"),
     }
+}
+
+/// Writes the kind of a form's fault, and its member.
+fn write_member<W: fmt::Write>(
+    f: &mut fmt::Formatter<W>,
+    kind: &str,
+    field: JobField,
+) -> fmt::Result {
+    write!(f, "form {kind} {field:?}")
 }
 
 /// Writes how a session ended within its stream. The other ends have statuses of their own, and nothing here.
 fn write_end<W: fmt::Write>(f: &mut fmt::Formatter<W>, end: SessionEnd) -> fmt::Result {
     match end {
-        SessionEnd::Truncated => write!(f, "stream truncated"),
+        SessionEnd::Truncated => f.write_str("stream truncated"),
         SessionEnd::Bad(status) => write!(f, "stream bad {status}"),
-        SessionEnd::TooMany => write!(f, "stream too many"),
+        SessionEnd::TooMany => f.write_str("stream too many"),
         SessionEnd::Closed
         | SessionEnd::ReadFault
         | SessionEnd::WriteFault
