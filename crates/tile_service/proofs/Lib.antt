@@ -12,6 +12,7 @@ pub mod Scheduling
 pub mod Leaving
 pub mod Closing
 pub mod SoFar
+pub mod Awaited
 pub mod Replaying
 pub mod Ending
 pub mod Shapes

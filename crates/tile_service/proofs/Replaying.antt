@@ -3,14 +3,13 @@ use Rattle.std.proofs.Common.{◌≡◌, ℕ, ◌+◌, Bool, true, false, List, 
 use Rattle.std.specs.Io.KnownBytes.{Appends, prepend_known}
 use Rattle.std.proofs.lemmas.Grind.{flat_map-append}
 use Rattle.cabinet.specs.State.{State}
-use Rattle.http_wire.specs.Answers.{TakesMessage, AnswersNext}
+use Rattle.http_wire.specs.Answers.{TakesMessage}
 use Rattle.http_wire.specs.Reader.{Reading}
 use Rattle.http_wire.specs.Streams.{StandIn}
 use Rattle.http_wire.specs.declared.message.Message.{Message}
-use Rattle.http_wire.specs.declared.message.Next.{Next}
-use Rattle.http_wire.specs.declared.message.Next.TheVariants as nexts
 use Rattle.http_wire.proofs.StreamGrows.{stand_in_more}
 use Rattle.tile_requests.specs.declared.outcome.Outcome.{Outcome}
+use Rattle.tile_service.specs.Coming.{Wire}
 use Rattle.tile_service.specs.OneLine.{MayTell}
 use Rattle.tile_requests.specs.Requests.{answered_at}
 use Rattle.tile_requests.specs.Response.{response}
@@ -24,14 +23,6 @@ use Rattle.tile_requests.proofs.Known.{appends_more, appends_nothing}
 use Rattle.tile_service.proofs.SoFar.{HasServed, served_start, served_next, the_answer}
 
 -- MOMENTS
-
--- how a link stands: the faults of its reads and of its writes, the bytes that are left, and those that it has taken, where they
--- are modelled
-pub record Wire : Type 0 where
-  pub reads : ℕ
-  pub writes : ℕ
-  pub left : Option (List ℕ)
-  pub taken : Option (List ℕ)
 
 -- how all stands at a moment of a session: what is modelled of the source, its faults and those of the disk, the document, the cabinet, the link
 pub record Moment : Type 0 where
@@ -98,10 +89,6 @@ pub record Meets (Sends : Sending) (now there : Moment) (held later : List ℕ) 
   pub told : there.told ≡ now.told
   pub document : there.document ≡ now.document
   pub sends : MayTell outcome (λ o. Sends now.wire.taken there.wire.taken (response now.document m (n + 1) o))
-
--- an answer that is a message
-pub takes_it : (before after : Option (List ℕ)) {next : Next} {m : Message} → next ≡ nexts.Message m → AnswersNext before after next → TakesMessage before m after
-takes_it before after is answers = subst (AnswersNext before after) is answers
 
 -- n messages were answered, none of them the last of its connection, and then m, whose response was sent so behind theirs
 pub record IsAnswered (Sends : Sending) (start now : Moment) (held : List ℕ) (n : ℕ) (m : Message) : Type 0 where

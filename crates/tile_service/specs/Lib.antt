@@ -4,6 +4,7 @@ pub mod Run
 pub mod Schedules
 pub mod Session
 pub mod SessionEnds
+pub mod Coming
 pub mod Alike
 pub mod CacheTally
 pub mod Shown

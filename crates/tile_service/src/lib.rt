@@ -16,6 +16,7 @@
 pub mod action_end;
 pub mod answer;
 pub mod cache_tally;
+pub mod coming;
 pub mod counter;
 pub mod laws;
 mod lines;

@@ -12,13 +12,14 @@ ghost use Rattle.tile_service.specs.Serving.{Serves};
 ghost use Rattle.tile_service.specs.Session.{IsAtRest};
 ghost use Rattle.tile_service.specs.SessionEnds.{HasSession};
 
-use crate::answer::{write_refusal, write_response};
+use crate::answer::write_response;
+use crate::coming::next_message;
 use crate::counter::Counter;
 use crate::serving::serve;
 use cabinet::keeper::Keeper;
 use cache_core::laws::laws_of_lasting;
 use http_wire::links::Link;
-use http_wire::message::{Message, Next, WireFault};
+use http_wire::message::Message;
 use http_wire::reader::MessageReader;
 use http_wire::sending::Sent;
 use source_render::source::Source;
@@ -106,16 +107,9 @@ pub fn replay_session<C: Keeper, S: Source, L: Link>(
         return SessionEnd::OutOfMemory;
     };
     'serving: for answered in 0..SESSION_LIMIT {
-        let message = match reader.next(alloc, link) {
-            Ok(Next::Message(message)) => message,
-            Ok(Next::End) => return SessionEnd::Closed,
-            Ok(Next::Truncated) => return SessionEnd::Truncated,
-            Ok(Next::Bad(status)) => match write_refusal(link, status) {
-                Ok(()) => return SessionEnd::Bad(status),
-                Err(_) => return SessionEnd::WriteFault,
-            },
-            Err(WireFault::ReadFault) => return SessionEnd::ReadFault,
-            Err(WireFault::OutOfMemory) => return SessionEnd::OutOfMemory,
+        let message = match next_message(alloc, &mut reader, link) {
+            Ok(message) => message,
+            Err(end) => return end,
         };
         match respond(alloc, counter, source, link, &message, answered + 1) {
             Ok(()) => {}
