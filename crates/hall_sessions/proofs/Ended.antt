@@ -1,28 +1,22 @@
 -- The ends of a session over a hall that is under way.
-use Rattle.std.proofs.Common.{◌≡◌, ℕ, ◌+◌, ◌<◌, true, false, List, [], ◌∷◌, ◌++◌, length, Option, Some, None, inl, inr, refl, sym, ap, subst, ◌∙◌, arith}
+use Rattle.std.proofs.Common.{◌≡◌, ℕ, ◌+◌, ◌<◌, ◌≤◌, true, false, List, [], ◌∷◌, ◌++◌, length, Option, Some, None, inl, inr, refl, sym, ap, subst, ◌∙◌, arith}
 use Rattle.std.specs.Io.KnownBytes.{Appends, Keeps, prepend_known}
 use Rattle.std.proofs.lemmas.List.{length-append}
 use Rattle.catalog.specs.declared.catalogue.Catalogue.{Catalogue}
 use Rattle.causes.specs.Causes.{Rose}
-use Rattle.http_wire.specs.Answers.{IsPartOfTake, LeavesFault, LeavesNext, Remain, StaysAt, next_at}
-use Rattle.http_wire.specs.Messages.{HoldsMessage}
+use Rattle.http_wire.specs.Answers.{IsPartOfTake}
 use Rattle.http_wire.specs.Streams.{Stand, StandIn}
 use Rattle.http_wire.specs.declared.message.Message.{Message}
-use Rattle.http_wire.specs.declared.message.Next.{Next}
-use Rattle.http_wire.specs.declared.message.Next.TheVariants as nexts
-use Rattle.http_wire.specs.declared.message.Stop.{Stop}
-use Rattle.http_wire.specs.declared.message.Stop.TheVariants as stop
-use Rattle.http_wire.specs.declared.message.WireFault.{WireFault}
-use Rattle.http_wire.specs.declared.message.WireFault.TheVariants as faults
 use Rattle.tile_requests.specs.Sent.{AppendsFront}
 use Rattle.tile_requests.proofs.Known.{appends_more, appends_nothing}
 use Rattle.tile_service.specs.declared.session.SessionEnd.{SessionEnd}
 use Rattle.tile_service.specs.declared.session.SessionEnd.TheVariants.{Closed, Truncated, Bad, ReadFault, WriteFault, TooMany, OutOfMemory}
+use Rattle.tile_service.specs.Coming.{EndsUnmet, Wire}
 use Rattle.tile_service.specs.Outside.{InputChange, Outside, counts}
 use Rattle.tile_service.specs.Run.{Answer}
 use Rattle.tile_service.specs.Session.{reply_text, replies, bad_text}
 use Rattle.tile_service.specs.SessionEnds.{AreOpen, Ends, GoBefore, GoOn}
-use Rattle.tile_service.proofs.Replaying.{Sending, Wire, stand_none}
+use Rattle.tile_service.proofs.Replaying.{Sending, stand_none}
 use Rattle.hall_sessions.specs.Exchanges.{answers_of}
 use Rattle.hall_sessions.specs.Sessions.{HasHallSession, output_of}
 use Rattle.hall_sessions.proofs.Causing.{have_answers}
@@ -35,12 +29,6 @@ stand_kept None b c ms s k = tt
 stand_kept (Some x) None c ms s k = absurd s
 stand_kept (Some x) (Some y) None ms s k = absurd k
 stand_kept (Some x) (Some y) (Some z) ms s k = subst (Stand x ms) (sym k) s
-
--- an answer that is no message stops the stream so
-stays : (before after : Option (List ℕ)) (k : Stop) {next : Next} → next ≡ next_at k → LeavesNext before after next → StaysAt before after k
-stays before after stop.End is leaves = subst (LeavesNext before after) is leaves
-stays before after stop.Truncated is leaves = subst (LeavesNext before after) is leaves
-stays before after (stop.Bad status) is leaves = subst (LeavesNext before after) is leaves
 
 abbrev pub input : Moment → Moment → InputChange
 input a b = record { reads = counts a.wire.reads b.wire.reads; from = a.wire.left; to = b.wire.left }
@@ -85,35 +73,19 @@ module _ {c : Catalogue} {document : List ℕ} {start now : Moment} {there : Wir
       → Ends (input start (record now { wire = there })) (output start (record now { wire = there })) document f.messages f.answers later (prepend_known later there.left) end → IsHeld c document start (record now { wire = there }) end
   ended end k ends = is_held {now = record now { wire = there }} later f.messages f.answers end (stand_kept start.wire.left (prepend_known held now.wire.left) (prepend_known later there.left) f.messages f.stand k) f.exchanged ends
 
-  pub closed_there : {next : Next} → next ≡ nexts.End → LeavesNext (prepend_known held now.wire.left) (prepend_known later there.left) next → there.taken ≡ now.wire.taken → IsHeld c document start (record now { wire = there }) Closed
-  closed_there is leaves unsent = let k = stays (prepend_known held now.wire.left) (prepend_known later there.left) stop.End is leaves in ended Closed k.0 (inr (go_on f few, k.1), rw unsent f.text)
-
-  pub truncated_there : {next : Next} → next ≡ nexts.Truncated → LeavesNext (prepend_known held now.wire.left) (prepend_known later there.left) next → there.taken ≡ now.wire.taken → IsHeld c document start (record now { wire = there }) Truncated
-  truncated_there is leaves unsent = let k = stays (prepend_known held now.wire.left) (prepend_known later there.left) stop.Truncated is leaves in ended Truncated k.0 (go_on f few, k.1, rw unsent f.text)
-
-  pub bad_there : {next : Next} {status : ℕ} → next ≡ nexts.Bad status → LeavesNext (prepend_known held now.wire.left) (prepend_known later there.left) next → Appends now.wire.taken there.taken (bad_text status)
-      → IsHeld c document start (record now { wire = there }) (Bad status)
-  bad_there {status = status} is leaves wrote =
-      let k = stays (prepend_known held now.wire.left) (prepend_known later there.left) (stop.Bad status) is leaves in
-      ended (Bad status) k.0 (go_on f few, k.1, appends_more start.wire.taken now.wire.taken there.taken (replies document f.answers) (bad_text status) f.text wrote)
-
-  pub bad_cut_off : {next : Next} {status : ℕ} → next ≡ nexts.Bad status → LeavesNext (prepend_known held now.wire.left) (prepend_known later there.left) next → AppendsFront now.wire.taken there.taken (bad_text status)
-      → Rose start.wire.writes there.writes → IsHeld c document start (record now { wire = there }) WriteFault
-  bad_cut_off {status = status} is leaves wrote rose =
-      let k = stays (prepend_known held now.wire.left) (prepend_known later there.left) (stop.Bad status) is leaves in
-      ended WriteFault k.0 (replies document f.answers, bad_text status, inr (status, go_on f few, k.1, refl, refl), rose, record { between = now.wire.taken; whole = f.text; part = wrote })
-
-  -- a read failed, before a message had come whole
-  pub unread_there : {fault : WireFault} → fault ≡ faults.ReadFault → LeavesFault (prepend_known held now.wire.left) later there.left fault → ¬ (HoldsMessage later) → Rose start.wire.reads there.reads → there.taken ≡ now.wire.taken
-      → IsHeld c document start (record now { wire = there }) ReadFault
-  unread_there is leaves none rose unsent = ended ReadFault (subst (LeavesFault (prepend_known held now.wire.left) later there.left) is leaves) (go_on f few, none, rose, rw unsent f.text)
-
--- of the bytes that were taken some may be lost
-pub short_there : {c : Catalogue} {document : List ℕ} {start now : Moment} {there : Wire} {held : List ℕ} {n : ℕ} → IsUnderWay c document start now held n → n < 10000 → (later : List ℕ) {fault : WireFault} → fault ≡ faults.OutOfMemory
-    → LeavesFault (prepend_known held now.wire.left) later there.left fault → there.taken ≡ now.wire.taken → IsHeld c document start (record now { wire = there }) OutOfMemory
-short_there {now = now} {there} {held} f few later is leaves unsent =
-    let k : Remain (prepend_known held now.wire.left) there.left = subst (LeavesFault (prepend_known held now.wire.left) later there.left) is leaves in
-    ended f few k.0 OutOfMemory k.1 (go_on f few, rw unsent f.text)
+  -- no message came, and the faults of the link's earlier moments are no fewer
+  pub ends_unmet : start.wire.reads ≤ now.wire.reads → start.wire.writes ≤ now.wire.writes → (end : SessionEnd) → EndsUnmet now.wire there held later end → IsHeld c document start (record now { wire = there }) end
+  ends_unmet reads writes Closed x = ended Closed x.0.0 (inr (go_on f few, x.0.1), rw x.1 f.text)
+  ends_unmet reads writes Truncated x = ended Truncated x.0.0 (go_on f few, x.0.1, rw x.1 f.text)
+  ends_unmet reads writes (Bad status) x = ended (Bad status) x.0.0 (go_on f few, x.0.1, appends_more start.wire.taken now.wire.taken there.taken (replies document f.answers) (bad_text status) f.text x.1)
+  ends_unmet reads writes ReadFault x = let rose = x.2 in ended ReadFault x.0 (go_on f few, x.1, omega arith, rw x.3 f.text)
+  ends_unmet reads writes WriteFault x =
+      let rose = x.3 in
+      ended WriteFault x.1.0 (replies document f.answers, bad_text x.0, inr (x.0, go_on f few, x.1.1, refl, refl), omega arith, record { between = now.wire.taken; whole = f.text; part = x.2 })
+  ends_unmet reads writes TooMany x = absurd x
+  -- of the bytes that were taken some may be lost
+  ends_unmet reads writes OutOfMemory x =
+      is_held {now = record now { wire = there }} x.0.0 f.messages f.answers OutOfMemory (stand_kept start.wire.left (prepend_known held now.wire.left) (prepend_known x.0.0 there.left) f.messages f.stand x.0.1) f.exchanged (go_on f few, rw x.1 f.text)
 
 -- AFTER A MESSAGE
 

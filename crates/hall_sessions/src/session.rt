@@ -11,13 +11,12 @@ use crate::world::World;
 use cabinet::keeper::Keeper;
 use cabinet_chest::chest::CabinetChest;
 use http_wire::links::Link;
-use http_wire::message::{Next, WireFault};
 use http_wire::reader::MessageReader;
 use job_board::board::BoardPass;
 use source_render::source::Source;
 use std::alloc::Global;
 use std::sync::Wait;
-use tile_service::answer::write_refusal;
+use tile_service::coming::next_message;
 use tile_service::session::{SESSION_LIMIT, SessionEnd};
 use turnstile::pass::Pass;
 
@@ -49,16 +48,9 @@ pub fn serve_session<R: Wait, K: Keeper, S: Source, L: Link>(
         return SessionEnd::OutOfMemory;
     };
     'serving: for answered in 0..SESSION_LIMIT {
-        let message = match reader.next(alloc, link) {
-            Ok(Next::Message(message)) => message,
-            Ok(Next::End) => return SessionEnd::Closed,
-            Ok(Next::Truncated) => return SessionEnd::Truncated,
-            Ok(Next::Bad(status)) => match write_refusal(link, status) {
-                Ok(()) => return SessionEnd::Bad(status),
-                Err(_) => return SessionEnd::WriteFault,
-            },
-            Err(WireFault::ReadFault) => return SessionEnd::ReadFault,
-            Err(WireFault::OutOfMemory) => return SessionEnd::OutOfMemory,
+        let message = match next_message(alloc, &mut reader, link) {
+            Ok(message) => message,
+            Err(end) => return end,
         };
         world.traffic.begin();
         match respond(
