@@ -111,11 +111,14 @@ pub fn replay_session<C: Keeper, S: Source, L: Link>(
             Ok(message) => message,
             Err(end) => return end,
         };
-        match respond(alloc, counter, source, link, &message, answered + 1) {
+        let sent = respond(alloc, counter, source, link, &message, answered + 1);
+        let is_last = message.last;
+        drop(message);
+        match sent {
             Ok(()) => {}
             Err(_) => return SessionEnd::WriteFault,
         }
-        if message.last {
+        if is_last {
             return SessionEnd::Closed;
         }
     }
