@@ -134,10 +134,18 @@ fn schedule_over<'a, D: Disk, S: Source, I: ByteSource, O: ByteSink, L: Loan>(
                 capabilities,
             };
             let end = run_and_save(alloc, &mut counter, input, source, output);
-            let Counter { cabinet, .. } = counter;
+            let Counter {
+                cabinet,
+                rest,
+                capabilities,
+            } = counter;
+            drop(rest);
+            drop(capabilities);
             (closed(cabinet), end_of_schedule(end))
         }
         Err(refusal) => {
+            drop(rest);
+            drop(capabilities);
             let (fault, disk) = refusal;
             (disk, end_of_refusal(fault))
         }
