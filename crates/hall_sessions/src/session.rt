@@ -53,7 +53,7 @@ pub fn serve_session<R: Wait, K: Keeper, S: Source, L: Link>(
             Err(end) => return end,
         };
         world.traffic.begin();
-        match respond(
+        let sent = respond(
             rt,
             alloc,
             world,
@@ -63,14 +63,15 @@ pub fn serve_session<R: Wait, K: Keeper, S: Source, L: Link>(
             link,
             &message,
             answered + 1,
-        ) {
-            Ok(()) => world.traffic.end(),
-            Err(_) => {
-                world.traffic.end();
-                return SessionEnd::WriteFault;
-            }
+        );
+        world.traffic.end();
+        let is_last = message.last;
+        drop(message);
+        match sent {
+            Ok(()) => {}
+            Err(_) => return SessionEnd::WriteFault,
         }
-        if message.last {
+        if is_last {
             return SessionEnd::Closed;
         }
     }

@@ -30,53 +30,53 @@ returns-in-Err-clause-session g c =
 
 -- AFTER A MESSAGE
 
-pub returns-in-Err-respond-clause-session : goal.returns-in-Err-respond-clause-session
-returns-in-Err-respond-clause-session g c =
+pub returns-in-Err-sent-clause-session : goal.returns-in-Err-sent-clause-session
+returns-in-Err-sent-clause-session g c =
     let i = c.serving.invariant in
-    let r = c.in-Err-respond.ensures.responds in
-    let rose = c.in-Err-respond.ensures.cause.failed in
+    let r = c.in-Err-sent.ensures.responds in
+    let rose = c.in-Err-sent.ensures.cause.failed in
     let same = c.in-Ok-next_message.ensures.ok.writes in
     cut_off_behind (omega arith) c.in-Ok-next_message.ensures.ok.surplus (omega (arith, rose, same, i.writes)) (answered i.under_way (record {
-      takes = rw c.respond.ensures.left c.in-Ok-next_message.ensures.ok.takes;
+      takes = rw c.respond-sent.ensures.left c.in-Ok-next_message.ensures.ok.takes;
       outcome = r.0;
       serves = r.1;
-      later_renders = c.respond.ensures.later;
+      later_renders = c.respond-sent.ensures.later;
       sends = rw c.in-Ok-next_message.ensures.ok.unsent at r.3;
     }))
 
-pub returns-then-message-clause-session : goal.returns-then-message-clause-session
-returns-then-message-clause-session g c =
+pub returns-then-is_last-clause-session : goal.returns-then-is_last-clause-session
+returns-then-is_last-clause-session g c =
     let i = c.serving.invariant in
-    let r = c.in-Ok-respond.ensures.responds in
-    closed_behind (omega arith) c.in-Ok-next_message.ensures.ok.surplus c.if-message.true (answered i.under_way (record {
-      takes = rw c.respond.ensures.left c.in-Ok-next_message.ensures.ok.takes;
+    let r = c.in-Ok-sent.ensures.responds in
+    closed_behind (omega arith) c.in-Ok-next_message.ensures.ok.surplus c.if-is_last.true (answered i.under_way (record {
+      takes = rw c.respond-sent.ensures.left c.in-Ok-next_message.ensures.ok.takes;
       outcome = r.0;
       serves = r.1;
-      later_renders = c.respond.ensures.later;
+      later_renders = c.respond-sent.ensures.later;
       sends = rw c.in-Ok-next_message.ensures.ok.unsent at r.2;
     }))
 
 pub serving-preserved : goal.serving-preserved
 serving-preserved g c =
     let i = c.serving.invariant in
-    let r = c.in-Ok-respond.ensures.responds in
+    let r = c.in-Ok-sent.ensures.responds in
     let read = c.next_message.ensures.reads in
-    let written = c.respond.ensures.cause.later in
+    let written = c.respond-sent.ensures.cause.later in
     record {
       under_way = under_way_next i.under_way (record {
-        takes = rw c.respond.ensures.left c.in-Ok-next_message.ensures.ok.takes;
+        takes = rw c.respond-sent.ensures.left c.in-Ok-next_message.ensures.ok.takes;
         outcome = r.0;
         serves = r.1;
-        later_renders = c.respond.ensures.later;
+        later_renders = c.respond-sent.ensures.later;
         sends = rw c.in-Ok-next_message.ensures.ok.unsent at r.2;
-      }) c.if-message.false;
+      }) c.if-is_last.false;
       going = c.in-Ok-next_message.ensures.ok.going;
       surplus = c.in-Ok-next_message.ensures.ok.surplus;
-      of = c.respond.ensures.of;
-      of_board = c.respond.ensures.board;
+      of = c.respond-sent.ensures.of;
+      of_board = c.respond-sent.ensures.board;
       mark = marked r.1 ∙ i.mark;
-      source = c.respond.ensures.told ∙ i.source;
-      reads = omega (arith, i.reads, read, c.respond.ensures.read_faults);
+      source = c.respond-sent.ensures.told ∙ i.source;
+      reads = omega (arith, i.reads, read, c.respond-sent.ensures.read_faults);
       writes = omega (arith, i.writes, c.in-Ok-next_message.ensures.ok.writes, written);
     }
 
