@@ -56,7 +56,9 @@ pub fn run_line<C: Keeper, S: Source, O: ByteSink>(
         ActionEnd::Silent => LineEnd::Done(None),
         ActionEnd::Answers(answer) => {
             let document = counter.capabilities.bytes();
-            match write_answer(alloc, document, output, n, &answer) {
+            let written = write_answer(alloc, document, output, n, &answer);
+            drop(answer);
+            match written {
                 Ok(told) => LineEnd::Done(Some(told)),
                 Err(_) => LineEnd::WriteFault,
             }

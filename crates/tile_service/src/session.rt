@@ -80,7 +80,9 @@ fn respond<C: Keeper, S: Source, L: Link>(
 {
     let outcome = serve(alloc, counter, source, message);
     let document = counter.capabilities.bytes();
-    write_response(alloc, document, link, closes(message, place), &outcome)
+    let sent = write_response(alloc, document, link, closes(message, place), &outcome);
+    drop(outcome);
+    sent
 }
 
 /// Serves the messages of one connection (RFC 9112), in order, each before the next is looked for, at most 10,000 of them. No
