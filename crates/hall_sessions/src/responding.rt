@@ -54,11 +54,13 @@ pub fn respond<R: Wait, K: Keeper, S: Source, L: Link>(
     ensures told { S.told source.new ≡ S.told source.old }
 {
     let outcome = serve(rt, alloc, world, pass, board, source, message);
-    write_response(
+    let sent = write_response(
         alloc,
         world.capabilities.bytes(),
         link,
         closes(message, place),
         &outcome,
-    )
+    );
+    drop(outcome);
+    sent
 }
