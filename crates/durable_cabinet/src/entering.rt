@@ -1,4 +1,5 @@
-//! How a cabinet begins with what its records are restored to.
+//! How a cabinet begins with what its records are restored to. Where that fails, each value is dropped by a call of its own: left to the
+//! end of a body that has several ends, the drops of so large values are gone through at each.
 ghost use Rattle.std.specs.Prelude.{◌≡◌, ◌⊎◌, ◌≤◌, [], IfErr, IfOk, IsTrue};
 ghost use Rattle.cabinet_records.specs.Replay.{Replayed};
 ghost use Rattle.catalog.specs.Valid.{IsValid};
@@ -52,7 +53,12 @@ fn enter<D: Disk>(
             draft,
             hot,
         }),
-        Err(_) => Err((OpenFault::DiskFault, file.into_disk())),
+        Err(_) => {
+            drop(core);
+            drop(draft);
+            drop(hot);
+            Err((OpenFault::DiskFault, file.into_disk()))
+        }
     }
 }
 
@@ -82,14 +88,27 @@ pub(crate) fn begin<D: Disk>(
     } = restored;
     let number = match number_after(opening) {
         Some(number) => number,
-        None => return Err((OpenFault::Spent, file.into_disk())),
+        None => {
+            drop(catalogue);
+            drop(clock);
+            drop(kept);
+            drop(cuts);
+            return Err((OpenFault::Spent, file.into_disk()));
+        }
     };
     match Core::opened(alloc, catalogue, clock, number, kept, cuts) {
         Err(_) => Err((OpenFault::OutOfMemory, file.into_disk())),
         Ok(core) => match drafted(alloc, &core) {
-            Err(_) => Err((OpenFault::OutOfMemory, file.into_disk())),
+            Err(_) => {
+                drop(core);
+                Err((OpenFault::OutOfMemory, file.into_disk()))
+            }
             Ok(draft) => match HotTier::new(alloc) {
-                Err(_) => Err((OpenFault::OutOfMemory, file.into_disk())),
+                Err(_) => {
+                    drop(core);
+                    drop(draft);
+                    Err((OpenFault::OutOfMemory, file.into_disk()))
+                }
                 Ok(hot) => enter(core, draft, hot, file),
             },
         },
