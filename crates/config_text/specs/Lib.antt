@@ -5,5 +5,6 @@ pub mod Settings
 pub mod Grids
 pub mod Ages
 pub mod Layers
+pub mod Parts
 pub mod Matrices
 pub mod Text

@@ -1,15 +1,17 @@
 //! The layers of the catalogue's text, read over its grids.
-ghost use Rattle.std.specs.Prelude.{◌≡◌, ◌<◌, ◌≤◌, ◌^◌, ◌==◌, List, [], Ok, true, length, map, IfOk, codes};
+ghost use Rattle.std.specs.Prelude.{◌≡◌, ◌<◌, ◌≤◌, ◌^◌, ◌==◌, List, [], Ok, true, length, map, IfOk, IfSome, codes};
 ghost use Rattle.serde_json.specs.View.{view};
 ghost use Rattle.serde_json.specs.Find.{get};
-ghost use Rattle.catalog.specs.FirstFault.{each, are_factors, grid_number_test, layer_test};
+ghost use Rattle.catalog.specs.FirstFault.{each, are_factors, dimension_test, grid_number_test, layer_test, style_test};
 ghost use Rattle.catalog.specs.Names.{within};
 ghost use Rattle.config_text.specs.Reading.{Gives, entries};
 ghost use Rattle.config_text.specs.Member.{or};
 ghost use Rattle.config_text.specs.Layers.{grid_number, factors, layer_of, layers_of};
+ghost use Rattle.config_text.specs.Parts.{dims_in, layer_in, measures_in, numbers_in, styles_in};
 
 use crate::ages::ages_or_none;
 use crate::dimensions::dimensions_of;
+use crate::measures::Measures;
 use crate::member::{objects_or_none, required_objects, whole_if_any, whole_or};
 use crate::name::{required_id, required_names};
 use crate::shape::size;
@@ -17,7 +19,7 @@ use crate::styles::styles_of;
 use catalog::fault::{CatalogueFault, Field};
 use catalog::first_fault::unless;
 use catalog::grid::Grid;
-use catalog::layer::Layer;
+use catalog::layer::{Dimension, Layer, Style};
 use catalog::named::place_named;
 use catalog::valid_layer::{are_factors, are_small, is_among};
 use exact_ratio::items::Items;
@@ -87,9 +89,69 @@ fn factors_or(object: &Value, at: u32) -> Result<Size, CatalogueFault>
     }
 }
 
-/// A layer over these grids, after the layers before it.
-#[tactic(auto, unfolding(crate::specs::Layers::layer_of))]
-fn layer_of(
+/// The numbers of the grids of a layer.
+#[tactic(auto, unfolding(crate::specs::Parts::numbers_in))]
+fn numbers_in(
+    alloc: Global,
+    at: u32,
+    grids: &[Grid],
+    object: &Value,
+) -> Result<Vec<u32>, CatalogueFault>
+    requires { length grids.now ≤ 16 }
+    ensures gives { Gives (λ v. v.items) result (numbers_in at grids.now (view object.now)) }
+    ensures met { IfOk result (λ v. each (grid_number_test at grids.now) [] v.items ≡ Ok tt) }
+    ensures within { IfOk result (λ v. within 1 16 (length v.items) ≡ true) }
+{
+    let names = required_names(alloc, object, "grids", Field::LayerGrids, at, 1, 16)?;
+    numbers_of(alloc, at, grids, names.as_slice())
+}
+
+/// The styles of a layer.
+#[tactic(auto, unfolding(crate::specs::Parts::styles_in))]
+fn styles_in(alloc: Global, at: u32, object: &Value) -> Result<Vec<Style>, CatalogueFault>
+    ensures gives { Gives (λ v. v.items) result (styles_in at (view object.now)) }
+    ensures met { IfOk result (λ v. each style_test [] v.items ≡ Ok tt) }
+    ensures within { IfOk result (λ v. within 1 32 (length v.items) ≡ true) }
+{
+    let values = required_objects(object, "styles", Field::Styles, at, 1, 32)?;
+    styles_of(alloc, values)
+}
+
+/// The dimensions of a layer.
+#[tactic(auto, unfolding(crate::specs::Parts::dims_in))]
+fn dims_in(alloc: Global, at: u32, object: &Value) -> Result<Vec<Dimension>, CatalogueFault>
+    ensures gives { Gives (λ v. v.items) result (dims_in at (view object.now)) }
+    ensures met { IfOk result (λ v. each dimension_test [] v.items ≡ Ok tt) }
+    ensures within { IfOk result (λ v. within 0 4 (length v.items) ≡ true) }
+{
+    let values = objects_or_none(object, "dimensions", Field::Dimensions, at, 4)?;
+    dimensions_of(alloc, values)
+}
+
+/// The numbers of a layer.
+#[tactic(auto, unfolding(crate::specs::Parts::measures_in))]
+fn measures_in(at: u32, object: &Value) -> Result<Measures, CatalogueFault>
+    ensures gives { Gives (λ m. m) result (measures_in at (view object.now)) }
+    ensures meta { IfOk result (λ m. are_factors m.meta.w m.meta.h ≡ true) }
+    ensures gutter { IfOk result (λ m. within 0 64 m.gutter ≡ true) }
+    ensures cell { IfOk result (λ m. within 1 1000000000 m.cell ≡ true) }
+    ensures quota { IfOk result (λ m. IfSome m.quota (λ n. within 0 (2 ^ 50) n ≡ true)) }
+{
+    let meta = factors_or(object, at)?;
+    let gutter = whole_or(object, "gutter", Field::Gutter, at, 0, 64, 0)? as u32;
+    let cell = whole_or(object, "cell", Field::Cell, at, 1, 1_000_000_000, 1)?;
+    let quota = whole_if_any(object, "quota", Field::LayerQuota, at, 1 << 50)?;
+    Ok(Measures {
+        meta,
+        gutter,
+        cell,
+        quota,
+    })
+}
+
+/// A layer over these grids, after the layers before it, by its parts.
+#[tactic(auto, unfolding(crate::specs::Parts::layer_in))]
+fn layer_in(
     alloc: Global,
     grids: &[Grid],
     before: &[Layer],
@@ -97,21 +159,17 @@ fn layer_of(
 ) -> Result<Layer, CatalogueFault>
     requires before { length before.now < 2 ^ 32 }
     requires grids { length grids.now ≤ 16 }
-    ensures gives { Gives (λ l. l) result (layer_of grids.now before.now (view object.now)) }
+    ensures gives { Gives (λ l. l) result (layer_in grids.now before.now (view object.now)) }
     ensures met { IfOk result (λ l. layer_test grids.now before.now l ≡ Ok tt) }
 {
     let at = before.len() as u32;
     let id = required_id(alloc, before, object, Field::LayerId, at)?;
-    let names = required_names(alloc, object, "grids", Field::LayerGrids, at, 1, 16)?;
-    let numbers = numbers_of(alloc, at, grids, names.as_slice())?;
-    let values = required_objects(object, "styles", Field::Styles, at, 1, 32)?;
-    let styles = styles_of(alloc, values)?;
-    let values = objects_or_none(object, "dimensions", Field::Dimensions, at, 4)?;
-    let dims = dimensions_of(alloc, values)?;
-    let meta = factors_or(object, at)?;
-    let gutter = whole_or(object, "gutter", Field::Gutter, at, 0, 64, 0)? as u32;
-    let cell = whole_or(object, "cell", Field::Cell, at, 1, 1_000_000_000, 1)?;
-    let quota = whole_if_any(object, "quota", Field::LayerQuota, at, 1 << 50)?;
+    let numbers = numbers_in(alloc, at, grids, object)?;
+    let styles = styles_in(alloc, at, object)?;
+    let dims = dims_in(alloc, at, object)?;
+    let measures = measures_in(at, object)?;
+    let meta = measures.meta;
+    let gutter = measures.gutter;
     let ages = ages_or_none(alloc, object, at)?;
     unless(
         are_small(grids, numbers.as_slice(), meta.w, meta.h, gutter),
@@ -125,10 +183,25 @@ fn layer_of(
         meta_x: meta.w,
         meta_y: meta.h,
         gutter,
-        cell,
-        quota,
+        cell: measures.cell,
+        quota: measures.quota,
         ages: Items::of(ages),
     })
+}
+
+/// A layer over these grids, after the layers before it.
+fn layer_of(
+    alloc: Global,
+    grids: &[Grid],
+    before: &[Layer],
+    object: &Value,
+) -> Result<Layer, CatalogueFault>
+    requires before { length before.now < 2 ^ 32 }
+    requires grids { length grids.now ≤ 16 }
+    ensures gives { Gives (λ l. l) result (layer_of grids.now before.now (view object.now)) }
+    ensures met { IfOk result (λ l. layer_test grids.now before.now l ≡ Ok tt) }
+{
+    layer_in(alloc, grids, before, object)
 }
 
 fn each_layer(alloc: Global, grids: &[Grid], values: &[Value]) -> Result<Vec<Layer>, CatalogueFault>

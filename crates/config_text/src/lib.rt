@@ -12,6 +12,7 @@ mod grids;
 mod json;
 mod layers;
 mod matrices;
+mod measures;
 mod member;
 mod name;
 mod outermost;
