@@ -55,7 +55,10 @@ pub(crate) fn replay<D: Disk>(
     };
     let slots = slots_for(catalogue);
     match CacheFile::open(alloc, disk, &catalogue.digest, slots, &mut replay) {
-        Err((fault, disk)) => Err((asked_for(&catalogue.digest, fault), disk)),
+        Err((fault, disk)) => {
+            drop(replay);
+            Err((asked_for(&catalogue.digest, fault), disk))
+        }
         Ok(file) => match replay.restored(file.version()) {
             Ok(restored) => Ok((file, restored)),
             Err(slot) => Err((OpenFault::BadRecord(slot), file.into_disk())),
