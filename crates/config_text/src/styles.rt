@@ -1,12 +1,12 @@
 //! The styles of a layer, with their breaks.
-ghost use Rattle.std.specs.Prelude.{◌≡◌, ◌≤◌, ◌<◌, ◌^◌, ◌&&◌, List, [], Ok, length, map, nat_le, true, IfOk, codes};
+ghost use Rattle.std.specs.Prelude.{◌≡◌, ◌≤◌, ◌<◌, ◌^◌, ◌&&◌, ◌∷◌, List, [], Ok, length, map, nat_le, true, IfOk, codes};
 ghost use Rattle.std.specs.List.{list_all};
 ghost use Rattle.serde_json.specs.View.{view};
 ghost use Rattle.serde_json.specs.Find.{get};
 ghost use Rattle.catalog.specs.FirstFault.{each, unless, rise_from_zero, style_test};
 ghost use Rattle.config_text.specs.Reading.{Gives, entries};
 ghost use Rattle.config_text.specs.Member.{required};
-ghost use Rattle.config_text.specs.Layers.{row_of, is_byte_row, are_breaks, break_of, breaks_in, breaks, style_of};
+ghost use Rattle.config_text.specs.Layers.{four_of, row_of, is_byte_row, are_breaks, break_of, breaks_in, breaks, style_of};
 
 use crate::each::{Entry, each};
 use crate::member::{items, number};
@@ -20,19 +20,24 @@ use exact_ratio::items::Items;
 use serde_json::Value;
 use std::alloc::{AllocError, Global};
 
+/// A row of these four numbers: from, red, green and blue.
+fn four_of(at: u32, from: &Value, r: &Value, g: &Value, b: &Value) -> Result<Row, CatalogueFault>
+    ensures { Gives (λ row. row) result (four_of at (view from.now ∷ view r.now ∷ view g.now ∷ view b.now ∷ [])) }
+{
+    let from = number(from, Field::Breaks, at)?;
+    let r = number(r, Field::Breaks, at)?;
+    let g = number(g, Field::Breaks, at)?;
+    let b = number(b, Field::Breaks, at)?;
+    Ok(Row { from, r, g, b })
+}
+
 #[tactic(auto, unfolding(crate::specs::Layers::row_of))]
 fn row_of(at: u32, value: &Value) -> Result<Row, CatalogueFault>
     ensures { Gives (λ r. r) result (row_of at (view value.now)) }
 {
     let values = items(value, Field::Breaks, at)?;
     match values {
-        [from, r, g, b] => {
-            let from = number(from, Field::Breaks, at)?;
-            let r = number(r, Field::Breaks, at)?;
-            let g = number(g, Field::Breaks, at)?;
-            let b = number(b, Field::Breaks, at)?;
-            Ok(Row { from, r, g, b })
-        }
+        [from, r, g, b] => four_of(at, from, r, g, b),
         _ => Err(CatalogueFault::Bad(Field::Breaks, at)),
     }
 }
