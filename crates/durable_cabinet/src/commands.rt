@@ -19,7 +19,7 @@ use crate::asking::ask_tile;
 use crate::backing::{keep, write};
 use crate::durable::Cabinet;
 use crate::entries::{dropped, truncated, used};
-use crate::rooms::one_more;
+use crate::rooms::reserve_one_more;
 use cabinet::judged::{Admitted, Judged};
 use cabinet::replies::{Asked, CutReply, Expired, Finished, Forced, Saved};
 use cabinet::text::Text;
@@ -52,20 +52,17 @@ impl<D: Disk> Cabinet<D> {
         ensures later { D.faults self.old.file.disk ≤ D.faults self.new.file.disk }
     {
         self.core.known();
-        match one_more(&self.core) {
+        match reserve_one_more(alloc, &self.core, &mut self.draft) {
             Err(fault) => Err(fault),
-            Ok(count) => match self.draft.reserve(alloc, count) {
-                Err(fault) => Err(fault),
-                Ok(()) => {
-                    ask_tile(
-                        alloc,
-                        &mut self.core,
-                        &mut self.file,
-                        &mut self.hot,
-                        address,
-                    )
-                }
-            },
+            Ok(()) => {
+                ask_tile(
+                    alloc,
+                    &mut self.core,
+                    &mut self.file,
+                    &mut self.hot,
+                    address,
+                )
+            }
         }
     }
 
@@ -77,12 +74,9 @@ impl<D: Disk> Cabinet<D> {
         ensures err { OnErr result (self.new.state ≡ self.old.state) }
         ensures file { self.new.file ≡ self.old.file }
     {
-        match one_more(&self.core) {
+        match reserve_one_more(alloc, &self.core, &mut self.draft) {
             Err(fault) => Err(fault),
-            Ok(count) => match self.draft.reserve(alloc, count) {
-                Err(fault) => Err(fault),
-                Ok(()) => self.core.force(alloc, meta),
-            },
+            Ok(()) => self.core.force(alloc, meta),
         }
     }
 
@@ -162,28 +156,25 @@ impl<D: Disk> Cabinet<D> {
     {
         self.core.known();
         let before = self.file.fault_count();
-        match one_more(&self.core) {
+        match reserve_one_more(alloc, &self.core, &mut self.draft) {
             Err(fault) => Err(fault),
-            Ok(count) => match self.draft.reserve(alloc, count) {
+            Ok(()) => match self.core.admit(alloc, cover) {
                 Err(fault) => Err(fault),
-                Ok(()) => match self.core.admit(alloc, cover) {
-                    Err(fault) => Err(fault),
-                    Ok(Admitted::Full) => Ok(CutReply::Full),
-                    Ok(Admitted::Spent) => Ok(CutReply::Spent),
-                    Ok(Admitted::Number(number)) => {
-                        let entry = truncated(&self.core, number, *cover);
-                        match write(&self.core, &mut self.file, &mut self.draft, &entry) {
-                            Err(_) => {
-                                self.core.miss(number);
-                                Ok(CutReply::DiskFault(before, self.file.fault_count()))
-                            }
-                            Ok(()) => {
-                                self.core.cut(number, cover);
-                                Ok(CutReply::Done(number))
-                            }
+                Ok(Admitted::Full) => Ok(CutReply::Full),
+                Ok(Admitted::Spent) => Ok(CutReply::Spent),
+                Ok(Admitted::Number(number)) => {
+                    let entry = truncated(&self.core, number, *cover);
+                    match write(&self.core, &mut self.file, &mut self.draft, &entry) {
+                        Err(_) => {
+                            self.core.miss(number);
+                            Ok(CutReply::DiskFault(before, self.file.fault_count()))
+                        }
+                        Ok(()) => {
+                            self.core.cut(number, cover);
+                            Ok(CutReply::Done(number))
                         }
                     }
-                },
+                }
             },
         }
     }

@@ -1,12 +1,13 @@
 //! For how many records a compaction may come to need room.
-ghost use Rattle.std.specs.Prelude.{IfOk, ◌+◌, ◌≤◌};
+ghost use Rattle.std.specs.Prelude.{IfOk, OnOk, ◌+◌, ◌≤◌};
 ghost use Rattle.durable_cabinet.specs.Drafts.{needed};
 
+use crate::draft::Draft;
 use cabinet::cabinet_core::Core;
-use std::alloc::AllocError;
+use std::alloc::{AllocError, Global};
 
 /// One more than for what stands. `AllocError` where that fits no number.
-pub(crate) fn one_more(core: &Core) -> Result<usize, AllocError>
+fn one_more(core: &Core) -> Result<usize, AllocError>
     ensures { IfOk result (λ count. needed core.now.state + 1 ≤ count) }
 {
     let listed = core.cuts().count() as usize;
@@ -14,5 +15,21 @@ pub(crate) fn one_more(core: &Core) -> Result<usize, AllocError>
     match core.running().checked_add(listed + kept + 2) {
         Some(count) => Ok(count),
         None => Err(AllocError),
+    }
+}
+
+/// Makes room for the records of a compaction of one cut or metatile more than stand. `AllocError` where memory runs out; no room is
+/// lost.
+pub(crate) fn reserve_one_more(
+    alloc: Global,
+    core: &Core,
+    draft: &mut Draft,
+) -> Result<(), AllocError>
+    ensures no_less { draft.old.room ≤ draft.new.room }
+    ensures room { OnOk result (needed core.now.state + 1 ≤ draft.new.room) }
+{
+    match one_more(core) {
+        Err(fault) => Err(fault),
+        Ok(count) => draft.reserve(alloc, count),
     }
 }

@@ -4,8 +4,8 @@ use Rattle.durable_cabinet.specs.Filed.{on_disk}
 use Rattle.durable_cabinet.specs.Images.{IsLeft, Lasts}
 use Rattle.durable_cabinet.proofs.durable.Cabinet.ask.Goals as goal
 
-pub returns-in-Ok-reserve-clause-images : goal.returns-in-Ok-reserve-clause-images
-returns-in-Ok-reserve-clause-images g c =
+pub returns-in-Ok-clause-images : goal.returns-in-Ok-clause-images
+returns-in-Ok-clause-images g c =
     let i = c.self.inside in
     let f = i.file in
     let s = i.core.state in

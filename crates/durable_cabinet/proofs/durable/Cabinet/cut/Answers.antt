@@ -34,7 +34,7 @@ invariant_of-self-in-Err-write g c =
     let admits : Admits s cover (admitted.Number number) = subst (λ (x : State). Admits x cover (admitted.Number number)) (sym same) (search rules) in
     let leads = subst (Leads s (with_cut s number cover)) (sym c.truncated-entry.ensures.is) (cut_leads s known cover of_all number admits) in
     let regions = cut_regions s known cover of_all number admits in
-    let enough : needed s + 1 ≤ c.reserve.new.self.room = subst (λ (x : State). needed x + 1 ≤ c.reserve.new.self.room) (sym same) (omega (arith, c.in-Ok.ensures, c.in-Ok-reserve.ensures.room)) in
+    let enough : needed s + 1 ≤ c.reserve_one_more.new.draft.room = subst (λ (x : State). needed x + 1 ≤ c.reserve_one_more.new.draft.room) (sym same) c.in-Ok.ensures.room in
     let w = c.in-Err-write.ensures.writes (with_cut s number cover) leads regions in
     let u = with_entry s (entry.Missed number) in
     let hot : IsHot told s old.seen i.hot = subst (λ (x : State). IsHot told x old.seen i.hot) (sym same) c.self.invariant.2 in
@@ -62,7 +62,7 @@ invariant_of-self-in-Ok-write g c =
     let admits : Admits s cover (admitted.Number number) = subst (λ (x : State). Admits x cover (admitted.Number number)) (sym same) (search rules) in
     let leads = subst (Leads s (with_cut s number cover)) (sym c.truncated-entry.ensures.is) (cut_leads s known cover of_all number admits) in
     let regions = cut_regions s known cover of_all number admits in
-    let enough : needed s + 1 ≤ c.reserve.new.self.room = subst (λ (x : State). needed x + 1 ≤ c.reserve.new.self.room) (sym same) (omega (arith, c.in-Ok.ensures, c.in-Ok-reserve.ensures.room)) in
+    let enough : needed s + 1 ≤ c.reserve_one_more.new.draft.room = subst (λ (x : State). needed x + 1 ≤ c.reserve_one_more.new.draft.room) (sym same) c.in-Ok.ensures.room in
     let w = c.in-Ok-write.ensures.writes (with_cut s number cover) leads regions in
     let hot : IsHot told s old.seen i.hot = subst (λ (x : State). IsHot told x old.seen i.hot) (sym same) c.self.invariant.2 in
     subst (λ (x : State). IsFiled x (g.D.Disk.told n.disk) n.start n.journal new × HasRoom x c.write.new.draft × IsHot (g.D.Disk.told n.disk) x new.seen i.hot) (sym c.cut.ensures) (
@@ -89,7 +89,7 @@ returns-in-Err-write-clause-cuts g c =
     let admits : Admits s cover (admitted.Number number) = subst (λ (x : State). Admits x cover (admitted.Number number)) (sym same) (search rules) in
     let leads = subst (Leads s (with_cut s number cover)) (sym c.truncated-entry.ensures.is) (cut_leads s known cover of_all number admits) in
     let regions = cut_regions s known cover of_all number admits in
-    let enough : needed s + 1 ≤ c.reserve.new.self.room = subst (λ (x : State). needed x + 1 ≤ c.reserve.new.self.room) (sym same) (omega (arith, c.in-Ok.ensures, c.in-Ok-reserve.ensures.room)) in
+    let enough : needed s + 1 ≤ c.reserve_one_more.new.draft.room = subst (λ (x : State). needed x + 1 ≤ c.reserve_one_more.new.draft.room) (sym same) c.in-Ok.ensures.room in
     let w = c.in-Err-write.ensures.writes (with_cut s number cover) leads regions in
     let fault = reply.DiskFault c.fault_count-before.result c.fault_count.result in
     subst (λ v. Cuts v.state cover fault (on_disk (g.D.Disk.told n.disk) new.seen c.miss.new.self.state)) c.self.view_is
@@ -116,7 +116,7 @@ returns-in-Err-write-clause-images g c =
     let admits : Admits s cover (admitted.Number number) = subst (λ (x : State). Admits x cover (admitted.Number number)) (sym same) (search rules) in
     let leads = subst (Leads s (with_cut s number cover)) (sym c.truncated-entry.ensures.is) (cut_leads s known cover of_all number admits) in
     let regions = cut_regions s known cover of_all number admits in
-    let enough : needed s + 1 ≤ c.reserve.new.self.room = subst (λ (x : State). needed x + 1 ≤ c.reserve.new.self.room) (sym same) (omega (arith, c.in-Ok.ensures, c.in-Ok-reserve.ensures.room)) in
+    let enough : needed s + 1 ≤ c.reserve_one_more.new.draft.room = subst (λ (x : State). needed x + 1 ≤ c.reserve_one_more.new.draft.room) (sym same) c.in-Ok.ensures.room in
     let w = c.write.ensures.writes (with_cut s number cover) leads regions in
     subst (λ v. IsTrue (g.D.Disk.told v.file.disk) → Lasts v.state (λ u. (t : ℕ) × Cuts v.state cover (reply.Done t) u) v.file.journal (g.D.Disk.state v.file.disk) new) c.self.view_is
     (subst (λ (x : State). IsTrue told → Lasts (on_disk told old.seen x) (λ u. (t : ℕ) × Cuts (on_disk told old.seen x) cover (reply.Done t) u) f.journal old new) same
@@ -140,7 +140,7 @@ returns-in-Ok-write-clause-images g c =
     let admits : Admits s cover (admitted.Number number) = subst (λ (x : State). Admits x cover (admitted.Number number)) (sym same) (search rules) in
     let leads = subst (Leads s (with_cut s number cover)) (sym c.truncated-entry.ensures.is) (cut_leads s known cover of_all number admits) in
     let regions = cut_regions s known cover of_all number admits in
-    let enough : needed s + 1 ≤ c.reserve.new.self.room = subst (λ (x : State). needed x + 1 ≤ c.reserve.new.self.room) (sym same) (omega (arith, c.in-Ok.ensures, c.in-Ok-reserve.ensures.room)) in
+    let enough : needed s + 1 ≤ c.reserve_one_more.new.draft.room = subst (λ (x : State). needed x + 1 ≤ c.reserve_one_more.new.draft.room) (sym same) c.in-Ok.ensures.room in
     let w = c.write.ensures.writes (with_cut s number cover) leads regions in
     subst (λ v. IsTrue (g.D.Disk.told v.file.disk) → Lasts v.state (λ u. (t : ℕ) × Cuts v.state cover (reply.Done t) u) v.file.journal (g.D.Disk.state v.file.disk) new) c.self.view_is
     (subst (λ (x : State). IsTrue told → Lasts (on_disk told old.seen x) (λ u. (t : ℕ) × Cuts (on_disk told old.seen x) cover (reply.Done t) u) f.journal old new) same
@@ -164,7 +164,7 @@ returns-in-Ok-write-clause-cuts g c =
     let admits : Admits s cover (admitted.Number number) = subst (λ (x : State). Admits x cover (admitted.Number number)) (sym same) (search rules) in
     let leads = subst (Leads s (with_cut s number cover)) (sym c.truncated-entry.ensures.is) (cut_leads s known cover of_all number admits) in
     let regions = cut_regions s known cover of_all number admits in
-    let enough : needed s + 1 ≤ c.reserve.new.self.room = subst (λ (x : State). needed x + 1 ≤ c.reserve.new.self.room) (sym same) (omega (arith, c.in-Ok.ensures, c.in-Ok-reserve.ensures.room)) in
+    let enough : needed s + 1 ≤ c.reserve_one_more.new.draft.room = subst (λ (x : State). needed x + 1 ≤ c.reserve_one_more.new.draft.room) (sym same) c.in-Ok.ensures.room in
     let w = c.in-Ok-write.ensures.writes (with_cut s number cover) leads regions in
     subst (λ v. Cuts v.state cover (reply.Done number) (on_disk (g.D.Disk.told n.disk) new.seen c.cut.new.self.state)) c.self.view_is
     (subst (λ (x : State). Cuts (on_disk told old.seen x) cover (reply.Done number) (on_disk (g.D.Disk.told n.disk) new.seen c.cut.new.self.state)) same
