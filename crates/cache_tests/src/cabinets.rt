@@ -8,6 +8,7 @@ use cabinet::replies::{Asked, Finished, Forced, Saved};
 use catalog::catalogue::Catalogue;
 use clock::clock::Clock;
 use fixtures::tiles::corner_tile;
+use metatile_locks::ticket::Ticket;
 use metatile_plan::metatile::MetaKey;
 use raster_field::laws::laws_of_metatiles;
 use raster_field::layout::{blob_size, block_of};
@@ -16,8 +17,11 @@ use std::alloc::{AllocError, Global};
 use std::marker::Send;
 use std::test::Fail;
 
+/// The bytes that are handed in.
+const SEVENS: [u8; 23] = [7; 23];
+
 /// A cabinet of the demo catalogue.
-fn new(alloc: Global) -> Result<Cabinet, AllocError>
+pub fn new(alloc: Global) -> Result<Cabinet, AllocError>
     ensures { IfOk result (λ c. c.catalogue ≡ demo) }
 {
     let clock = Clock::listed(Vec::new(alloc));
@@ -67,6 +71,20 @@ fn kept(alloc: Global, cabinet: &mut Cabinet) -> Result<Finished, AllocError>
     }
 }
 
+/// Whether a tile has these bytes.
+fn is_text(tile: &SharedText, bytes: &[u8]) -> bool {
+    tile.bytes() == bytes
+}
+
+/// Gives up a render: its number.
+fn given_up(cabinet: &mut Cabinet, ticket: Ticket) -> u64
+    ensures { cabinet.new.catalogue ≡ cabinet.old.catalogue }
+{
+    let number = ticket.number();
+    cabinet.abandon(ticket);
+    number
+}
+
 /// Asks for the corner: whether it is a hit with the bytes that were handed in, and the number of its render, which is
 /// given up where it is none.
 fn asked(alloc: Global, cabinet: &mut Cabinet) -> Result<(bool, u64), AllocError>
@@ -74,12 +92,8 @@ fn asked(alloc: Global, cabinet: &mut Cabinet) -> Result<(bool, u64), AllocError
     ensures { cabinet.new.catalogue ≡ demo }
 {
     match cabinet.ask(alloc, &corner_tile())? {
-        Asked::Hit(number, text) => Ok((text.bytes() == [7; 23].as_slice(), number)),
-        Asked::Ticket(ticket) => {
-            let number = ticket.number();
-            cabinet.abandon(ticket);
-            Ok((false, number))
-        }
+        Asked::Hit(number, text) => Ok((is_text(&text, &SEVENS), number)),
+        Asked::Ticket(ticket) => Ok((false, given_up(cabinet, ticket))),
         Asked::Busy(_) => Ok((false, 0)),
         Asked::Spent => Ok((false, 0)),
     }

@@ -1,26 +1,53 @@
 //! Tests of metatile_locks.
+ghost use Rattle.std.specs.Prelude.{[], ◌<◌, ◌≡◌, IfOk};
+
 use fixtures::tiles::META;
 use metatile_locks::locks::Locks;
 use metatile_locks::replies::{Begin, End};
+use metatile_locks::ticket::Ticket;
+use std::alloc::{AllocError, Global};
 use std::test::Fail;
+
+/// A table in which no render runs, with room for one.
+fn table(alloc: Global) -> Result<Locks, AllocError>
+    ensures { IfOk result (λ locks. (locks.renders ≡ []) × (0 < locks.spare)) }
+{
+    let mut locks = Locks::new(alloc)?;
+    locks.reserve(alloc)?;
+    Ok(locks)
+}
+
+/// Begins a render in one table, and ends it in another: whether its ticket is a stranger's there.
+fn is_strange(locks: &mut Locks, others: &mut Locks) -> bool
+    requires none { others.old.renders ≡ [] }
+    requires room { 0 < others.old.spare }
+{
+    match others.begin(&META, 8, 0) {
+        Begin::Ticket(other) => locks.end(other) == End::Stranger,
+        Begin::Busy(_) => false,
+    }
+}
+
+/// Whether the render under number 7 is the only one, and this is its ticket.
+fn is_only(locks: &Locks, ticket: &Ticket) -> bool {
+    ticket.number() == 7
+        && ticket.meta() == META
+        && locks.least() == Some(7)
+        && locks.running_for(&META) == Some(7)
+        && locks.count() == 1
+}
 
 #[test]
 fn a_render_ends_by_its_own_ticket(rt: HostRuntime) -> Result<(), Fail> {
-    let mut locks = Locks::new(rt.alloc())?;
-    locks.reserve(rt.alloc())?;
-    let mut others = Locks::new(rt.alloc())?;
-    others.reserve(rt.alloc())?;
-    let ticket = match locks.begin(&META, 7, 12) {
-        Begin::Ticket(ticket) => ticket,
-        Begin::Busy(_) => panic!(rt; "busy"),
-    };
-    match others.begin(&META, 8, 0) {
-        Begin::Ticket(other) => assert_eq!(rt; locks.end(other), End::Stranger),
+    let mut locks = table(rt.alloc())?;
+    let mut others = table(rt.alloc())?;
+    match locks.begin(&META, 7, 12) {
+        Begin::Ticket(ticket) => {
+            assert!(rt; is_strange(&mut locks, &mut others));
+            assert!(rt; is_only(&locks, &ticket));
+            assert_eq!(rt; locks.end(ticket), End::Whole(12));
+        }
         Begin::Busy(_) => panic!(rt; "busy"),
     }
-    assert!(rt; ticket.number() == 7 && ticket.meta() == META);
-    assert!(rt; locks.least() == Some(7) && locks.running_for(&META) == Some(7));
-    assert_eq!(rt; locks.count(), 1);
-    assert_eq!(rt; locks.end(ticket), End::Whole(12));
     Ok(())
 }

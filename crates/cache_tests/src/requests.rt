@@ -1,36 +1,74 @@
 //! Tests of cache_core.
-use cabinet::cabinet::Cabinet;
+ghost use Rattle.std.specs.Prelude.{◌≡◌};
+ghost use Rattle.cache_core.specs.Fits.{IsFit};
+ghost use Rattle.catalog.specs.Demo.{demo};
+ghost use Rattle.catalog.specs.LookUp.{IsTile};
+ghost use Rattle.matrix_geometry.specs.declared.address.Address.{Address};
+
+use crate::cabinets::new;
+use cabinet::keeper::Keeper;
 use cache_core::actor::{Actor, Step};
+use cache_core::outcome::Tile;
 use cache_core::steps::{advance, begin, give_up};
-use catalog::catalogue::Catalogue;
-use clock::clock::Clock;
 use fixtures::tiles::first_tile;
+use matrix_geometry::address::Address;
 use source_render::numbered::Numbered;
+use std::alloc::Global;
 use std::test::Fail;
 
 /// The tile under number 1. The first grey is 7 + 17 * 4 + 13 * 4.
 const TEXT: &[u8] = b"P6\n2 2\n255\n\x7f\x7f\x7f\x07\x07\x07\xe7\xe7\xe7\x6f\x6f\x6f";
 
+/// The actor of a request that begins.
+fn begun<C: Keeper>(alloc: Global, cabinet: &mut C, tile: &Address) -> Actor
+    requires { IsTile (C.state cabinet.old).catalogue tile.now }
+    ensures fits { IsFit (C.state cabinet.old).catalogue tile.now result }
+    ensures catalogue { (C.state cabinet.new).catalogue ≡ (C.state cabinet.old).catalogue }
+{
+    let Step { actor, outcome: _ } = begin(alloc, cabinet, tile, false);
+    actor
+}
+
+/// The actor after its render, where it holds a ticket; any other one is given up.
+fn rendered<C: Keeper>(alloc: Global, cabinet: &mut C, actor: Actor) -> Actor
+    requires { (a : Address) × IsFit (C.state cabinet.old).catalogue a actor }
+{
+    let Actor::Holding(ticket, address) = actor else {
+        give_up(cabinet, actor);
+        return Actor::Idle;
+    };
+    let mut source = Numbered::new(0);
+    let held = Actor::Holding(ticket, address);
+    let Step { actor, outcome: _ } = advance(alloc, cabinet, &mut source, held);
+    actor
+}
+
+/// Whether a tile is the one of a first render.
+fn is_first(tile: &Tile, text: &[u8]) -> bool {
+    tile.number == 1 && !tile.hit && tile.bytes.bytes() == text
+}
+
+/// Renders the first tile, and gives it up: whether it was the one of a first render.
+fn renders_first<C: Keeper>(alloc: Global, cabinet: &mut C) -> bool
+    requires { (C.state cabinet.old).catalogue ≡ demo }
+{
+    let begun = begun(alloc, cabinet, &first_tile());
+    let actor = rendered(alloc, cabinet, begun);
+    let done = match &actor {
+        Actor::Rendered(_, _, tile) => is_first(tile, TEXT),
+        _ => false,
+    };
+    give_up(cabinet, actor);
+    done
+}
+
 #[test]
 fn a_tile_is_rendered_and_given_up(rt: HostRuntime) -> Result<(), Fail> {
-    let alloc = rt.alloc();
-    let clock = Clock::listed(Vec::new(alloc));
-    let mut cabinet = Cabinet::memory(alloc, Catalogue::demo(alloc)?, clock)?;
-    let mut source = Numbered::new(0);
-    let Step { actor, outcome: _ } = begin(alloc, &mut cabinet, &first_tile(), false);
-    let Actor::Holding(ticket, address) = actor else {
-        give_up(&mut cabinet, actor);
-        return Err(Fail::from("no ticket"));
-    };
-    let held = Actor::Holding(ticket, address);
-    let Step { actor, outcome: _ } = advance(alloc, &mut cabinet, &mut source, held);
-    let Actor::Rendered(ticket, blob, tile) = actor else {
-        give_up(&mut cabinet, actor);
-        return Err(Fail::from("no blob"));
-    };
-    let is_first = tile.number == 1 && !tile.hit && tile.bytes.bytes() == TEXT;
-    give_up(&mut cabinet, Actor::Rendered(ticket, blob, tile));
-    assert!(rt; is_first);
-    assert_eq!(rt; cabinet.kept(), 0);
+    let mut cabinet = new(rt.alloc())?;
+    let done = renders_first(rt.alloc(), &mut cabinet);
+    let kept = cabinet.kept();
+    drop(cabinet);
+    assert!(rt; done);
+    assert_eq!(rt; kept, 0);
     Ok(())
 }

@@ -1,7 +1,8 @@
 //! Tests of truncation_list.
-ghost use Rattle.std.specs.Prelude.{IfOk, unsigned_abs, ◌^◌, ◌≤◌};
+ghost use Rattle.std.specs.Prelude.{IfOk, OnOk, unsigned_abs, ◌+◌, ◌<◌, ◌^◌, ◌≡◌, ◌≤◌};
 ghost use Rattle.matrix_geometry.specs.Limits.{IsWithinLimits};
 ghost use Rattle.truncation_list.specs.Covers.{IsWithinReach};
+ghost use Rattle.truncation_list.specs.Purge.{IsAbove, empty_book};
 
 use exact_ratio::decimal::Decimal;
 use exact_ratio::ratio::Ratio;
@@ -10,6 +11,7 @@ use matrix_geometry::address::Address;
 use matrix_geometry::boxes::{Box9, Range};
 use matrix_geometry::matrix::{Corner, Matrix, Size};
 use matrix_geometry::theme::Filter;
+use std::alloc::{AllocError, Global};
 use std::test::Fail;
 use truncation_list::block::Block;
 use truncation_list::containing::contains;
@@ -65,11 +67,9 @@ fn boxed(max_x: i64) -> Cover
     }
 }
 
-#[test]
-fn a_cover_covers_tiles_hits_blocks_and_contains_covers(rt: HostRuntime) -> Result<(), Fail> {
-    let m = matrix()?;
-    let cover = boxed(4_000_003_999);
-    let block = Block {
+/// A block of six tiles at zoom 2, right of the corner.
+fn block() -> Block {
+    Block {
         theme: GREY,
         grid: 0,
         z: 2,
@@ -79,61 +79,127 @@ fn a_cover_covers_tiles_hits_blocks_and_contains_covers(rt: HostRuntime) -> Resu
             col_min: 1,
             col_max: 3,
         },
-    };
-    assert!(rt; covers(&cover, &m, &CORNER));
-    assert!(rt; !hits(&cover, &m, &block));
-    let styled = Cover {
-        filter: Filter {
-            style: Some(1),
-            ..ANY
-        },
-        ..cover
-    };
-    for (outer, inner, expected) in [
-        (&cover, &styled, true),
-        (&styled, &cover, false),
-        (&WHOLE, &cover, true),
-        (&FLAT, &cover, false),
-    ] {
-        assert_eq!(rt; contains(outer, inner), expected);
     }
+}
+
+/// A cover with the style 1 alone.
+fn styled(cover: &Cover) -> Cover {
+    let filter = Filter {
+        style: Some(1),
+        ..ANY
+    };
+    Cover { filter, ..*cover }
+}
+
+/// Whether the first cover contains the other one, and not the other way round.
+fn is_wider(outer: &Cover, inner: &Cover) -> bool {
+    contains(outer, inner) && !contains(inner, outer)
+}
+
+#[test]
+fn a_cover_covers_tiles_and_hits_blocks(rt: HostRuntime) -> Result<(), Fail> {
+    let m = matrix()?;
+    let cover = boxed(4_000_003_999);
+    assert!(rt; covers(&cover, &m, &CORNER));
+    assert!(rt; !hits(&cover, &m, &block()));
     Ok(())
 }
 
 #[test]
-fn a_cut_takes_the_place_of_those_that_it_contains(rt: HostRuntime) -> Result<(), Fail> {
-    let mut list = CutList::new(rt.alloc())?;
+fn a_cover_contains_covers(rt: HostRuntime) {
+    let cover = boxed(4_000_003_999);
+    assert!(rt; is_wider(&cover, &styled(&cover)));
+    assert!(rt; contains(&WHOLE, &cover));
+    assert!(rt; !contains(&FLAT, &cover));
+}
+
+/// Lists two cuts where there is none.
+fn enter_both(
+    alloc: Global,
+    list: &mut CutList,
+    first: u64,
+    one: &Cover,
+    second: u64,
+    other: &Cover,
+) -> Result<(), AllocError>
+    requires none { list.old.book ≡ empty_book }
+    requires rise { first < second }
+    requires one { IsWithinReach one.now }
+    requires other { IsWithinReach other.now }
+    ensures { OnOk result (IsAbove (second + 1) list.new.book.cuts) }
+{
+    list.reserve(alloc, one)?;
+    list.enter(first, one);
+    list.reserve(alloc, other)?;
+    list.enter(second, other);
+    Ok(())
+}
+
+/// A list of two cuts, of which the box of the later one is wider.
+fn narrow_and_wide(alloc: Global) -> Result<CutList, AllocError>
+    ensures { IfOk result (λ list. IsAbove 4 list.book.cuts) }
+{
+    let mut list = CutList::new(alloc)?;
     let (narrow, wide) = (boxed(4_000_000_000), boxed(4_000_004_000));
-    list.reserve(rt.alloc(), &narrow)?;
-    list.enter(2, &narrow);
-    list.reserve(rt.alloc(), &wide)?;
-    list.enter(3, &wide);
+    enter_both(alloc, &mut list, 2, &narrow, 3, &wide)?;
+    Ok(list)
+}
+
+/// Adds the cut of all of the layer, under number 4.
+fn cut_whole(alloc: Global, list: &mut CutList) -> Result<(), AllocError>
+    requires { IsAbove 4 list.old.book.cuts }
+{
+    list.reserve(alloc, &WHOLE)?;
+    list.add(4, &WHOLE, Some(1));
+    Ok(())
+}
+
+/// Whether a list has one cut, of this number and cover.
+fn has_only(list: &CutList, number: u64, cover: &Cover) -> bool {
+    list.count() == 1 && list.cut_at(0) == (number, *cover)
+}
+
+#[test]
+fn a_cut_takes_the_place_of_those_that_it_contains(rt: HostRuntime) -> Result<(), Fail> {
+    let mut list = narrow_and_wide(rt.alloc())?;
     assert!(rt; list.full(&FLAT, Some(1), 1) && !list.full(&FLAT, Some(1), 2));
     assert!(rt; !list.full(&WHOLE, Some(1), 1));
-    list.reserve(rt.alloc(), &WHOLE)?;
-    list.add(4, &WHOLE, Some(1));
-    assert_eq!(rt; list.count(), 1);
-    assert_eq!(rt; list.cut_at(0), (4, WHOLE));
+    cut_whole(rt.alloc(), &mut list)?;
+    assert!(rt; has_only(&list, 4, &WHOLE));
     assert_eq!(rt; list.floor(), 0);
     Ok(())
+}
+
+/// A list of two cuts, of which the box of the earlier one is wider.
+fn wide_and_narrow(alloc: Global) -> Result<CutList, AllocError> {
+    let mut list = CutList::new(alloc)?;
+    let (narrow, wide) = (boxed(4_000_000_000), boxed(4_000_004_000));
+    enter_both(alloc, &mut list, 5, &wide, 7, &narrow)?;
+    Ok(list)
+}
+
+/// The number of the last cut of the tile in this column of the first row.
+fn last_at(list: &CutList, m: &Matrix, col: u32) -> Option<u64>
+    requires { IsWithinLimits m.now }
+{
+    list.last(m, &Address { col, ..CORNER })
+}
+
+/// How many cuts a purge leaves, and the floor after it.
+fn purged(list: &mut CutList, least: Option<u64>) -> (u32, u64) {
+    list.purge(least);
+    (list.count(), list.floor())
 }
 
 #[test]
 fn the_floor_rises_to_what_is_purged_by_number(rt: HostRuntime) -> Result<(), Fail> {
     let m = matrix()?;
-    let mut list = CutList::new(rt.alloc())?;
-    let (narrow, wide) = (boxed(4_000_000_000), boxed(4_000_004_000));
-    list.reserve(rt.alloc(), &wide)?;
-    list.enter(5, &wide);
-    list.reserve(rt.alloc(), &narrow)?;
-    list.enter(7, &narrow);
+    let mut list = wide_and_narrow(rt.alloc())?;
     for (col, expected) in [(0, Some(7)), (1, Some(5)), (2, None)] {
-        let address = Address { col, ..CORNER };
-        assert_eq!(rt; list.last(&m, &address), expected);
+        assert_eq!(rt; last_at(&list, &m, col), expected);
     }
     for (least, expected) in [(Some(5), (2, 0)), (Some(6), (1, 5)), (None, (0, 7))] {
-        list.purge(least);
-        assert_eq!(rt; (list.count(), list.floor()), expected);
+        assert_eq!(rt; purged(&mut list, least), expected);
     }
     list.raise(3);
     assert_eq!(rt; list.seen(), 7);
