@@ -93,6 +93,23 @@ fn each_sees_the_other(rt: HostRuntime) -> Result<(), Fail> {
     Ok(())
 }
 
+/// Whether a number that is 1 goes by turns of one pass to 5 and to 7, and a turn without memory leaves it.
+fn takes_turns<R: Wait>(
+    rt: &R,
+    alloc: Global,
+    turnstile: &Turnstile<Counter>,
+    pass: &mut Pass<Counter>,
+) -> bool
+    requires { pass.old.table ≡ turnstile.now.table }
+{
+    let is_raised = turnstile.turn(rt, alloc, pass, Step::Raise(4)).is_ok();
+    let raised = turnstile.seen(pass);
+    let is_starved = turnstile.turn(rt, alloc, pass, Step::Starve).is_err();
+    let starved = turnstile.seen(pass);
+    let last = turnstile.turn_plain(rt, pass, Step::Raise(2));
+    is_raised && raised == 5 && is_starved && starved == 5 && last == 7
+}
+
 #[test]
 fn turns_of_one_thread(rt: HostRuntime) -> Result<(), Fail> {
     let Entry { turnstile, passes } = Turnstile::make(rt.alloc(), Counter { number: 1 }, 2)?;
@@ -100,11 +117,7 @@ fn turns_of_one_thread(rt: HostRuntime) -> Result<(), Fail> {
     let Some(mut pass) = passes.pop() else {
         panic!(rt; "no pass")
     };
-    let raised = turnstile.turn(&rt, rt.alloc(), &mut pass, Step::Raise(4));
-    assert!(rt; raised.is_ok() && turnstile.seen(&pass) == 5);
-    let starved = turnstile.turn(&rt, rt.alloc(), &mut pass, Step::Starve);
-    assert!(rt; starved.is_err() && turnstile.seen(&pass) == 5);
-    assert!(rt; turnstile.turn_plain(&rt, &mut pass, Step::Raise(2)) == 7);
+    assert!(rt; takes_turns(&rt, rt.alloc(), &turnstile, &mut pass));
     let Err(entry) = turnstile.close(passes) else {
         panic!(rt; "closed with one of two passes")
     };
