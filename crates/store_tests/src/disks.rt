@@ -14,15 +14,21 @@ fn dots(rt: &HostRuntime, fail: Vec<u64>) -> Result<MemoryDisk, Fail> {
     Ok(MemoryDisk::new(rt.alloc(), bytes, fail))
 }
 
-#[test]
-fn a_read_gives_what_was_written_and_zeros_past_the_end(rt: HostRuntime) -> Result<(), Fail> {
-    let mut disk = dots(&rt, Vec::new(rt.alloc()))?;
+/// What is read over the end, once three bytes were written at the seventh place and the file was cut to nine.
+fn read_over_the_end<D: Disk>(disk: &mut D) -> Result<[u8; 5], Failed> {
     disk.write_at(7, b"abc")?;
     disk.cut(9)?;
     disk.sync()?;
     let mut into = [1; 5];
     disk.read(6, &mut into)?;
-    assert_eq!(rt; into, [b'.', b'a', b'b', 0, 0]);
+    Ok(into)
+}
+
+#[test]
+fn a_read_gives_what_was_written_and_zeros_past_the_end(rt: HostRuntime) -> Result<(), Fail> {
+    let mut disk = dots(&rt, Vec::new(rt.alloc()))?;
+    let read = read_over_the_end(&mut disk);
+    assert_eq!(rt; read, Ok([b'.', b'a', b'b', 0, 0]));
     Ok(())
 }
 
@@ -43,40 +49,63 @@ fn a_crash_leaves_old_new_or_noise(rt: HostRuntime) -> Result<(), Fail> {
     Ok(())
 }
 
+/// Whether of a write and two syncs the first sync alone fails.
+fn one_sync_fails<D: Disk>(disk: &mut D) -> bool {
+    let write = disk.write_at(0, b"a");
+    let first = disk.sync();
+    let second = disk.sync();
+    write.is_ok() && first.is_err() && second.is_ok()
+}
+
 #[test]
 fn a_listed_call_fails_and_is_counted(rt: HostRuntime) -> Result<(), Fail> {
     let mut disk = dots(&rt, [2].to_vec(rt.alloc())?)?;
-    disk.write_at(0, b"a")?;
-    assert_eq!(rt; disk.sync(), Err(Failed));
-    disk.sync()?;
+    assert!(rt; one_sync_fails(&mut disk));
     assert_eq!(rt; disk.fault_count(), 1);
     assert_eq!(rt; disk.shortages(), 0);
     Ok(())
 }
 
+/// Whether of three writes the second one alone fails.
+fn one_write_fails<D: Disk>(disk: &mut D) -> bool {
+    let first = disk.write_at(0, b"aaaa");
+    let second = disk.write_at(2, b"bbbb");
+    let third = disk.write_at(3, b"c");
+    first.is_ok() && second.is_err() && third.is_ok()
+}
+
+/// Whether these are the bytes of a disk.
+fn has_bytes(disk: &MemoryDisk, bytes: &[u8]) -> bool {
+    disk.bytes() == bytes
+}
+
 #[test]
 fn a_failed_write_is_left_where_it_was_the_last(rt: HostRuntime) -> Result<(), Fail> {
     let mut disk = dots(&rt, [2].to_vec(rt.alloc())?)?;
-    disk.write_at(0, b"aaaa")?;
-    assert_eq!(rt; disk.write_at(2, b"bbbb"), Err(Failed));
-    disk.write_at(3, b"c")?;
-    assert_eq!(rt; disk.bytes(), b"aaac....".as_slice());
+    assert!(rt; one_write_fails(&mut disk));
+    assert!(rt; has_bytes(&disk, b"aaac...."));
     let image = disk.crash(rt.alloc(), Pick::New)?;
-    assert_eq!(rt; image.bytes(), b"aabcbb..".as_slice());
+    assert!(rt; has_bytes(&image, b"aabcbb.."));
     Ok(())
+}
+
+/// Whether a write with its sync fails, and a read after it.
+fn both_fail<D: Disk>(disk: &mut D) -> bool {
+    let written = write_through(disk, 0, b"a");
+    let read = disk.read(0, &mut [0; 1]);
+    written.is_err() && read.is_err()
 }
 
 #[test]
 fn a_stopped_disk_fails(rt: HostRuntime) -> Result<(), Fail> {
     let mut disk = dots(&rt, Vec::new(rt.alloc()))?;
     disk.stop_after(1);
-    assert_eq!(rt; write_through(&mut disk, 0, b"a"), Err(Failed));
-    assert_eq!(rt; disk.read(0, &mut [0; 1]), Err(Failed));
+    assert!(rt; both_fail(&mut disk));
     Ok(())
 }
 
 /// What the bytes from the second one on are, once three were written after the third and the file was cut to five.
-fn read_back(mut disk: FileDisk) -> Result<[u8; 7], Failed> {
+fn read_back<D: Disk>(mut disk: D) -> Result<[u8; 7], Failed> {
     write_through(&mut disk, 3, b"abc")?;
     disk.cut(5)?;
     disk.sync()?;

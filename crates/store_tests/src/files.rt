@@ -3,6 +3,7 @@ ghost use Rattle.std.specs.Prelude.{◌≡◌, IfOk};
 ghost use Rattle.disk_model.specs.Memory.{memory_state};
 ghost use Rattle.gate_journal.specs.Sound.{IsSettled, IsSound, slots_of};
 
+use crate::values::{body, digest};
 use cache_file::file::CacheFile;
 use cache_file::opening::make;
 use disk_model::memory::MemoryDisk;
@@ -11,8 +12,6 @@ use metatile_plan::span::Span;
 use std::alloc::Global;
 use std::process::Abort;
 use std::test::Fail;
-
-const DIGEST: [u8; 32] = [7; 32];
 
 const PICKS: [Pick; 3] = [Pick::Old, Pick::New, Pick::Noise];
 
@@ -26,7 +25,7 @@ fn opened(
 {
     assert!(rt; disk.bytes().len() >= 384);
     let mut bodies = Vec::new(alloc);
-    match CacheFile::open(alloc, disk, &DIGEST, 2, &mut bodies) {
+    match CacheFile::open(alloc, disk, &digest(), 2, &mut bodies) {
         Ok(file) => Ok((file, bodies)),
         Err((fault, _)) => Err(fault.into()),
     }
@@ -37,7 +36,7 @@ fn made(rt: &impl Abort, alloc: Global) -> Result<CacheFile<MemoryDisk>, Fail>
     ensures { IfOk result (λ f. (slots_of f.journal ≡ 2) × IsSound f.journal (memory_state f.disk)) }
 {
     let mut disk = MemoryDisk::new(alloc, Vec::new(alloc), Vec::new(alloc));
-    make(&mut disk, &DIGEST, 2)?;
+    make(&mut disk, &digest(), 2)?;
     Ok(opened(rt, alloc, disk)?.0)
 }
 
@@ -51,7 +50,7 @@ fn keep(rt: &impl Abort, file: &mut CacheFile<MemoryDisk>, number: u8) -> bool
     assert!(rt; file.settled());
     assert!(rt; file.room() > 0);
     match file.put(8 * u64::from(number), &[number; 8]) {
-        Ok(()) => file.record(&[number; 63]).is_ok(),
+        Ok(()) => file.record(&body(number)).is_ok(),
         Err(_) => false,
     }
 }
@@ -63,7 +62,7 @@ fn ready(file: &mut CacheFile<MemoryDisk>) -> bool
     ensures slots { slots_of file.new.journal ≡ 2 }
     ensures sound { IsSound file.new.journal (memory_state file.new.disk) }
 {
-    file.ready(&[[9; 63]]).is_ok()
+    file.ready(&[body(9)]).is_ok()
 }
 
 /// Stops the disk of a file after so many more calls.
@@ -150,15 +149,24 @@ fn a_record_that_failed_is_none_once_the_file_is_ready(rt: HostRuntime) -> Resul
     Ok(())
 }
 
+/// Keeps two blobs, which leaves no room, and makes the file ready: whether all was done.
+fn fills_and_replaces(rt: &impl Abort, file: &mut CacheFile<MemoryDisk>) -> bool
+    requires slots { slots_of file.old.journal ≡ 2 }
+    requires sound { IsSound file.old.journal (memory_state file.old.disk) }
+{
+    let first = keep(rt, file, 1);
+    let is_ready = ready(file);
+    let second = keep(rt, file, 2);
+    let room = file.room();
+    let is_replaced = ready(file);
+    first && is_ready && second && room == 0 && is_replaced
+}
+
 #[test]
 fn other_records_replace_those_that_leave_no_room(rt: HostRuntime) -> Result<(), Fail> {
     let alloc = rt.alloc();
     let mut file = made(&rt, alloc)?;
-    assert!(rt; keep(&rt, &mut file, 1));
-    assert!(rt; ready(&mut file));
-    assert!(rt; keep(&rt, &mut file, 2));
-    assert_eq!(rt; file.room(), 0);
-    assert!(rt; ready(&mut file));
+    assert!(rt; fills_and_replaces(&rt, &mut file));
     assert_eq!(rt; file.version(), 2);
     assert_eq!(rt; file.fault_count(), 0);
     let (numbers, first, second) = left(&rt, alloc, file, Pick::Old)?;

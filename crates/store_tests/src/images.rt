@@ -3,6 +3,7 @@ ghost use Rattle.std.specs.Prelude.{◌≡◌, ◌*◌, ◌≤◌, ◌^◌, IfOk
 ghost use Rattle.disk_model.specs.Memory.{memory_state};
 ghost use Rattle.gate_journal.specs.Sound.{IsSettled, IsSound, slots_of};
 
+use crate::values::{are_bodies, body, digest};
 use disk_model::disk::Disk;
 use disk_model::memory::MemoryDisk;
 use gate_journal::journal::Journal;
@@ -12,14 +13,12 @@ use std::alloc::{AllocError, Global};
 use std::process::Abort;
 use std::test::Fail;
 
-const DIGEST: [u8; 32] = [7; 32];
-
 /// A header under the digest of sevens, with this magic and a generation below 256.
 fn header(magic: &[u8; 8], generation: u8) -> [u8; 64] {
     let mut slot = [0; 64];
     slot[..8].copy_from_slice(magic);
     slot[15] = generation;
-    slot[16..48].copy_from_slice(&DIGEST);
+    slot[16..48].copy_from_slice(&digest());
     slot[63] = 1;
     slot
 }
@@ -51,17 +50,23 @@ fn image(
     Ok(image)
 }
 
+/// Makes a journal with halves of 224 slots, and adds a record.
+fn begun(rt: &impl Abort, alloc: Global, disk: &mut MemoryDisk) -> Result<(), Fail> {
+    make(disk, &digest(), 224)?;
+    assert_eq!(rt; disk.bytes().len(), 28_800);
+    let mut journal = Journal::open(alloc, disk, &digest(), 224)?.journal;
+    assert!(rt; journal.room() == 224);
+    journal.append(disk, &body(5))?;
+    Ok(())
+}
+
 #[test]
 fn a_new_journal_has_its_bytes(rt: HostRuntime) -> Result<(), Fail> {
     let alloc = rt.alloc();
     let mut disk = MemoryDisk::new(alloc, vec![in alloc; 9; 30_000]?, Vec::new(alloc));
-    make(&mut disk, &DIGEST, 224)?;
-    assert_eq!(rt; disk.bytes().len(), 28_800);
-    let mut journal = Journal::open(alloc, &mut disk, &DIGEST, 224)?.journal;
-    assert!(rt; journal.room() == 224);
-    journal.append(&mut disk, &[5; 63])?;
+    begun(&rt, alloc, &mut disk)?;
     let headers = [header(b"WMTSJNL2", 1), [0; 64]];
-    let laid_out = image(alloc, 224, headers, [&[[5; 63]], &[]])?;
+    let laid_out = image(alloc, 224, headers, [&[body(5)], &[]])?;
     assert!(rt; disk.bytes() == laid_out.as_slice());
     Ok(())
 }
@@ -78,16 +83,16 @@ fn opened(
 {
     disk.sync()?;
     assert!(rt; disk.bytes().len() == 640);
-    let opened = Journal::open(alloc, disk, &DIGEST, 4)?;
+    let opened = Journal::open(alloc, disk, &digest(), 4)?;
     assert!(rt; opened.version == version);
-    assert!(rt; opened.bodies.as_slice() == bodies);
+    assert!(rt; are_bodies(opened.bodies.as_slice(), bodies));
     Ok(opened.journal)
 }
 
 #[test]
 fn a_journal_of_version_1_is_compacted_to_version_2(rt: HostRuntime) -> Result<(), Fail> {
     let alloc = rt.alloc();
-    let (old, new) = ([[5; 63], [6; 63]], [[8; 63]]);
+    let (old, new) = ([body(5), body(6)], [body(8)]);
     let headers = [header(b"WMTSJNL1", 9), [0; 64]];
     let first = image(alloc, 4, headers, [&old, &[]])?;
     let mut disk = MemoryDisk::new(alloc, first, Vec::new(alloc));
@@ -103,14 +108,18 @@ fn a_journal_of_version_1_is_compacted_to_version_2(rt: HostRuntime) -> Result<(
 
 /// A body with a number of its own.
 fn numbered(number: u64) -> [u8; 63] {
-    let mut body = [3; 63];
-    body[..8].copy_from_slice(&number.to_be_bytes());
-    body
+    let mut bytes = body(3);
+    bytes[..8].copy_from_slice(&number.to_be_bytes());
+    bytes
 }
 
 /// The bodies with the numbers from one on, up to before another.
 fn numbered_from(alloc: Global, first: u64, end: u64) -> Result<Vec<[u8; 63]>, AllocError> {
-    (first..end).map(numbered).collect(alloc)
+    let mut bodies = Vec::new(alloc);
+    for number in first..end {
+        bodies.push(numbered(number))?;
+    }
+    Ok(bodies)
 }
 
 /// Counts the records that it is shown, and tells whether they came slot by slot with the numbers from the first one on.
@@ -151,7 +160,7 @@ fn counted(
         shown: 0,
         in_order: true,
     };
-    let journal = Journal::open_in_pieces(alloc, disk, &DIGEST, 1600, &mut visit)?;
+    let journal = Journal::open_in_pieces(alloc, disk, &digest(), 1600, &mut visit)?;
     assert!(rt; visit.in_order && visit.shown == count);
     Ok(journal)
 }

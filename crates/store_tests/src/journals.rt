@@ -1,9 +1,10 @@
 //! Tests of gate_journal.
-ghost use Rattle.std.specs.Prelude.{◌≡◌, IfOk};
+ghost use Rattle.std.specs.Prelude.{◌≡◌, IfOk, IsTrue};
 ghost use Rattle.disk_model.specs.Memory.{memory_state};
 ghost use Rattle.gate_journal.specs.Sound.{IsSettled, IsSound, slots_of};
 
-use disk_model::disk::Disk;
+use crate::values::{are_bodies, body, digest};
+use disk_model::disk::{Disk, Failed};
 use disk_model::memory::MemoryDisk;
 use disk_model::pick::Pick;
 use gate_journal::fault::OpenFault;
@@ -13,20 +14,31 @@ use std::alloc::Global;
 use std::process::Abort;
 use std::test::Fail;
 
-const DIGEST: [u8; 32] = [7; 32];
-
 const PICKS: [Pick; 3] = [Pick::Old, Pick::New, Pick::Noise];
+
+/// Adds a record of this byte to a settled journal that has room: whether that was done.
+fn add<D: Disk>(rt: &impl Abort, disk: &mut D, journal: &mut Journal, byte: u8) -> bool
+    requires { IsTrue (D.told disk.old) → IsSound journal.old (D.state disk.old) }
+    ensures told { D.told disk.new ≡ D.told disk.old }
+    ensures slots { slots_of journal.new ≡ slots_of journal.old }
+    ensures sound { IsTrue (D.told disk.old) → IsSound journal.new (D.state disk.new) }
+{
+    assert!(rt; journal.settled());
+    assert!(rt; journal.room() > 0);
+    journal.append(disk, &body(byte)).is_ok()
+}
 
 /// A journal of halves of four slots, with two records.
 fn made(rt: &impl Abort, alloc: Global) -> Result<(MemoryDisk, Journal), Fail>
     ensures { IfOk result (λ p. IsSettled p.1 × (slots_of p.1 ≡ 4) × IsSound p.1 (memory_state p.0)) }
 {
     let mut disk = MemoryDisk::new(alloc, Vec::new(alloc), Vec::new(alloc));
-    make(&mut disk, &DIGEST, 4)?;
-    let mut journal = Journal::open(alloc, &mut disk, &DIGEST, 4)?.journal;
+    make(&mut disk, &digest(), 4)?;
+    let mut journal = Journal::open(alloc, &mut disk, &digest(), 4)?.journal;
     assert!(rt; journal.room() == 4);
-    journal.append(&mut disk, &[1; 63])?;
-    journal.append(&mut disk, &[2; 63])?;
+    assert!(rt; add(rt, &mut disk, &mut journal, 1));
+    assert!(rt; add(rt, &mut disk, &mut journal, 2));
+    assert!(rt; journal.settled());
     assert!(rt; journal.room() == 2);
     Ok((disk, journal))
 }
@@ -34,42 +46,60 @@ fn made(rt: &impl Abort, alloc: Global) -> Result<(MemoryDisk, Journal), Fail>
 /// The records of an image.
 fn records(alloc: Global, disk: &mut MemoryDisk) -> Result<Vec<[u8; 63]>, Fail> {
     disk.sync()?;
-    Ok(Journal::open(alloc, disk, &DIGEST, 4)?.bodies)
+    Ok(Journal::open(alloc, disk, &digest(), 4)?.bodies)
 }
 
 #[test]
 fn records_outlive_compactions(rt: HostRuntime) -> Result<(), Fail> {
     let (mut disk, mut journal) = made(&rt, rt.alloc())?;
-    journal.compact(&mut disk, &[[3; 63]])?;
-    journal.compact(&mut disk, &[[4; 63], [5; 63]])?;
+    journal.compact(&mut disk, &[body(3)])?;
+    journal.compact(&mut disk, &[body(4), body(5)])?;
     let bodies = records(rt.alloc(), &mut disk)?;
-    assert_eq!(rt; bodies.as_slice(), [[4; 63], [5; 63]].as_slice());
+    assert!(rt; are_bodies(bodies.as_slice(), &[body(4), body(5)]));
     Ok(())
+}
+
+fn other_digest() -> [u8; 32] {
+    [8; 32]
+}
+
+/// Whether a disk, once it is synced, is refused under a digest for this fault.
+fn is_refused(
+    alloc: Global,
+    disk: &mut MemoryDisk,
+    digest: &[u8; 32],
+    expected: &OpenFault,
+) -> Result<bool, Failed> {
+    disk.sync()?;
+    match Journal::open(alloc, disk, digest, 4) {
+        Ok(_) => Ok(false),
+        Err(fault) => Ok(fault == *expected),
+    }
+}
+
+/// Whether an empty disk is refused.
+fn is_none_on_an_empty_disk(alloc: Global) -> Result<bool, Failed> {
+    let mut empty = MemoryDisk::new(alloc, Vec::new(alloc), Vec::new(alloc));
+    is_refused(alloc, &mut empty, &digest(), &OpenFault::NotACache)
 }
 
 #[test]
 fn what_is_no_journal_of_this_digest_is_refused(rt: HostRuntime) -> Result<(), Fail> {
     let alloc = rt.alloc();
     let (mut disk, _) = made(&rt, alloc)?;
-    disk.sync()?;
-    let differs = Journal::open(alloc, &mut disk, &[8; 32], 4).err();
-    assert_eq!(rt; differs, Some(OpenFault::CatalogueDiffers(DIGEST, [8; 32])));
+    let differs = OpenFault::CatalogueDiffers(digest(), other_digest());
+    assert!(rt; is_refused(alloc, &mut disk, &other_digest(), &differs)?);
     disk.write_at(128 + 64 * 3 + 63, &[1])?;
-    disk.sync()?;
-    let gap = Journal::open(alloc, &mut disk, &DIGEST, 4).err();
-    assert_eq!(rt; gap, Some(OpenFault::NotACache));
-    let mut empty = MemoryDisk::new(alloc, Vec::new(alloc), Vec::new(alloc));
-    let none = Journal::open(alloc, &mut empty, &DIGEST, 4).err();
-    assert_eq!(rt; none, Some(OpenFault::NotACache));
+    assert!(rt; is_refused(alloc, &mut disk, &digest(), &OpenFault::NotACache)?);
+    assert!(rt; is_none_on_an_empty_disk(alloc)?);
     Ok(())
 }
 
 /// How many records the image of a pick opens to, after a record was added on a disk that stops after so many calls.
 fn stopped_append(rt: &impl Abort, alloc: Global, calls: u64, pick: Pick) -> Result<usize, Fail> {
     let (mut disk, mut journal) = made(rt, alloc)?;
-    assert!(rt; journal.room() == 2);
     disk.stop_after(calls);
-    let done = journal.append(&mut disk, &[3; 63]).is_ok();
+    let done = add(rt, &mut disk, &mut journal, 3);
     assert!(rt; done == journal.settled());
     let mut image = disk.crash(alloc, pick)?;
     Ok(records(alloc, &mut image)?.len())
@@ -84,7 +114,7 @@ fn stopped_compaction(
 ) -> Result<usize, Fail> {
     let (mut disk, mut journal) = made(rt, alloc)?;
     disk.stop_after(calls);
-    let done = journal.compact(&mut disk, &[[3; 63]]).is_ok();
+    let done = journal.compact(&mut disk, &[body(3)]).is_ok();
     assert!(rt; done == journal.settled());
     let mut image = disk.crash(alloc, pick)?;
     Ok(records(alloc, &mut image)?.len())
@@ -131,20 +161,22 @@ fn settled_after(
     pick: Pick,
 ) -> Result<u8, Fail> {
     let (mut disk, mut journal) = made(rt, alloc)?;
-    assert!(rt; journal.room() == 2);
     disk.stop_after(failed);
-    let failed = journal.append(&mut disk, &[3; 63]).is_err();
+    let failed = !add(rt, &mut disk, &mut journal, 3);
     assert!(rt; failed && !journal.settled() && journal.room() == 2);
     disk.stop_after(settling);
     let settled = journal.settle(&mut disk).is_ok();
     assert!(rt; settled == journal.settled());
     disk.stop_after(9);
     if settled && journal.room() > 0 {
-        journal.append(&mut disk, &[4; 63])?;
+        journal.append(&mut disk, &body(4))?;
     }
     let mut image = disk.crash(alloc, pick)?;
     let bodies = records(alloc, &mut image)?;
-    Ok(bodies.as_slice().last().map_or(0, |body| body[0]))
+    match bodies.as_slice().last() {
+        Some(body) => Ok(body[0]),
+        None => Ok(0),
+    }
 }
 
 // The body failed, and then the sync; or the gate failed, and then its closing or the sync of that.

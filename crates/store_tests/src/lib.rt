@@ -19,3 +19,5 @@ mod images;
 mod journals;
 #[cfg(test)]
 mod records;
+#[cfg(test)]
+mod values;
