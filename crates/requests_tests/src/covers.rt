@@ -1,10 +1,14 @@
 //! job_forms, and served_covers
+ghost use Rattle.catalog.specs.Valid.{IsValid};
+
+use catalog::catalogue::Catalogue;
 use fixtures::sea::sea_catalogue;
 use job_forms::cover::read_cover;
 use job_forms::fault::{JobFault, JobField};
 use matrix_geometry::boxes::Box9;
 use matrix_geometry::theme::Filter;
 use served_covers::of_catalogue::is_cover_of;
+use std::alloc::Global;
 use std::test::Fail;
 use truncation_list::cover::Cover;
 
@@ -28,15 +32,40 @@ const COVER: Cover = Cover {
     },
 };
 
+/// Whether a text is read so on a catalogue.
+fn is_read(
+    alloc: Global,
+    catalogue: &Catalogue,
+    text: &[u8],
+    expected: Result<Cover, JobFault>,
+) -> bool
+    requires { IsValid catalogue.now }
+{
+    read_cover(alloc, catalogue, text) == expected
+}
+
 #[test]
 fn a_cover_is_read_or_has_its_first_fault(rt: HostRuntime) -> Result<(), Fail> {
     let alloc = rt.alloc();
     let catalogue = sea_catalogue(alloc)?;
     catalogue.validate()?;
-    assert_eq!(rt; read_cover(alloc, &catalogue, TEXT), Ok(COVER));
-    let missing = read_cover(alloc, &catalogue, b"{\"grid\":\"none\"}");
-    assert_eq!(rt; missing, Err(JobFault::Missing(JobField::Layer)));
+    assert!(rt; is_read(alloc, &catalogue, TEXT, Ok(COVER)));
+    let missing = Err(JobFault::Missing(JobField::Layer));
+    assert!(rt; is_read(alloc, &catalogue, b"{\"grid\":\"none\"}", missing));
     Ok(())
+}
+
+/// The cover with these values.
+fn with_values(dims: [Option<u32>; 4]) -> Cover {
+    let filter = Filter {
+        dims,
+        ..COVER.filter
+    };
+    Cover { filter, ..COVER }
+}
+
+fn deeper() -> Cover {
+    Cover { z_stop: 3, ..COVER }
 }
 
 #[test]
@@ -47,14 +76,8 @@ fn a_cover_of_a_catalogue_has_values_of_its_dimensions(rt: HostRuntime) -> Resul
         ([None, Some(2), None, None], false),
         ([None, None, Some(0), None], false),
     ] {
-        let filter = Filter {
-            dims,
-            ..COVER.filter
-        };
-        let cover = Cover { filter, ..COVER };
-        assert_eq!(rt; is_cover_of(&catalogue, &cover), expected);
+        assert_eq!(rt; is_cover_of(&catalogue, &with_values(dims)), expected);
     }
-    let deeper = Cover { z_stop: 3, ..COVER };
-    assert!(rt; !is_cover_of(&catalogue, &deeper));
+    assert!(rt; !is_cover_of(&catalogue, &deeper()));
     Ok(())
 }

@@ -1,7 +1,7 @@
 //! http_wire: the messages of a stream
+use crate::streams::source;
 use http_wire::memory_link::MemoryLink;
 use http_wire::memory_sink::MemorySink;
-use http_wire::memory_source::MemorySource;
 use http_wire::message::{Message, Method, Next, Stop, WireFault};
 use http_wire::reader::MessageReader;
 use std::alloc::{AllocError, Global};
@@ -12,9 +12,9 @@ const FIRST: &[u8] = b"GET /usage HTTP/1.1\r\nHost: a\r\n\r\n";
 const SECOND: &[u8] =
     b"GET /wmts?service=WMTS&request=GetFeatureInfo HTTP/1.1\r\nConnection: close\r\n\r\n";
 
-fn both(alloc: Global) -> Result<Vec<u8>, AllocError> {
-    let mut bytes = Vec::from_slice(alloc, FIRST)?;
-    bytes.extend_from_slice(SECOND)?;
+fn joined(alloc: Global, first: &[u8], second: &[u8]) -> Result<Vec<u8>, AllocError> {
+    let mut bytes = Vec::from_slice(alloc, first)?;
+    bytes.extend_from_slice(second)?;
     Ok(bytes)
 }
 
@@ -24,8 +24,7 @@ fn link_of(
     piece: usize,
     fail: &[u64],
 ) -> Result<MemoryLink, AllocError> {
-    let bytes = Vec::from_slice(alloc, bytes)?;
-    let source = MemorySource::new(bytes, piece, Vec::from_slice(alloc, fail)?);
+    let source = source(alloc, bytes, piece, fail)?;
     Ok(MemoryLink::new(source, MemorySink::new(alloc, Vec::new(alloc))))
 }
 
@@ -56,16 +55,25 @@ fn stops(alloc: Global, bytes: &[u8], expected: Stop) -> Result<bool, AllocError
     Ok(stop == Some(expected))
 }
 
+fn is_usage(message: &Message) -> bool {
+    message.method == Method::Get && message.target.bytes() == b"/usage".as_slice()
+}
+
+/// Whether these are two messages, the first of which is for the usage, and the second the last one.
+fn are_both(found: &[Message]) -> bool {
+    match found {
+        [first, second] => is_usage(first) && !first.last && second.last,
+        _ => false,
+    }
+}
+
 #[test]
 fn two_messages_are_read_in_any_pieces(rt: HostRuntime) -> Result<(), Fail> {
-    let bytes = both(rt.alloc())?;
+    let bytes = joined(rt.alloc(), FIRST, SECOND)?;
     for piece in 0..bytes.len() {
         let (found, stop) = read(rt.alloc(), &bytes, piece)?;
         assert_eq!(rt; stop, Some(Stop::End));
-        assert_eq!(rt; found.len(), 2);
-        assert_eq!(rt; found[0].method, Method::Get);
-        assert!(rt; found[0].target.bytes() == b"/usage".as_slice());
-        assert!(rt; !found[0].last && found[1].last);
+        assert!(rt; are_both(found.as_slice()));
     }
     Ok(())
 }
@@ -87,7 +95,7 @@ fn at_end(end: usize, all: usize) -> (usize, Stop) {
 
 #[test]
 fn a_stream_that_is_cut_after_a_byte_is_truncated(rt: HostRuntime) -> Result<(), Fail> {
-    let bytes = both(rt.alloc())?;
+    let bytes = joined(rt.alloc(), FIRST, SECOND)?;
     for end in 0..=bytes.len() {
         let (front, _) = bytes.as_slice().split_at(end);
         let (found, stop) = read(rt.alloc(), front, 1)?;
@@ -207,13 +215,23 @@ fn a_head_has_its_limits(rt: HostRuntime) -> Result<(), Fail> {
     Ok(())
 }
 
+/// Whether the next thing that is read over a link is a message.
+fn brings_a_message(alloc: Global, reader: &mut MessageReader, link: &mut MemoryLink) -> bool {
+    matches!(reader.next(alloc, link), Ok(Next::Message(_)))
+}
+
+/// Whether the next read over a link fails.
+fn fails(alloc: Global, reader: &mut MessageReader, link: &mut MemoryLink) -> bool {
+    matches!(reader.next(alloc, link), Err(WireFault::ReadFault))
+}
+
 #[test]
 fn a_fault_behind_a_message_comes_after_it(rt: HostRuntime) -> Result<(), Fail> {
     let alloc = rt.alloc();
     let mut link = link_of(alloc, FIRST, FIRST.len(), &[2])?;
     let mut reader = MessageReader::new(alloc)?;
-    assert!(rt; matches!(reader.next(alloc, &mut link), Ok(Next::Message(_))));
-    assert!(rt; matches!(reader.next(alloc, &mut link), Err(WireFault::ReadFault)));
-    assert!(rt; matches!(reader.next(alloc, &mut link), Err(WireFault::ReadFault)));
+    assert!(rt; brings_a_message(alloc, &mut reader, &mut link));
+    assert!(rt; fails(alloc, &mut reader, &mut link));
+    assert!(rt; fails(alloc, &mut reader, &mut link));
     Ok(())
 }

@@ -1,7 +1,11 @@
 //! Tests of wmts_rest.
+ghost use Rattle.catalog.specs.Valid.{IsValid};
+
+use catalog::catalogue::Catalogue;
 use fixtures::sea::sea_catalogue;
 use matrix_geometry::address::Address;
 use matrix_geometry::theme::Theme;
+use std::alloc::{AllocError, Global};
 use std::test::Fail;
 use wmts_kvp::query::Query;
 use wmts_rest::table::RestTable;
@@ -18,16 +22,50 @@ const TILE: Address = Address {
     col: 3,
 };
 
-#[test]
-fn a_path_names_a_tile_where_it_is_text(rt: HostRuntime) -> Result<(), Fail> {
-    let alloc = rt.alloc();
-    let catalogue = sea_catalogue(alloc)?;
-    catalogue.validate()?;
+/// Whether a path names this tile.
+fn is_named(
+    alloc: Global,
+    table: &RestTable,
+    catalogue: &Catalogue,
+    path: &[u8],
+    tile: &Address,
+) -> Result<bool, AllocError>
+    requires { IsValid catalogue.now }
+{
+    let query = table.read_path(alloc, catalogue, path)?;
+    Ok(matches!(&query, Some(Query::Tile(address)) if *address == *tile))
+}
+
+/// Whether a path names nothing.
+fn is_nothing(
+    alloc: Global,
+    table: &RestTable,
+    catalogue: &Catalogue,
+    path: &[u8],
+) -> Result<bool, AllocError>
+    requires { IsValid catalogue.now }
+{
+    Ok(table.read_path(alloc, catalogue, path)?.is_none())
+}
+
+/// Whether a path that is text names the tile, and one that is none names nothing.
+fn are_read(alloc: Global, catalogue: &Catalogue) -> Result<bool, AllocError>
+    requires { IsValid catalogue.now }
+{
     let table = RestTable::new(alloc)?;
     let path = b"/rest/wmts/s%65a/grey/b%3Ac/10/tiny/2/1/3.ppm";
-    let tile = table.read_path(alloc, &catalogue, path)?;
-    assert!(rt; matches!(&tile, Some(Query::Tile(address)) if *address == TILE));
-    let broken = table.read_path(alloc, &catalogue, b"/rest/wmts/none/\xFF/tiny/2/1/1.ppm")?;
-    assert!(rt; broken.is_none());
+    let is_tile = is_named(alloc, &table, catalogue, path, &TILE);
+    let broken = b"/rest/wmts/none/\xFF/tiny/2/1/1.ppm";
+    let is_none = is_nothing(alloc, &table, catalogue, broken);
+    drop(table);
+    let (is_tile, is_none) = (is_tile?, is_none?);
+    Ok(is_tile && is_none)
+}
+
+#[test]
+fn a_path_names_a_tile_where_it_is_text(rt: HostRuntime) -> Result<(), Fail> {
+    let catalogue = sea_catalogue(rt.alloc())?;
+    catalogue.validate()?;
+    assert!(rt; are_read(rt.alloc(), &catalogue)?);
     Ok(())
 }

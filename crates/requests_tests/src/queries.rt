@@ -1,8 +1,13 @@
 //! Tests of wmts_kvp.
+ghost use Rattle.catalog.specs.Valid.{IsValid};
+
+use catalog::catalogue::Catalogue;
+use exact_ratio::words::Words;
 use exception_report::code::Code;
 use fixtures::sea::sea_catalogue;
 use matrix_geometry::address::Address;
 use matrix_geometry::theme::Theme;
+use std::alloc::{AllocError, Global};
 use std::test::Fail;
 use wmts_kvp::query::{Query, read_pairs, read_query};
 
@@ -21,14 +26,36 @@ const TILE: Address = Address {
 const QUERY: &[u8] =
     b"service=WMTS&request=GetTile&version=1.0.0&layer=sea&style=grey&format=image/x-portable-pixmap&TileMatrixSet=tiny&TileMatrix=2&TileRow=000&TileCol=3&level=10";
 
+/// Whether a query names this tile.
+fn is_named(
+    alloc: Global,
+    catalogue: &Catalogue,
+    text: &[u8],
+    tile: &Address,
+) -> Result<bool, AllocError>
+    requires { IsValid catalogue.now }
+{
+    let query = read_query(alloc, catalogue, text)?;
+    Ok(matches!(&query, Query::Tile(address) if *address == *tile))
+}
+
+/// Whether pairs miss a parameter.
+fn is_missing(
+    alloc: Global,
+    catalogue: &Catalogue,
+    pairs: &[(Words, Words)],
+) -> Result<bool, AllocError>
+    requires { IsValid catalogue.now }
+{
+    let query = read_pairs(alloc, catalogue, pairs)?;
+    Ok(matches!(&query, Query::Refused(Code::MissingParameterValue, _)))
+}
+
 #[test]
 fn a_query_names_a_tile_or_is_refused(rt: HostRuntime) -> Result<(), Fail> {
-    let alloc = rt.alloc();
-    let catalogue = sea_catalogue(alloc)?;
+    let catalogue = sea_catalogue(rt.alloc())?;
     catalogue.validate()?;
-    let tile = read_query(alloc, &catalogue, QUERY)?;
-    assert!(rt; matches!(&tile, Query::Tile(address) if *address == TILE));
-    let none = read_pairs(alloc, &catalogue, &[])?;
-    assert!(rt; matches!(&none, Query::Refused(Code::MissingParameterValue, _)));
+    assert!(rt; is_named(rt.alloc(), &catalogue, QUERY, &TILE)?);
+    assert!(rt; is_missing(rt.alloc(), &catalogue, &[])?);
     Ok(())
 }

@@ -12,29 +12,36 @@ use std::rt::Files;
 use std::test::Fail;
 use std::{fs, process};
 
-fn source(
+/// A source of these bytes in pieces, of which the listed takes fail.
+pub fn source(
     alloc: Global,
-    text: &str,
+    bytes: &[u8],
     piece: usize,
     fail: &[u64],
 ) -> Result<MemorySource, AllocError> {
-    let bytes = Vec::from_slice(alloc, text.as_bytes())?;
+    let bytes = Vec::from_slice(alloc, bytes)?;
     Ok(MemorySource::new(bytes, piece, Vec::from_slice(alloc, fail)?))
+}
+
+fn is_expected(text: &[u8], expected: Result<&str, InputEnd>) -> bool {
+    match expected {
+        Ok(expected) => text == expected.as_bytes(),
+        Err(_) => false,
+    }
 }
 
 /// Whether a source has this text of at most nine bytes, or ends so.
 fn gives<S: ByteSource>(alloc: Global, input: &mut S, expected: Result<&str, InputEnd>) -> bool {
-    match (read_all(alloc, input, 9), expected) {
-        (Ok(text), Ok(expected)) => text.as_slice() == expected.as_bytes(),
-        (Err(end), Err(expected)) => end == expected,
-        _ => false,
+    match read_all(alloc, input, 9) {
+        Ok(text) => is_expected(text.as_slice(), expected),
+        Err(end) => expected.err() == Some(end),
     }
 }
 
 #[test]
 fn a_source_is_read_to_its_end_in_pieces(rt: HostRuntime) -> Result<(), Fail> {
     for piece in [0, 1, 3, 64] {
-        let mut input = source(rt.alloc(), "demo grey", piece, &[])?;
+        let mut input = source(rt.alloc(), b"demo grey", piece, &[])?;
         assert!(rt; gives(rt.alloc(), &mut input, Ok("demo grey")));
     }
     Ok(())
@@ -43,9 +50,9 @@ fn a_source_is_read_to_its_end_in_pieces(rt: HostRuntime) -> Result<(), Fail> {
 #[test]
 fn a_long_or_failing_input_is_refused(rt: HostRuntime) -> Result<(), Fail> {
     let alloc = rt.alloc();
-    let mut long = source(alloc, "demo greys", 64, &[])?;
+    let mut long = source(alloc, b"demo greys", 64, &[])?;
     assert!(rt; gives(alloc, &mut long, Err(InputEnd::TooLong)));
-    let mut failing = source(alloc, "demo grey", 4, &[2])?;
+    let mut failing = source(alloc, b"demo grey", 4, &[2])?;
     assert!(rt; gives(alloc, &mut failing, Err(InputEnd::ReadFault)));
     assert!(rt; gives(alloc, &mut failing, Ok(" grey")));
     Ok(())
@@ -61,13 +68,13 @@ fn exchange<L: Link>(link: &mut L, question: &mut [u8; 4]) -> Result<usize, Fail
 fn a_link_is_taken_from_and_sent_over(rt: HostRuntime) -> Result<(), Fail> {
     let alloc = rt.alloc();
     let sink = MemorySink::new(alloc, Vec::from_slice(alloc, &[3])?);
-    let mut link = MemoryLink::new(source(alloc, "get", 64, &[])?, sink);
+    let mut link = MemoryLink::new(source(alloc, b"get", 64, &[])?, sink);
     let mut question = [0; 4];
-    assert!(rt; exchange(&mut link, &mut question) == Ok(3));
+    assert!(rt; matches!(exchange(&mut link, &mut question), Ok(3)));
     assert!(rt; question == *b"get\0");
-    assert!(rt; exchange(&mut &mut link, &mut question) == Ok(0));
-    assert!(rt; send(&mut link, b"lost") == Err(Sent(0)));
-    assert!(rt; send(&mut link, b" miss") == Ok(()));
+    assert!(rt; matches!(exchange(&mut &mut link, &mut question), Ok(0)));
+    assert!(rt; matches!(send(&mut link, b"lost"), Err(Sent(0))));
+    assert!(rt; send(&mut link, b" miss").is_ok());
     assert!(rt; link.taken() == b"hithit miss".as_slice());
     Ok(())
 }

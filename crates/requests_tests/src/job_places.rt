@@ -1,4 +1,4 @@
-//! The places of seeds whose box ends within a metatile. The matrices of the grid have 1, 2 and 4 tiles each way, of 16, 8 and
+//! jobs: the places of seeds whose box ends within a metatile. The matrices of the grid have 1, 2 and 4 tiles each way, of 16, 8 and
 //! 4 units from the corner 0, 16; the layer gathers two tiles each way, and has two dimensions of two values.
 ghost use Rattle.std.specs.Prelude.{◌≢◌};
 ghost use Rattle.catalog.specs.Valid.{IsValid};
@@ -92,19 +92,36 @@ fn a_box_that_ends_within_a_metatile_has_it(rt: HostRuntime) -> Result<(), Fail>
     Ok(())
 }
 
-#[test]
-fn a_job_fits_with_eight_threads_and_without_places(rt: HostRuntime) -> Result<(), Fail> {
-    let catalogue = sea_catalogue(rt.alloc())?;
-    catalogue.validate()?;
-    assert!(rt; fits(&catalogue, &Job { threads: 8, ..SEED }));
-    assert!(rt; !fits(&catalogue, &Job { threads: 9, ..SEED }));
+fn with_threads(threads: u32) -> Job {
+    Job { threads, ..SEED }
+}
+
+/// A seed of no matrix.
+fn of_no_matrix() -> Job {
     let cover = Cover {
         z_start: 2,
         z_stop: 1,
         ..COVER
     };
-    let job = Job { cover, ..SEED };
-    assert!(rt; fits(&catalogue, &job));
-    assert_eq!(rt; count(&catalogue, &job), 0);
+    Job { cover, ..SEED }
+}
+
+/// Whether a seed fits and has no places.
+fn has_no_places(catalogue: &Catalogue, job: &Job) -> bool
+    requires { IsValid catalogue.now }
+{
+    let JobKind::Seed = job.kind else {
+        return false;
+    };
+    fits(catalogue, job) && count(catalogue, job) == 0
+}
+
+#[test]
+fn a_job_fits_with_eight_threads_and_without_places(rt: HostRuntime) -> Result<(), Fail> {
+    let catalogue = sea_catalogue(rt.alloc())?;
+    catalogue.validate()?;
+    assert!(rt; fits(&catalogue, &with_threads(8)));
+    assert!(rt; !fits(&catalogue, &with_threads(9)));
+    assert!(rt; has_no_places(&catalogue, &of_no_matrix()));
     Ok(())
 }
