@@ -1,6 +1,8 @@
 //! Tests of config_text.
 use catalog::catalogue::Catalogue;
+use catalog::layer::Layer;
 use config_text::read::read_catalogue;
+use std::alloc::Global;
 use std::test::Fail;
 
 const DEMO: &[u8] = br#"{"source":0,"keptLimit":64,"cutLimit":16,"blobBytes":4096,"policy":"lru",
@@ -17,33 +19,69 @@ const DIGEST: [u8; 32] = [
     0xeb, 0x1f, 0xe7, 0x6f, 0x32, 0x7b, 0x13, 0x2b, 0x30, 0x15, 0x3c, 0x4e, 0x90, 0x5d, 0x09, 0x8e,
 ];
 
+/// What a text is read as.
+fn read(alloc: Global, text: &[u8]) -> Result<Catalogue, Fail> {
+    match read_catalogue(alloc, text) {
+        Ok(catalogue) => Ok(catalogue),
+        Err(_) => Err(Fail::from("a fault")),
+    }
+}
+
+fn has_digest(catalogue: &Catalogue, digest: &[u8; 32]) -> bool {
+    catalogue.digest == *digest
+}
+
+fn has_limits_of(read: &Catalogue, demo: &Catalogue) -> bool {
+    read.kept_limit == demo.kept_limit
+        && read.cut_limit == demo.cut_limit
+        && read.blob_bytes == demo.blob_bytes
+}
+
+fn has_expiry_of(read: &Catalogue, demo: &Catalogue) -> bool {
+    read.quota == demo.quota && read.policy == demo.policy
+}
+
+fn has_grid_of(read: &Catalogue, demo: &Catalogue) -> bool {
+    match (read.grids.get(0), demo.grids.get(0)) {
+        (Some(grid), Some(tiny)) => grid.matrices.as_slice() == tiny.matrices.as_slice(),
+        _ => false,
+    }
+}
+
+fn has_members(layer: &Layer) -> bool {
+    layer.grids.len() == 1 && layer.styles.len() == 1 && layer.dims.len() == 0
+}
+
+fn has_metatiles(layer: &Layer) -> bool {
+    layer.meta_x == 1 && layer.meta_y == 1 && layer.gutter == 0 && layer.cell == 1
+}
+
+fn has_layer(read: &Catalogue) -> bool {
+    match read.layers.get(0) {
+        Some(layer) => {
+            layer.id.bytes() == b"demo".as_slice() && has_members(layer) && has_metatiles(layer)
+        }
+        None => false,
+    }
+}
+
 #[test]
 fn the_text_of_the_demo_gives_the_demo(rt: HostRuntime) -> Result<(), Fail> {
     let demo = Catalogue::demo(rt.alloc())?;
-    let read = read_catalogue(rt.alloc(), DEMO).ok().ok_or("a fault")?;
-    assert!(rt; read.digest == DIGEST);
-    assert_eq!(rt; read.kept_limit, demo.kept_limit);
-    assert_eq!(rt; read.cut_limit, demo.cut_limit);
-    assert_eq!(rt; read.blob_bytes, demo.blob_bytes);
-    assert_eq!(rt; read.quota, demo.quota);
-    assert_eq!(rt; read.policy, demo.policy);
-    let grid = read.grids.get(0).ok_or("no grid")?;
-    let tiny = demo.grids.get(0).ok_or("no grid")?;
-    assert!(rt; grid.matrices.as_slice() == tiny.matrices.as_slice());
-    let layer = read.layers.get(0).ok_or("no layer")?;
-    assert!(rt; layer.id.bytes() == b"demo".as_slice());
-    assert_eq!(rt; layer.grids.len(), 1);
-    assert_eq!(rt; layer.styles.len(), 1);
-    assert_eq!(rt; layer.dims.len(), 0);
-    assert!(rt; layer.meta_x == 1 && layer.meta_y == 1 && layer.gutter == 0 && layer.cell == 1);
+    let read = read(rt.alloc(), DEMO)?;
+    assert!(rt; has_digest(&read, &DIGEST));
+    assert!(rt; has_limits_of(&read, &demo));
+    assert!(rt; has_expiry_of(&read, &demo));
+    assert!(rt; has_grid_of(&read, &demo));
+    assert!(rt; has_layer(&read));
     Ok(())
 }
 
 #[test]
 fn no_text_gives_the_demo(rt: HostRuntime) -> Result<(), Fail> {
     let demo = Catalogue::demo(rt.alloc())?;
-    let read = read_catalogue(rt.alloc(), b"").ok().ok_or("a fault")?;
-    assert!(rt; read.digest == demo.digest);
+    let read = read(rt.alloc(), b"")?;
+    assert!(rt; has_digest(&read, &demo.digest));
     Ok(())
 }
 
@@ -53,10 +91,17 @@ const AGES: &[u8] = br#"{"blobBytes":1,"grids":[
 "layers":[{"id":"a","grids":["one"],"styles":[{"id":"grey","breaks":[]}],"ages":[[1,10],[3,0],[5,4294967295]]}]}
 "#;
 
+/// The limit of age at a zoom of the first layer; 0 where there is no layer.
+fn age_limit(catalogue: &Catalogue, z: u32) -> Option<u32> {
+    match catalogue.layers.get(0) {
+        Some(layer) => layer.age_limit(z),
+        None => Some(0),
+    }
+}
+
 #[test]
 fn the_last_age_up_to_a_zoom_counts(rt: HostRuntime) -> Result<(), Fail> {
-    let read = read_catalogue(rt.alloc(), AGES).ok().ok_or("a fault")?;
-    let layer = read.layers.get(0).ok_or("no layer")?;
+    let read = read(rt.alloc(), AGES)?;
     for (z, limit) in [
         (0, None),
         (1, Some(10)),
@@ -66,7 +111,7 @@ fn the_last_age_up_to_a_zoom_counts(rt: HostRuntime) -> Result<(), Fail> {
         (5, Some(4_294_967_295)),
         (29, Some(4_294_967_295)),
     ] {
-        assert_eq!(rt; layer.age_limit(z), limit);
+        assert_eq!(rt; age_limit(&read, z), limit);
     }
     Ok(())
 }

@@ -2,6 +2,7 @@
 ghost use Rattle.std.specs.Prelude.{IsSome};
 ghost use Rattle.catalog.specs.Demo.{demo};
 ghost use Rattle.catalog.specs.LookUp.{style_of};
+ghost use Rattle.catalog.specs.Valid.{IsValid};
 
 use catalog::catalogue::{Catalogue, Policy};
 use catalog::fault::{CatalogueFault, Field};
@@ -11,29 +12,59 @@ use fixtures::sea::sea_catalogue;
 use matrix_geometry::theme::Theme;
 use std::test::Fail;
 
+/// Whether a catalogue without faults has as large blobs as the built-in one.
+fn is_as_demo(catalogue: &Catalogue) -> bool {
+    catalogue.blob_bytes == 4096 && catalogue.validate() == Ok(())
+}
+
 #[test]
 fn the_demo_has_no_fault(rt: HostRuntime) -> Result<(), Fail> {
     let demo = Catalogue::demo(rt.alloc())?;
     let copy = demo.copy(rt.alloc())?;
-    assert_eq!(rt; copy.blob_bytes, 4096);
-    assert_eq!(rt; copy.validate(), Ok(()));
+    assert!(rt; is_as_demo(&copy));
     Ok(())
+}
+
+/// Whether a catalogue has one grid, under this name, and this name is of its matrix 2.
+fn has_grid(catalogue: &Catalogue, grid: &[u8], matrix: &[u8]) -> bool
+    requires { IsValid catalogue.now }
+{
+    catalogue.grids.len() == 1
+        && catalogue.grid_named(grid) == Some(0)
+        && catalogue.matrix_named(0, matrix) == Some(2)
+}
+
+fn has_layer(catalogue: &Catalogue, name: &[u8]) -> bool
+    requires { IsValid catalogue.now }
+{
+    catalogue.layer_named(name) == Some(0)
+}
+
+/// Whether the one layer of a catalogue serves the grid of this name, and has the style of this name.
+fn has_in_layer(catalogue: &Catalogue, grid: &[u8], style: &[u8]) -> bool
+    requires { IsValid catalogue.now }
+{
+    catalogue.layers.len() == 1
+        && catalogue.served_grid_named(0, grid) == Some(0)
+        && catalogue.style_named(0, style) == Some(0)
+}
+
+/// Whether this is the name of value 1 of dimension 1.
+fn has_value(catalogue: &Catalogue, name: &[u8]) -> bool
+    requires { IsValid catalogue.now }
+{
+    catalogue.dimension_at(0, 1).is_some() && catalogue.value_named(0, 1, name) == Some(1)
 }
 
 #[test]
 fn what_has_a_name_has_its_number(rt: HostRuntime) -> Result<(), Fail> {
     let catalogue = sea_catalogue(rt.alloc())?;
     catalogue.validate()?;
-    assert_eq!(rt; catalogue.grid_named(b"tiny"), Some(0));
-    assert_eq!(rt; catalogue.layer_named(b"sea"), Some(0));
-    assert_eq!(rt; catalogue.layer_named(b"Sea"), None);
-    assert_eq!(rt; catalogue.served_grid_named(0, b"tiny"), Some(0));
-    assert_eq!(rt; catalogue.grids.len(), 1);
-    assert_eq!(rt; catalogue.matrix_named(0, b"2"), Some(2));
-    assert_eq!(rt; catalogue.layers.len(), 1);
-    assert_eq!(rt; catalogue.style_named(0, b"grey"), Some(0));
-    assert!(rt; catalogue.dimension_at(0, 1).is_some());
-    assert_eq!(rt; catalogue.value_named(0, 1, b"10"), Some(1));
+    assert!(rt; has_grid(&catalogue, b"tiny", b"2"));
+    assert!(rt; has_layer(&catalogue, b"sea"));
+    assert!(rt; !has_layer(&catalogue, b"Sea"));
+    assert!(rt; has_in_layer(&catalogue, b"tiny", b"grey"));
+    assert!(rt; has_value(&catalogue, b"10"));
     Ok(())
 }
 
@@ -59,14 +90,18 @@ fn only_theme() -> Theme
     }
 }
 
+fn is_named(id: &Words, name: &[u8]) -> bool {
+    id.bytes() == name
+}
+
 #[test]
 fn what_is_of_the_catalogue_is_there(rt: HostRuntime) -> Result<(), Fail> {
     let demo = Catalogue::demo(rt.alloc())?;
     let theme = only_theme();
-    assert!(rt; demo.layer(0).id.bytes() == b"demo".as_slice());
-    assert!(rt; demo.layer_of(&theme).id.bytes() == b"demo".as_slice());
-    assert!(rt; demo.style_of(&theme).id.bytes() == b"grey".as_slice());
-    assert!(rt; demo.grid(0).id.bytes() == b"tiny".as_slice());
+    assert!(rt; is_named(&demo.layer(0).id, b"demo"));
+    assert!(rt; is_named(&demo.layer_of(&theme).id, b"demo"));
+    assert!(rt; is_named(&demo.style_of(&theme).id, b"grey"));
+    assert!(rt; is_named(&demo.grid(0).id, b"tiny"));
     assert_eq!(rt; demo.matrix(0, 2).rows, 4);
     Ok(())
 }

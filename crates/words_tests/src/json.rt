@@ -3,17 +3,28 @@ use exact_ratio::decimal::Decimal;
 use json_forms::decimal::{DecimalText, decimal_text};
 use json_forms::list::values_of;
 use json_forms::object::object_in;
+use std::alloc::Global;
 use std::test::Fail;
+
+/// How many values the list has that a member of a text's object is.
+fn length_of(alloc: Global, text: &[u8], name: &str) -> Result<usize, Fail> {
+    let object = object_in(alloc, text)?.ok_or("no object")?;
+    let member = object.get(name).ok_or("no member")?;
+    let values = values_of(member).ok_or("no list")?;
+    Ok(values.len())
+}
+
+/// Whether a text is no object.
+fn is_none(alloc: Global, text: &[u8]) -> Result<bool, Fail> {
+    Ok(object_in(alloc, text)?.is_none())
+}
 
 #[test]
 fn one_object_is_read(rt: HostRuntime) -> Result<(), Fail> {
-    let alloc = rt.alloc();
-    let object = object_in(alloc, b" {\"a\": [1, 2], \"b\": 3} ")?.ok_or("no object")?;
-    let a = object.get("a").ok_or("no member")?;
-    let values = values_of(a).ok_or("no list")?;
-    assert_eq!(rt; values.len(), 2);
+    let text = b" {\"a\": [1, 2], \"b\": 3} ";
+    assert_eq!(rt; length_of(rt.alloc(), text, "a")?, 2);
     for text in ["", "{", "[]", "{} {}", "{}x"] {
-        assert!(rt; object_in(alloc, text.as_bytes())?.is_none());
+        assert!(rt; is_none(rt.alloc(), text.as_bytes())?);
     }
     Ok(())
 }

@@ -4,7 +4,7 @@ ghost use Rattle.matrix_geometry.specs.Limits.{IsWithinLimits};
 
 use exact_ratio::decimal::{Decimal, DecimalFault};
 use exact_ratio::ratio::Ratio;
-use matrix_geometry::boxes::{Box9, Range};
+use matrix_geometry::boxes::{Box9, Range, TileBox};
 use matrix_geometry::making::{GridFault, coordinate};
 use matrix_geometry::matrix::{Corner, Matrix, Size};
 use matrix_geometry::theme::{Filter, Theme};
@@ -56,6 +56,11 @@ fn a_scale_gives_its_span(rt: HostRuntime) -> Result<(), Fail> {
     Ok(())
 }
 
+/// Whether a matrix with square tiles, and as many of them each way, is refused for this fault.
+fn is_refused(span: &Ratio, origin: &Corner, tile: u32, size: u32, fault: GridFault) -> bool {
+    Matrix::from_span(span, origin, square(tile), square(size)) == Err(fault)
+}
+
 #[test]
 fn the_first_number_out_of_its_limits_is_told(rt: HostRuntime) -> Result<(), Fail> {
     let near = corner(b"0", b"100000000")?;
@@ -64,30 +69,37 @@ fn the_first_number_out_of_its_limits_is_told(rt: HostRuntime) -> Result<(), Fai
     let zero = Ratio::whole(0);
     let tiny = Ratio::new(1, 1_000_000_000_000_000_001).ok_or("no span")?;
     let wide = Ratio::whole(1_000_000_001);
-    for (span, origin, tile, size, fault) in [
-        (&zero, &far, 0, 0, GridFault::CoordinateTooLarge),
-        (&zero, &fine, 0, 0, GridFault::CoordinateTooLarge),
-        (&zero, &near, 0, 0, GridFault::ZeroSpan),
-        (&tiny, &near, 0, 0, GridFault::NumberTooFine),
-        (&wide, &near, 513, 0, GridFault::TileSize),
-        (&wide, &near, 1, 0, GridFault::TooManyTiles),
-        (&wide, &near, 1, 1, GridFault::ExtentTooLarge),
-    ] {
-        let made = Matrix::from_span(span, origin, square(tile), square(size));
-        assert_eq!(rt; made, Err(fault));
-    }
+    assert!(rt; is_refused(&zero, &far, 0, 0, GridFault::CoordinateTooLarge));
+    assert!(rt; is_refused(&zero, &fine, 0, 0, GridFault::CoordinateTooLarge));
+    assert!(rt; is_refused(&zero, &near, 0, 0, GridFault::ZeroSpan));
+    assert!(rt; is_refused(&tiny, &near, 0, 0, GridFault::NumberTooFine));
+    assert!(rt; is_refused(&wide, &near, 513, 0, GridFault::TileSize));
+    assert!(rt; is_refused(&wide, &near, 1, 0, GridFault::TooManyTiles));
+    assert!(rt; is_refused(&wide, &near, 1, 1, GridFault::ExtentTooLarge));
     Ok(())
+}
+
+/// The edges of the second tile of four in the first row of four.
+fn second_of_four(matrix: &Matrix) -> Option<TileBox>
+    requires { IsWithinLimits matrix.now }
+{
+    if matrix.rows == 4 && matrix.cols == 4 {
+        return Some(matrix.tile_box(0, 1));
+    }
+    None
+}
+
+fn has_edges(tile: &TileBox, left: i128, right: i128, upper: i128, lower: i128) -> bool {
+    tile.left == Ratio::whole(left)
+        && tile.right == Ratio::whole(right)
+        && tile.upper == Ratio::whole(upper)
+        && tile.lower == Ratio::whole(lower)
 }
 
 #[test]
 fn a_tile_has_four_edges(rt: HostRuntime) -> Result<(), Fail> {
-    let matrix = tiny()?;
-    assert!(rt; matrix.rows == 4 && matrix.cols == 4);
-    let tile = matrix.tile_box(0, 1);
-    assert_eq!(rt; tile.left, Ratio::whole(4));
-    assert_eq!(rt; tile.right, Ratio::whole(8));
-    assert_eq!(rt; tile.upper, Ratio::whole(16));
-    assert_eq!(rt; tile.lower, Ratio::whole(12));
+    let tile = second_of_four(&tiny()?).ok_or("another matrix")?;
+    assert!(rt; has_edges(&tile, 4, 8, 16, 12));
     Ok(())
 }
 

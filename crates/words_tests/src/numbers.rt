@@ -4,6 +4,7 @@ use exact_ratio::floor::floor_div;
 use exact_ratio::items::Items;
 use exact_ratio::ratio::Ratio;
 use exact_ratio::words::Words;
+use std::alloc::{AllocError, Global};
 use std::test::Fail;
 
 const LONG: Decimal = Decimal {
@@ -16,22 +17,22 @@ const NEGATIVE: Decimal = Decimal {
     places: 1,
 };
 
+/// Whether a text is read so.
+fn is_read(text: &[u8], expected: Result<Decimal, DecimalFault>) -> bool {
+    Decimal::read(text) == expected
+}
+
 #[test]
 fn a_text_is_a_decimal_or_has_its_first_fault(rt: HostRuntime) {
-    let cases: [(&[u8], Result<Decimal, DecimalFault>); 9] = [
-        (b"2132.729583849784", Ok(LONG)),
-        (b"-0.5", Ok(NEGATIVE)),
-        (b"", Err(DecimalFault::Empty)),
-        (b"-", Err(DecimalFault::Empty)),
-        (b"1.", Err(DecimalFault::NotADigit(2))),
-        (b"1.5x", Err(DecimalFault::NotADigit(3))),
-        (b".5", Err(DecimalFault::NotADigit(0))),
-        (b"1234567890123456789", Err(DecimalFault::TooLong)),
-        (b"1234567890123456789x", Err(DecimalFault::NotADigit(19))),
-    ];
-    for (text, expected) in cases {
-        assert_eq!(rt; Decimal::read(text), expected);
-    }
+    assert!(rt; is_read(b"2132.729583849784", Ok(LONG)));
+    assert!(rt; is_read(b"-0.5", Ok(NEGATIVE)));
+    assert!(rt; is_read(b"", Err(DecimalFault::Empty)));
+    assert!(rt; is_read(b"-", Err(DecimalFault::Empty)));
+    assert!(rt; is_read(b"1.", Err(DecimalFault::NotADigit(2))));
+    assert!(rt; is_read(b"1.5x", Err(DecimalFault::NotADigit(3))));
+    assert!(rt; is_read(b".5", Err(DecimalFault::NotADigit(0))));
+    assert!(rt; is_read(b"1234567890123456789", Err(DecimalFault::TooLong)));
+    assert!(rt; is_read(b"1234567890123456789x", Err(DecimalFault::NotADigit(19))));
 }
 
 #[test]
@@ -47,10 +48,15 @@ fn a_fraction_comes_to_lowest_terms(rt: HostRuntime) {
     assert_eq!(rt; floor_div(-7, 2), -4);
 }
 
+/// Whether words of these bytes have them.
+fn gives_back(alloc: Global, bytes: &[u8]) -> Result<bool, AllocError> {
+    let words = Words::new(alloc, bytes)?;
+    Ok(words.bytes() == bytes)
+}
+
 #[test]
 fn containers_give_back_what_they_took(rt: HostRuntime) -> Result<(), Fail> {
-    let words = Words::new(rt.alloc(), b"demo")?;
-    assert_eq!(rt; words.bytes(), b"demo".as_slice());
+    assert!(rt; gives_back(rt.alloc(), b"demo")?);
     let items = Items::of(vec![in rt.alloc(); 3, 5]?);
     assert_eq!(rt; items.get(1), Some(&5));
     assert_eq!(rt; Items::of(items.into_vec()).len(), 2);
