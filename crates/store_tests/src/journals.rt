@@ -1,5 +1,5 @@
 //! Tests of gate_journal.
-ghost use Rattle.std.specs.Prelude.{◌≡◌, IfOk, IsTrue};
+ghost use Rattle.std.specs.Prelude.{length, ◌≡◌, ◌≤◌, IfOk, IsTrue};
 ghost use Rattle.disk_model.specs.Memory.{memory_state};
 ghost use Rattle.gate_journal.specs.Sound.{IsSettled, IsSound, slots_of};
 
@@ -28,6 +28,23 @@ fn add<D: Disk>(rt: &impl Abort, disk: &mut D, journal: &mut Journal, byte: u8) 
     journal.append(disk, &body(byte)).is_ok()
 }
 
+/// Compacts a settled journal to these records: whether that was done.
+fn compact<D: Disk>(
+    rt: &impl Abort,
+    disk: &mut D,
+    journal: &mut Journal,
+    bodies: &[[u8; 63]],
+) -> bool
+    requires fits { length bodies.now ≤ slots_of journal.old }
+    requires sound { IsTrue (D.told disk.old) → IsSound journal.old (D.state disk.old) }
+    ensures told { D.told disk.new ≡ D.told disk.old }
+    ensures slots { slots_of journal.new ≡ slots_of journal.old }
+    ensures sound { IsTrue (D.told disk.old) → IsSound journal.new (D.state disk.new) }
+{
+    assert!(rt; journal.settled());
+    journal.compact(disk, bodies).is_ok()
+}
+
 /// A journal of halves of four slots, with two records.
 fn made(rt: &impl Abort, alloc: Global) -> Result<(MemoryDisk, Journal), Fail>
     ensures { IfOk result (λ p. IsSettled p.1 × (slots_of p.1 ≡ 4) × IsSound p.1 (memory_state p.0)) }
@@ -52,8 +69,8 @@ fn records(alloc: Global, disk: &mut MemoryDisk) -> Result<Vec<[u8; 63]>, Fail> 
 #[test]
 fn records_outlive_compactions(rt: HostRuntime) -> Result<(), Fail> {
     let (mut disk, mut journal) = made(&rt, rt.alloc())?;
-    journal.compact(&mut disk, &[body(3)])?;
-    journal.compact(&mut disk, &[body(4), body(5)])?;
+    assert!(rt; compact(&rt, &mut disk, &mut journal, &[body(3)]));
+    assert!(rt; compact(&rt, &mut disk, &mut journal, &[body(4), body(5)]));
     let bodies = records(rt.alloc(), &mut disk)?;
     assert!(rt; are_bodies(bodies.as_slice(), &[body(4), body(5)]));
     Ok(())
@@ -151,6 +168,15 @@ fn a_compaction_is_stopped_after_each_call(rt: HostRuntime) -> Result<(), Fail> 
     Ok(())
 }
 
+/// The first byte of the last record of an image; 0 where there is none.
+fn last_of(alloc: Global, image: &mut MemoryDisk) -> Result<u8, Fail> {
+    let bodies = records(alloc, image)?;
+    match bodies.as_slice().last() {
+        Some(body) => Ok(body[0]),
+        None => Ok(0),
+    }
+}
+
 /// The last record that the image of a pick opens to, after a record failed at this call, and what the disk was then
 /// stopped in after so many more: a call to settle, and where it succeeded another record.
 fn settled_after(
@@ -169,14 +195,10 @@ fn settled_after(
     assert!(rt; settled == journal.settled());
     disk.stop_after(9);
     if settled && journal.room() > 0 {
-        journal.append(&mut disk, &body(4))?;
+        assert!(rt; add(rt, &mut disk, &mut journal, 4));
     }
     let mut image = disk.crash(alloc, pick)?;
-    let bodies = records(alloc, &mut image)?;
-    match bodies.as_slice().last() {
-        Some(body) => Ok(body[0]),
-        None => Ok(0),
-    }
+    last_of(alloc, &mut image)
 }
 
 // The body failed, and then the sync; or the gate failed, and then its closing or the sync of that.
