@@ -1,14 +1,12 @@
 //! Tests of ppm_slice.
-ghost use Rattle.catalog.specs.Demo.{demo};
-ghost use Rattle.catalog.specs.LookUp.{IsTile};
+ghost use Rattle.catalog.specs.Valid.{IsValid};
 
 use crate::renders::rendered;
 use catalog::catalogue::Catalogue;
-use catalog::layer::{Dimension, Layer, Style};
+use catalog::layer::Layer;
 use exact_ratio::items::Items;
-use exact_ratio::words::Words;
-use fixtures::tiles::FIRST;
-use matrix_geometry::address::Address;
+use fixtures::sea::sea_catalogue;
+use fixtures::tiles::first_tile;
 use matrix_geometry::theme::Theme;
 use metatile_plan::metatile::MetaKey;
 use ppm_slice::of_catalogue::tile_of;
@@ -17,19 +15,6 @@ use source_render::numbered::Numbered;
 use std::alloc::{AllocError, Global};
 use std::test::Fail;
 
-/// The one tile of the demo catalogue at zoom 0.
-fn first_tile() -> Address
-    ensures { IsTile demo result }
-{
-    Address {
-        theme: FIRST.theme,
-        grid: 0,
-        z: 0,
-        row: 0,
-        col: 0,
-    }
-}
-
 #[test]
 fn a_tile_is_its_part_of_the_blob(rt: HostRuntime) -> Result<(), Fail> {
     let catalogue = Catalogue::demo(rt.alloc())?;
@@ -37,46 +22,23 @@ fn a_tile_is_its_part_of_the_blob(rt: HostRuntime) -> Result<(), Fail> {
     let meta = block_of(&catalogue, &tile);
     let size = blob_size(&catalogue, &meta);
     let blob = vec![in rt.alloc(); 7; size as usize]?;
-    assert_eq!(rt;
-        tile_of(&catalogue, blob.as_slice(), &tile),
-        [7; 23].as_slice()
-    );
+    assert!(rt; tile_of(&catalogue, blob.as_slice(), &tile) == [7; 23].as_slice());
     Ok(())
 }
 
-/// A dimension with the values 0 and 10.
-fn dimension(alloc: Global, id: &[u8]) -> Result<Dimension, AllocError> {
-    let values = vec![in alloc; Words::new(alloc, b"0")?, Words::new(alloc, b"10")?]?;
-    Ok(Dimension {
-        id: Words::new(alloc, id)?,
-        values: Items::of(values),
-        default: None,
-    })
+/// Layers with more behind them.
+fn joined(mut layers: Vec<Layer>, more: Items<Layer>) -> Result<Vec<Layer>, AllocError> {
+    for layer in more.into_vec() {
+        layers.push(layer)?;
+    }
+    Ok(layers)
 }
 
 /// The demo catalogue with a layer 1 of two dimensions, that has metatiles of 2 by 2 tiles and a gutter of one pixel.
 fn with_gutter(alloc: Global) -> Result<Catalogue, AllocError> {
-    let time = dimension(alloc, b"time")?;
-    let level = dimension(alloc, b"level")?;
-    let grey = Style {
-        id: Words::new(alloc, b"grey")?,
-        breaks: Items::of(Vec::new(alloc)),
-    };
-    let sea = Layer {
-        id: Words::new(alloc, b"sea")?,
-        grids: Items::of(vec![in alloc; 0]?),
-        styles: Items::of(vec![in alloc; grey]?),
-        dims: Items::of(vec![in alloc; time, level]?),
-        meta_x: 2,
-        meta_y: 2,
-        gutter: 1,
-        cell: 1,
-        quota: None,
-        ages: Items::of(Vec::new(alloc)),
-    };
+    let sea = sea_catalogue(alloc)?;
     let mut catalogue = Catalogue::demo(alloc)?;
-    let mut layers = catalogue.layers.into_vec();
-    layers.push(sea)?;
+    let layers = joined(catalogue.layers.into_vec(), sea.layers)?;
     catalogue.layers = Items::of(layers);
     Ok(catalogue)
 }
@@ -99,12 +61,21 @@ const CORNER: MetaKey = MetaKey {
 const CORNER_BLOB: &[u8] =
     b"P6\n2 2\n255\n\x4a\x4a\x4a\x6c\x6c\x6c\x64\x64\x64\x86\x86\x86P6\n2 2\n255\n\x8e\x8e\x8e\xb0\xb0\xb0\xa8\xa8\xa8\xca\xca\xcaP6\n2 2\n255\n\x7e\x7e\x7e\xa0\xa0\xa0\x98\x98\x98\xba\xba\xbaP6\n2 2\n255\n\xc2\xc2\xc2\xe4\xe4\xe4\xdc\xdc\xdc\xfe\xfe\xfe";
 
+/// Whether a source renders the corner to this blob.
+fn renders_corner(alloc: Global, catalogue: &Catalogue, expected: &[u8]) -> Result<bool, Fail>
+    requires { IsValid catalogue.now }
+{
+    let mut source = Numbered::new(0);
+    match rendered(alloc, catalogue, &mut source, &CORNER)? {
+        Some(blob) => Ok(blob.as_slice() == expected),
+        None => Ok(false),
+    }
+}
+
 #[test]
 fn a_blob_has_the_texts_of_its_tiles_row_by_row(rt: HostRuntime) -> Result<(), Fail> {
     let catalogue = with_gutter(rt.alloc())?;
     catalogue.validate()?;
-    let mut source = Numbered::new(0);
-    let blob = rendered(rt.alloc(), &catalogue, &mut source, &CORNER)?.ok_or("no blob")?;
-    assert!(rt; blob.as_slice() == CORNER_BLOB);
+    assert!(rt; renders_corner(rt.alloc(), &catalogue, CORNER_BLOB)?);
     Ok(())
 }

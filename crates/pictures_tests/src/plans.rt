@@ -49,10 +49,10 @@ fn matrix() -> Result<Matrix, Fail>
     let tile = Size { w: 2, h: 2 };
     let size = Size { w: 4, h: 4 };
     let m = Matrix::from_span(&Ratio::whole(2), &corner, tile, size)?;
-    if m.rows != 4 || m.cols != 4 || m.tile_w != 2 || m.tile_h != 2 {
-        return Err("another matrix")?;
+    if m.rows == 4 && m.cols == 4 && m.tile_w == 2 && m.tile_h == 2 {
+        return Ok(m);
     }
-    Ok(m)
+    Err(Fail::from("another matrix"))
 }
 
 #[test]
