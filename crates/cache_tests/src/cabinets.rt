@@ -24,8 +24,9 @@ const SEVENS: [u8; 23] = [7; 23];
 pub fn new(alloc: Global) -> Result<Cabinet, AllocError>
     ensures { IfOk result (λ c. c.catalogue ≡ demo) }
 {
+    let catalogue = Catalogue::demo(alloc)?;
     let clock = Clock::listed(Vec::new(alloc));
-    Cabinet::memory(alloc, Catalogue::demo(alloc)?, clock)
+    Cabinet::memory(alloc, catalogue, clock)
 }
 
 /// The metatile of the corner.
@@ -102,7 +103,7 @@ fn asked(alloc: Global, cabinet: &mut Cabinet) -> Result<(bool, u64), AllocError
 /// Saves uses twice: whether there were some of one metatile alone.
 fn saved_once(cabinet: &mut Cabinet) -> bool {
     match cabinet.save_uses() {
-        Saved::Done(_) => cabinet.save_uses() == Saved::Within,
+        Saved::Done(_) => matches!(cabinet.save_uses(), Saved::Within),
         Saved::DiskFault(_, _) | Saved::Within => false,
     }
 }
