@@ -50,8 +50,9 @@ pub fn made(alloc: Global) -> Result<Vec<u8>, Fail> {
 pub fn opened(alloc: Global, disk: SilentDisk) -> Result<Result<OnDisk, SilentDisk>, AllocError>
     ensures { IfOk result (λ c. IfOk c (λ c. c.state.catalogue ≡ demo)) }
 {
+    let catalogue = Catalogue::demo(alloc)?;
     let clock = Clock::listed(Vec::new(alloc));
-    match Cabinet::open(alloc, Catalogue::demo(alloc)?, clock, disk) {
+    match Cabinet::open(alloc, catalogue, clock, disk) {
         Ok(cabinet) => Ok(Ok(cabinet)),
         Err(refusal) => {
             let (_fault, disk) = refusal;
@@ -61,9 +62,9 @@ pub fn opened(alloc: Global, disk: SilentDisk) -> Result<Result<OnDisk, SilentDi
 }
 
 /// Begins a render of the corner, and hands in a blob of its length, all of one byte.
-pub fn kept(alloc: Global, cabinet: &mut OnDisk, byte: u8) -> Result<Finished, AllocError>
-    requires { cabinet.old.state.catalogue ≡ demo }
-    ensures { cabinet.new.state.catalogue ≡ demo }
+pub fn kept<C: Keeper>(alloc: Global, cabinet: &mut C, byte: u8) -> Result<Finished, AllocError>
+    requires { (C.state cabinet.old).catalogue ≡ demo }
+    ensures { (C.state cabinet.new).catalogue ≡ demo }
 {
     cabinet.known();
     laws_of_metatiles();
@@ -77,13 +78,13 @@ pub fn kept(alloc: Global, cabinet: &mut OnDisk, byte: u8) -> Result<Finished, A
     }
 }
 
-/// Asks for the corner: the byte that all of it is and the number of its render, where it is a hit.
-pub fn asked(alloc: Global, cabinet: &mut OnDisk) -> Result<Option<(u8, u64)>, AllocError>
-    requires { cabinet.old.state.catalogue ≡ demo }
-    ensures { cabinet.new.state.catalogue ≡ demo }
+/// Asks for the corner: the byte that all of it is, where it is a hit.
+pub fn asked<C: Keeper>(alloc: Global, cabinet: &mut C) -> Result<Option<u8>, AllocError>
+    requires { (C.state cabinet.old).catalogue ≡ demo }
+    ensures { (C.state cabinet.new).catalogue ≡ demo }
 {
     match cabinet.ask(alloc, &corner_tile())? {
-        Asked::Hit(number, text) => Ok(Some((all_of(text.bytes()), number))),
+        Asked::Hit(_, text) => Ok(Some(all_of(text.bytes()))),
         Asked::Ticket(ticket) => {
             cabinet.abandon(ticket);
             Ok(None)
@@ -103,13 +104,13 @@ fn all_of(text: &[u8]) -> u8 {
 }
 
 /// A tile that is kept, asked for, and asked for again: whether it is a hit both times, and its use is then saved once.
-fn kept_used_and_saved(alloc: Global, cabinet: &mut OnDisk) -> Result<bool, AllocError>
-    requires { cabinet.old.state.catalogue ≡ demo }
-    ensures { cabinet.new.state.catalogue ≡ demo }
+fn kept_used_and_saved<C: Keeper>(alloc: Global, cabinet: &mut C) -> Result<bool, AllocError>
+    requires { (C.state cabinet.old).catalogue ≡ demo }
+    ensures { (C.state cabinet.new).catalogue ≡ demo }
 {
     let finished = kept(alloc, cabinet, 7)?;
     let hit = asked(alloc, cabinet)?;
-    if finished != Finished::Kept || hit.map(|(byte, _)| byte) != Some(7) {
+    if finished != Finished::Kept || hit != Some(7) {
         return Ok(false);
     }
     match cabinet.save_uses() {
@@ -119,12 +120,12 @@ fn kept_used_and_saved(alloc: Global, cabinet: &mut OnDisk) -> Result<bool, Allo
 }
 
 /// A hit, and then a truncation of all zooms, after which nothing is kept and no quota is exceeded.
-fn found_and_cut(alloc: Global, cabinet: &mut OnDisk) -> Result<bool, AllocError>
-    requires { cabinet.old.state.catalogue ≡ demo }
-    ensures { cabinet.new.state.catalogue ≡ demo }
+fn found_and_cut<C: Keeper>(alloc: Global, cabinet: &mut C) -> Result<bool, AllocError>
+    requires { (C.state cabinet.old).catalogue ≡ demo }
+    ensures { (C.state cabinet.new).catalogue ≡ demo }
 {
     let hit = asked(alloc, cabinet)?;
-    if hit.map(|(byte, _)| byte) != Some(7) || !cut(alloc, cabinet)? {
+    if hit != Some(7) || !cut(alloc, cabinet)? {
         return Ok(false);
     }
     let gone = asked(alloc, cabinet)?.is_none() && cabinet.kept() == 0;
@@ -132,9 +133,9 @@ fn found_and_cut(alloc: Global, cabinet: &mut OnDisk) -> Result<bool, AllocError
 }
 
 /// Truncates all zooms of the demo layer: whether that was done.
-pub fn cut(alloc: Global, cabinet: &mut OnDisk) -> Result<bool, AllocError>
-    requires { cabinet.old.state.catalogue ≡ demo }
-    ensures { cabinet.new.state.catalogue ≡ demo }
+pub fn cut<C: Keeper>(alloc: Global, cabinet: &mut C) -> Result<bool, AllocError>
+    requires { (C.state cabinet.old).catalogue ≡ demo }
+    ensures { (C.state cabinet.new).catalogue ≡ demo }
 {
     cabinet.known();
     if !is_cover_of(cabinet.catalogue(), &ALL) {
@@ -157,22 +158,46 @@ fn disk_of(alloc: Global, bytes: Vec<u8>) -> SilentDisk {
     SilentDisk::new(alloc, bytes, Vec::new(alloc))
 }
 
+/// The bytes that are left of a cache in which a tile was kept, used and saved; `None` where one of these failed.
+fn kept_and_left(alloc: Global, disk: SilentDisk) -> Result<Option<Vec<u8>>, AllocError> {
+    match opened(alloc, disk)? {
+        Err(disk) => {
+            drop(disk);
+            Ok(None)
+        }
+        Ok(mut cabinet) => {
+            let done = kept_used_and_saved(alloc, &mut cabinet);
+            let bytes = left_by(alloc, cabinet)?;
+            if done? {
+                return Ok(Some(bytes));
+            }
+            Ok(None)
+        }
+    }
+}
+
+/// Whether a cache has one tile of 23 bytes, which is found, and gone after a truncation.
+fn is_found_and_cut(alloc: Global, disk: SilentDisk) -> Result<bool, AllocError> {
+    match opened(alloc, disk)? {
+        Err(disk) => {
+            drop(disk);
+            Ok(false)
+        }
+        Ok(mut cabinet) => {
+            let (count, bytes) = (cabinet.kept(), cabinet.used_all());
+            let done = found_and_cut(alloc, &mut cabinet);
+            drop(cabinet);
+            let is_cut = done?;
+            Ok(is_cut && count == 1 && bytes == 23)
+        }
+    }
+}
+
 #[test]
 fn a_tile_is_kept_over_an_opening_and_truncated(rt: HostRuntime) -> Result<(), Fail> {
     let alloc = rt.alloc();
-    let Ok(mut cabinet) = opened(alloc, disk_of(alloc, made(alloc)?))? else {
-        return Err(Fail::from("the cache is not opened"));
-    };
-    let first = kept_used_and_saved(alloc, &mut cabinet);
-    let bytes = left_by(alloc, cabinet)?;
-    assert!(rt; first?);
-    let Ok(mut cabinet) = opened(alloc, disk_of(alloc, bytes))? else {
-        return Err(Fail::from("the cache is not opened again"));
-    };
-    let (counted, bytes) = (cabinet.kept(), cabinet.used_all());
-    let second = found_and_cut(alloc, &mut cabinet);
-    drop(cabinet);
-    assert!(rt; second?);
-    assert_eq!(rt; (counted, bytes), (1, 23));
+    let empty = made(alloc)?;
+    let left = kept_and_left(alloc, disk_of(alloc, empty))?.ok_or("the tile is not kept")?;
+    assert!(rt; is_found_and_cut(alloc, disk_of(alloc, left))?);
     Ok(())
 }

@@ -2,7 +2,7 @@
 ghost use Rattle.std.specs.Prelude.{◌≡◌};
 ghost use Rattle.catalog.specs.Demo.{demo};
 
-use crate::cabinets::{OnDisk, asked, cut, kept, made, opened};
+use crate::cabinets::{asked, cut, kept, made, opened};
 use cabinet::keeper::Keeper;
 use cabinet::replies::Finished;
 use disk_model::pick::Pick;
@@ -11,7 +11,7 @@ use std::alloc::{AllocError, Global};
 use std::test::Fail;
 
 /// What is done while the disk may stop.
-#[derive(Clone, Copy, Debug, PartialEq, Eq)]
+#[derive(Clone, Copy)]
 enum Work {
     /// A tile of this byte is kept.
     Keeps(u8),
@@ -20,12 +20,12 @@ enum Work {
 }
 
 /// Does the work; a fault of the disk is no matter here.
-fn do_work(alloc: Global, cabinet: &mut OnDisk, what: Work) -> Result<bool, AllocError>
-    requires { cabinet.old.state.catalogue ≡ demo }
-    ensures { cabinet.new.state.catalogue ≡ demo }
+fn do_work<C: Keeper>(alloc: Global, cabinet: &mut C, what: Work) -> Result<bool, AllocError>
+    requires { (C.state cabinet.old).catalogue ≡ demo }
+    ensures { (C.state cabinet.new).catalogue ≡ demo }
 {
     match what {
-        Work::Keeps(byte) => Ok(kept(alloc, cabinet, byte)? == Finished::Kept),
+        Work::Keeps(byte) => Ok(matches!(kept(alloc, cabinet, byte)?, Finished::Kept)),
         Work::Cuts => cut(alloc, cabinet),
     }
 }
@@ -73,7 +73,7 @@ fn seen(alloc: Global, image: Vec<u8>) -> Result<Option<u8>, AllocError> {
         Ok(mut cabinet) => {
             let hit = asked(alloc, &mut cabinet);
             drop(cabinet);
-            Ok(Some(hit?.map_or(0, |(byte, _)| byte)))
+            Ok(Some(hit?.unwrap_or(0)))
         }
     }
 }
