@@ -1,14 +1,18 @@
 //! Sessions one of whose objects fails: at its first call, at its second, and so on up to a session without a fault. Behind each
 //! session another one is held in the same hall.
+ghost use Rattle.std.specs.Prelude.{IfOk, ◌≡◌};
+ghost use Rattle.catalog.specs.Demo.{demo};
 ghost use Rattle.hall_tests.specs.Fit.{IsFit};
 ghost use Rattle.job_board.specs.Calls.{IsBoardPass};
 
-use crate::on_disk::{DiskVisit, OnDisk, new_disk_visit};
+use crate::on_disk::opened;
+use crate::pair::pair_of;
 use crate::texts::{
     CUT, LAST_MESSAGE, LOST, LOST_LAST, MESSAGES, TILE, TILE_AGAIN, TILE_HEAD, TILE_OLD, UNCUT,
 };
+use crate::visit::{Visit, held, visit_of};
+use cabinet::keeper::Keeper;
 use cabinet_chest::chest::CabinetChest;
-use hall_sessions::session::serve_session;
 use hall_sessions::world::World;
 use http_wire::memory_link::MemoryLink;
 use http_wire::memory_sink::MemorySink;
@@ -143,56 +147,79 @@ fn link_of(
     ))
 }
 
-/// Holds a session, and hands the link and the board's pass back.
-fn session<R: Wait>(
+/// Holds a session over these bytes, in which this call of an object fails, and tells its end and what was written.
+fn session<R: Wait, K: Keeper>(
     rt: &R,
     alloc: Global,
-    world: &World<OnDisk>,
-    pass: Pass<CabinetChest<OnDisk>>,
-    board: BoardPass,
-    fails: Vec<u64>,
-    link: MemoryLink,
-) -> (SessionEnd, MemoryLink, BoardPass)
-    requires fit { IsFit world.now.hall.turnstile world.now.hall.catalogue pass }
-    requires board { IsBoardPass world.now.board.turnstile.table board }
-    ensures { IsBoardPass world.now.board.turnstile.table result.2 }
+    world: &World<K>,
+    pass: &mut Pass<CabinetChest<K>>,
+    board: &mut BoardPass,
+    bytes: &[u8],
+    object: Object,
+    call: u64,
+) -> Result<(SessionEnd, Vec<u8>), AllocError>
+    requires fit { IsFit world.now.hall.turnstile world.now.hall.catalogue pass.old }
+    requires board { IsBoardPass world.now.board.turnstile.table board.old }
+    ensures { IfOk result (λ _. IsBoardPass world.now.board.turnstile.table board.new) }
 {
-    let (mut pass, mut board, mut link) = (pass, board, link);
-    let mut source = Scripted::new(0, fails);
-    let end = serve_session(
-        rt,
-        alloc,
-        world,
-        &mut pass,
-        &mut board,
-        &mut source,
-        &mut link,
-    );
-    (end, link, board)
+    let mut source = Scripted::new(0, fails_of(alloc, object == Object::Source, call)?);
+    let link = link_of(alloc, bytes, object, call)?;
+    held(rt, alloc, world, pass, board, &mut source, link)
 }
 
-/// Holds a session in which this call of an object fails, and then another one; `None` where the cache can't be opened for that.
+/// Holds a session in which this call of an object fails, and then another one over the same cabinet, whose objects don't fail but for
+/// its disk.
+fn seen_of<R: Wait, K: Keeper>(
+    rt: &R,
+    alloc: Global,
+    visit: &mut Visit<K>,
+    object: Object,
+    call: u64,
+) -> Result<Seen, AllocError>
+    requires a { IsFit visit.old.world.hall.turnstile visit.old.world.hall.catalogue visit.old.a }
+    requires b { IsFit visit.old.world.hall.turnstile visit.old.world.hall.catalogue visit.old.b }
+    requires board { IsBoardPass visit.old.world.board.turnstile.table visit.old.board }
+{
+    let world = &visit.world;
+    let (a, b, board) = (&mut visit.a, &mut visit.b, &mut visit.board);
+    let (end, output) = session(rt, alloc, world, a, board, MESSAGES, object, call)?;
+    let other = Object::Disk;
+    let (_, later) = session(rt, alloc, world, b, board, LAST_MESSAGE, other, call)?;
+    Ok(Seen { end, output, later })
+}
+
+/// The same over a cabinet of the built-in catalogue.
+fn seen_over<R: Wait, K: Keeper>(
+    rt: &R,
+    alloc: Global,
+    keeper: K,
+    object: Object,
+    call: u64,
+) -> Result<Option<Seen>, AllocError>
+    requires demo { (K.state keeper).catalogue ≡ demo }
+{
+    let Some(pair) = pair_of(alloc, keeper)? else {
+        return Ok(None);
+    };
+    let Some(mut visit) = visit_of(alloc, pair)? else {
+        return Ok(None);
+    };
+    let seen = seen_of(rt, alloc, &mut visit, object, call);
+    drop(visit);
+    Ok(Some(seen?))
+}
+
+/// Holds such sessions over a cabinet on a disk; `None` where the cache can't be opened for that.
 fn held_with<R: Wait>(
     rt: &R,
     alloc: Global,
     object: Object,
     call: u64,
 ) -> Result<Option<Seen>, AllocError> {
-    let disk = fails_of(alloc, object == Object::Disk, call)?;
-    let Some(visit) = new_disk_visit(alloc, disk)? else {
-        return Ok(None);
-    };
-    let DiskVisit { world, a, b, board } = visit;
-    let source = fails_of(alloc, object == Object::Source, call)?;
-    let link = link_of(alloc, MESSAGES, object, call)?;
-    let (end, link, board) = session(rt, alloc, &world, a, board, source, link);
-    let later = link_of(alloc, LAST_MESSAGE, Object::Disk, call)?;
-    let (_, later, _) = session(rt, alloc, &world, b, board, Vec::new(alloc), later);
-    Ok(Some(Seen {
-        end,
-        output: Vec::from_slice(alloc, link.taken())?,
-        later: Vec::from_slice(alloc, later.taken())?,
-    }))
+    match opened(alloc, fails_of(alloc, object == Object::Disk, call)?)? {
+        Some(cabinet) => seen_over(rt, alloc, cabinet, object, call),
+        None => Ok(None),
+    }
 }
 
 /// Whether all sessions in which one call of this object fails come to what they may, one of them to less than a whole one, and the

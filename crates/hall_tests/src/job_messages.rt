@@ -1,26 +1,18 @@
 //! Messages for jobs, over one connection in memory.
-ghost use Rattle.std.specs.Prelude.{IfOk, IfSome};
 ghost use Rattle.hall_tests.specs.Fit.{IsFit};
 ghost use Rattle.job_board.specs.Calls.{IsBoardPass};
 
 use crate::pair::{Pair, new_pair};
-use cabinet::cabinet::Cabinet;
-use cabinet_chest::chest::CabinetChest;
-use exact_ratio::words::Words;
-use hall_sessions::session::serve_session;
-use hall_sessions::world::World;
+use crate::visit::{Visit, held, visit_of};
+use cabinet::keeper::Keeper;
 use http_wire::memory_link::MemoryLink;
 use http_wire::memory_sink::MemorySink;
 use http_wire::memory_source::MemorySource;
-use job_board::board::{Board, BoardEntry, BoardPass};
-use source_render::numbered::Numbered;
+use source_render::scripted::Scripted;
 use std::alloc::{AllocError, Global};
 use std::sync::Wait;
 use std::test::Fail;
 use tile_service::session::SessionEnd;
-use traffic::traffic::Traffic;
-use turnstile::pass::Pass;
-use wmts_rest::table::RestTable;
 
 /// A job is submitted, looked at and cancelled, and then one is looked at that isn't there.
 const MESSAGES: &[u8] = b"POST /jobs HTTP/1.1\r\nContent-Length: 71\r\n\r\n\
@@ -39,83 +31,56 @@ const RESPONSES: &[u8] =
     {\"job\":1,\"places\":5,\"claimed\":0,\"done\":0,\"failed\":0,\"cancelled\":true}\n\
     HTTP/1.1 404 Not Found\r\nContent-Length: 0\r\n\r\n";
 
-/// A board without jobs, and a pass of it.
-pub fn new_board(alloc: Global) -> Result<Option<(Board, BoardPass)>, AllocError>
-    ensures { IfOk result (λ o. IfSome o (λ t. IsBoardPass t.0.turnstile.table t.1)) }
+/// Holds a session over these messages, and tells its end and what was written.
+fn session<R: Wait, K: Keeper>(
+    rt: &R,
+    alloc: Global,
+    visit: &mut Visit<K>,
+) -> Result<(SessionEnd, Vec<u8>), AllocError>
+    requires fit { IsFit visit.old.world.hall.turnstile visit.old.world.hall.catalogue visit.old.a }
+    requires board { IsBoardPass visit.old.world.board.turnstile.table visit.old.board }
 {
-    let BoardEntry { board, passes } = Board::make(alloc, 1)?;
-    match passes.into_vec().pop() {
-        None => Ok(None),
-        Some(pass) => Ok(Some((board, pass))),
-    }
-}
-
-/// A world over an empty cabinet, and a pass each of its hall and its board.
-#[derive(Drop)]
-struct Visit {
-    world: World<Cabinet>,
-    pass: Pass<CabinetChest<Cabinet>>,
-    board: BoardPass,
-}
-
-fn new_visit(alloc: Global) -> Result<Option<Visit>, AllocError>
-    ensures { IfOk result (λ o. IfSome o (λ v. IsFit v.world.hall.turnstile v.world.hall.catalogue v.pass × IsBoardPass v.world.board.turnstile.table v.board)) }
-{
-    let Some(Pair { hall, a, .. }) = new_pair(alloc)? else {
-        return Ok(None);
-    };
-    let Some((board, pass)) = new_board(alloc)? else {
-        return Ok(None);
-    };
-    let world = World {
-        hall,
-        rest: RestTable::new(alloc)?,
-        capabilities: Words::of(Vec::new(alloc)),
-        board,
-        traffic: Traffic::new(),
-    };
-    Ok(Some(Visit {
-        world,
-        pass: a,
-        board: pass,
-    }))
-}
-
-/// Holds a session over a link of these bytes, and hands the link back.
-fn held<R: Wait>(rt: &R, alloc: Global, visit: Visit, bytes: Vec<u8>) -> (SessionEnd, MemoryLink)
-    requires fit { IsFit visit.world.hall.turnstile visit.world.hall.catalogue visit.pass }
-    requires board { IsBoardPass visit.world.board.turnstile.table visit.board }
-{
-    let Visit {
-        world,
-        mut pass,
-        mut board,
-    } = visit;
-    let mut source = Numbered::new(0);
-    let mut link = MemoryLink::new(
-        MemorySource::new(bytes, 4096, Vec::new(alloc)),
+    let link = MemoryLink::new(
+        MemorySource::new(Vec::from_slice(alloc, MESSAGES)?, 4096, Vec::new(alloc)),
         MemorySink::new(alloc, Vec::new(alloc)),
     );
-    let end = serve_session(
-        rt,
-        alloc,
-        &world,
-        &mut pass,
-        &mut board,
-        &mut source,
-        &mut link,
-    );
-    (end, link)
+    let mut source = Scripted::new(0, Vec::new(alloc));
+    let Visit {
+        world,
+        a,
+        board,
+        ..
+    } = visit;
+    held(rt, alloc, world, a, board, &mut source, link)
+}
+
+/// The same over a hall of these passes.
+fn session_at<R: Wait, K: Keeper>(
+    rt: &R,
+    alloc: Global,
+    pair: Pair<K>,
+) -> Result<Option<(SessionEnd, Vec<u8>)>, AllocError>
+    requires a { IsFit pair.hall.turnstile pair.hall.catalogue pair.a }
+    requires b { IsFit pair.hall.turnstile pair.hall.catalogue pair.b }
+{
+    let Some(mut visit) = visit_of(alloc, pair)? else {
+        return Ok(None);
+    };
+    let came = session(rt, alloc, &mut visit);
+    drop(visit);
+    Ok(Some(came?))
 }
 
 #[test]
 fn a_job_is_submitted_looked_at_and_cancelled(rt: HostRuntime) -> Result<(), Fail> {
     let alloc = rt.alloc();
-    let Some(visit) = new_visit(alloc)? else {
+    let Some(pair) = new_pair(alloc)? else {
         return Err(Fail::from("no passes"));
     };
-    let (end, link) = held(&rt, alloc, visit, Vec::from_slice(alloc, MESSAGES)?);
+    let Some((end, output)) = session_at(&rt, alloc, pair)? else {
+        return Err(Fail::from("no board"));
+    };
     assert_eq!(rt; end, SessionEnd::Closed);
-    assert_eq!(rt; link.taken(), RESPONSES);
+    assert_eq!(rt; output.as_slice(), RESPONSES);
     Ok(())
 }

@@ -1,5 +1,6 @@
 //! Tests of a hall: passes that get, truncate and meet, one after the other and in threads, and
-//! sessions: one with a board of jobs, and some whose source, link or disk fails at one call after the other.
+//! sessions: one with a board of jobs, some whose source, link or disk fails at one call after the other, and one over a cabinet
+//! alone, whose link notes the order of its takes and puts.
 //!
 //! It has no code of its own and promises nothing.
 //! Stands on cache_hall, hall_sessions, durable_cabinet and silent_disk, and on the crates of what they are called with.
@@ -14,8 +15,12 @@ mod job_messages;
 #[cfg(test)]
 mod on_disk;
 #[cfg(test)]
+mod order;
+#[cfg(test)]
 mod pair;
 #[cfg(test)]
 mod passes;
 #[cfg(test)]
 mod texts;
+#[cfg(test)]
+mod visit;

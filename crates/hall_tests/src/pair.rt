@@ -1,12 +1,15 @@
-//! A hall over an empty cabinet in memory, with two passes, and single calls on it.
-ghost use Rattle.std.specs.Prelude.{IfOk, IfSome};
+//! A hall over an empty cabinet, with two passes, and single calls on it.
+ghost use Rattle.std.specs.Prelude.{IfOk, IfSome, ◌≡◌};
 ghost use Rattle.catalog.specs.Demo.{demo};
 ghost use Rattle.catalog.specs.LookUp.{IsTile};
 ghost use Rattle.hall_tests.specs.Fit.{IsFit};
 ghost use Rattle.raster_field.specs.Blocks.{IsMeta};
+ghost use Rattle.catalog.specs.Valid.{IsValid};
 ghost use Rattle.served_covers.specs.OfCatalogue.{IsCoverOf};
+ghost use Rattle.tile_service.specs.Session.{IsAtRest};
 
 use cabinet::cabinet::Cabinet;
+use cabinet::keeper::Keeper;
 use cabinet::replies::{Expired, Saved};
 use cabinet_chest::chest::CabinetChest;
 use cabinet_chest::command::Counts;
@@ -30,19 +33,18 @@ use turnstile::pass::Pass;
 
 /// A hall and two passes of it.
 #[derive(Drop)]
-pub struct Pair {
-    pub hall: Hall<Cabinet>,
-    pub a: Pass<CabinetChest<Cabinet>>,
-    pub b: Pass<CabinetChest<Cabinet>>,
+pub struct Pair<K: Keeper> {
+    pub hall: Hall<K>,
+    pub a: Pass<CabinetChest<K>>,
+    pub b: Pass<CabinetChest<K>>,
 }
 
-/// A hall over an empty cabinet of the built-in catalogue.
-pub fn new_pair(alloc: Global) -> Result<Option<Pair>, AllocError>
+/// A hall over a cabinet of the built-in catalogue.
+pub fn pair_of<K: Keeper>(alloc: Global, keeper: K) -> Result<Option<Pair<K>>, AllocError>
+    requires demo { (K.state keeper).catalogue ≡ demo }
     ensures { IfOk result (λ o. IfSome o (λ t. IsFit t.hall.turnstile t.hall.catalogue t.a × IsFit t.hall.turnstile t.hall.catalogue t.b)) }
 {
-    let catalogue = Catalogue::demo(alloc)?;
-    let cabinet = Cabinet::memory(alloc, catalogue, Clock::listed(Vec::new(alloc)))?;
-    let HallEntry { hall, passes } = Hall::make(alloc, cabinet, 2)?;
+    let HallEntry { hall, passes } = Hall::make(alloc, keeper, 2)?;
     let mut passes = passes.into_vec();
     let Some(a) = passes.pop() else {
         return Ok(None);
@@ -53,52 +55,59 @@ pub fn new_pair(alloc: Global) -> Result<Option<Pair>, AllocError>
     Ok(Some(Pair { hall, a, b }))
 }
 
-/// Truncates all of zoom 0, and hands the pass back.
-pub fn cut<R: Wait>(
+/// An empty cabinet in memory of the built-in catalogue.
+pub fn empty(alloc: Global) -> Result<Cabinet, AllocError>
+    ensures demo { IfOk result (λ c. c.catalogue ≡ demo) }
+    ensures valid { IfOk result (λ c. IsValid c.catalogue) }
+    ensures rest { IfOk result (λ c. IsAtRest c) }
+{
+    let catalogue = Catalogue::demo(alloc)?;
+    Cabinet::memory(alloc, catalogue, Clock::listed(Vec::new(alloc)))
+}
+
+/// A hall over an empty cabinet in memory of the built-in catalogue.
+pub fn new_pair(alloc: Global) -> Result<Option<Pair<Cabinet>>, AllocError>
+    ensures { IfOk result (λ o. IfSome o (λ t. IsFit t.hall.turnstile t.hall.catalogue t.a × IsFit t.hall.turnstile t.hall.catalogue t.b)) }
+{
+    pair_of(alloc, empty(alloc)?)
+}
+
+/// Truncates all of zoom 0.
+pub fn cut<R: Wait, K: Keeper>(
     rt: &R,
     alloc: Global,
-    hall: &Hall<Cabinet>,
-    mut pass: Pass<CabinetChest<Cabinet>>,
-) -> (Pass<CabinetChest<Cabinet>>, Option<u64>)
-    requires fit { IsFit hall.now.turnstile hall.now.catalogue pass }
-    ensures { IsFit hall.now.turnstile hall.now.catalogue result.0 }
+    hall: &Hall<K>,
+    pass: &mut Pass<CabinetChest<K>>,
+) -> Option<u64>
+    requires fit { IsFit hall.now.turnstile hall.now.catalogue pass.old }
+    ensures { IsFit hall.now.turnstile hall.now.catalogue pass.new }
 {
-    let cover = first_cover();
-    match truncate(rt, alloc, hall, &mut pass, &cover) {
-        Ok(number) => (pass, Some(number)),
-        Err(_) => (pass, None),
-    }
+    truncate(rt, alloc, hall, pass, &first_cover()).ok()
 }
 
 /// What is kept of all layers.
-pub fn counted<R: Wait>(
+pub fn counted<R: Wait, K: Keeper>(
     rt: &R,
-    hall: &Hall<Cabinet>,
-    mut pass: Pass<CabinetChest<Cabinet>>,
-) -> (Pass<CabinetChest<Cabinet>>, Counts)
-    requires fit { IsFit hall.now.turnstile hall.now.catalogue pass }
-    ensures { IsFit hall.now.turnstile hall.now.catalogue result.0 }
+    hall: &Hall<K>,
+    pass: &mut Pass<CabinetChest<K>>,
+) -> Counts
+    requires fit { IsFit hall.now.turnstile hall.now.catalogue pass.old }
+    ensures { IsFit hall.now.turnstile hall.now.catalogue pass.new }
 {
-    let counts = usage(rt, hall, &mut pass, 1);
-    (pass, counts)
+    usage(rt, hall, pass, 1)
 }
 
 /// Whether nothing expires, and whose uses are saved then.
-pub fn kept_up<R: Wait>(
+pub fn is_kept_up<R: Wait, K: Keeper>(
     rt: &R,
-    hall: &Hall<Cabinet>,
-    mut pass: Pass<CabinetChest<Cabinet>>,
-) -> (Pass<CabinetChest<Cabinet>>, bool)
-    requires fit { IsFit hall.now.turnstile hall.now.catalogue pass }
-    ensures { IsFit hall.now.turnstile hall.now.catalogue result.0 }
+    hall: &Hall<K>,
+    pass: &mut Pass<CabinetChest<K>>,
+) -> bool
+    requires fit { IsFit hall.now.turnstile hall.now.catalogue pass.old }
 {
-    let expired = expire_once(rt, hall, &mut pass);
-    let first = save_uses_once(rt, hall, &mut pass);
-    let second = save_uses_once(rt, hall, &mut pass);
-    let is_kept_up = expired == Expired::Within
-        && first == Saved::Done(FIRST)
-        && second == Saved::Within;
-    (pass, is_kept_up)
+    expire_once(rt, hall, pass) == Expired::Within
+        && save_uses_once(rt, hall, pass) == Saved::Done(FIRST)
+        && save_uses_once(rt, hall, pass) == Saved::Within
 }
 
 /// The cover of the one tile at zoom 0.
@@ -125,39 +134,33 @@ fn first_meta() -> MetaKey
     FIRST
 }
 
-/// Refreshes the one metatile at zoom 0, and hands the pass back.
-pub fn refreshed<R: Wait, S: Source>(
+/// Refreshes the one metatile at zoom 0.
+pub fn refreshed<R: Wait, K: Keeper, S: Source>(
     rt: &R,
     alloc: Global,
-    hall: &Hall<Cabinet>,
-    mut pass: Pass<CabinetChest<Cabinet>>,
+    hall: &Hall<K>,
+    pass: &mut Pass<CabinetChest<K>>,
     source: &mut S,
     is_forced: bool,
-) -> (Pass<CabinetChest<Cabinet>>, Option<Refreshed>)
-    requires fit { IsFit hall.now.turnstile hall.now.catalogue pass }
-    ensures { IsFit hall.now.turnstile hall.now.catalogue result.0 }
+) -> Option<Refreshed>
+    requires fit { IsFit hall.now.turnstile hall.now.catalogue pass.old }
+    ensures { IsFit hall.now.turnstile hall.now.catalogue pass.new }
 {
-    match refresh(rt, alloc, hall, &mut pass, source, &first_meta(), is_forced) {
-        Ok(refreshed) => (pass, Some(refreshed)),
-        Err(_) => (pass, None),
-    }
+    refresh(rt, alloc, hall, pass, source, &first_meta(), is_forced).ok()
 }
 
-/// Gets a tile, and hands the pass back.
-pub fn got<R: Wait, S: Source>(
+/// Gets a tile.
+pub fn got<R: Wait, K: Keeper, S: Source>(
     rt: &R,
     alloc: Global,
-    hall: &Hall<Cabinet>,
-    mut pass: Pass<CabinetChest<Cabinet>>,
+    hall: &Hall<K>,
+    pass: &mut Pass<CabinetChest<K>>,
     source: &mut S,
     address: &Address,
-) -> (Pass<CabinetChest<Cabinet>>, Option<Tile>)
-    requires fit { IsFit hall.now.turnstile hall.now.catalogue pass }
+) -> Option<Tile>
+    requires fit { IsFit hall.now.turnstile hall.now.catalogue pass.old }
     requires tile { IsTile demo address.now }
-    ensures { IsFit hall.now.turnstile hall.now.catalogue result.0 }
+    ensures { IsFit hall.now.turnstile hall.now.catalogue pass.new }
 {
-    match get(rt, alloc, hall, &mut pass, source, address) {
-        Ok(tile) => (pass, Some(tile)),
-        Err(_) => (pass, None),
-    }
+    get(rt, alloc, hall, pass, source, address).ok()
 }

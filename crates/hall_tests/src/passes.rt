@@ -5,8 +5,8 @@ ghost use Rattle.catalog.specs.LookUp.{IsTile};
 ghost use Rattle.hall_tests.specs.Fit.{IsFit};
 
 use crate::held::{Held, Stage};
-use crate::pair::{Pair, counted, cut, got, kept_up, new_pair, refreshed};
-use cabinet::cabinet::Cabinet;
+use crate::pair::{Pair, counted, cut, got, is_kept_up, new_pair, refreshed};
+use cabinet::keeper::Keeper;
 use cabinet_chest::chest::CabinetChest;
 use cabinet_chest::command::Counts;
 use cache_hall::hall::Hall;
@@ -20,64 +20,85 @@ use std::test::Fail;
 use std::thread::{Threads, join};
 use turnstile::pass::Pass;
 
-#[test]
-fn a_tile_that_one_pass_rendered_is_a_hit_for_the_other(rt: HostRuntime) -> Result<(), Fail> {
-    let alloc = rt.alloc();
-    let Some(Pair { hall, a, b }) = new_pair(alloc)? else {
-        return Err(Fail::from("no passes"));
-    };
+/// Whether a tile that one pass rendered is a hit for the other one, and is then counted and kept up.
+fn is_hit_for_the_other<R: Wait, K: Keeper>(rt: &R, alloc: Global, pair: Pair<K>) -> bool
+    requires a { IsFit pair.hall.turnstile pair.hall.catalogue pair.a }
+    requires b { IsFit pair.hall.turnstile pair.hall.catalogue pair.b }
+{
+    let Pair { hall, mut a, mut b } = pair;
     let mut source = Numbered::new(0);
-    let (mut a, first) = got(&rt, alloc, &hall, a, &mut source, &first_tile());
-    let mut b = b;
+    let first = got(rt, alloc, &hall, &mut a, &mut source, &first_tile());
     hall.turnstile.meet(&mut a, &mut b);
-    let (b, second) = got(&rt, alloc, &hall, b, &mut source, &first_tile());
-    let (b, counts) = counted(&rt, &hall, b);
-    let (_, is_kept_up) = kept_up(&rt, &hall, b);
-    assert!(rt; first.is_some_and(|tile| !tile.hit && tile.number == 1));
-    assert!(rt; second.is_some_and(|tile| tile.hit && tile.number == 1));
+    let second = got(rt, alloc, &hall, &mut b, &mut source, &first_tile());
     let expected = Counts {
         metatiles: 1,
         bytes: 23,
         cuts: 0,
     };
-    assert!(rt; counts == expected);
-    assert!(rt; is_kept_up);
+    first.is_some_and(|tile| !tile.hit && tile.number == 1)
+        && second.is_some_and(|tile| tile.hit && tile.number == 1)
+        && counted(rt, &hall, &mut b) == expected
+        && is_kept_up(rt, &hall, &mut b)
+}
+
+#[test]
+fn a_tile_that_one_pass_rendered_is_a_hit_for_the_other(rt: HostRuntime) -> Result<(), Fail> {
+    let Some(pair) = new_pair(rt.alloc())? else {
+        return Err(Fail::from("no passes"));
+    };
+    assert!(rt; is_hit_for_the_other(&rt, rt.alloc(), pair));
     Ok(())
+}
+
+/// Whether a truncation by one pass is told to the other one where they meet, whose tile is then newer.
+fn is_newer_after_a_cut<R: Wait, K: Keeper>(rt: &R, alloc: Global, pair: Pair<K>) -> bool
+    requires a { IsFit pair.hall.turnstile pair.hall.catalogue pair.a }
+    requires b { IsFit pair.hall.turnstile pair.hall.catalogue pair.b }
+{
+    let Pair { hall, mut a, mut b } = pair;
+    let mut source = Numbered::new(0);
+    let first = got(rt, alloc, &hall, &mut a, &mut source, &first_tile());
+    let number = cut(rt, alloc, &hall, &mut a);
+    hall.turnstile.meet(&mut a, &mut b);
+    let seen = hall.turnstile.seen(&b);
+    let tile = got(rt, alloc, &hall, &mut b, &mut source, &first_tile());
+    first.is_some()
+        && number == Some(2)
+        && seen == 2
+        && tile.is_some_and(|tile| !tile.hit && tile.number == 3)
 }
 
 #[test]
 fn a_tile_after_a_truncation_is_newer(rt: HostRuntime) -> Result<(), Fail> {
-    let alloc = rt.alloc();
-    let Some(Pair { hall, a, b }) = new_pair(alloc)? else {
+    let Some(pair) = new_pair(rt.alloc())? else {
         return Err(Fail::from("no passes"));
     };
-    let mut source = Numbered::new(0);
-    let (a, _) = got(&rt, alloc, &hall, a, &mut source, &first_tile());
-    let (mut a, number) = cut(&rt, alloc, &hall, a);
-    let mut b = b;
-    hall.turnstile.meet(&mut a, &mut b);
-    let seen = hall.turnstile.seen(&b);
-    let (_, tile) = got(&rt, alloc, &hall, b, &mut source, &first_tile());
-    assert!(rt; number == Some(2) && seen == 2);
-    assert!(rt; tile.is_some_and(|tile| !tile.hit && tile.number == 3));
+    assert!(rt; is_newer_after_a_cut(&rt, rt.alloc(), pair));
     Ok(())
+}
+
+/// Whether a seed renders a metatile once, and a reseed once more, which a get then hits.
+fn is_rendered_anew<R: Wait, K: Keeper>(rt: &R, alloc: Global, pair: Pair<K>) -> bool
+    requires a { IsFit pair.hall.turnstile pair.hall.catalogue pair.a }
+{
+    let Pair { hall, mut a, .. } = pair;
+    let mut source = Numbered::new(0);
+    let first = refreshed(rt, alloc, &hall, &mut a, &mut source, false);
+    let second = refreshed(rt, alloc, &hall, &mut a, &mut source, false);
+    let forced = refreshed(rt, alloc, &hall, &mut a, &mut source, true);
+    let tile = got(rt, alloc, &hall, &mut a, &mut source, &first_tile());
+    first == Some(Refreshed::Made(1))
+        && second == Some(Refreshed::AlreadyKept(1))
+        && forced == Some(Refreshed::Made(2))
+        && tile.is_some_and(|tile| tile.hit && tile.number == 2)
 }
 
 #[test]
 fn a_seed_leaves_what_is_kept_and_a_reseed_renders_it_anew(rt: HostRuntime) -> Result<(), Fail> {
-    let alloc = rt.alloc();
-    let Some(Pair { hall, a, .. }) = new_pair(alloc)? else {
+    let Some(pair) = new_pair(rt.alloc())? else {
         return Err(Fail::from("no passes"));
     };
-    let mut source = Numbered::new(0);
-    let (a, first) = refreshed(&rt, alloc, &hall, a, &mut source, false);
-    let (a, second) = refreshed(&rt, alloc, &hall, a, &mut source, false);
-    let (a, forced) = refreshed(&rt, alloc, &hall, a, &mut source, true);
-    let (_, tile) = got(&rt, alloc, &hall, a, &mut source, &first_tile());
-    assert!(rt; first == Some(Refreshed::Made(1)));
-    assert!(rt; second == Some(Refreshed::AlreadyKept(1)));
-    assert!(rt; forced == Some(Refreshed::Made(2)));
-    assert!(rt; tile.is_some_and(|tile| tile.hit && tile.number == 2));
+    assert!(rt; is_rendered_anew(&rt, rt.alloc(), pair));
     Ok(())
 }
 
@@ -95,49 +116,63 @@ fn tile_in_row(col: u32) -> Address
     }
 }
 
+/// A stage for each of two threads.
+fn new_stages(alloc: Global) -> Result<(Stage, Stage), AllocError> {
+    let held = Stage::new(alloc)?;
+    let beside = held.share()?;
+    Ok((held, beside))
+}
+
 /// Gets a tile once the other render has begun, and tells when it was answered.
-fn got_meanwhile<R: Wait>(
+fn got_meanwhile<R: Wait, K: Keeper>(
     rt: &R,
     alloc: Global,
-    hall: &Hall<Cabinet>,
-    pass: Pass<CabinetChest<Cabinet>>,
+    hall: &Hall<K>,
+    pass: Pass<CabinetChest<K>>,
     stage: Stage,
 ) -> bool
     requires fit { IsFit hall.now.turnstile hall.now.catalogue pass }
 {
+    let mut pass = pass;
     let mut source = Numbered::new(0);
     let has_begun = stage.wait_for(1);
-    let (_, tile) = got(rt, alloc, hall, pass, &mut source, &tile_in_row(1));
+    let tile = got(rt, alloc, hall, &mut pass, &mut source, &tile_in_row(1));
     stage.reach(2);
     has_begun && tile.is_some()
 }
 
 /// Gets a tile whose render is held, and says whether the other tile was answered meanwhile.
-fn got_held<R: Wait>(
+fn got_held<R: Wait, K: Keeper>(
     rt: &R,
     alloc: Global,
-    hall: &Hall<Cabinet>,
-    pass: Pass<CabinetChest<Cabinet>>,
+    hall: &Hall<K>,
+    pass: Pass<CabinetChest<K>>,
     stage: Stage,
 ) -> bool
     requires fit { IsFit hall.now.turnstile hall.now.catalogue pass }
 {
+    let mut pass = pass;
     let mut source = Held {
         numbered: Numbered::new(0),
         stage,
         is_in_time: false,
     };
-    let (_, tile) = got(rt, alloc, hall, pass, &mut source, &tile_in_row(0));
+    let tile = got(rt, alloc, hall, &mut pass, &mut source, &tile_in_row(0));
     source.is_in_time && tile.is_some()
 }
 
-/// Whether a tile is answered while the render of another one is held.
-fn is_answered_beside<R: Threads + Wait + Sync>(rt: &R, alloc: Global) -> Result<bool, AllocError> {
-    let Some(Pair { hall, a, b }) = new_pair(alloc)? else {
-        return Ok(false);
-    };
-    let held = Stage::new(alloc)?;
-    let beside = held.share()?;
+/// Whether a tile is answered while the render of another one is held, where two threads tell each other by these.
+fn is_answered_by<R: Threads + Wait + Sync, K: Keeper + Send>(
+    rt: &R,
+    alloc: Global,
+    pair: Pair<K>,
+    held: Stage,
+    beside: Stage,
+) -> bool
+    requires a { IsFit pair.hall.turnstile pair.hall.catalogue pair.a }
+    requires b { IsFit pair.hall.turnstile pair.hall.catalogue pair.b }
+{
+    let Pair { hall, a, b } = pair;
     let shared = &hall;
     let (first, second) = join(
         rt,
@@ -148,12 +183,32 @@ fn is_answered_beside<R: Threads + Wait + Sync>(rt: &R, alloc: Global) -> Result
             requires { IsFit shared.now.turnstile shared.now.catalogue b }
         { got_meanwhile(rt, alloc, shared, b, beside) },
     );
-    Ok(first && second)
+    first && second
+}
+
+/// The same, where memory may run out for what the threads tell each other by.
+fn is_answered_beside<R: Threads + Wait + Sync, K: Keeper + Send>(
+    rt: &R,
+    alloc: Global,
+    pair: Pair<K>,
+) -> Result<bool, AllocError>
+    requires a { IsFit pair.hall.turnstile pair.hall.catalogue pair.a }
+    requires b { IsFit pair.hall.turnstile pair.hall.catalogue pair.b }
+{
+    match new_stages(alloc) {
+        Ok((held, beside)) => Ok(is_answered_by(rt, alloc, pair, held, beside)),
+        Err(fault) => {
+            drop(pair);
+            Err(fault)
+        }
+    }
 }
 
 #[test]
 fn a_render_is_held_outside_of_any_turn(rt: HostRuntime) -> Result<(), Fail> {
-    let alloc = rt.alloc();
-    assert!(rt; is_answered_beside(&rt, alloc)?);
+    let Some(pair) = new_pair(rt.alloc())? else {
+        return Err(Fail::from("no passes"));
+    };
+    assert!(rt; is_answered_beside(&rt, rt.alloc(), pair)?);
     Ok(())
 }

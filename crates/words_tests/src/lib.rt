@@ -2,7 +2,7 @@
 //!
 //! It has no code of its own and promises nothing: what the crates promise is proved in each of them. What a whole run of the
 //! program shows is tested there.
-//! Stands on exact_ratio, matrix_geometry, catalog, json_forms, config_text, dimension_key and exception_report.
+//! Stands on exact_ratio, matrix_geometry, catalog, json_forms, config_text, dimension_key, exception_report and command_words.
 #![tactic(auto)]
 
 #[cfg(test)]
@@ -19,3 +19,5 @@ mod matrices;
 mod numbers;
 #[cfg(test)]
 mod reports;
+#[cfg(test)]
+mod serve_words;

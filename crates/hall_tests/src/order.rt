@@ -1,18 +1,19 @@
 //! The order in time of a connection's takes and puts, which no clause tells: each response has gone out whole before the link
 //! is asked for the next message.
 ghost use Rattle.std.specs.Prelude.{Some, refl};
+ghost use Rattle.catalog.specs.Valid.{IsValid};
 ghost use Rattle.http_wire.specs.Side.{side};
+ghost use Rattle.tile_service.specs.Session.{IsAtRest};
 
-use cabinet::cabinet::Cabinet;
-use catalog::catalogue::Catalogue;
-use clock::clock::Clock;
+use crate::pair::empty;
+use cabinet::keeper::Keeper;
 use exact_ratio::words::Words;
 use http_wire::links::Link;
 use http_wire::memory_sink::MemorySink;
 use http_wire::memory_source::MemorySource;
 use http_wire::streams::{ByteSink, ByteSource, Failed};
 use source_render::numbered::Numbered;
-use std::alloc::Global;
+use std::alloc::{AllocError, Global};
 use std::test::Fail;
 use tile_service::counter::Counter;
 use tile_service::session::{SessionEnd, replay_session};
@@ -57,34 +58,51 @@ impl Link for NotingLink {
     ghost put_keeps = { λ link. refl };
 }
 
-/// Serves these bytes as those of a connection, so many at a time, and gives the link and the end.
-fn served(alloc: Global, bytes: &[u8], piece: usize) -> Result<(NotingLink, SessionEnd), Fail> {
-    let clock = Clock::listed(Vec::new(alloc));
-    let mut counter = Counter {
-        cabinet: Cabinet::memory(alloc, Catalogue::demo(alloc)?, clock)?,
-        rest: RestTable::new(alloc)?,
-        capabilities: Words::of(Vec::new(alloc)),
-    };
-    let mut link = NotingLink {
+/// A link of these bytes, so many at a time.
+fn link_of(alloc: Global, bytes: &[u8], piece: usize) -> Result<NotingLink, AllocError> {
+    Ok(NotingLink {
         source: MemorySource::new(Vec::from_slice(alloc, bytes)?, piece, Vec::new(alloc)),
         sink: MemorySink::new(alloc, Vec::new(alloc)),
         put_by_then: Vec::new(alloc),
+    })
+}
+
+/// Serves a connection over a cabinet, and gives its end.
+fn served<K: Keeper, L: Link>(
+    alloc: Global,
+    cabinet: K,
+    link: &mut L,
+) -> Result<SessionEnd, AllocError>
+    requires valid { IsValid (K.state cabinet).catalogue }
+    requires rest { IsAtRest (K.state cabinet) }
+{
+    let rest = RestTable::new(alloc)?;
+    let mut counter = Counter {
+        cabinet,
+        rest,
+        capabilities: Words::of(Vec::new(alloc)),
     };
-    let end = replay_session(alloc, &mut counter, &mut Numbered::new(0), &mut link);
-    Ok((link, end))
+    let mut source = Numbered::new(0);
+    Ok(replay_session(alloc, &mut counter, &mut source, link))
+}
+
+/// Whether the link of a message that stands three times is asked for the next one only when these bytes of a response have gone out.
+fn are_in_order(alloc: Global, message: &str, response: usize) -> Result<bool, AllocError> {
+    let stream = format!(in alloc; "{message}{message}{message}")?;
+    let mut link = link_of(alloc, stream.as_bytes(), message.len())?;
+    let end = served(alloc, empty(alloc)?, &mut link)?;
+    let expected = [
+        0,
+        response,
+        response.saturating_mul(2),
+        response.saturating_mul(3),
+    ];
+    Ok(end == SessionEnd::Closed && link.put_by_then.as_slice() == expected.as_slice())
 }
 
 #[test]
 fn each_response_goes_out_before_the_next_take(rt: HostRuntime) -> Result<(), Fail> {
-    let alloc = rt.alloc();
-    let message = "GET / HTTP/1.1\r\n\r\n";
-    let response = "HTTP/1.1 404 Not Found\r\nContent-Length: 0\r\n\r\n".len();
-    let stream = format!(in alloc; "{message}{message}{message}")?;
-    let (link, end) = served(alloc, stream.as_bytes(), message.len())?;
-    assert_eq!(rt; end, SessionEnd::Closed);
-    assert_eq!(rt;
-        link.put_by_then.as_slice(),
-        [0, response, 2 * response, 3 * response].as_slice()
-    );
+    let response = "HTTP/1.1 404 Not Found\r\nContent-Length: 0\r\n\r\n";
+    assert!(rt; are_in_order(rt.alloc(), "GET / HTTP/1.1\r\n\r\n", response.len())?);
     Ok(())
 }

@@ -1,25 +1,26 @@
-use Rattle.std.proofs.Common.{false, List, sym, ap, subst, ◌∙◌}
+use Rattle.std.proofs.Common.{false, List, sym, subst, ◌∙◌}
 use Rattle.std.specs.Prelude.{All}
-use Rattle.cabinet.specs.State.{State, fronted, now}
+use Rattle.cabinet.specs.State.{fronted, now}
+use Rattle.catalog.proofs.DemoValid.{demo_valid}
 use Rattle.catalog.specs.declared.catalogue.Catalogue.{Catalogue}
 use Rattle.catalog.specs.Valid.{IsValid}
 use Rattle.turnstile.proofs.Held.{popped}
 use Rattle.cache_hall.specs.Opened.{IsFirstPass}
 use Rattle.cache_hall.specs.Turned.{HallPass, IsPassOf}
 use Rattle.hall_tests.proofs.Fitting.{fit_first}
-use Rattle.hall_tests.proofs.pair.new_pair.Goals as goal
+use Rattle.hall_tests.proofs.pair.pair_of.Goals as goal
 
 pub returns : goal.returns
-returns c =
+returns g c =
     let h = c.in_ok-hall.field-0.hall in
     let P : HallPass → Type 0 = IsPassOf h.turnstile.table h.catalogue in
-    let Q : HallPass → Type 0 = IsFirstPass false (fronted (now c.in_ok-cabinet.cabinet)) in
+    let Q : HallPass → Type 0 = IsFirstPass false (fronted (now (g.K.Keeper.state c.args.keeper))) in
     let own : All P c.into_vec-passes.result.items = subst (λ (xs : List HallPass). All P xs) (sym c.into_vec-passes.ensures) c.in_ok-hall.ensures.own in
     let each : All Q c.into_vec-passes.result.items = subst (λ (xs : List HallPass). All Q xs) (sym c.into_vec-passes.ensures) c.in_ok-hall.ensures.each in
     let p = popped P _ _ _ c.in-Some.ensures.items own in
     let q = popped Q _ _ _ c.in-Some.ensures.items each in
     let r = popped P _ _ _ c.in-Some-pop.ensures.items p.0 in
     let s = popped Q _ _ _ c.in-Some-pop.ensures.items q.0 in
-    let same = c.in_ok-hall.ensures.catalogue ∙ ap (λ (u : State). u.catalogue) c.in_ok-cabinet.ensures in
-    let valid = subst (λ (k : Catalogue). IsValid k) (sym same) c.in_ok-catalogue.ensures.valid in
-    (fit_first _ _ _ _ p.1 q.1 (same ∙ c.in_ok-catalogue.ensures.demo) valid, fit_first _ _ _ _ r.1 s.1 (same ∙ c.in_ok-catalogue.ensures.demo) valid)
+    let same = c.in_ok-hall.ensures.catalogue ∙ c.requires.demo in
+    let valid = subst (λ (k : Catalogue). IsValid k) (sym same) demo_valid in
+    (fit_first _ _ _ _ p.1 q.1 same valid, fit_first _ _ _ _ r.1 s.1 same valid)

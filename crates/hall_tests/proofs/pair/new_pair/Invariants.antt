@@ -1,5 +1,0 @@
-use Rattle.std.proofs.Common.{false}
-use Rattle.hall_tests.proofs.pair.new_pair.Given as goal
-
-abbrev pub ghost-make : goal.ghost-make
-ghost-make a = false

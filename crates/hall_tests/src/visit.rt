@@ -1,0 +1,122 @@
+//! A world over a cabinet, with two passes of its hall and one of its board of jobs, and sessions in it.
+ghost use Rattle.std.specs.Prelude.{IfOk, IfSome};
+ghost use Rattle.hall_tests.specs.Fit.{IsFit};
+ghost use Rattle.job_board.specs.Calls.{IsBoardPass};
+
+use crate::pair::Pair;
+use cabinet::keeper::Keeper;
+use cabinet_chest::chest::CabinetChest;
+use exact_ratio::words::Words;
+use hall_sessions::session::serve_session;
+use hall_sessions::world::World;
+use http_wire::memory_link::MemoryLink;
+use job_board::board::{Board, BoardEntry, BoardPass};
+use source_render::scripted::Scripted;
+use std::alloc::{AllocError, Global};
+use std::sync::Wait;
+use tile_service::session::SessionEnd;
+use traffic::traffic::Traffic;
+use turnstile::pass::Pass;
+use wmts_rest::table::RestTable;
+
+/// A world, two passes of its hall, and one of its board.
+#[derive(Drop)]
+pub struct Visit<K: Keeper> {
+    pub world: World<K>,
+    pub a: Pass<CabinetChest<K>>,
+    pub b: Pass<CabinetChest<K>>,
+    pub board: BoardPass,
+}
+
+/// A board without jobs, and a pass of it.
+fn new_board(alloc: Global) -> Result<Option<(Board, BoardPass)>, AllocError>
+    ensures { IfOk result (λ o. IfSome o (λ t. IsBoardPass t.0.turnstile.table t.1)) }
+{
+    let BoardEntry { board, passes } = Board::make(alloc, 1)?;
+    match passes.into_vec().pop() {
+        None => Ok(None),
+        Some(pass) => Ok(Some((board, pass))),
+    }
+}
+
+/// What a world has beside its hall, and a pass of its board.
+#[derive(Drop)]
+struct Ground {
+    rest: RestTable,
+    board: Board,
+    pass: BoardPass,
+}
+
+/// A board without jobs, a pass of it, and the reading of paths.
+fn new_ground(alloc: Global) -> Result<Option<Ground>, AllocError>
+    ensures { IfOk result (λ o. IfSome o (λ g. IsBoardPass g.board.turnstile.table g.pass)) }
+{
+    let rest = RestTable::new(alloc)?;
+    match new_board(alloc)? {
+        None => Ok(None),
+        Some((board, pass)) => Ok(Some(Ground { rest, board, pass })),
+    }
+}
+
+/// A world over the hall of these passes, on that ground.
+fn visit_on<K: Keeper>(alloc: Global, pair: Pair<K>, ground: Ground) -> Visit<K>
+    requires a { IsFit pair.hall.turnstile pair.hall.catalogue pair.a }
+    requires b { IsFit pair.hall.turnstile pair.hall.catalogue pair.b }
+    requires board { IsBoardPass ground.board.turnstile.table ground.pass }
+    ensures a { IsFit result.world.hall.turnstile result.world.hall.catalogue result.a }
+    ensures b { IsFit result.world.hall.turnstile result.world.hall.catalogue result.b }
+    ensures board { IsBoardPass result.world.board.turnstile.table result.board }
+{
+    let Pair { hall, a, b } = pair;
+    let Ground { rest, board, pass } = ground;
+    Visit {
+        world: World {
+            hall,
+            rest,
+            capabilities: Words::of(Vec::new(alloc)),
+            board,
+            traffic: Traffic::new(),
+        },
+        a,
+        b,
+        board: pass,
+    }
+}
+
+/// A world over the hall of these passes, with a board without jobs.
+pub fn visit_of<K: Keeper>(alloc: Global, pair: Pair<K>) -> Result<Option<Visit<K>>, AllocError>
+    requires a { IsFit pair.hall.turnstile pair.hall.catalogue pair.a }
+    requires b { IsFit pair.hall.turnstile pair.hall.catalogue pair.b }
+    ensures { IfOk result (λ o. IfSome o (λ v. IsFit v.world.hall.turnstile v.world.hall.catalogue v.a × IsFit v.world.hall.turnstile v.world.hall.catalogue v.b × IsBoardPass v.world.board.turnstile.table v.board)) }
+{
+    match new_ground(alloc) {
+        Ok(Some(ground)) => Ok(Some(visit_on(alloc, pair, ground))),
+        Ok(None) => {
+            drop(pair);
+            Ok(None)
+        }
+        Err(fault) => {
+            drop(pair);
+            Err(fault)
+        }
+    }
+}
+
+/// Holds a session over a link, and tells its end and what was written.
+pub fn held<R: Wait, K: Keeper>(
+    rt: &R,
+    alloc: Global,
+    world: &World<K>,
+    pass: &mut Pass<CabinetChest<K>>,
+    board: &mut BoardPass,
+    source: &mut Scripted,
+    link: MemoryLink,
+) -> Result<(SessionEnd, Vec<u8>), AllocError>
+    requires fit { IsFit world.now.hall.turnstile world.now.hall.catalogue pass.old }
+    requires board { IsBoardPass world.now.board.turnstile.table board.old }
+    ensures { IfOk result (λ _. IsBoardPass world.now.board.turnstile.table board.new) }
+{
+    let mut link = link;
+    let end = serve_session(rt, alloc, world, pass, board, source, &mut link);
+    Ok((end, Vec::from_slice(alloc, link.taken())?))
+}
