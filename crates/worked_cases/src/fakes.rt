@@ -78,23 +78,33 @@ impl Fakes {
     /// What these lines say, each an object, a verb and a number; `None` where one of them isn't of that form.
     pub fn read(alloc: Global, text: &str) -> Result<Option<Fakes>, AllocError> {
         let mut fakes = Fakes::new(alloc);
+        if fakes.take_in_all(text)? {
+            return Ok(Some(fakes));
+        }
+        Ok(None)
+    }
+
+    /// Takes in these lines, and tells whether each is of the form.
+    fn take_in_all(&mut self, text: &str) -> Result<bool, AllocError> {
         for line in text.lines() {
-            let mut words = line.split(' ');
-            let (Some(object), Some(verb), Some(number)) = (
-                words.next(),
-                words.next(),
-                words.next(),
-            ) else {
-                return Ok(None);
-            };
-            if !fakes.take_in(object, verb, number)? {
-                return Ok(None);
+            if !self.take_in_line(line)? {
+                return Ok(false);
             }
         }
-        Ok(Some(fakes))
+        Ok(true)
     }
 
     /// Takes in one line, and tells whether it is of the form.
+    fn take_in_line(&mut self, line: &str) -> Result<bool, AllocError> {
+        let mut words = line.split(' ');
+        let (Some(object), Some(verb), Some(number)) = (words.next(), words.next(), words.next())
+        else {
+            return Ok(false);
+        };
+        self.take_in(object, verb, number)
+    }
+
+    /// Takes in what a line says of an object, and tells whether it is of the form.
     fn take_in(&mut self, object: &str, verb: &str, number: &str) -> Result<bool, AllocError> {
         let Ok(number) = number.parse::<u64>() else {
             return Ok(false);

@@ -1,8 +1,9 @@
 //! A table of faults: a command is run with the first call of an object failing, with the second and so on up to a run without a
 //! fault, and each of these runs has to come to what a line of the table says.
 use crate::fakes::Fakes;
-use crate::run::{Given, came_to_by};
+use crate::run::{Given, Outcome, came_to_by};
 use crate::stops::Table;
+use disk_model::pick::Pick;
 use std::alloc::Global;
 use std::io;
 
@@ -52,6 +53,23 @@ impl Line {
     }
 }
 
+/// What a run came to, behind which this crash leaves the disk.
+fn came_of(
+    alloc: Global,
+    table: &Table,
+    outcome: Outcome,
+    crash: Option<Pick>,
+) -> io::Result<Came> {
+    let status = String::from_str(alloc, outcome.status.as_str().trim_end())?;
+    let written = Vec::from_slice(alloc, outcome.output.as_slice())?;
+    let left = outcome.left(alloc, crash)?;
+    Ok(Came {
+        status,
+        written,
+        seen: table.seen_in(alloc, left)?,
+    })
+}
+
 /// What the command comes to where this line of its fakes is a fault; `None` where no call fails by it, or where it is of another form.
 fn came_by(
     alloc: Global,
@@ -64,17 +82,12 @@ fn came_by(
         return Ok(None);
     };
     let outcome = came_to_by(alloc, given, &fakes, fakes.disk.over(alloc, disk)?)?;
-    if !outcome.has_failed() {
-        return Ok(None);
+    let crash = fakes.disk.crash;
+    drop(fakes);
+    if outcome.has_failed() {
+        return Ok(Some(came_of(alloc, table, outcome, crash)?));
     }
-    let status = String::from_str(alloc, outcome.status.as_str().trim_end())?;
-    let written = Vec::from_slice(alloc, outcome.output.as_slice())?;
-    let left = outcome.left(alloc, fakes.disk.crash)?;
-    Ok(Some(Came {
-        status,
-        written,
-        seen: table.seen_in(alloc, left)?,
-    }))
+    Ok(None)
 }
 
 /// What the command comes to where the first call of this fault fails, the second, and so on up to a run without a fault. The other

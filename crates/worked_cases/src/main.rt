@@ -10,7 +10,9 @@
 mod disk_fake;
 mod fakes;
 mod faults;
+mod files;
 mod folders;
+mod giving;
 mod moments;
 mod run;
 mod step;

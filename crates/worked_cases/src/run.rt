@@ -1,4 +1,7 @@
 //! One run of the command over memory forms, and how it differs from what is expected.
+ghost use Rattle.command_words.specs.Words.{word_of};
+ghost use Rattle.tile_command.specs.Command.{IsFitFor};
+
 use crate::fakes::{Fake, Fakes};
 use clock::clock::Clock;
 use command_setup::configured::source_number;
@@ -10,9 +13,11 @@ use http_wire::memory_source::MemorySource;
 use http_wire::streams::{ByteSink, ByteSource};
 use silent_disk::SilentDisk;
 use source_render::scripted::Scripted;
+use source_render::source::Source;
 use std::alloc::{AllocError, Global};
 use std::io;
 use tile_command::command::run_command;
+use tile_command::status::Status;
 
 /// What a command is given beside its disk: its words, one a line, the bytes that it reads, the moments that its clock gives, and how
 /// its objects behave.
@@ -95,6 +100,138 @@ fn has_failed(alloc: Global, source: &Scripted) -> Result<bool, AllocError> {
     Ok(!printed.as_str().ends_with("faults: 0 }"))
 }
 
+/// The streams that a command reads.
+#[derive(Drop)]
+struct Streams {
+    catalogue: MemorySource,
+    capabilities: MemorySource,
+    input: MemorySource,
+}
+
+/// The streams of what a command is given, which behave as these fakes say.
+fn streams_of(alloc: Global, given: &Given, fakes: &Fakes) -> Result<Streams, AllocError> {
+    Ok(Streams {
+        catalogue: stream(alloc, given.catalogue.as_slice(), &fakes.catalogue)?,
+        capabilities: stream(alloc, given.capabilities.as_slice(), &fakes.capabilities)?,
+        input: stream(alloc, given.input.as_slice(), &fakes.input)?,
+    })
+}
+
+/// A sink that behaves as these fakes say.
+fn sink_of(alloc: Global, fakes: &Fakes) -> Result<MemorySink, AllocError> {
+    let fails = Vec::from_slice(alloc, fakes.output.fails.as_slice())?;
+    Ok(MemorySink::new(alloc, fails))
+}
+
+/// The source of a catalogue's number, which behaves as these fakes say.
+fn source_of(alloc: Global, given: &Given, fakes: &Fakes) -> Result<Scripted, AllocError> {
+    let fails = Vec::from_slice(alloc, fakes.source.fails.as_slice())?;
+    let number = source_number(alloc, given.catalogue.as_slice())?;
+    Ok(Scripted::new(number, fails))
+}
+
+/// The clock of what a command is given.
+fn clock_of(alloc: Global, given: &Given) -> Result<Clock, AllocError> {
+    let moments = Vec::from_slice(alloc, given.moments.as_slice())?;
+    Ok(Clock::listed(moments))
+}
+
+/// Runs the command over any objects, and tells its status alone.
+fn status_of<S: Source, D: Disk, I: ByteSource, O: ByteSink>(
+    alloc: Global,
+    words: &[Words],
+    catalogue: &mut I,
+    capabilities: &mut I,
+    input: &mut I,
+    output: &mut O,
+    source: &mut S,
+    disk: &mut D,
+    clock: Clock,
+) -> Status
+    requires { IsFitFor (word_of words.now) (I.left catalogue.old) (D.told disk.old) (D.state disk.old).seen }
+{
+    run_command(
+        alloc,
+        words,
+        catalogue,
+        capabilities,
+        input,
+        output,
+        source,
+        disk,
+        clock,
+    )
+}
+
+impl Streams {
+    /// Whether a stream ended too early, or is past the call that was to fail: the input, and any of them.
+    fn have_faulted(&mut self, given: &Given, fakes: &Fakes) -> (bool, bool) {
+        let took_more = has_faulted(&fakes.input, &mut self.input, given.input.as_slice());
+        let catalogue = given.catalogue.as_slice();
+        let capabilities = given.capabilities.as_slice();
+        let failed = took_more
+            || has_faulted(&fakes.catalogue, &mut self.catalogue, catalogue)
+            || has_faulted(&fakes.capabilities, &mut self.capabilities, capabilities);
+        (took_more, failed)
+    }
+}
+
+/// What a command came to, but for its disk.
+#[derive(Drop)]
+struct Told {
+    status: String,
+    output: Vec<u8>,
+    took_more: bool,
+    failed: bool,
+}
+
+/// What a command came to by this status, which left these objects.
+fn told_of(
+    alloc: Global,
+    status: &Status,
+    (took_more, failed): (bool, bool),
+    output: &mut MemorySink,
+    source: &Scripted,
+    fakes: &Fakes,
+) -> Result<Told, AllocError> {
+    let written = Vec::from_slice(alloc, output.taken())?;
+    let failed = failed || has_refused(&fakes.output, output) || has_failed(alloc, source)?;
+    let code = status.code();
+    Ok(Told {
+        status: format!(in alloc; "{code} {status}")?,
+        output: written,
+        took_more,
+        failed,
+    })
+}
+
+/// Runs the command over a disk that stays with the caller.
+fn told_by(
+    alloc: Global,
+    given: &Given,
+    fakes: &Fakes,
+    disk: &mut SilentDisk,
+) -> Result<Told, AllocError> {
+    let words = words_in(alloc, given.words.as_str())?;
+    let clock = clock_of(alloc, given)?;
+    let mut output = sink_of(alloc, fakes)?;
+    let mut source = source_of(alloc, given, fakes)?;
+    let mut streams = streams_of(alloc, given, fakes)?;
+    let status = status_of(
+        alloc,
+        words.as_slice(),
+        &mut streams.catalogue,
+        &mut streams.capabilities,
+        &mut streams.input,
+        &mut output,
+        &mut source,
+        disk,
+        clock,
+    );
+    let faulted = streams.have_faulted(given, fakes);
+    told_of(alloc, &status, faulted, &mut output, &source, fakes)
+}
+
 /// Runs the command over a disk.
 pub fn came_to(alloc: Global, given: &Given, disk: SilentDisk) -> io::Result<Outcome> {
     came_to_by(alloc, given, &given.fakes, disk)
@@ -107,44 +244,13 @@ pub fn came_to_by(
     fakes: &Fakes,
     disk: SilentDisk,
 ) -> io::Result<Outcome> {
-    let words = words_in(alloc, given.words.as_str())?;
-    let mut catalogue = stream(alloc, given.catalogue.as_slice(), &fakes.catalogue)?;
-    let mut capabilities = stream(alloc, given.capabilities.as_slice(), &fakes.capabilities)?;
-    let mut input = stream(alloc, given.input.as_slice(), &fakes.input)?;
-    let output_fails = Vec::from_slice(alloc, fakes.output.fails.as_slice())?;
-    let mut output = MemorySink::new(alloc, output_fails);
-    let number = source_number(alloc, given.catalogue.as_slice())?;
-    let source_fails = Vec::from_slice(alloc, fakes.source.fails.as_slice())?;
-    let mut source = Scripted::new(number, source_fails);
     let mut disk = disk;
-    let status = run_command(
-        alloc,
-        words.as_slice(),
-        &mut catalogue,
-        &mut capabilities,
-        &mut input,
-        &mut output,
-        &mut source,
-        &mut disk,
-        Clock::listed(Vec::from_slice(alloc, given.moments.as_slice())?),
-    );
-    let code = status.code();
-    let written = Vec::from_slice(alloc, output.taken())?;
-    let took_more = has_faulted(&fakes.input, &mut input, given.input.as_slice());
-    let failed = took_more
-        || has_faulted(&fakes.catalogue, &mut catalogue, given.catalogue.as_slice())
-        || has_faulted(
-            &fakes.capabilities,
-            &mut capabilities,
-            given.capabilities.as_slice(),
-        )
-        || has_refused(&fakes.output, &mut output)
-        || has_failed(alloc, &source)?;
+    let told = told_by(alloc, given, fakes, &mut disk)?;
     Ok(Outcome {
-        status: format!(in alloc; "{code} {status}")?,
-        output: written,
-        took_more: fakes.input.fails_next && took_more,
-        failed,
+        status: told.status,
+        output: told.output,
+        took_more: fakes.input.fails_next && told.took_more,
+        failed: told.failed,
         disk,
         length: fakes.disk.length,
     })

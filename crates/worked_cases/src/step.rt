@@ -2,8 +2,9 @@
 use crate::fakes::Fakes;
 use crate::faults;
 use crate::faults::Line;
-use crate::folders::{bytes_of, bytes_or_none, repeated};
-use crate::moments::moments_in;
+use crate::files::{own, own_often, shared, text};
+use crate::folders::bytes_of;
+use crate::giving::given_of;
 use crate::run::{Expected, Given, Outcome, came_to};
 use crate::stops::Table;
 use std::alloc::{AllocError, Global};
@@ -23,63 +24,31 @@ pub struct Ran {
     pub disk: Vec<u8>,
 }
 
-/// Reads a file of a step; where the step has none, that of its case.
-fn shared<R: Files<File = File> + AllocGlobal>(
+/// The status that a step has to come to.
+fn status_of<R: Files<File = File> + AllocGlobal>(
     rt: &R,
     case: &str,
     step: &str,
-    name: &str,
-) -> io::Result<Vec<u8>> {
-    let own = format!(in rt.alloc(); "{case}/{step}/{name}")?;
-    if let Some(bytes) = bytes_of(rt, own.as_str())? {
-        return Ok(bytes);
-    }
-    let common = format!(in rt.alloc(); "{case}/{name}")?;
-    bytes_or_none(rt, common.as_str())
-}
-
-/// Reads a file of a step; no bytes where it has none.
-fn own<R: Files<File = File> + AllocGlobal>(
-    rt: &R,
-    case: &str,
-    step: &str,
-    name: &str,
-) -> io::Result<Vec<u8>> {
-    let path = format!(in rt.alloc(); "{case}/{step}/{name}")?;
-    bytes_or_none(rt, path.as_str())
-}
-
-/// Reads a file of a step as a text; an empty one where it has none.
-fn text<R: Files<File = File> + AllocGlobal>(
-    rt: &R,
-    case: &str,
-    step: &str,
-    name: &str,
 ) -> io::Result<String> {
-    let bytes = own(rt, case, step, name)?;
-    String::from_utf8(bytes).map_err(|_| io::Error::from(io::ErrorKind::InvalidData))
+    let told = text(rt, case, step, "status")?;
+    let status = match told.as_str().trim_end() {
+        "" => "0",
+        status => status,
+    };
+    Ok(String::from_str(rt.alloc(), status)?)
 }
 
-/// What a command is given by the files of a step, beside these moments.
-fn given_by<R: Files<File = File> + AllocGlobal>(
+/// What has to be written in a step: its output so many times, and its ending.
+fn output_of<R: Files<File = File> + AllocGlobal>(
     rt: &R,
     case: &str,
     step: &str,
-    moments: Vec<u64>,
-    fakes: Fakes,
-) -> io::Result<Given> {
-    let alloc = rt.alloc();
-    let catalogue = shared(rt, case, step, "catalogue.json")?;
-    let capabilities = shared(rt, case, step, "capabilities.xml")?;
-    let input = own(rt, case, step, "input")?;
-    Ok(Given {
-        words: text(rt, case, step, "words")?,
-        catalogue: repeated(alloc, catalogue.as_slice(), fakes.catalogue.times)?,
-        capabilities: repeated(alloc, capabilities.as_slice(), fakes.capabilities.times)?,
-        input: repeated(alloc, input.as_slice(), fakes.input.times)?,
-        moments,
-        fakes,
-    })
+    times: u64,
+) -> io::Result<Vec<u8>> {
+    let ending = own(rt, case, step, "ending")?;
+    let mut output = own_often(rt, case, step, "output", times)?;
+    output.extend_from_slice(ending.as_slice())?;
+    Ok(output)
 }
 
 /// What has to come of a step, whose output stands so many times.
@@ -89,18 +58,9 @@ fn expected_of<R: Files<File = File> + AllocGlobal>(
     step: &str,
     times: u64,
 ) -> io::Result<Expected> {
-    let told = text(rt, case, step, "status")?;
-    let status = match told.as_str().trim_end() {
-        "" => "0",
-        status => status,
-    };
-    let once = own(rt, case, step, "output")?;
-    let ending = own(rt, case, step, "ending")?;
-    let mut output = repeated(rt.alloc(), once.as_slice(), times)?;
-    output.extend_from_slice(ending.as_slice())?;
     Ok(Expected {
-        status: String::from_str(rt.alloc(), status)?,
-        output,
+        status: status_of(rt, case, step)?,
+        output: output_of(rt, case, step, times)?,
         front: own(rt, case, step, "disk_front")?,
     })
 }
@@ -122,6 +82,38 @@ fn images_of<R: Files<File = File> + AllocGlobal>(
     Ok(images)
 }
 
+/// The words of the command that looks at what a step leaves.
+fn look_words_of<R: Files<File = File> + AllocGlobal>(
+    rt: &R,
+    case: &str,
+    step: &str,
+) -> io::Result<String> {
+    let told = text(rt, case, step, "look")?;
+    let words = match told.as_str() {
+        "" => "usage",
+        words => words,
+    };
+    Ok(String::from_str(rt.alloc(), words)?)
+}
+
+/// What the command that looks at what a step leaves is given: the same documents as the step's own.
+fn look_of<R: Files<File = File> + AllocGlobal>(
+    rt: &R,
+    case: &str,
+    step: &str,
+    given: &Given,
+) -> io::Result<Given> {
+    let alloc = rt.alloc();
+    Ok(Given {
+        words: look_words_of(rt, case, step)?,
+        catalogue: Vec::from_slice(alloc, given.catalogue.as_slice())?,
+        capabilities: Vec::from_slice(alloc, given.capabilities.as_slice())?,
+        input: own(rt, case, step, "look_input")?,
+        moments: Vec::new(alloc),
+        fakes: Fakes::new(alloc),
+    })
+}
+
 /// The table of stops of a step, whose look is given the same documents. It has no image where the step has none.
 fn table_of<R: Files<File = File> + AllocGlobal>(
     rt: &R,
@@ -129,23 +121,10 @@ fn table_of<R: Files<File = File> + AllocGlobal>(
     step: &str,
     given: &Given,
 ) -> io::Result<Table> {
-    let alloc = rt.alloc();
-    let told = text(rt, case, step, "look")?;
-    let words = match told.as_str() {
-        "" => "usage",
-        words => words,
-    };
-    let look = Given {
-        words: String::from_str(alloc, words)?,
-        catalogue: Vec::from_slice(alloc, given.catalogue.as_slice())?,
-        capabilities: Vec::from_slice(alloc, given.capabilities.as_slice())?,
-        input: own(rt, case, step, "look_input")?,
-        moments: Vec::new(alloc),
-        fakes: Fakes::new(alloc),
-    };
+    let images = images_of(rt, case, step)?;
     Ok(Table {
-        look,
-        images: images_of(rt, case, step)?,
+        look: look_of(rt, case, step, given)?,
+        images,
     })
 }
 
@@ -207,41 +186,93 @@ struct Wanted {
     lines: Vec<Line>,
 }
 
-/// How what a step gives differs from what is wanted of it, where its own run came to this.
-fn difference_of(
-    alloc: Global,
-    given: &Given,
-    outcome: &Outcome,
-    wanted: &Wanted,
-    rest: &str,
-    disk: &[u8],
-) -> io::Result<Option<String>> {
-    let difference = outcome.differs_from(alloc, &wanted.expected)?;
-    if difference.is_some() {
-        return Ok(difference);
-    }
-    let difference = wanted.table.difference_of(alloc, given, disk)?;
-    if difference.is_some() {
-        return Ok(difference);
-    }
-    let lines = wanted.lines.as_slice();
-    faults::differs_from(alloc, given, &wanted.table, lines, rest, disk)
+/// What the files of a step say.
+#[derive(Drop)]
+struct Plan {
+    given: Given,
+    wanted: Wanted,
+    /// The lines of its fakes.
+    rest: String,
 }
 
-/// Runs what a step gives over a disk, and tells what came of it. The lines of its fakes are `rest`.
-fn judged(
-    alloc: Global,
+/// What is wanted of a step that gives this.
+fn wanted_of<R: Files<File = File> + AllocGlobal>(
+    rt: &R,
+    case: &str,
+    step: &str,
     given: &Given,
-    wanted: &Wanted,
-    rest: &str,
-    disk: &[u8],
-) -> io::Result<Ran> {
-    let faked = &given.fakes.disk;
-    let outcome = came_to(alloc, given, faked.over(alloc, disk)?)?;
-    Ok(Ran {
-        difference: difference_of(alloc, given, &outcome, wanted, rest, disk)?,
-        disk: outcome.left(alloc, faked.crash)?,
+    lines: Vec<Line>,
+) -> io::Result<Wanted> {
+    Ok(Wanted {
+        expected: expected_of(rt, case, step, given.fakes.expected.times)?,
+        table: table_of(rt, case, step, given)?,
+        lines,
     })
+}
+
+/// The plan of a step that gives this.
+fn plan_with<R: Files<File = File> + AllocGlobal>(
+    rt: &R,
+    case: &str,
+    step: &str,
+    given: Given,
+    lines: Vec<Line>,
+) -> io::Result<Plan> {
+    let rest = text(rt, case, step, "fakes")?;
+    let wanted = wanted_of(rt, case, step, &given, lines)?;
+    Ok(Plan {
+        given,
+        wanted,
+        rest,
+    })
+}
+
+/// The plan of a step; which of its files isn't of its form, where one isn't.
+fn plan_of<R: Files<File = File> + AllocGlobal>(
+    rt: &R,
+    case: &str,
+    step: &str,
+) -> io::Result<Result<Plan, &'static str>> {
+    let Some(lines) = lines_of(rt, case, step)? else {
+        return Ok(Err("its file faults has a line of another form"));
+    };
+    match given_of(rt, case, step)? {
+        Ok(given) => Ok(Ok(plan_with(rt, case, step, given, lines)?)),
+        Err(fault) => Ok(Err(fault)),
+    }
+}
+
+impl Plan {
+    /// How what the step gives differs from what is wanted of it, where its own run came to this.
+    fn difference_of(
+        &self,
+        alloc: Global,
+        outcome: &Outcome,
+        disk: &[u8],
+    ) -> io::Result<Option<String>> {
+        let wanted = &self.wanted;
+        let difference = outcome.differs_from(alloc, &wanted.expected)?;
+        if difference.is_some() {
+            return Ok(difference);
+        }
+        let difference = wanted.table.difference_of(alloc, &self.given, disk)?;
+        if difference.is_some() {
+            return Ok(difference);
+        }
+        let (lines, rest) = (wanted.lines.as_slice(), self.rest.as_str());
+        faults::differs_from(alloc, &self.given, &wanted.table, lines, rest, disk)
+    }
+
+    /// Runs what the step gives over a disk, and tells what came of it.
+    fn ran(&self, alloc: Global, disk: &[u8]) -> io::Result<Ran> {
+        let faked = &self.given.fakes.disk;
+        let outcome = came_to(alloc, &self.given, faked.over(alloc, disk)?)?;
+        let difference = self.difference_of(alloc, &outcome, disk)?;
+        Ok(Ran {
+            difference,
+            disk: outcome.left(alloc, faked.crash)?,
+        })
+    }
 }
 
 /// What came of a step one of whose files isn't of its form; the disk stays.
@@ -252,6 +283,17 @@ fn unread(alloc: Global, disk: Vec<u8>, fault: &str) -> Result<Ran, AllocError> 
     })
 }
 
+/// The disk that a step's own file has, or else the one that the step before it left.
+fn disk_of<R: Files<File = File> + AllocGlobal>(
+    rt: &R,
+    case: &str,
+    step: &str,
+    left: Vec<u8>,
+) -> io::Result<Vec<u8>> {
+    let path = format!(in rt.alloc(); "{case}/{step}/disk")?;
+    Ok(bytes_of(rt, path.as_str())?.unwrap_or(left))
+}
+
 /// Runs a step over the disk that its own file has, or else over the one that the step before it left.
 pub fn run_step<R: Files<File = File> + AllocGlobal>(
     rt: &R,
@@ -259,27 +301,9 @@ pub fn run_step<R: Files<File = File> + AllocGlobal>(
     step: &str,
     left: Vec<u8>,
 ) -> io::Result<Ran> {
-    let alloc = rt.alloc();
-    let lines = text(rt, case, step, "fakes")?;
-    let Some(fakes) = Fakes::read(alloc, lines.as_str())? else {
-        return Ok(unread(alloc, left, "its file fakes has a line of another form")?);
-    };
-    let numbers = text(rt, case, step, "moments")?;
-    let Some(moments) = moments_in(alloc, numbers.as_str())? else {
-        return Ok(unread(alloc, left, "its file moments has a word that is no number")?);
-    };
-    let Some(faults) = lines_of(rt, case, step)? else {
-        return Ok(unread(alloc, left, "its file faults has a line of another form")?);
-    };
-    let expected = expected_of(rt, case, step, fakes.expected.times)?;
-    let given = given_by(rt, case, step, moments, fakes)?;
-    let table = table_of(rt, case, step, &given)?;
-    let wanted = Wanted {
-        expected,
-        table,
-        lines: faults,
-    };
-    let path = format!(in alloc; "{case}/{step}/disk")?;
-    let disk = bytes_of(rt, path.as_str())?.unwrap_or(left);
-    judged(alloc, &given, &wanted, lines.as_str(), disk.as_slice())
+    let disk = disk_of(rt, case, step, left)?;
+    match plan_of(rt, case, step)? {
+        Ok(plan) => plan.ran(rt.alloc(), disk.as_slice()),
+        Err(fault) => Ok(unread(rt.alloc(), disk, fault)?),
+    }
 }
