@@ -30,6 +30,9 @@ fn is_hit_for_the_other<R: Wait, K: Keeper>(rt: &R, alloc: Global, pair: Pair<K>
     let first = got(rt, alloc, &hall, &mut a, &mut source, &first_tile());
     hall.turnstile.meet(&mut a, &mut b);
     let second = got(rt, alloc, &hall, &mut b, &mut source, &first_tile());
+    let counts = counted(rt, &hall, &mut b);
+    let is_kept = is_kept_up(rt, &hall, &mut b);
+    drop((hall, a, b));
     let expected = Counts {
         metatiles: 1,
         bytes: 23,
@@ -37,8 +40,8 @@ fn is_hit_for_the_other<R: Wait, K: Keeper>(rt: &R, alloc: Global, pair: Pair<K>
     };
     first.is_some_and(|tile| !tile.hit && tile.number == 1)
         && second.is_some_and(|tile| tile.hit && tile.number == 1)
-        && counted(rt, &hall, &mut b) == expected
-        && is_kept_up(rt, &hall, &mut b)
+        && counts == expected
+        && is_kept
 }
 
 #[test]
@@ -62,6 +65,7 @@ fn is_newer_after_a_cut<R: Wait, K: Keeper>(rt: &R, alloc: Global, pair: Pair<K>
     hall.turnstile.meet(&mut a, &mut b);
     let seen = hall.turnstile.seen(&b);
     let tile = got(rt, alloc, &hall, &mut b, &mut source, &first_tile());
+    drop((hall, a, b));
     first.is_some()
         && number == Some(2)
         && seen == 2
@@ -87,6 +91,7 @@ fn is_rendered_anew<R: Wait, K: Keeper>(rt: &R, alloc: Global, pair: Pair<K>) ->
     let second = refreshed(rt, alloc, &hall, &mut a, &mut source, false);
     let forced = refreshed(rt, alloc, &hall, &mut a, &mut source, true);
     let tile = got(rt, alloc, &hall, &mut a, &mut source, &first_tile());
+    drop((hall, a));
     first == Some(Refreshed::Made(1))
         && second == Some(Refreshed::AlreadyKept(1))
         && forced == Some(Refreshed::Made(2))
@@ -183,6 +188,7 @@ fn is_answered_by<R: Threads + Wait + Sync, K: Keeper + Send>(
             requires { IsFit shared.now.turnstile shared.now.catalogue b }
         { got_meanwhile(rt, alloc, shared, b, beside) },
     );
+    drop(hall);
     first && second
 }
 
