@@ -1,5 +1,5 @@
 use Rattle.std.proofs.Common.{false}
-use Rattle.seed_tests.proofs.stage.hall_of.Given as goal
+use Rattle.hall_tests.proofs.stage.hall_of.Given as goal
 
 abbrev pub ghost-make : goal.ghost-make
 ghost-make a = false
