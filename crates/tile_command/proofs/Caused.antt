@@ -8,6 +8,8 @@ use Rattle.catalog.specs.declared.catalogue.Catalogue.{Catalogue}
 use Rattle.causes.specs.Causes.{Rose}
 use Rattle.clock.specs.Readings.{Readings}
 use Rattle.command_setup.specs.Setup.{HasRisen}
+use Rattle.command_status.specs.declared.status.Status.TheVariants as status
+use Rattle.command_status.specs.declared.status.Status.{Status}
 use Rattle.command_words.specs.declared.words.KeptWord.{KeptWord}
 use Rattle.command_words.specs.declared.words.KeptWord.TheVariants as kept
 use Rattle.command_words.specs.declared.words.MemoryWord.{MemoryWord}
@@ -38,8 +40,6 @@ use Rattle.tile_command.specs.Command.{HasServed}
 use Rattle.tile_command.specs.Kept.{HasKeptUp, HasRun}
 use Rattle.tile_command.specs.Memory.{HasWorked, MemoryTells}
 use Rattle.tile_command.specs.Statuses.{status_of_drill, status_of_kept, status_of_schedule, status_of_session}
-use Rattle.tile_command.specs.declared.status.Status.{Status}
-use Rattle.tile_command.specs.declared.status.Status.TheVariants as status
 use Rattle.tile_drill.specs.declared.drill.DrillEnd.{DrillEnd}
 use Rattle.tile_drill.specs.declared.drill.DrillEnd.TheVariants as drill_end
 use Rattle.tile_drill.specs.Drill.{Drills}

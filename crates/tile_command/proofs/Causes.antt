@@ -11,6 +11,7 @@ use Rattle.command_setup.specs.declared.configured.Unconfigured.{Unconfigured}
 use Rattle.command_setup.specs.declared.configured.Unconfigured.TheVariants as unconfigured
 use Rattle.command_setup.specs.Setup as setup
 use Rattle.command_setup.specs.Setup.{Configures, HasRisen, IsDocument, IsRefused, IsTooLongText}
+use Rattle.command_status.specs.declared.status.Status.TheVariants as status
 use Rattle.command_words.specs.declared.words.Word.{Word}
 use Rattle.http_wire.specs.declared.message.Message.{Message}
 use Rattle.http_wire.specs.declared.message.Stop.TheVariants as stop
@@ -19,7 +20,6 @@ use Rattle.kept_words.specs.Change.{DiskChange}
 use Rattle.tile_command.specs.Causes.{BreaksOff, ComesToEnd, HaveLast, IsCaused, IsOver, OfDocument, OfInput, RefusesSo, RunRefuses}
 use Rattle.tile_command.specs.Change.{CommandChange}
 use Rattle.tile_command.specs.Statuses.{status_of_refusal, status_of_schedule, status_of_session}
-use Rattle.tile_command.specs.declared.status.Status.TheVariants as status
 use Rattle.tile_service.specs.declared.run_lines.RunEnd.{RunEnd}
 use Rattle.tile_service.specs.declared.run_lines.RunEnd.TheVariants as run_end
 use Rattle.tile_service.specs.declared.schedule.ScheduleEnd.{ScheduleEnd}

@@ -4,6 +4,8 @@ use Rattle.std.proofs.Common.{ap, ◌∙◌, inl, inr, refl, arith}
 use Rattle.catalog.specs.declared.catalogue.Catalogue.{Catalogue}
 use Rattle.catalog.specs.declared.fault.CatalogueFault.{CatalogueFault}
 use Rattle.clock.specs.Readings.{Readings}
+use Rattle.command_status.specs.declared.status.Status.TheVariants as status
+use Rattle.command_status.specs.declared.status.Status.{Status}
 use Rattle.command_words.specs.declared.words.KeptWord.TheVariants as kept
 use Rattle.command_words.specs.declared.words.MemoryWord.{MemoryWord}
 use Rattle.command_words.specs.declared.words.MemoryWord.TheVariants as memory
@@ -20,8 +22,6 @@ use Rattle.jobs.specs.Reading.{job_of}
 use Rattle.kept_words.specs.Change.{DiskChange}
 use Rattle.tile_command.specs.Causes.{AreCutsFull, BreaksStream, IsCacheRefused, IsCaused, IsFaulty, IsInputOver, IsMalformed, IsMalformedAs, IsOver, IsThrough, NothingFails, OfDocument, RefusesLine, UnderBoth, UnderCatalogue, UnderInput}
 use Rattle.tile_command.specs.Change.{CommandChange}
-use Rattle.tile_command.specs.declared.status.Status.{Status}
-use Rattle.tile_command.specs.declared.status.Status.TheVariants as status
 use Rattle.tile_command.specs.Exact.{AreModelled, IsTold}
 use Rattle.tile_command.proofs.Caused.{no_disk, no_read}
 use Rattle.tile_service.specs.declared.session.SessionEnd.{SessionEnd}

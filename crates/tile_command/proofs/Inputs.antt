@@ -4,6 +4,8 @@ use Rattle.std.proofs.Common.{ap, arith, inl, inr, refl, subst, sym, ◌∙◌}
 use Rattle.cabinet.specs.State.{State, fresh_state}
 use Rattle.catalog.specs.declared.catalogue.Catalogue.{Catalogue}
 use Rattle.clock.specs.Readings.{Readings}
+use Rattle.command_status.specs.declared.status.Status.TheVariants as status
+use Rattle.command_status.specs.declared.status.Status.{Status}
 use Rattle.command_words.specs.declared.words.KeptWord.TheVariants as kept
 use Rattle.command_words.specs.declared.words.MemoryWord.TheVariants as memory
 use Rattle.command_words.specs.declared.words.Word.{Word}
@@ -15,8 +17,6 @@ use Rattle.kept_words.specs.Opened.{IsRefused}
 use Rattle.kept_words.proofs.Refusing.{not_opened}
 use Rattle.tile_command.specs.Causes.{AreCutsFull, BreaksOff, BreaksStream, ComesToEnd, IsCacheRefused, IsCaused, IsInputOver, IsMalformed, IsOver, IsThrough, NothingFails, OfDocument, Opening, RefusesLine, RunRefuses, UnderBoth, UnderCatalogue}
 use Rattle.tile_command.specs.Change.{CommandChange, without_disk}
-use Rattle.tile_command.specs.declared.status.Status.{Status}
-use Rattle.tile_command.specs.declared.status.Status.TheVariants as status
 use Rattle.tile_command.specs.Exact.{AreModelled, EachRunRefuses, HasIllLine, IsBreakTold, IsIllAt, IsTold, IsToldBy, OfLines, OpensModelled, RefusesInAll, UnderSchedule}
 use Rattle.tile_command.proofs.Breaks.{broken_or_ended, one_break}
 use Rattle.tile_command.proofs.Caused.{no_disk, no_read}

@@ -1,4 +1,3 @@
-pub mod Fitting
 pub mod Serving
 pub mod Causes
 pub mod Caused

@@ -1,5 +1,7 @@
 -- What the ends of the work and the refusals before it tell.
 use Rattle.std.proofs.Common.{◌≡◌, ◌↔◌, Option, Some, None, inl, inr, sym, ◌∙◌}
+use Rattle.command_status.specs.declared.status.Status.TheVariants as status
+use Rattle.command_status.specs.declared.status.Status.{Status}
 use Rattle.command_words.specs.declared.words.MemoryWord.{MemoryWord}
 use Rattle.command_words.specs.declared.words.MemoryWord.TheVariants as memory
 use Rattle.command_words.specs.declared.words.Word.{Word}
@@ -14,8 +16,6 @@ use Rattle.tile_command.specs.Change.{CommandChange, Stays, without_disk}
 use Rattle.tile_command.specs.Command.{HasServed}
 use Rattle.tile_command.specs.Memory.{MemoryTells}
 use Rattle.tile_command.specs.Statuses.{status_of_drill, status_of_kept, status_of_refusal, status_of_schedule, status_of_session}
-use Rattle.tile_command.specs.declared.status.Status.{Status}
-use Rattle.tile_command.specs.declared.status.Status.TheVariants as status
 use Rattle.tile_drill.specs.declared.drill.DrillEnd.{DrillEnd}
 use Rattle.tile_drill.specs.declared.drill.DrillEnd.TheVariants as drill_end
 use Rattle.tile_service.specs.declared.schedule.ScheduleEnd.{ScheduleEnd}

@@ -10,6 +10,8 @@ use Rattle.catalog.specs.declared.fault.CatalogueFault.{CatalogueFault}
 use Rattle.causes.specs.Causes.{Rose, RoseBy}
 use Rattle.clock.specs.Readings.{Readings}
 use Rattle.command_setup.specs.Setup.{HasRisen}
+use Rattle.command_status.specs.declared.status.Status.TheVariants as status
+use Rattle.command_status.specs.declared.status.Status.{Status}
 use Rattle.command_words.specs.declared.words.KeptWord.TheVariants as kept
 use Rattle.command_words.specs.declared.words.MemoryWord.TheVariants as memory
 use Rattle.command_words.specs.declared.words.UpkeepWord.TheVariants as upkeep
@@ -28,8 +30,6 @@ use Rattle.jobs.specs.Reading.{job_of}
 use Rattle.kept_words.specs.Change.{DiskChange, HasFailed}
 use Rattle.kept_words.specs.Opened.{IsOpened, IsRefused}
 use Rattle.tile_command.specs.Change.{CommandChange, without_disk}
-use Rattle.tile_command.specs.declared.status.Status.{Status}
-use Rattle.tile_command.specs.declared.status.Status.TheVariants as status
 use Rattle.tile_requests.specs.Requests.{Chance}
 use Rattle.tile_service.specs.declared.session.SessionEnd.{SessionEnd}
 use Rattle.tile_service.specs.declared.session.SessionEnd.TheVariants as session

@@ -3,9 +3,9 @@ use Rattle.std.specs.Prelude.{ℕ, ◌≡◌, List}
 use Rattle.catalog.specs.declared.catalogue.Catalogue.{Catalogue}
 use Rattle.command_setup.specs.Setup.{AreRead, IsRefused}
 use Rattle.command_setup.specs.declared.configured.Unconfigured.{Unconfigured}
+use Rattle.command_status.specs.declared.status.Status.{Status}
 use Rattle.kept_words.specs.Change.{OutputChange}
 use Rattle.tile_command.specs.Statuses.{status_of_refusal}
-use Rattle.tile_command.specs.declared.status.Status.{Status}
 use Rattle.tile_service.specs.Outside.{InputChange, Outside, counts}
 
 -- what a command saw of its inputs, of its source and of its output, and how often its disk failed; `input` is what the words speak

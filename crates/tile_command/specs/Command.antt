@@ -2,11 +2,12 @@
 use Rattle.std.specs.Prelude.{ℕ, ◌≡◌, Bool, IsTrue, List, Option, Some, None, Ok, ⊤}
 use Rattle.catalog.specs.declared.catalogue.Catalogue.{Catalogue}
 use Rattle.clock.specs.Readings.{Readings}
+use Rattle.command_setup.specs.Held.{HoldsFile, MayBe}
+use Rattle.command_status.specs.declared.status.Status.{Status}
 use Rattle.command_words.specs.declared.words.UpkeepWord.{UpkeepWord}
 use Rattle.command_words.specs.declared.words.UpkeepWord.TheVariants as upkeep
 use Rattle.command_words.specs.declared.words.Word.{Word}
 use Rattle.command_words.specs.declared.words.Word.TheVariants as word
-use Rattle.config_text.specs.Text.{catalogue_of}
 use Rattle.disk_model.specs.Content.{Content}
 use Rattle.durable_cabinet.specs.Images.{IsOurs}
 use Rattle.kept_words.specs.Change.{DiskChange}
@@ -14,20 +15,10 @@ use Rattle.tile_command.specs.Change.{CommandChange, Stays, output_of, without_d
 use Rattle.tile_command.specs.Job.{JobTells}
 use Rattle.tile_command.specs.Kept.{HasLasted, RunTells, UpkeepLasts, UpkeepTells}
 use Rattle.tile_command.specs.Memory.{MemoryTells}
-use Rattle.tile_command.specs.declared.status.Status.{Status}
 
 -- WHAT IT NEEDS
 
--- the catalogue of a text that an input has; where the text isn't modelled, any
-abbrev pub MayBe : Option (List ℕ) → Catalogue → Type 0
-MayBe None c = ⊤
-MayBe (Some text) c = catalogue_of text ≡ Ok c
-
--- a disk that is modelled holds a file of this program, by the catalogue of the text
-abbrev pub HoldsFile : Option (List ℕ) → Bool → Content → Type 0
-HoldsFile text told seen = (c : Catalogue) → MayBe text c → IsTrue told → IsOurs c seen
-
--- so is the disk of each step of upkeep but the making, which needs nothing of it
+-- the disk of each step of upkeep but the making, which needs nothing of it, holds a file of this program
 abbrev pub IsFitUnder : Catalogue → UpkeepWord → Bool → Content → Type 0
 IsFitUnder c upkeep.Make told seen = ⊤
 IsFitUnder c upkeep.Truncate told seen = IsTrue told → IsOurs c seen

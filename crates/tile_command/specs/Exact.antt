@@ -4,6 +4,8 @@ use Rattle.cabinet.specs.State.{State, fresh_state}
 use Rattle.catalog.specs.declared.fault.CatalogueFault.{CatalogueFault}
 use Rattle.causes.specs.Causes.{RoseBy}
 use Rattle.clock.specs.Readings.{Readings}
+use Rattle.command_status.specs.declared.status.Status.TheVariants as status
+use Rattle.command_status.specs.declared.status.Status.{Status}
 use Rattle.command_words.specs.declared.words.KeptWord.TheVariants as kept
 use Rattle.command_words.specs.declared.words.MemoryWord.TheVariants as memory
 use Rattle.command_words.specs.declared.words.Word.{Word}
@@ -17,8 +19,6 @@ use Rattle.job_forms.specs.declared.fault.JobFault.{JobFault}
 use Rattle.kept_words.specs.Change.{DiskChange}
 use Rattle.tile_command.specs.Causes.{AreCutsFull, BreaksStream, IsCacheRefused, IsFaulty, IsInputOver, IsMalformed, IsOver, NothingFails, OfDocument, Opening, UnderBoth, UnderCatalogue}
 use Rattle.tile_command.specs.Change.{CommandChange, without_disk}
-use Rattle.tile_command.specs.declared.status.Status.{Status}
-use Rattle.tile_command.specs.declared.status.Status.TheVariants as status
 use Rattle.tile_requests.specs.Requests.{Chance}
 use Rattle.tile_service.specs.declared.session.SessionEnd.{SessionEnd}
 use Rattle.tile_service.specs.declared.session.SessionEnd.TheVariants as session

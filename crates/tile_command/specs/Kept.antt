@@ -4,6 +4,7 @@ use Rattle.catalog.specs.declared.catalogue.Catalogue.{Catalogue}
 use Rattle.clock.specs.Readings.{Readings}
 use Rattle.command_setup.specs.Setup.{Configures, IsRead}
 use Rattle.command_setup.specs.declared.configured.Unconfigured.{Unconfigured}
+use Rattle.command_status.specs.declared.status.Status.{Status}
 use Rattle.command_words.specs.declared.words.KeptWord.{KeptWord}
 use Rattle.command_words.specs.declared.words.KeptWord.TheVariants as kept
 use Rattle.command_words.specs.declared.words.UpkeepWord.{UpkeepWord}
@@ -15,7 +16,6 @@ use Rattle.kept_words.specs.Runs.{RunsSchedule, RunsSession}
 use Rattle.kept_words.specs.declared.end.KeptEnd.{KeptEnd}
 use Rattle.tile_command.specs.Change.{CommandChange, IsUnready, Stays, WithBoth}
 use Rattle.tile_command.specs.Statuses.{status_of_kept, status_of_refusal}
-use Rattle.tile_command.specs.declared.status.Status.{Status}
 use Rattle.tile_service.specs.Outside.{InputChange, Outside}
 
 -- RUNS

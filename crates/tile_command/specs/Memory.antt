@@ -2,11 +2,11 @@
 use Rattle.std.specs.Prelude.{ℕ, ◌≡◌, ◌⊎◌, List}
 use Rattle.cabinet.specs.State.{State, IsKnown, fresh_state}
 use Rattle.clock.specs.Readings.{Readings}
+use Rattle.command_status.specs.declared.status.Status.{Status}
 use Rattle.command_words.specs.declared.words.MemoryWord.{MemoryWord}
 use Rattle.command_words.specs.declared.words.MemoryWord.TheVariants as memory
 use Rattle.tile_command.specs.Change.{CommandChange, IsUnready, Stays, WithBoth}
 use Rattle.tile_command.specs.Statuses.{status_of_drill, status_of_schedule, status_of_session}
-use Rattle.tile_command.specs.declared.status.Status.{Status}
 use Rattle.tile_drill.specs.declared.drill.DrillEnd.{DrillEnd}
 use Rattle.tile_drill.specs.Drill.{Drills}
 use Rattle.tile_service.specs.declared.schedule.ScheduleEnd.{ScheduleEnd}

@@ -2,8 +2,8 @@
 ghost use Rattle.std.specs.Prelude.{◌≡◌};
 ghost use Rattle.tile_command.specs.Statuses.{status_of_drill, status_of_kept, status_of_refusal, status_of_schedule, status_of_session};
 
-use crate::status::Status;
 use command_setup::configured::Unconfigured;
+use command_status::status::Status;
 use kept_words::end::KeptEnd;
 use tile_drill::drill::DrillEnd;
 use tile_service::schedule::ScheduleEnd;

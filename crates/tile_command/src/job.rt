@@ -1,16 +1,16 @@
 //! A job on the cache of the disk.
 ghost use Rattle.std.specs.Prelude.{◌≡◌, ⊤};
+ghost use Rattle.command_setup.specs.Held.{HoldsFile};
 ghost use Rattle.kept_words.specs.Change.{DiskChange};
 ghost use Rattle.tile_command.specs.Change.{Stays};
-ghost use Rattle.tile_command.specs.Command.{HoldsFile};
 ghost use Rattle.tile_command.specs.Job.{JobTells};
 ghost use Rattle.tile_command.specs.Kept.{HasLasted};
 ghost use Rattle.tile_service.specs.Outside.{InputChange, Outside, counts};
 
 use crate::ends::{status_of_kept, status_of_refusal};
-use crate::status::Status;
 use clock::clock::Clock;
 use command_setup::configured::configured;
+use command_status::status::Status;
 use disk_model::disk::Disk;
 use http_wire::streams::{ByteSink, ByteSource};
 use job_words::word::run_job;

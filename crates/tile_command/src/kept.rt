@@ -1,19 +1,19 @@
 //! A run on the cache of the disk.
 ghost use Rattle.std.specs.Prelude.{◌≡◌, IsTrue, ⊤};
 ghost use Rattle.catalog.specs.Valid.{IsValid};
+ghost use Rattle.command_setup.specs.Held.{HoldsFile};
 ghost use Rattle.durable_cabinet.specs.Images.{IsOurs};
 ghost use Rattle.kept_words.specs.Change.{DiskChange};
 ghost use Rattle.kept_words.specs.Crash.{LastsThrough};
 ghost use Rattle.tile_command.specs.Change.{CommandChange, Stays};
-ghost use Rattle.tile_command.specs.Command.{HoldsFile};
 ghost use Rattle.tile_command.specs.Kept.{HasLasted, HasRun, RunTells};
 ghost use Rattle.tile_service.specs.Outside.{InputChange, Outside, counts};
 
 use crate::ends::{status_of_kept, status_of_refusal};
-use crate::status::Status;
 use catalog::catalogue::Catalogue;
 use clock::clock::Clock;
 use command_setup::prepared::both_read;
+use command_status::status::Status;
 use command_words::words::KeptWord;
 use disk_model::disk::Disk;
 use exact_ratio::words::Words;

@@ -8,10 +8,10 @@ ghost use Rattle.tile_service.specs.Session.{IsAtRest};
 
 use crate::ends::{status_of_drill, status_of_refusal, status_of_schedule, status_of_session};
 use crate::replay::replay;
-use crate::status::Status;
 use cabinet::cabinet::Cabinet;
 use clock::clock::Clock;
 use command_setup::prepared::prepared;
+use command_status::status::Status;
 use command_words::words::MemoryWord;
 use http_wire::streams::{ByteSink, ByteSource};
 use source_render::source::Source;

@@ -8,10 +8,10 @@ ghost use Rattle.tile_command.specs.Kept.{HasKeptUp, StepLasts, UpkeepLasts, Upk
 ghost use Rattle.tile_service.specs.Outside.{InputChange, counts};
 
 use crate::ends::{status_of_kept, status_of_refusal};
-use crate::status::Status;
 use catalog::catalogue::Catalogue;
 use clock::clock::Clock;
 use command_setup::configured::configured;
+use command_status::status::Status;
 use command_words::words::UpkeepWord;
 use disk_model::disk::Disk;
 use http_wire::streams::{ByteSink, ByteSource};

@@ -12,6 +12,7 @@ mod serve;
 use cache_disk::CacheDisk;
 use clock::clock::Clock;
 use command_setup::configured::{CATALOGUE_LIMIT, source_number};
+use command_status::status::Status;
 use command_words::words::{UpkeepWord, Word, word_of};
 use exact_ratio::words::Words;
 use http_wire::file_source::FileSource;
@@ -27,7 +28,6 @@ use std::process::ExitCode;
 use std::rt::{Env, Files};
 use std::{env, io};
 use tile_command::command::run_command;
-use tile_command::status::Status;
 
 const HELP: &str = "tile_server: a cache of map tiles (the tile part of OGC WMTS 1.0.0)
 

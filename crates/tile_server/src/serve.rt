@@ -5,6 +5,7 @@ use crate::cache_disk::CacheDisk;
 use crate::input::Input;
 use crate::{CACHE, CAPABILITIES, CELLS, Catalogue, catalogue_of, ended};
 use clock::clock::Clock;
+use command_status::status::Status;
 use command_words::serve_words::{ServeFault, ServeWords, serve_words};
 use exact_ratio::words::Words;
 use hall_service::stage::SOURCES;
@@ -21,7 +22,6 @@ use std::snapshot::Snapshot;
 use std::sync::Wait;
 use std::thread::Threads;
 use tcp_lanes::accept::TcpAccept;
-use tile_command::status::Status;
 use tile_serving::ends::ServerEnd;
 use tile_serving::server::run_server;
 

@@ -4,11 +4,11 @@ use Rattle.cabinet.specs.State.{State}
 use Rattle.cabinet_records.specs.Replay.{Replayed}
 use Rattle.catalog.specs.declared.catalogue.Catalogue.{Catalogue}
 use Rattle.clock.specs.Readings.{Readings}
+use Rattle.command_setup.specs.Held.{MayBe}
 use Rattle.disk_model.specs.Content.{Content}
 use Rattle.durable_cabinet.specs.Filed.{IsRefusedAs, opened_as}
 use Rattle.durable_cabinet.specs.Images.{IsSoundImage, OpensTo}
 use Rattle.gate_journal.specs.declared.fault.OpenFault.{OpenFault}
-use Rattle.tile_command.specs.Command.{MayBe}
 
 -- the disk of a server: whether it is modelled, what a read of it gives, and how often disks have failed
 pub record ServerDisk (D : Type 0) : Type 0 where

@@ -4,10 +4,10 @@ ghost use Rattle.tile_serving.specs.Ends.{end_of_opening, end_of_refusal, end_of
 
 use catalog::fault::CatalogueFault;
 use command_setup::configured::Unconfigured;
+use command_status::status::Status;
 use gate_journal::fault::OpenFault;
 use hall_service::ends::ServiceEnd;
 use std::fmt;
-use tile_command::status::Status;
 
 /// How a server ended (`specs/Served.antt`).
 #[derive(Clone, Copy, Debug, PartialEq, Eq)]

@@ -5,6 +5,7 @@ ghost use Rattle.tile_command.specs.Command.{IsFitFor};
 use crate::fakes::{Fake, Fakes};
 use clock::clock::Clock;
 use command_setup::configured::source_number;
+use command_status::status::Status;
 use disk_model::disk::Disk;
 use disk_model::pick::Pick;
 use exact_ratio::words::Words;
@@ -17,7 +18,6 @@ use source_render::source::Source;
 use std::alloc::{AllocError, Global};
 use std::io;
 use tile_command::command::run_command;
-use tile_command::status::Status;
 
 /// What a command is given beside its disk: its words, one a line, the bytes that it reads, the moments that its clock gives, and how
 /// its objects behave.

@@ -1,4 +1,4 @@
-use Rattle.tile_command.proofs.Fitting.{may_be}
+use Rattle.command_setup.proofs.Fitting.{may_be}
 use Rattle.tile_command.proofs.job.job_run.Goals as goal
 
 pub run_job-requires-clause-ours : goal.run_job-requires-clause-ours

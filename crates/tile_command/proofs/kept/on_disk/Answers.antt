@@ -1,4 +1,4 @@
-use Rattle.tile_command.proofs.Fitting.{may_be}
+use Rattle.command_setup.proofs.Fitting.{may_be}
 use Rattle.tile_command.proofs.kept.on_disk.Goals as goal
 
 pub run-requires-clause-ours : goal.run-requires-clause-ours

@@ -1,4 +1,4 @@
-use Rattle.tile_command.proofs.Fitting.{may_be}
+use Rattle.command_setup.proofs.Fitting.{may_be}
 use Rattle.tile_command.proofs.upkeep.kept_up.Goals as goal
 
 pub step-requires-clause-fit : goal.step-requires-clause-fit

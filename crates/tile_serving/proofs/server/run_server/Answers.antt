@@ -1,7 +1,7 @@
 use Rattle.std.proofs.Common.{refl}
+use Rattle.command_setup.proofs.Fitting.{may_be}
 use Rattle.hall_service.specs.First.{first_pass}
 use Rattle.tile_serving.proofs.Closing.{ended_over}
-use Rattle.tile_serving.proofs.Fitting.{may_be}
 use Rattle.tile_serving.proofs.server.run_server.Goals as goal
 
 pub serve_hall-requires-clause-supplied : goal.serve_hall-requires-clause-supplied

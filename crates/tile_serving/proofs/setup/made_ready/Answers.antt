@@ -1,4 +1,4 @@
-use Rattle.tile_serving.proofs.Fitting.{may_be}
+use Rattle.command_setup.proofs.Fitting.{may_be}
 use Rattle.tile_serving.proofs.setup.made_ready.Goals as goal
 
 pub world_on-requires : goal.world_on-requires
