@@ -5,11 +5,8 @@
 //! Stands on tile_command and tile_serving, and on the crates whose files, streams and socket it opens.
 #![tactic(auto)]
 
-mod cache_disk;
-mod input;
 mod serve;
 
-use cache_disk::CacheDisk;
 use clock::clock::Clock;
 use command_setup::configured::{CATALOGUE_LIMIT, source_number};
 use command_status::status::Status;
@@ -19,7 +16,8 @@ use http_wire::file_source::FileSource;
 use http_wire::inputs::{InputEnd, read_all};
 use http_wire::memory_source::MemorySource;
 use http_wire::std_streams::{StdinSource, StdoutSink};
-use input::Input;
+use program_files::cache_disk::CacheDisk;
+use program_files::input::Input;
 use source_render::any::AnySource;
 use std::alloc::AllocError;
 use std::fs::File;

@@ -1,8 +1,6 @@
 //! The word `serve`: a server on a port.
 ghost use Rattle.std.specs.Prelude.{IfOk, length, ◌≡◌, ◌≤◌};
 
-use crate::cache_disk::CacheDisk;
-use crate::input::Input;
 use crate::{CACHE, CAPABILITIES, CELLS, Catalogue, catalogue_of, ended};
 use clock::clock::Clock;
 use command_status::status::Status;
@@ -10,6 +8,8 @@ use command_words::serve_words::{ServeFault, ServeWords, serve_words};
 use exact_ratio::words::Words;
 use hall_service::stage::SOURCES;
 use http_wire::file_source::FileSource;
+use program_files::cache_disk::CacheDisk;
+use program_files::input::Input;
 use source_render::any::AnySource;
 use std::alloc::AllocError;
 use std::fs::File;

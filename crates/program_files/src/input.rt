@@ -1,6 +1,6 @@
 //! What the program reads from.
 ghost use Rattle.std.specs.Prelude.{None};
-ghost use Rattle.tile_server.specs.Faults.{faults_of};
+ghost use Rattle.program_files.specs.Faults.{faults_of};
 
 use http_wire::file_source::FileSource;
 use http_wire::memory_source::MemorySource;

@@ -3,7 +3,7 @@ ghost use Rattle.std.specs.Prelude.{◌≡◌, false};
 ghost use Rattle.std.proofs.lemmas.Bool.{false≢true};
 ghost use Rattle.causes.specs.Causes.{HasCause};
 ghost use Rattle.disk_model.specs.Images.{silent};
-ghost use Rattle.tile_server.specs.Faults.{faults_of_disk};
+ghost use Rattle.program_files.specs.Faults.{faults_of_disk};
 
 use causes::one_more;
 use disk_model::disk::{Disk, Failed};

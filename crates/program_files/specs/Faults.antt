@@ -1,9 +1,9 @@
 -- How often an input of the program has failed, and its disk.
 use Rattle.std.specs.Prelude.{ℕ}
-use Rattle.tile_server.specs.declared.cache_disk.CacheDisk.{CacheDisk}
-use Rattle.tile_server.specs.declared.cache_disk.CacheDisk.TheVariants.{Absent, File as FileOfCache, Shut}
-use Rattle.tile_server.specs.declared.input.Input.{Input}
-use Rattle.tile_server.specs.declared.input.Input.TheVariants.{File, Read, Stdin}
+use Rattle.program_files.specs.declared.cache_disk.CacheDisk.{CacheDisk}
+use Rattle.program_files.specs.declared.cache_disk.CacheDisk.TheVariants.{Absent, File as FileOfCache, Shut}
+use Rattle.program_files.specs.declared.input.Input.{Input}
+use Rattle.program_files.specs.declared.input.Input.TheVariants.{File, Read, Stdin}
 
 abbrev pub faults_of : Input → ℕ
 faults_of (File file) = file.faults
