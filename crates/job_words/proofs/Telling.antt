@@ -8,13 +8,13 @@ use Rattle.job_words.specs.declared.tally.Tally.{Tally}
 use Rattle.job_words.specs.Ends.{IsDoneSo, RunsAndSaves, job_text, output_of}
 use Rattle.job_words.specs.Run.{IsRun, tally_of}
 use Rattle.job_words.specs.Visit.{Visit}
-use Rattle.kept_words.specs.declared.end.KeptEnd.{KeptEnd}
-use Rattle.kept_words.specs.declared.end.KeptEnd.TheVariants as end
-use Rattle.kept_words.specs.Change.{DiskChange}
-use Rattle.kept_words.specs.Opened.{HasOpened}
-use Rattle.kept_words.specs.Saving.{SavesAll}
-use Rattle.kept_words.specs.Texts.{Sends}
-use Rattle.kept_words.proofs.Within.{rose_within, saved_so}
+use Rattle.kept_cache.specs.declared.end.KeptEnd.{KeptEnd}
+use Rattle.kept_cache.specs.declared.end.KeptEnd.TheVariants as end
+use Rattle.kept_cache.specs.Change.{DiskChange}
+use Rattle.kept_cache.specs.Opened.{HasOpened}
+use Rattle.kept_cache.specs.Saving.{SavesAll}
+use Rattle.kept_cache.specs.Texts.{Sends}
+use Rattle.kept_cache.proofs.Within.{rose_within, saved_so}
 use Rattle.tile_service.specs.Outside.{FaultCounts, Outside, counts}
 
 -- a run and the saving after it, with the faults of the disk counted over the whole word

@@ -11,11 +11,11 @@ use Rattle.job_words.specs.declared.tally.Tally.{Tally}
 use Rattle.job_words.specs.Input.{IsFormedSo, IsJobIn, IsTooLong}
 use Rattle.job_words.specs.Run.{IsRun, tally_of}
 use Rattle.job_words.specs.Visit.{Visit}
-use Rattle.kept_words.specs.declared.end.KeptEnd.{KeptEnd}
-use Rattle.kept_words.specs.declared.end.KeptEnd.TheVariants as end
-use Rattle.kept_words.specs.Change.{DiskChange, HasFailed, HasWritten, IsCutShort, OutputChange}
-use Rattle.kept_words.specs.Opened.{HasOpened, IsRefused}
-use Rattle.kept_words.specs.Saving.{SavesAll}
+use Rattle.kept_cache.specs.declared.end.KeptEnd.{KeptEnd}
+use Rattle.kept_cache.specs.declared.end.KeptEnd.TheVariants as end
+use Rattle.kept_cache.specs.Change.{DiskChange, HasFailed, HasWritten, IsCutShort, OutputChange}
+use Rattle.kept_cache.specs.Opened.{HasOpened, IsRefused}
+use Rattle.kept_cache.specs.Saving.{SavesAll}
 use Rattle.tile_service.specs.Outside.{FaultCounts, InputChange, Outside}
 
 -- THE TEXT of a tally

@@ -8,8 +8,8 @@ use Rattle.job_forms.specs.declared.fault.JobFault.TheVariants as fault
 use Rattle.job_forms.specs.Outcome.{Fails, Outcome}
 use Rattle.jobs.specs.declared.job.Job.{Job}
 use Rattle.jobs.specs.Reading.{job_of}
-use Rattle.kept_words.specs.declared.end.KeptEnd.{KeptEnd}
-use Rattle.kept_words.specs.declared.end.KeptEnd.TheVariants as end
+use Rattle.kept_cache.specs.declared.end.KeptEnd.{KeptEnd}
+use Rattle.kept_cache.specs.declared.end.KeptEnd.TheVariants as end
 use Rattle.tile_service.specs.Outside.{InputChange}
 
 -- the input was read to its end, and its text, of at most 65,536 bytes, comes to this

@@ -10,8 +10,8 @@ use http_wire::inputs::{InputEnd, read_all};
 use http_wire::streams::ByteSource;
 use jobs::job::Job;
 use jobs::reading::read_job;
-use kept_words::cover_input::end_of_fault;
-use kept_words::end::KeptEnd;
+use kept_cache::end::KeptEnd;
+use kept_cache::formed::end_of_fault;
 use std::alloc::Global;
 
 /// The most bytes of a job.

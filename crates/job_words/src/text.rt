@@ -2,16 +2,16 @@
 ghost use Rattle.std.specs.Prelude.{◌≡◌, ◌+◌, ◌≤◌, ◌++◌, codes, decimal, length};
 ghost use Rattle.arrayvec.specs.ArrayVec.{array_vec_len};
 ghost use Rattle.job_words.specs.Ends.{job_text, kind_text};
-ghost use Rattle.kept_words.specs.Change.{OutputChange};
-ghost use Rattle.kept_words.specs.Texts.{Sends};
+ghost use Rattle.kept_cache.specs.Change.{OutputChange};
+ghost use Rattle.kept_cache.specs.Texts.{Sends};
 ghost use Rattle.tile_service.specs.Outside.{counts};
 
 use crate::tally::Tally;
 use arrayvec::ArrayVec;
 use http_wire::streams::ByteSink;
 use jobs::job::JobKind;
-use kept_words::end::KeptEnd;
-use kept_words::writing::written;
+use kept_cache::end::KeptEnd;
+use kept_cache::writing::written;
 use tile_requests::small_text::{add, add_number};
 
 /// The name of what a job does, as its text spells it.

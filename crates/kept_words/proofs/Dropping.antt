@@ -12,11 +12,11 @@ use Rattle.catalog.specs.declared.catalogue.Catalogue.{Catalogue}
 use Rattle.causes.specs.Causes.{Rose}
 use Rattle.clock.specs.Readings.{Readings}
 use Rattle.http_wire.proofs.TakesOn.{rose_before}
-use Rattle.kept_words.specs.declared.end.KeptEnd.{KeptEnd}
-use Rattle.kept_words.specs.declared.end.KeptEnd.TheVariants as end
-use Rattle.kept_words.specs.Change.{DiskChange, OutputChange}
+use Rattle.kept_cache.specs.declared.end.KeptEnd.{KeptEnd}
+use Rattle.kept_cache.specs.declared.end.KeptEnd.TheVariants as end
+use Rattle.kept_cache.specs.Change.{DiskChange, OutputChange}
+use Rattle.kept_cache.specs.Opened.{HasOpened}
 use Rattle.kept_words.specs.Ends.{Drops, DropsAll, TellsDropped}
-use Rattle.kept_words.specs.Opened.{HasOpened}
 use Rattle.metatile_plan.specs.declared.metatile.MetaKey.{MetaKey}
 
 -- EACH DROP leaves one metatile fewer

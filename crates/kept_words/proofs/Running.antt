@@ -2,7 +2,7 @@
 use Rattle.std.proofs.Common.{ℕ, List, inr}
 use Rattle.catalog.specs.declared.catalogue.Catalogue.{Catalogue}
 use Rattle.clock.specs.Readings.{Readings}
-use Rattle.kept_words.specs.Change.{DiskChange}
+use Rattle.kept_cache.specs.Change.{DiskChange}
 use Rattle.kept_words.specs.Runs.{HasReplayed, HasScheduled, RunsSchedule, RunsSession, end_of_schedule, end_of_session}
 use Rattle.tile_service.specs.declared.schedule.ScheduleEnd.{ScheduleEnd}
 use Rattle.tile_service.specs.declared.schedule.ScheduleEnd.TheVariants as schedule

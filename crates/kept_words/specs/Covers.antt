@@ -7,8 +7,8 @@ use Rattle.job_forms.specs.declared.fault.JobFault.{JobFault}
 use Rattle.job_forms.specs.declared.fault.JobFault.TheVariants as fault
 use Rattle.job_forms.specs.Cover.{cover_of}
 use Rattle.job_forms.specs.Outcome.{Fails, Outcome}
-use Rattle.kept_words.specs.declared.end.KeptEnd.{KeptEnd}
-use Rattle.kept_words.specs.declared.end.KeptEnd.TheVariants as end
+use Rattle.kept_cache.specs.declared.end.KeptEnd.{KeptEnd}
+use Rattle.kept_cache.specs.declared.end.KeptEnd.TheVariants as end
 use Rattle.kept_words.specs.declared.cover_input.TheConstants.{COVER_LIMIT}
 use Rattle.tile_service.specs.Outside.{InputChange}
 use Rattle.truncation_list.specs.declared.cover.Cover.{Cover}
@@ -36,14 +36,6 @@ IsFormedSo c i fault.OutOfMemory = ⊥
 -- one byte more than a cover may have was taken
 abbrev pub IsTooLong : InputChange → Type 0
 IsTooLong i = (text : List ℕ) × Consumes i.from i.to text × (length text ≡ COVER_LIMIT + 1)
-
--- the end of a word whose cover has a fault
-abbrev pub end_of_fault : JobFault → KeptEnd
-end_of_fault fault.NotJson = end.Form fault.NotJson
-end_of_fault (fault.Missing field) = end.Form (fault.Missing field)
-end_of_fault (fault.Bad field) = end.Form (fault.Bad field)
-end_of_fault (fault.Limit field) = end.Form (fault.Limit field)
-end_of_fault fault.OutOfMemory = end.OutOfMemory
 
 -- what a reading of an input gave: its cover, or the end of a word that has none
 abbrev pub ReadsCover : Catalogue → InputChange → Result Cover KeptEnd → Type 0

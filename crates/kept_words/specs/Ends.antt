@@ -13,12 +13,13 @@ use Rattle.clock.specs.Readings.{Readings}
 use Rattle.disk_model.specs.Images.{Every}
 use Rattle.durable_cabinet.specs.Images.{IsOurs, OpensTo, blobs_start}
 use Rattle.gate_journal.specs.declared.fault.OpenFault.TheVariants as fault
-use Rattle.kept_words.specs.declared.end.KeptEnd.{KeptEnd}
-use Rattle.kept_words.specs.declared.end.KeptEnd.TheVariants as end
-use Rattle.kept_words.specs.Change.{DiskChange, HasFailed, HasWritten, IsCutShort, OutputChange}
+use Rattle.kept_cache.specs.declared.end.KeptEnd.{KeptEnd}
+use Rattle.kept_cache.specs.declared.end.KeptEnd.TheVariants as end
+use Rattle.kept_cache.specs.Change.{DiskChange, HasFailed, HasWritten, IsCutShort, OutputChange}
+use Rattle.kept_cache.specs.Opened.{HasOpened, IsRefused}
+use Rattle.kept_cache.specs.Texts.{Sends}
 use Rattle.kept_words.specs.Covers.{IsCoverIn, IsFormedSo, IsTooLong}
-use Rattle.kept_words.specs.Opened.{HasOpened, IsRefused}
-use Rattle.kept_words.specs.Texts.{Sends, cut_text, dropped_text, made_text}
+use Rattle.kept_words.specs.Texts.{cut_text, dropped_text, made_text}
 use Rattle.metatile_plan.specs.declared.metatile.MetaKey.{MetaKey}
 use Rattle.tile_requests.specs.Texts.{usage_text}
 use Rattle.tile_service.specs.Outside.{InputChange}

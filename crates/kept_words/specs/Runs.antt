@@ -3,11 +3,11 @@ use Rattle.std.specs.Prelude.{ℕ, ◌≡◌, ◌⊎◌, List}
 use Rattle.cabinet.specs.State.{State}
 use Rattle.catalog.specs.declared.catalogue.Catalogue.{Catalogue}
 use Rattle.clock.specs.Readings.{Readings}
-use Rattle.kept_words.specs.declared.end.KeptEnd.{KeptEnd}
-use Rattle.kept_words.specs.declared.end.KeptEnd.TheVariants as end
-use Rattle.kept_words.specs.Change.{DiskChange, HasFailed}
-use Rattle.kept_words.specs.Opened.{HasOpened, IsRefused}
-use Rattle.kept_words.specs.Saving.{SavesAll}
+use Rattle.kept_cache.specs.declared.end.KeptEnd.{KeptEnd}
+use Rattle.kept_cache.specs.declared.end.KeptEnd.TheVariants as end
+use Rattle.kept_cache.specs.Change.{DiskChange, HasFailed}
+use Rattle.kept_cache.specs.Opened.{HasOpened, IsRefused}
+use Rattle.kept_cache.specs.Saving.{SavesAll}
 use Rattle.tile_service.specs.declared.schedule.ScheduleEnd.{ScheduleEnd}
 use Rattle.tile_service.specs.declared.schedule.ScheduleEnd.TheVariants as schedule
 use Rattle.tile_service.specs.declared.session.SessionEnd.{SessionEnd}

@@ -5,15 +5,11 @@ ghost use Rattle.cabinet.specs.declared.replies.Expired.TheVariants as expired;
 ghost use Rattle.catalog.specs.Valid.{IsValid};
 ghost use Rattle.causes.specs.Causes.{Rose};
 ghost use Rattle.durable_cabinet.specs.Images.{IsOurs};
-ghost use Rattle.kept_words.specs.Change.{DiskChange, OutputChange};
-ghost use Rattle.kept_words.specs.Crash.{LastsThrough};
+ghost use Rattle.kept_cache.specs.Change.{DiskChange, OutputChange};
+ghost use Rattle.kept_cache.specs.Crash.{LastsThrough};
 ghost use Rattle.kept_words.specs.Ends.{Drops, DropsAll, TellsDropped};
 ghost use Rattle.tile_service.specs.Outside.{counts};
 
-use crate::end::KeptEnd;
-use crate::lent::Loan;
-use crate::opened::{closed, end_of_refusal, opened};
-use crate::writing::{numbered, written};
 use cabinet::keeper::Keeper;
 use cabinet::laws::laws_of_rows;
 use cabinet::replies::Expired;
@@ -21,6 +17,10 @@ use catalog::catalogue::Catalogue;
 use clock::clock::Clock;
 use disk_model::disk::Disk;
 use http_wire::streams::ByteSink;
+use kept_cache::end::KeptEnd;
+use kept_cache::lent::Loan;
+use kept_cache::opened::{closed, end_of_refusal, opened};
+use kept_cache::writing::{numbered, written};
 use std::alloc::Global;
 use std::marker::Brand;
 

@@ -3,20 +3,15 @@
 //!
 //! Promises: each end of a word has its cause (`specs/Ends.antt`, `specs/Runs.antt`); at every moment of each word but the making a crash
 //! leaves a cache that answers for every truncation that was in force, and at its end for all that the cabinet answers for
-//! (`specs/Crash.antt`).
-//! Stands on durable_cabinet, whose cabinet it opens, on tile_service, whose schedules and sessions it runs, on job_forms for covers, and
-//! on the crates whose types its calls name.
+//! (kept_cache, `specs/Crash.antt`).
+//! Stands on kept_cache, by which it opens the cache, saves the uses of what is kept and closes it, on durable_cabinet, by which it makes
+//! one, on tile_service, whose schedules and sessions it runs, on job_forms for covers, and on the crates whose types its calls name.
 #![tactic(auto)]
 
 pub mod cover_input;
-pub mod end;
 pub mod expire;
-pub mod lent;
 pub mod making;
-pub mod opened;
 pub mod replay;
-pub mod saving;
 pub mod schedule;
 pub mod truncate;
 pub mod usage;
-pub mod writing;

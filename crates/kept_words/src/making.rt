@@ -1,16 +1,16 @@
 //! The word that makes an empty cache.
 ghost use Rattle.std.specs.Prelude.{◌≡◌};
 ghost use Rattle.catalog.specs.Valid.{IsValid};
-ghost use Rattle.kept_words.specs.Change.{DiskChange, OutputChange};
+ghost use Rattle.kept_cache.specs.Change.{DiskChange, OutputChange};
 ghost use Rattle.kept_words.specs.Ends.{Makes};
 ghost use Rattle.tile_service.specs.Outside.{counts};
 
-use crate::end::KeptEnd;
-use crate::writing::written;
 use arrayvec::ArrayVec;
 use catalog::catalogue::Catalogue;
 use disk_model::disk::Disk;
 use http_wire::streams::ByteSink;
+use kept_cache::end::KeptEnd;
+use kept_cache::writing::written;
 
 /// Makes an empty cache on the disk, whatever stood there, and writes that it is made. Each end comes as `Makes` says. It takes no
 /// memory.

@@ -26,13 +26,13 @@ use Rattle.job_words.specs.Ends.{RunsJob}
 use Rattle.job_words.specs.Input as jobs
 use Rattle.jobs.specs.declared.job.Job.{Job}
 use Rattle.jobs.specs.Reading.{job_of}
-use Rattle.kept_words.specs.Change.{DiskChange, HasFailed}
+use Rattle.kept_cache.specs.Change.{DiskChange, HasFailed}
+use Rattle.kept_cache.specs.declared.end.KeptEnd.{KeptEnd}
+use Rattle.kept_cache.specs.declared.end.KeptEnd.TheVariants as end
+use Rattle.kept_cache.specs.Opened as opened
+use Rattle.kept_cache.specs.Opened.{HasOpened}
 use Rattle.kept_words.specs.Covers as covers
-use Rattle.kept_words.specs.declared.end.KeptEnd.{KeptEnd}
-use Rattle.kept_words.specs.declared.end.KeptEnd.TheVariants as end
 use Rattle.kept_words.specs.Ends.{DropsAll, Makes, TellsUsage, Truncates}
-use Rattle.kept_words.specs.Opened as opened
-use Rattle.kept_words.specs.Opened.{HasOpened}
 use Rattle.kept_words.specs.Runs.{HasReplayed, HasScheduled}
 use Rattle.tile_command.specs.Causes.{CutReplies, HasCause, HasReadFault, IsCaused, IsComplete, IsInOrder, NothingFails, OfDisk, OfDocument, OfInput, UnderBoth}
 use Rattle.tile_command.specs.Change.{CommandChange, Stays, output_of, without_disk}

@@ -16,7 +16,7 @@ use Rattle.command_words.specs.declared.words.Word.{Word}
 use Rattle.http_wire.specs.declared.message.Message.{Message}
 use Rattle.http_wire.specs.declared.message.Stop.TheVariants as stop
 use Rattle.config_text.specs.Text.{catalogue_of}
-use Rattle.kept_words.specs.Change.{DiskChange}
+use Rattle.kept_cache.specs.Change.{DiskChange}
 use Rattle.tile_command.specs.Causes.{BreaksOff, ComesToEnd, HaveLast, IsCaused, IsOver, OfDocument, OfInput, RefusesSo, RunRefuses}
 use Rattle.tile_command.specs.Change.{CommandChange}
 use Rattle.tile_command.specs.Statuses.{status_of_refusal, status_of_schedule, status_of_session}

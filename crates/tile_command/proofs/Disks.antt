@@ -13,7 +13,7 @@ use Rattle.gate_journal.specs.declared.fault.OpenFault.{OpenFault}
 use Rattle.job_forms.specs.Cover.{cover_of}
 use Rattle.job_forms.specs.declared.fault.JobFault.{JobFault}
 use Rattle.jobs.specs.Reading.{job_of}
-use Rattle.kept_words.specs.Change.{DiskChange}
+use Rattle.kept_cache.specs.Change.{DiskChange}
 use Rattle.tile_command.specs.Causes.{AreCutsFull, BreaksStream, IsCacheRefused, IsCaused, IsInputOver, IsMalformed, IsOver, IsThrough, NothingFails, OfDocument, RefusesLine, UnderCatalogue}
 use Rattle.tile_command.specs.Change.{CommandChange}
 use Rattle.tile_command.specs.Exact.{AreModelled, IsTold}
@@ -26,8 +26,8 @@ use Rattle.truncation_list.specs.declared.cover.Cover.{Cover}
 use Rattle.tile_command.specs.Causes.{UnderInput}
 use Rattle.cabinet.specs.State.{State}
 use Rattle.gate_journal.specs.declared.fault.OpenFault.TheVariants as open_fault
-use Rattle.kept_words.proofs.Refusing.{not_opened, one_refusal}
-use Rattle.kept_words.specs.Opened.{IsOpened, IsRefused}
+use Rattle.kept_cache.proofs.Refusing.{not_opened, one_refusal}
+use Rattle.kept_cache.specs.Opened.{IsOpened, IsRefused}
 use Rattle.cabinet.specs.declared.replies.CutReply.{CutReply}
 use Rattle.cabinet.specs.declared.replies.CutReply.TheVariants as cut
 use Rattle.tile_command.specs.Causes.{CutReplies, Opening}

@@ -19,7 +19,7 @@ use Rattle.job_forms.specs.Cover.{cover_of}
 use Rattle.job_forms.specs.declared.fault.JobFault.{JobFault}
 use Rattle.job_forms.specs.Outcome.{Outcome}
 use Rattle.jobs.specs.Reading.{job_of}
-use Rattle.kept_words.specs.Change.{DiskChange}
+use Rattle.kept_cache.specs.Change.{DiskChange}
 use Rattle.tile_command.specs.Causes.{AreCutsFull, BreaksStream, IsCacheRefused, IsCaused, IsFaulty, IsInputOver, IsMalformed, IsMalformedAs, IsOver, IsThrough, NothingFails, OfDocument, RefusesLine, UnderBoth, UnderCatalogue, UnderInput}
 use Rattle.tile_command.specs.Change.{CommandChange}
 use Rattle.tile_command.specs.Exact.{AreModelled, IsTold}

@@ -9,9 +9,9 @@ use Rattle.command_words.specs.declared.words.Word.TheVariants as word
 use Rattle.clock.specs.Readings.{Readings}
 use Rattle.command_setup.specs.declared.configured.Unconfigured.{Unconfigured}
 use Rattle.command_setup.specs.declared.configured.Unconfigured.TheVariants as unconfigured
-use Rattle.kept_words.specs.Change.{DiskChange}
-use Rattle.kept_words.specs.declared.end.KeptEnd.{KeptEnd}
-use Rattle.kept_words.specs.declared.end.KeptEnd.TheVariants as kept_end
+use Rattle.kept_cache.specs.Change.{DiskChange}
+use Rattle.kept_cache.specs.declared.end.KeptEnd.{KeptEnd}
+use Rattle.kept_cache.specs.declared.end.KeptEnd.TheVariants as kept_end
 use Rattle.tile_command.specs.Change.{CommandChange, Stays, without_disk}
 use Rattle.tile_command.specs.Command.{HasServed}
 use Rattle.tile_command.specs.Memory.{MemoryTells}

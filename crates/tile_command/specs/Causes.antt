@@ -27,8 +27,8 @@ use Rattle.job_forms.specs.Cover.{cover_of}
 use Rattle.job_forms.specs.declared.fault.JobFault.{JobFault}
 use Rattle.job_forms.specs.Outcome.{Outcome}
 use Rattle.jobs.specs.Reading.{job_of}
-use Rattle.kept_words.specs.Change.{DiskChange, HasFailed}
-use Rattle.kept_words.specs.Opened.{IsOpened, IsRefused}
+use Rattle.kept_cache.specs.Change.{DiskChange, HasFailed}
+use Rattle.kept_cache.specs.Opened.{IsOpened, IsRefused}
 use Rattle.tile_command.specs.Change.{CommandChange, without_disk}
 use Rattle.tile_requests.specs.Requests.{Chance}
 use Rattle.tile_service.specs.declared.session.SessionEnd.{SessionEnd}

@@ -4,7 +4,7 @@ use Rattle.catalog.specs.declared.catalogue.Catalogue.{Catalogue}
 use Rattle.command_setup.specs.Setup.{AreRead, IsRefused}
 use Rattle.command_setup.specs.declared.configured.Unconfigured.{Unconfigured}
 use Rattle.command_status.specs.declared.status.Status.{Status}
-use Rattle.kept_words.specs.Change.{OutputChange}
+use Rattle.kept_cache.specs.Change.{OutputChange}
 use Rattle.tile_command.specs.Statuses.{status_of_refusal}
 use Rattle.tile_service.specs.Outside.{InputChange, Outside, counts}
 

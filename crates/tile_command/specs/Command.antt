@@ -10,7 +10,7 @@ use Rattle.command_words.specs.declared.words.Word.{Word}
 use Rattle.command_words.specs.declared.words.Word.TheVariants as word
 use Rattle.disk_model.specs.Content.{Content}
 use Rattle.durable_cabinet.specs.Images.{IsOurs}
-use Rattle.kept_words.specs.Change.{DiskChange}
+use Rattle.kept_cache.specs.Change.{DiskChange}
 use Rattle.tile_command.specs.Change.{CommandChange, Stays, output_of, without_disk}
 use Rattle.tile_command.specs.Job.{JobTells}
 use Rattle.tile_command.specs.Kept.{HasLasted, RunTells, UpkeepLasts, UpkeepTells}

@@ -16,7 +16,7 @@ use Rattle.http_wire.specs.declared.message.Stop.{Stop}
 use Rattle.http_wire.specs.declared.message.Stop.TheVariants as stop
 use Rattle.http_wire.specs.Exceptions.{AgreeAfter}
 use Rattle.job_forms.specs.declared.fault.JobFault.{JobFault}
-use Rattle.kept_words.specs.Change.{DiskChange}
+use Rattle.kept_cache.specs.Change.{DiskChange}
 use Rattle.tile_command.specs.Causes.{AreCutsFull, BreaksStream, IsCacheRefused, IsFaulty, IsInputOver, IsMalformed, IsOver, NothingFails, OfDocument, Opening, UnderBoth, UnderCatalogue}
 use Rattle.tile_command.specs.Change.{CommandChange, without_disk}
 use Rattle.tile_requests.specs.Requests.{Chance}

@@ -6,8 +6,8 @@ use Rattle.command_setup.specs.Setup.{Configures, IsRead}
 use Rattle.command_setup.specs.declared.configured.Unconfigured.{Unconfigured}
 use Rattle.command_status.specs.declared.status.Status.{Status}
 use Rattle.job_words.specs.Ends.{RunsJob}
-use Rattle.kept_words.specs.Change.{DiskChange}
-use Rattle.kept_words.specs.declared.end.KeptEnd.{KeptEnd}
+use Rattle.kept_cache.specs.Change.{DiskChange}
+use Rattle.kept_cache.specs.declared.end.KeptEnd.{KeptEnd}
 use Rattle.tile_command.specs.Change.{Stays}
 use Rattle.tile_command.specs.Statuses.{status_of_kept, status_of_refusal}
 use Rattle.tile_service.specs.Outside.{InputChange, Outside}

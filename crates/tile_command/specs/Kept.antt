@@ -9,11 +9,11 @@ use Rattle.command_words.specs.declared.words.KeptWord.{KeptWord}
 use Rattle.command_words.specs.declared.words.KeptWord.TheVariants as kept
 use Rattle.command_words.specs.declared.words.UpkeepWord.{UpkeepWord}
 use Rattle.command_words.specs.declared.words.UpkeepWord.TheVariants as upkeep
-use Rattle.kept_words.specs.Change.{DiskChange, OutputChange}
-use Rattle.kept_words.specs.Crash.{LastsThrough}
+use Rattle.kept_cache.specs.Change.{DiskChange, OutputChange}
+use Rattle.kept_cache.specs.Crash.{LastsThrough}
+use Rattle.kept_cache.specs.declared.end.KeptEnd.{KeptEnd}
 use Rattle.kept_words.specs.Ends.{DropsAll, Makes, TellsUsage, Truncates}
 use Rattle.kept_words.specs.Runs.{RunsSchedule, RunsSession}
-use Rattle.kept_words.specs.declared.end.KeptEnd.{KeptEnd}
 use Rattle.tile_command.specs.Change.{CommandChange, IsUnready, Stays, WithBoth}
 use Rattle.tile_command.specs.Statuses.{status_of_kept, status_of_refusal}
 use Rattle.tile_service.specs.Outside.{InputChange, Outside}

@@ -1,7 +1,7 @@
 //! The top call: what the words ask for, done.
 ghost use Rattle.std.specs.Prelude.{◌≡◌, ◌↔◌, None};
 ghost use Rattle.command_words.specs.Words.{word_of};
-ghost use Rattle.kept_words.specs.Change.{DiskChange};
+ghost use Rattle.kept_cache.specs.Change.{DiskChange};
 ghost use Rattle.tile_command.specs.Causes.{HasCause, IsComplete};
 ghost use Rattle.tile_command.specs.Change.{CommandChange, Stays};
 ghost use Rattle.tile_command.specs.Command.{HasLastedBy, HasServed, IsFitFor};

@@ -4,7 +4,7 @@ ghost use Rattle.tile_command.specs.Statuses.{status_of_drill, status_of_kept, s
 
 use command_setup::configured::Unconfigured;
 use command_status::status::Status;
-use kept_words::end::KeptEnd;
+use kept_cache::end::KeptEnd;
 use tile_drill::drill::DrillEnd;
 use tile_service::schedule::ScheduleEnd;
 use tile_service::session::SessionEnd;

@@ -1,7 +1,7 @@
 //! A job on the cache of the disk.
 ghost use Rattle.std.specs.Prelude.{◌≡◌, ⊤};
 ghost use Rattle.command_setup.specs.Held.{HoldsFile};
-ghost use Rattle.kept_words.specs.Change.{DiskChange};
+ghost use Rattle.kept_cache.specs.Change.{DiskChange};
 ghost use Rattle.tile_command.specs.Change.{Stays};
 ghost use Rattle.tile_command.specs.Job.{JobTells};
 ghost use Rattle.tile_command.specs.Kept.{HasLasted};

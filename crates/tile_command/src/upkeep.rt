@@ -1,7 +1,7 @@
 //! A step of upkeep on the cache of the disk.
 ghost use Rattle.std.specs.Prelude.{◌≡◌, IsTrue, ⊤};
 ghost use Rattle.catalog.specs.Valid.{IsValid};
-ghost use Rattle.kept_words.specs.Change.{DiskChange, OutputChange};
+ghost use Rattle.kept_cache.specs.Change.{DiskChange, OutputChange};
 ghost use Rattle.tile_command.specs.Change.{Stays};
 ghost use Rattle.tile_command.specs.Command.{IsFitForUpkeep, IsFitUnder};
 ghost use Rattle.tile_command.specs.Kept.{HasKeptUp, StepLasts, UpkeepLasts, UpkeepTells};
@@ -15,7 +15,7 @@ use command_status::status::Status;
 use command_words::words::UpkeepWord;
 use disk_model::disk::Disk;
 use http_wire::streams::{ByteSink, ByteSource};
-use kept_words::end::KeptEnd;
+use kept_cache::end::KeptEnd;
 use kept_words::expire::expire;
 use kept_words::making::make;
 use kept_words::truncate::truncate;

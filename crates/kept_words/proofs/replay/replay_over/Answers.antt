@@ -1,8 +1,8 @@
 use Rattle.std.proofs.Common.{sym, refl, subst, ◌∙◌}
 use Rattle.tile_service.specs.Session.{IsAtRest}
-use Rattle.kept_words.proofs.Lasting.{worked}
+use Rattle.kept_cache.proofs.Closing.{has_opened, is_restored}
+use Rattle.kept_cache.proofs.Lasting.{worked}
 use Rattle.kept_words.proofs.Running.{session_tells}
-use Rattle.kept_words.proofs.Telling.{has_opened, is_restored}
 use Rattle.kept_words.proofs.replay.replay_over.Goals as goal
 
 pub serve_and_save-end-requires-clause-rest : goal.serve_and_save-end-requires-clause-rest

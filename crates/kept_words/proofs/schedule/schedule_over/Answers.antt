@@ -1,7 +1,7 @@
 use Rattle.std.proofs.Common.{sym, ◌∙◌}
-use Rattle.kept_words.proofs.Lasting.{worked}
+use Rattle.kept_cache.proofs.Closing.{has_opened, is_restored}
+use Rattle.kept_cache.proofs.Lasting.{worked}
 use Rattle.kept_words.proofs.Running.{schedule_tells}
-use Rattle.kept_words.proofs.Telling.{has_opened, is_restored}
 use Rattle.kept_words.proofs.schedule.schedule_over.Goals as goal
 
 pub returns-in-Ok-clause-runs : goal.returns-in-Ok-clause-runs

@@ -1,6 +1,7 @@
 use Rattle.std.proofs.Common.{sym, ◌∙◌}
-use Rattle.kept_words.proofs.Lasting.{worked}
-use Rattle.kept_words.proofs.Telling.{cut_tells, has_opened, is_restored}
+use Rattle.kept_cache.proofs.Closing.{has_opened, is_restored}
+use Rattle.kept_cache.proofs.Lasting.{worked}
+use Rattle.kept_words.proofs.Telling.{cut_tells}
 use Rattle.kept_words.proofs.truncate.truncate_over.Goals as goal
 
 pub returns-in-Ok-clause-cuts : goal.returns-in-Ok-clause-cuts

@@ -1,5 +1,6 @@
 use Rattle.std.proofs.Common.{ap, inr, refl, sym, ◌++◌, ◌∙◌}
-use Rattle.kept_words.proofs.Telling.{has_opened, is_restored, usage_tells}
+use Rattle.kept_cache.proofs.Closing.{has_opened, is_restored}
+use Rattle.kept_words.proofs.Telling.{usage_tells}
 use Rattle.kept_words.proofs.usage.usage_over.Goals as goal
 
 pub returns-in-Ok-usage_text-clause-tells : goal.returns-in-Ok-usage_text-clause-tells

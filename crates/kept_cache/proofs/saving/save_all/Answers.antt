@@ -1,9 +1,9 @@
 use Rattle.std.proofs.Common.{◌+◌, arith}
 use Rattle.cabinet.specs.declared.replies.Saved.TheVariants as saved
 use Rattle.cabinet.specs.State.{now}
-use Rattle.kept_words.proofs.Unsaved.{saves_fewer, saves_more}
+use Rattle.kept_cache.proofs.Unsaved.{saves_fewer, saves_more}
 use Rattle.truncation_list.proofs.Answering.{answers_through}
-use Rattle.kept_words.proofs.saving.save_all.Goals as goal
+use Rattle.kept_cache.proofs.saving.save_all.Goals as goal
 
 pub saving-smaller : goal.saving-smaller
 saving-smaller g c = let f = saves_fewer (g.C.Keeper.state c.saving.cabinet) (g.C.Keeper.state c.save_uses.new.self) c.in-Done.field-0 c.in-Done.ensures.saves in omega (arith, f)

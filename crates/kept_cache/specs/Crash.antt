@@ -9,7 +9,7 @@ use Rattle.disk_model.specs.Content.{Content}
 use Rattle.disk_model.specs.Images.{DiskState, Every, Leaves}
 use Rattle.durable_cabinet.specs.Images.{IsOneRecordOn, IsOurs, OpensTo, Restores}
 use Rattle.durable_cabinet.specs.Outlasting.{AnswersAs}
-use Rattle.kept_words.specs.Change.{DiskChange, HasFailed}
+use Rattle.kept_cache.specs.Change.{DiskChange, HasFailed}
 use Rattle.truncation_list.specs.declared.book.Cut.{Cut}
 use Rattle.truncation_list.specs.Books.{AnswersFor}
 

@@ -8,10 +8,10 @@ use Rattle.durable_cabinet.specs.Filed.{IsRefusedAs, opened_as}
 use Rattle.durable_cabinet.specs.Images.{IsOurs, OpensTo}
 use Rattle.gate_journal.specs.declared.fault.OpenFault.{OpenFault}
 use Rattle.gate_journal.specs.declared.fault.OpenFault.TheVariants as fault
-use Rattle.kept_words.specs.declared.end.KeptEnd.{KeptEnd}
-use Rattle.kept_words.specs.declared.end.KeptEnd.TheVariants as end
-use Rattle.kept_words.specs.Change.{DiskChange}
-use Rattle.kept_words.specs.Crash.{IsLeft, IsRestored}
+use Rattle.kept_cache.specs.declared.end.KeptEnd.{KeptEnd}
+use Rattle.kept_cache.specs.declared.end.KeptEnd.TheVariants as end
+use Rattle.kept_cache.specs.Change.{DiskChange}
+use Rattle.kept_cache.specs.Crash.{IsLeft, IsRestored}
 
 -- where the disk is modelled its content opened to these records, and the cabinet began with what they come to, under a number
 -- below 2^24

@@ -4,9 +4,9 @@ ghost use Rattle.catalog.specs.Valid.{IsValid};
 ghost use Rattle.disk_model.specs.Images.{Every};
 ghost use Rattle.durable_cabinet.specs.Images.{IsOurs, Restores};
 ghost use Rattle.gate_journal.specs.Sound.{IsSettled};
-ghost use Rattle.kept_words.specs.Change.{DiskChange};
-ghost use Rattle.kept_words.specs.Crash.{IsLeftBy, LastsThrough};
-ghost use Rattle.kept_words.specs.Opened.{IsOpened, end_of_refusal};
+ghost use Rattle.kept_cache.specs.Change.{DiskChange};
+ghost use Rattle.kept_cache.specs.Crash.{IsLeftBy, LastsThrough};
+ghost use Rattle.kept_cache.specs.Opened.{IsOpened, end_of_refusal};
 ghost use Rattle.tile_service.specs.Outside.{counts};
 ghost use Rattle.durable_cabinet.specs.Filed.{IsRefusedAs};
 

@@ -2,7 +2,7 @@
 ghost use Rattle.std.specs.Prelude.{◌≤◌};
 ghost use Rattle.cabinet.specs.State.{IsKnown};
 ghost use Rattle.cache_core.specs.Lasting.{Lasting};
-ghost use Rattle.kept_words.specs.Saving.{SavesAll};
+ghost use Rattle.kept_cache.specs.Saving.{SavesAll};
 ghost use Rattle.tile_service.specs.Outside.{counts};
 
 use cabinet::keeper::Keeper;

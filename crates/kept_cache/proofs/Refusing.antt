@@ -12,8 +12,8 @@ use Rattle.durable_cabinet.specs.Images.{OpensTo}
 use Rattle.gate_journal.specs.declared.fault.OpenFault.{OpenFault}
 use Rattle.gate_journal.specs.declared.fault.OpenFault.TheVariants as fault
 use Rattle.gate_journal.specs.Opened as journal
-use Rattle.kept_words.specs.Change.{DiskChange}
-use Rattle.kept_words.specs.Opened.{IsOpened, IsRefused}
+use Rattle.kept_cache.specs.Change.{DiskChange}
+use Rattle.kept_cache.specs.Opened.{IsOpened, IsRefused}
 use Rattle.record_text.specs.declared.entries.Record.{Record}
 use Rattle.record_text.specs.Reading.{entry_of}
 use Rattle.record_text.proofs.Back.{entry_back}

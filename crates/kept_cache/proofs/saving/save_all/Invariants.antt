@@ -1,8 +1,8 @@
 use Rattle.std.proofs.Common.{ℕ, ◌≤◌}
 use Rattle.cache_core.specs.Lasting.{Lasting}
-use Rattle.kept_words.specs.Saving.{SavesMany}
-use Rattle.kept_words.proofs.Unsaved.{unsaved_count}
-use Rattle.kept_words.proofs.saving.save_all.Given as goal
+use Rattle.kept_cache.specs.Saving.{SavesMany}
+use Rattle.kept_cache.proofs.Unsaved.{unsaved_count}
+use Rattle.kept_cache.proofs.saving.save_all.Given as goal
 
 abbrev pub invariant-saving : goal.invariant-saving
 invariant-saving g l =

@@ -14,7 +14,7 @@ use Rattle.cabinet.proofs.UsesAfter.{counted_more}
 use Rattle.cabinet.proofs.WithUses.{set_same}
 use Rattle.expiry_policy.specs.declared.uses.Use.{Use}
 use Rattle.expiry_policy.specs.Victims.{all_saved, is_of}
-use Rattle.kept_words.specs.Saving.{SavesMany}
+use Rattle.kept_cache.specs.Saving.{SavesMany}
 use Rattle.metatile_plan.specs.declared.metatile.MetaKey.{MetaKey}
 use Rattle.std.specs.Option.{option_map}
 

@@ -12,8 +12,8 @@ use Rattle.durable_cabinet.specs.Filed.{OpensLike}
 use Rattle.durable_cabinet.specs.Images.{IsLeft as IsLeftOn, IsOurs, OpensTo}
 use Rattle.durable_cabinet.specs.Outlasting.{AnswersAs, Outlasts}
 use Rattle.gate_journal.specs.declared.journal.Journal.{Journal}
-use Rattle.kept_words.specs.Crash.{HadCut, IsLeftBy, KeepsNearly, Lasts}
-use Rattle.kept_words.specs.Opened.{IsOpened}
+use Rattle.kept_cache.specs.Crash.{HadCut, IsLeftBy, KeepsNearly, Lasts}
+use Rattle.kept_cache.specs.Opened.{IsOpened}
 use Rattle.durable_cabinet.proofs.Once.{opens_once}
 use Rattle.tile_service.specs.Outside.{FaultCounts}
 use Rattle.truncation_list.specs.declared.book.Cut.{Cut}

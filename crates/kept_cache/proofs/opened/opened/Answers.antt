@@ -1,6 +1,6 @@
 use Rattle.std.proofs.Common.{sym}
-use Rattle.kept_words.proofs.Lasting.{opening_lasts}
-use Rattle.kept_words.proofs.opened.opened.Goals as goal
+use Rattle.kept_cache.proofs.Lasting.{opening_lasts}
+use Rattle.kept_cache.proofs.opened.opened.Goals as goal
 
 pub open-requires-clause-ours : goal.open-requires-clause-ours
 open-requires-clause-ours g c = rw c.new.ensures c.requires.ours
