@@ -4,8 +4,8 @@ use Rattle.std.proofs.lemmas.List.Elements.{All-pop, All-push}
 use Rattle.std.specs.Prelude.{Err, IfOk, Ok, Result, Some}
 use Rattle.atomic_table.specs.Seated.{TableId}
 use Rattle.crossbeam_queue.specs.Passes.{Pass, view}
-use Rattle.hall_service.specs.Hands.{IsHand, all_parts, hand}
-use Rattle.hall_service.specs.declared.hand.Hand.{Hand}
+use Rattle.link_queue.specs.Hands.{IsHand, all_parts, hand}
+use Rattle.link_queue.specs.declared.hand.Hand.{Hand}
 
 pub pushed : {A : Type 0} (P : A → Type 0) (xs ys : List A) (a : A) → xs ≡ ys ++ a ∷ [] → All P ys → P a → All P xs
 pushed P xs ys a e all last = subst (All P) (sym e) (All-push P ys a all last)

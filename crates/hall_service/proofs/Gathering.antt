@@ -9,15 +9,15 @@ use Rattle.catalog.specs.declared.catalogue.Catalogue.{Catalogue}
 use Rattle.crossbeam_queue.specs.Passes.{Pass, view}
 use Rattle.job_board.specs.Calls.{BoardHolding}
 use Rattle.job_runner.specs.Idles.{HasHeard, Standby}
+use Rattle.link_queue.proofs.Sums.{weigh-append}
+use Rattle.link_queue.specs.Hands.{IsEven, IsHand, hand, with_other}
+use Rattle.link_queue.specs.Weights.{weigh}
+use Rattle.link_queue.specs.declared.hand.Hand.{Hand}
 use Rattle.hall_service.specs.Crew.{AreKept, AreServedBy, HasGathered, HasWorked, IsReady}
-use Rattle.hall_service.specs.Hands.{IsEven, IsHand, hand, with_other}
 use Rattle.hall_service.specs.Stints.{HeldSession, IsStint, Service, Stint, boards_of, links_in, links_of, passes_of}
-use Rattle.hall_service.specs.Weights.{weigh}
-use Rattle.hall_service.specs.declared.hand.Hand.{Hand}
 use Rattle.turnstile.proofs.Notes.{the_one}
 use Rattle.hall_service.proofs.Hearing.{hears_none, hears_one}
 use Rattle.hall_service.proofs.Holding.{stint_of}
-use Rattle.hall_service.proofs.Sums.{weigh-append}
 
 abbrev stint : {L : Type 0} → List (HeldSession L) → HallPass → BoardHolding → Stint L
 stint sessions pass board = record { sessions = sessions; pass = pass; board = board }

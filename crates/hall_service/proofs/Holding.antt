@@ -7,10 +7,10 @@ use Rattle.cache_hall.specs.Turned.{HallPass, IsPassOf}
 use Rattle.catalog.specs.declared.catalogue.Catalogue.{Catalogue}
 use Rattle.crossbeam_queue.specs.Passes.{Pass, view}
 use Rattle.job_board.specs.Calls.{BoardHolding, IsBoardPass}
+use Rattle.link_queue.specs.Hands.{IsHand, hand, with_taken}
+use Rattle.link_queue.specs.declared.hand.Hand.{Hand}
 use Rattle.hall_service.specs.Crew.{HasWorked, IsNew, IsReady}
-use Rattle.hall_service.specs.Hands.{IsHand, hand, with_taken}
 use Rattle.hall_service.specs.Stints.{AreHeld, HeldSession, IsHeld, IsStint, Service, links_of}
-use Rattle.hall_service.specs.declared.hand.Hand.{Hand}
 
 module _ {L : Type 0} (s : Service L) where
   -- a session more at the end

@@ -1,8 +1,5 @@
 pub mod Crews
 pub mod Shared
-pub mod Sums
-pub mod Balance
-pub mod Arrivals
 pub mod Hearing
 pub mod Holding
 pub mod Between

@@ -9,9 +9,9 @@ use Rattle.causes.specs.Causes.{Rose}
 use Rattle.crossbeam_queue.specs.Passes.{Pass, view}
 use Rattle.job_board.specs.Calls.{BoardHolding, IsBoardPass, IsFirstBoardPass}
 use Rattle.job_runner.specs.Idles.{HasHeard, Standby}
-use Rattle.hall_service.specs.Hands.{IsHand, hand}
+use Rattle.link_queue.specs.Hands.{IsHand, hand}
+use Rattle.link_queue.specs.declared.hand.Hand.{Hand}
 use Rattle.hall_service.specs.Stints.{AreHeld, AreServed, HeldSession, IsStint, Service, Stint, boards_of, links_in, links_of, passes_of}
-use Rattle.hall_service.specs.declared.hand.Hand.{Hand}
 
 -- a worker of this queue, of this turnstile and of this board may serve: where its pass is told, its source tells the catalogue's number
 pub record IsReady {L : Type 0} (queue table at : TableId) (c : Catalogue) (tells : Option ℕ) (pass : HallPass) (board : BoardHolding) (mine : Pass L (Hand L)) : Type 0 where

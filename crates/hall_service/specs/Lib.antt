@@ -1,8 +1,5 @@
-pub mod Weights
 pub mod Between
 pub mod Stints
-pub mod Hands
-pub mod Accepted
 pub mod Crew
 pub mod Runners
 pub mod First

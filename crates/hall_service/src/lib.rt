@@ -6,18 +6,15 @@
 //! tile that was asked for in a later turn than a truncation is newer than it; `Done` comes only where as many links were given as were
 //! asked for (`specs/Served.antt`, `specs/Stints.antt`, `specs/Runners.antt`, `specs/Between.antt`). What a session is, hall_sessions
 //! says, and what the run of a job is, job_runner. That a thread gets on, or a link is served soon, no clause says.
-//! Stands on hall_sessions, job_runner, cache_hall, job_board and listeners, on bell and `crossbeam_queue`, and on the crates whose types
-//! its calls name; where a cabinet keeps its metatiles it doesn't know.
+//! Stands on hall_sessions, job_runner, cache_hall, job_board, link_queue and listeners, and on the crates whose types its calls name;
+//! where a cabinet keeps its metatiles it doesn't know.
 #![tactic(auto)]
 
-mod accepting;
 mod crew;
 mod crossing;
 mod ending;
 pub mod ends;
 mod gates;
-mod hand;
-mod queue;
 pub mod service;
 mod serving;
 pub mod stage;

@@ -1,7 +1,7 @@
 use Rattle.std.proofs.Common.{arith, refl, ◌≡◌, true, Some}
 use Rattle.job_board.specs.Calls.{IsFirstBoardPass}
+use Rattle.link_queue.specs.Hands.{table_of}
 use Rattle.hall_service.specs.Crew.{IsNew}
-use Rattle.hall_service.specs.Hands.{table_of}
 use Rattle.hall_service.proofs.Crews.{dealt, one_longer, popped, pushed}
 use Rattle.hall_service.proofs.crew.workers_of.Goals as goal
 

@@ -1,6 +1,6 @@
 use Rattle.std.proofs.Common.{◌≡◌, ◌+◌, ◌-◌, [], All, length}
+use Rattle.link_queue.specs.Hands.{IsHand, all_parts, hand, table_of}
 use Rattle.hall_service.specs.Crew.{AreSupplies, IsNew}
-use Rattle.hall_service.specs.Hands.{IsHand, all_parts, hand, table_of}
 use Rattle.hall_service.specs.Stints.{Service}
 use Rattle.hall_service.proofs.crew.workers_of.Given as goal
 

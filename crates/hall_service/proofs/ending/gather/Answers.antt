@@ -1,7 +1,7 @@
 use Rattle.std.proofs.Common.{rules, arith, ◌≡◌, ◌∙◌, [], ◌∷◌, length, length-append, ap, refl}
 use Rattle.std.proofs.lemmas.List.Elements.{All-nil}
+use Rattle.link_queue.specs.Hands.{hand, table_of}
 use Rattle.hall_service.specs.Crew.{HasWorked, IsReady}
-use Rattle.hall_service.specs.Hands.{hand, table_of}
 use Rattle.hall_service.proofs.Crews.{one_longer, popped, pushed}
 use Rattle.hall_service.proofs.Gathering.{gather_begins, gather_goes_on, gather_ends, ready_with}
 use Rattle.hall_service.proofs.Hearing.{ready_heard}

@@ -1,8 +1,8 @@
 use Rattle.std.proofs.Common.{◌≡◌, ◌+◌, [], All, length, vec_len}
 use Rattle.std.specs.Prelude.{vec_capacity}
 use Rattle.job_runner.specs.Idles as idles
+use Rattle.link_queue.specs.Hands.{hand, table_of}
 use Rattle.hall_service.specs.Crew.{HasWorked, IsReady}
-use Rattle.hall_service.specs.Hands.{hand, table_of}
 use Rattle.hall_service.specs.Stints.{Service}
 use Rattle.hall_service.proofs.Gathering.{Gather}
 use Rattle.hall_service.proofs.ending.gather.Given as goal

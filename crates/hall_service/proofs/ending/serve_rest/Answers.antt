@@ -1,7 +1,7 @@
 use Rattle.std.proofs.Common.{arith, ap, []}
 use Rattle.crossbeam_queue.specs.Passes.{view}
+use Rattle.link_queue.specs.Hands.{hand}
 use Rattle.hall_service.specs.Crew.{HasWorked}
-use Rattle.hall_service.specs.Hands.{hand}
 use Rattle.hall_service.specs.Stints.{Service, serving}
 use Rattle.hall_service.proofs.Crews.{one_longer, popped}
 use Rattle.hall_service.proofs.Gathering.{all_served, gathers_put}

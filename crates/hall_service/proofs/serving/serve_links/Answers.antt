@@ -1,6 +1,6 @@
 use Rattle.std.proofs.Common.{◌≡◌, ◌∙◌, ◌++◌, [], ◌∷◌, List, ap, subst, sym}
+use Rattle.link_queue.specs.Hands.{hand}
 use Rattle.hall_service.specs.Crew.{AreServedBy}
-use Rattle.hall_service.specs.Hands.{hand}
 use Rattle.hall_service.specs.Stints.{Service, serving}
 use Rattle.hall_service.proofs.Crews.{pushed}
 use Rattle.hall_service.proofs.Gathering.{served_with}

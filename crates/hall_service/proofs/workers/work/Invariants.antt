@@ -1,8 +1,8 @@
 use Rattle.cache_hall.specs.Turned.{HallPass}
+use Rattle.link_queue.specs.Hands.{table_of}
+use Rattle.link_queue.specs.declared.hand.Hand.{Hand}
 use Rattle.hall_service.specs.Crew.{HasWorked, IsReady}
-use Rattle.hall_service.specs.Hands.{table_of}
 use Rattle.hall_service.specs.Stints.{Service, serving}
-use Rattle.hall_service.specs.declared.hand.Hand.{Hand}
 use Rattle.hall_service.proofs.workers.work.Given as goal
 
 abbrev pub invariant-working : goal.invariant-working

@@ -2,8 +2,8 @@
 use Rattle.std.proofs.Common.{◌≡◌, ◌+◌, ◌∙◌, ℕ, List, [], ◌∷◌, ◌++◌, length, length-append, append_assoc, append-nil, refl, sym, ap, subst, arith}
 use Rattle.atomic_table.specs.Seated.{TableId}
 use Rattle.crossbeam_queue.specs.Passes.{Pass, view}
-use Rattle.hall_service.specs.Hands.{IsHand, hand, with_put}
-use Rattle.hall_service.specs.declared.hand.Hand.{Hand}
+use Rattle.link_queue.specs.Hands.{IsHand, hand, with_put}
+use Rattle.link_queue.specs.declared.hand.Hand.{Hand}
 
 -- so many links were given, and each was put into the queue
 pub record AreIn {L : Type 0} (queue : TableId) (many : ℕ) (before : Hand L) (after : Pass L (Hand L)) (given_before given_after : List L) : Type 0 where

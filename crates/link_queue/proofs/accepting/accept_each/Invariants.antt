@@ -1,8 +1,8 @@
 use Rattle.std.proofs.Common.{◌≤◌}
 use Rattle.crossbeam_queue.specs.Passes.{view}
-use Rattle.hall_service.specs.Hands.{table_of}
-use Rattle.hall_service.proofs.Arrivals.{AreIn}
-use Rattle.hall_service.proofs.accepting.accept_each.Given as goal
+use Rattle.link_queue.specs.Hands.{table_of}
+use Rattle.link_queue.proofs.Arrivals.{AreIn}
+use Rattle.link_queue.proofs.accepting.accept_each.Given as goal
 
 abbrev pub invariant-accepting : goal.invariant-accepting
 invariant-accepting g l = record {

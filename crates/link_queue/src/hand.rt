@@ -10,11 +10,11 @@ pub struct Hand<L> {
 }
 
 /// The rule of the queue: what was put is what was taken and what it holds, however the links are weighed.
-pub(crate) struct Fair;
+pub struct Fair;
 
 impl<L> Protocol<L, Hand<L>> for Fair {
     ghost use Rattle.std.specs.Prelude.{[]};
-    ghost use Rattle.hall_service.specs.Hands.{IsBalanced, all_parts, hand};
+    ghost use Rattle.link_queue.specs.Hands.{IsBalanced, all_parts, hand};
 
     ghost holds = { IsBalanced };
 
@@ -26,7 +26,7 @@ pub(crate) struct OneMore;
 
 impl<L> Split<Hand<L>> for OneMore {
     ghost use Rattle.std.specs.Prelude.{[], ◌-◌};
-    ghost use Rattle.hall_service.specs.Hands.{hand};
+    ghost use Rattle.link_queue.specs.Hands.{hand};
 
     ghost left = { λ v. hand (v.parts - 1) v.put v.taken };
 
@@ -38,7 +38,7 @@ pub(crate) struct TakesOver;
 
 impl<L> Join<Hand<L>> for TakesOver {
     ghost use Rattle.std.specs.Prelude.{[]};
-    ghost use Rattle.hall_service.specs.Hands.{hand, with_other};
+    ghost use Rattle.link_queue.specs.Hands.{hand, with_other};
 
     ghost both = { with_other };
 
@@ -50,7 +50,7 @@ pub(crate) struct Puts;
 
 impl<L> Outcome<L, Hand<L>> for Puts {
     ghost use Rattle.std.specs.Prelude.{◌≡◌};
-    ghost use Rattle.hall_service.specs.Hands.{with_put};
+    ghost use Rattle.link_queue.specs.Hands.{with_put};
 
     ghost then = { λ v link w. w ≡ with_put v link };
 }
@@ -66,13 +66,13 @@ pub(crate) struct Takes;
 
 impl<L> Outcome<L, Hand<L>> for Takes {
     ghost use Rattle.std.specs.Prelude.{◌≡◌};
-    ghost use Rattle.hall_service.specs.Hands.{with_taken};
+    ghost use Rattle.link_queue.specs.Hands.{with_taken};
 
     ghost then = { λ v link w. w ≡ with_taken v link };
 }
 
 impl<L> Lesson<L, Hand<L>> for Takes {
-    ghost use Rattle.hall_service.specs.Hands.{KnowsHeld};
+    ghost use Rattle.link_queue.specs.Hands.{KnowsHeld};
 
     ghost fact = { KnowsHeld };
 }

@@ -4,10 +4,10 @@ use mathlib.Core.Option.{some, some-ne-none}
 use lib.ListN.{get_elem?}
 use Rattle.crossbeam_queue.specs.Fifo.{Pushes, Pops, Forks, Merges, Learns}
 use Rattle.crossbeam_queue.proofs.Lists.{at_set, at_snoc}
-use Rattle.hall_service.specs.declared.hand.Hand.{Hand}
-use Rattle.hall_service.specs.Hands.{IdleIsEmpty, IsBalanced, KnowsHeld, all_parts, hand, with_other, with_put, with_taken}
-use Rattle.hall_service.specs.Weights.{WeighAlike, weigh}
-use Rattle.hall_service.proofs.Sums.{alone, weigh-append, weigh_set}
+use Rattle.link_queue.specs.declared.hand.Hand.{Hand}
+use Rattle.link_queue.specs.Hands.{IdleIsEmpty, IsBalanced, KnowsHeld, all_parts, hand, with_other, with_put, with_taken}
+use Rattle.link_queue.specs.Weights.{WeighAlike, weigh}
+use Rattle.link_queue.proofs.Sums.{alone, weigh-append, weigh_set}
 
 module _ {L : Type 0} where
   -- what a view comes to

@@ -4,8 +4,8 @@ use Rattle.std.specs.Prelude.{ℕ, ◌≡◌, Bool, List, ◌++◌, length, Matc
 use Rattle.atomic_table.specs.Seated.{TableId}
 use Rattle.causes.specs.Causes.{Rose}
 use Rattle.crossbeam_queue.specs.Passes.{Pass}
-use Rattle.hall_service.specs.Hands.{IsHand, hand}
-use Rattle.hall_service.specs.declared.hand.Hand.{Hand}
+use Rattle.link_queue.specs.Hands.{IsHand, hand}
+use Rattle.link_queue.specs.declared.hand.Hand.{Hand}
 
 -- the listener gave these links, and each was put into the queue: as many as were asked for, or else an accept failed
 pub record HasAccepted {L : Type 0} (queue : TableId) (asked : ℕ) (before : Hand L) (after : Pass L (Hand L)) (given_before given_after : List L) (faults_before faults_after : ℕ) (all : Bool) : Type 0 where

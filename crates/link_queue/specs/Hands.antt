@@ -7,8 +7,8 @@ use Rattle.atomic_table.specs.Seated.{TableId}
 use Rattle.crossbeam_queue.specs.Passes.{Pass, view}
 use Rattle.crossbeam_queue.specs.declared.array_queue.Doing.{Doing}
 use Rattle.crossbeam_queue.specs.declared.array_queue.Slotted.{Slotted}
-use Rattle.hall_service.specs.declared.hand.Hand.{Hand}
-use Rattle.hall_service.specs.Weights.{WeighAlike, weigh}
+use Rattle.link_queue.specs.declared.hand.Hand.{Hand}
+use Rattle.link_queue.specs.Weights.{WeighAlike, weigh}
 
 -- the parts of the right to know what the queue holds: who has all of them is alone at it
 abbrev pub all_parts : ℕ

@@ -1,7 +1,7 @@
 //! The queue in which links wait for workers, and the bells for those that wait at it.
 ghost use Rattle.std.specs.Prelude.{[], IfNone, IfOk, MatchOption, ◌++◌, ◌-◌, ◌<◌, ◌≡◌};
 ghost use Rattle.crossbeam_queue.specs.Passes.{view};
-ghost use Rattle.hall_service.specs.Hands.{IsEven, IsHand, all_parts, hand, table_of, with_other, with_put, with_taken};
+ghost use Rattle.link_queue.specs.Hands.{IsEven, IsHand, all_parts, hand, table_of, with_other, with_put, with_taken};
 
 use crate::hand::{Fair, Hand, OneMore, Puts, Takes, TakesOver};
 use bell::Bell;
@@ -15,8 +15,8 @@ const ROOM: usize = 4;
 
 /// Where links wait for a worker, in the order in which they were given.
 #[derive(Drop)]
-pub(crate) struct LinkQueue<L: Drop> {
-    links: RuledArrayQueue<L, Hand<L>, Fair>,
+pub struct LinkQueue<L: Drop> {
+    pub links: RuledArrayQueue<L, Hand<L>, Fair>,
     /// Rung where a link came, and where no more come.
     came: Bell,
     /// Rung where a link was taken.
@@ -25,11 +25,11 @@ pub(crate) struct LinkQueue<L: Drop> {
 }
 
 /// A hand at such a queue: who has it may put links and take them. It has no bytes.
-pub(crate) type LinkHand<L> = Pass<L, Hand<L>>;
+pub type LinkHand<L> = Pass<L, Hand<L>>;
 
 impl<L: Drop> LinkQueue<L> {
     /// An empty queue, and the one hand at it. `AllocError` where memory runs out.
-    pub(crate) fn new(alloc: Global) -> Result<(LinkQueue<L>, LinkHand<L>), AllocError>
+    pub fn new(alloc: Global) -> Result<(LinkQueue<L>, LinkHand<L>), AllocError>
         ensures { IfOk result (λ made. IsHand (table_of made.0.links) (hand all_parts [] []) made.1) }
     {
         let (links, first) = RuledArrayQueue::ruled(alloc, ROOM)?;
@@ -43,7 +43,7 @@ impl<L: Drop> LinkQueue<L> {
     }
 
     /// A further hand, which has put and taken nothing.
-    pub(crate) fn one_more(&self, mine: &mut LinkHand<L>) -> LinkHand<L>
+    pub fn one_more(&self, mine: &mut LinkHand<L>) -> LinkHand<L>
         requires mine { IsHand (table_of self.now.links) (view mine.old) mine.old }
         requires parts { 1 < (view mine.old).parts }
         ensures mine { IsHand (table_of self.now.links) (hand ((view mine.old).parts - 1) (view mine.old).put (view mine.old).taken) mine.new }
@@ -53,7 +53,7 @@ impl<L: Drop> LinkQueue<L> {
     }
 
     /// Takes over what another hand has put and taken.
-    pub(crate) fn take_over(&self, mine: &mut LinkHand<L>, other: LinkHand<L>)
+    pub fn take_over(&self, mine: &mut LinkHand<L>, other: LinkHand<L>)
         requires mine { IsHand (table_of self.now.links) (view mine.old) mine.old }
         requires other { IsHand (table_of self.now.links) (view other) other }
         requires parts { 0 < (view mine.old).parts }
@@ -63,7 +63,7 @@ impl<L: Drop> LinkQueue<L> {
     }
 
     /// Hands in a link, and sleeps while there is no room for it.
-    pub(crate) fn hand_in<R: Wait>(&self, rt: &R, mine: &mut LinkHand<L>, link: L)
+    pub fn hand_in<R: Wait>(&self, rt: &R, mine: &mut LinkHand<L>, link: L)
         requires mine { IsHand (table_of self.now.links) (view mine.old) mine.old }
         requires parts { 0 < (view mine.old).parts }
         ensures { IsHand (table_of self.now.links) (with_put (view mine.old) link) mine.new }
@@ -86,14 +86,14 @@ impl<L: Drop> LinkQueue<L> {
     }
 
     /// Tells the workers that no more links come.
-    pub(crate) fn close<R: Wait>(&self, rt: &R) {
+    pub fn close<R: Wait>(&self, rt: &R) {
         self.closed.store(true, Ordering::SeqCst);
         self.came.ring_all(rt);
     }
 
     /// Takes the first link, and sleeps while there is none. None where no more come; a hand that is alone at the queue has then taken
     /// all that it has put.
-    pub(crate) fn take<R: Wait>(&self, rt: &R, mine: &mut LinkHand<L>) -> Option<L>
+    pub fn take<R: Wait>(&self, rt: &R, mine: &mut LinkHand<L>) -> Option<L>
         requires mine { IsHand (table_of self.now.links) (view mine.old) mine.old }
         requires parts { 0 < (view mine.old).parts }
         ensures taken { MatchOption result (IsHand (table_of self.now.links) (view mine.old) mine.new) (λ link. IsHand (table_of self.now.links) (with_taken (view mine.old) link) mine.new) }

@@ -1,15 +1,15 @@
 //! How links are accepted.
 ghost use Rattle.std.specs.Prelude.{◌<◌};
 ghost use Rattle.crossbeam_queue.specs.Passes.{view};
-ghost use Rattle.hall_service.specs.Accepted.{HasAccepted};
-ghost use Rattle.hall_service.specs.Hands.{IsHand, table_of};
+ghost use Rattle.link_queue.specs.Accepted.{HasAccepted};
+ghost use Rattle.link_queue.specs.Hands.{IsHand, table_of};
 
 use crate::queue::{LinkHand, LinkQueue};
 use listeners::listener::Listener;
 use std::sync::Wait;
 
 /// Accepts so many links, hands each in, and closes the queue. False where an accept failed; no further one was then made.
-pub(crate) fn accept_all<R: Wait, N: Listener>(
+pub fn accept_all<R: Wait, N: Listener>(
     rt: &R,
     connections: u32,
     queue: &LinkQueue<N::L>,

@@ -1,7 +1,7 @@
 use Rattle.std.proofs.Common.{◌≡◌}
 use Rattle.crossbeam_queue.specs.Passes.{view}
-use Rattle.hall_service.specs.Hands.{IsHand, table_of}
-use Rattle.hall_service.proofs.queue.LinkQueue.hand_in.Given as goal
+use Rattle.link_queue.specs.Hands.{IsHand, table_of}
+use Rattle.link_queue.proofs.queue.LinkQueue.hand_in.Given as goal
 
 abbrev pub invariant-handing : goal.invariant-handing
 invariant-handing g l = record {
