@@ -1,5 +1,5 @@
 -- What a command came to.
-use Rattle.std.specs.Prelude.{ℕ, ◌≡◌, Bool, IsTrue, List, Option, Some, None, Ok, ⊤}
+use Rattle.std.specs.Prelude.{ℕ, Bool, IsTrue, List, Option, Some, None, ⊤}
 use Rattle.catalog.specs.declared.catalogue.Catalogue.{Catalogue}
 use Rattle.clock.specs.Readings.{Readings}
 use Rattle.command_setup.specs.Held.{HoldsFile, MayBe}
