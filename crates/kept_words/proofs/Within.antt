@@ -5,6 +5,7 @@ use Rattle.cabinet.specs.State.{State}
 use Rattle.causes.specs.Causes.{RoseBy}
 use Rattle.http_wire.specs.declared.message.Message.{Message}
 use Rattle.kept_cache.specs.Saving.{SavesAll}
+use Rattle.kept_cache.proofs.Within.{rose_within, saved_so}
 use Rattle.kept_words.specs.Runs.{RunsAndSaves, ServesAndSaves}
 use Rattle.tile_service.specs.declared.run_lines.RunEnd.{RunEnd}
 use Rattle.tile_service.specs.declared.run_lines.RunEnd.TheVariants as run_end
