@@ -1,4 +1,5 @@
 pub mod Crews
+pub mod Supplied
 pub mod Shared
 pub mod Hearing
 pub mod Holding

@@ -1,6 +1,6 @@
 -- What the links of a listener are served with.
 -- A tie between the code and its definitions: the promise can be read without it.
-use Rattle.std.specs.Prelude.{ℕ, ◌≡◌, Bool, List, Option, Some}
+use Rattle.std.specs.Prelude.{ℕ, ◌≡◌, Bool, List, [], Option, Some}
 use Rattle.std.specs.List.{Contains}
 use Rattle.atomic_table.specs.Seated.{TableId}
 use Rattle.cache_hall.specs.Turned.{HallPass}
@@ -12,11 +12,12 @@ use Rattle.job_board.specs.Calls.{BoardHolding}
 use Rattle.job_runner.specs.Idles.{Standby}
 use Rattle.job_runner.specs.Idles as idles
 
--- supplies that nobody has used yet, of what is served under a first pass of this hall
+-- supplies that nobody has used yet, of what is served under a first pass of this hall, which has made nothing
 pub record IsSupplied {L S : Type 0} (table : TableId) (service : HallPass → Service L) (tells : S → Option ℕ) (passes : List HallPass) (boards : List BoardHolding) (sources : List S) : Type 0 where
   pub first : HallPass
   pub of : first.table ≡ table
   pub charter : first.charter ≡ Some (service first).catalogue
+  pub unused : first.made ≡ []
   pub supplies : AreSupplies (service first) tells passes boards sources
 
 -- all links that were given were served and all jobs were run, by passes that are among these

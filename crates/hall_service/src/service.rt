@@ -28,8 +28,8 @@ use std::thread::Threads;
 /// Serves so many links of a listener over what was made ready, and closes its hall: four workers serve each link to its end, while quotas
 /// are kept, uses are saved, and the jobs that messages submit are run, one after the other; where requests come, a job's crew rests
 /// meanwhile. It ends when all links are served and no job waits. Everything that it needs besides the sessions and the work at jobs is
-/// taken before the first link. The supplies are of a first pass, which has made nothing; of each such pass that the caller names the end
-/// says what `HasEndedOver` has. Where the system gives no thread, it may wait for ever.
+/// taken before the first link. The supplies are of a first pass, which has made nothing; of the pass that the caller names as theirs the
+/// end says what `HasEndedOver` has. Where the system gives no thread, it may wait for ever.
 pub fn serve_hall<
     R: Threads + Wait + std::time::Clock + Sync,
     K: Keeper + Send,
@@ -50,7 +50,7 @@ where
     requires count { (length stage.passes.items ≡ PASSES) × (stage.world.hall.turnstile.passes ≡ PASSES) }
     requires boards { length stage.boards.items ≡ BOARD_PASSES }
     requires supplied { IsSupplied stage.world.hall.turnstile.table (serving N.L.left N.L.taken N.L.ByteSource.faults N.L.ByteSink.faults stage.world.capabilities stage.world.hall.catalogue stage.world.board.turnstile.table) S.told stage.passes.items stage.boards.items sources.items }
-    ensures { (first : HallPass) → first.charter ≡ Some stage.world.hall.catalogue → first.made ≡ []
+    ensures { (first : HallPass)
         → AreSupplies (serving N.L.left N.L.taken N.L.ByteSource.faults N.L.ByteSink.faults stage.world.capabilities stage.world.hall.catalogue stage.world.board.turnstile.table first) S.told stage.passes.items stage.boards.items sources.items
         → HasEndedOver (serving N.L.left N.L.taken N.L.ByteSource.faults N.L.ByteSink.faults stage.world.capabilities stage.world.hall.catalogue stage.world.board.turnstile.table first)
         (record { connections = connections; given_before = N.given listener.old; given_after = N.given listener.new; accepts = counts (N.faults listener.old) (N.faults listener.new) })
