@@ -1,5 +1,5 @@
 -- All passes that worked over a hall, as they come back at its end.
-use Rattle.std.proofs.Common.{ℕ, ◌≡◌, ⊎_elim, Bool, false, IsTrue, List, [], ◌++◌, length}
+use Rattle.std.proofs.Common.{◌≡◌, ⊎_elim, Bool, false, IsTrue, List, [], ◌++◌, length}
 use Rattle.std.proofs.lemmas.Bool.{MatchBool-at_true, MatchBool-at_false}
 use Rattle.std.proofs.lemmas.List.Elements.{Contains-append_cases}
 use Rattle.std.specs.List.{All, AllByRecursion, Contains}

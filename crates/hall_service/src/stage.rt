@@ -32,7 +32,7 @@ pub struct Stage<K: Keeper> {
 }
 
 /// A world over a cabinet, with its capabilities document and a board without jobs, and the passes of it. Where the caller sets the mark of
-/// being told, the cabinet is sound.
+/// being told, the cabinet is sound. `AllocError` where memory runs out; the cabinet is dropped then.
 pub fn stage_of<K: Keeper>(
     alloc: Global,
     rest: RestTable,

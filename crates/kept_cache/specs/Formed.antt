@@ -4,7 +4,7 @@ use Rattle.job_forms.specs.declared.fault.JobFault.TheVariants as fault
 use Rattle.kept_cache.specs.declared.end.KeptEnd.{KeptEnd}
 use Rattle.kept_cache.specs.declared.end.KeptEnd.TheVariants as end
 
--- the end of a word whose cover has a fault
+-- the end of a word whose cover or job has a fault
 abbrev pub end_of_fault : JobFault → KeptEnd
 end_of_fault fault.NotJson = end.Form fault.NotJson
 end_of_fault (fault.Missing field) = end.Form (fault.Missing field)

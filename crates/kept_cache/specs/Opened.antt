@@ -5,7 +5,7 @@ use Rattle.cabinet_records.specs.Replay.{Replayed}
 use Rattle.catalog.specs.declared.catalogue.Catalogue.{Catalogue}
 use Rattle.clock.specs.Readings.{Readings}
 use Rattle.durable_cabinet.specs.Filed.{IsRefusedAs, opened_as}
-use Rattle.durable_cabinet.specs.Images.{IsOurs, OpensTo}
+use Rattle.durable_cabinet.specs.Images.{OpensTo}
 use Rattle.gate_journal.specs.declared.fault.OpenFault.{OpenFault}
 use Rattle.gate_journal.specs.declared.fault.OpenFault.TheVariants as fault
 use Rattle.kept_cache.specs.declared.end.KeptEnd.{KeptEnd}
@@ -44,7 +44,3 @@ IsRefused c d (fault.BadRecord slot) = IsRefusedAs d.told c d.from.seen d.faults
 IsRefused c d fault.Spent = IsRefusedAs d.told c d.from.seen d.faults.before d.faults.after fault.Spent
 IsRefused c d fault.DiskFault = ⊥
 IsRefused c d fault.OutOfMemory = ⊥
-
--- where the disk is modelled it holds a file of this program
-abbrev pub HoldsOurs : Catalogue → DiskChange → Type 0
-HoldsOurs c d = IsTrue d.told → IsOurs c d.from.seen

@@ -12,7 +12,7 @@ pub enum KeptEnd {
     ReadFault,
     /// The input has more bytes than it may have.
     TooLong,
-    /// The cover of the input has this fault.
+    /// The cover or the job of the input has this fault.
     Form(JobFault),
     /// The cache isn't opened for this cause, which is neither a fault of the disk nor want of memory; or no number is left for a cut.
     Refused(OpenFault),

@@ -5,7 +5,7 @@ ghost use Rattle.kept_cache.specs.Formed.{end_of_fault};
 use crate::end::KeptEnd;
 use job_forms::fault::JobFault;
 
-/// The end of a word whose cover has this fault.
+/// The end of a word whose cover or job has this fault.
 pub fn end_of_fault(fault: JobFault) -> KeptEnd
     ensures { result ≡ end_of_fault fault }
 {
