@@ -1,13 +1,22 @@
 //! What a cabinet shows between two turns, and the note of a turn, for contracts alone.
-use crate::command::{Command, Reply};
-use cabinet::cabinet::Cabinet;
+ghost use Rattle.std.specs.Borrow.{ftrue};
+ghost use Rattle.cabinet.specs.State.{State};
 
-/// How often the disk of a cabinet has failed, and the state of the cabinet, which contracts see as they see that of a cabinet in memory.
-/// No value of it is made.
+use crate::command::{Command, Reply};
+use std::marker::Model;
+
+/// How often the disk of a cabinet has failed, and the state of the cabinet, which proofs alone read. No value of it is made.
 pub struct Shown {
     pub faults: u64,
-    pub state: Cabinet,
+    pub ghost state: { State },
 }
+
+impl Model for Shown {
+    ghost also_owns = { λ _. ftrue };
+}
+
+// It owns nothing.
+unsafe impl Send for Shown {}
 
 /// A command, its reply, and what the cabinet showed before and after. No value of it is made.
 pub struct Note {
