@@ -9,7 +9,7 @@ import os
 from concurrent.futures import FIRST_COMPLETED, ThreadPoolExecutor, wait
 
 # A crate is nearly in the longest chain where the longest one through it is shorter by this part of it at most.
-NEARLY = 0.05
+NEARLY = 0.15
 JOBS_IN_CHAIN = 2
 MOST_JOBS = 4
 # How much more memory each further job takes, as a part of what one takes.
