@@ -54,44 +54,57 @@ class Lanes:
         is_known = all(isinstance(key, tuple) and len(key) == 2 and len(task) == 4 for key, task in tasks.items())
         if not is_known or os.environ.get("RT_JOBS"):
             return self.theirs(tasks)
-        seconds = {key: self.seconds_of(key, task[1]) for key, task in tasks.items()}
-        before, behind = chains(tasks, seconds)
+        return Run(tasks, self.costs, self.kit.processors(), 0.85 * self.kit.free()).to_its_end()
+
+
+class Run:
+    """One run of tasks: which of them are left, which are at work, each with its memory, and what the others gave."""
+
+    def __init__(self, tasks, costs, processors, memory):
+        self.tasks, self.processors, self.memory = tasks, processors, memory
+        self.seconds = {key: self.seconds_of(key, task[1], costs) for key, task in tasks.items()}
+        self.needs = {key: 1e9 * costs[key[0]][1] if key[0] in costs else task[2] for key, task in tasks.items()}
+        before, behind = chains(tasks, self.seconds)
         longest = max(behind.values(), default=0.0)
-        in_chain = {key for key in tasks if before[key] + behind[key] >= (1 - NEARLY) * longest}
-        left, running, given = sorted(tasks, key=lambda it: -behind[it]), {}, {}
-        lanes, memory = self.kit.processors(), 0.85 * self.kit.free()
-        with ThreadPoolExecutor(2 * lanes) as pool:
-            while left or running:
-                ready = [it for it in left if all(below in given for below in tasks[it][0])]
-                for key, jobs, needs in self.begun(tasks, seconds, ready, in_chain, running, lanes, memory):
-                    left.remove(key)
-                    running[pool.submit(tasks[key][3], given, jobs)] = key, needs
-                for it in wait(running, return_when=FIRST_COMPLETED).done:
-                    given[running.pop(it)[0]] = it.result()
-        return given
+        self.in_chain = {key for key in tasks if before[key] + behind[key] >= (1 - NEARLY) * longest}
+        self.left, self.running, self.given = sorted(tasks, key=lambda it: -behind[it]), {}, {}
 
-    def begun(self, tasks, seconds, ready, in_chain, running, lanes, memory):
-        """Which of the tasks that are ready begin now, each with its jobs and its memory."""
-        # (a program's crates are copied without tests and mutants: such tasks end at once)
-        found = [(key, 1, 0.0) for key in ready if not seconds[key]]
-        proofs = [key for key in ready if seconds[key]]
-        idle = lanes - sum(1 for key, _ in running.values() if seconds[key])
-        room = memory - sum(needs for _, needs in running.values())
-        for at, key in enumerate(proofs):
-            needs = self.memory_of(key, tasks[key][2])
-            if idle and (needs <= room or room == memory):
-                wanted = max(JOBS_IN_CHAIN if key in in_chain else 1, min(MOST_JOBS, idle // (len(proofs) - at)))
-                jobs = max(1, min(wanted, 1 + int((room / needs - 1) / OF_A_JOB)))
-                needs *= 1 + OF_A_JOB * (jobs - 1)
-                found.append((key, jobs, needs))
-                idle, room = idle - 1, room - needs
-        return found
-
-    def seconds_of(self, key, lines):
+    def seconds_of(self, key, lines, costs):
+        """What a proof costs. Any other task costs nothing: a program's crates are copied without tests and mutants, so such tasks end at once."""
         name, what = key
         if what != "proof":
             return 0.0
-        return self.costs[name][0] if name in self.costs else OF_A_CRATE + OF_A_LINE * lines
+        return costs[name][0] if name in costs else OF_A_CRATE + OF_A_LINE * lines
 
-    def memory_of(self, key, needs):
-        return 1e9 * self.costs[key[0]][1] if key[0] in self.costs else needs
+    def to_its_end(self):
+        with ThreadPoolExecutor(2 * self.processors) as pool:
+            while self.left or self.running:
+                self.begin_what_may(pool)
+                for it in wait(self.running, return_when=FIRST_COMPLETED).done:
+                    self.given[self.running.pop(it)[0]] = it.result()
+        return self.given
+
+    def begin_what_may(self, pool):
+        """Begins the tasks that wait for nothing any more: those that cost nothing, and as many proofs as there are processors and memory."""
+        ready = [it for it in self.left if all(below in self.given for below in self.tasks[it][0])]
+        for key in ready:
+            if not self.seconds[key]:
+                self.begin(pool, key, 1, 0.0)
+        proofs = [it for it in ready if self.seconds[it]]
+        idle = self.processors - sum(1 for key, _ in self.running.values() if self.seconds[key])
+        room = self.memory - sum(needs for _, needs in self.running.values())
+        for at, key in enumerate(proofs):
+            if idle and (self.needs[key] <= room or room == self.memory):
+                jobs = self.jobs_of(key, idle // (len(proofs) - at), room)
+                needs = self.needs[key] * (1 + OF_A_JOB * (jobs - 1))
+                self.begin(pool, key, jobs, needs)
+                idle, room = idle - 1, room - needs
+
+    def jobs_of(self, key, share, room):
+        """The jobs of a proof, by its share of the idle processors and the memory that is left."""
+        wanted = max(JOBS_IN_CHAIN if key in self.in_chain else 1, min(MOST_JOBS, share))
+        return max(1, min(wanted, 1 + int((room / self.needs[key] - 1) / OF_A_JOB)))
+
+    def begin(self, pool, key, jobs, needs):
+        self.left.remove(key)
+        self.running[pool.submit(self.tasks[key][3], self.given, jobs)] = key, needs

@@ -15,7 +15,7 @@ impl Model for Shown {
     ghost also_owns = { λ _. ftrue };
 }
 
-// It owns nothing.
+// It owns nothing beside a number.
 unsafe impl Send for Shown {}
 
 /// A command, its reply, and what the cabinet showed before and after. No value of it is made.
