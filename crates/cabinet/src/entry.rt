@@ -3,7 +3,7 @@ use metatile_plan::metatile::MetaKey;
 use truncation_list::cover::Cover;
 
 /// What happened in a cabinet.
-#[derive(Clone, Copy, Debug, PartialEq, Eq)]
+#[derive(Clone, Copy, PartialEq, Eq)]
 pub enum Entry {
     /// The clock gave this moment, in seconds, to the ask or force that begins here.
     At(u64),

@@ -2,7 +2,7 @@
 use crate::kept::Kept;
 
 /// What is to come of the end of a render.
-#[derive(Clone, Copy, Debug, PartialEq, Eq)]
+#[derive(Clone, Copy, PartialEq, Eq)]
 pub enum Judged {
     /// No render of the ticket's number and metatile runs here.
     Stranger,
@@ -17,7 +17,7 @@ pub enum Judged {
 }
 
 /// What is to come of a truncation.
-#[derive(Clone, Copy, Debug, PartialEq, Eq)]
+#[derive(Clone, Copy, PartialEq, Eq)]
 pub enum Admitted {
     /// It may be done, under this number.
     Number(u64),
@@ -28,7 +28,7 @@ pub enum Admitted {
 }
 
 /// A kept metatile with uses that are not all saved.
-#[derive(Clone, Copy, Debug, PartialEq, Eq)]
+#[derive(Clone, Copy, PartialEq, Eq)]
 pub struct Unsaved {
     pub kept: Kept,
     /// How many uses it has.

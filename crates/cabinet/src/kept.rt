@@ -4,7 +4,7 @@ use exact_ratio::words::Words;
 use metatile_plan::metatile::MetaKey;
 
 /// A metatile that is kept: the number of its render and when that was begun, where its blob lies, and its uses.
-#[derive(Clone, Copy, Debug, PartialEq, Eq)]
+#[derive(Clone, Copy, PartialEq, Eq)]
 pub struct Kept {
     pub number: u64,
     pub meta: MetaKey,

@@ -27,7 +27,7 @@ pub enum Forced {
 }
 
 /// What a finish is answered. In all cases but `Stranger` the render has ended.
-#[derive(Clone, Copy, Debug, PartialEq, Eq)]
+#[derive(Clone, Copy, PartialEq, Eq)]
 pub enum Finished {
     /// No render of the ticket's number and metatile runs here; nothing changed.
     Stranger,
@@ -44,7 +44,7 @@ pub enum Finished {
 }
 
 /// What a cut is answered.
-#[derive(Clone, Copy, Debug, PartialEq, Eq)]
+#[derive(Clone, Copy, PartialEq, Eq)]
 pub enum CutReply {
     /// The truncation was done, and has this number.
     Done(u64),
@@ -58,7 +58,7 @@ pub enum CutReply {
 }
 
 /// What an expiry is answered.
-#[derive(Clone, Copy, Debug, PartialEq, Eq)]
+#[derive(Clone, Copy, PartialEq, Eq)]
 pub enum Expired {
     /// This metatile was the first to go in the scope whose quota is exceeded, and is dropped.
     Dropped(MetaKey),
@@ -69,7 +69,7 @@ pub enum Expired {
 }
 
 /// What a saving of uses is answered.
-#[derive(Clone, Copy, Debug, PartialEq, Eq)]
+#[derive(Clone, Copy, PartialEq, Eq)]
 pub enum Saved {
     /// The uses of this metatile are saved.
     Done(MetaKey),

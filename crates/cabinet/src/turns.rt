@@ -18,7 +18,7 @@ use std::alloc::{AllocError, Global};
 use trace::Trace;
 
 /// What is to come of an ask or a force, before its clock is read.
-#[derive(Clone, Copy, Debug, PartialEq, Eq)]
+#[derive(Clone, Copy, PartialEq, Eq)]
 pub enum Turn {
     /// A render of the metatile runs that is not overtaken, with this number.
     Busy(u64),

@@ -39,7 +39,7 @@ pub enum Reply {
 }
 
 /// What is kept of a layer, or of all layers.
-#[derive(Clone, Copy, Debug, PartialEq, Eq)]
+#[derive(Clone, Copy, PartialEq, Eq)]
 pub struct Counts {
     /// How many metatiles are kept.
     pub metatiles: u32,

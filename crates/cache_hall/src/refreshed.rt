@@ -1,7 +1,7 @@
 //! What a refresh comes to.
 
 /// What came of the refresh of a metatile.
-#[derive(Clone, Copy, Debug, PartialEq, Eq)]
+#[derive(Clone, Copy, PartialEq, Eq)]
 pub enum Refreshed {
     /// The metatile is kept under this number; it was not rendered.
     AlreadyKept(u64),

@@ -10,10 +10,10 @@ fn a_quota_is_exceeded_past_it(rt: HostRuntime) -> Result<(), Fail> {
     let mut ledger = Ledger::new(rt.alloc(), &catalogue)?;
     ledger.add(0, 7);
     ledger.add(0, 3);
-    assert_eq!(rt; ledger.exceeded(), Some(Scope::All));
+    assert!(rt; ledger.exceeded() == Some(Scope::All));
     ledger.remove(0, 7);
-    assert_eq!(rt; ledger.exceeded(), None);
-    assert_eq!(rt; ledger.used(0), 3);
-    assert_eq!(rt; ledger.used_all(), 3);
+    assert!(rt; ledger.exceeded() == None);
+    assert!(rt; ledger.used(0) == 3);
+    assert!(rt; ledger.used_all() == 3);
     Ok(())
 }

@@ -59,7 +59,7 @@ fn goes_first(uses: &Uses, scope: Scope, meta: &MetaKey) -> bool {
 fn the_longest_unused_and_the_least_often_used_go_first(rt: HostRuntime) -> Result<(), Fail> {
     for policy in [Policy::Lru, Policy::Lfu] {
         let mut uses = used(rt.alloc(), policy)?;
-        assert_eq!(rt; uses.last_use(&META), Some(3));
+        assert!(rt; uses.last_use(&META) == Some(3));
         assert!(rt; goes_first(&uses, Scope::Layer(0), &OTHER));
         forget(&mut uses, &OTHER);
         assert!(rt; goes_first(&uses, Scope::All, &META));
@@ -76,9 +76,9 @@ fn is_unsaved(uses: &Uses, meta: &MetaKey) -> bool {
 fn uses_are_saved_by_their_keys(rt: HostRuntime) -> Result<(), Fail> {
     let mut uses = used(rt.alloc(), Policy::Lru)?;
     assert!(rt; is_unsaved(&uses, &META));
-    assert_eq!(rt; saved(&mut uses, &META), 1);
-    assert_eq!(rt; uses.saved_uses(&META), Some(1));
-    assert_eq!(rt; uses.uses_of(&OTHER), Some(0));
+    assert!(rt; saved(&mut uses, &META) == 1);
+    assert!(rt; uses.saved_uses(&META) == Some(1));
+    assert!(rt; uses.uses_of(&OTHER) == Some(0));
     assert!(rt; uses.unsaved().is_none());
     Ok(())
 }

@@ -4,7 +4,7 @@ use crate::layer::Layer;
 use exact_ratio::items::Items;
 
 /// Which kept metatile is dropped first where a quota is exceeded.
-#[derive(Clone, Copy, Debug, PartialEq, Eq)]
+#[derive(Clone, Copy, PartialEq, Eq)]
 pub enum Policy {
     /// The one that was used last the longest ago.
     Lru,
@@ -13,7 +13,7 @@ pub enum Policy {
 }
 
 /// What a quota counts: one layer, or all of them.
-#[derive(Clone, Copy, Debug, PartialEq, Eq)]
+#[derive(Clone, Copy, PartialEq, Eq)]
 pub enum Scope {
     Layer(u32),
     All,

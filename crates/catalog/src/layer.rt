@@ -3,7 +3,7 @@ use exact_ratio::items::Items;
 use exact_ratio::words::Words;
 
 /// The colour of all values from `from` on, up to the next break.
-#[derive(Clone, Copy, Debug, PartialEq, Eq)]
+#[derive(Clone, Copy, PartialEq, Eq)]
 pub struct Break {
     pub from: u8,
     pub r: u8,
@@ -28,7 +28,7 @@ pub struct Dimension {
 }
 
 /// From a zoom on, the age up to which a kept metatile may answer.
-#[derive(Clone, Copy, Debug, PartialEq, Eq)]
+#[derive(Clone, Copy, PartialEq, Eq)]
 pub struct Age {
     /// The number of the matrix in its grid from which on this counts, up to the zoom of the next age.
     pub zoom: u32,

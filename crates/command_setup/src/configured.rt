@@ -16,7 +16,7 @@ use std::alloc::{AllocError, Global};
 pub const CATALOGUE_LIMIT: usize = 1_048_576;
 
 /// Why there is no catalogue.
-#[derive(Clone, Copy, Debug, PartialEq, Eq)]
+#[derive(Clone, Copy, PartialEq, Eq)]
 pub enum Unconfigured {
     /// A read of it failed.
     ReadFault,

@@ -6,7 +6,7 @@ use std::fmt;
 use tile_service::session::SessionEnd;
 
 /// How a command ended. Each means the same for all words (`tile_command/specs/Statuses.antt`).
-#[derive(Clone, Copy, Debug, PartialEq, Eq)]
+#[derive(Clone, Copy, PartialEq, Eq)]
 pub enum Status {
     /// The input, where the words take one, was read to its end, or to the last message of its connection, and all was
     /// written.

@@ -12,7 +12,7 @@ use std::alloc::{AllocError, AllocFailed, Global};
 use std::str::from_utf8;
 
 /// What the words after `serve` ask for.
-#[derive(Clone, Copy, Debug, PartialEq, Eq)]
+#[derive(Clone, Copy, PartialEq, Eq)]
 pub struct ServeWords {
     /// The port to listen on, 1 to 65,535.
     pub port: u16,
@@ -21,7 +21,7 @@ pub struct ServeWords {
 }
 
 /// Why the words after `serve` aren't read.
-#[derive(Clone, Copy, Debug, PartialEq, Eq)]
+#[derive(Clone, Copy, PartialEq, Eq)]
 pub enum ServeFault {
     /// An option is missing, stands twice or is unknown, its number isn't in its range, or a word isn't UTF-8.
     Usage,

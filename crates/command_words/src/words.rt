@@ -6,7 +6,7 @@ use exact_ratio::words::Words;
 use wmts_kvp::number::{below, is_number};
 
 /// What the words of a command ask for.
-#[derive(Clone, Copy, Debug, PartialEq, Eq)]
+#[derive(Clone, Copy, PartialEq, Eq)]
 pub enum Word {
     /// A run on a cabinet in memory.
     InMemory(MemoryWord),
@@ -19,7 +19,7 @@ pub enum Word {
 }
 
 /// A run on a cabinet in memory, of which nothing is left.
-#[derive(Clone, Copy, Debug, PartialEq, Eq)]
+#[derive(Clone, Copy, PartialEq, Eq)]
 pub enum MemoryWord {
     /// The lines of the input are run.
     Schedule,
@@ -30,7 +30,7 @@ pub enum MemoryWord {
 }
 
 /// A run on the cache of the disk.
-#[derive(Clone, Copy, Debug, PartialEq, Eq)]
+#[derive(Clone, Copy, PartialEq, Eq)]
 pub enum KeptWord {
     /// The lines of the input are run.
     Schedule,
@@ -39,7 +39,7 @@ pub enum KeptWord {
 }
 
 /// A step of upkeep on the cache of the disk.
-#[derive(Clone, Copy, Debug, PartialEq, Eq)]
+#[derive(Clone, Copy, PartialEq, Eq)]
 pub enum UpkeepWord {
     /// An empty cache is made, whatever stood there.
     Make,

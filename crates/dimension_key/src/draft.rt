@@ -2,7 +2,7 @@
 use matrix_geometry::theme::Theme;
 
 /// A theme whose values are being read.
-#[derive(Clone, Copy, Debug, PartialEq, Eq)]
+#[derive(Clone, Copy, PartialEq, Eq)]
 pub struct ThemeDraft {
     /// The theme with the values so far, 0 at the places after them.
     pub theme: Theme,
@@ -11,7 +11,7 @@ pub struct ThemeDraft {
 }
 
 /// Why a value of a dimension is refused.
-#[derive(Clone, Copy, Debug, PartialEq, Eq)]
+#[derive(Clone, Copy, PartialEq, Eq)]
 pub enum DimFault {
     /// There is no value, and the dimension has no default.
     Missing,

@@ -1,7 +1,7 @@
 //! The choice of what a crash leaves of a disk in memory.
 
 /// Which of the bytes that a crash may leave in the ranges that aren't synced.
-#[derive(Clone, Copy, Debug, PartialEq, Eq, Drop)]
+#[derive(Clone, Copy, PartialEq, Eq, Drop)]
 pub enum Pick {
     /// As before.
     Old,

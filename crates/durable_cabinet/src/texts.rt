@@ -3,7 +3,7 @@ use matrix_geometry::theme::Theme;
 use shared_text::shared::SharedText;
 
 /// A tile, by which its text is found: what its address says.
-#[derive(Clone, Copy, Debug, PartialEq, Eq, Hash)]
+#[derive(Clone, Copy, PartialEq, Eq, Hash)]
 pub struct TileKey {
     pub theme: Theme,
     pub grid: u32,

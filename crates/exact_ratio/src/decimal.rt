@@ -2,7 +2,7 @@
 use std::marker::Model;
 
 /// A decimal number, worth `units / 10^places`. Contracts see these two.
-#[derive(Clone, Copy, Debug, PartialEq, Eq)]
+#[derive(Clone, Copy, PartialEq, Eq)]
 pub struct Decimal {
     /// Below 10^18 in size.
     pub units: i128,
@@ -24,7 +24,7 @@ impl Model for Decimal {
 }
 
 /// Why a text is no decimal.
-#[derive(Clone, Copy, Debug, PartialEq, Eq)]
+#[derive(Clone, Copy, PartialEq, Eq)]
 pub enum DecimalFault {
     /// No byte stands, or none after the sign.
     Empty,

@@ -4,7 +4,7 @@ ghost use Rattle.std.specs.Prelude.{◌≡◌, pos};
 use std::marker::Model;
 
 /// A fraction in lowest terms. Contracts see its `n` and `d`.
-#[derive(Clone, Copy, Debug, PartialEq, Eq)]
+#[derive(Clone, Copy, PartialEq, Eq)]
 pub struct Ratio {
     /// The numerator.
     pub n: i128,

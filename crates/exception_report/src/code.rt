@@ -2,7 +2,7 @@
 use exact_ratio::words::Words;
 
 /// Why a request was refused (OGC 07-057r7, section 7.2.3, and OGC 06-121r3, section 8.3).
-#[derive(Clone, Copy, Debug, PartialEq, Eq)]
+#[derive(Clone, Copy, PartialEq, Eq)]
 pub enum Code {
     /// The operation isn't one of the service's.
     OperationNotSupported,

@@ -12,7 +12,7 @@ use indexmap::IndexMap;
 use metatile_plan::metatile::MetaKey;
 
 /// What is counted of a metatile.
-#[derive(Clone, Copy, Debug, PartialEq, Eq)]
+#[derive(Clone, Copy, PartialEq, Eq)]
 pub struct Tally {
     /// How often it was used, since it was entered last.
     pub uses: u64,

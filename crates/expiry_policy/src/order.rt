@@ -12,7 +12,7 @@ use metatile_plan::metatile::MetaKey;
 use std::cmp::Ordering;
 
 /// By what metatiles are ranked.
-#[derive(Clone, Copy, Debug, PartialEq, Eq)]
+#[derive(Clone, Copy, PartialEq, Eq)]
 pub enum Ranking {
     /// As the policy ranks them: the first one is the victim.
     Expiry,
@@ -21,7 +21,7 @@ pub enum Ranking {
 }
 
 /// A ranking, and the policy that it may go by.
-#[derive(Clone, Copy, Debug, PartialEq, Eq)]
+#[derive(Clone, Copy, PartialEq, Eq)]
 pub struct Order {
     pub ranking: Ranking,
     pub policy: Policy,

@@ -1,7 +1,7 @@
 //! The types of a part, of a hole and of a spot.
 
 /// A part of a space: so many bytes from a place on.
-#[derive(Clone, Copy, Debug, PartialEq, Eq)]
+#[derive(Clone, Copy, PartialEq, Eq)]
 pub struct Part {
     /// The place of its first byte, counted from 0.
     pub place: u64,

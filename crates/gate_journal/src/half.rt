@@ -6,7 +6,7 @@ ghost use Rattle.gate_journal.specs.Layout.{half_at, header_at, other_half};
 pub(crate) const AT_ONCE: u64 = 1024;
 
 /// One of the two halves of a journal.
-#[derive(Clone, Copy, Debug, PartialEq, Eq, Drop)]
+#[derive(Clone, Copy, PartialEq, Eq, Drop)]
 pub enum Half {
     First,
     Second,

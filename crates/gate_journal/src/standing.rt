@@ -1,7 +1,7 @@
 //! The standings of a journal: settled, or as a failed call left it.
 
 /// Whether the disk holds the records of a journal alone.
-#[derive(Clone, Copy, Debug, PartialEq, Eq, Drop)]
+#[derive(Clone, Copy, PartialEq, Eq, Drop)]
 pub enum Standing {
     Settled,
     /// A call failed, and no gate was written in it.

@@ -1,7 +1,7 @@
 //! How the serving of a listener's links ends.
 
 /// How the serving of a listener's links over a hall ended (`specs/Served.antt`).
-#[derive(Clone, Copy, Debug, PartialEq, Eq)]
+#[derive(Clone, Copy, PartialEq, Eq)]
 pub enum ServiceEnd {
     /// The listener gave as many links as were asked for, and each of them was served in one session, to its end.
     Done,

@@ -80,7 +80,7 @@ fn a_job_is_submitted_looked_at_and_cancelled(rt: HostRuntime) -> Result<(), Fai
     let Some((end, output)) = session_at(&rt, alloc, pair)? else {
         return Err(Fail::from("no board"));
     };
-    assert_eq!(rt; end, SessionEnd::Closed);
-    assert_eq!(rt; output.as_slice(), RESPONSES);
+    assert!(rt; end == SessionEnd::Closed);
+    assert!(rt; output.as_slice() == RESPONSES);
     Ok(())
 }

@@ -7,7 +7,7 @@ use crate::streams::ByteSource;
 use std::alloc::Global;
 
 /// Why an input was not read to its end.
-#[derive(Clone, Copy, Debug, PartialEq, Eq)]
+#[derive(Clone, Copy, PartialEq, Eq)]
 pub enum InputEnd {
     /// A read failed.
     ReadFault,

@@ -2,7 +2,7 @@
 use exact_ratio::words::Words;
 
 /// The method of a message (RFC 9110, section 9).
-#[derive(Clone, Copy, Debug, PartialEq, Eq)]
+#[derive(Clone, Copy, PartialEq, Eq)]
 pub enum Method {
     Get,
     Post,
@@ -35,7 +35,7 @@ pub enum Next {
 }
 
 /// Why a stream could not be read on.
-#[derive(Clone, Copy, Debug, PartialEq, Eq)]
+#[derive(Clone, Copy, PartialEq, Eq)]
 pub enum WireFault {
     /// A read failed.
     ReadFault,
@@ -44,7 +44,7 @@ pub enum WireFault {
 }
 
 /// How a stream of messages stops: `Next` without the message.
-#[derive(Clone, Copy, Debug, PartialEq, Eq)]
+#[derive(Clone, Copy, PartialEq, Eq)]
 pub enum Stop {
     End,
     Truncated,
@@ -52,7 +52,7 @@ pub enum Stop {
 }
 
 /// How a reader of messages has ended.
-#[derive(Clone, Copy, Debug, PartialEq, Eq)]
+#[derive(Clone, Copy, PartialEq, Eq)]
 pub enum Ended {
     Stopped(Stop),
     Failed(WireFault),

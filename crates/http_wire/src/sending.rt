@@ -6,7 +6,7 @@ ghost use Rattle.causes.specs.Causes.{HasCause};
 use crate::streams::ByteSink;
 
 /// How many bytes went out before the write that failed.
-#[derive(Clone, Copy, Debug, PartialEq, Eq)]
+#[derive(Clone, Copy, PartialEq, Eq)]
 pub struct Sent(pub u64);
 
 /// Sends all of the bytes. `Sent(n)` where a write failed, and then exactly the first `n` went out.

@@ -6,7 +6,7 @@ use jobs::job::Job;
 use std::collections::LinkedList;
 
 /// What a turn does.
-#[derive(Clone, Copy, Debug, PartialEq, Eq)]
+#[derive(Clone, Copy, PartialEq, Eq)]
 pub enum Command {
     /// Submits a job of so many places.
     Submit(Job, u64),

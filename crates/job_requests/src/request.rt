@@ -3,7 +3,7 @@ use job_forms::fault::JobFault;
 use jobs::job::Job;
 
 /// What a message under `/jobs` asks for.
-#[derive(Clone, Copy, Debug, PartialEq, Eq)]
+#[derive(Clone, Copy, PartialEq, Eq)]
 pub enum JobRequest {
     /// That this job, which fits the catalogue, is run.
     Submission(Job),

@@ -8,7 +8,7 @@ use crate::sheet::JobSheet;
 
 /// How many places a job has, how many of these are claimed, how many are reported done and failed, and whether it is
 /// cancelled.
-#[derive(Clone, Copy, Debug, PartialEq, Eq)]
+#[derive(Clone, Copy, PartialEq, Eq)]
 pub struct Progress {
     pub places: u64,
     pub claimed: u64,

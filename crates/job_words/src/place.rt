@@ -1,7 +1,7 @@
 //! How a place of a job ends.
 
 /// Why a place failed.
-#[derive(Clone, Copy, Debug, PartialEq, Eq)]
+#[derive(Clone, Copy, PartialEq, Eq)]
 pub enum PlaceFault {
     /// The source failed at the rendering.
     Source,
@@ -16,7 +16,7 @@ pub enum PlaceFault {
 }
 
 /// How a place ended.
-#[derive(Clone, Copy, Debug, PartialEq, Eq)]
+#[derive(Clone, Copy, PartialEq, Eq)]
 pub enum PlaceEnd {
     /// Its metatile was kept or is rendered, or its cut is made.
     Done,

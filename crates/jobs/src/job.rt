@@ -2,7 +2,7 @@
 use truncation_list::cover::Cover;
 
 /// What a job does at its places.
-#[derive(Clone, Copy, Debug, PartialEq, Eq)]
+#[derive(Clone, Copy, PartialEq, Eq)]
 pub enum JobKind {
     /// Renders each metatile that isn't kept.
     Seed,
@@ -13,7 +13,7 @@ pub enum JobKind {
 }
 
 /// One job over the tiles of a cover.
-#[derive(Clone, Copy, Debug, PartialEq, Eq)]
+#[derive(Clone, Copy, PartialEq, Eq)]
 pub struct Job {
     pub kind: JobKind,
     pub cover: Cover,

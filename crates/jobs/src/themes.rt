@@ -58,7 +58,7 @@ pub fn how_many_themes(catalogue: &Catalogue, cover: &Cover) -> u64
 }
 
 /// Values of a layer's four dimensions that a cover is for, picked by a place among many.
-#[derive(Clone, Copy, Debug, PartialEq, Eq)]
+#[derive(Clone, Copy, PartialEq, Eq)]
 struct Row {
     values: [u32; 4],
     /// How often all rows of values went round before the place.

@@ -3,7 +3,7 @@ ghost use Rattle.std.specs.Prelude.{◌≡◌, ◌<◌, ◌≤◌, Some, length,
 ghost use Rattle.jobs.specs.Steps.{IsPicked, numbers};
 
 /// The numbers that a cover wants: one alone, or all below a count.
-#[derive(Clone, Copy, Debug, PartialEq, Eq)]
+#[derive(Clone, Copy, PartialEq, Eq)]
 pub struct Wanted {
     /// How many numbers there are.
     pub below: u32,
@@ -12,7 +12,7 @@ pub struct Wanted {
 }
 
 /// A number that is wanted, picked by a place among many.
-#[derive(Clone, Copy, Debug, PartialEq, Eq)]
+#[derive(Clone, Copy, PartialEq, Eq)]
 pub struct Pick {
     pub number: u32,
     /// How often all numbers went round before the place.

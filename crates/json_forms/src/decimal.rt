@@ -7,7 +7,7 @@ use exact_ratio::decimal::{Decimal, DecimalFault};
 use serde_json::Value;
 
 /// A text of the form of a decimal number.
-#[derive(Clone, Copy, Debug, PartialEq, Eq)]
+#[derive(Clone, Copy, PartialEq, Eq)]
 pub enum DecimalText {
     /// The number.
     Number(Decimal),

@@ -4,7 +4,7 @@ use job_forms::fault::JobFault;
 use tile_service::session::SessionEnd;
 
 /// How a word on the cache of a disk ended.
-#[derive(Clone, Copy, Debug, PartialEq, Eq)]
+#[derive(Clone, Copy, PartialEq, Eq)]
 pub enum KeptEnd {
     /// The work was done, and all was written.
     Done,

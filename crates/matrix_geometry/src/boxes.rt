@@ -2,7 +2,7 @@
 use exact_ratio::ratio::Ratio;
 
 /// The four edges of a tile, in units of the grid.
-#[derive(Clone, Copy, Debug, PartialEq, Eq)]
+#[derive(Clone, Copy, PartialEq, Eq)]
 pub struct TileBox {
     pub left: Ratio,
     pub right: Ratio,
@@ -11,7 +11,7 @@ pub struct TileBox {
 }
 
 /// A box on the ground, in billionths of a unit.
-#[derive(Clone, Copy, Debug, PartialEq, Eq)]
+#[derive(Clone, Copy, PartialEq, Eq)]
 pub struct Box9 {
     pub min_x: i64,
     pub min_y: i64,
@@ -20,7 +20,7 @@ pub struct Box9 {
 }
 
 /// Rows and columns of tiles, the first and the last of each.
-#[derive(Clone, Copy, Debug, PartialEq, Eq)]
+#[derive(Clone, Copy, PartialEq, Eq)]
 pub struct Range {
     pub row_min: u32,
     pub row_max: u32,

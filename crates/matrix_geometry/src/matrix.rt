@@ -3,7 +3,7 @@ use exact_ratio::decimal::Decimal;
 use exact_ratio::ratio::Ratio;
 
 /// A matrix of tiles (OGC 07-057r7, section 6).
-#[derive(Clone, Copy, Debug, PartialEq, Eq)]
+#[derive(Clone, Copy, PartialEq, Eq)]
 pub struct Matrix {
     /// The width and height of a pixel, in units of the grid.
     pub span: Ratio,
@@ -22,14 +22,14 @@ pub struct Matrix {
 }
 
 /// The top left corner of a matrix, in units of the grid.
-#[derive(Clone, Copy, Debug, PartialEq, Eq)]
+#[derive(Clone, Copy, PartialEq, Eq)]
 pub struct Corner {
     pub x: Decimal,
     pub y: Decimal,
 }
 
 /// A width and a height, of a tile in pixels or of a matrix in tiles.
-#[derive(Clone, Copy, Debug, PartialEq, Eq)]
+#[derive(Clone, Copy, PartialEq, Eq)]
 pub struct Size {
     pub w: u32,
     pub h: u32,

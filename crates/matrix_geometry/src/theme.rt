@@ -1,7 +1,7 @@
 //! The types of a theme and of a filter of themes.
 
 /// A layer with one of its styles and a value of each of its dimensions, all by their numbers in the catalogue.
-#[derive(Clone, Copy, Debug, PartialEq, Eq, PartialOrd, Ord, Hash)]
+#[derive(Clone, Copy, PartialEq, Eq, PartialOrd, Ord, Hash)]
 pub struct Theme {
     pub layer: u32,
     pub style: u32,
@@ -10,7 +10,7 @@ pub struct Theme {
 }
 
 /// Which styles and values a cover admits: `None` admits any.
-#[derive(Clone, Copy, Debug, PartialEq, Eq)]
+#[derive(Clone, Copy, PartialEq, Eq)]
 pub struct Filter {
     pub style: Option<u32>,
     pub dims: [Option<u32>; 4],

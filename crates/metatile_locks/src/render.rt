@@ -2,7 +2,7 @@
 use metatile_plan::metatile::MetaKey;
 
 /// A render that runs: the moment at which it was begun, in seconds, and the number of the last truncation that overtook it.
-#[derive(Clone, Copy, Debug, PartialEq, Eq)]
+#[derive(Clone, Copy, PartialEq, Eq)]
 pub struct Render {
     pub number: u64,
     pub meta: MetaKey,

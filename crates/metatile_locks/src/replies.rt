@@ -10,7 +10,7 @@ pub enum Begin {
 }
 
 /// What an end is answered.
-#[derive(Clone, Copy, Debug, PartialEq, Eq)]
+#[derive(Clone, Copy, PartialEq, Eq)]
 pub enum End {
     /// No render of this number and metatile runs; nothing changed.
     Stranger,

@@ -2,7 +2,7 @@
 use matrix_geometry::theme::Theme;
 
 /// How the tiles of a layer are gathered into metatiles.
-#[derive(Clone, Copy, Debug, PartialEq, Eq)]
+#[derive(Clone, Copy, PartialEq, Eq)]
 pub struct Factors {
     /// How many tiles a metatile has across, 1 to 8.
     pub x: u32,
@@ -14,7 +14,7 @@ pub struct Factors {
 
 /// One metatile: its theme, its grid, the number of its matrix in the grid, and its place among the metatiles of the
 /// matrix. Keys are ordered field by field.
-#[derive(Clone, Copy, Debug, PartialEq, Eq, PartialOrd, Ord, Hash)]
+#[derive(Clone, Copy, PartialEq, Eq, PartialOrd, Ord, Hash)]
 pub struct MetaKey {
     pub theme: Theme,
     pub grid: u32,

@@ -3,7 +3,7 @@ use crate::metatile::MetaKey;
 
 /// The pixels that are rendered for a metatile: its block with the gutter, cut to the matrix. `x` and `y` count from the
 /// top left pixel of the matrix.
-#[derive(Clone, Copy, Debug, PartialEq, Eq)]
+#[derive(Clone, Copy, PartialEq, Eq)]
 pub struct Window {
     pub meta: MetaKey,
     pub x: u64,

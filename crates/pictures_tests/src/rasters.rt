@@ -12,13 +12,13 @@ use std::test::Fail;
 fn the_first_value_is_told(rt: HostRuntime) -> Result<(), Fail> {
     let catalogue = Catalogue::demo(rt.alloc())?;
     let value = field_value(&catalogue, 0, 1, &FIRST, 0, 0);
-    assert_eq!(rt; value, 0x7f);
+    assert!(rt; value == 0x7f);
     let grey = Colour {
         r: 0x7f,
         g: 0x7f,
         b: 0x7f,
     };
-    assert_eq!(rt; colour_of(catalogue.style_of(&FIRST.theme), value), grey);
+    assert!(rt; colour_of(catalogue.style_of(&FIRST.theme), value) == grey);
     Ok(())
 }
 

@@ -3,7 +3,7 @@ ghost use Rattle.std.specs.Prelude.{◌≡◌};
 ghost use Rattle.quota_ledger.specs.Accounts.{is_above};
 
 /// What a layer, or all of them together, may take and takes.
-#[derive(Clone, Copy, Debug, PartialEq, Eq)]
+#[derive(Clone, Copy, PartialEq, Eq)]
 pub struct Account {
     /// The most bytes that may be taken, where there is a limit.
     pub quota: Option<u64>,

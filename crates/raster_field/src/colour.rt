@@ -5,7 +5,7 @@ ghost use Rattle.raster_field.specs.Picture.{colour_of};
 use catalog::layer::Style;
 
 /// The colour of a pixel, a byte each of red, green and blue.
-#[derive(Clone, Copy, Debug, PartialEq, Eq)]
+#[derive(Clone, Copy, PartialEq, Eq)]
 pub struct Colour {
     pub r: u8,
     pub g: u8,

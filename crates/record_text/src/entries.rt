@@ -3,7 +3,7 @@ use metatile_plan::metatile::MetaKey;
 use truncation_list::cover::Cover;
 
 /// What a journal records.
-#[derive(Clone, Copy, Debug, PartialEq, Eq)]
+#[derive(Clone, Copy, PartialEq, Eq)]
 pub enum Record {
     /// The number of an opening, and the floor of the list of cuts.
     Opened(u32, u64),

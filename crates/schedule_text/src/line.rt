@@ -7,7 +7,7 @@ use crate::verb::{Verb, verb_of};
 use metatile_plan::span::Span;
 
 /// One line: the number of its actor, 0 to 63, what the actor does, and where the rest stands in the line.
-#[derive(Clone, Copy, Debug, PartialEq, Eq)]
+#[derive(Clone, Copy, PartialEq, Eq)]
 pub struct Line {
     pub actor: u32,
     pub verb: Verb,
@@ -16,7 +16,7 @@ pub struct Line {
 }
 
 /// Why a text is no line.
-#[derive(Clone, Copy, Debug, PartialEq, Eq)]
+#[derive(Clone, Copy, PartialEq, Eq)]
 pub enum LineFault {
     /// It does not begin with 0, or with 1 to 63 without a leading zero, and one space.
     NoActor,

@@ -3,7 +3,7 @@ ghost use Rattle.std.specs.Prelude.{◌≡◌, ◌≤◌, length, find, IsTrue, 
 ghost use Rattle.schedule_text.specs.Line.{word, is_target, has_rest, has_form, verb_of};
 
 /// What an actor of a schedule does.
-#[derive(Clone, Copy, Debug, PartialEq, Eq)]
+#[derive(Clone, Copy, PartialEq, Eq)]
 pub enum Verb {
     /// Requests a target, and is answered in the same line where that can be.
     Get,

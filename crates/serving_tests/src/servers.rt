@@ -50,8 +50,8 @@ fn a_listener_that_gives_too_few(rt: HostRuntime) -> Result<(), Fail> {
         &mut listener,
         sources(alloc)?,
     );
-    assert_eq!(rt; end, ServerEnd::ListenFault);
-    assert_eq!(rt; end.code(), 14);
+    assert!(rt; end == ServerEnd::ListenFault);
+    assert!(rt; end.code() == 14);
     Ok(())
 }
 
@@ -77,7 +77,7 @@ fn one_renders_and_the_other_hits(rt: HostRuntime) -> Result<(), Fail> {
     let first = Mutex::new(Vec::new(alloc));
     let second = Mutex::new(Vec::new(alloc));
     let end = serve_two(&rt, alloc, &first, &second)?;
-    assert_eq!(rt; end, ServerEnd::Done);
+    assert!(rt; end == ServerEnd::Done);
     let first = first.lock(&rt);
     let second = second.lock(&rt);
     let (first, second) = (first.as_slice(), second.as_slice());

@@ -13,7 +13,7 @@ use metatile_plan::window::Window;
 use raster_field::raster::Raster;
 
 /// A source of numbered pictures, which never fails.
-#[derive(Debug, Drop)]
+#[derive(Drop)]
 pub struct Numbered {
     id: u32,
 }

@@ -13,7 +13,7 @@ use metatile_plan::window::Window;
 use raster_field::raster::Raster;
 
 /// A source of numbered pictures that fails at listed calls, for tests.
-#[derive(Debug, Drop)]
+#[derive(Drop)]
 pub struct Scripted {
     id: u32,
     fail: Vec<u64>,

@@ -8,7 +8,7 @@ use metatile_plan::window::Window;
 use raster_field::raster::Raster;
 
 /// A source whose file is there and can't be opened: each render fails. Its number isn't modelled.
-#[derive(Debug, Drop)]
+#[derive(Drop)]
 pub struct Shut {
     faults: u64,
 }

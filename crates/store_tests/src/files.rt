@@ -116,14 +116,14 @@ fn a_record_has_its_blob_after_each_stop(rt: HostRuntime) -> Result<(), Fail> {
             assert!(rt; keep(&rt, &mut file, 1));
             stop_after(&mut file, calls);
             let done = keep(&rt, &mut file, 2);
-            assert_eq!(rt; done, calls == 6);
+            assert!(rt; done == calls == 6);
             let (numbers, first, second) = left(&rt, alloc, file, pick)?;
-            assert_eq!(rt; first, [1; 4]);
+            assert!(rt; first == [1; 4]);
             if calls == 6 || calls >= 4 && pick == Pick::New {
-                assert_eq!(rt; numbers.as_slice(), [1, 2].as_slice());
-                assert_eq!(rt; second, [2; 4]);
+                assert!(rt; numbers.as_slice() == [1, 2].as_slice());
+                assert!(rt; second == [2; 4]);
             } else {
-                assert_eq!(rt; numbers.as_slice(), [1].as_slice());
+                assert!(rt; numbers.as_slice() == [1].as_slice());
             }
         }
     }
@@ -142,8 +142,8 @@ fn a_record_that_failed_is_none_once_the_file_is_ready(rt: HostRuntime) -> Resul
             assert!(rt; ready(&mut file));
             assert!(rt; keep(&rt, &mut file, 1));
             let (numbers, first, _) = left(&rt, alloc, file, pick)?;
-            assert_eq!(rt; numbers.as_slice(), [1].as_slice());
-            assert_eq!(rt; first, [1; 4]);
+            assert!(rt; numbers.as_slice() == [1].as_slice());
+            assert!(rt; first == [1; 4]);
         }
     }
     Ok(())
@@ -167,10 +167,10 @@ fn other_records_replace_those_that_leave_no_room(rt: HostRuntime) -> Result<(),
     let alloc = rt.alloc();
     let mut file = made(&rt, alloc)?;
     assert!(rt; fills_and_replaces(&rt, &mut file));
-    assert_eq!(rt; file.version(), 2);
-    assert_eq!(rt; file.fault_count(), 0);
+    assert!(rt; file.version() == 2);
+    assert!(rt; file.fault_count() == 0);
     let (numbers, first, second) = left(&rt, alloc, file, Pick::Old)?;
-    assert_eq!(rt; numbers.as_slice(), [9].as_slice());
-    assert_eq!(rt; (first, second), ([1; 4], [2; 4]));
+    assert!(rt; numbers.as_slice() == [9].as_slice());
+    assert!(rt; (first, second) == ([1; 4], [2; 4]));
     Ok(())
 }

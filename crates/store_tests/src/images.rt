@@ -53,7 +53,7 @@ fn image(
 /// Makes a journal with halves of 224 slots, and adds a record.
 fn begun(rt: &impl Abort, alloc: Global, disk: &mut MemoryDisk) -> Result<(), Fail> {
     make(disk, &digest(), 224)?;
-    assert_eq!(rt; disk.bytes().len(), 28_800);
+    assert!(rt; disk.bytes().len() == 28_800);
     let mut journal = Journal::open(alloc, disk, &digest(), 224)?.journal;
     assert!(rt; journal.room() == 224);
     journal.append(disk, &body(5))?;

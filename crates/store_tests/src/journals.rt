@@ -149,7 +149,7 @@ fn an_append_is_stopped_after_each_call(rt: HostRuntime) -> Result<(), Fail> {
     ] {
         for (pick, count) in PICKS.into_iter().zip(counts) {
             let found = stopped_append(&rt, rt.alloc(), calls, pick)?;
-            assert_eq!(rt; found, count, "after {calls} calls");
+            assert!(rt; found == count, "after {calls} calls");
         }
     }
     Ok(())
@@ -162,7 +162,7 @@ fn a_compaction_is_stopped_after_each_call(rt: HostRuntime) -> Result<(), Fail> 
         for pick in PICKS {
             let new = calls == 7 || calls >= 5 && pick == Pick::New;
             let count = stopped_compaction(&rt, rt.alloc(), calls, pick)?;
-            assert_eq!(rt; count, if new { 1 } else { 2 });
+            assert!(rt; count == if new { 1 } else { 2 });
         }
     }
     Ok(())
@@ -207,7 +207,7 @@ fn a_failed_record_is_settled(rt: HostRuntime) -> Result<(), Fail> {
     let alloc = rt.alloc();
     for pick in PICKS {
         for (failed, settling, last) in [(1, 0, 2), (1, 1, 4), (3, 1, 2), (3, 2, 4)] {
-            assert_eq!(rt; settled_after(&rt, alloc, failed, settling, pick)?, last);
+            assert!(rt; settled_after(&rt, alloc, failed, settling, pick)? == last);
         }
         let left = settled_after(&rt, alloc, 2, 0, pick)?;
         assert!(rt; left == 2 || left == 3 && pick == Pick::New);

@@ -13,7 +13,7 @@ use std::io::{ErrorKind, IoSlice, Read};
 use std::net::Shutdown;
 
 /// What a reading of a connection came to.
-#[derive(Clone, Copy, Debug, PartialEq, Eq)]
+#[derive(Clone, Copy, PartialEq, Eq)]
 pub enum Filled {
     /// Its next message is at hand, whole.
     Whole,
@@ -26,7 +26,7 @@ pub enum Filled {
 }
 
 /// What has become of the bytes of an answer.
-#[derive(Clone, Copy, Debug, PartialEq, Eq)]
+#[derive(Clone, Copy, PartialEq, Eq)]
 pub enum Sent {
     /// The socket took all of them.
     All,

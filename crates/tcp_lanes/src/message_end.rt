@@ -11,7 +11,7 @@ use http_wire::outline::judge;
 use httparse::spans::{EMPTY_HEADER_SPAN, HeaderSpan, RequestSpans};
 
 /// Where the message at the front ends.
-#[derive(Clone, Copy, Debug, PartialEq, Eq)]
+#[derive(Clone, Copy, PartialEq, Eq)]
 pub enum End {
     /// A whole message stands there, of so many bytes, head and body.
     Whole(usize),

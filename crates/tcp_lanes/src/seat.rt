@@ -19,7 +19,7 @@ pub struct Poller {
 }
 
 /// A socket of which the system told, and whether the client closed its side.
-#[derive(Clone, Copy, Debug, PartialEq, Eq)]
+#[derive(Clone, Copy, PartialEq, Eq)]
 pub struct Ready {
     pub token: usize,
     pub hung_up: bool,
@@ -39,14 +39,14 @@ impl Ready {
 }
 
 /// What is known of a socket that is in line or isn't.
-#[derive(Clone, Copy, Debug, PartialEq, Eq)]
+#[derive(Clone, Copy, PartialEq, Eq)]
 struct Mark {
     queued: bool,
     hung_up: bool,
 }
 
 /// What a lane saw while it waited.
-#[derive(Clone, Copy, Debug, PartialEq, Eq)]
+#[derive(Clone, Copy, PartialEq, Eq)]
 pub struct Vigil {
     /// Whether it was parked, and has not asked the system since.
     parked: bool,

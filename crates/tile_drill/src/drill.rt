@@ -15,7 +15,7 @@ use tile_service::counter::Counter;
 use tile_service::seats::{close, free_seats};
 
 /// How a drill ended.
-#[derive(Clone, Copy, Debug, PartialEq, Eq)]
+#[derive(Clone, Copy, PartialEq, Eq)]
 pub enum DrillEnd {
     /// Every line was run, and the summary was written.
     Done,

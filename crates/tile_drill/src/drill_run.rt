@@ -21,7 +21,7 @@ use tile_service::seats::{ACTORS, Seat};
 pub const DRILL_LINES: u64 = 4096;
 
 /// How the lines of a drill ended.
-#[derive(Clone, Copy, Debug, PartialEq, Eq)]
+#[derive(Clone, Copy, PartialEq, Eq)]
 pub enum MadeEnd {
     /// All were run: what their answers tell of the cache, and the SHA-256 of what they write.
     Done(CacheTally, [u8; 32]),

@@ -4,7 +4,7 @@ ghost use Rattle.std.specs.Prelude.{◌≡◌};
 use http_wire::message::{Message, Method};
 
 /// A message where it stands: its target and its body are borrowed. It doesn't know whether it is the last of its connection.
-#[derive(Clone, Copy, Debug)]
+#[derive(Clone, Copy)]
 pub struct MessageRef<'a> {
     pub method: Method,
     pub target: &'a [u8],

@@ -3,7 +3,7 @@ ghost use Rattle.std.specs.Prelude.{◌≡◌, ◌≤◌, length};
 ghost use Rattle.tile_requests.specs.Shown.{body_text, media_type_name};
 
 /// The type of a body.
-#[derive(Clone, Copy, Debug, PartialEq, Eq)]
+#[derive(Clone, Copy, PartialEq, Eq)]
 pub enum MediaType {
     Ppm,
     Xml,
@@ -47,7 +47,7 @@ impl<'a> Body<'a> {
 }
 
 /// What the headers of a tile tell.
-#[derive(Clone, Copy, Debug, PartialEq, Eq)]
+#[derive(Clone, Copy, PartialEq, Eq)]
 pub struct TileHeaders {
     /// Whether a kept tile gave it.
     pub hit: bool,

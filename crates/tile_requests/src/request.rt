@@ -33,7 +33,7 @@ pub enum Request {
 }
 
 /// How a tile is asked for.
-#[derive(Clone, Copy, Debug, PartialEq, Eq)]
+#[derive(Clone, Copy, PartialEq, Eq)]
 pub enum Mode {
     /// The render and the finish follow in the same line, where no other render of the metatile runs.
     Gets,

@@ -20,7 +20,7 @@ use wmts_kvp::query::{Query, read_query};
 use wmts_rest::table::RestTable;
 
 /// Where the path of a message leads.
-#[derive(Clone, Copy, Debug, PartialEq, Eq)]
+#[derive(Clone, Copy, PartialEq, Eq)]
 pub enum Route {
     /// To the reading of the query.
     Query,

@@ -5,7 +5,7 @@ ghost use Rattle.tile_service.specs.CacheTally.{both, one_of, result_of, total};
 use tile_requests::outcome::Outcome;
 
 /// What an answer tells of the cache.
-#[derive(Clone, Copy, Debug, PartialEq, Eq)]
+#[derive(Clone, Copy, PartialEq, Eq)]
 pub enum CacheResult {
     /// A kept tile was handed out.
     Hit,
@@ -16,7 +16,7 @@ pub enum CacheResult {
 }
 
 /// How many answers tell what of the cache.
-#[derive(Clone, Copy, Debug, PartialEq, Eq)]
+#[derive(Clone, Copy, PartialEq, Eq)]
 pub struct CacheTally {
     pub hits: u64,
     pub misses: u64,

@@ -12,7 +12,7 @@ use tile_requests::message_ref::MessageRef;
 use tile_requests::request::Mode;
 
 /// What a line says.
-#[derive(Clone, Copy, Debug)]
+#[derive(Clone, Copy)]
 pub enum Action<'a> {
     Nothing,
     /// This actor sends this message.

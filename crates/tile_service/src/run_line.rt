@@ -20,7 +20,7 @@ use source_render::source::Source;
 use std::alloc::Global;
 
 /// How a line ended.
-#[derive(Clone, Copy, Debug, PartialEq, Eq)]
+#[derive(Clone, Copy, PartialEq, Eq)]
 pub enum LineEnd {
     /// What its answer tells of the cache, where it has one.
     Done(Option<CacheResult>),

@@ -18,7 +18,7 @@ use source_render::source::Source;
 use std::alloc::Global;
 
 /// How the lines of a schedule ended.
-#[derive(Clone, Copy, Debug, PartialEq, Eq)]
+#[derive(Clone, Copy, PartialEq, Eq)]
 pub enum RunEnd {
     Done,
     /// This line was refused, counted from 1.

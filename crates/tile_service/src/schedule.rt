@@ -20,7 +20,7 @@ use std::alloc::Global;
 const SCHEDULE_LIMIT: usize = 16_777_216;
 
 /// How a schedule ended.
-#[derive(Clone, Copy, Debug, PartialEq, Eq)]
+#[derive(Clone, Copy, PartialEq, Eq)]
 pub enum ScheduleEnd {
     /// The input was read to its end, and every line was run.
     Done,

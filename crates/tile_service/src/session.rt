@@ -30,7 +30,7 @@ use tile_requests::outcome::Outcome;
 pub const SESSION_LIMIT: u64 = 10_000;
 
 /// How a session ended.
-#[derive(Clone, Copy, Debug, PartialEq, Eq)]
+#[derive(Clone, Copy, PartialEq, Eq)]
 pub enum SessionEnd {
     /// The stream ended after a message, or its last message was answered.
     Closed,

@@ -10,7 +10,7 @@ use hall_service::ends::ServiceEnd;
 use std::fmt;
 
 /// How a server ended (`specs/Served.antt`).
-#[derive(Clone, Copy, Debug, PartialEq, Eq)]
+#[derive(Clone, Copy, PartialEq, Eq)]
 pub enum ServerEnd {
     /// The cache of the disk was opened, the listener gave as many links as were asked for, and each of them was served in one session, to its
     /// end.

@@ -3,7 +3,7 @@ use matrix_geometry::boxes::Range;
 use matrix_geometry::theme::Theme;
 
 /// A block of tiles: those of one theme, grid and matrix in a range of rows and columns.
-#[derive(Clone, Copy, Debug, PartialEq, Eq)]
+#[derive(Clone, Copy, PartialEq, Eq)]
 pub struct Block {
     pub theme: Theme,
     pub grid: u32,

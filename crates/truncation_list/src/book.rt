@@ -3,7 +3,7 @@ use crate::cover::Cover;
 use exact_ratio::items::Items;
 
 /// A truncation that was done: its number, and the tiles that it is for.
-#[derive(Clone, Copy, Debug, PartialEq, Eq)]
+#[derive(Clone, Copy, PartialEq, Eq)]
 pub struct Cut {
     pub number: u64,
     pub cover: Cover,

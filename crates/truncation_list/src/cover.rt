@@ -4,7 +4,7 @@ use matrix_geometry::theme::Filter;
 
 /// Which tiles a truncation or a seed is for: those of a layer and a grid, of the matrices from `z_start` to `z_stop`, in
 /// the box where there is one, with the styles and values that the filter admits.
-#[derive(Clone, Copy, Debug, PartialEq, Eq)]
+#[derive(Clone, Copy, PartialEq, Eq)]
 pub struct Cover {
     pub layer: u32,
     pub grid: u32,

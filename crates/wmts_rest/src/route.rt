@@ -1,7 +1,7 @@
 //! What a path of the RESTful interface may lead to.
 
 /// What a path is routed to.
-#[derive(Clone, Copy, Debug, PartialEq, Eq)]
+#[derive(Clone, Copy, PartialEq, Eq)]
 pub enum Route {
     /// The document of the service's capabilities.
     Capabilities,

@@ -73,7 +73,7 @@ fn what_has_a_number_is_found(rt: HostRuntime) -> Result<(), Fail> {
     let catalogue = sea_catalogue(rt.alloc())?;
     let layer = catalogue.layers.get(0).ok_or("no layer")?;
     assert!(rt; layer.serves(0));
-    assert_eq!(rt; catalogue.dimensions_of(0).len(), 2);
+    assert!(rt; catalogue.dimensions_of(0).len() == 2);
     assert!(rt; catalogue.matrix_in(0, 2).is_some());
     assert!(rt; catalogue.matrix_in(0, 3).is_none());
     Ok(())
@@ -102,7 +102,7 @@ fn what_is_of_the_catalogue_is_there(rt: HostRuntime) -> Result<(), Fail> {
     assert!(rt; is_named(&demo.layer_of(&theme).id, b"demo"));
     assert!(rt; is_named(&demo.style_of(&theme).id, b"grey"));
     assert!(rt; is_named(&demo.grid(0).id, b"tiny"));
-    assert_eq!(rt; demo.matrix(0, 2).rows, 4);
+    assert!(rt; demo.matrix(0, 2).rows == 4);
     Ok(())
 }
 
@@ -115,8 +115,8 @@ fn the_first_fault_is_told(rt: HostRuntime) -> Result<(), Fail> {
     let quota = worse.validate();
     worse.kept_limit = 0;
     let kept = worse.validate();
-    assert_eq!(rt; quota, Err(CatalogueFault::Limit(Field::Quota, 0)));
-    assert_eq!(rt; kept, Err(CatalogueFault::Limit(Field::KeptLimit, 0)));
+    assert!(rt; quota == Err(CatalogueFault::Limit(Field::Quota, 0)));
+    assert!(rt; kept == Err(CatalogueFault::Limit(Field::KeptLimit, 0)));
     Ok(())
 }
 

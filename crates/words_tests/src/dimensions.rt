@@ -25,11 +25,11 @@ fn a_value_is_named_or_the_default_or_refused(rt: HostRuntime) -> Result<(), Fai
     let catalogue = sea_catalogue(rt.alloc())?;
     catalogue.validate()?;
     let mut draft = ThemeDraft::new(0, 0);
-    assert_eq!(rt; added(&mut draft, &catalogue, None), Some(Ok(())));
+    assert!(rt; added(&mut draft, &catalogue, None) == Some(Ok(())));
     let missing = added(&mut draft, &catalogue, None);
-    assert_eq!(rt; missing, Some(Err(DimFault::Missing)));
-    assert_eq!(rt; added(&mut draft, &catalogue, Some(b"10")), Some(Ok(())));
+    assert!(rt; missing == Some(Err(DimFault::Missing)));
+    assert!(rt; added(&mut draft, &catalogue, Some(b"10")) == Some(Ok(())));
     let dims = draft.done().dims;
-    assert_eq!(rt; dims, [0, 1, 0, 0]);
+    assert!(rt; dims == [0, 1, 0, 0]);
     Ok(())
 }

@@ -22,7 +22,7 @@ fn is_none(alloc: Global, text: &[u8]) -> Result<bool, Fail> {
 #[test]
 fn one_object_is_read(rt: HostRuntime) -> Result<(), Fail> {
     let text = b" {\"a\": [1, 2], \"b\": 3} ";
-    assert_eq!(rt; length_of(rt.alloc(), text, "a")?, 2);
+    assert!(rt; length_of(rt.alloc(), text, "a")? == 2);
     for text in ["", "{", "[]", "{} {}", "{}x"] {
         assert!(rt; is_none(rt.alloc(), text.as_bytes())?);
     }
@@ -44,7 +44,7 @@ fn decimal_texts_are_read(rt: HostRuntime) -> Result<(), Fail> {
         ("d", None),
     ] {
         let value = object.get(name).ok_or("no member")?;
-        assert_eq!(rt; decimal_text(value), expected);
+        assert!(rt; decimal_text(value) == expected);
     }
     Ok(())
 }

@@ -19,7 +19,7 @@ fn a_report_has_its_code_and_its_locator_escaped(rt: HostRuntime) -> Result<(), 
         "<?xml version=\"1.0\" encoding=\"UTF-8\"?>\n<ExceptionReport xmlns=\"http://www.opengis.net/ows/1.1\" version=\"1.1.0\">\n<Exception exceptionCode=\"OperationNotSupported\" locator=\"a&amp;&lt;&gt;&quot;???\u{fffd}\"/>\n</ExceptionReport>\n";
     assert!(rt; is_report(rt.alloc(), Code::OperationNotSupported, value, expected)?);
     let text = report(rt.alloc(), Code::NoApplicableCode, &Locator::Nowhere)?;
-    assert_eq!(rt; text.len(), 177);
-    assert_eq!(rt; status_of(Code::OperationNotSupported), 501);
+    assert!(rt; text.len() == 177);
+    assert!(rt; status_of(Code::OperationNotSupported) == 501);
     Ok(())
 }

@@ -2,7 +2,7 @@
 use std::fmt;
 
 /// The steps of a case, or of all cases: how many ran, and how many came to what they expect.
-#[derive(Clone, Copy, Debug)]
+#[derive(Clone, Copy)]
 pub struct Tally {
     steps: u64,
     agreed: u64,
