@@ -20,7 +20,7 @@ use source_render::source::Source;
 use std::alloc::{AllocError, Global};
 
 /// Why there is no blob.
-#[derive(Clone, Copy, PartialEq, Eq)]
+#[derive(Clone, Copy, Debug, PartialEq, Eq)]
 pub enum RenderFault {
     /// The source failed.
     Source,

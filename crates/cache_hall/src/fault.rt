@@ -2,7 +2,7 @@
 use std::alloc::AllocError;
 
 /// Why a get has no tile.
-#[derive(Clone, Copy, PartialEq, Eq)]
+#[derive(Clone, Copy, Debug, PartialEq, Eq)]
 pub enum GetFault {
     /// The source failed at the rendering; its count of faults rose.
     SourceFault,

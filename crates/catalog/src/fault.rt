@@ -5,7 +5,7 @@ ghost use Rattle.catalog.specs.declared.fault.CatalogueFault.TheVariants.{OutOfM
 use std::alloc::{AllocError, AllocFailed};
 
 /// A member of the catalogue's text. The text of a fault names it as it is spelt here.
-#[derive(Clone, Copy, PartialEq, Eq)]
+#[derive(Clone, Copy, Debug, PartialEq, Eq)]
 pub enum Field {
     /// `source`
     Source,
@@ -75,7 +75,7 @@ pub enum Field {
 
 /// Why a text is no catalogue, or why a catalogue isn't valid: a member, with the place of its object in its list, 0 for
 /// the outermost object.
-#[derive(Clone, Copy, PartialEq, Eq)]
+#[derive(Clone, Copy, Debug, PartialEq, Eq)]
 pub enum CatalogueFault {
     /// The text isn't one JSON object.
     NotJson,

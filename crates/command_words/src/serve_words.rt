@@ -21,7 +21,7 @@ pub struct ServeWords {
 }
 
 /// Why the words after `serve` aren't read.
-#[derive(Clone, Copy, PartialEq, Eq)]
+#[derive(Clone, Copy, Debug, PartialEq, Eq)]
 pub enum ServeFault {
     /// An option is missing, stands twice or is unknown, its number isn't in its range, or a word isn't UTF-8.
     Usage,

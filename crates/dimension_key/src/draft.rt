@@ -11,7 +11,7 @@ pub struct ThemeDraft {
 }
 
 /// Why a value of a dimension is refused.
-#[derive(Clone, Copy, PartialEq, Eq)]
+#[derive(Clone, Copy, Debug, PartialEq, Eq)]
 pub enum DimFault {
     /// There is no value, and the dimension has no default.
     Missing,

@@ -5,7 +5,7 @@ ghost use Rattle.disk_model.specs.Content.{bytes_at, written, resized, TornWrite
 ghost use Rattle.disk_model.specs.Images.{DiskState, Only, Steps, IsLawful};
 
 /// A call of a disk failed.
-#[derive(Clone, Copy, PartialEq, Eq, Drop)]
+#[derive(Clone, Copy, Debug, PartialEq, Eq, Drop)]
 pub struct Failed;
 
 /// A disk that holds one file of bytes. Places and lengths are in bytes, and stay below 2^62.

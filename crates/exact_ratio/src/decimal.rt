@@ -24,7 +24,7 @@ impl Model for Decimal {
 }
 
 /// Why a text is no decimal.
-#[derive(Clone, Copy, PartialEq, Eq)]
+#[derive(Clone, Copy, Debug, PartialEq, Eq)]
 pub enum DecimalFault {
     /// No byte stands, or none after the sign.
     Empty,

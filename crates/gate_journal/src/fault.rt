@@ -6,7 +6,7 @@ use disk_model::disk::Failed;
 use std::alloc::{AllocError, AllocFailed};
 
 /// Why a cache isn't opened.
-#[derive(Clone, Copy, PartialEq, Eq, Drop)]
+#[derive(Clone, Copy, Debug, PartialEq, Eq, Drop)]
 pub enum OpenFault {
     /// No header counts, or an open gate stands after a closed one.
     NotACache,

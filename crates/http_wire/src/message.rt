@@ -35,7 +35,7 @@ pub enum Next {
 }
 
 /// Why a stream could not be read on.
-#[derive(Clone, Copy, PartialEq, Eq)]
+#[derive(Clone, Copy, Debug, PartialEq, Eq)]
 pub enum WireFault {
     /// A read failed.
     ReadFault,

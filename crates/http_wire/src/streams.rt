@@ -6,7 +6,7 @@ ghost use Rattle.causes.specs.Causes.{HasCause};
 ghost use Rattle.http_wire.specs.Side.{Side, no_side};
 
 /// A read or a write that failed.
-#[derive(Clone, Copy, PartialEq, Eq)]
+#[derive(Clone, Copy, Debug, PartialEq, Eq)]
 pub struct Failed;
 
 /// Where bytes come from.

@@ -2,7 +2,7 @@
 use std::alloc::AllocError;
 
 /// Why a job isn't submitted.
-#[derive(Clone, Copy, PartialEq, Eq)]
+#[derive(Clone, Copy, Debug, PartialEq, Eq)]
 pub enum BoardFault {
     /// 64 jobs wait, or 1,024 were submitted.
     Full,

@@ -1,7 +1,7 @@
 //! Why a text is no cover or no job, and the member at fault.
 
 /// A member of a cover or a job.
-#[derive(Clone, Copy, PartialEq, Eq)]
+#[derive(Clone, Copy, Debug, PartialEq, Eq)]
 pub enum JobField {
     Layer,
     Grid,
@@ -16,7 +16,7 @@ pub enum JobField {
 }
 
 /// Why a text is no cover or no job.
-#[derive(Clone, Copy, PartialEq, Eq)]
+#[derive(Clone, Copy, Debug, PartialEq, Eq)]
 pub enum JobFault {
     /// The text isn't one JSON object.
     NotJson,

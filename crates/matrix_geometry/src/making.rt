@@ -11,7 +11,7 @@ use exact_ratio::decimal::Decimal;
 use exact_ratio::ratio::Ratio;
 
 /// Why there is no matrix of these numbers.
-#[derive(Clone, Copy, PartialEq, Eq)]
+#[derive(Clone, Copy, Debug, PartialEq, Eq)]
 pub enum GridFault {
     /// A coordinate of the corner is above 10^8 units in size, or no whole number of billionths.
     CoordinateTooLarge,

@@ -16,7 +16,7 @@ pub struct Line {
 }
 
 /// Why a text is no line.
-#[derive(Clone, Copy, PartialEq, Eq)]
+#[derive(Clone, Copy, Debug, PartialEq, Eq)]
 pub enum LineFault {
     /// It does not begin with 0, or with 1 to 63 without a leading zero, and one space.
     NoActor,

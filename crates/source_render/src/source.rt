@@ -12,7 +12,7 @@ use metatile_plan::window::Window;
 use raster_field::raster::Raster;
 
 /// A rendering that failed.
-#[derive(Clone, Copy, PartialEq, Eq)]
+#[derive(Clone, Copy, Debug, PartialEq, Eq)]
 pub struct Failed;
 
 /// What renders pictures.

@@ -116,7 +116,7 @@ fn a_record_has_its_blob_after_each_stop(rt: HostRuntime) -> Result<(), Fail> {
             assert!(rt; keep(&rt, &mut file, 1));
             stop_after(&mut file, calls);
             let done = keep(&rt, &mut file, 2);
-            assert!(rt; done == calls == 6);
+            assert!(rt; done == (calls == 6));
             let (numbers, first, second) = left(&rt, alloc, file, pick)?;
             assert!(rt; first == [1; 4]);
             if calls == 6 || calls >= 4 && pick == Pick::New {

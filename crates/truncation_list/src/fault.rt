@@ -1,7 +1,7 @@
 //! Why a truncation is not done.
 
 /// Why a truncation was not done.
-#[derive(Clone, Copy, PartialEq, Eq)]
+#[derive(Clone, Copy, Debug, PartialEq, Eq)]
 pub enum CutFault {
     /// As many cuts are in force as may be.
     Full,
