@@ -8,8 +8,9 @@ few others are ready gets more. The checks themselves are those of the toolchain
 import os
 from concurrent.futures import FIRST_COMPLETED, ThreadPoolExecutor, wait
 
-# A crate is nearly in the longest chain where the longest one through it is shorter by this part of it at most.
-NEARLY = 0.15
+# A crate is nearly in the longest chain where the longest one through it is shorter by this part of it at most. A second job costs a third more of the processors, and all are
+# at work for most of a first build; so few crates get one.
+NEARLY = 0.03
 JOBS_IN_CHAIN = 2
 MOST_JOBS = 4
 # How much more memory each further job takes, as a part of what one takes.
