@@ -28,6 +28,15 @@ fn pick_of(number: u64) -> Option<Pick> {
     }
 }
 
+/// The number that names what a crash leaves.
+pub fn number_of(pick: Pick) -> u64 {
+    match pick {
+        Pick::Old => 0,
+        Pick::New => 1,
+        Pick::Noise => 2,
+    }
+}
+
 impl DiskFake {
     /// A disk that never fails, and no crash.
     pub fn new(alloc: Global) -> DiskFake {

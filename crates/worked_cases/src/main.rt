@@ -15,6 +15,7 @@ mod folders;
 mod giving;
 mod moments;
 mod run;
+mod source_fake;
 mod step;
 mod stops;
 mod tally;

@@ -3,6 +3,7 @@ ghost use Rattle.command_words.specs.Words.{word_of};
 ghost use Rattle.tile_command.specs.Command.{IsFitFor};
 
 use crate::fakes::{Fake, Fakes};
+use crate::source_fake::SourceFake;
 use clock::clock::Clock;
 use command_setup::configured::source_number;
 use command_status::status::Status;
@@ -13,7 +14,6 @@ use http_wire::memory_sink::MemorySink;
 use http_wire::memory_source::MemorySource;
 use http_wire::streams::{ByteSink, ByteSource};
 use silent_disk::SilentDisk;
-use source_render::scripted::Scripted;
 use source_render::source::Source;
 use std::alloc::{AllocError, Global};
 use std::io;
@@ -94,12 +94,6 @@ fn has_refused(fake: &Fake, sink: &mut MemorySink) -> bool {
     sink.put(&[0]).is_ok()
 }
 
-/// Whether a rendering failed. A source tells that only where it is printed.
-fn has_failed(alloc: Global, source: &Scripted) -> Result<bool, AllocError> {
-    let printed = format!(in alloc; "{source:?}")?;
-    Ok(!printed.as_str().ends_with("faults: 0 }"))
-}
-
 /// The streams that a command reads.
 #[derive(Drop)]
 struct Streams {
@@ -124,10 +118,10 @@ fn sink_of(alloc: Global, fakes: &Fakes) -> Result<MemorySink, AllocError> {
 }
 
 /// The source of a catalogue's number, which behaves as these fakes say.
-fn source_of(alloc: Global, given: &Given, fakes: &Fakes) -> Result<Scripted, AllocError> {
+fn source_of(alloc: Global, given: &Given, fakes: &Fakes) -> Result<SourceFake, AllocError> {
     let fails = Vec::from_slice(alloc, fakes.source.fails.as_slice())?;
     let number = source_number(alloc, given.catalogue.as_slice())?;
-    Ok(Scripted::new(number, fails))
+    Ok(SourceFake::new(number, fails))
 }
 
 /// The clock of what a command is given.
@@ -191,11 +185,11 @@ fn told_of(
     status: &Status,
     (took_more, failed): (bool, bool),
     output: &mut MemorySink,
-    source: &Scripted,
+    source: &SourceFake,
     fakes: &Fakes,
 ) -> Result<Told, AllocError> {
     let written = Vec::from_slice(alloc, output.taken())?;
-    let failed = failed || has_refused(&fakes.output, output) || has_failed(alloc, source)?;
+    let failed = failed || has_refused(&fakes.output, output) || source.has_failed();
     let code = status.code();
     Ok(Told {
         status: format!(in alloc; "{code} {status}")?,

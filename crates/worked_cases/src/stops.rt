@@ -1,5 +1,6 @@
 //! A table of stops: a command is run with its disk stopped after 0, 1, 2 and so on calls, or with one call failing alone, and what a
 //! crash then leaves is looked at.
+use crate::disk_fake::number_of;
 use crate::run::{Given, came_to};
 use disk_model::pick::Pick;
 use silent_disk::SilentDisk;
@@ -85,8 +86,9 @@ impl Table {
             let Left { image, whole } = left_after(alloc, given, disk, calls, pick)?;
             let seen = self.seen_in(alloc, image)?;
             if !self.admits(seen.as_slice(), whole) {
+                let kind = number_of(pick);
                 return Ok(Some(format!(in alloc;
-                    "where the disk fails after {calls} calls, pick {pick:?} leaves what no image has"
+                    "where the disk fails after {calls} calls, a crash of kind {kind} leaves what no image has"
                 )?));
             }
             if whole {
