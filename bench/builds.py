@@ -17,17 +17,19 @@ def shorten(kit):
 
 def prove_alone(kit):
     """Leaves out the look for contracts that no call can meet; only where it can be seen to that the gate gets no proof from here."""
-    keeper = getattr(kit, "Kept", None)
-    if keeper is not None and not hasattr(keeper, "keep"):
+    keeper, checks = getattr(kit, "Kept", None), getattr(kit, "rtlib", None)
+    if not hasattr(checks, "help_of") or keeper is not None and not hasattr(keeper, "keep"):
         return
-    help_of = kit.rtlib.help_of
-    kit.rtlib.help_of = lambda verb: help_of(verb).replace(LOOK, "")
+    help_of = checks.help_of
+    checks.help_of = lambda verb: help_of(verb).replace(LOOK, "")
     if keeper is not None:
         keeper.keep = lambda *_: None
 
 
 def compile_at_once(kit):
-    """Has the second compiler begin with the first one, over the same proof."""
+    """Has the second compiler begin with the first one, over the same proof; where a toolchain has another form, it compiles as it does."""
+    if not hasattr(getattr(kit, "Crate", None), "compile_by"):
+        return
     compile_by, pool, second = kit.Crate.compile_by, ThreadPoolExecutor(1), {}
 
     def compile_beside(crate, backend, words, to):
