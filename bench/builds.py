@@ -1,6 +1,6 @@
 """What the first build of a program leaves out of the gate, and what it does side by side.
 
-The gate also looks, behind the proof of each crate, for contracts that no call can meet, which is between 4 and 7 parts in a hundred of a check: a question to the authors, which the gate
+The gate also looks, behind the proof of each crate, for contracts that no call can meet, which was 4 and 7 hundredths of the checks of two larger crates, and more of small ones: a question to the authors, which the gate
 has asked of them. A first build proves each function, and doesn't ask it. So nothing that it proves may count for the gate, and none of it is kept for that.
 And the gate compiles a program by LLVM and then by Rattle's own compiler; here both are at work at once.
 """
