@@ -1,18 +1,16 @@
-"""What the first build of a program leaves out of the gate, and what it does side by side.
+"""What the first build of a program leaves out of the gate.
 
 The gate also looks, behind the proof of each crate, for contracts that no call can meet, which was 4 and 7 hundredths of the checks of two larger crates, and more of small ones: a question to the authors, which the gate
 has asked of them. A first build proves each function, and doesn't ask it. So nothing that it proves may count for the gate, and none of it is kept for that.
-And the gate compiles a program by LLVM and then by Rattle's own compiler; here both are at work at once.
+And the gate compiles a program by LLVM and then also by Rattle's own compiler, to compare what the two write; the program that is built here is LLVM's.
 """
-from concurrent.futures import ThreadPoolExecutor
-
 LOOK = "--empty-contracts"
 
 
 def shorten(kit):
     """Has a toolchain's gate, which has been loaded as a module, do no more than a first build needs."""
     prove_alone(kit)
-    compile_at_once(kit)
+    compile_once(kit)
 
 
 def prove_alone(kit):
@@ -26,16 +24,9 @@ def prove_alone(kit):
         keeper.keep = lambda *_: None
 
 
-def compile_at_once(kit):
-    """Has the second compiler begin with the first one, over the same proof; where a toolchain has another form, it compiles as it does."""
+def compile_once(kit):
+    """Has a program compiled by LLVM alone; where a toolchain has another form, it compiles as it does."""
     if not hasattr(getattr(kit, "Crate", None), "compile_by"):
         return
-    compile_by, pool, second = kit.Crate.compile_by, ThreadPoolExecutor(1), {}
-
-    def compile_beside(crate, backend, words, to):
-        if backend == "llvm":
-            second[crate.name] = pool.submit(compile_by, crate, "rattle", words, to)
-            return compile_by(crate, backend, words, to) or second[crate.name].result()
-        return second[crate.name].result() if crate.name in second else compile_by(crate, backend, words, to)
-
-    kit.Crate.compile_by = compile_beside
+    compile_by = kit.Crate.compile_by
+    kit.Crate.compile_by = lambda crate, backend, words, to: 0 if backend == "rattle" else compile_by(crate, backend, words, to)

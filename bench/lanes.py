@@ -2,16 +2,12 @@
 
 The toolchain's gate begins with the crates that most lines of code wait for, reckons memory by lines, and gives a crate one processor for as long as it is at
 work where others wait at its start. So the first build of a program takes as long as its longest chain of crates, and processors are idle at its end. Here a
-crate's costs are known (`bench/proof_costs`): the crates of that chain, and those that are nearly in it, get two jobs from the start, and a crate beside which
-few others are ready gets more. The checks themselves are those of the toolchain.
+crate's costs are known (`bench/proof_costs`): those with the longest chain behind them come first, a crate gets as many jobs as stand there, and one beside
+which few others are ready gets more. The checks themselves are those of the toolchain.
 """
 import os
 from concurrent.futures import FIRST_COMPLETED, ThreadPoolExecutor, wait
 
-# A crate is nearly in the longest chain where the longest one through it is shorter by this part of it at most. A second job costs a third more of the processors, and all are
-# at work for most of a first build; so few crates get one.
-NEARLY = 0.03
-JOBS_IN_CHAIN = 2
 MOST_JOBS = 4
 # How much more memory each further job takes, as a part of what one takes.
 OF_A_JOB = 0.6
@@ -20,25 +16,23 @@ OF_A_CRATE, OF_A_LINE = 10.0, 0.1
 
 
 def read_costs(path):
-    """The processor seconds and the gigabytes that the proof of each crate took, by its name."""
+    """The processor seconds and the gigabytes that the proof of each crate took with one job, and the jobs that it is to have, by its name."""
     costs = {}
     with open(path, encoding="utf-8") as it:
         for line in it:
             words = line.partition("#")[0].split()
             if words:
-                costs[words[0]] = float(words[1]), float(words[2])
+                costs[words[0]] = float(words[1]), float(words[2]), int(words[3]) if len(words) > 3 else 1
     return costs
 
 
-def chains(tasks, seconds):
-    """Of each task the seconds of the longest chain of tasks that ends before it, and of the longest one that begins with it."""
-    before, behind = {}, dict(seconds)
-    for key, (waits, *_) in tasks.items():
-        before[key] = max((before[it] + seconds[it] for it in waits), default=0.0)
+def behind(tasks, seconds):
+    """Of each task the seconds of the longest chain of tasks that begins with it."""
+    found = dict(seconds)
     for key in reversed([*tasks]):
         for it in tasks[key][0]:
-            behind[it] = max(behind[it], seconds[it] + behind[key])
-    return before, behind
+            found[it] = max(found[it], seconds[it] + found[key])
+    return found
 
 
 class Lanes:
@@ -65,10 +59,9 @@ class Run:
         self.tasks, self.processors, self.memory = tasks, processors, memory
         self.seconds = {key: self.seconds_of(key, task[1], costs) for key, task in tasks.items()}
         self.needs = {key: 1e9 * costs[key[0]][1] if key[0] in costs else task[2] for key, task in tasks.items()}
-        before, behind = chains(tasks, self.seconds)
-        longest = max(behind.values(), default=0.0)
-        self.in_chain = {key for key in tasks if before[key] + behind[key] >= (1 - NEARLY) * longest}
-        self.left, self.running, self.given = sorted(tasks, key=lambda it: -behind[it]), {}, {}
+        self.jobs = {key: costs[key[0]][2] if key[0] in costs else 1 for key in tasks}
+        chains = behind(tasks, self.seconds)
+        self.left, self.running, self.given = sorted(tasks, key=lambda it: -chains[it]), {}, {}
 
     def seconds_of(self, key, lines, costs):
         """What a proof costs. Any other task costs nothing: a program's crates are copied without tests and mutants, so such tasks end at once."""
@@ -103,7 +96,7 @@ class Run:
 
     def jobs_of(self, key, share, room):
         """The jobs of a proof, by its share of the idle processors and the memory that is left."""
-        wanted = max(JOBS_IN_CHAIN if key in self.in_chain else 1, min(MOST_JOBS, share))
+        wanted = max(min(self.jobs[key], self.processors), min(MOST_JOBS, share))
         return max(1, min(wanted, 1 + int((room / self.needs[key] - 1) / OF_A_JOB)))
 
     def begin(self, pool, key, jobs, needs):
