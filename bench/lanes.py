@@ -16,7 +16,7 @@ OF_A_CRATE, OF_A_LINE = 10.0, 0.1
 
 
 def read_costs(path):
-    """The processor seconds and the gigabytes that the proof of each crate took with one job, and the jobs that it is to have, by its name."""
+    """The processor seconds and the gigabytes that the proof of each crate takes with one job, and the jobs that it is to have, by its name."""
     costs = {}
     with open(path, encoding="utf-8") as it:
         for line in it:
