@@ -6,6 +6,7 @@ ghost use Rattle.raster_field.specs.Blocks.{IsMeta};
 ghost use Rattle.raster_field.specs.Rasters.{HasSize, IsWhole, IsWindowOf};
 
 use crate::cell_file::{Grid, read_grid, read_row};
+use crate::numbered::Numbered;
 use crate::painter::{BYTES, MOST, put_row};
 use crate::palette::{palette_of, put_pixel};
 use crate::source::{Failed, Source};
@@ -19,20 +20,43 @@ use raster_field::colour::Colour;
 use raster_field::field::cell_at;
 use raster_field::raster::Raster;
 use std::fs::File;
+use std::io::ErrorKind;
+use std::rt::Files;
 
-/// A source whose pictures come from a file of cells, which is read at each render. Its number isn't modelled.
+/// A source whose pictures come from a file of cells, which is opened by its name and read at each render: so what was put in its place by a rename is what
+/// the next render reads. Its number isn't modelled.
 #[derive(Drop)]
-pub struct GridFile {
-    file: File,
+pub struct GridFile<'a, R: Files<File = File> + Drop> {
+    rt: R,
+    path: &'a str,
+    /// What a render paints that finds no file; without it such a render fails.
+    otherwise: Option<Numbered>,
     faults: u64,
 }
 
-impl GridFile {
-    /// The source of a file that is open for reading.
-    pub fn new(file: File) -> GridFile
+impl<'a, R: Files<File = File> + Drop> GridFile<'a, R> {
+    /// The source of the file at this path. A render at a moment at which the file is absent fails.
+    pub fn new(rt: R, path: &'a str) -> GridFile<'a, R>
         ensures { result.faults ≡ 0 }
     {
-        GridFile { file, faults: 0 }
+        GridFile {
+            rt,
+            path,
+            otherwise: None,
+            faults: 0,
+        }
+    }
+
+    /// The same, but that a render at a moment at which the file is absent paints these pictures.
+    pub fn or_numbered(rt: R, path: &'a str, otherwise: Numbered) -> GridFile<'a, R>
+        ensures { result.faults ≡ 0 }
+    {
+        GridFile {
+            rt,
+            path,
+            otherwise: Some(otherwise),
+            faults: 0,
+        }
     }
 }
 
@@ -130,7 +154,36 @@ fn paint(
     paint_rows(file, grid, matrix, layer, &palette, window, row, into)
 }
 
-impl Source for GridFile {
+impl<'a, R: Files<File = File> + Drop> GridFile<'a, R> {
+    /// Paints a window by the file as it is now, or by what stands in for an absent one; `None` where neither can be.
+    fn paint(
+        &mut self,
+        catalogue: &Catalogue,
+        ticket: &Ticket,
+        window: &Window,
+        into: &mut Raster,
+    ) -> Option<()>
+        requires valid { IsValid catalogue.now }
+        requires meta { IsMeta catalogue.now ticket.now.meta }
+        requires window { IsWindowOf catalogue.now ticket.now.meta window.now }
+        requires size { HasSize into.old window.now }
+        ensures size { HasSize into.new window.now }
+        ensures faults { self.new.faults ≡ self.old.faults }
+    {
+        match File::open(&self.rt, self.path) {
+            Ok(file) => paint(&file, catalogue, &ticket.meta(), window, into),
+            Err(error) => {
+                if error.kind() != ErrorKind::NotFound {
+                    return None;
+                }
+                let numbered = self.otherwise.as_mut()?;
+                numbered.render(catalogue, ticket, window, into).ok()
+            }
+        }
+    }
+}
+
+impl<'a, R: Files<File = File> + Drop> Source for GridFile<'a, R> {
     ghost told = { λ _. None };
 
     ghost faults = { λ s. s.faults };
@@ -142,7 +195,7 @@ impl Source for GridFile {
         window: &Window,
         into: &mut Raster,
     ) -> Result<(), Failed> {
-        match paint(&self.file, catalogue, &ticket.meta(), window, into) {
+        match self.paint(catalogue, ticket, window, into) {
             Some(()) => Ok(()),
             None => {
                 self.faults = causes::one_more(self.faults);

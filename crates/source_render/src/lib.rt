@@ -13,5 +13,4 @@ pub mod numbered;
 mod painter;
 mod palette;
 pub mod scripted;
-pub mod shut;
 pub mod source;
