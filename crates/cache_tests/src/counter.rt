@@ -1,12 +1,18 @@
 //! A chest of a turnstile that counts.
 use std::alloc::{AllocError, Global};
+use std::hint;
 use turnstile::chest::Chest;
+
+/// How long a slow turn takes, in looks of a waiting thread.
+const LINGERS: u32 = 100_000;
 
 /// What a turn does to a counter.
 #[derive(Drop)]
 pub enum Step {
     /// Adds to the number.
     Raise(u64),
+    /// Adds one to the number, after a while.
+    Linger,
     /// Asks for memory that is never there.
     Starve,
 }
@@ -15,6 +21,13 @@ pub enum Step {
 #[derive(Drop)]
 pub struct Counter {
     pub number: u64,
+}
+
+/// Lets a while pass, as a turn does that waits for a disk.
+fn linger() {
+    for _ in 0..LINGERS {
+        hint::spin_loop();
+    }
 }
 
 impl Chest for Counter {
@@ -58,13 +71,23 @@ impl Chest for Counter {
                 self.number = self.number.saturating_add(by);
                 Ok(self.number)
             }
+            Step::Linger => {
+                linger();
+                self.number = self.number.saturating_add(1);
+                Ok(self.number)
+            }
             Step::Starve => Err(AllocError),
         }
     }
 
     fn act_plain(&mut self, command: Step) -> u64 {
-        if let Step::Raise(by) = command {
-            self.number = self.number.saturating_add(by);
+        match command {
+            Step::Raise(by) => self.number = self.number.saturating_add(by),
+            Step::Linger => {
+                linger();
+                self.number = self.number.saturating_add(1);
+            }
+            Step::Starve => {}
         }
         self.number
     }

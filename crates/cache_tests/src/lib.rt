@@ -16,6 +16,8 @@ mod counter;
 #[cfg(test)]
 mod expiries;
 #[cfg(test)]
+mod fairness;
+#[cfg(test)]
 mod renders;
 #[cfg(test)]
 mod requests;

@@ -9,17 +9,14 @@ ghost use Rattle.turnstile.specs.Passes.{IsReady, MayReturn, knows};
 use crate::chest::Chest;
 use crate::steps::{Deal, Give, Hear, Learn, Take, Tell};
 use crate::view::{Lodged, OneChest, Opening, View};
+use crate::waiting::{LOOKS, Patience, WaitingRoom};
 use atomic_table::{Seat, Table};
-use bell::Bell;
 use std::alloc::{AllocError, Global};
 use std::hint;
 use std::sync::Wait;
 use trace::Trace;
 
-/// How often a pass looks for its turn at once before it sleeps. A turn without a disk takes less than a microsecond.
-const LOOKS: u32 = 100;
-
-/// The table with the chest, and the bell for those that wait for their turn.
+/// The table with the chest, and those that wait for their turn.
 #[derive(Drop)]
 pub struct Gate<C: Chest> {
     pub table: Table<
@@ -30,7 +27,7 @@ pub struct Gate<C: Chest> {
         Global,
     >,
     pub passes: u64,
-    pub bell: Bell,
+    pub waiting: WaitingRoom,
     ghost sized: { (table.shared.table_id.words ≡ 1) × (table.shared.table_id.slots ≡ 1) },
     ghost counted: { (table.shared.key.passes ≡ passes) × (0 < passes) },
 }
@@ -64,7 +61,7 @@ impl<C: Chest + Drop> Gate<C> {
                 Gate {
                     table,
                     passes: opening.passes,
-                    bell: Bell::new(),
+                    waiting: WaitingRoom::new(),
                 },
                 seat,
             )),
@@ -130,22 +127,35 @@ impl<C: Chest> Gate<C> {
         ensures turn { seat.new.me ≡ (record (knows seat.old) { stage = Out result }, (0, None) ∷ []) }
         ensures found { Found C.charter C.sound C.book (knows seat.old).own result }
     {
-        let mut looks = 0;
+        let mut patience = Patience::new();
         for _ in rt.forever() {
-            let heard = self.bell.rings();
+            let heard = self.waiting.ended_turns();
+            if !self.waiting.may_try(&patience) {
+                self.wait(rt, &mut patience, heard);
+                continue;
+            }
             if self.table.shared.compare_exchange::<Take<C>>(seat, 0, 0, 1) == 0 {
+                self.waiting.leave(&patience);
                 let lodged = self.table.shared.exchange(seat, 0, None).unwrap();
                 let Lodged { chest, .. } = lodged;
                 return chest;
             }
-            if looks < LOOKS {
-                looks += 1;
-                hint::spin_loop();
-            } else {
-                self.bell.sleep(rt, heard);
-            }
+            self.wait(rt, &mut patience, heard);
         }
         unreachable!()
+    }
+
+    /// Looks until the chest is there, or sleeps until a turn ends where it was looked for long enough. A look only reads the word, so
+    /// that those who look don't take it from one another's processors.
+    fn wait<R: Wait>(&self, rt: &R, patience: &mut Patience, heard: u64) {
+        for look in patience.looks..LOOKS {
+            patience.looks = look + 1;
+            if self.table.shared.peek(0) == 0 {
+                return;
+            }
+            hint::spin_loop();
+        }
+        self.waiting.sleep(rt, patience, heard);
     }
 
     /// Puts a chest in, gives the turn up, and wakes one that waits for it.
@@ -164,7 +174,7 @@ impl<C: Chest> Gate<C> {
         let nothing = self.table.shared.exchange(seat, 0, Some(lodged));
         let None = nothing else { unreachable!() };
         self.table.shared.store::<Give<C>>(seat, 0, 0);
-        self.bell.ring_one(rt);
+        self.waiting.wake_one(rt);
     }
 
     /// Takes the chest out for good, by a seat that has the parts of all passes.

@@ -18,3 +18,4 @@ mod steps;
 mod turns;
 pub mod turnstile;
 pub mod view;
+mod waiting;
