@@ -1,3 +1,4 @@
 pub mod Tickets
 pub mod Running
+pub mod Reach
 pub mod Calls

@@ -5,8 +5,11 @@
 //! Stands on truncation_list, metatile_plan, catalog and matrix_geometry.
 #![tactic(auto)]
 
+pub mod aim;
 pub mod hitting;
+pub mod laws;
 pub mod locks;
+pub mod reach;
 pub mod render;
 pub mod replies;
 mod table;

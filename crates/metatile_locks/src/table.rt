@@ -1,10 +1,11 @@
 //! The work on plain lists of renders.
 ghost use Rattle.std.specs.Prelude.{◌≡◌, ◌≤◌, find, option_copied, vec_capacity, vec_len};
 ghost use Rattle.catalog.specs.Valid.{IsGrid};
+ghost use Rattle.metatile_locks.specs.Reach.{IsAimed};
 ghost use Rattle.metatile_locks.specs.Running.{IsLeast, IsPlanOn, NumbersRise, hits_in, marked, overtaken, render_of, running_for, runs_for, without};
 ghost use Rattle.truncation_list.specs.Covers.{IsWithinReach};
 
-use crate::hitting::hits_in;
+use crate::aim::Aim;
 use crate::render::Render;
 use catalog::grid::Grid;
 use metatile_plan::keys::same_meta;
@@ -35,13 +36,22 @@ pub fn render_of<'a>(renders: &'a [Render], number: u64, meta: &MetaKey) -> Opti
 }
 
 /// The render, with this mark where the cover hits it.
-fn marked(f: &Factors, grid: &Grid, cover: &Cover, number: u64, render: Render) -> Render
+fn marked(
+    aim: &mut Aim,
+    f: &Factors,
+    grid: &Grid,
+    cover: &Cover,
+    number: u64,
+    render: Render,
+) -> Render
     requires grid { IsGrid grid.now }
     requires plan { IsPlanOn f.now grid.now }
     requires reach { IsWithinReach cover.now }
-    ensures { result ≡ marked (hits_in f.now grid.now cover.now) number render }
+    requires aimed { IsAimed f.now grid.now cover.now aim.old }
+    ensures aimed { IsAimed f.now grid.now cover.now aim.new }
+    ensures marked { result ≡ marked (hits_in f.now grid.now cover.now) number render }
 {
-    if hits_in(f, grid, cover, &render.meta) {
+    if aim.hits(f, grid, cover, &render.meta) {
         return Render {
             mark: Some(number),
             ..render
@@ -57,8 +67,9 @@ fn mark_each(renders: &mut [Render], f: &Factors, grid: &Grid, cover: &Cover, nu
     requires reach { IsWithinReach cover.now }
     ensures { renders.new ≡ overtaken (hits_in f.now grid.now cover.now) number renders.old }
 {
+    let mut aim = Aim::at(f, grid, cover, cover.z_start);
     'marking: for i in 0..renders.len() {
-        renders[i] = marked(f, grid, cover, number, renders[i]);
+        renders[i] = marked(&mut aim, f, grid, cover, number, renders[i]);
     }
 }
 

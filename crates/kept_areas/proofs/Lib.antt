@@ -1,0 +1,9 @@
+pub mod Keys
+pub mod Numbers
+pub mod Leaving
+pub mod Least
+pub mod Bounded
+pub mod InChunks
+pub mod Crowded
+pub mod Parted
+pub mod Entered

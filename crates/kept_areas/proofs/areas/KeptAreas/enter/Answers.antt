@@ -1,0 +1,21 @@
+use Rattle.std.proofs.Common.{◌≡◌, ◌-◌, ◌≤◌, ◌∙◌, cond, List, Some, None, ap, arith, subst, sym}
+use Rattle.metatile_plan.specs.Keys.{same_meta}
+use Rattle.kept_areas.specs.declared.spot.Spot.{Spot}
+use Rattle.kept_areas.specs.Areas.{Areas, all_spots, number_in}
+use Rattle.kept_areas.proofs.Entered.{kept_entered, number_entered}
+use Rattle.kept_areas.proofs.areas.KeptAreas.enter.Goals as goal
+
+pub invariant_of-self : goal.invariant_of-self
+invariant_of-self c =
+    let chunks = c.self.inside.chunks.items in
+    let none : number_in (all_spots chunks) c.args.meta.now ≡ None = subst (λ (a : Areas). number_in (all_spots a.chunks) c.args.meta.now ≡ None) (sym c.self.view_is) c.requires.fresh in
+    let spare : 1 ≤ c.self.inside.room - c.self.inside.taken = subst (λ (a : Areas). 1 ≤ a.spare) (sym c.self.view_is) c.requires.room in
+    kept_entered c.args.meta.now c.args.number chunks c.prepare.new.chunks.items c.enter.new.chunks.items c.self.inside.taken c.self.inside.room c.prepare.ensures.spots c.prepare.ensures.len c.enter.ensures.entered c.enter.ensures.len none (omega arith) c.self.invariant
+
+pub returns-clause-numbers : goal.returns-clause-numbers
+returns-clause-numbers c = λ k.
+    let chunks = c.self.inside.chunks.items in
+    let is : all_spots c.prepare.new.chunks.items ≡ all_spots c.args.self.now.chunks = c.prepare.ensures.spots ∙ ap (λ (a : Areas). all_spots a.chunks) c.self.view_is in
+    let none = ap (λ (zs : List Spot). number_in zs c.args.meta.now) is ∙ c.requires.fresh in
+    number_entered c.args.meta.now c.args.number (all_spots c.prepare.new.chunks.items) (all_spots c.enter.new.chunks.items) c.enter.ensures.entered none k
+    ∙ ap (λ (zs : List Spot). cond (same_meta k c.args.meta.now) (Some c.args.number) (number_in zs k)) is

@@ -1,0 +1,16 @@
+use Rattle.std.proofs.Common.{◌+◌, ◌++◌, ◌∷◌, [], ◌∙◌, List, ap, arith, set}
+use Rattle.kept_areas.specs.declared.spot.Spot.{Spot}
+use Rattle.kept_areas.specs.Areas.{all_spots}
+use Rattle.kept_areas.proofs.InChunks.{all_with_free, joined_spots}
+use Rattle.kept_areas.proofs.chunks.merge.Goals as goal
+
+pub returns-clause-spots : goal.returns-clause-spots
+returns-clause-spots c =
+    let old = c.args.chunks.now.items in let rest = c.remove-gone.new.self.items in let chunk = c.args.chunk in
+    let known = c.requires.known in
+    let spots = joined_spots old rest chunk (chunk + 1) c.index_mut.result.now c.remove-gone.result (omega arith) c.remove-gone.ensures.items c.index_mut.ensures.value c.remove-gone.ensures.value known in
+    ap all_spots c.stand_behind.ensures
+    ∙ ap (λ (ss : List Spot). all_spots (set rest chunk c.append.new.self ++ ss ∷ [])) (c.set_aside.ensures ∙ c.truncate.ensures)
+    ∙ all_with_free (set rest chunk c.append.new.self)
+    ∙ ap (λ (ss : List Spot). all_spots (set rest chunk ss)) (c.append.ensures ∙ ap (λ (ss : List Spot). c.index_mut.result.now ++ ss) c.spots.ensures)
+    ∙ spots

@@ -1,0 +1,37 @@
+-- What is true of the chunks at all times.
+use Rattle.std.specs.Prelude.{ℕ, ◌≡◌, ◌+◌, ◌-◌, ◌*◌, ◌/◌, ◌<◌, ◌≤◌, List, [], ◌∷◌, ◌++◌, length, slice_index_or}
+use Rattle.kept_areas.specs.declared.spot.Spot.{Spot}
+use Rattle.kept_areas.specs.Areas.{AreOnce, all_spots}
+
+-- how many keys a chunk has room for
+abbrev pub chunk_room : ℕ
+chunk_room = 512
+
+-- the keys of the chunk of this number
+abbrev pub chunk_at : List (List Spot) → ℕ → List Spot
+chunk_at sss chunk = slice_index_or sss chunk []
+
+-- one key has come in somewhere among the others
+pub record IsEntered (s : Spot) (old new : List Spot) : Type 0 where
+  pub before : List Spot
+  pub behind : List Spot
+  pub old_is : old ≡ before ++ behind
+  pub new_is : new ≡ before ++ s ∷ behind
+
+-- no two chunks side by side fit into one
+abbrev pub AreCrowded : List (List Spot) → Type 0
+AreCrowded [] = Unit {0}
+AreCrowded (ss ∷ []) = Unit {0}
+AreCrowded (ss ∷ ts ∷ sss) = (chunk_room < length ss + length ts) × AreCrowded (ts ∷ sss)
+
+-- the last chunk is there, and has no key
+pub record IsLastFree (sss : List (List Spot)) : Type 0 where
+  pub some : 0 < length sss
+  pub free : (d : List Spot) → slice_index_or sss (length sss - 1) d ≡ []
+
+-- no two keys are of one metatile, and no more are promised room than half of the chunks have
+pub record IsKept (sss : List (List Spot)) (taken room : ℕ) : Type 0 where
+  pub once : AreOnce (all_spots sss)
+  pub counted : taken ≡ length (all_spots sss)
+  pub within : taken ≤ room
+  pub enough : room ≤ length sss / 2 * chunk_room

@@ -1,0 +1,187 @@
+//! Changes of the chunks. None of them takes memory, but for `grow`.
+ghost use Rattle.std.specs.Prelude.{IfNone, IfSome, IsFalse, IsTrue, OnOk, [], insert, length, remove, slice_set, suc, vec_capacity, vec_len, ◌*◌, ◌+◌, ◌++◌, ◌/◌, ◌<◌, ◌≡◌, ◌≤◌, ◌∷◌};
+ghost use Rattle.kept_areas.specs.Areas.{all_spots};
+ghost use Rattle.kept_areas.specs.Kept.{AreCrowded, IsEntered, IsLastFree, chunk_at, chunk_room};
+
+use crate::area::{Area, ROOM};
+use crate::looking::{Place, chunk_for};
+use crate::order::place_in;
+use crate::spot::Spot;
+use metatile_plan::metatile::MetaKey;
+use std::alloc::{AllocError, Global};
+
+/// Makes chunks with no key behind the others, until there are so many. `AllocError` where memory runs out.
+pub fn grow(chunks: &mut Vec<Area>, alloc: Global, count: usize) -> Result<(), AllocError>
+    ensures spots { all_spots chunks.new.items ≡ all_spots chunks.old.items }
+    ensures more { length chunks.old.items ≤ length chunks.new.items }
+    ensures enough { OnOk result (count ≤ length chunks.new.items) }
+{
+    'growing: for _count in chunks.len()..count {
+        let chunk = Area::new(alloc)?;
+        chunks.push(chunk)?;
+    }
+    Ok(())
+}
+
+/// Puts a chunk before the one at an index, with no memory taken.
+fn stand(chunks: &mut Vec<Area>, index: usize, chunk: Area)
+    requires room { vec_len chunks.old < vec_capacity chunks.old }
+    requires within { index ≤ vec_len chunks.old }
+    ensures { chunks.new.items ≡ insert chunks.old.items index chunk }
+{
+    let _ = chunks.insert(index, chunk);
+}
+
+/// Puts a chunk behind all others, with no memory taken.
+fn stand_behind(chunks: &mut Vec<Area>, chunk: Area)
+    requires { vec_len chunks.old < vec_capacity chunks.old }
+    ensures { chunks.new.items ≡ chunks.old.items ++ chunk ∷ [] }
+{
+    let _ = chunks.push(chunk);
+}
+
+/// Whether a chunk fits into one with the chunk behind it; not so where there is none behind it.
+fn is_loose(chunks: &[Area], chunk: usize) -> bool
+    requires known { chunk < length chunks.now }
+    ensures behind { IsTrue result → chunk + 1 < length chunks.now }
+    ensures fits { IsTrue result → length (chunk_at chunks.now chunk) + length (chunk_at chunks.now (suc chunk)) ≤ chunk_room }
+    ensures crowded { IsFalse result → chunk + 1 < length chunks.now → chunk_room < length (chunk_at chunks.now chunk) + length (chunk_at chunks.now (suc chunk)) }
+{
+    if chunks.len() - chunk == 1 {
+        return false;
+    }
+    chunks[chunk].len() + chunks[chunk + 1].len() <= ROOM
+}
+
+/// The number of a chunk that fits into one with the chunk behind it.
+fn loose_pair(chunks: &[Area]) -> Option<usize>
+    ensures known { IfSome result (λ k. k + 1 < length chunks.now) }
+    ensures fits { IfSome result (λ k. length (chunk_at chunks.now k) + length (chunk_at chunks.now (suc k)) ≤ chunk_room) }
+    ensures none { IfNone result (AreCrowded chunks.now) }
+{
+    let mut chunk = chunks.len();
+    while chunk > 0 {
+        chunk -= 1;
+        if is_loose(chunks, chunk) {
+            return Some(chunk);
+        }
+    }
+    None
+}
+
+/// Whether the last chunk has no key.
+fn is_last_free(chunks: &[Area]) -> bool
+    requires some { 0 < length chunks.now }
+    ensures { IsTrue result → IsLastFree chunks.now }
+{
+    chunks[chunks.len() - 1].len() == 0
+}
+
+/// Puts the keys of the next chunk behind those of a chunk, and that next chunk, now free, behind all others.
+fn merge(chunks: &mut Vec<Area>, chunk: usize)
+    requires known { chunk + 1 < length chunks.old.items }
+    requires room { length (chunk_at chunks.old.items chunk) + length (chunk_at chunks.old.items (suc chunk)) ≤ chunk_room }
+    ensures spots { all_spots chunks.new.items ≡ all_spots chunks.old.items }
+    ensures len { length chunks.new.items ≡ length chunks.old.items }
+    ensures free { IsLastFree chunks.new.items }
+{
+    let mut gone = chunks.remove(chunk + 1);
+    chunks[chunk].append(gone.spots());
+    gone.truncate(0);
+    gone.set_aside();
+    stand_behind(chunks, gone);
+}
+
+/// Sees to it that the last chunk has no key.
+pub fn prepare(chunks: &mut Vec<Area>)
+    requires spare { length (all_spots chunks.old.items) < length chunks.old.items / 2 * chunk_room }
+    ensures spots { all_spots chunks.new.items ≡ all_spots chunks.old.items }
+    ensures len { length chunks.new.items ≡ length chunks.old.items }
+    ensures free { IsLastFree chunks.new.items }
+{
+    if is_last_free(chunks.as_slice()) {
+        return;
+    }
+    match loose_pair(chunks.as_slice()) {
+        Some(chunk) => merge(chunks, chunk),
+        None => {}
+    }
+}
+
+/// Moves the keys of a chunk from an index on to the last chunk, which has none, and puts that one behind it, for the keys from
+/// one on.
+fn divide(chunks: &mut Vec<Area>, chunk: usize, kept: usize, first: &MetaKey)
+    requires free { IsLastFree chunks.old.items }
+    requires some { 1 ≤ length (chunk_at chunks.old.items chunk) }
+    requires most { length (chunk_at chunks.old.items chunk) ≤ chunk_room }
+    requires within { kept ≤ length (chunk_at chunks.old.items chunk) }
+    ensures spots { all_spots chunks.new.items ≡ all_spots chunks.old.items }
+    ensures len { length chunks.new.items ≡ length chunks.old.items }
+    ensures known { chunk + 1 < length chunks.new.items }
+    ensures left { length (chunk_at chunks.new.items chunk) ≡ kept }
+    ensures right { length (chunk_at chunks.new.items (chunk + 1)) + kept ≡ length (chunk_at chunks.old.items chunk) }
+{
+    let mut fresh = chunks.pop().unwrap();
+    fresh.begin_at(first);
+    let (_, behind) = chunks[chunk].spots().split_at(kept);
+    fresh.append(behind);
+    chunks[chunk].truncate(kept);
+    stand(chunks, chunk + 1, fresh);
+}
+
+/// Divides a full chunk so that a key has room in it or behind it, and tells in which chunk: half of the keys move, and none
+/// where the key comes behind them all.
+fn make_room(chunks: &mut Vec<Area>, chunk: usize, meta: &MetaKey) -> usize
+    requires free { IsLastFree chunks.old.items }
+    requires full { length (chunk_at chunks.old.items chunk) ≡ chunk_room }
+    requires known { chunk < length chunks.old.items }
+    ensures spots { all_spots chunks.new.items ≡ all_spots chunks.old.items }
+    ensures len { length chunks.new.items ≡ length chunks.old.items }
+    ensures known { result < length chunks.new.items }
+    ensures room { length (chunk_at chunks.new.items result) < chunk_room }
+{
+    let index = place_in(chunks[chunk].spots(), meta);
+    if index == ROOM {
+        divide(chunks, chunk, ROOM, meta);
+        return chunk + 1;
+    }
+    let first = chunks[chunk].spots()[ROOM / 2].meta;
+    divide(chunks, chunk, ROOM / 2, &first);
+    if index > ROOM / 2 {
+        return chunk + 1;
+    }
+    chunk
+}
+
+/// Enters a key in a chunk that has room.
+fn put(chunks: &mut Vec<Area>, chunk: usize, spot: &Spot)
+    requires known { chunk < length chunks.old.items }
+    requires room { length (chunk_at chunks.old.items chunk) < chunk_room }
+    ensures entered { IsEntered spot.now (all_spots chunks.old.items) (all_spots chunks.new.items) }
+    ensures len { length chunks.new.items ≡ length chunks.old.items }
+{
+    chunks[chunk].enter(spot);
+}
+
+/// Enters a key where it is meant to stand.
+pub fn enter(chunks: &mut Vec<Area>, spot: &Spot)
+    requires free { IsLastFree chunks.old.items }
+    ensures entered { IsEntered spot.now (all_spots chunks.old.items) (all_spots chunks.new.items) }
+    ensures len { length chunks.new.items ≡ length chunks.old.items }
+{
+    let chunk = chunk_for(chunks.as_slice(), &spot.meta);
+    if chunks[chunk].len() < ROOM {
+        return put(chunks, chunk, spot);
+    }
+    let apart = make_room(chunks, chunk, &spot.meta);
+    put(chunks, apart, spot);
+}
+
+/// Takes out the key at a place.
+pub fn take_out(chunks: &mut Vec<Area>, place: Place)
+    requires known { place.chunk < length chunks.old.items }
+    requires within { place.index < length (chunk_at chunks.old.items place.chunk) }
+    ensures { chunks.new.items ≡ slice_set chunks.old.items place.chunk (remove (chunk_at chunks.old.items place.chunk) place.index) }
+{
+    chunks[place.chunk].leave(place.index);
+}
