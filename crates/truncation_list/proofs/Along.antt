@@ -25,7 +25,7 @@ use Rattle.truncation_list.proofs.Standing.{Meeting, contains_meets}
 each_of : (P : ℕ → Type 0) (xs : List ℕ) → ((x : ℕ) → Contains xs x → P x) → All P xs
 each_of P xs h = λ k d l. h (get_or xs k d) (Contains-get_or xs k d l)
 
-of_slots : (f : ℕ → Cut) (P : Cut → Type 0) (xs : List ℕ) → All P (map f xs) → All (λ x. P (f x)) xs
+pub of_slots : (f : ℕ → Cut) (P : Cut → Type 0) (xs : List ℕ) → All P (map f xs) → All (λ x. P (f x)) xs
 of_slots f P xs h = λ k d l. subst P (get_or-map f xs k d (f d) l) (h k (f d) (let n = length-map xs f in omega (arith, n)))
 
 -- what holds of the slots that pass holds of each one, where it holds of those that don't

@@ -144,6 +144,17 @@ module _ (old new : Slab Cut) (order : List ℕ) (slot : ℕ) (update : Updates 
 
 -- SOME SLOTS ARE FREED
 
+module _ (old new : Slab Cut) (order : List ℕ) (kept : All (λ x. get new x ≡ get old x) (taken new order)) where
+  pub kept_index : (shelves shelves' : List Shelf) → ((l g k : ℕ) → listed shelves' l g k ≡ taken new (listed shelves l g k)) → IsIndexed old order shelves → IsIndexed new (taken new order) shelves'
+  kept_index shelves shelves' left h = record {
+    taken = taken_as_before old new (taken new order) kept (All-filter (λ x. is_some (get new x)) (ContainsKey old) order h.taken);
+    in_order = subst IsInOrder (sym (cuts_as_before old new (taken new order) kept)) (in_order_kept (cut_in old) (λ x. is_some (get new x)) order h.in_order);
+    index = λ l g k.
+        left l g k
+        ∙ ap (taken new) (h.index l g k)
+        ∙ filters_swap (λ x. is_some (get new x)) (λ x. stands l g k (cut_in old x).cover) order ∙ sym (standing_as_before old new (taken new order) kept l g k);
+  }
+
 module _ (cover : Option Cover) (least : Option ℕ) where
   staying_at : (xs : List (Option Cut)) (i : ℕ) → get_or (map (staying cover least) xs) i None ≡ staying cover least (get_or xs i None)
   staying_at [] i = refl
@@ -194,14 +205,7 @@ module _ (cover : Option Cover) (least : Option ℕ) where
         (λ x t. now x ∙ taken_stays (get old x) (subst (λ (o : Option Cut). is_some o ≡ true) (now x) t)) (taken new order) (filter_passes (λ x. is_some (get new x)) order)
 
     pub freed_index : (shelves shelves' : List Shelf) → ((l g k : ℕ) → listed shelves' l g k ≡ taken new (listed shelves l g k)) → IsIndexed old order shelves → IsIndexed new (taken new order) shelves'
-    freed_index shelves shelves' left h = record {
-      taken = taken_as_before old new (taken new order) kept_same (All-filter (λ x. is_some (get new x)) (ContainsKey old) order h.taken);
-      in_order = subst IsInOrder (sym (cuts_as_before old new (taken new order) kept_same)) (in_order_kept (cut_in old) (λ x. is_some (get new x)) order h.in_order);
-      index = λ l g k.
-          left l g k
-          ∙ ap (taken new) (h.index l g k)
-          ∙ filters_swap (λ x. is_some (get new x)) (λ x. stands l g k (cut_in old x).cover) order ∙ sym (standing_as_before old new (taken new order) kept_same l g k);
-    }
+    freed_index shelves shelves' left h = kept_index old new order kept_same shelves shelves' left h
 
     pub cuts_freed : AreTaken old order → cuts_in new (taken new order) ≡ filter (stays cover least) (cuts_in old order)
     cuts_freed h =

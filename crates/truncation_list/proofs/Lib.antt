@@ -17,3 +17,6 @@ pub mod Standing
 pub mod Outermost
 pub mod Indexing
 pub mod Roomy
+pub mod Outdone
+pub mod Freeing
+pub mod Hits

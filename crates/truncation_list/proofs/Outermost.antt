@@ -1,14 +1,18 @@
 -- a purge in two steps: the cuts within later ones, and then those that go by the cover or by their numbers
 use Rattle.std.proofs.Common.{ℕ, ◌≡◌, ◌+◌, ◌<◌, ◌≤◌, ◌||◌, ◌∙◌, refl, subst, sym, ap, arith, zero, suc, Bool, true, false, not, cond, List, [], ◌∷◌, ◌++◌, fold, length, IsTrue, Option, Some, None, drop, take, get_or}
 use Rattle.std.specs.Prelude.{filter}
-use Rattle.std.specs.List.{All, remove}
+use Rattle.std.specs.List.{All, list_any, remove}
 use Rattle.std.proofs.lemmas.Bool.Decides.{nat_tests}
 use Rattle.std.proofs.lemmas.List.Elements.{All-cons, All-head, All-tail, All-weaker}
 use Rattle.truncation_list.specs.declared.book.Cut.{Cut}
 use Rattle.truncation_list.specs.declared.cover.Cover.{Cover}
+use Rattle.truncation_list.specs.Contains.{contains}
 use Rattle.truncation_list.specs.Listed.{IsSettled, outermost}
-use Rattle.truncation_list.specs.Purge.{IsByNumber, is_old, is_outdone, is_within, raised, remaining}
+use Rattle.truncation_list.specs.Purge.{IsByNumber, is_old, is_outdone, is_outdone_among, is_within, raised, remaining}
 use Rattle.truncation_list.specs.Slots.{stays}
+use Rattle.truncation_list.proofs.Containment.{contains_through}
+use Rattle.truncation_list.proofs.Filters.{filter_where, filter_whole}
+use Rattle.truncation_list.proofs.Rule.{remaining_is_by_rule}
 
 two_steps : (own later : Bool) (x : Cut) (rest out : List Cut) (test : Cut → Bool) → test x ≡ not own → rest ≡ filter test out → cond (own || later) rest (x ∷ rest) ≡ filter test (cond later out (x ∷ out))
 two_steps true true x rest out test t e = e
@@ -80,3 +84,64 @@ next_stays (x ∷ xs) (suc kept) d l e =
 pub settled_remaining : (cover : Option Cover) (least : Option ℕ) (cuts : List Cut) → IsSettled cuts → remaining cover least cuts ≡ filter (stays cover least) cuts
 settled_remaining cover least cuts h =
     remaining_filters cover least cuts ∙ ap (λ (ks : List Cut). filter (stays cover least) ks) (outermost_same cuts h)
+
+-- THE STEPS IN THE OTHER ORDER
+
+any_kept : (p q : Cut → Bool) (xs : List Cut) → All (λ y. IsTrue (p y) → IsTrue (q y)) xs → list_any p (filter q xs) ≡ list_any p xs
+any_kept p q [] h = refl
+any_kept p q (x ∷ xs) h =
+    at (p x) (q x) refl refl (All-head (λ y. IsTrue (p y) → IsTrue (q y)) x xs h) (any_kept p q xs (All-tail (λ y. IsTrue (p y) → IsTrue (q y)) x xs h))
+  where
+    at : (u v : Bool) → p x ≡ u → q x ≡ v → (IsTrue u → IsTrue v) → list_any p (filter q xs) ≡ list_any p xs → list_any p (cond v (x ∷ filter q xs) (filter q xs)) ≡ (u || list_any p xs)
+    at true true e f k ih = rw e refl
+    at true false e f k ih = absurd (let no = k refl in cc)
+    at false true e f k ih = rw e ih
+    at false false e f k ih = ih
+
+module _ (test : Cut → Bool) (around : (x y : Cut) → x.number < y.number → IsTrue (contains y.cover x.cover) → IsTrue (test x) → IsTrue (test y)) where
+  outermost_at : (x : Cut) (xs : List Cut) (u v : Bool) → test x ≡ u → is_outdone xs x ≡ v → (IsTrue u → is_outdone (filter test xs) x ≡ v) → outermost (filter test xs) ≡ filter test (outermost xs)
+      → outermost (cond u (x ∷ filter test xs) (filter test xs)) ≡ filter test (cond v (outermost xs) (x ∷ outermost xs))
+  outermost_at x xs true true e f k ih = rw (k refl) ih
+  outermost_at x xs true false e f k ih = rw (k refl, e) (ap (λ (ys : List Cut). x ∷ ys) ih)
+  outermost_at x xs false true e f k ih = ih
+  outermost_at x xs false false e f k ih = rw e ih
+
+  -- where each cut stays that contains one that does, those that don't stay may go first
+  pub outermost_filter : (cuts : List Cut) → IsByNumber cuts → outermost (filter test cuts) ≡ filter test (outermost cuts)
+  outermost_filter [] o = refl
+  outermost_filter (x ∷ xs) o =
+      outermost_at x xs (test x) (is_outdone xs x) refl refl (λ t. any_kept (λ other. contains other.cover x.cover) test xs (All-weaker (λ other. x.number < other.number) (λ y. IsTrue (contains y.cover x.cover) → IsTrue (test y)) (λ y l c. around x y l c t) xs o.0)) (outermost_filter xs o.1)
+
+not_within : (cover : Option Cover) (x y : Cut) → IsTrue (contains y.cover x.cover) → is_within cover x ≡ false → is_within cover y ≡ false
+not_within None x y c h = refl
+not_within (Some outer) x y c h = at (contains outer y.cover) refl
+  where
+    at : (v : Bool) → contains outer y.cover ≡ v → v ≡ false
+    at true e = let t : IsTrue (contains outer x.cover) = contains_through outer y.cover x.cover e c in absurd (let no : true ≡ false = sym t ∙ h in cc)
+    at false e = refl
+
+neither_true : (s t : Bool) → not (s || t) ≡ true → (s ≡ false) × (t ≡ false)
+neither_true true t h = absurd (cc)
+neither_true false true h = absurd (cc)
+neither_true false false h = (refl, refl)
+
+stays_around : (cover : Option Cover) (least : Option ℕ) (x y : Cut) → x.number < y.number → IsTrue (contains y.cover x.cover) → IsTrue (stays cover least x) → IsTrue (stays cover least y)
+stays_around cover least x y l c t =
+    let n = neither_true (is_within cover x) (is_old least x) t in
+    rw (not_within cover x y c n.0, not_older least x y n.1 l) refl
+
+pub settled_after : (cover : Option Cover) (least : Option ℕ) (cuts : List Cut) → IsByNumber cuts → outermost (filter (stays cover least) cuts) ≡ remaining cover least cuts
+settled_after cover least cuts o = outermost_filter (stays cover least) (stays_around cover least) cuts o ∙ sym (remaining_filters cover least cuts)
+
+-- BY THE RULE
+
+young : (cut : Cut) → is_old (Some 0) cut ≡ false
+young cut = grind (arith, nat_tests)
+
+pub outermost_by_rule : (cuts : List Cut) → IsByNumber cuts → outermost cuts ≡ filter (λ cut. not (is_outdone_among cuts cut)) cuts
+outermost_by_rule cuts o =
+    sym (filter_whole (λ cut. not (is_within None cut || is_old (Some 0) cut)) (outermost cuts) (λ k d l. ap not (young (get_or (outermost cuts) k d))))
+    ∙ sym (remaining_filters None (Some 0) cuts)
+    ∙ remaining_is_by_rule None (Some 0) cuts o
+    ∙ filter_where (λ cut. not (is_within None cut || is_old (Some 0) cut || is_outdone_among cuts cut)) (λ cut. not (is_outdone_among cuts cut)) cuts
+    (λ k d l. ap (λ (v : Bool). not (v || is_outdone_among cuts (get_or cuts k d))) (young (get_or cuts k d)))

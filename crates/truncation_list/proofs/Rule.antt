@@ -10,7 +10,7 @@ use Rattle.truncation_list.specs.declared.cover.Cover.{Cover}
 use Rattle.truncation_list.specs.Contains.{contains}
 use Rattle.truncation_list.specs.Purge.{IsByNumber, is_old, is_outdone, is_outdone_among, is_within, remaining, remaining_by_rule}
 
-any_none : (p : Cut → Bool) (cuts : List Cut) → All (λ cut. p cut ≡ false) cuts → list_any p cuts ≡ false
+pub any_none : (p : Cut → Bool) (cuts : List Cut) → All (λ cut. p cut ≡ false) cuts → list_any p cuts ≡ false
 any_none p [] h = refl
 any_none p (x ∷ xs) h = rw (All-head (λ cut. p cut ≡ false) x xs h) (any_none p xs (All-tail (λ cut. p cut ≡ false) x xs h))
 
@@ -29,7 +29,7 @@ greater : (x other : Cut) → x.number < other.number → (nat_lt x.number other
 greater x other l = let test : nat_lt x.number other.number ≡ true = grind (arith, nat_tests) in rw test refl
 
 -- among all cuts, those of greater numbers are the later ones
-among_is_later : (before : List Cut) (x : Cut) (xs : List Cut) → All (λ cut. cut.number < x.number) before → All (λ cut. x.number < cut.number) xs → is_outdone_among (before ++ x ∷ xs) x ≡ is_outdone xs x
+pub among_is_later : (before : List Cut) (x : Cut) (xs : List Cut) → All (λ cut. cut.number < x.number) before → All (λ cut. x.number < cut.number) xs → is_outdone_among (before ++ x ∷ xs) x ≡ is_outdone xs x
 among_is_later before x xs b l =
     let test : Cut → Bool = λ other. nat_lt x.number other.number && contains other.cover x.cover in
     let none : list_any test before ≡ false = any_none test before (All-weaker (λ cut. cut.number < x.number) (λ cut. test cut ≡ false) (λ cut h. not_greater x cut h) before b) in

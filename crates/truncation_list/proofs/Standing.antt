@@ -4,18 +4,19 @@ use Rattle.std.specs.Prelude.{nat_le}
 use Rattle.matrix_geometry.specs.declared.address.Address.{Address}
 use Rattle.matrix_geometry.specs.declared.matrix.Matrix.{Matrix}
 use Rattle.matrix_geometry.specs.Admits.{admits}
+use Rattle.truncation_list.specs.declared.block.Block.{Block}
 use Rattle.truncation_list.specs.declared.cover.Cover.{Cover}
 use Rattle.truncation_list.specs.Contains.{contains}
-use Rattle.truncation_list.specs.Covers.{covers, is_in_bounds, is_in_zoom}
+use Rattle.truncation_list.specs.Covers.{covers, hits, is_in_bounds, is_in_zoom, meets_bounds}
 use Rattle.truncation_list.specs.Index.{first_list, last_list, list_of, stands}
 use Rattle.truncation_list.proofs.Containment.{contains_within}
 use Rattle.truncation_list.proofs.Decided.{both, eq_is, five, is_eq, is_le, join, le_is}
 
 -- the numbers of a cover's lists, with no cover
-first_below : (a b z : ℕ) → a ≤ z → z ≤ b → min (min a b) 31 ≤ min z 31
+pub first_below : (a b z : ℕ) → a ≤ z → z ≤ b → min (min a b) 31 ≤ min z 31
 first_below a b z h k = omega arith
 
-last_above : (a b z : ℕ) → a ≤ z → z ≤ b → min z 31 ≤ min (max a b) 31
+pub last_above : (a b z : ℕ) → a ≤ z → z ≤ b → min z 31 ≤ min (max a b) 31
 last_above a b z h k = omega arith
 
 pub stands_by : (layer grid k : ℕ) (cover : Cover) → IsTrue (cover.layer == layer) → IsTrue (cover.grid == grid) → first_list cover ≤ k → k ≤ last_list cover → IsTrue (stands layer grid k cover)
@@ -32,6 +33,15 @@ covers_stands cover m a h =
     let s = le_is cover.z_start a.z z.0 in
     let e = le_is a.z cover.z_stop z.1 in
     stands_by a.theme.layer a.grid (list_of a.z) cover t.0 t.1 (first_below cover.z_start cover.z_stop a.z s e) (last_above cover.z_start cover.z_stop a.z s e)
+
+-- and one that hits a block in that of the block's zoom
+pub hits_stands : (cover : Cover) (m : Matrix) (block : Block) → IsTrue (hits cover m block) → IsTrue (stands block.theme.layer block.grid (list_of block.z) cover)
+hits_stands cover m block h =
+    let t = five (cover.layer == block.theme.layer) (cover.grid == block.grid) (is_in_zoom cover block.z) (meets_bounds cover.bounds m block.tiles) (admits cover.filter block.theme) h in
+    let z = both (nat_le cover.z_start block.z) (nat_le block.z cover.z_stop) t.2 in
+    let s = le_is cover.z_start block.z z.0 in
+    let e = le_is block.z cover.z_stop z.1 in
+    stands_by block.theme.layer block.grid (list_of block.z) cover t.0 t.1 (first_below cover.z_start cover.z_stop block.z s e) (last_above cover.z_start cover.z_stop block.z s e)
 
 -- the lists of a cover and those of one that it contains have one in common
 meet_first : (a b x y : ℕ) → a ≤ x → y ≤ b → min (min x y) 31 ≤ min (max a b) 31

@@ -1,12 +1,13 @@
 -- What a list of cuts is seen as.
-use Rattle.std.specs.Prelude.{ℕ, ◌≡◌, ◌<◌, ◌≤◌, false, List, [], ◌∷◌, IsTrue, if◌then◌else◌, Option, Some, None}
-use Rattle.std.specs.List.{All, Any}
+use Rattle.std.specs.Prelude.{ℕ, ◌≡◌, ◌<◌, ◌≤◌, ◌&&◌, Bool, nat_le, false, List, [], ◌∷◌, IsTrue, if◌then◌else◌, Option, Some, None}
+use Rattle.std.specs.List.{All, Any, list_any}
 use Rattle.matrix_geometry.specs.declared.address.Address.{Address}
 use Rattle.matrix_geometry.specs.declared.matrix.Matrix.{Matrix}
 use Rattle.truncation_list.specs.declared.book.Book.{Book}
 use Rattle.truncation_list.specs.declared.book.Cut.{Cut}
 use Rattle.truncation_list.specs.declared.cover.Cover.{Cover}
-use Rattle.truncation_list.specs.Covers.{covers}
+use Rattle.truncation_list.specs.declared.block.Block.{Block}
+use Rattle.truncation_list.specs.Covers.{covers, hits}
 use Rattle.truncation_list.specs.declared.index.Shelf.{Shelf}
 use Rattle.truncation_list.specs.Index.{HasRoom}
 use Rattle.truncation_list.specs.Purge.{is_outdone}
@@ -50,3 +51,7 @@ abbrev pub IsLastCovering : List Cut → Matrix → Address → Option ℕ → T
 IsLastCovering cuts m a None = All (λ cut. covers cut.cover m a ≡ false) cuts
 IsLastCovering cuts m a (Some number) =
     Any (λ cut. (cut.number ≡ number) × IsTrue (covers cut.cover m a)) cuts × All (λ cut. IsTrue (covers cut.cover m a) → cut.number ≤ number) cuts
+
+-- a cut of this number or a greater one hits the block
+abbrev pub is_hit_since : List Cut → Matrix → Block → ℕ → Bool
+is_hit_since cuts m block number = list_any (λ cut. nat_le number cut.number && hits cut.cover m block) cuts

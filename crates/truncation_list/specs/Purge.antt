@@ -21,6 +21,11 @@ IsByNumber (cut ∷ later) = All (λ other. cut.number < other.number) later × 
 abbrev pub IsAbove : ℕ → List Cut → Type 0
 IsAbove number cuts = All (λ cut. cut.number < number) cuts
 
+-- behind a cut of a greater number than this one all are of greater numbers
+abbrev pub RisesPast : ℕ → List Cut → Type 0
+RisesPast number [] = Unit {0}
+RisesPast number (cut ∷ later) = (number < cut.number → All (λ other. number < other.number) later) × RisesPast number later
+
 -- what each list of cuts keeps to
 pub record IsInOrder (cuts : List Cut) : Type 0 where
   pub by_number : IsByNumber cuts

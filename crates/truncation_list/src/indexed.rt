@@ -1,20 +1,22 @@
 //! The cuts by number with their index.
-ghost use Rattle.std.specs.Prelude.{IsTrue, MatchOption, OnOk, [], false, filter, length, slice_index_or, true, ◌++◌, ◌<◌, ◌^◌, ◌∷◌, ◌≡◌};
+ghost use Rattle.std.specs.Prelude.{IsTrue, MatchOption, OnOk, [], drop, false, filter, length, slice_index_or, true, ◌+◌, ◌++◌, ◌<◌, ◌^◌, ◌∷◌, ◌≡◌};
 ghost use Rattle.std.specs.List.{All, remove};
 ghost use Rattle.matrix_geometry.specs.Limits.{IsWithinLimits};
 ghost use Rattle.truncation_list.specs.declared.cover.Cover.{Cover};
 ghost use Rattle.truncation_list.specs.Contains.{contains};
 ghost use Rattle.truncation_list.specs.Covers.{IsWithinReach};
-ghost use Rattle.truncation_list.specs.Listed.{HasRoomFor, IsLastCovering};
-ghost use Rattle.truncation_list.specs.Purge.{IsAbove, IsInOrder};
+ghost use Rattle.truncation_list.specs.Listed.{HasRoomFor, IsLastCovering, is_hit_since, outermost};
+ghost use Rattle.truncation_list.specs.Purge.{IsAbove, IsInOrder, is_outdone};
 ghost use Rattle.truncation_list.specs.Slots.{no_cut, stays};
 
+use crate::block::Block;
 use crate::book::Cut;
 use crate::cover::Cover;
 use crate::going::is_old;
 use crate::index::Index;
 use crate::lists::{list_in, list_of};
-use crate::looking::{last_covering, place_of, some_within};
+use crate::looking::{hit_since, is_outdone, last_covering, place_of, some_within};
+use crate::settling::free_outdone;
 use crate::slots::{cut_in, free_going, keep_taken};
 use matrix_geometry::address::Address;
 use matrix_geometry::matrix::Matrix;
@@ -128,6 +130,25 @@ impl IndexedCuts {
         self.index.keep(&self.slots);
     }
 
+    /// Takes out the cuts that lie within a later one, in one pass over all of them and their lists.
+    pub fn settle(&mut self)
+        ensures cuts { self.new.cuts ≡ outermost self.old.cuts }
+        ensures ready { (cover : Cover) → HasRoomFor self.old.room cover → HasRoomFor self.new.room cover }
+    {
+        free_outdone(&mut self.slots, &self.order, &self.index);
+        keep_taken(&mut self.order, &self.slots);
+        self.index.keep(&self.slots);
+    }
+
+    /// Whether the cover of a later cut contains that of the cut at a place.
+    pub fn is_outdone(&self, i: usize) -> bool
+        requires { i < length self.now.cuts }
+        ensures { result ≡ is_outdone (drop (i + 1) self.now.cuts) (slice_index_or self.now.cuts i no_cut) }
+    {
+        let cut = self.cut(i);
+        is_outdone(&self.order, &self.index, &self.slots, cut)
+    }
+
     /// The number of the last cut that covers the tile.
     pub fn last(&self, m: &Matrix, a: &Address) -> Option<u64>
         requires { IsWithinLimits m.now }
@@ -135,6 +156,21 @@ impl IndexedCuts {
     {
         let lists = self.index.lists(a.theme.layer, a.grid);
         last_covering(list_in(lists, list_of(a.z)), &self.slots, m, a)
+    }
+
+    /// Whether a cut of this number or a greater one hits the block.
+    pub fn newest_hit(&self, m: &Matrix, block: &Block, number: u64) -> bool
+        requires { IsWithinLimits m.now }
+        ensures { result ≡ is_hit_since self.now.cuts m.now block.now number }
+    {
+        let lists = self.index.lists(block.theme.layer, block.grid);
+        hit_since(
+            list_in(lists, list_of(block.z)),
+            &self.slots,
+            m,
+            block,
+            number,
+        )
     }
 
     /// The place of a cut that doesn't stay by itself, `None` where each does. It is looked for at the first place, which has the

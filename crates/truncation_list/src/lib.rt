@@ -20,4 +20,5 @@ pub mod list;
 mod lists;
 mod looking;
 mod purge;
+mod settling;
 mod slots;

@@ -4,9 +4,10 @@ ghost use Rattle.matrix_geometry.specs.Limits.{IsWithinLimits};
 ghost use Rattle.truncation_list.specs.declared.cover.Cover.{Cover};
 ghost use Rattle.truncation_list.specs.Books.{AnswersForBook, last_seen};
 ghost use Rattle.truncation_list.specs.Covers.{IsWithinReach};
-ghost use Rattle.truncation_list.specs.Listed.{IsLastCovering, IsReady};
+ghost use Rattle.truncation_list.specs.Listed.{IsLastCovering, IsReady, is_hit_since};
 ghost use Rattle.truncation_list.specs.Purge.{IsAbove, IsInOrder, added, empty_book, purged, with_cut, with_floor};
 
+use crate::block::Block;
 use crate::cover::Cover;
 use crate::indexed::IndexedCuts;
 use crate::purge::{floor_after, purge, settled_stay_at_least, stay_at_least};
@@ -20,8 +21,8 @@ use std::marker::Model;
 ///
 /// In the calls below `least` is the least number that is kept or running, `None` where there is none. `last` reads the cuts
 /// of the tile's layer, grid and zoom alone. `full` and `add` read those of the cover's zooms. `add` goes over all cuts only
-/// where many go, and `full` only where some go and more than `limit` are listed. The first purge after an `enter`, and `full`
-/// before it, compare each cut with the later ones.
+/// where many go, and `full` only where some go and more than `limit` are listed. The first purge after an `enter` compares each
+/// cut that stays by itself, and `full` before it each cut, with the later ones of its layer, grid and first zoom.
 #[derive(Drop)]
 pub struct CutList {
     cuts: IndexedCuts,
@@ -144,6 +145,15 @@ impl CutList {
         ensures { IsLastCovering self.now.book.cuts m.now a.now result }
     {
         self.cuts.last(m, a)
+    }
+
+    /// Whether a listed cut of this number or a greater one hits the block; `m` is the block's matrix. It reads the cuts of the
+    /// block's layer, grid and zoom alone, from the last one down to the first of a lesser number.
+    pub fn newest_hit(&self, m: &Matrix, block: &Block, number: u64) -> bool
+        requires { IsWithinLimits m.now }
+        ensures { result ≡ is_hit_since self.now.book.cuts m.now block.now number }
+    {
+        self.cuts.newest_hit(m, block, number)
     }
 
     /// The greatest cut that the list has seen: the greater of its floor and its greatest listed number.

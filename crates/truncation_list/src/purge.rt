@@ -1,32 +1,16 @@
 //! The purge of cuts by number: which of them go, how many stay, and the floor after it.
 ghost use Rattle.std.specs.Prelude.{IsTrue, ◌+◌, ◌<◌, false, filter, fold, drop, length, slice_index_or, ◌≡◌, ◌≤◌, ◌↔◌};
 ghost use Rattle.truncation_list.specs.declared.cover.Cover.{Cover};
-ghost use Rattle.truncation_list.specs.Listed.{HasRoomFor, IsSettled, outermost};
+ghost use Rattle.truncation_list.specs.Listed.{HasRoomFor, IsSettled};
 ghost use Rattle.truncation_list.specs.Purge.{IsInOrder, goes, is_outdone, raised, remaining};
 ghost use Rattle.truncation_list.specs.Slots.{no_cut, stays};
 
-use crate::containing::contains;
 use crate::cover::Cover;
 use crate::going::{is_old, stays};
 use crate::indexed::IndexedCuts;
 
 /// So many cuts are taken out one at a time before the others are taken out in one pass.
 const FEW: u32 = 8;
-
-/// Whether the cover of a later cut contains that of the cut at this place.
-fn is_outdone(cuts: &IndexedCuts, i: usize) -> bool
-    requires { i < length cuts.now.cuts }
-    ensures { result ≡ is_outdone (drop (i + 1) cuts.now.cuts) (slice_index_or cuts.now.cuts i no_cut) }
-{
-    let cut = cuts.cut(i);
-    let count = cuts.len();
-    'looking: for j in i + 1..count {
-        if contains(&cuts.cut(j).cover, &cut.cover) {
-            return true;
-        }
-    }
-    false
-}
 
 /// Whether the cut at this place goes. A settled list is not searched for a later cut that contains it: there is none.
 fn goes(
@@ -40,7 +24,7 @@ fn goes(
     requires settled { IsTrue is_settled → is_outdone (drop (i + 1) cuts.now.cuts) (slice_index_or cuts.now.cuts i no_cut) ≡ false }
     ensures { result ≡ goes cover.now least (drop (i + 1) cuts.now.cuts) (slice_index_or cuts.now.cuts i no_cut) }
 {
-    !stays(cover, least, cuts.cut(i)) || (!is_settled && is_outdone(cuts, i))
+    !stays(cover, least, cuts.cut(i)) || (!is_settled && cuts.is_outdone(i))
 }
 
 /// Whether `limit` or more cuts stay. It looks no further than where that is decided.
@@ -102,21 +86,6 @@ pub fn floor_after(cuts: &IndexedCuts, floor: u64, least: Option<u64>) -> u64
     top
 }
 
-/// Takes out the cuts that lie within a later one.
-fn settle(cuts: &mut IndexedCuts)
-    ensures cuts { cuts.new.cuts ≡ outermost cuts.old.cuts }
-    ensures ready { (cover : Cover) → HasRoomFor cuts.old.room cover → HasRoomFor cuts.new.room cover }
-{
-    let mut kept = 0;
-    'settling: for _count in 0..cuts.len() {
-        if is_outdone(cuts, kept) {
-            cuts.take_out(kept);
-        } else {
-            kept += 1;
-        }
-    }
-}
-
 /// Takes out the cuts that don't stay by themselves: a few one at a time, and where more are left the others in one pass.
 fn let_go(cuts: &mut IndexedCuts, cover: &Option<Cover>, least: Option<u64>)
     ensures cuts { cuts.new.cuts ≡ filter (stays cover.now least) cuts.old.cuts }
@@ -131,14 +100,17 @@ fn let_go(cuts: &mut IndexedCuts, cover: &Option<Cover>, least: Option<u64>)
     cuts.sweep(cover, least);
 }
 
-/// Takes out the cuts that go.
+/// Takes out the cuts that go. Those that don't stay by themselves go first, so that only the others are looked through for later
+/// ones: a cut that lies within a later one that goes by itself goes by itself too.
 pub fn purge(cuts: &mut IndexedCuts, cover: &Option<Cover>, least: Option<u64>, is_settled: bool)
     requires { IsTrue is_settled → IsSettled cuts.old.cuts }
     ensures cuts { cuts.new.cuts ≡ remaining cover.now least cuts.old.cuts }
     ensures ready { (cover : Cover) → HasRoomFor cuts.old.room cover → HasRoomFor cuts.new.room cover }
 {
-    if !is_settled {
-        settle(cuts);
-    }
+    let _count = cuts.len();
     let_go(cuts, cover, least);
+    if is_settled {
+        return;
+    }
+    cuts.settle();
 }
