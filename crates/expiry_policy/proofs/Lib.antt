@@ -10,3 +10,4 @@ pub mod FirstOfAll
 pub mod AllLayers
 pub mod Together
 pub mod OneVictim
+pub mod Once

@@ -1,5 +1,5 @@
 -- How kept metatiles are used, and which of them goes first.
-use Rattle.std.specs.Prelude.{ℕ, ◌≡◌, ◌≢◌, ◌+◌, ◌-◌, ◌^◌, min, Bool, true, false, not, List, [], ◌∷◌, ◌++◌, filter, find, Option, Some, None, ⊤, slice_get, option_and_then}
+use Rattle.std.specs.Prelude.{ℕ, ◌≡◌, ◌≢◌, ◌+◌, ◌-◌, ◌^◌, min, Bool, true, false, not, List, [], ◌∷◌, ◌++◌, filter, find, Option, Some, None, ⊤, slice_get, option_and_then, unwrap_or}
 use Rattle.std.specs.List.{AllByRecursion, list_all}
 use Rattle.std.specs.Option.{option_map}
 use Rattle.std.specs.Ordering.{is_lt, nat_cmp}
@@ -27,6 +27,10 @@ is_of m u = same_meta u.meta m
 -- how a metatile was used; none exactly where it is not held
 abbrev pub use_of : Counts → MetaKey → Option Use
 use_of c m = option_and_then (find (is_of m)) (slice_get c.uses m.theme.layer)
+
+-- the uses of what is held of a layer; none past the last layer
+abbrev pub uses_in : Counts → ℕ → List Use
+uses_in c layer = unwrap_or (slice_get c.uses layer) []
 
 -- one more, up to the greatest number of 64 bits
 abbrev pub one_more : ℕ → ℕ

@@ -1,11 +1,13 @@
 //! The uses of the metatiles of one layer, with the tournaments that rank them.
 ghost use Rattle.std.specs.Prelude.{IfSome, IsSome, None, OnOk, Some, [], if◌then◌else◌, is_some, length, slice_index, true, ◌+◌, ◌≡◌, ◌≤◌, ◌⊎◌};
+ghost use Rattle.std.specs.List.{AllByRecursion};
 ghost use Rattle.metatile_plan.specs.declared.metatile.MetaKey.{MetaKey};
 ghost use Rattle.metatile_plan.specs.Keys.{same_meta};
 ghost use Rattle.expiry_policy.specs.Entries.{goes, uses_of};
 ghost use Rattle.expiry_policy.specs.Layers.{use_in};
 ghost use Rattle.expiry_policy.specs.Orders.{IsFirst};
 ghost use Rattle.expiry_policy.specs.Tournaments.{IsRanked};
+ghost use Rattle.expiry_policy.specs.Victims.{AreApart};
 
 use crate::held::{Held, add, change, index_of, take_out, use_at, use_of};
 use crate::order::{Order, Ranking};
@@ -87,6 +89,23 @@ impl LayerUses {
         self.held.reserve(keys)?;
         self.expiry.reserve(keys)?;
         self.unsaved.reserve(keys)
+    }
+
+    /// For how many keys more there is room.
+    pub fn room(&self) -> usize
+        ensures { result ≡ self.now.spare }
+    {
+        let held = self.held.capacity() - self.held.len();
+        held.min(self.expiry.room().min(self.unsaved.room()))
+    }
+
+    /// How many metatiles are held. Each of the uses is of another metatile, and all of them are of the layer.
+    pub fn count(&self) -> usize
+        ensures count { result ≡ length self.now.uses }
+        ensures layer { AllByRecursion (λ u. u.meta.theme.layer ≡ self.now.number) self.now.uses }
+        ensures apart { AreApart self.now.uses }
+    {
+        self.held.len()
     }
 
     /// How a metatile was used, `None` exactly where it is not held.

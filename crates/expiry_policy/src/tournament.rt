@@ -4,7 +4,7 @@
 //! Node `n` of a tree has the entry `n` of its own, and the nodes `2n + 1` and `2n + 2` right beneath it. It keeps the index of
 //! the entry that goes first of its own and all those beneath, so node 0 has the first of all. A change of one entry is
 //! settled by finding the winners of its node and of those above it anew.
-ghost use Rattle.std.specs.Prelude.{OnOk, length, slice_get, slice_index, vec_capacity, vec_len, ◌*◌, ◌+◌, ◌<◌, ◌≡◌, ◌≤◌};
+ghost use Rattle.std.specs.Prelude.{OnOk, length, slice_get, slice_index, vec_capacity, vec_len, ◌*◌, ◌+◌, ◌-◌, ◌<◌, ◌≡◌, ◌≤◌};
 ghost use Rattle.expiry_policy.specs.Entries.{goes};
 ghost use Rattle.expiry_policy.specs.Tournaments.{IsRanked, IsRankedBut, Wins, above, pick};
 
@@ -84,6 +84,13 @@ impl Tournament {
         ensures room { OnOk result (vec_len self.new.winners + entries ≤ vec_capacity self.new.winners) }
     {
         self.winners.reserve(entries)
+    }
+
+    /// For how many entries more there is room.
+    pub fn room(&self) -> usize
+        ensures { result ≡ vec_capacity self.now.winners - vec_len self.now.winners }
+    {
+        self.winners.capacity() - self.winners.len()
     }
 
     /// The index of the entry that goes first.

@@ -1,11 +1,12 @@
 //! The uses of the held metatiles, the victim that they make, and those that are to be saved.
 ghost use Rattle.std.specs.Prelude.{IfOk, IfSome, IsSome, None, OnOk, Some, [], if◌then◌else◌, is_some, length, slice_get, true, ℕ, ◌+◌, ◌<◌, ◌≡◌, ◌≢◌, ◌≤◌, ◌⊎◌};
+ghost use Rattle.std.specs.List.{AllByRecursion};
 ghost use Rattle.std.specs.Option.{option_map};
 ghost use Rattle.metatile_plan.specs.declared.metatile.MetaKey.{MetaKey};
 ghost use Rattle.metatile_plan.specs.Keys.{same_meta};
 
 use crate::layer::LayerUses;
-use crate::layers::{no_uses, reserve_each};
+use crate::layers::{no_uses, put_in, reserve_each};
 use crate::leading::{first_of_all, key_of, unsaved_key};
 use crate::order::{Order, Ranking};
 use catalog::catalogue::{Policy, Scope};
@@ -48,7 +49,7 @@ impl Model for Uses {
 }
 
 impl Uses {
-    ghost use Rattle.expiry_policy.specs.Victims.{IsUnsaved, IsVictim, all_saved, one_more, use_of, used_at};
+    ghost use Rattle.expiry_policy.specs.Victims.{AreApart, IsUnsaved, IsVictim, all_saved, one_more, use_of, used_at, uses_in};
 
     /// No uses yet; the keys are of layers below `layers`. `AllocError` where memory runs out.
     pub fn new(alloc: Global, policy: Policy, layers: u32) -> Result<Uses, AllocError>
@@ -65,7 +66,8 @@ impl Uses {
         })
     }
 
-    /// Makes room for so many keys more. `AllocError` where memory runs out; all is then as before and no room is lost.
+    /// Makes room for so many keys more in each layer. It goes over the layers only where one of them has come to have less.
+    /// `AllocError` where memory runs out; all is then as before and no room is lost.
     pub fn reserve(&mut self, _alloc: Global, keys: u32) -> Result<(), AllocError>
         ensures policy { self.new.policy ≡ self.old.policy }
         ensures layers { self.new.layers ≡ self.old.layers }
@@ -105,11 +107,8 @@ impl Uses {
         ensures spare { self.old.spare ≤ self.new.spare + 1 }
         ensures kept { IsSome (use_of self.old entry.now.meta) → self.old.spare ≤ self.new.spare }
     {
-        let was_held = self.layers[entry.meta.theme.layer as usize].put(entry);
-        if was_held {
-            return;
-        }
-        self.spare = self.spare.saturating_sub(1);
+        let layer = entry.meta.theme.layer as usize;
+        self.spare = put_in(&mut self.layers[layer], entry, self.spare);
     }
 
     /// Enters a key anew, with so many uses, all saved; its last use is now. There is room for it, or it is held.
@@ -214,6 +213,19 @@ impl Uses {
         match self.use_of(meta) {
             None => None,
             Some(found) => Some(found.saved),
+        }
+    }
+
+    /// How many metatiles of a layer are held, 0 past the last layer. Each of the layer's uses is of another metatile, and all of
+    /// them are of the layer.
+    pub fn count_in(&self, layer: u32) -> usize
+        ensures count { result ≡ length (uses_in self.now layer) }
+        ensures layer { AllByRecursion (λ u. u.meta.theme.layer ≡ layer) (uses_in self.now layer) }
+        ensures apart { AreApart (uses_in self.now layer) }
+    {
+        match self.layers.get(layer as usize) {
+            None => 0,
+            Some(uses) => uses.count(),
         }
     }
 

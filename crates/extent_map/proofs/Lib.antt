@@ -7,3 +7,4 @@ pub mod Crowded
 pub mod Divided
 pub mod Spots
 pub mod Keeps
+pub mod Without

@@ -4,7 +4,8 @@ ghost use Rattle.extent_map.specs.Parts.{LieInOrder};
 ghost use Rattle.extent_map.specs.Holes.{first_start, last_end, FitsBeforeNone, IsGap};
 ghost use Rattle.extent_map.specs.Chunks.{chunk_room};
 
-use crate::gaps::{first_gap, summary_of};
+use crate::gaps::{first_gap, hole_before, larger, summary_of};
+use crate::holes::{end_before, start_behind};
 use crate::part::{Hole, Part, Summary};
 use std::alloc::{AllocError, Global};
 use std::marker::Model;
@@ -109,7 +110,12 @@ impl Chunk {
     {
         self.parts.remove(index);
         let others = self.parts.as_slice();
-        self.summary = summary_of(others, size);
+        // No hole between two of them is new but the one that the part leaves.
+        self.summary = Summary {
+            start: start_behind(others, 0, 0),
+            end: end_before(others, size, others.len()),
+            widest: larger(self.summary.widest, hole_before(others, size, index)),
+        };
     }
 
     /// Enters parts behind its own.

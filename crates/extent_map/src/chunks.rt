@@ -96,8 +96,8 @@ pub fn lowest_hole(chunks: &[Chunk], size: u64, bytes: u32) -> Option<Found>
     None
 }
 
-/// The number of the first chunk that ends behind a place; the number of chunks where none does.
-fn chunk_of(chunks: &[Chunk], place: u64) -> usize
+/// The number of the first chunk that ends behind a place, the number of chunks where none does: found by going through them.
+fn first_behind(chunks: &[Chunk], place: u64) -> usize
     ensures within { result ≤ length chunks.now }
     ensures before { (k : ℕ) → k < result → last_end 0 (chunk_at chunks.now k) ≤ place }
     ensures at { result < length chunks.now → place < last_end 0 (chunk_at chunks.now result) }
@@ -112,6 +112,77 @@ fn chunk_of(chunks: &[Chunk], place: u64) -> usize
     chunk
 }
 
+/// The last chunk that has a part, from one down to a lower one; that lower one where none behind it has.
+fn last_used_in(chunks: &[Chunk], low: usize, chunk: usize) -> usize
+    requires low { low ≤ chunk }
+    requires known { chunk < length chunks.now }
+    ensures low { low ≤ result }
+    ensures within { result ≤ chunk }
+    ensures some { low < result → 1 ≤ length (chunk_at chunks.now result) }
+    ensures others { (k : ℕ) → result < k → k ≤ chunk → chunk_at chunks.now k ≡ [] }
+{
+    let mut used = chunk;
+    while used > low {
+        if chunks[used].len() > 0 {
+            return used;
+        }
+        used -= 1;
+    }
+    used
+}
+
+/// The number that the first chunk that ends behind a place is likely to have: found by halving, where a chunk with no part counts
+/// as the one before it. It is a guess, of which nothing else is said.
+fn likely_chunk(chunks: &[Chunk], place: u64) -> usize
+    ensures { result ≤ length chunks.now }
+{
+    let mut low = 0;
+    let mut high = chunks.len();
+    while low < high {
+        let middle = low + (high - low) / 2;
+        let used = last_used_in(chunks, low, middle);
+        if chunks[used].end() > place {
+            high = used;
+        } else {
+            low = middle + 1;
+        }
+    }
+    low
+}
+
+/// Whether a chunk is the first that ends behind a place; of the number of chunks, whether none does.
+fn is_first_behind(chunks: &[Chunk], size: u64, chunk: usize, place: u64) -> bool
+    requires ordered { LieInOrder 0 (all_parts chunks.now) size }
+    requires within { chunk ≤ length chunks.now }
+    ensures before { IsTrue result → (k : ℕ) → k < chunk → last_end 0 (chunk_at chunks.now k) ≤ place }
+    ensures at { IsTrue result → chunk < length chunks.now → place < last_end 0 (chunk_at chunks.now chunk) }
+{
+    if chunk < chunks.len() {
+        if chunks[chunk].end() <= place {
+            return false;
+        }
+    }
+    if chunk == 0 {
+        return true;
+    }
+    let before = last_used_in(chunks, 0, chunk - 1);
+    chunks[before].end() <= place
+}
+
+/// The number of the first chunk that ends behind a place; the number of chunks where none does.
+fn chunk_of(chunks: &[Chunk], size: u64, place: u64) -> usize
+    requires ordered { LieInOrder 0 (all_parts chunks.now) size }
+    ensures within { result ≤ length chunks.now }
+    ensures before { (k : ℕ) → k < result → last_end 0 (chunk_at chunks.now k) ≤ place }
+    ensures at { result < length chunks.now → place < last_end 0 (chunk_at chunks.now result) }
+{
+    let likely = likely_chunk(chunks, place);
+    if is_first_behind(chunks, size, likely, place) {
+        return likely;
+    }
+    first_behind(chunks, place)
+}
+
 /// The spot of a part that is free; `None` exactly where it is not free.
 pub fn free_spot(chunks: &[Chunk], size: u64, place: u64, bytes: u32) -> Option<Spot>
     requires ordered { LieInOrder 0 (all_parts chunks.now) size }
@@ -120,7 +191,7 @@ pub fn free_spot(chunks: &[Chunk], size: u64, place: u64, bytes: u32) -> Option<
     ensures fits { IfSome result (λ spot. FitsAt chunks.now size spot.chunk spot.index (part_at place bytes)) }
     ensures none { IfNone result (IsFree (all_parts chunks.now) size (part_at place bytes) → ⊥) }
 {
-    let chunk = chunk_of(chunks, place);
+    let chunk = chunk_of(chunks, size, place);
     if chunk < chunks.len() {
         return match hole_at(chunks[chunk].parts(), size, place, bytes) {
             Some(index) => Some(Spot { chunk, index }),
@@ -141,7 +212,7 @@ pub fn spot_of(chunks: &[Chunk], size: u64, part: Part) -> Spot
     ensures within { result.index < length (chunk_at chunks.now result.chunk) }
     ensures at { slice_index_or (chunk_at chunks.now result.chunk) result.index part ≡ part }
 {
-    let chunk = chunk_of(chunks, part.place);
+    let chunk = chunk_of(chunks, size, part.place);
     Spot {
         chunk,
         index: index_of(chunks[chunk].parts(), part),

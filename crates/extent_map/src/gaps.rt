@@ -1,9 +1,9 @@
 //! The holes between the parts of one list.
-ghost use Rattle.std.specs.Prelude.{◌≤◌, IfSome, IfNone};
+ghost use Rattle.std.specs.Prelude.{◌+◌, ◌≤◌, IfSome, IfNone, drop, length, take};
 ghost use Rattle.extent_map.specs.Parts.{LieInOrder};
-ghost use Rattle.extent_map.specs.Holes.{first_start, FitsBeforeNone, IsGap, IsSummed};
+ghost use Rattle.extent_map.specs.Holes.{first_start, last_end, FitsBeforeNone, IsGap, IsSummed};
 
-use crate::holes::{fits, start_behind};
+use crate::holes::{end_before, fits, start_behind};
 use crate::part::{Hole, Part, Summary};
 
 /// The larger of two numbers.
@@ -12,6 +12,18 @@ pub fn larger(one: u64, other: u64) -> u64
     ensures other { other ≤ result }
 {
     if one < other { other } else { one }
+}
+
+/// How many bytes the hole between the part before an index and the one at it has; 0 where there are no two such parts.
+pub fn hole_before(parts: &[Part], size: u64, index: usize) -> u64
+    requires ordered { LieInOrder 0 parts.now size }
+    requires within { index ≤ length parts.now }
+    ensures { 1 ≤ index → first_start (drop index parts.now) 0 ≤ last_end 0 (take index parts.now) + result }
+{
+    if index == 0 {
+        return 0;
+    }
+    start_behind(parts, 0, index).saturating_sub(end_before(parts, size, index))
 }
 
 /// The first hole between two of the parts in which so many bytes fit.

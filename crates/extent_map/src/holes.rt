@@ -24,7 +24,7 @@ pub fn starts_before(parts: &[Part], place: u64) -> usize
 }
 
 /// Where the last of so many parts ends; 0 where there are none.
-fn end_before(parts: &[Part], size: u64, index: usize) -> u64
+pub fn end_before(parts: &[Part], size: u64, index: usize) -> u64
     requires ordered { LieInOrder 0 parts.now size }
     requires within { index ≤ length parts.now }
     ensures { result ≡ last_end 0 (take index parts.now) }

@@ -1,4 +1,4 @@
-use Rattle.std.proofs.Common.{◌≡◌, ◌<◌, set, cond, Some, IsSome, slice_get, true≢false, refl, sym, ap, subst, ◌∙◌, arith}
+use Rattle.std.proofs.Common.{◌≡◌, ◌<◌, set, cond, Some, IsSome, slice_get, refl, sym, ap, subst, ◌∙◌, arith}
 use Rattle.metatile_plan.specs.Keys.{same_meta}
 use Rattle.expiry_policy.specs.Layers.{use_in}
 use Rattle.expiry_policy.specs.Victims.{Counts, use_of}
@@ -14,33 +14,8 @@ invariant_of-self c =
     let l = c.index_mut.result.now in
     let within = subst (λ (v : Counts). at < v.layers) (sym c.self.view_is) c.requires.layer in
     let got : slice_get layers at ≡ Some l = slice_get-get_or layers at l within ∙ ap Some (sym c.index_mut.ensures.value) in
-    let room = c.self.invariant.room at l got in
-    let kept = c.put-was_held.ensures.kept c.if-was_held.true in
-    still_layers layers at l c.put-was_held.new.self got within c.self.inside.policy c.self.inside.spare c.self.inside.spare c.self.invariant
-    c.put-was_held.ensures.number c.put-was_held.ensures.policy (omega arith) (omega arith)
-
-pub returns-then-was_held-clause-uses : goal.returns-then-was_held-clause-uses
-returns-then-was_held-clause-uses c = λ m.
-    let layers = c.self.inside.layers.items in
-    let k = c.args.entry.now.meta in
-    let l = c.index_mut.result.now in
-    let within = subst (λ (v : Counts). k.theme.layer < v.layers) (sym c.self.view_is) c.requires.layer in
-    let got : slice_get layers k.theme.layer ≡ Some l = slice_get-get_or layers k.theme.layer l within ∙ ap Some (sym c.index_mut.ensures.value) in
-    found_among (set layers k.theme.layer c.put-was_held.new.self) m
-    ∙ changed_among layers k.theme.layer l c.put-was_held.new.self got within k (Some c.args.entry.now) refl c.put-was_held.ensures.uses m
-    ∙ ap (cond (same_meta m k) (Some c.args.entry.now)) (sym (found_among layers m) ∙ ap (λ (v : Counts). use_of v m) c.self.view_is)
-
-pub invariant_of-self-2 : goal.invariant_of-self-2
-invariant_of-self-2 c =
-    let layers = c.self.inside.layers.items in
-    let at = c.args.entry.now.meta.theme.layer in
-    let l = c.index_mut.result.now in
-    let within = subst (λ (v : Counts). at < v.layers) (sym c.self.view_is) c.requires.layer in
-    let got : slice_get layers at ≡ Some l = slice_get-get_or layers at l within ∙ ap Some (sym c.index_mut.ensures.value) in
-    let room = c.self.invariant.room at l got in
-    let less = c.put-was_held.ensures.spare in
-    still_layers layers at l c.put-was_held.new.self got within c.self.inside.policy c.self.inside.spare c.saturating_sub-self-inside.result c.self.invariant
-    c.put-was_held.ensures.number c.put-was_held.ensures.policy (omega arith) (omega arith)
+    let put = c.put_in-self-inside.ensures in
+    still_layers layers at l c.put_in-self-inside.new.layer got within c.self.inside.policy c.self.inside.spare c.put_in-self-inside.result c.self.invariant put.number put.policy put.left put.most
 
 pub returns-clause-uses : goal.returns-clause-uses
 returns-clause-uses c = λ m.
@@ -49,8 +24,8 @@ returns-clause-uses c = λ m.
     let l = c.index_mut.result.now in
     let within = subst (λ (v : Counts). k.theme.layer < v.layers) (sym c.self.view_is) c.requires.layer in
     let got : slice_get layers k.theme.layer ≡ Some l = slice_get-get_or layers k.theme.layer l within ∙ ap Some (sym c.index_mut.ensures.value) in
-    found_among (set layers k.theme.layer c.put-was_held.new.self) m
-    ∙ changed_among layers k.theme.layer l c.put-was_held.new.self got within k (Some c.args.entry.now) refl c.put-was_held.ensures.uses m
+    found_among (set layers k.theme.layer c.put_in-self-inside.new.layer) m
+    ∙ changed_among layers k.theme.layer l c.put_in-self-inside.new.layer got within k (Some c.args.entry.now) refl c.put_in-self-inside.ensures.uses m
     ∙ ap (cond (same_meta m k) (Some c.args.entry.now)) (sym (found_among layers m) ∙ ap (λ (v : Counts). use_of v m) c.self.view_is)
 
 pub returns-clause-kept : goal.returns-clause-kept
@@ -62,4 +37,5 @@ returns-clause-kept c = λ held.
     let got : slice_get layers k.theme.layer ≡ Some l = slice_get-get_or layers k.theme.layer l within ∙ ap Some (sym c.index_mut.ensures.value) in
     let there = subst (λ (v : Counts). IsSome (use_of v k)) (sym c.self.view_is) held in
     let here : IsSome (use_in l.uses k) = subst IsSome (found_among layers k ∙ use_of_layer layers l k k.theme.layer got refl) there in
-    absurd (true≢false (sym here ∙ sym c.put-was_held.ensures.held ∙ c.if-was_held.false))
+    let spare = ap (λ (v : Counts). v.spare) c.self.view_is in
+    omega (arith, c.put_in-self-inside.ensures.kept here, spare)
