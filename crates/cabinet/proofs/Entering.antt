@@ -32,7 +32,7 @@ use Rattle.cabinet.specs.Entered.{AreEntered, CanBeEntered, CanEnter, Enters, wi
 use Rattle.cabinet.specs.Fresh.{IsOfLength, Opens}
 use Rattle.cabinet.specs.Gaps.{AreDisjoint, region, regions}
 use Rattle.cabinet.specs.History.{History, Opening, but, first_entries, is_of, stored_entry, whole}
-use Rattle.cabinet.specs.Shelved.{IsBare, IsShelved, LeavesUses, Shelved, listed, use_on}
+use Rattle.cabinet.specs.Shelved.{IsAlike, IsBare, IsShelved, LeavesUses, Shelved, listed, use_on}
 use Rattle.cabinet.specs.Started.{away, opened_state}
 use Rattle.cabinet.specs.State.{IsKnown, IsLong, State, blobs_without, now}
 use Rattle.cabinet.proofs.Bytes.{layer_within}
@@ -167,6 +167,18 @@ pub entered_next : (c : Catalogue) (kept : List Kept) (i : ℕ) (t : Kept) (s ne
 entered_next c kept i t s new can e r l =
     let parts = split kept i t e in
     subst (λ (ts : List Kept). AreEntered c ts new) (sym (taken_next kept i t e)) (entered_more c (take i kept) t s new r (its_new c (take i kept) t parts.0 (subst (CanBeEntered c) parts.1 can)) l)
+
+-- nothing is entered where room is made
+pub alike_can : (t : Kept) (s mid : Shelved) → IsAlike s mid → CanEnter s.catalogue s.blobs t → CanEnter mid.catalogue mid.blobs t
+alike_can t s mid l can = subst (λ (x : Catalogue). CanEnter x mid.blobs t) (sym l.catalogue) (subst (λ (bs : List KeptBlob). CanEnter s.catalogue bs t) (sym l.blobs) can)
+
+pub alike_enters : (t : Kept) (s mid new : Shelved) → IsAlike s mid → Enters t mid new → Enters t s new
+alike_enters t s mid new l e = record {
+  catalogue = e.catalogue ∙ l.catalogue;
+  blobs = e.blobs ∙ ap (λ (bs : List KeptBlob). bs ++ away t ∷ []) l.blobs;
+  clock = e.clock ∙ ap one_more l.clock;
+  uses = λ m. e.uses m ∙ (λ i. with_entered t (one_more (l.clock i)) (λ n. l.uses n i) m);
+}
 
 pub none_entered : (c : Catalogue) (s : Shelved) → IsBare c s → AreEntered c [] s
 none_entered c s bare = record { catalogue = bare.catalogue; blobs = bare.blobs; clock = bare.clock; uses = bare.uses }

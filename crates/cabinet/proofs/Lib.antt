@@ -29,5 +29,7 @@ pub mod Lookups
 pub mod Orders
 pub mod Recounts
 pub mod Told
+pub mod Indexed
+mod PerLayer
 pub mod Sifts
 pub mod Limits

@@ -1,8 +1,7 @@
 -- What the entries of a map hold of a metatile, before and after a change.
-use Rattle.std.proofs.Common.{ℕ, zero, suc, ◌≡◌, ◌≢◌, ◌-◌, ◌+◌, ◌<◌, ◌≤◌, ◌++◌, Bool, true, false, cond, List, [], ◌∷◌, length, map, fold, set, add-one, take, get_or, slice_get, Option, Some, refl, sym, ap, subst, ◌∙◌, arith}
-use Rattle.std.specs.List.{IsDistinct, swap_remove}
-use Rattle.std.proofs.lemmas.Grind.{fold-append}
-use Rattle.std.proofs.lemmas.List.{map-append}
+use Rattle.std.proofs.Common.{ℕ, zero, suc, ◌≡◌, ◌≢◌, ◌+◌, ◌++◌, Bool, true, false, cond, List, [], ◌∷◌, add-one, take, slice_get, Option, None, Some, refl, sym, ap, subst, ◌∙◌}
+use Rattle.std.specs.Prelude.{is_some}
+use Rattle.std.specs.List.{IsDistinct}
 use Rattle.std.specs.Map.{keys_of, lookup, lookup_key}
 use Rattle.std.specs.Option.{option_map}
 use Rattle.metatile_plan.specs.declared.metatile.MetaKey.{MetaKey}
@@ -12,7 +11,6 @@ use Rattle.metatile_locks.proofs.Lists.{all_map, all_weaker}
 use Rattle.cabinet.specs.declared.kept.Blob.{Blob}
 use Rattle.cabinet.specs.declared.kept.KeptBlob.{KeptBlob}
 use Rattle.cabinet.specs.Fresh.{ApartBy}
-use Rattle.cabinet.specs.History.{lesser}
 use Rattle.cabinet.specs.Ordered.{as_kept, held_at, held_of}
 use Rattle.cabinet.proofs.Lists.{all_of_map}
 use Rattle.cabinet.proofs.UsesAfter.{same_swap}
@@ -29,6 +27,13 @@ held_lookup m (e ∷ es) = ap (λ v. cond v (Some (as_kept e)) (held_at (held_of
         → cond v (Some (as_kept e)) (held_at (held_of es) m) ≡ option_map (λ b. as_kept (m, b)) (cond v (Some e.1) (lookup (same_meta m) es))
     chosen true is ih = λ i. Some (as_kept (sym (same_meta_is m e.0 is) i, e.1))
     chosen false is ih = ih
+
+pub some_held : (m : MetaKey) (es : Entries) → is_some (lookup (same_meta m) es) ≡ is_some (held_at (held_of es) m)
+some_held m es = mapped (lookup (same_meta m) es) ∙ sym (ap is_some (held_lookup m es))
+  where
+    mapped : (o : Option Blob) → is_some o ≡ is_some (option_map (λ b. as_kept (m, b)) o)
+    mapped None = refl
+    mapped (Some b) = refl
 
 -- where one metatile has another blob or none
 pub held_updated : (m k : MetaKey) (es later : Entries) (w : Option Blob) → lookup (same_meta m) later ≡ cond (same_meta k m) w (lookup (same_meta m) es)
@@ -59,21 +64,6 @@ held_get [] i e at = absurd (cc)
 held_get (x ∷ xs) zero e at = let same : x ≡ e = cc in ap (λ (y : MetaKey × Blob). Some (as_kept y)) same
 held_get (x ∷ xs) (suc i) e at = held_get xs i e at
 
-take_take : {X : Type 0} (i n : ℕ) (xs : List X) → i ≤ n → take i (take n xs) ≡ take i xs
-take_take zero n xs l = refl
-take_take (suc i) zero xs l = absurd (omega arith)
-take_take (suc i) (suc n) [] l = refl
-take_take (suc i) (suc n) (x ∷ xs) l = ap (λ ys. x ∷ ys) (take_take i n xs (omega arith))
-
-take_set : {X : Type 0} (xs : List X) (i : ℕ) (y : X) → take i (set xs i y) ≡ take i xs
-take_set xs zero y = refl
-take_set [] (suc i) y = refl
-take_set (x ∷ xs) (suc i) y = ap (λ ys. x ∷ ys) (take_set xs i y)
-
--- those before one that is taken out stay
-pub before_taken : {X : Type 0} (xs : List X) (i : ℕ) (x : X) → i < length xs → take i (swap_remove xs i x) ≡ take i xs
-before_taken xs i x l = take_take i (length xs - 1) (set xs i (get_or xs (length xs - 1) x)) (omega arith) ∙ take_set xs i (get_or xs (length xs - 1) x)
-
 -- one more of the first ones
 pub taken_next : {X : Type 0} (xs : List X) (i : ℕ) (x : X) → slice_get xs i ≡ Some x → take (i + 1) xs ≡ take i xs ++ x ∷ []
 taken_next [] i x e = absurd (cc)
@@ -84,22 +74,6 @@ taken_next (y ∷ ys) (suc i) x e = rw add-one (ap (λ zs. y ∷ zs) (taken_agai
     taken_again [] i x e = absurd (cc)
     taken_again (y ∷ ys) zero x e = let same : y ≡ x = cc in ap (λ z. z ∷ []) same
     taken_again (y ∷ ys) (suc i) x e = ap (λ zs. y ∷ zs) (taken_again ys i x e)
-
--- the least with one more
-pub least_next : (least was : Option ℕ) (held : List KeptBlob) (i : ℕ) (b : KeptBlob) (n : ℕ) → least ≡ fold lesser was (map (λ b. b.kept.number) (take i held)) → slice_get held i ≡ Some b → n ≡ b.kept.number → lesser least n ≡ fold lesser was (map (λ b. b.kept.number) (take (i + 1) held))
-least_next least was held i b n is at number =
-    let more : fold lesser was (map (λ b. b.kept.number) (take (i + 1) held)) ≡ lesser (fold lesser was (map (λ b. b.kept.number) (take i held))) b.kept.number =
-    ap (λ (bs : List KeptBlob). fold lesser was (map (λ b. b.kept.number) bs)) (taken_next held i b at) ∙ rw (map-append, fold-append) refl in
-    (λ j. lesser (is j) (number j)) ∙ sym more
-
--- the first ones are held alike where their entries are
-take_map : (i : ℕ) (es : Entries) → take i (held_of es) ≡ held_of (take i es)
-take_map zero es = refl
-take_map (suc i) [] = refl
-take_map (suc i) (e ∷ es) = ap (λ (bs : List KeptBlob). as_kept e ∷ bs) (take_map i es)
-
-pub take_held : (i : ℕ) (es later : Entries) → take i later ≡ take i es → take i (held_of later) ≡ take i (held_of es)
-take_held i es later e = take_map i later ∙ ap held_of e ∙ sym (take_map i es)
 
 -- the key that is found passes
 pub key_passes : (test : MetaKey → Bool) (es : Entries) (k : MetaKey) → lookup_key test es ≡ Some k → test k ≡ true

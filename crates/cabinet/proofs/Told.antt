@@ -1,5 +1,5 @@
 -- What is told of a list from another order of it.
-use Rattle.std.proofs.Common.{ℕ, ◌≡◌, ◌+◌, ◌≤◌, Bool, true, false, cond, not, List, [], ◌∷◌, length, map, filter, fold, Option, Some, None, find, refl, sym, ap, subst, ◌∙◌, arith}
+use Rattle.std.proofs.Common.{ℕ, ◌≡◌, ◌+◌, ◌≤◌, false, not, List, [], ◌∷◌, length, map, fold, Option, Some, None, find, refl, sym, ap, subst, ◌∙◌, arith}
 use Rattle.std.specs.Prelude.{IsSome}
 use Rattle.std.specs.List.{AllByRecursion}
 use Rattle.std.specs.List.Sorted.{IsPermutation}
@@ -7,8 +7,7 @@ use Rattle.std.specs.Option.{option_map}
 use Rattle.std.proofs.lemmas.List.{length-map, nil_from_length}
 use Rattle.std.proofs.lemmas.List.Elements.{All-from_recursion, recursion_from_All}
 use Rattle.std.proofs.lemmas.List.Filters.{length-filter_both}
-use Rattle.std.proofs.lemmas.List.Sorted.{All-permutation, IsPermutation-map, IsPermutation-sym, length_permutation, sum_by-IsPermutation}
-use Rattle.std.proofs.lemmas.List.Sums.{length-filter}
+use Rattle.std.proofs.lemmas.List.Sorted.{All-permutation, IsPermutation-sym, length_permutation}
 use Rattle.metatile_plan.specs.declared.metatile.MetaKey.{MetaKey}
 use Rattle.metatile_locks.proofs.Lists.{none_passes}
 use Rattle.cabinet.specs.declared.kept.Blob.{Blob}
@@ -46,22 +45,6 @@ others_of_some m blobs a some = chosen (held_at blobs m) refl some
     chosen None e h = absurd (cc)
     chosen (Some x) e h = others_of_one m x blobs a e
 
-filter_held : (p : MetaKey → Bool) (es : List (MetaKey × Blob)) → length (filter p (map (λ e. e.0) es)) ≡ length (filter (λ b. p b.kept.meta) (held_of es))
-filter_held p [] = refl
-filter_held p (e ∷ es) = chosen (p e.0) (filter_held p es)
-  where
-    chosen : (v : Bool) → length (filter p (map (λ e. e.0) es)) ≡ length (filter (λ b. p b.kept.meta) (held_of es))
-        → length (cond v (e.0 ∷ filter p (map (λ e. e.0) es)) (filter p (map (λ e. e.0) es))) ≡ length (cond v (as_kept e ∷ filter (λ b. p b.kept.meta) (held_of es)) (filter (λ b. p b.kept.meta) (held_of es)))
-    chosen true ih = omega arith
-    chosen false ih = ih
-
-pub told_in : (p : MetaKey → Bool) (es : List (MetaKey × Blob)) (blobs : List KeptBlob) → IsOrderOf blobs (held_of es) → length (filter p (map (λ e. e.0) es)) ≡ length (filter (λ b. p b.kept.meta) blobs)
-told_in p es blobs o =
-    filter_held p es
-    ∙ length-filter (λ (b : KeptBlob). p b.kept.meta) (held_of es)
-    ∙ sum_by-IsPermutation (λ (b : KeptBlob). cond (p b.kept.meta) 1 0) blobs (held_of es) (permuted blobs (held_of es) o)
-    ∙ sym (length-filter (λ (b : KeptBlob). p b.kept.meta) blobs)
-
 -- ONE METATILE
 
 pub told_kept : (blobs held : List KeptBlob) (t : Kept) (b : KeptBlob) → IsOrderOf blobs held → t ≡ b.kept → held_at held b.kept.meta ≡ Some b → find (is_of t.meta) (map (λ b. b.kept) blobs) ≡ Some t
@@ -95,7 +78,7 @@ some_least : (was : Option ℕ) (n : ℕ) (ns : List ℕ) → fold lesser was (n
 some_least None n ns e = let m = least_most ns (Some n) n refl in let f : ◌≡◌ {A = Option ℕ} None (Some m.0) = sym e ∙ m.1 in cc
 some_least (Some w) n ns e = let m = least_most (n ∷ ns) (Some w) w refl in let f : ◌≡◌ {A = Option ℕ} None (Some m.0) = sym e ∙ m.1 in cc
 
-least_same : (was : Option ℕ) (xs ys : List ℕ) → IsPermutation xs ys → fold lesser was xs ≡ fold lesser was ys
+pub least_same : (was : Option ℕ) (xs ys : List ℕ) → IsPermutation xs ys → fold lesser was xs ≡ fold lesser was ys
 least_same was [] ys p = sym (ap (fold lesser was) (nil_from_length ys (length_permutation [] ys p)))
 least_same was (x ∷ xs) [] p = absurd (let e = length_permutation (x ∷ xs) [] p in omega arith)
 least_same was (x ∷ xs) (y ∷ ys) p = chosen (fold lesser was (x ∷ xs)) refl (fold lesser was (y ∷ ys)) refl
@@ -108,7 +91,3 @@ least_same was (x ∷ xs) (y ∷ ys) p = chosen (fold lesser was (x ∷ xs)) ref
         let ge = no_more was (y ∷ ys) (x ∷ xs) b a (IsPermutation-sym (x ∷ xs) (y ∷ ys) p) eb ea in
         let same : a ≡ b = omega arith in
         ea ∙ ap Some same ∙ sym eb
-
-pub told_least : (was : Option ℕ) (blobs held : List KeptBlob) → IsOrderOf blobs held → fold lesser was (map (λ b. b.kept.number) held) ≡ fold lesser was (map (λ b. b.kept.number) blobs)
-told_least was blobs held o =
-    sym (least_same was (map (λ b. b.kept.number) blobs) (map (λ b. b.kept.number) held) (IsPermutation-map (λ (b : KeptBlob). b.kept.number) blobs held (permuted blobs held o)))

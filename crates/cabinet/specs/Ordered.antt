@@ -1,5 +1,7 @@
 -- What is kept, as the entries of a map hold it and in the order in which it was kept.
 use Rattle.std.specs.Prelude.{ℕ, ◌≡◌, not, List, [], ◌∷◌, ◌++◌, map, filter, filter_map, find, fold, Option}
+use Rattle.std.specs.Option.{option_map}
+use Rattle.kept_areas.specs.Areas.{Areas, number_at}
 use Rattle.metatile_plan.specs.declared.metatile.MetaKey.{MetaKey}
 use Rattle.metatile_plan.specs.Keys.{same_meta}
 use Rattle.cabinet.specs.declared.kept.Blob.{Blob}
@@ -31,6 +33,15 @@ pub record IsOrderOf (blobs held : List KeptBlob) : Type 0 where
   pub once : ApartBy (λ b. b.kept.meta) blobs
   pub held_once : ApartBy (λ b. b.kept.meta) held
   pub same : (m : MetaKey) → held_at blobs m ≡ held_at held m
+
+-- the areas have the number of what is held of each metatile, and of no other
+abbrev pub IsIndexed : Areas → List KeptBlob → Type 0
+IsIndexed areas held = (m : MetaKey) → number_at areas m ≡ option_map (λ b. b.kept.number) (held_at held m)
+
+-- what is kept stands in two orders, and its keys by area
+pub record IsStored (blobs held : List KeptBlob) (areas : Areas) : Type 0 where
+  pub order : IsOrderOf blobs held
+  pub indexed : IsIndexed areas held
 
 -- where it is of this metatile, with other uses
 abbrev pub recounted : MetaKey → ℕ → KeptBlob → KeptBlob

@@ -9,6 +9,7 @@ use Rattle.expiry_policy.specs.declared.uses.Use.{Use}
 use Rattle.expiry_policy.specs.Victims.{Counts, IsUnsaved, IsVictim, one_more, use_of}
 use Rattle.expiry_policy.specs.Victims as victims
 use Rattle.extent_map.specs.Spaces.{Space, IsSound}
+use Rattle.kept_areas.specs.declared.spot.Spot.{Spot}
 use Rattle.matrix_geometry.specs.declared.address.Address.{Address}
 use Rattle.metatile_locks.specs.Tickets.{Ticketed}
 use Rattle.metatile_plan.specs.declared.metatile.MetaKey.{MetaKey}
@@ -31,10 +32,12 @@ use Rattle.cabinet.specs.Hits.{hits_of}
 use Rattle.cabinet.specs.Counted.{part_of}
 use Rattle.cabinet.specs.State.{IsLong, blobs_counted, blobs_spared, blobs_with, blobs_without}
 
--- what is kept, in the order in which it was kept and in an order of which nothing is said, and how many more there is room for
+-- what is kept, in the order in which it was kept and in an order of which nothing is said, its keys by chunks, in which those that a cover
+-- hits are looked for, and how many more there is room for
 pub record Stored : Type 0 where
   pub blobs : List KeptBlob
   pub held : List KeptBlob
+  pub chunks : List (List Spot)
   pub spare : ℕ
 
 -- the catalogue, what is kept with its blobs, the uses of each layer, in an order of which nothing is said, the count of entries

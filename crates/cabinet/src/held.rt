@@ -1,6 +1,6 @@
 //! The entries of a map of what is kept, a metatile each. A metatile is found by its hash, and taken out by putting the last
 //! entry in its place.
-ghost use Rattle.std.specs.Prelude.{None, Some, filter, fold, if◌then◌else◌, length, map, option_copied, slice_get, take, ◌+◌, ◌<◌, ◌==◌, ◌≡◌, ◌≤◌};
+ghost use Rattle.std.specs.Prelude.{None, Some, if◌then◌else◌, is_some, length, option_copied, slice_get, ◌+◌, ◌<◌, ◌≡◌, ◌≤◌};
 ghost use Rattle.std.specs.Option.{option_map};
 ghost use Rattle.indexmap.specs.IndexMap.{spare};
 ghost use Rattle.metatile_plan.specs.declared.metatile.MetaKey.{MetaKey};
@@ -8,7 +8,6 @@ ghost use Rattle.metatile_plan.specs.Keys.{same_meta};
 ghost use Rattle.cabinet.specs.declared.kept.KeptBlob.{KeptBlob};
 ghost use Rattle.cabinet.specs.Fresh.{ApartBy};
 ghost use Rattle.cabinet.specs.Ordered.{as_kept, held_at, held_of, recounted};
-ghost use Rattle.cabinet.specs.History.{lesser};
 
 use crate::kept::{Blob, Kept};
 use crate::text::Text;
@@ -48,9 +47,10 @@ pub fn kept_at(held: &Held, at: usize) -> Kept
     kept_in(meta, blob)
 }
 
-/// Holds a render in the place of its metatile's older one, if there is one. It takes no memory.
-pub fn put(held: &mut Held, kept: Kept, text: Text)
+/// Holds a render in the place of its metatile's older one, and tells whether there was one. It takes no memory.
+pub fn put(held: &mut Held, kept: Kept, text: Text) -> bool
     requires { 0 < spare held.old }
+    ensures older { result ≡ is_some (held_at (held_of held.old.entries) kept.meta) }
     ensures once { ApartBy (λ b. b.kept.meta) (held_of held.new.entries) }
     ensures held { (m : MetaKey) → held_at (held_of held.new.entries) m ≡ (if same_meta m kept.meta then Some (record { kept = kept; text = text }) else held_at (held_of held.old.entries) m) }
     ensures spare { spare held.old ≤ spare held.new + 1 }
@@ -63,7 +63,8 @@ pub fn put(held: &mut Held, kept: Kept, text: Text)
         uses: kept.uses,
         text,
     };
-    let _older = held.insert(kept.meta, blob).unwrap();
+    let older = held.insert(kept.meta, blob).unwrap();
+    older.is_some()
 }
 
 /// Takes what is held of a metatile out.
@@ -73,19 +74,6 @@ pub fn drop_of(held: &mut Held, meta: &MetaKey)
     ensures spare { spare held.old ≤ spare held.new }
 {
     let _dropped = held.swap_remove(meta);
-}
-
-/// Takes the metatile at an index out, and puts the last one in its place.
-pub fn drop_at(held: &mut Held, at: usize)
-    requires { at < length held.old.entries }
-    ensures once { ApartBy (λ b. b.kept.meta) (held_of held.new.entries) }
-    ensures held { (b : KeptBlob) × (slice_get (held_of held.old.entries) at ≡ Some b) × ((m : MetaKey) → held_at (held_of held.new.entries) m ≡ (if same_meta m b.kept.meta then None else held_at (held_of held.old.entries) m)) }
-    ensures before { take at held.new.entries ≡ take at held.old.entries }
-    ensures size { length held.new.entries + 1 ≡ length held.old.entries }
-    ensures spare { spare held.old ≤ spare held.new }
-{
-    let _count = held.len();
-    let _dropped = held.swap_remove_index(at).unwrap();
 }
 
 /// Sets the uses of a metatile, where it is held. It takes no memory.
@@ -99,36 +87,4 @@ pub fn recount(held: &mut Held, meta: &MetaKey, uses: u64)
         None => {}
         Some((at, _, _)) => held[at].uses = uses,
     }
-}
-
-/// How many of a layer are held. All that is held is gone through for it.
-pub fn count_in(held: &Held, layer: u32) -> usize
-    ensures { result ≡ length (filter (λ m. m.theme.layer == layer) (map (λ e. e.0) held.now.entries)) }
-{
-    held.keys().filter(|meta| meta.theme.layer == layer).count()
-}
-
-fn lesser(was: Option<u64>, number: u64) -> Option<u64>
-    ensures { result ≡ lesser was number }
-{
-    match was {
-        None => Some(number),
-        Some(least) => {
-            if number < least {
-                return Some(number);
-            }
-            Some(least)
-        }
-    }
-}
-
-/// The least of the held numbers and of one that was found before. All that is held is gone through for it.
-pub fn least_with(was: Option<u64>, held: &Held) -> Option<u64>
-    ensures { result ≡ fold lesser was (map (λ b. b.kept.number) (held_of held.now.entries)) }
-{
-    let mut least = was;
-    'comparing: for at in 0..held.len() {
-        least = lesser(least, kept_at(held, at).number);
-    }
-    least
 }

@@ -9,15 +9,14 @@ ghost use Rattle.served_covers.specs.OfCatalogue.{IsCoverOf};
 
 use catalog::catalogue::Catalogue;
 use catalog::grid::Grid;
-use metatile_locks::hitting::hits_in;
 use metatile_locks::locks::Locks;
-use metatile_plan::metatile::{Factors, MetaKey};
+use metatile_plan::metatile::Factors;
 use raster_field::layout;
 use truncation_list::cover::Cover;
 
 /// The grid of a cover.
 #[tactic(auto, using(catalog::proofs::Found::some_told, catalog::proofs::Found::some_before))]
-fn grid_of<'a>(catalogue: &'a Catalogue, cover: &Cover) -> &'a Grid
+pub fn grid_of<'a>(catalogue: &'a Catalogue, cover: &Cover) -> &'a Grid
     requires valid { IsValid catalogue.now }
     requires cover { IsCoverOf catalogue.now cover.now }
     ensures grid { slice_get catalogue.now.grids cover.now.grid ≡ Some result.now }
@@ -28,7 +27,7 @@ fn grid_of<'a>(catalogue: &'a Catalogue, cover: &Cover) -> &'a Grid
 
 /// How the metatiles of a cover's layer are gathered.
 #[tactic(auto, using(catalog::proofs::Found::some_told))]
-fn factors_of(catalogue: &Catalogue, cover: &Cover, grid: &Grid) -> Factors
+pub fn factors_of(catalogue: &Catalogue, cover: &Cover, grid: &Grid) -> Factors
     requires valid { IsValid catalogue.now }
     requires cover { IsCoverOf catalogue.now cover.now }
     requires grid { slice_get catalogue.now.grids cover.now.grid ≡ Some grid.now }
@@ -36,17 +35,6 @@ fn factors_of(catalogue: &Catalogue, cover: &Cover, grid: &Grid) -> Factors
     ensures hits { (m : MetaKey) → hits_in result grid.now cover.now m ≡ hits_of catalogue.now cover.now m }
 {
     layout::factors_of(catalogue.layer(cover.layer))
-}
-
-/// Whether a cover is for some tile of a metatile.
-pub fn is_hit(catalogue: &Catalogue, cover: &Cover, meta: &MetaKey) -> bool
-    requires valid { IsValid catalogue.now }
-    requires cover { IsCoverOf catalogue.now cover.now }
-    ensures { result ≡ hits_of catalogue.now cover.now meta.now }
-{
-    let grid = grid_of(catalogue, cover);
-    let factors = factors_of(catalogue, cover, grid);
-    hits_in(&factors, grid, cover, meta)
 }
 
 /// Marks with a truncation's number each running render of which the cover is for a tile.

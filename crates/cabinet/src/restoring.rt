@@ -1,7 +1,8 @@
-//! What a cabinet is opened with is entered on its shelf, one after the other.
-ghost use Rattle.std.specs.Prelude.{IfOk, length, ◌≤◌};
+//! What a cabinet is opened with is entered on its shelf, one after the other, with room made for each in its turn. So an
+//! opening takes memory by what is kept of each layer, and not room for all that is kept in every layer.
+ghost use Rattle.std.specs.Prelude.{IfOk, OnOk, ◌≤◌};
 ghost use Rattle.catalog.specs.Valid.{IsValid};
-ghost use Rattle.cabinet.specs.Entered.{AreEntered, CanBeEntered};
+ghost use Rattle.cabinet.specs.Entered.{AreEntered, CanBeEntered, CanEnter, Enters};
 ghost use Rattle.cabinet.specs.Shelved.{IsBare};
 
 use crate::kept::Kept;
@@ -9,16 +10,32 @@ use crate::shelf::Shelf;
 use catalog::catalogue::Catalogue;
 use std::alloc::{AllocError, Global};
 
-/// Enters all of a list on a shelf on which nothing is kept. It takes no memory.
-fn restore(shelf: &mut Shelf, kept: &[Kept])
+/// Makes room for one metatile, and enters it. `AllocError` where memory runs out.
+fn enter_one(alloc: Global, shelf: &mut Shelf, kept: Kept) -> Result<(), AllocError>
+    requires { CanEnter shelf.old.catalogue shelf.old.blobs kept }
+    ensures { OnOk result (Enters kept shelf.old shelf.new) }
+{
+    match shelf.reserve(alloc, 1) {
+        Err(fault) => return Err(fault),
+        Ok(()) => {}
+    }
+    shelf.enter(kept);
+    Ok(())
+}
+
+/// Enters all of a list on a shelf on which nothing is kept. `AllocError` where memory runs out.
+fn restore(alloc: Global, shelf: &mut Shelf, kept: &[Kept]) -> Result<(), AllocError>
     requires bare { IsBare shelf.old.catalogue shelf.old }
     requires fit { CanBeEntered shelf.old.catalogue kept.now }
-    requires room { length kept.now ≤ shelf.old.room }
-    ensures { AreEntered shelf.old.catalogue kept.now shelf.new }
+    ensures { OnOk result (AreEntered shelf.old.catalogue kept.now shelf.new) }
 {
     'restoring: for at in 0..kept.len() {
-        shelf.enter(kept[at]);
+        match enter_one(alloc, shelf, kept[at]) {
+            Err(fault) => return Err(fault),
+            Ok(()) => {}
+        }
     }
+    Ok(())
 }
 
 impl Shelf {
@@ -29,11 +46,10 @@ impl Shelf {
         ensures { IfOk result (λ shelf. AreEntered catalogue kept.now shelf) }
     {
         let mut shelf = Shelf::new(alloc, catalogue)?;
-        match shelf.reserve(alloc, kept.len() as u32) {
+        match restore(alloc, &mut shelf, kept) {
             Err(fault) => return Err(fault),
             Ok(()) => {}
         }
-        restore(&mut shelf, kept);
         Ok(shelf)
     }
 }

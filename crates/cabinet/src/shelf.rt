@@ -166,7 +166,7 @@ impl Shelf {
         self.store.put(kept, Text::away(kept.length));
     }
 
-    /// Drops each metatile of which the cover is for a tile. It takes no memory, and tests each once.
+    /// Drops each metatile of which the cover is for a tile. It takes no memory.
     pub fn drop_hit(&mut self, cover: &Cover)
         requires { IsCoverOf self.old.catalogue cover.now }
         ensures sifted { Sifts cover.now self.old self.new }
@@ -248,7 +248,7 @@ impl Shelf {
         list.sort();
     }
 
-    /// The least of the kept numbers and of one that was found before. All that is kept is gone through for it.
+    /// The least of the kept numbers and of one that was found before.
     pub fn least_with(&self, was: Option<u64>) -> Option<u64>
         ensures { result ≡ fold lesser was (map (λ b. b.kept.number) self.now.blobs) }
     {
@@ -270,11 +270,11 @@ impl Shelf {
         self.tally.ledger.used_all()
     }
 
-    /// How many metatiles of a layer are kept. All that is kept is gone through for it.
+    /// How many metatiles of a layer are kept: as many as have uses.
     pub fn kept_in(&self, layer: u32) -> u32
         ensures { result ≡ length (filter (λ b. b.kept.meta.theme.layer == layer) self.now.blobs) }
     {
-        self.store.count_in(layer) as u32
+        self.tally.uses.count_in(layer) as u32
     }
 
     /// How many metatiles are kept.

@@ -1,4 +1,5 @@
-//! What a shelf reads.
+//! What a shelf reads and finds.
+use crate::kept::Kept;
 use shared_text::shared::SharedText;
 
 /// What is read of a kept metatile.
@@ -10,4 +11,12 @@ pub struct Found {
     pub moment: u64,
     /// The tile's part of its blob.
     pub text: SharedText,
+}
+
+/// A kept metatile that a cover hits.
+#[derive(Clone, Copy, PartialEq, Eq)]
+pub struct KeptHit {
+    /// The chunk of keys in which it was found, from which the next one is looked for.
+    pub at: usize,
+    pub kept: Kept,
 }

@@ -1,4 +1,4 @@
-//! One pass over what is kept at a truncation: what the cover hits is forgotten and dropped.
+//! What a truncation hits of what is kept is forgotten and dropped, one after the other as it is found by area.
 ghost use Rattle.std.specs.Prelude.{filter, not, ◌≡◌, ◌≤◌};
 ghost use Rattle.catalog.specs.Valid.{IsValid};
 ghost use Rattle.served_covers.specs.OfCatalogue.{IsCoverOf};
@@ -6,14 +6,13 @@ ghost use Rattle.cabinet.specs.Hits.{hits_of};
 ghost use Rattle.cabinet.specs.Shelved.{IsShelved, LeavesUses, with_spared};
 ghost use Rattle.expiry_policy.specs.Victims.{use_of};
 
-use crate::hitting::is_hit;
 use crate::store::Store;
 use crate::tally::Tally;
 use catalog::catalogue::Catalogue;
 use truncation_list::cover::Cover;
 
-/// Drops each kept metatile of which the cover is for a tile. Each is tested once: the last one that is held goes to the place
-/// of one that is dropped, and is tested there.
+/// Drops each kept metatile of which the cover is for a tile. Each is dropped before the next one is looked for, from the chunk on in
+/// which it was found.
 pub fn sift(store: &mut Store, tally: &mut Tally, catalogue: &Catalogue, cover: &Cover)
     requires cover { IsCoverOf catalogue.now cover.now }
     requires shelved { IsShelved catalogue.now store.old.blobs tally.old.extents tally.old.ledger tally.old.uses }
@@ -24,14 +23,15 @@ pub fn sift(store: &mut Store, tally: &mut Tally, catalogue: &Catalogue, cover: 
     ensures regions { tally.old.extents.spare ≤ tally.new.extents.spare }
     ensures keys { tally.old.uses.spare ≤ tally.new.uses.spare }
 {
-    let mut index = 0;
-    'sifting: for tested in 0..store.count() {
-        let kept = store.kept_at(index);
-        if is_hit(catalogue, cover, &kept.meta) {
-            tally.forget(kept);
-            store.drop_at(index);
-        } else {
-            index += 1;
+    let mut from = 0;
+    'sifting: loop {
+        match store.hit_from(catalogue, cover, from) {
+            None => return,
+            Some(hit) => {
+                tally.forget(hit.kept);
+                store.drop_of(&hit.kept.meta);
+                from = hit.at;
+            }
         }
     }
 }

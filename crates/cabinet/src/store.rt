@@ -1,6 +1,7 @@
-//! The kept metatiles with their blobs, in a map by metatile. The blobs lie in memory, beside the entries, or elsewhere.
+//! The kept metatiles with their blobs, in a map by metatile, and their keys by area. The blobs lie in memory, beside the entries, or
+//! elsewhere.
 //! Contracts see what is kept in the order in which it was kept, though the map's order is another.
-ghost use Rattle.std.specs.Prelude.{[], IfOk, OnOk, Some, filter, find, fold, length, map, not, option_copied, slice_get, take, ◌+◌, ◌++◌, ◌<◌, ◌==◌, ◌^◌, ◌≡◌, ◌≤◌, ◌∷◌};
+ghost use Rattle.std.specs.Prelude.{[], Bool, IfNone, IfOk, IfSome, None, OnOk, Some, false, filter, find, fold, if◌then◌else◌, length, map, not, option_copied, slice_get, true, ℕ, ◌+◌, ◌++◌, ◌<◌, ◌^◌, ◌≡◌, ◌≤◌, ◌∷◌};
 ghost use Rattle.std.specs.List.{AllByRecursion};
 ghost use Rattle.std.specs.Option.{option_map};
 ghost use Rattle.catalog.specs.LookUp.{IsTile};
@@ -8,41 +9,64 @@ ghost use Rattle.catalog.specs.Valid.{IsValid};
 ghost use Rattle.cabinet.specs.declared.kept.KeptBlob.{KeptBlob};
 ghost use Rattle.cabinet.specs.Fresh.{ApartBy};
 ghost use Rattle.cabinet.specs.History.{is_of, lesser, with_uses};
+ghost use Rattle.cabinet.specs.Hits.{hits_of};
+ghost use Rattle.kept_areas.specs.Areas.{IsClear, number_at};
+ghost use Rattle.metatile_plan.specs.declared.metatile.MetaKey.{MetaKey};
+ghost use Rattle.metatile_plan.specs.Keys.{same_meta};
+ghost use Rattle.served_covers.specs.OfCatalogue.{IsCoverOf};
 
-use crate::held::{
-    Held, blob_of, count_in, drop_at, drop_of, kept_at, kept_in, least_with, put, recount,
-};
+use crate::held::{Held, blob_of, drop_of, kept_at, kept_in, put, recount};
+use crate::hitting::{factors_of, grid_of};
 use crate::kept::{Blob, Kept};
-use crate::shelving::Found;
+use crate::shelving::{Found, KeptHit};
 use crate::text::Text;
 use catalog::catalogue::Catalogue;
 use indexmap::IndexMap;
+use kept_areas::areas::KeptAreas;
 use matrix_geometry::address::Address;
 use metatile_plan::metatile::MetaKey;
 use raster_field::layout::block_of;
 use std::alloc::{AllocError, Global};
 use std::marker::Model;
 use trace::Trace;
+use truncation_list::cover::Cover;
 
 /// Keeps metatiles with their blobs. Contracts see both, in the order in which they were kept and in an order of which nothing
 /// is said, and for how many more there is room.
 #[derive(Drop)]
 pub struct Store {
     held: Held,
+    /// The metatiles with their numbers, in which those that a cover hits are found.
+    areas: KeptAreas,
     /// The metatiles in the order in which they were put, which contracts alone read.
     puts: Trace<MetaKey>,
 }
 
 impl Model for Store {
+    ghost use Rattle.std.specs.Prelude.{min};
     ghost use Rattle.indexmap.specs.IndexMap.{spare as places};
-    ghost use Rattle.cabinet.specs.Ordered.{IsOrderOf, held_of, in_order, order_of};
+    ghost use Rattle.cabinet.specs.Ordered.{IsStored, held_of, in_order, order_of};
     ghost use Rattle.cabinet.specs.Shelved.{Stored};
 
     ghost Value = { Stored };
 
-    ghost view = { λ s. record { blobs = in_order (order_of s.puts.entries) (held_of s.held.entries); held = held_of s.held.entries; spare = places s.held } };
+    ghost view = { λ s. record { blobs = in_order (order_of s.puts.entries) (held_of s.held.entries); held = held_of s.held.entries; chunks = s.areas.chunks; spare = min (places s.held) s.areas.spare } };
 
-    ghost invariant = { λ s. IsOrderOf (in_order (order_of s.puts.entries) (held_of s.held.entries)) (held_of s.held.entries) };
+    ghost invariant = { λ s. IsStored (in_order (order_of s.puts.entries) (held_of s.held.entries)) (held_of s.held.entries) s.areas };
+}
+
+/// Gives what is kept of a metatile its number among the keys by area, in the place of the older one where something was held of it.
+fn note(areas: &mut KeptAreas, kept: &Kept, was_held: bool)
+    requires room { 1 ≤ areas.old.spare }
+    requires fresh { was_held ≡ false → number_at areas.old kept.now.meta ≡ None }
+    ensures numbers { (m : MetaKey) → number_at areas.new m ≡ (if same_meta m kept.now.meta then Some kept.now.number else number_at areas.old m) }
+    ensures spare { areas.old.spare ≤ areas.new.spare + 1 }
+{
+    if was_held {
+        areas.put(&kept.meta, kept.number);
+        return;
+    }
+    areas.enter(&kept.meta, kept.number);
 }
 
 impl Store {
@@ -57,6 +81,7 @@ impl Store {
     {
         Store {
             held: IndexMap::new(alloc),
+            areas: KeptAreas::new(alloc),
             puts: Trace::new(),
         }
     }
@@ -67,7 +92,11 @@ impl Store {
         ensures no_less { self.old.spare ≤ self.new.spare }
         ensures spare { OnOk result (metatiles ≤ self.new.spare) }
     {
-        self.held.reserve(metatiles)
+        match self.held.reserve(metatiles) {
+            Err(fault) => return Err(fault),
+            Ok(()) => {}
+        }
+        self.areas.reserve(metatiles)
     }
 
     /// How many are kept.
@@ -145,18 +174,11 @@ impl Store {
         }
     }
 
-    /// How many of a layer are kept. All that is kept is gone through for it.
-    pub fn count_in(&self, layer: u32) -> usize
-        ensures { result ≡ length (filter (λ b. b.kept.meta.theme.layer == layer) self.now.blobs) }
-    {
-        count_in(&self.held, layer)
-    }
-
-    /// The least of the kept numbers and of one that was found before. All that is kept is gone through for it.
+    /// The least of the kept numbers and of one that was found before.
     pub fn least_with(&self, was: Option<u64>) -> Option<u64>
         ensures { result ≡ fold lesser was (map (λ b. b.kept.number) self.now.blobs) }
     {
-        least_with(was, &self.held)
+        self.areas.least_with(was)
     }
 
     /// Keeps a metatile in the place of its older render, if there is one. It takes no memory.
@@ -165,7 +187,8 @@ impl Store {
         ensures blobs { self.new.blobs ≡ filter (λ b. not (is_of kept.meta b.kept)) self.old.blobs ++ record { kept = kept; text = text } ∷ [] }
         ensures spare { self.old.spare ≤ self.new.spare + 1 }
     {
-        put(&mut self.held, kept, text);
+        let was_held = put(&mut self.held, kept, text);
+        note(&mut self.areas, &kept, was_held);
         self.puts = self.puts.and(&kept.meta);
     }
 
@@ -178,23 +201,35 @@ impl Store {
         recount(&mut self.held, meta, uses);
     }
 
-    /// Drops what is kept of a metatile.
+    /// Drops what is kept of a metatile. Where no key of the first so many chunks is hit, so it is afterwards.
     pub fn drop_of(&mut self, meta: &MetaKey)
         ensures blobs { self.new.blobs ≡ filter (λ b. not (is_of meta.now b.kept)) self.old.blobs }
+        ensures clear { (is_hit : MetaKey → Bool) (count : ℕ) → IsClear is_hit count self.old.chunks → IsClear is_hit count self.new.chunks }
         ensures spare { self.old.spare ≤ self.new.spare }
     {
         drop_of(&mut self.held, meta);
+        self.areas.leave(meta);
     }
 
-    /// Drops the one that is held at an index, and puts the last one there.
-    pub fn drop_at(&mut self, index: usize)
-        requires { index < length self.old.held }
-        ensures blobs { (blob : KeptBlob) × (slice_get self.old.held index ≡ Some blob) × (self.new.blobs ≡ filter (λ b. not (is_of blob.kept.meta b.kept)) self.old.blobs) }
-        ensures order { IsPermutation self.new.blobs self.new.held }
-        ensures before { take index self.new.held ≡ take index self.old.held }
-        ensures count { length self.new.held + 1 ≡ length self.old.held }
-        ensures spare { self.old.spare ≤ self.new.spare }
+    /// A kept metatile that a cover hits, the first in the chunks of keys from one on. Where none is hit in the chunks before that one,
+    /// there is none in those before the chunk of the answer, and `None` exactly where none at all is hit.
+    pub fn hit_from(&self, catalogue: &Catalogue, cover: &Cover, from: usize) -> Option<KeptHit>
+        requires valid { IsValid catalogue.now }
+        requires cover { IsCoverOf catalogue.now cover.now }
+        ensures kept { IfSome result (λ hit. find (is_of hit.kept.meta) (map (λ b. b.kept) self.now.blobs) ≡ Some hit.kept) }
+        ensures hit { IfSome result (λ hit. hits_of catalogue.now cover.now hit.kept.meta ≡ true) }
+        ensures clear { IfSome result (λ hit. IsClear (hits_of catalogue.now cover.now) from self.now.chunks → IsClear (hits_of catalogue.now cover.now) hit.at self.now.chunks) }
+        ensures none { IfNone result (IsClear (hits_of catalogue.now cover.now) from self.now.chunks → AllByRecursion (λ b. hits_of catalogue.now cover.now b.kept.meta ≡ false) self.now.blobs) }
     {
-        drop_at(&mut self.held, index);
+        let grid = grid_of(catalogue, cover);
+        let factors = factors_of(catalogue, cover, grid);
+        let hit = match self.areas.hit_from(&factors, grid, cover, from) {
+            None => return None,
+            Some(hit) => hit,
+        };
+        let Some(kept) = self.kept_of(&hit.meta) else {
+            unreachable!()
+        };
+        Some(KeptHit { at: hit.at, kept })
     }
 }

@@ -1,11 +1,10 @@
 -- Why the tests of a replay decide whether a record may follow.
-use Rattle.std.proofs.Common.{ℕ, ◌≡◌, ◌≢◌, ◌+◌, ◌<◌, ◌≤◌, ◌==◌, zero, suc, drop, Bool, true, false, not, List, [], ◌∷◌, map, fold, find, filter, length, Option, Some, None, IsTrue, refl, sym, ap, subst, ◌∙◌, arith}
-use Rattle.std.specs.Prelude.{IsSome, IsSomeAnd, slice_get}
-use Rattle.std.specs.List.{All, AllByRecursion}
+use Rattle.std.proofs.Common.{ℕ, ◌≡◌, ◌≢◌, ◌<◌, ◌≤◌, ◌==◌, Bool, true, false, not, List, [], ◌∷◌, map, fold, find, filter, length, Option, Some, None, IsTrue, refl, sym, ap, subst, ◌∙◌, arith}
+use Rattle.std.specs.Prelude.{IsSome, IsSomeAnd, nat_le, ◌&&◌, ◌||◌}
+use Rattle.std.specs.List.{AllByRecursion}
 use Rattle.std.specs.Option.{option_map_or}
 use Rattle.std.proofs.lemmas.Bool.Decides.{nat_tests}
 use Rattle.std.proofs.lemmas.List.{length-map}
-use Rattle.std.proofs.lemmas.List.Elements.{All-head, All-tail}
 use Rattle.catalog.specs.declared.catalogue.Catalogue.{Catalogue}
 use Rattle.catalog.specs.LookUp.{matrix_in}
 use Rattle.matrix_geometry.specs.declared.matrix.Matrix.{Matrix}
@@ -17,7 +16,7 @@ use Rattle.truncation_list.specs.declared.block.Block.{Block}
 use Rattle.truncation_list.specs.declared.book.Cut.{Cut}
 use Rattle.truncation_list.specs.Books.{greatest_number}
 use Rattle.truncation_list.specs.Covers.{hits}
-use Rattle.truncation_list.specs.Purge.{IsByNumber}
+use Rattle.truncation_list.specs.Listed.{is_hit_since}
 use Rattle.cabinet.specs.declared.kept.Kept.{Kept}
 use Rattle.cabinet.specs.declared.kept.KeptBlob.{KeptBlob}
 use Rattle.cabinet.specs.Fresh.{ApartBy, IsNewer}
@@ -27,7 +26,7 @@ use Rattle.cabinet_records.specs.Placed.{ArePlaced, has_number}
 use Rattle.cabinet_records.specs.Played.{IsNewerThan}
 use Rattle.cabinet.specs.Shelved.{listed}
 use Rattle.cabinet.proofs.Holding.{least_has, least_most}
-use Rattle.cabinet.proofs.Lists.{all_got, all_of, all_of_map, map_filter}
+use Rattle.cabinet.proofs.Lists.{all_of_map, map_filter}
 use Rattle.cabinet.proofs.Once.{but_none}
 use Rattle.cabinet_records.proofs.Tied.{found_off, others_differ}
 
@@ -107,56 +106,29 @@ own_is places next number m t kept once p some e = (
 
 -- NEWER THAN EACH CUT THAT HITS
 
-pub all_at : {X : Type 0} (P : X → Type 0) (xs : List X) (i : ℕ) (x : X) → All P xs → slice_get xs i ≡ Some x → P x
-all_at P [] i x all e = absurd (cc)
-all_at P (y ∷ ys) zero x all e = let same : y ≡ x = cc in subst P same (All-head P y ys all)
-all_at P (y ∷ ys) (suc i) x all e = all_at P ys i x (All-tail P y ys all) e
-
 module _ (x : Matrix) (b : Block) (n : ℕ) where
   abbrev IsNewerIf : Cut → Type 0
   IsNewerIf k = IsTrue (hits k.cover x b) → k.number < n
 
-  all_lesser : (cut : Cut) (cuts : List Cut) (i : ℕ) (k : Cut) → All (λ other. cut.number < other.number) cuts → slice_get cuts i ≡ Some k → k.number < n → cut.number < n
-  all_lesser cut [] i k o e less = absurd (cc)
-  all_lesser cut (y ∷ ys) zero k o e less =
-      let same : y ≡ k = cc in
-      let rises : cut.number < y.number = All-head (λ other. cut.number < other.number) y ys o in
-      let under : y.number < n = subst (λ (c : Cut). c.number < n) (sym same) less in
-      omega arith
-  all_lesser cut (y ∷ ys) (suc i) k o e less = all_lesser cut ys i k (All-tail (λ other. cut.number < other.number) y ys o) e less
+  -- no cut of the number or a greater one hits the block
+  pub since_newer : (cuts : List Cut) → is_hit_since cuts x b n ≡ false → IsNewerThan cuts x b n
+  since_newer [] none = tt
+  since_newer (k ∷ cuts) none = chosen (nat_le n k.number) refl (hits k.cover x b) refl none (since_newer cuts)
+    where
+      chosen : (later : Bool) → nat_le n k.number ≡ later → (hit : Bool) → hits k.cover x b ≡ hit → ((later && hit) || is_hit_since cuts x b n) ≡ false
+          → (is_hit_since cuts x b n ≡ false → IsNewerThan cuts x b n) → IsNewerIf k × IsNewerThan cuts x b n
+      chosen true late true there none rest = absurd (cc)
+      chosen true late false off none rest = ((λ hit. absurd (cc)), rest none)
+      chosen false early hit there none rest = ((λ _. grind (arith, nat_tests)), rest none)
 
-  none_dropped : (i : ℕ) → AllByRecursion IsNewerIf (drop i [])
-  none_dropped zero = tt
-  none_dropped (suc i) = tt
-
-  -- the cuts before one of a lesser number are lesser, too
-  pub newer_below : (cuts : List Cut) (i j : ℕ) (k : Cut) → j ≡ i + 1 → IsByNumber cuts → slice_get cuts i ≡ Some k → k.number < n → AllByRecursion IsNewerIf (drop j cuts) → IsNewerThan cuts x b n
-  newer_below [] i j k f o e less rest = tt
-  newer_below (y ∷ ys) i zero k f o e less rest = absurd (omega arith)
-  newer_below (y ∷ ys) zero (suc j) k f o e less rest =
-      let same : y ≡ k = cc in
-      let none : j ≡ 0 = omega arith in
-      (λ _. subst (λ (c : Cut). c.number < n) (sym same) less, subst (λ (i : ℕ). AllByRecursion IsNewerIf (drop i ys)) none rest)
-  newer_below (y ∷ ys) (suc i) (suc j) k f o e less rest = (λ _. all_lesser y ys i k o.0 e less, newer_below ys i j k (omega arith) o.1 e less rest)
-
-  -- one that doesn't hit is passed over
-  pub newer_past : (cuts : List Cut) (i j : ℕ) (k : Cut) → j ≡ i + 1 → slice_get cuts i ≡ Some k → hits k.cover x b ≡ false → AllByRecursion IsNewerIf (drop j cuts) → AllByRecursion IsNewerIf (drop i cuts)
-  newer_past [] i j k f e off rest = none_dropped i
-  newer_past (y ∷ ys) i zero k f e off rest = absurd (omega arith)
-  newer_past (y ∷ ys) zero (suc j) k f e off rest =
-      let same : y ≡ k = cc in
-      let none : j ≡ 0 = omega arith in
-      let missed : hits y.cover x b ≡ false = subst (λ (c : Cut). hits c.cover x b ≡ false) (sym same) off in
-      (λ hit. absurd (cc), subst (λ (i : ℕ). AllByRecursion IsNewerIf (drop i ys)) none rest)
-  newer_past (y ∷ ys) (suc i) (suc j) k f e off rest = newer_past ys i j k (omega arith) e off rest
-
-  pub newer_not : (cuts : List Cut) (i : ℕ) (k : Cut) → slice_get cuts i ≡ Some k → IsTrue (hits k.cover x b) → n ≤ k.number → IsNewerThan cuts x b n → ⊥
-  newer_not cuts i k e hit over all = let under : k.number < n = all_got IsNewerIf cuts i k all e hit in absurd (omega arith)
-
-  pub none_past : (cuts : List Cut) (i : ℕ) → i ≡ length cuts → AllByRecursion IsNewerIf (drop i cuts)
-  none_past [] i l = none_dropped i
-  none_past (y ∷ ys) zero l = absurd (omega arith)
-  none_past (y ∷ ys) (suc i) l = none_past ys i (omega arith)
+  pub newer_since : (cuts : List Cut) → IsNewerThan cuts x b n → is_hit_since cuts x b n ≡ false
+  newer_since [] all = refl
+  newer_since (k ∷ cuts) all = chosen (nat_le n k.number) refl (hits k.cover x b) refl all.0 (newer_since cuts all.1)
+    where
+      chosen : (later : Bool) → nat_le n k.number ≡ later → (hit : Bool) → hits k.cover x b ≡ hit → IsNewerIf k → is_hit_since cuts x b n ≡ false → ((later && hit) || is_hit_since cuts x b n) ≡ false
+      chosen true late true there newer rest = let under : k.number < n = newer there in absurd (grind (arith, nat_tests))
+      chosen true late false off newer rest = rest
+      chosen false early hit there newer rest = rest
 
 pub newer_is : (c : Catalogue) (cuts : List Cut) (n : ℕ) (m : MetaKey) (x : Matrix) → matrix_in c m.grid m.z ≡ Some x
     → (IsNewerThan cuts x (block (factors_at c m.theme) x m) n → IsNewer c cuts n m) × (IsNewer c cuts n m → IsNewerThan cuts x (block (factors_at c m.theme) x m) n)

@@ -16,6 +16,7 @@ use Rattle.std.specs.List.Sorted.{IsPermutation}
 use Rattle.std.proofs.lemmas.List.Sorted.{IsPermutation-sym}
 use Rattle.cabinet.specs.declared.kept.Kept.{Kept}
 use Rattle.cabinet.specs.State.{IsKnown, State, now}
+use Rattle.cabinet.specs.Writing.{IsInWritingOrder}
 use Rattle.cabinet_records.proofs.RecordedOrders.{permuted_all}
 use Rattle.cabinet_records.proofs.RecordedStanding.{stands_in}
 use Rattle.raster_field.specs.Blocks.{IsMeta}
@@ -70,10 +71,11 @@ module _ (s : State) (kept : List Kept) (cuts : List Cut) (e floor : ℕ) (body 
       with_all ∙ (ap (λ (l : List (List ℕ)). l ++ map spelling (map stored_record kept)) (with_cuts ∙ ap (λ (l : List (List ℕ)). l ++ map spelling (map cut_record cuts)) first_is)
       ∙ ap (λ (l : List (List ℕ)). spelling (record_of.Opened e floor) ∷ l) (sym (map-append spelling (map cut_record cuts) (map stored_record kept))))
 
-  pub compaction_is : IsPermutation kept (now s).kept → Fits (record_of.Opened e floor) → AllByRecursion Fits (map cut_record cuts) → AllByRecursion Fits (map stored_record kept) → IsCompactionOf s all
-  compaction_is order opened listed stored = record {
+  pub compaction_is : IsPermutation kept (now s).kept → IsInWritingOrder s kept → Fits (record_of.Opened e floor) → AllByRecursion Fits (map cut_record cuts) → AllByRecursion Fits (map stored_record kept) → IsCompactionOf s all
+  compaction_is order by_use opened listed stored = record {
     kept = kept;
     order = order;
+    by_use = by_use;
     bodies_are = all_is ∙ ap (map spelling) is_written;
     fits = subst (AllByRecursion Fits) is_written (opened, all_both_lists Fits (map cut_record cuts) (map stored_record kept) listed stored);
   }

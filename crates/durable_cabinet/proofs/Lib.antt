@@ -11,6 +11,7 @@ pub mod Blobs
 pub mod Tying
 pub mod Calling
 pub mod Imaging
+pub mod Pictured
 pub mod Backed
 pub mod Fitting
 pub mod Moving

@@ -1,5 +1,5 @@
 -- A cabinet that is opened with what its records are restored to.
-use Rattle.std.proofs.Common.{ℕ, ◌≡◌, ◌+◌, ◌≤◌, Bool, IsTrue, List, [], ◌∷◌, length, Option, refl, sym, ap, subst, ◌∙◌, arith}
+use Rattle.std.proofs.Common.{ℕ, ◌≡◌, ◌⊎◌, ◌+◌, ◌≤◌, Bool, IsTrue, List, [], ◌∷◌, length, Option, Some, inl, inr, refl, sym, ap, subst, ◌∙◌, arith}
 use Rattle.std.specs.List.{AllByRecursion}
 use Rattle.std.specs.List.Sorted.{IsPermutation}
 use Rattle.std.specs.Option.{option_map_or}
@@ -7,7 +7,7 @@ use Rattle.cabinet.specs.declared.kept.Kept.{Kept}
 use Rattle.cabinet.specs.History.{Opening}
 use Rattle.cabinet.specs.Started.{opened_state}
 use Rattle.cabinet.specs.State.{State}
-use Rattle.cabinet_records.specs.Replay.{AreRecordsOf, Replayed, book_after, opening_after}
+use Rattle.cabinet_records.specs.Replay.{AreRecordsOf, Replayed, book_after, opening_after, opening_number}
 use Rattle.cache_file.specs.File.{HasBlobAt}
 use Rattle.catalog.specs.declared.catalogue.Catalogue.{Catalogue}
 use Rattle.clock.specs.Readings.{Readings}
@@ -76,10 +76,16 @@ module _ (told : Bool) (c : Catalogue) (clock : Readings) (number : ℕ) (disk :
   abbrev Like : Content → Type 0
   Like image = (x : Replayed) × OpensTo c disk.seen x × OpensLike c x disk.seen image × IsOurs c image
 
+  -- under the number of the records' last opening, or the next one
+  numbered : (x : Replayed) → (opening_number x + 1 ≡ o.number) ⊎ (x.opening ≡ Some o.number) → (opening_number x ≡ opening_number r) ⊎ (x.opening ≡ Some (opening_number r + 1))
+  numbered x (inl before) = let next = ap (λ (y : Opening). y.number) o_is in inl (omega (arith, before, next))
+  numbered x (inr own) = inr (own ∙ ap (λ (y : Opening). Some y.number) o_is)
+
   like : (image : Content) → OpensWith (opened_state c o clock) disk.seen image → OpensLike c r disk.seen image
   like image w = record {
     replayed = w.replayed;
     opens = w.opens;
+    opening = numbered w.replayed w.opening;
     kept = subst (IsPermutation w.replayed.kept) p.restored.kept_is w.kept;
     answers = subst (AnswersForBook (book_after w.replayed)) p.restored.book_is w.answers;
     has = subst (AllByRecursion (λ t. HasIn c image (blob_on c disk.seen t))) p.restored.kept_is w.has;

@@ -1,13 +1,14 @@
 -- A cabinet whose opening was written down is tied to its file, and each image opens to what it was opened with.
-use Rattle.std.proofs.Common.{ℕ, ◌≡◌, ◌+◌, ◌≤◌, Bool, IsTrue, List, [], ◌∷◌, length, map, Result, refl, sym, ap, subst, ◌∙◌, inl, inr}
+use Rattle.std.proofs.Common.{ℕ, ◌≡◌, ◌⊎◌, ◌+◌, ◌≤◌, Bool, IsTrue, List, [], ◌∷◌, length, map, Some, Result, refl, sym, ap, subst, ◌∙◌, inl, inr}
 use Rattle.std.specs.List.{AllByRecursion}
 use Rattle.std.specs.List.Sorted.{IsPermutation}
 use Rattle.std.proofs.lemmas.List.Sorted.{IsPermutation-refl}
 use Rattle.cabinet.specs.declared.kept.Kept.{Kept}
 use Rattle.cabinet.specs.History.{Opening as Begun, Standing, first}
 use Rattle.cabinet.specs.State.{IsKnown, State, now}
-use Rattle.cabinet_records.specs.Replay.{Replayed, book_after, opening_after}
+use Rattle.cabinet_records.specs.Replay.{Replayed, book_after, opening_after, opening_number, unplayed}
 use Rattle.cabinet_records.proofs.RecordedRestored.{records_restore}
+use Rattle.durable_cabinet.proofs.Once.{replays_once}
 use Rattle.cache_file.specs.File.{Anywhere, Brings, HasHeld, HoldsBlob, IsAmong, held, opens_to}
 use Rattle.cache_file.proofs.Sparing.{settled_sure}
 use Rattle.catalog.specs.declared.catalogue.Catalogue.{Catalogue}
@@ -82,12 +83,14 @@ module _ (told : Bool) (s : State) (start : ℕ) (j : Journal) (old : DiskState)
   has_blobs : (image : Content) → HasHeld start Anywhere old image → AllByRecursion (HasIn s.catalogue image) (map (blob_on s.catalogue old.seen) (now s).kept)
   has_blobs image has = has_all s.catalogue old Anywhere (now s).kept image (subst (λ (n : ℕ). HasHeld n Anywhere old image) b.start_is has) (anywhere (now s).kept) (b.holds is)
 
-  with_blobs : (image : Content) (r : Replayed) → HasHeld start Anywhere old image → OpensTo s.catalogue image r → IsPermutation r.kept (now s).kept → AnswersForBook (book_after r) (now s).book → OpensWith s old.seen image
-  with_blobs image r has to order answers =
+  with_blobs : (image : Content) (r : Replayed) → HasHeld start Anywhere old image → OpensTo s.catalogue image r → (opening_number r + 1 ≡ s.opening.number) ⊎ (r.opening ≡ Some s.opening.number) → IsPermutation r.kept (now s).kept → AnswersForBook (book_after r) (now s).book
+      → OpensWith s old.seen image
+  with_blobs image r has to number order answers =
       let stands = now_opened s b.since in
       record {
         replayed = r;
         opens = to;
+        opening = number;
         kept = subst (λ (x : Standing). IsPermutation r.kept x.kept) stands order;
         answers = subst (λ (x : Standing). AnswersForBook (book_after r) x.book) stands answers;
         has = subst (λ (x : Standing). AllByRecursion (λ t. HasIn s.catalogue image (blob_on s.catalogue old.seen t)) x.kept) stands (each_has s.catalogue old.seen image (now s).kept (has_blobs image has));
@@ -106,14 +109,15 @@ module _ (told : Bool) (s : State) (start : ℕ) (j : Journal) (old : DiskState)
         few_cuts = subst (λ (o : Begun). length o.book.cuts ≤ s.catalogue.cut_limit) b.opening known.possible.opens.few_cuts;
       } in
       let stood : first (opening_after b.replayed) ≡ now s = ap first (sym b.opening) ∙ sym (now_opened s b.since) in
-      with_blobs image b.replayed has to (subst (λ (x : Standing). IsPermutation b.replayed.kept x.kept) stood (IsPermutation-refl b.replayed.kept))
+      with_blobs image b.replayed has to (inl (sym (ap (λ (o : Begun). o.number) b.opening))) (subst (λ (x : Standing). IsPermutation b.replayed.kept x.kept) stood (IsPermutation-refl b.replayed.kept))
       (subst (λ (x : Standing). AnswersForBook (book_after b.replayed) x.book) stood (answers_itself (book_after b.replayed)))
 
   opens_after : (image : Content) (o : Opening) → HasHeld start Anywhere old image → IsRecordOf s o → opens_to j image ≡ o → OpensWith s old.seen image
   opens_after image o has w e =
       let r = records_restore s w.entries known w.recorded in
       let to : OpensTo s.catalogue image r.0 = record { version = w.version; bodies = w.bodies; entries = w.entries; opens = by_own image o e ∙ w.opens; are = w.are; replays = r.1; few_cuts = r.3 } in
-      with_blobs image r.0 has to r.2 r.4
+      let same : r.0 ≡ w.recorded.replayed = replays_once s.catalogue unplayed w.entries r.0 w.recorded.replayed r.1 w.recorded.replays in
+      with_blobs image r.0 has to (inr (ap (λ (x : Replayed). x.opening) same ∙ w.recorded.opening)) r.2 r.4
 
   pub images_with : {T E : Type 0} (result : Result T E) (j' : Journal) (new : DiskState) → Enters s result start j j' old new → Leaves old new (OpensWith s old.seen)
   images_with result j' new e = leaves_as old new (λ c. IsAmong j old e.written (opens_to j c) × HasHeld start Anywhere old c) (OpensWith s old.seen) e.brings.any_moment by_moment

@@ -1,5 +1,5 @@
 -- What contracts see of a cabinet on a disk, and how it is tied to its file.
-use Rattle.std.specs.Prelude.{ℕ, ◌≡◌, ◌≤◌, ◌+◌, ◌^◌, Bool, IsTrue, if◌then◌else◌, List, [], map, Option, Some, None, ⊤}
+use Rattle.std.specs.Prelude.{ℕ, ◌≡◌, ◌≤◌, ◌+◌, ◌^◌, ◌⊎◌, Bool, IsTrue, if◌then◌else◌, List, [], map, Option, Some, None, ⊤}
 use Rattle.std.specs.List.{AllByRecursion}
 use Rattle.cabinet.specs.declared.kept.Kept.{Kept}
 use Rattle.cabinet.specs.declared.kept.KeptBlob.{KeptBlob}
@@ -79,10 +79,12 @@ pub record IsFiled (s : State) (told : Bool) (start : ℕ) (j : Journal) (disk :
 abbrev pub opened_as : Bool → Content → Catalogue → Readings → Replayed → State
 opened_as told seen c clock r = record { catalogue = c; opening = opening_after r; history = whole (opening_after r) []; since = []; blobs = blobs_on told c seen r.kept; clock = clock }
 
--- an image opens to the same kept list as these records, and to a book that answers for theirs, and has the blobs of a content
+-- an image opens under the number of these records' last opening or the next one, to the same kept list as these records, and to a book that
+-- answers for theirs, and has the blobs of a content
 pub record OpensLike (c : Catalogue) (r : Replayed) (seen image : Content) : Type 0 where
   pub replayed : Replayed
   pub opens : OpensTo c image replayed
+  pub opening : (opening_number replayed ≡ opening_number r) ⊎ (replayed.opening ≡ Some (opening_number r + 1))
   pub kept : IsPermutation replayed.kept r.kept
   pub answers : AnswersForBook (book_after replayed) (book_after r)
   pub has : AllByRecursion (λ t. HasIn c image (blob_on c seen t)) r.kept

@@ -1,10 +1,10 @@
 -- What an opening comes to, step by step.
-use Rattle.std.specs.Prelude.{ℕ, ◌≡◌, ◌≤◌, Bool, IsTrue, List, [], length, Option, Result, Ok, Err}
+use Rattle.std.specs.Prelude.{ℕ, ◌≡◌, ◌≤◌, ◌+◌, ◌⊎◌, Bool, IsTrue, List, [], length, Option, Some, Result, Ok, Err}
 use Rattle.std.specs.List.{AllByRecursion}
 use Rattle.std.specs.List.Sorted.{IsPermutation}
 use Rattle.cabinet.specs.declared.kept.Kept.{Kept}
 use Rattle.cabinet.specs.State.{State, now}
-use Rattle.cabinet_records.specs.Replay.{AreRecordsOf, IsRestored, Replayed, Replays, book_after, opening_after, unplayed}
+use Rattle.cabinet_records.specs.Replay.{AreRecordsOf, IsRestored, Replayed, Replays, book_after, opening_after, opening_number, unplayed}
 use Rattle.cache_file.specs.declared.file.CacheFile.{CacheFile}
 use Rattle.cache_file.specs.File.{Brings}
 use Rattle.catalog.specs.declared.catalogue.Catalogue.{Catalogue}
@@ -60,11 +60,12 @@ pub record Enters {T E : Type 0} (s : State) (result : Result T E) (start : ℕ)
   pub brings : Brings result written start j j' old new
   pub recorded : IsRecordOf s written
 
--- an image opens to what a cabinet was opened with, and to a book that answers for its book, has the blobs of a content, and is the file
--- of a cabinet
+-- an image opens under the number of the opening of a cabinet or the one before, to what the cabinet was opened with, and to a book that answers
+-- for its book, has the blobs of a content, and is the file of a cabinet
 pub record OpensWith (s : State) (seen image : Content) : Type 0 where
   pub replayed : Replayed
   pub opens : OpensTo s.catalogue image replayed
+  pub opening : (opening_number replayed + 1 ≡ s.opening.number) ⊎ (replayed.opening ≡ Some s.opening.number)
   pub kept : IsPermutation replayed.kept s.opening.kept
   pub answers : AnswersForBook (book_after replayed) s.opening.book
   pub has : AllByRecursion (λ t. HasIn s.catalogue image (blob_on s.catalogue seen t)) s.opening.kept

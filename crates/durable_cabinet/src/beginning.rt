@@ -3,11 +3,13 @@ ghost use Rattle.std.specs.Prelude.{◌≡◌, ◌+◌, ◌<◌, ◌≤◌, ◌^
 ghost use Rattle.std.specs.Option.{option_map_or};
 ghost use Rattle.cabinet.specs.State.{now};
 ghost use Rattle.causes.specs.Causes.{HasCause};
-ghost use Rattle.gate_journal.specs.Sound.{IsAlike, IsSettled, room_of, version_of};
-ghost use Rattle.durable_cabinet.specs.Drafts.{HasRoom};
+ghost use Rattle.gate_journal.specs.Sound.{IsAlike, IsSettled, room_of, slots_of, version_of};
+ghost use Rattle.durable_cabinet.specs.Drafts.{HasRoom, most_left};
+ghost use Rattle.durable_cabinet.specs.Images.{slots_for};
 ghost use Rattle.durable_cabinet.specs.Openings.{Enters, IsBegun};
 
 use crate::draft::{Draft, opened_body};
+use crate::replaying::slots_for;
 use cabinet::cabinet_core::Core;
 use cache_file::file::CacheFile;
 use disk_model::disk::{Disk, Failed};
@@ -39,19 +41,39 @@ pub(crate) fn drafted(alloc: Global, core: &Core) -> Result<Draft, AllocError>
     Ok(draft)
 }
 
-/// Whether the records of a file are to be replaced before others are added: they are of version 1, or there is no room.
-fn is_to_move<D: Disk>(file: &CacheFile<D>) -> bool
+/// How many records beyond twice those of a compaction are left as they are.
+const LEFT: u64 = 1024;
+
+/// Whether a file has far more records than a compaction of a core would write. Each opening plays all of them, so they are replaced
+/// once, and from then on an opening takes as long as what is kept and in force.
+fn is_overgrown<D: Disk>(core: &Core, file: &CacheFile<D>) -> bool
+    requires { slots_of file.now.journal ≡ slots_for core.now.state.catalogue }
+    ensures { result ≡ false → slots_of file.now.journal ≤ room_of file.now.journal + most_left core.now.state }
+{
+    let records = slots_for(core.catalogue()).saturating_sub(file.room());
+    let compacted = 1 + u64::from(core.cuts().count()) + u64::from(core.kept());
+    records > 2 * compacted + LEFT
+}
+
+/// Whether the records of a file are to be replaced before others are added: they are of version 1, or there is no room, or they are far
+/// more than a compaction would write.
+fn is_to_move<D: Disk>(core: &Core, file: &CacheFile<D>) -> bool
+    requires { slots_of file.now.journal ≡ slots_for core.now.state.catalogue }
     ensures moves { result ≡ false → version_of file.now.journal ≡ 2 }
     ensures room { result ≡ false → 0 < room_of file.now.journal }
+    ensures few { result ≡ false → slots_of file.now.journal ≤ room_of file.now.journal + most_left core.now.state }
 {
     if file.version() != 2 {
         return true;
     }
-    file.room() == 0
+    if file.room() == 0 {
+        return true;
+    }
+    is_overgrown(core, file)
 }
 
-/// Makes an opening durable. Where its journal is of version 1 or has no room, what is opened is written anew, with the opening as its
-/// first record; else the record of the opening is added.
+/// Makes an opening durable. Where its journal is of version 1 or has no room, or has far more records than that takes, what is opened is
+/// written anew, with the opening as its first record; else the record of the opening is added.
 pub(crate) fn write_opening<D: Disk>(
     core: &Core,
     draft: &mut Draft,
@@ -69,7 +91,7 @@ pub(crate) fn write_opening<D: Disk>(
     ensures cause { HasCause (D.faults file.old.disk) (D.faults file.new.disk) result }
 {
     core.known();
-    if is_to_move(file) {
+    if is_to_move(core, file) {
         draft.fill(core);
         return file.replace(draft.bodies());
     }

@@ -1,4 +1,5 @@
-//! Whether a render is newer than each cut that hits its metatile. Cuts of lesser numbers aren't looked at.
+//! Whether a render is newer than each cut that hits its metatile. Only the cuts of its layer, grid and zoom are looked at, and of these none of a
+//! lesser number.
 ghost use Rattle.std.specs.Prelude.{true, ◌≡◌, ◌↔◌};
 ghost use Rattle.catalog.specs.Valid.{IsValid};
 ghost use Rattle.matrix_geometry.specs.Limits.{IsWithinLimits};
@@ -12,27 +13,14 @@ use metatile_plan::metatile::MetaKey;
 use metatile_plan::plan::tiles_of;
 use raster_field::layout::layout_of;
 use truncation_list::block::Block;
-use truncation_list::covering::hits;
 use truncation_list::list::CutList;
 
-/// Whether the number is above those of all cuts that hit a block. They are looked at from the last one down to the first of a lesser
-/// number, since they stand by number.
+/// Whether the number is above those of all cuts that hit a block.
 fn is_newer_than(cuts: &CutList, m: &Matrix, block: &Block, number: u64) -> bool
     requires { IsWithinLimits m.now }
     ensures { (result ≡ true) ↔ IsNewerThan cuts.now.book.cuts m.now block.now number }
 {
-    let mut left = cuts.count();
-    'cuts: while left > 0 {
-        let (last, cover) = cuts.cut_at(left - 1);
-        if last < number {
-            return true;
-        }
-        if hits(&cover, m, block) {
-            return false;
-        }
-        left -= 1;
-    }
-    true
+    !cuts.newest_hit(m, block, number)
 }
 
 /// Whether the number is above those of all cuts that hit a metatile.

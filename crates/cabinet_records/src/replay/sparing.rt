@@ -1,4 +1,4 @@
-//! One pass over what a replay keeps at a cut: what the cover hits is dropped.
+//! What a cut hits of what a replay keeps is dropped, one after the other as it is found by area.
 ghost use Rattle.std.specs.Prelude.{length, ℕ, ◌≡◌, ◌≤◌};
 ghost use Rattle.catalog.specs.Valid.{IsValid};
 ghost use Rattle.served_covers.specs.OfCatalogue.{IsCoverOf};
@@ -7,14 +7,13 @@ ghost use Rattle.cabinet_records.specs.Placed.{AreTied, place_in};
 ghost use Rattle.cabinet.specs.Shelved.{listed};
 
 use crate::replay::places::{Places, drop_place};
-use cabinet::hitting::is_hit;
 use cabinet::store::Store;
 use catalog::catalogue::Catalogue;
 use extent_map::extents::Extents;
 use truncation_list::cover::Cover;
 
-/// Drops each kept metatile of which the cover is for a tile, with its region and the place of its number. Each is tested once:
-/// the last one that is held goes to the place of one that is dropped, and is tested there.
+/// Drops each kept metatile of which the cover is for a tile, with its region and the place of its number. Each is dropped before the
+/// next one is looked for, from the chunk on in which it was found.
 pub fn spare(
     store: &mut Store,
     regions: &mut Extents,
@@ -30,15 +29,16 @@ pub fn spare(
     ensures size { regions.new.size ≡ regions.old.size }
     ensures few { length store.new.blobs ≤ length store.old.blobs }
 {
-    let mut index = 0;
-    'sparing: for tested in 0..store.count() {
-        let kept = store.kept_at(index);
-        if is_hit(catalogue, cover, &kept.meta) {
-            regions.give(kept.place, kept.length);
-            drop_place(places, kept.number);
-            store.drop_at(index);
-        } else {
-            index += 1;
+    let mut from = 0;
+    'sparing: loop {
+        match store.hit_from(catalogue, cover, from) {
+            None => return,
+            Some(hit) => {
+                regions.give(hit.kept.place, hit.kept.length);
+                drop_place(places, hit.kept.number);
+                store.drop_of(&hit.kept.meta);
+                from = hit.at;
+            }
         }
     }
 }

@@ -1,13 +1,11 @@
-use Rattle.std.proofs.Common.{Option, inl, subst, sym}
+use Rattle.std.proofs.Common.{Option, subst, sym}
 use Rattle.std.specs.Prelude.{IsSome}
 use Rattle.raster_field.specs.Blocks.{block_of}
-use Rattle.cabinet.specs.declared.replies.Asked.{Asked}
 use Rattle.cabinet.specs.declared.replies.Forced.{Forced}
-use Rattle.cabinet.specs.Commands.{Asks, IsTrueHit}
 use Rattle.cabinet.specs.History.{kept_of}
-use Rattle.cabinet.specs.State.{IsKnown, IsSound, State, asked_at, now}
+use Rattle.cabinet.specs.State.{IsKnown, State, now}
 use Rattle.cabinet.specs.Steps.{AsksKept}
-use Rattle.cabinet.proofs.Found.{hit_of, hit_true, some_kept, when_ok}
+use Rattle.cabinet.proofs.Found.{hit_of, hit_true, some_kept}
 use Rattle.cabinet.proofs.cabinet.Cabinet.ask_kept.Goals as goal
 
 pub ask_kept-requires-clause-kept : goal.ask_kept-requires-clause-kept

@@ -21,4 +21,4 @@ returns-clause-kept c =
     let i = c.self.inside in
     let e = c.kept_at.ensures in
     subst (λ (v : Stored). find (is_of c.kept_at.result.meta) (map (λ b. b.kept) v.blobs) ≡ Some c.kept_at.result) c.self.view_is
-    (told_kept (in_order (order_of i.puts.entries) (held_of i.held.entries)) (held_of i.held.entries) c.kept_at.result e.0 c.self.invariant e.1 e.3)
+    (told_kept (in_order (order_of i.puts.entries) (held_of i.held.entries)) (held_of i.held.entries) c.kept_at.result e.0 c.self.invariant.order e.1 e.3)

@@ -4,6 +4,7 @@ use Rattle.cabinet.specs.History.{with_uses}
 use Rattle.cabinet.specs.Ordered.{IsOrderOf, held_of, in_order, order_of, recounted}
 use Rattle.cabinet.specs.Shelved.{Stored}
 use Rattle.cabinet.specs.State.{blobs_counted}
+use Rattle.cabinet.proofs.Indexed.{index_counted}
 use Rattle.cabinet.proofs.Recounts.{counted_list, counted_meta, mapped_is_order, mapped_order}
 use Rattle.cabinet.proofs.store.Store.recount.Goals as goal
 
@@ -15,8 +16,11 @@ invariant_of-self c =
     let held = held_of i.held.entries in
     let later = held_of c.recount.new.held.entries in
     let order = order_of i.puts.entries in
-    subst (λ (bs : List KeptBlob). IsOrderOf bs later) (sym (mapped_order f meta held later c.recount.ensures.held order))
-    (mapped_is_order f meta (in_order order held) held later c.self.invariant c.recount.ensures.once c.recount.ensures.held)
+    record {
+      order = subst (λ (bs : List KeptBlob). IsOrderOf bs later) (sym (mapped_order f meta held later c.recount.ensures.held order))
+          (mapped_is_order f meta (in_order order held) held later c.self.invariant.order c.recount.ensures.once c.recount.ensures.held);
+      indexed = index_counted c.args.meta.now c.args.uses i.areas held later c.self.invariant.indexed c.recount.ensures.held;
+    }
 
 pub returns-clause-blobs : goal.returns-clause-blobs
 returns-clause-blobs c =

@@ -1,55 +1,45 @@
-use Rattle.std.proofs.Common.{◌≤◌, length, not, ap, sym, ◌∙◌, arith}
-use Rattle.std.proofs.lemmas.List.Sorted.{length_permutation}
-use Rattle.cabinet.specs.declared.kept.Kept.{Kept}
+use Rattle.std.proofs.Common.{not, length, ap, arith}
 use Rattle.cabinet.specs.Hits.{hits_of}
-use Rattle.cabinet_records.specs.Placed.{place_in}
 use Rattle.cabinet.specs.Shelved.{listed}
-use Rattle.cabinet.proofs.Sifts.{dropped_one}
-use Rattle.cabinet_records.proofs.Spares.{one_goes, one_stays, spared_list}
+use Rattle.cabinet.proofs.Indexed.{goes_fewer}
+use Rattle.cabinet.proofs.OnShelf.{some_blob}
+use Rattle.cabinet.proofs.Sifts.{none_goes}
+use Rattle.cabinet_records.specs.Placed.{place_in}
+use Rattle.cabinet_records.proofs.Spares.{one_goes, spared_list, sparing_start}
 use Rattle.cabinet_records.proofs.Tied.{region_taken}
 use Rattle.cabinet_records.proofs.replay.sparing.spare.Goals as goal
-use Rattle.cabinet_records.proofs.replay.sparing.spare.Goals.{else-is_hit, then-is_hit}
 
-pub sparing-preserved : goal.sparing-preserved
-sparing-preserved c =
-    let e = c.kept_at-kept.ensures in
-    let t = c.kept_at-kept.result in
-    let s = c.sparing.invariant in
-    let cat = c.args.catalogue.now in
-    let cover = c.args.cover.now in
-    let here = c.sparing.store in
-    elim c.if-is_hit.branch [
-      | then-is_hit w ↦
-          let off = ap not (sym c.is_hit.ensures ∙ w.if-is_hit.true) in
-          let then = w.drop_at.new.self in
-          let d = w.drop_at.ensures.blobs in
-          let those = dropped_one t e.at.0 d.0 here.held c.sparing.index here.blobs then.blobs e.at.1 e.at.2 d.1 d.2 in
-          rw (w.store-is, w.regions-is, w.places-is, w.index-is) (
-          one_goes (λ m. not (hits_of cat cover m)) c.args.store.now.blobs here.blobs here.held c.sparing.index c.sparing.tested (length c.args.store.now.held) c.args.regions.now c.sparing.regions (place_in c.args.places.now.entries)
-          (place_in c.sparing.places.entries) s t w.give.new.self (place_in w.drop_place.new.places.entries) then.blobs then.held off e.kept w.give.ensures.sound w.give.ensures.given w.drop_place.ensures.places those w.drop_at.ensures.order
-          w.drop_at.ensures.before w.drop_at.ensures.count
-          )
-      | else-is_hit w ↦
-          let on = ap (λ (x : Kept). not (hits_of cat cover x.meta)) (sym e.at.1) ∙ ap not (sym c.is_hit.ensures ∙ w.if-is_hit.false) in
-          rw (w.store-is, w.regions-is, w.places-is, w.index-is) (
-          one_stays (λ m. not (hits_of cat cover m)) c.args.store.now.blobs here.blobs here.held c.sparing.index c.sparing.tested (length c.args.store.now.held) c.args.regions.now c.sparing.regions (place_in c.args.places.now.entries)
-          (place_in c.sparing.places.entries) s e.at.0 on e.at.2
-          )
-    ]
+pub sparing-init : goal.sparing-init
+sparing-init c = record { sparing = sparing_start (λ m. not (hits_of c.args.catalogue.now c.args.cover.now m)) c.args.store.now.blobs c.args.regions.now (place_in c.args.places.now.entries); clear = tt }
 
 pub give-requires : goal.give-requires
 give-requires c =
-    let t = c.kept_at-kept.result in
+    let t = c.in-Some.hit.kept in
     let next = c.requires.tied.0 in
-    record { taken = region_taken next (listed c.sparing.store.blobs) c.sparing.regions (place_in c.sparing.places.entries) t.meta t (c.sparing.invariant.tied next c.requires.tied.1) c.kept_at-kept.ensures.kept }
+    record { taken = region_taken next (listed c.sparing.store.blobs) c.sparing.regions (place_in c.sparing.places.entries) t.meta t (c.sparing.invariant.sparing.tied next c.requires.tied.1) c.in-Some.ensures.kept }
 
-pub returns-clause-spared : goal.returns-clause-spared
-returns-clause-spared c =
-    let done : length c.args.store.now.held ≤ c.sparing.tested = omega (arith, c.sparing-test.false, c.count-tested-end.ensures.held) in
-    spared_list (λ m. not (hits_of c.args.catalogue.now c.args.cover.now m)) c.args.store.now.blobs c.sparing.store.blobs c.sparing.store.held c.sparing.index c.sparing.tested (length c.args.store.now.held) c.args.regions.now c.sparing.regions
-    (place_in c.args.places.now.entries) (place_in c.sparing.places.entries) c.sparing.invariant done
+pub sparing-smaller : goal.sparing-smaller
+sparing-smaller c =
+    let t = c.in-Some.hit.kept in
+    let here = c.sparing.store.blobs in
+    omega (arith, goes_fewer t.meta here (some_blob t.meta here t c.in-Some.ensures.kept), ap length c.drop_of.ensures.blobs)
 
-pub returns-clause-few : goal.returns-clause-few
-returns-clause-few c =
+pub sparing-preserved : goal.sparing-preserved
+sparing-preserved c =
+    let e = c.in-Some.ensures in
     let s = c.sparing.invariant in
-    omega (arith, length_permutation c.sparing.store.blobs c.sparing.store.held s.order, s.less, c.count-tested-end.ensures.held, c.count-tested-end.ensures.count)
+    let cat = c.args.catalogue.now in
+    let cover = c.args.cover.now in
+    record {
+      sparing = one_goes (λ m. not (hits_of cat cover m)) c.args.store.now.blobs c.sparing.store.blobs c.args.regions.now c.sparing.regions (place_in c.args.places.now.entries) (place_in c.sparing.places.entries) s.sparing c.in-Some.hit.kept
+          c.give.new.self (place_in c.drop_place.new.places.entries) c.drop_of.new.self.blobs (ap not e.hit) e.kept c.give.ensures.sound c.give.ensures.given c.drop_place.ensures.places c.drop_of.ensures.blobs;
+      clear = c.drop_of.ensures.clear (hits_of cat cover) c.in-Some.hit.at (e.clear s.clear);
+    }
+
+pub returns-in-None-clause-spared : goal.returns-in-None-clause-spared
+returns-in-None-clause-spared c =
+    let cat = c.args.catalogue.now in
+    let cover = c.args.cover.now in
+    let s = c.sparing.invariant in
+    spared_list (λ m. not (hits_of cat cover m)) c.args.store.now.blobs c.sparing.store.blobs c.args.regions.now c.sparing.regions (place_in c.args.places.now.entries) (place_in c.sparing.places.entries) s.sparing
+    (none_goes cat cover c.sparing.store.blobs (c.in-None.ensures.none s.clear))

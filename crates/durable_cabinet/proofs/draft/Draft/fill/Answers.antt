@@ -40,4 +40,4 @@ returns-clause-bodies c =
     let kept = c.list_kept.new.list.kept in
     compaction_is s kept c.cuts-2.result.now.book.cuts c.opening.result c.floor.result c.opened_body.result c.truncate.new.self.items c.push_reserved.new.self.items c.put_cuts.new.bodies.items c.put_kept.new.bodies.items
     c.opening.ensures (c.floor.ensures ∙ ap (λ (b : Book). b.floor) c.cuts.ensures) (ap (λ (b : Book). b.cuts) c.cuts-2.ensures) c.opened_body.ensures.body c.truncate.ensures.items c.push_reserved.ensures.items c.put_cuts.ensures.bodies c.put_kept.ensures.bodies
-    c.list_kept.ensures.all c.opened_body.ensures.fits c.put_cuts.ensures.fits c.put_kept.ensures.fits
+    c.list_kept.ensures.all c.list_kept.ensures.order c.opened_body.ensures.fits c.put_cuts.ensures.fits c.put_kept.ensures.fits
