@@ -10,19 +10,31 @@ use std::fs::File;
 use std::io;
 use std::os::unix::fs::FileExt;
 
+/// How many zeros are written at a time, in bytes.
+const PIECE: usize = 65_536;
+
+const ZEROS: [u8; PIECE] = [0; PIECE];
+
 /// A disk over a real file. What it holds isn't modelled.
 #[derive(Drop)]
 pub struct FileDisk {
     file: File,
+    /// A read that begins below this place finds zeros past the end of the file; each other one past the end fails.
+    padded: u64,
     faults: u64,
 }
 
 impl FileDisk {
-    /// A disk over a file that is open for reading and writing. It has not failed yet.
-    pub fn new(file: File) -> FileDisk
+    /// A disk over a file that is open for reading and writing. It has not failed yet. A read that begins below `padded`, in bytes, finds
+    /// zeros past the end of the file; any other read past the end is a fault, since what was written there is lost.
+    pub fn new(file: File, padded: u64) -> FileDisk
         ensures { result.faults ≡ 0 }
     {
-        FileDisk { file, faults: 0 }
+        FileDisk {
+            file,
+            padded,
+            faults: 0,
+        }
     }
 
     /// Counts a fault where the system told one.
@@ -48,6 +60,23 @@ fn read_padded(file: &File, at: u64, into: &mut [u8]) -> io::Result<()> {
     Ok(())
 }
 
+/// Writes zeros from one place up to another.
+fn write_zeros(file: &File, from: u64, to: u64) -> io::Result<()> {
+    for at in (from..to).step_by(PIECE) {
+        let piece = (to - at).min(PIECE as u64) as usize;
+        file.write_all_at(&ZEROS[..piece], at)?;
+    }
+    Ok(())
+}
+
+/// Gives a file this length. What is added is written, as zeros, so that the system has given room for it: a hole would be refused its room when
+/// it is written to, which may be long after.
+fn cut_to(file: &File, length: u64) -> io::Result<()> {
+    let held = file.metadata()?.len();
+    file.set_len(length)?;
+    write_zeros(file, held, length)
+}
+
 impl Disk for FileDisk {
     ghost told = { λ disk. false };
 
@@ -58,7 +87,11 @@ impl Disk for FileDisk {
     ghost lawful = { λ disk told. absurd (false≢true told) };
 
     fn read(&mut self, at: u64, into: &mut [u8]) -> Result<(), Failed> {
-        let done = read_padded(&self.file, at, into);
+        let done = if at < self.padded {
+            read_padded(&self.file, at, into)
+        } else {
+            self.file.read_exact_at(into, at)
+        };
         self.answer(done)
     }
 
@@ -68,12 +101,12 @@ impl Disk for FileDisk {
     }
 
     fn cut(&mut self, length: u64) -> Result<(), Failed> {
-        let done = self.file.set_len(length);
+        let done = cut_to(&self.file, length);
         self.answer(done)
     }
 
     fn sync(&mut self) -> Result<(), Failed> {
-        let done = self.file.sync_all();
+        let done = self.file.sync_data();
         self.answer(done)
     }
 

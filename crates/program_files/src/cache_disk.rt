@@ -13,6 +13,10 @@ use std::io;
 use std::io::ErrorKind;
 use std::rt::Files;
 
+/// So many bytes at the front are the journal's headers. A file that ends before them reads as one without headers, which is no cache; where it ends
+/// before anything else that was written, as a copy that was cut short, the read is a fault.
+const HEADERS: u64 = 128;
+
 /// The file that the cache is kept in. What it holds isn't modelled.
 #[derive(Drop)]
 pub enum CacheDisk {
@@ -44,7 +48,7 @@ impl CacheDisk {
     /// Opens the file of this name in the current folder; `makes` says whether it is made where it isn't there.
     pub fn open<R: Files<File = File>>(rt: &R, path: &str, makes: bool) -> CacheDisk {
         match opened(rt, path, makes) {
-            Ok(file) => CacheDisk::File(FileDisk::new(file)),
+            Ok(file) => CacheDisk::File(FileDisk::new(file, HEADERS)),
             Err(error) if error.kind() == ErrorKind::NotFound && !makes => CacheDisk::Absent(0),
             Err(_) => CacheDisk::Shut(0),
         }

@@ -104,14 +104,16 @@ fn a_stopped_disk_fails(rt: HostRuntime) -> Result<(), Fail> {
     Ok(())
 }
 
-/// What the bytes from the second one on are, once three were written after the third and the file was cut to five.
-fn read_back<D: Disk>(mut disk: D) -> Result<[u8; 7], Failed> {
+/// What the bytes from the second one on are, once three were written after the third and the file was cut to five, and whether a read from the
+/// third one on fails, which isn't padded.
+fn read_back<D: Disk>(mut disk: D) -> Result<([u8; 7], bool), Failed> {
     write_through(&mut disk, 3, b"abc")?;
     disk.cut(5)?;
     disk.sync()?;
     let mut into = [1; 7];
     disk.read(1, &mut into)?;
-    Ok(into)
+    let short = disk.read(2, &mut [1; 4]);
+    Ok((into, short.is_err()))
 }
 
 #[test]
@@ -122,8 +124,8 @@ fn a_real_file_is_read_back(rt: HostRuntime) -> Result<(), Fail> {
         .write(true)
         .create_new(true)
         .open(&rt, path.as_str())?;
-    let read = read_back(FileDisk::new(file));
+    let read = read_back(FileDisk::new(file, 2));
     fs::remove_file(&rt, path.as_str())?;
-    assert!(rt; read == Ok([0, 0, b'a', b'b', 0, 0, 0]));
+    assert!(rt; read == Ok(([0, 0, b'a', b'b', 0, 0, 0], true)));
     Ok(())
 }
