@@ -14,6 +14,7 @@ use Rattle.kept_cache.specs.Change.{DiskChange}
 use Rattle.kept_cache.specs.Opened.{HasOpened}
 use Rattle.kept_cache.specs.Saving.{SavesAll}
 use Rattle.kept_cache.specs.Texts.{Sends}
+use Rattle.kept_cache.proofs.Picturing.{saves_sound}
 use Rattle.kept_cache.proofs.Within.{rose_within, saved_so}
 use Rattle.tile_service.specs.Outside.{FaultCounts, Outside, counts}
 
@@ -30,6 +31,7 @@ runs_and_saves told renders before start mid after job visits s t u earlier late
     sound = run.sound;
   };
   saves = saved_so t u before start mid after _ earlier run.faults saves;
+  sound = λ told sound. saves_sound saves.count t u saves.saves (run.sound told sound);
 }
 
 -- THE TEXT, by how its writing ended

@@ -1,6 +1,6 @@
 -- What each end of the word `job` says.
-use Rattle.std.specs.Prelude.{ℕ, List, ◌++◌, Option, codes, decimal}
-use Rattle.cabinet.specs.State.{State}
+use Rattle.std.specs.Prelude.{ℕ, ◌≡◌, ◌⊎◌, List, ◌++◌, Option, Some, codes, decimal}
+use Rattle.cabinet.specs.State.{IsSound, State}
 use Rattle.catalog.specs.declared.catalogue.Catalogue.{Catalogue}
 use Rattle.causes.specs.Causes.{Rose}
 use Rattle.clock.specs.Readings.{Readings}
@@ -14,7 +14,8 @@ use Rattle.job_words.specs.Visit.{Visit}
 use Rattle.kept_cache.specs.declared.end.KeptEnd.{KeptEnd}
 use Rattle.kept_cache.specs.declared.end.KeptEnd.TheVariants as end
 use Rattle.kept_cache.specs.Change.{DiskChange, HasFailed, HasWritten, IsCutShort, OutputChange}
-use Rattle.kept_cache.specs.Opened.{HasOpened, IsRefused}
+use Rattle.kept_cache.specs.Crash.{OpeningLeaves}
+use Rattle.kept_cache.specs.Opened.{HasOpened, IsRefused, RefusalLeaves}
 use Rattle.kept_cache.specs.Saving.{SavesAll}
 use Rattle.tile_service.specs.Outside.{FaultCounts, InputChange, Outside}
 
@@ -32,11 +33,13 @@ job_text kind tally =
 -- THE WORK
 
 -- From s these visits were the run of the job, and then the uses of what is kept were saved, to u. The faults of the disk are counted over
--- the whole word, from before the opening until after the saving.
+-- the whole word, from before the opening until after the saving. Where the source is modelled as the catalogue's, what is then kept is the pictures of the
+-- numbers, if what was opened was.
 pub record RunsAndSaves (told : Option ℕ) (renders disk : FaultCounts) (job : Job) (visits : List Visit) (s u : State) : Type 0 where
   pub ran : State
   pub run : IsRun told renders disk job visits s ran
   pub saves : SavesAll disk ran u
+  pub sound : told ≡ Some s.catalogue.source → IsSound s → IsSound u
 
 -- the output alone of what a word saw
 abbrev pub output_of : Outside → OutputChange
@@ -54,9 +57,9 @@ HasRun c clock job o d Written =
 abbrev pub IsDoneSo : Catalogue → Readings → Job → Outside → DiskChange → Type 0 → KeptEnd → Type 0
 IsDoneSo c clock job o d Stays end.Done = HasRun c clock job o d (HasWritten (output_of o))
 IsDoneSo c clock job o d Stays end.WriteFault = HasRun c clock job o d (IsCutShort (output_of o))
-IsDoneSo c clock job o d Stays (end.Refused cause) = IsRefused c d cause × Stays
-IsDoneSo c clock job o d Stays end.DiskFault = HasFailed d × Stays
-IsDoneSo c clock job o d Stays end.OutOfMemory = Stays
+IsDoneSo c clock job o d Stays (end.Refused cause) = IsRefused c d cause × Stays × RefusalLeaves c d cause
+IsDoneSo c clock job o d Stays end.DiskFault = HasFailed d × Stays × OpeningLeaves c d
+IsDoneSo c clock job o d Stays end.OutOfMemory = Stays × OpeningLeaves c d
 IsDoneSo c clock job o d Stays end.ReadFault = ⊥
 IsDoneSo c clock job o d Stays end.TooLong = ⊥
 IsDoneSo c clock job o d Stays (end.Form cause) = ⊥
@@ -73,7 +76,7 @@ abbrev pub RunsJob : Catalogue → Readings → InputChange → Outside → Disk
 RunsJob c clock i o d DiskStays Stays end.ReadFault = Rose i.reads.before i.reads.after × DiskStays × Stays
 RunsJob c clock i o d DiskStays Stays end.TooLong = IsTooLong i × DiskStays × Stays
 RunsJob c clock i o d DiskStays Stays (end.Form cause) = IsFormedSo c i cause × DiskStays × Stays
-RunsJob c clock i o d DiskStays Stays end.OutOfMemory = Stays
+RunsJob c clock i o d DiskStays Stays end.OutOfMemory = (DiskStays × Stays) ⊎ RunsRead c clock i o d Stays end.OutOfMemory
 RunsJob c clock i o d DiskStays Stays end.Done = RunsRead c clock i o d Stays end.Done
 RunsJob c clock i o d DiskStays Stays end.WriteFault = RunsRead c clock i o d Stays end.WriteFault
 RunsJob c clock i o d DiskStays Stays (end.Refused cause) = RunsRead c clock i o d Stays (end.Refused cause)

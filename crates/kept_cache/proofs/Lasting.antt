@@ -8,11 +8,10 @@ use Rattle.clock.specs.Readings.{Readings}
 use Rattle.disk_model.specs.Content.{Content}
 use Rattle.disk_model.specs.Images.{DiskState, Every, IsLawful, Leaves}
 use Rattle.disk_model.specs.Moments.{leaves_as, leaves_then}
-use Rattle.durable_cabinet.specs.Filed.{OpensLike}
 use Rattle.durable_cabinet.specs.Images.{IsLeft as IsLeftOn, IsOurs, OpensTo}
 use Rattle.durable_cabinet.specs.Outlasting.{AnswersAs, Outlasts}
 use Rattle.gate_journal.specs.declared.journal.Journal.{Journal}
-use Rattle.kept_cache.specs.Crash.{HadCut, IsLeftBy, KeepsNearly, Lasts}
+use Rattle.kept_cache.specs.Crash.{HadCut, IsLeftBy, KeepsNearly, Lasts, LeftByOpening}
 use Rattle.kept_cache.specs.Opened.{IsOpened}
 use Rattle.durable_cabinet.proofs.Once.{opens_once}
 use Rattle.tile_service.specs.Outside.{FaultCounts}
@@ -34,10 +33,6 @@ module _ (c : Catalogue) (old : DiskState) (lawful : IsLawful old) (r : Replayed
     answers = λ cut each. record { replayed = a.replayed; opens = a.opens; answers = answers_for_cut (book_after a.replayed) (book_after r) cut a.answers (had cut each) };
     ours = inr ours;
   }
-
--- what an opening leaves
-abbrev pub LeftByOpening : Catalogue → DiskState → Content → Type 0
-LeftByOpening c old image = old.may_leave image ⊎ ((r : Replayed) × OpensTo c old.seen r × OpensLike c r old.seen image × IsOurs c image)
 
 lasts_opening : (c : Catalogue) (old : DiskState) → IsLawful old → (image : Content) → LeftByOpening c old image → Lasts c old image
 lasts_opening c old lawful image (inl was) = record { opens = λ each. each image was; answers = λ cut each. each image was; ours = inl was }

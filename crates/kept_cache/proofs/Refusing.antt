@@ -100,10 +100,10 @@ one_list o v w bs cs es fs is also are also_are =
 
 -- ONE OPENING of a content
 
-not_other : (o : journal.Opening) (found : List ℕ) (version : ℕ) (bodies : List (List ℕ)) → o ≡ journal.differs found → o ≡ journal.records version bodies → ⊥
+pub not_other : (o : journal.Opening) (found : List ℕ) (version : ℕ) (bodies : List (List ℕ)) → o ≡ journal.differs found → o ≡ journal.records version bodies → ⊥
 not_other o found version bodies e f = cc
 
-not_none : (o : journal.Opening) (version : ℕ) (bodies : List (List ℕ)) → o ≡ journal.no_cache → o ≡ journal.records version bodies → ⊥
+pub not_none : (o : journal.Opening) (version : ℕ) (bodies : List (List ℕ)) → o ≡ journal.no_cache → o ≡ journal.records version bodies → ⊥
 not_none o version bodies e f = cc
 
 none_or_other : (o : journal.Opening) (found : List ℕ) → o ≡ journal.no_cache → o ≡ journal.differs found → ⊥
@@ -118,7 +118,7 @@ module _ (c : Catalogue) (d : DiskChange) (told : IsTrue d.told) where
   two_others : (o : journal.Opening) (f g a b : List ℕ) → o ≡ journal.differs f → o ≡ journal.differs g → a ≡ c.digest → b ≡ c.digest → fault.CatalogueDiffers g b ≡ fault.CatalogueDiffers f a
   two_others o f g a b e k i j = cc
 
-  bad_or_opened : (slot : ℕ) (r : Replayed) → IsRefused c d (fault.BadRecord slot) → OpensTo c d.from.seen r → ⊥
+  pub bad_or_opened : (slot : ℕ) (r : Replayed) → IsRefused c d (fault.BadRecord slot) → OpensTo c d.from.seen r → ⊥
   bad_or_opened slot r x o =
       let z = x told in
       refused_or_replayed c o.entries slot r (subst (λ (es : List (Option Record)). IsRefusedAt c es slot) (one_list _ z.0 o.version z.1 o.bodies z.2 o.entries z.3 o.opens z.4 o.are) z.5) o.replays o.few_cuts

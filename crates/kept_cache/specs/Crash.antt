@@ -1,14 +1,17 @@
 -- What a crash leaves of the truncations, at each moment of a word and at its end.
-use Rattle.std.specs.Prelude.{◌⊎◌, IsTrue, List}
+use Rattle.std.specs.Prelude.{◌⊎◌, Bool, IsTrue, List}
 use Rattle.std.specs.List.Sorted.{IsPermutation}
 use Rattle.cabinet.specs.declared.kept.Kept.{Kept}
-use Rattle.cabinet.specs.State.{State, now}
+use Rattle.cabinet.specs.State.{IsSound, State, now}
 use Rattle.cabinet_records.specs.Replay.{Replayed, book_after}
 use Rattle.catalog.specs.declared.catalogue.Catalogue.{Catalogue}
 use Rattle.disk_model.specs.Content.{Content}
 use Rattle.disk_model.specs.Images.{DiskState, Every, Leaves}
-use Rattle.durable_cabinet.specs.Images.{IsOneRecordOn, IsOurs, OpensTo, Restores}
+use Rattle.durable_cabinet.specs.Images.{IsOneRecordOn, IsOurs, IsSoundImage, OpensTo, Restores}
+use Rattle.durable_cabinet.specs.Filed.{OpensLike}
 use Rattle.durable_cabinet.specs.Outlasting.{AnswersAs}
+use Rattle.gate_journal.specs.declared.journal.Journal.{Journal}
+use Rattle.gate_journal.specs.Sound.{IsSettled}
 use Rattle.kept_cache.specs.Change.{DiskChange, HasFailed}
 use Rattle.truncation_list.specs.declared.book.Cut.{Cut}
 use Rattle.truncation_list.specs.Books.{AnswersFor}
@@ -40,6 +43,21 @@ pub record Lasts (c : Catalogue) (old : DiskState) (image : Content) : Type 0 wh
 abbrev pub LastsThrough : Catalogue → DiskChange → Type 0
 LastsThrough c d = IsTrue d.told → Leaves d.from d.to (Lasts c d.from)
 
+-- WHERE NOTHING WAS DONE
+
+-- a crash at any moment leaves what it might have left at entry, where the disk is modelled
+abbrev pub LeavesAsItWas : DiskChange → Type 0
+LeavesAsItWas d = IsTrue d.told → Leaves d.from d.to d.from.may_leave
+
+-- What an opening leaves: what might have been left at entry, or the file of a cabinet that opens to the same kept list as what was read, with the same blobs, and
+-- to a book that answers for that one.
+abbrev pub LeftByOpening : Catalogue → DiskState → Content → Type 0
+LeftByOpening c old image = old.may_leave image ⊎ ((r : Replayed) × OpensTo c old.seen r × OpensLike c r old.seen image × IsOurs c image)
+
+-- a crash at any moment of a word that did no more than an opening leaves such an image, where the disk is modelled
+abbrev pub OpeningLeaves : Catalogue → DiskChange → Type 0
+OpeningLeaves c d = IsTrue d.told → Leaves d.from d.to (LeftByOpening c d.from)
+
 -- AT THE END
 
 -- an image opens to what the cabinet keeps, or to what one record more would have made of it
@@ -56,6 +74,13 @@ pub record IsLeftBy (c : Catalogue) (s : State) (image : Content) : Type 0 where
   pub answers : AnswersAs c (now s).book image
   pub kept : KeepsNearly c s image
   pub ours : IsOurs c image
+
+-- The cabinet of a modelled disk was closed at s, with this journal: each image is one of those; where no command has failed since the journal was settled
+-- it opens to exactly what the cabinet is, and where that is the pictures of its numbers, so is what the image opens to.
+pub record IsClosed (told : Bool) (j : Journal) (disk : DiskState) (s : State) : Type 0 where
+  pub left : IsTrue told → Every disk.may_leave (IsLeftBy s.catalogue s)
+  pub restores : IsTrue told → IsSettled j → Every disk.may_leave (Restores s)
+  pub sound : IsTrue told → IsSettled j → IsSound s → Every disk.may_leave (IsSoundImage s.catalogue)
 
 -- after the cabinet came to s a crash leaves such an image, where the disk is modelled
 abbrev pub IsLeft : Catalogue → DiskChange → State → Type 0

@@ -1,12 +1,11 @@
 //! The cabinet of a disk that is lent, opened for a word and closed after it.
 ghost use Rattle.std.specs.Prelude.{◌≡◌, ◌≤◌, IfErr, IfOk, IsTrue};
 ghost use Rattle.catalog.specs.Valid.{IsValid};
-ghost use Rattle.disk_model.specs.Images.{Every};
-ghost use Rattle.durable_cabinet.specs.Images.{IsOurs, Restores};
+ghost use Rattle.durable_cabinet.specs.Images.{IsOurs};
 ghost use Rattle.gate_journal.specs.Sound.{IsSettled};
 ghost use Rattle.kept_cache.specs.Change.{DiskChange};
-ghost use Rattle.kept_cache.specs.Crash.{IsLeftBy, LastsThrough};
-ghost use Rattle.kept_cache.specs.Opened.{IsOpened, end_of_refusal};
+ghost use Rattle.kept_cache.specs.Crash.{IsClosed, LastsThrough};
+ghost use Rattle.kept_cache.specs.Opened.{IsOpened, RefusalLeaves, end_of_refusal};
 ghost use Rattle.tile_service.specs.Outside.{counts};
 ghost use Rattle.durable_cabinet.specs.Filed.{IsRefusedAs};
 
@@ -52,6 +51,7 @@ pub fn opened<'a, D: Disk, L: Loan>(
     ensures later { IfOk result (λ k. D.faults disk.entry.now ≤ D.faults k.file.disk.disk.now) }
     ensures refused { IfErr result (λ r. IsRefusedAs (D.told disk.entry.now) catalogue (D.state disk.entry.now).seen (D.faults disk.entry.now) (D.faults r.1.now) r.0) }
     ensures refused_lasts { IfErr result (λ r. LastsThrough catalogue (record { told = D.told disk.entry.now; faults = counts (D.faults disk.entry.now) (D.faults r.1.now); from = D.state disk.entry.now; to = D.state r.1.now })) }
+    ensures refused_leaves { IfErr result (λ r. RefusalLeaves catalogue (record { told = D.told disk.entry.now; faults = counts (D.faults disk.entry.now) (D.faults r.1.now); from = D.state disk.entry.now; to = D.state r.1.now }) r.0) }
     ensures refused_told { IfErr result (λ r. D.told r.1.now ≡ D.told disk.entry.now) }
     ensures refused_loan { IfErr result (λ r. r.1.ghost_name ≡ L.disk) }
     ensures refused_later { IfErr result (λ r. D.faults disk.entry.now ≤ D.faults r.1.now) }
@@ -69,8 +69,7 @@ pub fn opened<'a, D: Disk, L: Loan>(
 pub fn closed<'a, D: Disk, L: Loan>(cabinet: Cabinet<LentDisk<'a, D, L>>) -> &'a mut D
     ensures loan { result.ghost_name ≡ L.disk }
     ensures same { result.now ≡ cabinet.entry.file.disk.disk.now }
-    ensures left { IsTrue (D.told result.now) → Every (D.state result.now).may_leave (IsLeftBy cabinet.entry.state.catalogue cabinet.entry.state) }
-    ensures restores { IsTrue (D.told result.now) → IsSettled cabinet.entry.file.journal → Every (D.state result.now).may_leave (Restores cabinet.entry.state) }
+    ensures closed { IsClosed (D.told result.now) cabinet.entry.file.journal (D.state result.now) cabinet.entry.state }
 {
     cabinet.images();
     cabinet.take_apart().disk.into_disk()

@@ -1,6 +1,6 @@
 -- Metatiles that are dropped one after the other, and what is told of them.
 use Rattle.std.specs.Prelude.{IfSome, IsSome}
-use Rattle.std.proofs.Common.{ℕ, ◌≡◌, ◌≤◌, ◌+◌, ◌^◌, ◌-◌, suc, Bool, true, false, not, cond, List, [], ◌∷◌, length, filter, find, Option, Some, None, arith, refl, subst}
+use Rattle.std.proofs.Common.{ℕ, ◌≡◌, ◌≤◌, ◌+◌, ◌^◌, ◌-◌, suc, Bool, true, false, not, cond, List, [], ◌∷◌, length, filter, find, Option, Some, None, arith, inr, refl, subst}
 use Rattle.cabinet.specs.Commands.{Expires}
 use Rattle.cabinet.specs.declared.entry.Entry.TheVariants as entry
 use Rattle.cabinet.specs.declared.kept.Kept.{Kept}
@@ -44,20 +44,20 @@ fewer s u m row = rw (row.3, now_more s (entry.Dropped m)) (one_less (is_of m) (
 -- WHAT IS TOLD
 
 pub drop_tells : (c : Catalogue) (clock : Readings) (d : DiskChange) (o : OutputChange) (Stays : Type 0) (s u : State) (mid : ℕ)
-    → HasOpened c clock d s u → d.faults.before ≤ mid → (r : Option ℕ) → IfSome r (λ n. Drops n s u × Expires u expired.Within u) → (r ≡ None → Rose mid d.faults.after)
+    → HasOpened c clock d s u → d.faults.before ≤ mid → (r : Option ℕ) → IfSome r (λ n. Drops n s u × Expires u expired.Within u) → (r ≡ None → Rose mid d.faults.after) → (r ≡ None → (n : ℕ) × Drops n s u)
     → (e : KeptEnd) → TellsDropped o Stays r e → DropsAll c clock d o Stays e
-drop_tells c clock d o Stays s u mid h le (Some n) all failed end.Done tells = (n, (s, u, h, all.0, all.1), tells)
-drop_tells c clock d o Stays s u mid h le (Some n) all failed end.WriteFault tells = (n, (s, u, h, all.0, all.1), tells)
-drop_tells c clock d o Stays s u mid h le (Some n) all failed end.ReadFault tells = absurd tells
-drop_tells c clock d o Stays s u mid h le (Some n) all failed end.TooLong tells = absurd tells
-drop_tells c clock d o Stays s u mid h le (Some n) all failed (end.Form cause) tells = absurd tells
-drop_tells c clock d o Stays s u mid h le (Some n) all failed (end.Refused cause) tells = absurd tells
-drop_tells c clock d o Stays s u mid h le (Some n) all failed end.DiskFault tells = absurd tells
-drop_tells c clock d o Stays s u mid h le (Some n) all failed end.CutsFull tells = absurd tells
-drop_tells c clock d o Stays s u mid h le (Some n) all failed (end.Line n') tells = absurd tells
-drop_tells c clock d o Stays s u mid h le (Some n) all failed (end.Stream session) tells = absurd tells
-drop_tells c clock d o Stays s u mid h le (Some n) all failed end.OutOfMemory tells = absurd tells
-drop_tells c clock d o Stays s u mid h le None all failed e tells = rw tells.0 (rose_before (2 ^ 64 - 1) d.faults.before mid d.faults.after le (failed refl), tells.1)
+drop_tells c clock d o Stays s u mid h le (Some n) all failed dropped end.Done tells = (n, (s, u, h, all.0, all.1), tells)
+drop_tells c clock d o Stays s u mid h le (Some n) all failed dropped end.WriteFault tells = (n, (s, u, h, all.0, all.1), tells)
+drop_tells c clock d o Stays s u mid h le (Some n) all failed dropped end.ReadFault tells = absurd tells
+drop_tells c clock d o Stays s u mid h le (Some n) all failed dropped end.TooLong tells = absurd tells
+drop_tells c clock d o Stays s u mid h le (Some n) all failed dropped (end.Form cause) tells = absurd tells
+drop_tells c clock d o Stays s u mid h le (Some n) all failed dropped (end.Refused cause) tells = absurd tells
+drop_tells c clock d o Stays s u mid h le (Some n) all failed dropped end.DiskFault tells = absurd tells
+drop_tells c clock d o Stays s u mid h le (Some n) all failed dropped end.CutsFull tells = absurd tells
+drop_tells c clock d o Stays s u mid h le (Some n) all failed dropped (end.Line n') tells = absurd tells
+drop_tells c clock d o Stays s u mid h le (Some n) all failed dropped (end.Stream session) tells = absurd tells
+drop_tells c clock d o Stays s u mid h le (Some n) all failed dropped end.OutOfMemory tells = absurd tells
+drop_tells c clock d o Stays s u mid h le None all failed dropped e tells = rw tells.0 (rose_before (2 ^ 64 - 1) d.faults.before mid d.faults.after le (failed refl), tells.1, inr (let d = dropped refl in (d.0, s, u, h, d.1)))
 
 -- one drop more
 pub drops_more : (n : ℕ) (s t u : State) (m : MetaKey) → Drops n s t → Expires t (expired.Dropped m) u → Drops (n + 1) s u

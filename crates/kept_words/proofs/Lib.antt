@@ -1,4 +1,5 @@
 pub mod Telling
 pub mod Dropping
+pub mod Picturing
 pub mod Within
 pub mod Running

@@ -1,5 +1,5 @@
 -- What a word tells of the work that it did.
-use Rattle.std.specs.Prelude.{IfOk, List, Result, Ok, Err}
+use Rattle.std.specs.Prelude.{IfOk, List, OnErr, Result, Ok, Err}
 use Rattle.std.specs.declared.alloc.AllocError.{AllocError}
 use Rattle.std.proofs.Common.{ℕ, ◌≡◌, ◌≤◌, ◌^◌, ◌-◌, inr, refl, subst}
 use Rattle.cabinet.specs.Commands.{Cuts, IsCountedCut}
@@ -15,31 +15,48 @@ use Rattle.kept_cache.specs.declared.end.KeptEnd.TheVariants as end
 use Rattle.kept_cache.specs.Change.{DiskChange, OutputChange}
 use Rattle.kept_cache.specs.Opened.{HasOpened}
 use Rattle.kept_cache.specs.Texts.{Sends}
-use Rattle.kept_words.specs.Ends.{CutsOnce, TellsCut, TellsUsage}
+use Rattle.kept_words.specs.Covers.{IsCoverIn}
+use Rattle.kept_words.specs.Ends.{CutsOnce, TellsCut, TellsUsage, Truncates}
 use Rattle.tile_requests.specs.Texts.{usage_text}
+use Rattle.tile_service.specs.Outside.{InputChange}
 use Rattle.truncation_list.specs.declared.cover.Cover.{Cover}
 
 -- the one cut, by its reply and how that was told
 pub cut_tells : (c : Catalogue) (clock : Readings) (cover : Cover) (d : DiskChange) (o : OutputChange) (Stays : Type 0) (s u : State) (mid : ℕ)
-    → HasOpened c clock d s u → d.faults.before ≤ mid → (reply : Result CutReply AllocError) → IfOk reply (λ r. Cuts s cover r u) → IfOk reply (IsCountedCut mid d.faults.after)
+    → HasOpened c clock d s u → d.faults.before ≤ mid → (reply : Result CutReply AllocError) → IfOk reply (λ r. Cuts s cover r u) → OnErr reply (u ≡ s) → IfOk reply (IsCountedCut mid d.faults.after)
     → (e : KeptEnd) → TellsCut o Stays reply e → CutsOnce c clock cover d o Stays e
-cut_tells c clock cover d o Stays s u mid h le (Ok (cut.Done t)) cuts counted end.Done tells = (s, u, t, h, cuts, tells)
-cut_tells c clock cover d o Stays s u mid h le (Ok (cut.Done t)) cuts counted end.WriteFault tells = (s, u, t, h, cuts, tells)
-cut_tells c clock cover d o Stays s u mid h le (Ok (cut.Done t)) cuts counted end.ReadFault tells = absurd tells
-cut_tells c clock cover d o Stays s u mid h le (Ok (cut.Done t)) cuts counted end.TooLong tells = absurd tells
-cut_tells c clock cover d o Stays s u mid h le (Ok (cut.Done t)) cuts counted (end.Form cause) tells = absurd tells
-cut_tells c clock cover d o Stays s u mid h le (Ok (cut.Done t)) cuts counted (end.Refused cause) tells = absurd tells
-cut_tells c clock cover d o Stays s u mid h le (Ok (cut.Done t)) cuts counted end.DiskFault tells = absurd tells
-cut_tells c clock cover d o Stays s u mid h le (Ok (cut.Done t)) cuts counted end.CutsFull tells = absurd tells
-cut_tells c clock cover d o Stays s u mid h le (Ok (cut.Done t)) cuts counted (end.Line n) tells = absurd tells
-cut_tells c clock cover d o Stays s u mid h le (Ok (cut.Done t)) cuts counted (end.Stream session) tells = absurd tells
-cut_tells c clock cover d o Stays s u mid h le (Ok (cut.Done t)) cuts counted end.OutOfMemory tells = absurd tells
-cut_tells c clock cover d o Stays s u mid h le (Ok cut.Full) cuts counted e tells = rw tells.0 (s, u, h, cuts, tells.1)
-cut_tells c clock cover d o Stays s u mid h le (Ok cut.Spent) cuts counted e tells = rw tells.0 (inr (refl, (s, u, h, cuts)), tells.1)
-cut_tells c clock cover d o Stays s u mid h le (Ok (cut.DiskFault b a)) cuts counted e tells =
+cut_tells c clock cover d o Stays s u mid h le (Ok (cut.Done t)) cuts same counted end.Done tells = (s, u, t, h, cuts, tells)
+cut_tells c clock cover d o Stays s u mid h le (Ok (cut.Done t)) cuts same counted end.WriteFault tells = (s, u, t, h, cuts, tells)
+cut_tells c clock cover d o Stays s u mid h le (Ok (cut.Done t)) cuts same counted end.ReadFault tells = absurd tells
+cut_tells c clock cover d o Stays s u mid h le (Ok (cut.Done t)) cuts same counted end.TooLong tells = absurd tells
+cut_tells c clock cover d o Stays s u mid h le (Ok (cut.Done t)) cuts same counted (end.Form cause) tells = absurd tells
+cut_tells c clock cover d o Stays s u mid h le (Ok (cut.Done t)) cuts same counted (end.Refused cause) tells = absurd tells
+cut_tells c clock cover d o Stays s u mid h le (Ok (cut.Done t)) cuts same counted end.DiskFault tells = absurd tells
+cut_tells c clock cover d o Stays s u mid h le (Ok (cut.Done t)) cuts same counted end.CutsFull tells = absurd tells
+cut_tells c clock cover d o Stays s u mid h le (Ok (cut.Done t)) cuts same counted (end.Line n) tells = absurd tells
+cut_tells c clock cover d o Stays s u mid h le (Ok (cut.Done t)) cuts same counted (end.Stream session) tells = absurd tells
+cut_tells c clock cover d o Stays s u mid h le (Ok (cut.Done t)) cuts same counted end.OutOfMemory tells = absurd tells
+cut_tells c clock cover d o Stays s u mid h le (Ok cut.Full) cuts same counted e tells = rw tells.0 (s, u, h, cuts, tells.1)
+cut_tells c clock cover d o Stays s u mid h le (Ok cut.Spent) cuts same counted e tells = rw tells.0 (inr (refl, (s, u, h, cuts)), tells.1)
+cut_tells c clock cover d o Stays s u mid h le (Ok (cut.DiskFault b a)) cuts same counted e tells =
     let rose : Rose mid d.faults.after = subst (λ n. Rose n d.faults.after) counted.0 (subst (Rose b) counted.1 cuts.3) in
-    rw tells.0 (rose_before (2 ^ 64 - 1) d.faults.before mid d.faults.after le rose, tells.1)
-cut_tells c clock cover d o Stays s u mid h le (Err failed) cuts counted e tells = rw tells.0 tells.1
+    rw tells.0 (rose_before (2 ^ 64 - 1) d.faults.before mid d.faults.after le rose, tells.1, inr (s, u, b, a, h, cuts))
+cut_tells c clock cover d o Stays s u mid h le (Err failed) cuts same counted e tells = rw tells.0 (tells.1, inr (s, subst (λ (x : State). HasOpened c clock d s x) same h))
+
+-- the cut of a cover that was read
+pub cuts_read : (c : Catalogue) (clock : Readings) (i : InputChange) (d : DiskChange) (o : OutputChange) (DiskStays Stays : Type 0) (cover : Cover)
+    → IsCoverIn c i cover → (e : KeptEnd) → CutsOnce c clock cover d o Stays e → Truncates c clock i d o DiskStays Stays e
+cuts_read c clock i d o DiskStays Stays cover read end.Done cuts = (cover, read, cuts)
+cuts_read c clock i d o DiskStays Stays cover read end.WriteFault cuts = (cover, read, cuts)
+cuts_read c clock i d o DiskStays Stays cover read end.ReadFault cuts = absurd cuts
+cuts_read c clock i d o DiskStays Stays cover read end.TooLong cuts = absurd cuts
+cuts_read c clock i d o DiskStays Stays cover read (end.Form cause) cuts = absurd cuts
+cuts_read c clock i d o DiskStays Stays cover read (end.Refused cause) cuts = (cover, read, cuts)
+cuts_read c clock i d o DiskStays Stays cover read end.DiskFault cuts = (cover, read, cuts)
+cuts_read c clock i d o DiskStays Stays cover read end.CutsFull cuts = (cover, read, cuts)
+cuts_read c clock i d o DiskStays Stays cover read (end.Line n) cuts = absurd cuts
+cuts_read c clock i d o DiskStays Stays cover read (end.Stream session) cuts = absurd cuts
+cuts_read c clock i d o DiskStays Stays cover read end.OutOfMemory cuts = inr (cover, read, cuts)
 
 -- the usage of a cabinet that was opened, by how its writing ended
 usage_told : (c : Catalogue) (clock : Readings) (d : DiskChange) (o : OutputChange) (Stays : Type 0) (s : State)

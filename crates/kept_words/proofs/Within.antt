@@ -5,7 +5,9 @@ use Rattle.cabinet.specs.State.{State}
 use Rattle.causes.specs.Causes.{RoseBy}
 use Rattle.http_wire.specs.declared.message.Message.{Message}
 use Rattle.kept_cache.specs.Saving.{SavesAll}
+use Rattle.kept_cache.proofs.Picturing.{saves_sound}
 use Rattle.kept_cache.proofs.Within.{rose_within, saved_so}
+use Rattle.kept_words.proofs.Picturing.{schedule_sound}
 use Rattle.kept_words.specs.Runs.{RunsAndSaves, ServesAndSaves}
 use Rattle.tile_service.specs.declared.run_lines.RunEnd.{RunEnd}
 use Rattle.tile_service.specs.declared.run_lines.RunEnd.TheVariants as run_end
@@ -83,6 +85,7 @@ runs_and_saves document i o before after Stays U s u w e earlier later less same
       world = w;
       schedules = schedules_within i o (record { before = before; after = after }) earlier later U (Stays × (w.cabinet ≡ s)) (λ untouched. (less untouched, same untouched)) (world_of s document free_seats) w e h;
       saves = saved_so w.cabinet u before o.disk.before o.disk.after after rises.0 earlier rises.1 saves;
+      sound = λ told sound. saves_sound saves.count w.cabinet u saves.saves (schedule_sound i o (world_of s document free_seats) w U same e h told sound);
     }
 
 -- A SESSION
@@ -110,6 +113,7 @@ module _ (i : InputChange) (o : Outside) (f : FaultCounts) (earlier : f.before �
       failed = h.served.failed;
       faults = rose_within _ f.before o.disk.before o.disk.after f.after earlier later h.served.faults;
       truth = h.served.truth;
+      sound = h.served.sound;
       fresh = h.served.fresh;
       tiles = h.served.tiles;
     };
@@ -123,4 +127,5 @@ serves_and_saves document i o before after s t u e earlier later h saves = recor
   served = t;
   session = session_within i o (record { before = before; after = after }) earlier later document s t e h;
   saves = saved_so t u before o.disk.before o.disk.after after _ earlier h.served.faults saves;
+  sound = λ told sound. saves_sound saves.count t u saves.saves (h.served.sound told sound);
 }

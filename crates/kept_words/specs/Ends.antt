@@ -16,7 +16,8 @@ use Rattle.gate_journal.specs.declared.fault.OpenFault.TheVariants as fault
 use Rattle.kept_cache.specs.declared.end.KeptEnd.{KeptEnd}
 use Rattle.kept_cache.specs.declared.end.KeptEnd.TheVariants as end
 use Rattle.kept_cache.specs.Change.{DiskChange, HasFailed, HasWritten, IsCutShort, OutputChange}
-use Rattle.kept_cache.specs.Opened.{HasOpened, IsRefused}
+use Rattle.kept_cache.specs.Crash.{OpeningLeaves}
+use Rattle.kept_cache.specs.Opened.{HasOpened, IsRefused, RefusalLeaves}
 use Rattle.kept_cache.specs.Texts.{Sends}
 use Rattle.kept_words.specs.Covers.{IsCoverIn, IsFormedSo, IsTooLong}
 use Rattle.kept_words.specs.Texts.{cut_text, dropped_text, made_text}
@@ -29,9 +30,9 @@ use Rattle.truncation_list.specs.declared.cover.Cover.{Cover}
 abbrev pub TellsUsage : Catalogue → Readings → DiskChange → OutputChange → Type 0 → KeptEnd → Type 0
 TellsUsage c clock d o Stays end.Done = (s : State) × HasOpened c clock d s s × HasWritten o (usage_text s)
 TellsUsage c clock d o Stays end.WriteFault = (s : State) × HasOpened c clock d s s × IsCutShort o (usage_text s)
-TellsUsage c clock d o Stays (end.Refused cause) = IsRefused c d cause × Stays
-TellsUsage c clock d o Stays end.DiskFault = HasFailed d × Stays
-TellsUsage c clock d o Stays end.OutOfMemory = Stays
+TellsUsage c clock d o Stays (end.Refused cause) = IsRefused c d cause × Stays × RefusalLeaves c d cause
+TellsUsage c clock d o Stays end.DiskFault = HasFailed d × Stays × OpeningLeaves c d
+TellsUsage c clock d o Stays end.OutOfMemory = Stays × (OpeningLeaves c d ⊎ ((s : State) × HasOpened c clock d s s))
 TellsUsage c clock d o Stays end.ReadFault = ⊥
 TellsUsage c clock d o Stays end.TooLong = ⊥
 TellsUsage c clock d o Stays (end.Form cause) = ⊥
@@ -40,13 +41,18 @@ TellsUsage c clock d o Stays (end.Line n) = ⊥
 TellsUsage c clock d o Stays (end.Stream session) = ⊥
 
 -- TRUNCATE
+
+-- the cache was opened, and the disk failed at the cut
+abbrev pub HasFailedAtCut : Catalogue → Readings → Cover → DiskChange → Type 0
+HasFailedAtCut c clock cover d = (s : State) × (u : State) × (b : ℕ) × (a : ℕ) × HasOpened c clock d s u × Cuts s cover (cut.DiskFault b a) u
+
 abbrev pub CutsOnce : Catalogue → Readings → Cover → DiskChange → OutputChange → Type 0 → KeptEnd → Type 0
 CutsOnce c clock cover d o Stays end.Done = (s : State) × (u : State) × (t : ℕ) × HasOpened c clock d s u × Cuts s cover (cut.Done t) u × HasWritten o (cut_text t)
 CutsOnce c clock cover d o Stays end.WriteFault = (s : State) × (u : State) × (t : ℕ) × HasOpened c clock d s u × Cuts s cover (cut.Done t) u × IsCutShort o (cut_text t)
 CutsOnce c clock cover d o Stays end.CutsFull = (s : State) × (u : State) × HasOpened c clock d s u × Cuts s cover cut.Full u × Stays
-CutsOnce c clock cover d o Stays (end.Refused cause) = (IsRefused c d cause ⊎ ((cause ≡ fault.Spent) × ((s : State) × (u : State) × HasOpened c clock d s u × Cuts s cover cut.Spent u))) × Stays
-CutsOnce c clock cover d o Stays end.DiskFault = HasFailed d × Stays
-CutsOnce c clock cover d o Stays end.OutOfMemory = Stays
+CutsOnce c clock cover d o Stays (end.Refused cause) = ((IsRefused c d cause × RefusalLeaves c d cause) ⊎ ((cause ≡ fault.Spent) × ((s : State) × (u : State) × HasOpened c clock d s u × Cuts s cover cut.Spent u))) × Stays
+CutsOnce c clock cover d o Stays end.DiskFault = HasFailed d × Stays × (OpeningLeaves c d ⊎ HasFailedAtCut c clock cover d)
+CutsOnce c clock cover d o Stays end.OutOfMemory = Stays × (OpeningLeaves c d ⊎ ((s : State) × HasOpened c clock d s s))
 CutsOnce c clock cover d o Stays end.ReadFault = ⊥
 CutsOnce c clock cover d o Stays end.TooLong = ⊥
 CutsOnce c clock cover d o Stays (end.Form cause) = ⊥
@@ -62,7 +68,7 @@ abbrev pub Truncates : Catalogue → Readings → InputChange → DiskChange →
 Truncates c clock i d o DiskStays Stays end.ReadFault = Rose i.reads.before i.reads.after × DiskStays × Stays
 Truncates c clock i d o DiskStays Stays end.TooLong = IsTooLong i × DiskStays × Stays
 Truncates c clock i d o DiskStays Stays (end.Form cause) = IsFormedSo c i cause × DiskStays × Stays
-Truncates c clock i d o DiskStays Stays end.OutOfMemory = Stays
+Truncates c clock i d o DiskStays Stays end.OutOfMemory = (DiskStays × Stays) ⊎ CutsRead c clock i d o Stays end.OutOfMemory
 Truncates c clock i d o DiskStays Stays end.Done = CutsRead c clock i d o Stays end.Done
 Truncates c clock i d o DiskStays Stays end.WriteFault = CutsRead c clock i d o Stays end.WriteFault
 Truncates c clock i d o DiskStays Stays end.CutsFull = CutsRead c clock i d o Stays end.CutsFull
@@ -90,12 +96,16 @@ Drops (suc n) s u = (t : State) × Drops n s t × ((m : MetaKey) × Expires t (e
 abbrev pub HasDropped : Catalogue → Readings → DiskChange → ℕ → Type 0
 HasDropped c clock d n = (s : State) × (u : State) × HasOpened c clock d s u × Drops n s u × Expires u expired.Within u
 
+-- some were dropped, and then the disk failed
+abbrev pub HasDroppedSome : Catalogue → Readings → DiskChange → Type 0
+HasDroppedSome c clock d = (n : ℕ) × (s : State) × (u : State) × HasOpened c clock d s u × Drops n s u
+
 abbrev pub DropsAll : Catalogue → Readings → DiskChange → OutputChange → Type 0 → KeptEnd → Type 0
 DropsAll c clock d o Stays end.Done = (n : ℕ) × HasDropped c clock d n × HasWritten o (dropped_text n)
 DropsAll c clock d o Stays end.WriteFault = (n : ℕ) × HasDropped c clock d n × IsCutShort o (dropped_text n)
-DropsAll c clock d o Stays (end.Refused cause) = IsRefused c d cause × Stays
-DropsAll c clock d o Stays end.DiskFault = HasFailed d × Stays
-DropsAll c clock d o Stays end.OutOfMemory = Stays
+DropsAll c clock d o Stays (end.Refused cause) = IsRefused c d cause × Stays × RefusalLeaves c d cause
+DropsAll c clock d o Stays end.DiskFault = HasFailed d × Stays × (OpeningLeaves c d ⊎ HasDroppedSome c clock d)
+DropsAll c clock d o Stays end.OutOfMemory = Stays × OpeningLeaves c d
 DropsAll c clock d o Stays end.ReadFault = ⊥
 DropsAll c clock d o Stays end.TooLong = ⊥
 DropsAll c clock d o Stays (end.Form cause) = ⊥

@@ -1,12 +1,13 @@
 -- What the run of a schedule and the serving of a connection come to on the cache of a disk.
-use Rattle.std.specs.Prelude.{ℕ, ◌≡◌, ◌⊎◌, List}
-use Rattle.cabinet.specs.State.{State}
+use Rattle.std.specs.Prelude.{ℕ, ◌≡◌, ◌⊎◌, List, Some}
+use Rattle.cabinet.specs.State.{IsSound, State}
 use Rattle.catalog.specs.declared.catalogue.Catalogue.{Catalogue}
 use Rattle.clock.specs.Readings.{Readings}
 use Rattle.kept_cache.specs.declared.end.KeptEnd.{KeptEnd}
 use Rattle.kept_cache.specs.declared.end.KeptEnd.TheVariants as end
 use Rattle.kept_cache.specs.Change.{DiskChange, HasFailed}
-use Rattle.kept_cache.specs.Opened.{HasOpened, IsRefused}
+use Rattle.kept_cache.specs.Crash.{OpeningLeaves}
+use Rattle.kept_cache.specs.Opened.{HasOpened, IsRefused, RefusalLeaves}
 use Rattle.kept_cache.specs.Saving.{SavesAll}
 use Rattle.tile_service.specs.declared.schedule.ScheduleEnd.{ScheduleEnd}
 use Rattle.tile_service.specs.declared.schedule.ScheduleEnd.TheVariants as schedule
@@ -22,11 +23,13 @@ use Rattle.tile_service.specs.SessionEnds.{HasSession}
 -- SCHEDULE
 
 -- From s a schedule came to a world, and then its uses were saved, to u; `Stays` is that the output and the source stay as they are. Where
--- nothing was run the cabinet is as it was before the saving.
+-- nothing was run the cabinet is as it was before the saving. Where the source is modelled as the catalogue's, what the cabinet then keeps is the pictures
+-- of the numbers, if what was opened was.
 pub record RunsAndSaves (document : List ℕ) (i : InputChange) (o : Outside) (Stays : Type 0) (s u : State) (e : ScheduleEnd) : Type 0 where
   pub world : World
   pub schedules : Schedules i o (Stays × (world.cabinet ≡ s)) (world_of s document free_seats) world e
   pub saves : SavesAll o.disk world.cabinet u
+  pub sound : o.told ≡ Some s.catalogue.source → IsSound s → IsSound u
 
 -- the end of a word, by that of its schedule
 abbrev pub end_of_schedule : ScheduleEnd → KeptEnd
@@ -48,20 +51,22 @@ RunsSchedule c clock document i o d InputStays Stays (end.Line n) = HasScheduled
 RunsSchedule c clock document i o d InputStays Stays end.ReadFault = HasScheduled c clock document i o d Stays schedule.ReadFault
 RunsSchedule c clock document i o d InputStays Stays end.WriteFault = HasScheduled c clock document i o d Stays schedule.WriteFault
 RunsSchedule c clock document i o d InputStays Stays end.TooLong = HasScheduled c clock document i o d Stays schedule.TooLong
-RunsSchedule c clock document i o d InputStays Stays end.OutOfMemory = (InputStays × Stays) ⊎ HasScheduled c clock document i o d Stays schedule.OutOfMemory
-RunsSchedule c clock document i o d InputStays Stays (end.Refused cause) = IsRefused c d cause × InputStays × Stays
-RunsSchedule c clock document i o d InputStays Stays end.DiskFault = HasFailed d × InputStays × Stays
+RunsSchedule c clock document i o d InputStays Stays end.OutOfMemory = (InputStays × Stays × OpeningLeaves c d) ⊎ HasScheduled c clock document i o d Stays schedule.OutOfMemory
+RunsSchedule c clock document i o d InputStays Stays (end.Refused cause) = IsRefused c d cause × InputStays × Stays × RefusalLeaves c d cause
+RunsSchedule c clock document i o d InputStays Stays end.DiskFault = HasFailed d × InputStays × Stays × OpeningLeaves c d
 RunsSchedule c clock document i o d InputStays Stays (end.Form cause) = ⊥
 RunsSchedule c clock document i o d InputStays Stays end.CutsFull = ⊥
 RunsSchedule c clock document i o d InputStays Stays (end.Stream how) = ⊥
 
 -- REPLAY
 
--- from s a session came to a cabinet, and then its uses were saved, to u
+-- From s a session came to a cabinet, and then its uses were saved, to u. Where the source is modelled as the catalogue's, what the cabinet then keeps is
+-- the pictures of the numbers, if what was opened was.
 pub record ServesAndSaves (document : List ℕ) (i : InputChange) (o : Outside) (s u : State) (e : SessionEnd) : Type 0 where
   pub served : State
   pub session : HasSession i o document s served e
   pub saves : SavesAll o.disk served u
+  pub sound : o.told ≡ Some s.catalogue.source → IsSound s → IsSound u
 
 -- the end of a word, by that of its session
 abbrev pub end_of_session : SessionEnd → KeptEnd
@@ -92,9 +97,9 @@ RunsSession c clock document i o d InputStays Stays end.Done = HasReplayed c clo
 RunsSession c clock document i o d InputStays Stays (end.Stream how) = HasBrokenOff c clock document i o d how
 RunsSession c clock document i o d InputStays Stays end.ReadFault = HasReplayed c clock document i o d session.ReadFault
 RunsSession c clock document i o d InputStays Stays end.WriteFault = HasReplayed c clock document i o d session.WriteFault
-RunsSession c clock document i o d InputStays Stays end.OutOfMemory = (InputStays × Stays) ⊎ HasReplayed c clock document i o d session.OutOfMemory
-RunsSession c clock document i o d InputStays Stays (end.Refused cause) = IsRefused c d cause × InputStays × Stays
-RunsSession c clock document i o d InputStays Stays end.DiskFault = HasFailed d × InputStays × Stays
+RunsSession c clock document i o d InputStays Stays end.OutOfMemory = (InputStays × Stays × OpeningLeaves c d) ⊎ HasReplayed c clock document i o d session.OutOfMemory
+RunsSession c clock document i o d InputStays Stays (end.Refused cause) = IsRefused c d cause × InputStays × Stays × RefusalLeaves c d cause
+RunsSession c clock document i o d InputStays Stays end.DiskFault = HasFailed d × InputStays × Stays × OpeningLeaves c d
 RunsSession c clock document i o d InputStays Stays (end.Line n) = ⊥
 RunsSession c clock document i o d InputStays Stays end.TooLong = ⊥
 RunsSession c clock document i o d InputStays Stays (end.Form cause) = ⊥

@@ -1,5 +1,5 @@
 //! The word that drops metatiles until no quota is exceeded.
-ghost use Rattle.std.specs.Prelude.{◌≡◌, IfSome, IsTrue, None};
+ghost use Rattle.std.specs.Prelude.{ℕ, ◌≡◌, IfSome, IsTrue, None};
 ghost use Rattle.cabinet.specs.Commands.{Expires};
 ghost use Rattle.cabinet.specs.declared.replies.Expired.TheVariants as expired;
 ghost use Rattle.catalog.specs.Valid.{IsValid};
@@ -48,6 +48,7 @@ pub fn expire<D: Disk, O: ByteSink>(
 fn drop_all<C: Keeper>(cabinet: &mut C) -> Option<u32>
     ensures all { IfSome result (λ n. Drops n (C.state cabinet.old) (C.state cabinet.new) × Expires (C.state cabinet.new) expired.Within (C.state cabinet.new)) }
     ensures failed { result ≡ None → Rose (C.faults cabinet.old) (C.faults cabinet.new) }
+    ensures dropped { result ≡ None → (n : ℕ) × Drops n (C.state cabinet.old) (C.state cabinet.new) }
     ensures lasts { C.outlasts cabinet.old cabinet.new }
 {
     let most = cabinet.kept();

@@ -46,11 +46,31 @@ pub fn truncate<D: Disk, I: ByteSource, O: ByteSink>(
     ensures told { D.told disk.new ≡ D.told disk.old }
 {
     match cover_in(alloc, &catalogue, input) {
-        Ok(cover) => {
-            truncate_over::<D, O, Brand>(alloc, catalogue, &cover, clock, disk, output).1
-        }
+        Ok(cover) => cut_once(alloc, catalogue, &cover, clock, disk, output),
         Err(end) => end,
     }
+}
+
+/// Opens the cache of the disk, makes one cut of a cover, and writes its number.
+fn cut_once<D: Disk, O: ByteSink>(
+    alloc: Global,
+    catalogue: Catalogue,
+    cover: &Cover,
+    clock: Clock,
+    disk: &mut D,
+    output: &mut O,
+) -> KeptEnd
+    requires valid { IsValid catalogue }
+    requires cover { IsCoverOf catalogue cover.now }
+    requires ours { IsTrue (D.told disk.old) → IsOurs catalogue (D.state disk.old).seen }
+    ensures cuts { CutsOnce catalogue clock cover.now
+        (record { told = D.told disk.old; faults = counts (D.faults disk.old) (D.faults disk.new); from = D.state disk.old; to = D.state disk.new })
+        (record { writes = counts (O.faults output.old) (O.faults output.new); from = O.taken output.old; to = O.taken output.new })
+        (output.new ≡ output.old) result }
+    ensures lasts { LastsThrough catalogue (record { told = D.told disk.old; faults = counts (D.faults disk.old) (D.faults disk.new); from = D.state disk.old; to = D.state disk.new }) }
+    ensures told { D.told disk.new ≡ D.told disk.old }
+{
+    truncate_over::<D, O, Brand>(alloc, catalogue, cover, clock, disk, output).1
 }
 
 /// Tells the reply of the one cut.

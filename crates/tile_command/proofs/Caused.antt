@@ -139,8 +139,8 @@ module _ (h : CommandChange) (stays : Stays) (d : DiskChange) (DiskStays : Type 
   truncated end.CutsFull x = (c, be, (x.0, cover_in x.0 x.1, (x.2.0, x.2.2.opened, (x.2.1, x.2.3))))
   truncated (end.Refused cause) x = (c, be, (x.0, cover_in x.0 x.1, refused x.2.0))
     where
-      refused : opened.IsRefused c d cause ⊎ ((cause ≡ open_fault.Spent) × ((s : State) × (u : State) × HasOpened c clock d s u × Cuts s x.0 cut.Spent u)) → opened.IsRefused c d cause ⊎ ((cause ≡ open_fault.Spent) × CutReplies d clock c x.0 cut.Spent)
-      refused (inl r) = inl r
+      refused : (opened.IsRefused c d cause × opened.RefusalLeaves c d cause) ⊎ ((cause ≡ open_fault.Spent) × ((s : State) × (u : State) × HasOpened c clock d s u × Cuts s x.0 cut.Spent u)) → opened.IsRefused c d cause ⊎ ((cause ≡ open_fault.Spent) × CutReplies d clock c x.0 cut.Spent)
+      refused (inl r) = inl r.0
       refused (inr r) = inr (r.0, (r.1.0, r.1.2.opened, (r.1.1, r.1.3)))
   truncated end.DiskFault x = x.2.0
   truncated (end.Line n) x = absurd x

@@ -188,6 +188,7 @@ module _ {told : Option ℕ} {before after : ℕ} {disk : FaultCounts} {w : Worl
       record {
         failed = f.failed;
         truth = λ h is. f.truth h (is, f.free);
+        sound = λ h is. (f.sound h (is, f.free)).0;
         fresh = all_fresh w.cabinet.catalogue t.cabinet.history answers f.fresh;
         tiles = (subst (IsAnsweredRun w.cabinet) ends_done (run_answered w 1 done made)).1;
       } in

@@ -129,6 +129,7 @@ is_served {document = document} {s} {t} {messages} {answers} f =
       failed = f.failed;
       faults = f.faults;
       truth = f.truth;
+      sound = f.sound;
       fresh = all_fresh s.catalogue t.history answers f.fresh;
       tiles = (subst (λ d. AreAnswered s d.0.cabinet d.1) made (session_answered (lone s document) 1 messages f.made)).1;
     }

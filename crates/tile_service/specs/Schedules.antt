@@ -45,11 +45,12 @@ Ends o w lines chances t run_end.WriteFault = (t ≡ (run w 1 lines chances).wor
 
 -- What is promised of the answers of a run from w. No more of them say that the source failed, and no more failures are yet
 -- to be answered, than its count rose by. Where the source is modelled as the catalogue's, each tile is the picture of its
--- number; and each tile is fresh at its last ask or force. While numbers are left, each request for a tile is answered with the tile, but
+-- number, and so is all that is kept at the end where all that was kept at the start was; and each tile is fresh at its last ask or force. While numbers are left, each request for a tile is answered with the tile, but
 -- where memory ran out or the source failed: no fault of a disk comes between.
 pub record IsUpheld (told : Option ℕ) (renders : FaultCounts) (w : World) (r : Run) : Type 0 where
   pub failed : RoseBy (failures r.answers + unanswered r.world.seats) renders.before renders.after
   pub truth : told ≡ Some w.cabinet.catalogue.source → IsSound w.cabinet → AllByRecursion (IsTrue w.cabinet.catalogue) r.answers
+  pub sound : told ≡ Some w.cabinet.catalogue.source → IsSound w.cabinet → IsSound r.world.cabinet
   pub fresh : AllByRecursion (IsFresh w.cabinet.catalogue r.world.cabinet.history) r.answers
   pub tiles : HasNumbers r.world.cabinet → AllByRecursion IsAnsweredTile r.answers
 

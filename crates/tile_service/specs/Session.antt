@@ -43,7 +43,8 @@ bad_text status = response_text true (bare status)
 
 -- From s these messages of a session came to t with these answers, under some chances: each message has one. No more answers
 -- say that the source failed than its count rose by, and the chances name no more faults of the disk than its count rose by. Where the
--- source is modelled as the catalogue's, each tile is the picture of its number; and each tile is fresh at its ask. While numbers are
+-- source is modelled as the catalogue's, each tile is the picture of its number, and so is all that is kept at the end where all that was kept
+-- at the start was; and each tile is fresh at its ask. While numbers are
 -- left, each request for a tile is answered with the tile, but where memory ran out or the source failed: no fault of a disk comes
 -- between.
 pub record IsServed (told : Option ℕ) (renders disk : FaultCounts) (document : List ℕ) (s t : State) (messages : List Message) (answers : List Answer) : Type 0 where
@@ -53,5 +54,6 @@ pub record IsServed (told : Option ℕ) (renders disk : FaultCounts) (document :
   pub failed : RoseBy (failures answers) renders.before renders.after
   pub faults : RoseBy (disk_faults chances) disk.before disk.after
   pub truth : told ≡ Some s.catalogue.source → IsSound s → AllByRecursion (IsTrue s.catalogue) answers
+  pub sound : told ≡ Some s.catalogue.source → IsSound s → IsSound t
   pub fresh : AllByRecursion (IsFresh s.catalogue t.history) answers
   pub tiles : HasNumbers t → AllByRecursion IsAnsweredTile answers

@@ -2,7 +2,7 @@ use Rattle.std.proofs.Common.{refl, sym, subst, ◌∙◌}
 use Rattle.cabinet.specs.State.{State}
 use Rattle.jobs.specs.Job.{Fits}
 use Rattle.job_words.proofs.Telling.{job_tells}
-use Rattle.kept_cache.proofs.Closing.{has_opened, is_restored}
+use Rattle.kept_cache.proofs.Closing.{has_opened}
 use Rattle.kept_cache.proofs.Lasting.{worked}
 use Rattle.tile_service.specs.Session.{IsAtRest}
 use Rattle.job_words.proofs.word.run_over.Goals as goal
@@ -26,8 +26,7 @@ returns-in-Ok-clause-runs g c =
     let runs = work.ensures.runs (faults c.args.disk.now) o.later in
     rw same
     (job_tells _ _ c.args.job.now _ _ _ first.state last.state runs.0
-    (has_opened _ _ _ _ _ _ _ _ _ _ _ o.opened outlasts.same_catalogue told (rw (sym same) c.closed-disk.ensures.left)
-    (is_restored _ _ (faults c.args.disk.now) (faults first.file.disk.disk.now) (faults last.file.disk.disk.now) first.file.journal last.file.journal (g.D.Disk.state last.file.disk.disk.now) last.state told o.later o.settled outlasts.settled (rw (sym same) c.closed-disk.ensures.restores)))
+    (has_opened _ _ _ _ _ (faults c.args.disk.now) (faults first.file.disk.disk.now) (faults last.file.disk.disk.now) first.file.journal last.file.journal _ _ _ _ _ c.requires.valid o.opened outlasts.same_catalogue told o.later o.settled outlasts.settled (rw (sym same) c.closed-disk.ensures.closed))
     runs.2 work.result runs.1 c.told_tally.result c.told_tally.ensures)
 
 pub returns-in-Ok-clause-lasts : goal.returns-in-Ok-clause-lasts

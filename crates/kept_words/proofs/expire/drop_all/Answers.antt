@@ -1,7 +1,8 @@
-use Rattle.std.proofs.Common.{arith}
+use Rattle.std.proofs.Common.{arith, subst, sym}
 use Rattle.cabinet.specs.declared.replies.Expired.TheVariants as expired
 use Rattle.cabinet.specs.State.{now}
 use Rattle.kept_words.proofs.Dropping.{drops_more, fewer}
+use Rattle.kept_words.specs.Ends.{Drops}
 use Rattle.truncation_list.proofs.Answering.{answers_through}
 use Rattle.kept_words.proofs.expire.drop_all.Goals as goal
 
@@ -25,3 +26,8 @@ dropping-preserved g c =
       answers = answers_through (now new).book (now old).book (now first).book known.answers.book i.answers;
       later = omega (arith, i.later, c.expire.ensures.later);
     }
+
+pub returns-in-DiskFault-clause-dropped : goal.returns-in-DiskFault-clause-dropped
+returns-in-DiskFault-clause-dropped g c = λ none.
+    let row = c.in-DiskFault.ensures.expires in
+    (c.dropping.dropped, subst (Drops c.dropping.dropped (g.C.Keeper.state c.args.cabinet.now)) (sym row.2) c.dropping.invariant.drops)

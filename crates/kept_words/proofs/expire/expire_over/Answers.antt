@@ -1,5 +1,5 @@
 use Rattle.std.proofs.Common.{sym, ◌∙◌}
-use Rattle.kept_cache.proofs.Closing.{has_opened, is_restored}
+use Rattle.kept_cache.proofs.Closing.{has_opened}
 use Rattle.kept_cache.proofs.Lasting.{worked}
 use Rattle.kept_words.proofs.Dropping.{drop_tells}
 use Rattle.kept_words.proofs.expire.expire_over.Goals as goal
@@ -15,9 +15,8 @@ returns-in-Ok-clause-drops g c =
     let told = work.ensures.lasts.same_told ∙ o.told in
     rw same
     (drop_tells _ _ _ _ _ c.in-Ok.cabinet.state work.new.cabinet.state (g.D.Disk.faults c.in-Ok.cabinet.file.disk.disk.now)
-    (has_opened _ _ _ _ _ _ _ _ _ _ _ o.opened work.ensures.lasts.same_catalogue told (rw (sym same) c.closed-disk.ensures.left)
-    (is_restored _ _ (faults c.args.disk.now) (faults first.file.disk.disk.now) (faults last.file.disk.disk.now) first.file.journal last.file.journal (g.D.Disk.state last.file.disk.disk.now) last.state told o.later o.settled work.ensures.lasts.settled (rw (sym same) c.closed-disk.ensures.restores))) o.later
-    work.result work.ensures.all work.ensures.failed c.told_dropped.result c.told_dropped.ensures)
+    (has_opened _ _ _ _ _ (faults c.args.disk.now) (faults first.file.disk.disk.now) (faults last.file.disk.disk.now) first.file.journal last.file.journal _ _ _ _ _ c.requires.valid o.opened work.ensures.lasts.same_catalogue told o.later o.settled work.ensures.lasts.settled (rw (sym same) c.closed-disk.ensures.closed)) o.later
+    work.result work.ensures.all work.ensures.failed work.ensures.dropped c.told_dropped.result c.told_dropped.ensures)
 
 pub returns-in-Ok-clause-lasts : goal.returns-in-Ok-clause-lasts
 returns-in-Ok-clause-lasts g c =

@@ -1,6 +1,6 @@
 use Rattle.std.proofs.Common.{sym, refl, subst, ◌∙◌}
 use Rattle.tile_service.specs.Session.{IsAtRest}
-use Rattle.kept_cache.proofs.Closing.{has_opened, is_restored}
+use Rattle.kept_cache.proofs.Closing.{has_opened}
 use Rattle.kept_cache.proofs.Lasting.{worked}
 use Rattle.kept_words.proofs.Running.{session_tells}
 use Rattle.kept_words.proofs.replay.replay_over.Goals as goal
@@ -22,8 +22,7 @@ returns-in-Ok-clause-serves g c =
     (session_tells _ _ _ _ _ _ _ _ work.result (
       c.in-Ok.cabinet.state,
       work.new.counter.cabinet.state,
-      has_opened _ _ _ _ _ _ _ _ _ _ _ o.opened outlasts.same_catalogue told (rw (sym same) c.closed.ensures.left)
-          (is_restored _ _ (faults c.args.disk.now) (faults first.file.disk.disk.now) (faults last.file.disk.disk.now) first.file.journal last.file.journal (g.D.Disk.state last.file.disk.disk.now) last.state told o.later o.settled outlasts.settled (rw (sym same) c.closed.ensures.restores)),
+      has_opened _ _ _ _ _ (faults c.args.disk.now) (faults first.file.disk.disk.now) (faults last.file.disk.disk.now) first.file.journal last.file.journal _ _ _ _ _ c.requires.valid o.opened outlasts.same_catalogue told o.later o.settled outlasts.settled (rw (sym same) c.closed.ensures.closed),
       work.ensures.serves _ o.later,
     ))
 

@@ -1,5 +1,5 @@
 use Rattle.std.proofs.Common.{sym, ◌∙◌}
-use Rattle.kept_cache.proofs.Closing.{has_opened, is_restored}
+use Rattle.kept_cache.proofs.Closing.{has_opened}
 use Rattle.kept_cache.proofs.Lasting.{worked}
 use Rattle.kept_words.proofs.Running.{schedule_tells}
 use Rattle.kept_words.proofs.schedule.schedule_over.Goals as goal
@@ -18,8 +18,7 @@ returns-in-Ok-clause-runs g c =
     (schedule_tells _ _ _ _ _ _ _ _ work.result (
       c.in-Ok.cabinet.state,
       work.new.counter.cabinet.state,
-      has_opened _ _ _ _ _ _ _ _ _ _ _ o.opened outlasts.same_catalogue told (rw (sym same) c.closed.ensures.left)
-          (is_restored _ _ (faults c.args.disk.now) (faults first.file.disk.disk.now) (faults last.file.disk.disk.now) first.file.journal last.file.journal (g.D.Disk.state last.file.disk.disk.now) last.state told o.later o.settled outlasts.settled (rw (sym same) c.closed.ensures.restores)),
+      has_opened _ _ _ _ _ (faults c.args.disk.now) (faults first.file.disk.disk.now) (faults last.file.disk.disk.now) first.file.journal last.file.journal _ _ _ _ _ c.requires.valid o.opened outlasts.same_catalogue told o.later o.settled outlasts.settled (rw (sym same) c.closed.ensures.closed),
       work.ensures.runs _ o.later,
     ))
 

@@ -1,5 +1,5 @@
 use Rattle.std.proofs.Common.{sym, ◌∙◌}
-use Rattle.kept_cache.proofs.Closing.{has_opened, is_restored}
+use Rattle.kept_cache.proofs.Closing.{has_opened}
 use Rattle.kept_cache.proofs.Lasting.{worked}
 use Rattle.kept_words.proofs.Telling.{cut_tells}
 use Rattle.kept_words.proofs.truncate.truncate_over.Goals as goal
@@ -14,9 +14,8 @@ returns-in-Ok-clause-cuts g c =
     let told = c.cut-reply.ensures.lasts.same_told ∙ o.told in
     rw same
     (cut_tells _ _ _ _ _ _ c.in-Ok.cabinet.state last.state (g.D.Disk.faults c.in-Ok.cabinet.file.disk.disk.now)
-    (has_opened _ _ _ _ _ _ _ _ _ _ _ o.opened c.cut-reply.ensures.lasts.same_catalogue told (rw (sym same) c.closed-disk.ensures.left)
-    (is_restored _ _ (faults c.args.disk.now) (faults first.file.disk.disk.now) (faults last.file.disk.disk.now) first.file.journal last.file.journal (g.D.Disk.state last.file.disk.disk.now) last.state told o.later o.settled c.cut-reply.ensures.lasts.settled (rw (sym same) c.closed-disk.ensures.restores))) o.later
-    c.cut-reply.result c.cut-reply.ensures.cuts c.cut-reply.ensures.counted c.told_cut.result c.told_cut.ensures)
+    (has_opened _ _ _ _ _ (faults c.args.disk.now) (faults first.file.disk.disk.now) (faults last.file.disk.disk.now) first.file.journal last.file.journal _ _ _ _ _ c.requires.valid o.opened c.cut-reply.ensures.lasts.same_catalogue told o.later o.settled c.cut-reply.ensures.lasts.settled (rw (sym same) c.closed-disk.ensures.closed)) o.later
+    c.cut-reply.result c.cut-reply.ensures.cuts c.cut-reply.ensures.err c.cut-reply.ensures.counted c.told_cut.result c.told_cut.ensures)
 
 pub returns-in-Ok-clause-lasts : goal.returns-in-Ok-clause-lasts
 returns-in-Ok-clause-lasts g c =
