@@ -1,5 +1,5 @@
 //! A job that is to be run.
-ghost use Rattle.std.specs.Prelude.{◌≡◌};
+ghost use Rattle.std.specs.Prelude.{◌≡◌, None};
 ghost use Rattle.job_sheet.specs.Hands.{AreFresh};
 
 use job_sheet::hand::Hand;
@@ -24,4 +24,5 @@ pub(crate) struct WatchedJob {
     pub(crate) sheet: Arc<JobSheet>,
     pub(crate) watch: Hand,
     ghost own: { watch.sheet ≡ sheet.value },
+    ghost claims_none: { watch.number ≡ None },
 }

@@ -80,6 +80,19 @@ module _ (places hands : ℕ) (a b : Standing) (as_many : length a.accounts ≡ 
         let down = sum_within (λ (x : Account). x.failed) (λ (x : Account). x.failed) b.accounts a.accounts (sym lengths) (λ k lt. let s = sound.all in (no_more k (omega arith)).1) in
         omega arith
 
+    -- b is settled, too
+    pub stays_settled : IsSettled hands b
+    stays_settled k lt =
+        let l = later.accounts k in
+        let s = settled k lt in
+        let ended = l.ended s.0 in
+        let e : length (account b k).claimed ≡ length (account a k).claimed = ap length ended.0 in
+        let r = sound.reported k in
+        let d = l.done in
+        let f = l.failed in
+        let all = s.1 in
+        (λ still. s.0 (sym ended.1 ∙ still), omega arith)
+
     pub all_reported : done_count a + failed_count a ≡ claimed_count a
     all_reported =
         let p = sum_plus (λ (x : Account). x.done) (λ (x : Account). x.failed) a.accounts in

@@ -47,6 +47,10 @@ pub record AreReports (a : Account) (done failed : List ℕ) : Type 0 where
 abbrev pub fresh_standing : ℕ → Standing
 fresh_standing hands = record { accounts = replicate hands fresh; cancelled = false }
 
+-- a watch of the sheet that has seen this
+abbrev pub watching : Sheet → Standing → Holding
+watching sheet s = record { sheet = sheet; number = None; seen = s; done = []; failed = [] }
+
 abbrev pub fresh_holding : Sheet → Option ℕ → Holding
 fresh_holding sheet number = record { sheet = sheet; number = number; seen = fresh_standing sheet.hands; done = []; failed = [] }
 

@@ -1,5 +1,5 @@
 //! Claims and reports of a hand, and the end of a job before its time.
-ghost use Rattle.std.specs.Prelude.{◌≡◌, IfNone, IfSome};
+ghost use Rattle.std.specs.Prelude.{◌≡◌, IfNone, IfSome, None};
 ghost use Rattle.job_sheet.specs.Hands.{MayClaim, MayReport};
 ghost use Rattle.job_sheet.specs.Calls.{Cancels, Claims, MeetsNone, ReportsDone, ReportsFailed};
 
@@ -43,9 +43,10 @@ impl JobSheet {
         hand.failed = hand.failed.and(&place);
     }
 
-    /// Cancels the job: no place is claimed any more.
+    /// Cancels the job: no place is claimed any more. Only the watch may do so, and no hand that claims places.
     pub fn cancel(&self, hand: &mut Hand)
         requires own { hand.old.sheet ≡ self.now }
+        requires watch { hand.old.number ≡ None }
         ensures { Cancels hand.old hand.new }
     {
         self.counts.cancel(&mut hand.seat);

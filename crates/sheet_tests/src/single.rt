@@ -13,7 +13,7 @@ fn a_job_is_cancelled(rt: HostRuntime) -> Result<(), Fail> {
     let Pair {
         sheet,
         mut first,
-        mut second,
+        mut watch,
         ..
     } = pair;
     let Some(place) = sheet.claim(&mut first) else {
@@ -21,8 +21,8 @@ fn a_job_is_cancelled(rt: HostRuntime) -> Result<(), Fail> {
     };
     assert!(rt; place == 0 && sheet.places() == 5);
     sheet.done(&mut first, place);
-    sheet.cancel(&mut second);
-    let progress = sheet.progress(&mut second);
+    sheet.cancel(&mut watch);
+    let progress = sheet.progress(&mut watch);
     let expected = Progress {
         places: 5,
         claimed: 1,
