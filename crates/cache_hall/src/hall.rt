@@ -5,6 +5,7 @@ use cabinet_chest::chest::CabinetChest;
 use catalog::catalogue::Catalogue;
 use exact_ratio::items::Items;
 use std::sync::Wait;
+use std::time::Clock;
 use turnstile::pass::Pass;
 use turnstile::turnstile::Turnstile;
 
@@ -33,6 +34,11 @@ impl<K: Keeper> Hall<K> {
     /// Sleeps until something may have been kept, dropped or truncated, unless it was since `heard` was read.
     pub fn rest<R: Wait>(&self, rt: &R, heard: u64) {
         self.changes.sleep(rt, heard);
+    }
+
+    /// Sleeps likewise, but for no longer than so many milliseconds.
+    pub fn rest_for<R: Wait + Clock>(&self, rt: &R, heard: u64, milliseconds: u64) {
+        self.changes.sleep_for(rt, heard, milliseconds);
     }
 
     /// Wakes all that rest.

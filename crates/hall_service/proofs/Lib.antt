@@ -8,3 +8,4 @@ pub mod JobTurns
 pub mod Closing
 pub mod Gathering
 pub mod Passes
+pub mod Upkept

@@ -1,3 +1,4 @@
+pub mod Upkept
 pub mod Between
 pub mod Stints
 pub mod Crew

@@ -62,7 +62,7 @@ fn gather<K: Keeper, S: Source, L: Link, G: JobGate>(
 
 /// The last worker takes over all hands at the queue, and serves what is left there; who runs jobs hears what all workers know of the
 /// board. The passes of all workers are put into a list that has room for them.
-pub(crate) fn serve_rest<R: Wait, K: Keeper, S: Source, L: Link, G: JobGate>(
+pub(crate) fn serve_rest<R: Wait + std::time::Clock, K: Keeper, S: Source, L: Link, G: JobGate>(
     rt: &R,
     alloc: Global,
     world: &World<K>,

@@ -9,4 +9,6 @@ pub enum ServiceEnd {
     ListenFault,
     /// Memory ran out before the first link.
     OutOfMemory,
+    /// The threads that serve can't be made. The listener was asked for no link.
+    NoThreads,
 }

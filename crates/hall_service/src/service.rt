@@ -13,6 +13,7 @@ use crate::crew::{Staff, Supplies, crew_of};
 use crate::ending::close;
 use crate::ends::ServiceEnd;
 use crate::gates::paced_gates;
+use crate::roll_call::can_make;
 use crate::serving::{Served, serve_links};
 use crate::stage::{BOARD_PASSES, PASSES, SOURCES, Stage};
 use cabinet::keeper::Keeper;
@@ -25,11 +26,15 @@ use std::alloc::{AllocError, Global};
 use std::sync::Wait;
 use std::thread::Threads;
 
+/// How many threads serve beside the one that accepts: the workers, the upkeep, who runs jobs, and those that these are made from.
+const THREADS: u32 = 8;
+
 /// Serves so many links of a listener over what was made ready, and closes its hall: four workers serve each link to its end, while quotas
 /// are kept, uses are saved, and the jobs that messages submit are run, one after the other; where requests come, a job's crew rests
 /// meanwhile. It ends when all links are served and no job waits. Everything that it needs besides the sessions and the work at jobs is
 /// taken before the first link. The supplies are of a first pass, which has made nothing; of the pass that the caller names as theirs the
-/// end says what `HasEndedOver` has. Where the system gives no thread, it may wait for ever.
+/// end says what `HasEndedOver` has. Where not all threads can be made at its begin it ends with `NoThreads`; one that can't be made after
+/// that may leave it waiting for ever.
 pub fn serve_hall<
     R: Threads + Wait + std::time::Clock + Sync,
     K: Keeper + Send,
@@ -56,6 +61,12 @@ where
         (record { connections = connections; given_before = N.given listener.old; given_after = N.given listener.new; accepts = counts (N.faults listener.old) (N.faults listener.new) })
         (listener.new ≡ listener.old) result }
 {
+    if !can_make(rt, THREADS) {
+        // What is large is dropped by a call, since the proof would else go through its parts.
+        drop(stage);
+        drop(sources);
+        return ServiceEnd::NoThreads;
+    }
     let Stage {
         world,
         passes,

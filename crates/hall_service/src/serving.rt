@@ -13,6 +13,7 @@ ghost use Rattle.link_queue.specs.declared.hand.Hand.{Hand};
 ghost use Rattle.hall_service.specs.Crew.{HasServedLinks, HasWorked, IsReady};
 ghost use Rattle.hall_service.specs.Runners.{HasRunOn};
 ghost use Rattle.hall_service.specs.Stints.{serving};
+ghost use Rattle.hall_service.specs.Upkept.{HasKeptUp, IsKeptUpBy};
 
 use crate::crew::{Crew, Staff, WORKERS, Worker};
 use crate::crossing::is_shared;
@@ -40,7 +41,12 @@ use wmts_rest::table::RestTable;
 
 /// Lets all workers serve until no more links come, and then tells who runs jobs.
 #[tactic(auto, using(crate::proofs::Shared::world_sync))]
-fn work_all<R: Threads + Wait + Sync, K: Keeper + Send, S: Source + Send, L: Link + Send>(
+fn work_all<
+    R: Threads + Wait + std::time::Clock + Sync,
+    K: Keeper + Send,
+    S: Source + Send,
+    L: Link + Send,
+>(
     rt: &R,
     alloc: Global,
     world: &World<K>,
@@ -76,7 +82,7 @@ fn work_all<R: Threads + Wait + Sync, K: Keeper + Send, S: Source + Send, L: Lin
 /// Serves links until no more come, and runs jobs until then and until none is left; then ends the upkeep.
 #[tactic(auto, using(crate::proofs::Shared::world_sync))]
 fn work_and_run<
-    R: Threads + Wait + Sync,
+    R: Threads + Wait + std::time::Clock + Sync,
     K: Keeper + Send,
     S: Source + Send,
     L: Link + Send,
@@ -128,7 +134,7 @@ fn work_and_run<
 /// Serves links until no more come, and runs jobs and keeps the cache up meanwhile.
 #[tactic(auto, using(crate::proofs::Shared::world_sync))]
 fn serve_all<
-    R: Threads + Wait + Sync,
+    R: Threads + Wait + std::time::Clock + Sync,
     K: Keeper + Send,
     S: Source + Send,
     L: Link + Send,
@@ -140,6 +146,7 @@ fn serve_all<
     requires runner { idles.IsReady world.now.board.turnstile.table world.now.hall.turnstile.table world.now.hall.catalogue crew.old.runner }
     ensures ready { All (λ w. IsReady (table_of queue.now.links) world.now.hall.turnstile.table world.now.board.turnstile.table world.now.hall.catalogue (S.told w.source) w.pass w.board w.hand) crew.new.workers.items }
     ensures upkeep { IsPassOf world.now.hall.turnstile.table world.now.hall.catalogue crew.new.upkeep }
+    ensures keeps { HasKeptUp world.now.hall.catalogue crew.old.upkeep crew.new.upkeep }
     ensures runner { idles.IsReady world.now.board.turnstile.table world.now.hall.turnstile.table world.now.hall.catalogue crew.new.runner }
     ensures runs { RunsAll world.now.hall.catalogue crew.old.runner crew.new.runner }
     ensures worked { (first : HallPass) (before : Hand L)
@@ -164,7 +171,8 @@ fn serve_all<
         rt,
         &mut ||
             requires { IsPassOf hall.now.turnstile.table hall.now.catalogue upkeep.now }
-            ensures { IsPassOf hall.entry.now.turnstile.table hall.entry.now.catalogue upkeep.exit.now }
+            ensures of { IsPassOf hall.entry.now.turnstile.table hall.entry.now.catalogue upkeep.exit.now }
+            ensures keeps { HasKeptUp hall.entry.now.catalogue upkeep.entry.now upkeep.exit.now }
         { keep_up(rt, hall, shift, upkeep) },
         &mut ||
             requires { IsValid world.now.hall.catalogue × All (λ w. IsReady (table_of queue.now.links) world.now.hall.turnstile.table world.now.board.turnstile.table world.now.hall.catalogue (S.told w.source) w.pass w.board w.hand) workers.now × idles.IsReady world.now.board.turnstile.table world.now.hall.turnstile.table world.now.hall.catalogue runner.now }
@@ -181,7 +189,7 @@ fn serve_all<
 /// Accepts so many links in this thread while others serve them. False where an accept failed.
 #[tactic(auto, using(crate::proofs::Shared::world_sync))]
 fn accept_and_serve<
-    R: Threads + Wait + Sync,
+    R: Threads + Wait + std::time::Clock + Sync,
     K: Keeper + Send,
     S: Source + Send,
     N: Listener,
@@ -206,6 +214,7 @@ where
     ensures accepted { HasAccepted (table_of queue.now.links) connections (view staff.old.acceptor) staff.new.acceptor (N.given listener.old) (N.given listener.new) (N.faults listener.old) (N.faults listener.new) result }
     ensures ready { All (λ w. IsReady (table_of queue.now.links) world.now.hall.turnstile.table world.now.board.turnstile.table world.now.hall.catalogue (S.told w.source) w.pass w.board w.hand) staff.new.crew.workers.items }
     ensures upkeep { IsPassOf world.now.hall.turnstile.table world.now.hall.catalogue staff.new.crew.upkeep }
+    ensures keeps { HasKeptUp world.now.hall.catalogue staff.old.crew.upkeep staff.new.crew.upkeep }
     ensures runner { idles.IsReady world.now.board.turnstile.table world.now.hall.turnstile.table world.now.hall.catalogue staff.new.crew.runner }
     ensures runs { RunsAll world.now.hall.catalogue staff.old.crew.runner staff.new.crew.runner }
     ensures each { length staff.new.crew.workers.items ≡ length staff.old.crew.workers.items }
@@ -227,6 +236,7 @@ where
                 → All (λ w. HasWorked (serving N.L.left N.L.taken N.L.ByteSource.faults N.L.ByteSink.faults world.entry.now.capabilities world.entry.now.hall.catalogue world.entry.now.board.turnstile.table first) before w.pass w.board (S.faults w.source) w.hand) crew.entry.now.workers.items
                 → All (λ w. HasWorked (serving N.L.left N.L.taken N.L.ByteSource.faults N.L.ByteSink.faults world.entry.now.capabilities world.entry.now.hall.catalogue world.entry.now.board.turnstile.table first) before w.pass w.board (S.faults w.source) w.hand) crew.exit.now.workers.items }
             ensures upkeep { IsPassOf world.entry.now.hall.turnstile.table world.entry.now.hall.catalogue crew.exit.now.upkeep }
+            ensures keeps { HasKeptUp world.entry.now.hall.catalogue crew.entry.now.upkeep crew.exit.now.upkeep }
             ensures runner { idles.IsReady world.entry.now.board.turnstile.table world.entry.now.hall.turnstile.table world.entry.now.hall.catalogue crew.exit.now.runner }
             ensures runs { RunsAll world.entry.now.hall.catalogue crew.entry.now.runner crew.exit.now.runner }
             ensures each { length crew.exit.now.workers.items ≡ length crew.entry.now.workers.items }
@@ -249,7 +259,7 @@ pub(crate) struct Served<K: Keeper> {
 /// Accepts so many links of a listener in this thread, while a crew serves them, and sees that each is served to its end and that each job
 /// is run which a session has submitted. All passes come back in a list that has room for them.
 pub(crate) fn serve_links<
-    R: Threads + Wait + Sync,
+    R: Threads + Wait + std::time::Clock + Sync,
     K: Keeper + Send,
     S: Source + Send,
     N: Listener,
@@ -276,6 +286,7 @@ where
     requires acceptor { IsHand (table_of queue.now.links) (hand (all_parts - WORKERS) [] []) staff.acceptor }
     ensures of { All (λ p. p.table ≡ world.now.hall.turnstile.table) result.passes.items }
     ensures count { length result.passes.items ≡ WORKERS + 1 + MEMBERS }
+    ensures upkeep { IsKeptUpBy world.now.hall.catalogue staff.crew.upkeep result.passes.items }
     ensures served { (j : HasRunOn world.now.hall.catalogue staff.crew.runner) × ((p : HallPass) → Contains (passes_of j.after.idle) p → Contains result.passes.items p) × ((first : HallPass)
         → All (λ w. HasWorked (serving N.L.left N.L.taken N.L.ByteSource.faults N.L.ByteSink.faults world.now.capabilities world.now.hall.catalogue world.now.board.turnstile.table first) (hand 1 [] []) w.pass w.board (S.faults w.source) w.hand) staff.crew.workers.items
         → HasServedLinks (serving N.L.left N.L.taken N.L.ByteSource.faults N.L.ByteSink.faults world.now.capabilities world.now.hall.catalogue world.now.board.turnstile.table first) connections (N.given listener.old) (N.given listener.new) (N.faults listener.old) (N.faults listener.new) result.passes.items j.between j.heard result.all) }

@@ -13,14 +13,35 @@ use cabinet::keeper::Keeper;
 use hall_sessions::session::serve_session;
 use hall_sessions::world::World;
 use http_wire::links::Link;
+use http_wire::reader::MessageReader;
 use link_queue::queue::LinkQueue;
 use source_render::source::Source;
 use std::alloc::Global;
 use std::sync::Wait;
+use std::thread;
+use std::time::{Clock, Duration};
+
+/// How often a worker looks whether there is memory for a session before it takes a link all the same.
+const LOOKS: u32 = 100;
+
+/// How many milliseconds lie between two such looks.
+const PAUSE: u64 = 50;
+
+/// Waits a while until there is memory for the reader of a session, and takes it. So no link is taken, and used up, that can't be served
+/// for want of memory: it is let go right before the session takes as much.
+fn spare_reader<R: Clock>(rt: &R, alloc: Global) -> Option<MessageReader> {
+    for _ in 0..LOOKS {
+        if let Ok(reader) = MessageReader::new(alloc) {
+            return Some(reader);
+        }
+        thread::sleep(rt, Duration::from_millis(PAUSE));
+    }
+    None
+}
 
 /// Serves links until no more come. How a session ended is its link's matter alone. A worker that is alone at the queue has then taken
 /// all that it has put there.
-pub(crate) fn work<R: Wait, K: Keeper, S: Source, L: Link>(
+pub(crate) fn work<R: Wait + Clock, K: Keeper, S: Source, L: Link>(
     rt: &R,
     alloc: Global,
     world: &World<K>,
@@ -36,9 +57,11 @@ pub(crate) fn work<R: Wait, K: Keeper, S: Source, L: Link>(
     ensures all { (view worker.new.hand).parts ≡ all_parts → IsEven (view worker.new.hand) }
 {
     'working: for _ in rt.forever() {
+        let spare = spare_reader(rt, alloc);
         let Some(mut link) = queue.take(rt, &mut worker.hand) else {
             return;
         };
+        drop(spare);
         let _ = serve_session(
             rt,
             alloc,
@@ -49,7 +72,6 @@ pub(crate) fn work<R: Wait, K: Keeper, S: Source, L: Link>(
             &mut link,
         );
         drop(link);
-        world.hall.wake(rt);
     }
     unreachable!()
 }

@@ -1,5 +1,5 @@
 //! Tests of lanes on the loopback: messages that are cut and mixed in every way, clients that are silent, slow, deaf or wrong, the
-//! order in which clients are served, and each limit, made short.
+//! order in which clients are served, each limit, made short, and the end of a server.
 //!
 //! It has no code of its own and promises nothing. What the system gives and takes isn't modelled, so that what lanes do with
 //! it is tested here and not proved.
@@ -34,3 +34,5 @@ mod server;
 mod session;
 #[cfg(test)]
 mod waits;
+#[cfg(test)]
+mod winding_up;

@@ -25,18 +25,23 @@ pub struct Opened<R: Wait + Clock + Copy + Drop> {
     door: Arc<Mutex<Door<R>>>,
 }
 
-/// A server that runs.
+/// A server that runs. It has its socket as long as it is.
 #[derive(Drop)]
-pub struct Server {
+pub struct Server<R: Wait + Clock + Copy + Drop> {
     pub port: u16,
     workers: Vec<JoinHandle<()>>,
+    door: Arc<Mutex<Door<R>>>,
 }
 
-/// A further link, unless all were given.
+/// A further link, unless all were given. The listener is closed with the last one.
 fn next_link<R: Wait + Clock + Copy + Drop>(rt: &R, door: &Mutex<Door<R>>) -> Option<TcpLink<R>> {
     let mut door = door.lock(rt);
     door.left = door.left.checked_sub(1)?;
-    door.accept.accept().ok()
+    let link = door.accept.accept().ok();
+    if door.left == 0 {
+        door.accept.close();
+    }
+    link
 }
 
 fn work<R: Wait + Clock + Copy + Drop>(rt: R, alloc: Global, door: Arc<Mutex<Door<R>>>) {
@@ -76,7 +81,7 @@ pub fn open<R: Wait + Net + Clock + Copy + Drop>(
 
 impl<R: Threads + Wait + Clock + Copy + Drop + Send + 'static> Opened<R> {
     /// Starts to serve, with so many workers.
-    pub fn start(self, rt: R, alloc: Global, count: usize) -> Result<Server, AllocError> {
+    pub fn start(self, rt: R, alloc: Global, count: usize) -> Result<Server<R>, AllocError> {
         let mut workers = Vec::new(alloc);
         for _ in 0..count {
             let worker = start_worker(rt, alloc, self.door.clone()?)?;
@@ -85,6 +90,7 @@ impl<R: Threads + Wait + Clock + Copy + Drop + Send + 'static> Opened<R> {
         Ok(Server {
             port: self.port,
             workers,
+            door: self.door,
         })
     }
 }
@@ -94,7 +100,7 @@ pub fn start<R: Threads + Wait + Net + Clock + Copy + Drop + Send + 'static>(
     rt: R,
     alloc: Global,
     links: u64,
-) -> io::Result<Server> {
+) -> io::Result<Server<R>> {
     start_within(rt, alloc, links, Limits::standard())
 }
 
@@ -104,16 +110,27 @@ pub fn start_within<R: Threads + Wait + Net + Clock + Copy + Drop + Send + 'stat
     alloc: Global,
     links: u64,
     limits: Limits,
-) -> io::Result<Server> {
+) -> io::Result<Server<R>> {
     let opened = open(rt, alloc, links, limits)?;
     Ok(opened.start(rt, alloc, 4)?)
 }
 
-impl Server {
+impl<R: Threads + Wait + Clock + Copy + Drop> Server<R> {
     /// Waits until it has ended.
-    pub fn wait<R: Threads>(self, rt: &R) {
-        for worker in self.workers {
+    pub fn wait(self, rt: &R) {
+        drop(self.wait_for_workers(rt));
+    }
+
+    /// Waits until its workers have ended, and gives what still has its socket.
+    pub fn wait_for_workers(self, rt: &R) -> Opened<R> {
+        let Server {
+            port,
+            workers,
+            door,
+        } = self;
+        for worker in workers {
             worker.join(rt);
         }
+        Opened { port, door }
     }
 }

@@ -3,6 +3,7 @@ use crate::client::{Client, pause, time};
 use crate::server;
 use crate::server::Server;
 use std::net::{Net, TcpStream};
+use std::sync::Wait;
 use std::test::Fail;
 use std::thread::Threads;
 use std::time::Clock;
@@ -188,7 +189,10 @@ fn one_that_stays_behind_its_last_answer_is_let_go(rt: HostRuntime) -> Result<()
 }
 
 /// Whether a server ends although nobody takes its last answer, and not before the time for one.
-fn is_given_up<R: Net<Stream = TcpStream> + Threads + Clock>(rt: &R, server: Server) -> bool {
+fn is_given_up<R: Net<Stream = TcpStream> + Threads + Wait + Clock + Copy + Drop>(
+    rt: &R,
+    server: Server<R>,
+) -> bool {
     let begun = time(rt);
     let Ok(mut deaf) = Client::new(rt, server.port) else {
         return false;

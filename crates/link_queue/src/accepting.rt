@@ -1,5 +1,5 @@
 //! How links are accepted.
-ghost use Rattle.std.specs.Prelude.{◌<◌};
+ghost use Rattle.std.specs.Prelude.{true, ◌<◌, ◌≡◌};
 ghost use Rattle.crossbeam_queue.specs.Passes.{view};
 ghost use Rattle.link_queue.specs.Accepted.{HasAccepted};
 ghost use Rattle.link_queue.specs.Hands.{IsHand, table_of};
@@ -8,7 +8,7 @@ use crate::queue::{LinkHand, LinkQueue};
 use listeners::listener::Listener;
 use std::sync::Wait;
 
-/// Accepts so many links, hands each in, and closes the queue. False where an accept failed; no further one was then made.
+/// Accepts so many links, hands each in, and closes the listener and the queue. False where an accept failed; no further one was then made.
 pub fn accept_all<R: Wait, N: Listener>(
     rt: &R,
     connections: u32,
@@ -18,9 +18,11 @@ pub fn accept_all<R: Wait, N: Listener>(
 ) -> bool
     requires mine { IsHand (table_of queue.now.links) (view mine.old) mine.old }
     requires parts { 0 < (view mine.old).parts }
-    ensures { HasAccepted (table_of queue.now.links) connections (view mine.old) mine.new (N.given listener.old) (N.given listener.new) (N.faults listener.old) (N.faults listener.new) result }
+    ensures accepted { HasAccepted (table_of queue.now.links) connections (view mine.old) mine.new (N.given listener.old) (N.given listener.new) (N.faults listener.old) (N.faults listener.new) result }
+    ensures closed { N.closed listener.new ≡ true }
 {
     let all = accept_each(rt, connections, queue, mine, listener);
+    listener.close();
     queue.close(rt);
     all
 }

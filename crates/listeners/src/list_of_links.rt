@@ -1,5 +1,5 @@
 //! A listening socket in memory: a list of links, given one after another.
-ghost use Rattle.std.specs.Prelude.{◌≡◌, [], ◌∷◌, ◌++◌, IfOk, IfErr};
+ghost use Rattle.std.specs.Prelude.{◌≡◌, false, true, [], ◌∷◌, ◌++◌, IfOk, IfErr};
 ghost use Rattle.causes.specs.Causes.{HasCause};
 ghost use Rattle.listeners.specs.Lists.{Offers};
 
@@ -10,12 +10,14 @@ use std::collections::VecDeque;
 use std::marker::Model;
 use trace::Trace;
 
-/// A list of links. Contracts see those that are left, those that were given, and how often none was left.
+/// A list of links. Contracts see those that are left, those that were given, how often none was left, and whether no further one is
+/// wanted.
 #[derive(Drop)]
 pub struct ListOfLinks {
     links: VecDeque<MemoryLink>,
     given: Trace<MemoryLink>,
     faults: u64,
+    closed: bool,
 }
 
 impl Model for ListOfLinks {
@@ -23,18 +25,19 @@ impl Model for ListOfLinks {
 
     ghost Value = { Offer };
 
-    ghost view = { λ s. record { links = s.links.items; given = s.given.entries; faults = s.faults } };
+    ghost view = { λ s. record { links = s.links.items; given = s.given.entries; faults = s.faults; closed = s.closed } };
 }
 
 impl ListOfLinks {
     /// A list that gives these links, in their order.
     pub fn new(links: Vec<MemoryLink>) -> ListOfLinks
-        ensures { result ≡ record { links = links.items; given = []; faults = 0 } }
+        ensures { result ≡ record { links = links.items; given = []; faults = 0; closed = false } }
     {
         ListOfLinks {
             links: VecDeque::from_vec(links),
             given: Trace::new(),
             faults: 0,
+            closed: false,
         }
     }
 }
@@ -45,6 +48,8 @@ impl Listener for ListOfLinks {
     ghost given = { λ s. s.given };
 
     ghost faults = { λ s. s.faults };
+
+    ghost closed = { λ s. s.closed };
 
     fn accept(&mut self) -> Result<MemoryLink, Failed>
         ensures given { IfOk result (λ link. self.new.given ≡ self.old.given ++ link ∷ []) }
@@ -62,5 +67,14 @@ impl Listener for ListOfLinks {
                 Err(Failed)
             }
         }
+    }
+
+    fn close(&mut self)
+        ensures closed { self.new.closed ≡ true }
+        ensures given { self.new.given ≡ self.old.given }
+        ensures faults { self.new.faults ≡ self.old.faults }
+        ensures exact { self.new ≡ record self.old { closed = true } }
+    {
+        self.closed = true;
     }
 }

@@ -1,5 +1,5 @@
 //! The trait of a listening socket.
-ghost use Rattle.std.specs.Prelude.{◌≡◌, ℕ, List, [], ◌∷◌, ◌++◌, IfOk, IfErr};
+ghost use Rattle.std.specs.Prelude.{◌≡◌, ℕ, Bool, true, List, [], ◌∷◌, ◌++◌, IfOk, IfErr};
 ghost use Rattle.causes.specs.Causes.{HasCause};
 
 use http_wire::links::Link;
@@ -16,11 +16,21 @@ pub trait Listener: Drop {
     /// How often an accept has failed.
     ghost faults: { Self → ℕ };
 
+    /// Whether it was told that no further link is wanted.
+    ghost closed: { Self → Bool };
+
     /// Waits for a further link and gives it. `Failed` where none can be had.
     fn accept(&mut self) -> Result<Self::L, Failed>
         ensures given { IfOk result (λ link. given self.new ≡ given self.old ++ link ∷ []) }
         ensures refused { IfErr result (λ _. given self.new ≡ given self.old) }
         ensures cause { HasCause (faults self.old) (faults self.new) result };
+
+    /// Tells it that no further link is wanted. Those that were given are served on; nobody is to connect and wait for one once they have
+    /// ended.
+    fn close(&mut self)
+        ensures closed { closed self.new ≡ true }
+        ensures given { given self.new ≡ given self.old }
+        ensures faults { faults self.new ≡ faults self.old };
 }
 
 impl<N: Listener> Listener for &mut N {
@@ -30,7 +40,13 @@ impl<N: Listener> Listener for &mut N {
 
     ghost faults = { λ s. N.faults s.now };
 
+    ghost closed = { λ s. N.closed s.now };
+
     fn accept(&mut self) -> Result<N::L, Failed> {
         (**self).accept()
+    }
+
+    fn close(&mut self) {
+        (**self).close();
     }
 }

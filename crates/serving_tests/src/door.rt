@@ -55,6 +55,7 @@ pub struct Door<'a, R: Wait> {
     pub links: Vec<HeardLink<'a, R>>,
     pub given: Trace<HeardLink<'a, R>>,
     pub faults: u64,
+    pub closed: bool,
 }
 
 impl<'a, R: Wait> Listener for Door<'a, R> {
@@ -63,6 +64,8 @@ impl<'a, R: Wait> Listener for Door<'a, R> {
     ghost given = { λ door. door.given.entries };
 
     ghost faults = { λ door. door.faults };
+
+    ghost closed = { λ door. door.closed };
 
     fn accept(&mut self) -> Result<HeardLink<'a, R>, Failed> {
         match self.links.pop() {
@@ -75,5 +78,9 @@ impl<'a, R: Wait> Listener for Door<'a, R> {
                 Err(Failed)
             }
         }
+    }
+
+    fn close(&mut self) {
+        self.closed = true;
     }
 }

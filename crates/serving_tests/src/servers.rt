@@ -67,6 +67,7 @@ fn serve_two<R: Threads + Wait + std::time::Clock + Sync>(
         links,
         given: Trace::new(),
         faults: 0,
+        closed: false,
     };
     Ok(served(rt, alloc, 2, Stage::new(alloc)?, &mut door, sources(alloc)?))
 }

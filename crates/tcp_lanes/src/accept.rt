@@ -15,12 +15,14 @@ use std::sync::{Arc, Wait};
 use std::time::Clock;
 use trace::Trace;
 
-/// A listening socket. Of the connections to it contracts know nothing.
+/// A listening socket. Of the connections to it contracts know nothing. Once it is closed or dropped, and its
+/// last lane has ended, nobody connects any more.
 pub struct TcpAccept<R: Wait + Clock + Copy + Drop> {
     rt: R,
     lobby: Arc<Lobby>,
     given: Trace<TcpLink<R>>,
     faults: u64,
+    closed: bool,
 }
 
 impl<R: Wait + Clock + Net + Copy + Drop> TcpAccept<R> {
@@ -48,18 +50,25 @@ impl<R: Wait + Clock + Net + Copy + Drop> TcpAccept<R> {
             lobby: Arc::new(alloc, lobby).map_err(AllocError::from)?,
             given: Trace::new(),
             faults: 0,
+            closed: false,
         })
     }
 
-    /// The port on which it listens. An error where the system can't tell it.
+    /// The port on which it listens. An error where the system can't tell it, or it listens no longer.
     pub fn port(&self) -> io::Result<u16> {
-        Ok(self.lobby.socket.local_addr()?.port())
+        match &*self.lobby.door.lock(&self.rt) {
+            Some(socket) => Ok(socket.local_addr()?.port()),
+            None => Err(io::Error::from(io::ErrorKind::NotConnected)),
+        }
     }
 }
 
 impl<R: Wait + Clock + Copy + Drop> TcpAccept<R> {
-    /// A further link, once fewer lanes are out than may be.
+    /// A further link, once fewer lanes are out than may be. None where no further one is wanted.
     fn next_link(&self) -> Option<TcpLink<R>> {
+        if self.closed {
+            return None;
+        }
         match Lane::new(&self.rt, &self.lobby) {
             Ok(lane) => Some(TcpLink::new(self.rt, lane)),
             Err(_) => None,
@@ -69,12 +78,13 @@ impl<R: Wait + Clock + Copy + Drop> TcpAccept<R> {
 
 impl<R: Wait + Clock + Copy + Drop> Drop for TcpAccept<R> {
     fn drop(self) {
-        self.lobby.see_off(&self.rt);
+        self.lobby.end_after_last(&self.rt);
         let TcpAccept {
             rt: _,
             lobby: _,
             given: _,
             faults: _,
+            closed: _,
         } = self;
     }
 }
@@ -85,6 +95,8 @@ impl<R: Wait + Clock + Copy + Drop> Listener for TcpAccept<R> {
     ghost given = { λ s. s.given.entries };
 
     ghost faults = { λ s. s.faults };
+
+    ghost closed = { λ s. s.closed };
 
     fn accept(&mut self) -> Result<TcpLink<R>, Failed> {
         match self.next_link() {
@@ -97,5 +109,11 @@ impl<R: Wait + Clock + Copy + Drop> Listener for TcpAccept<R> {
                 Err(Failed)
             }
         }
+    }
+
+    // A lane is given before anybody connects whom it may serve. So it is listened until the last lane has ended.
+    fn close(&mut self) {
+        self.closed = true;
+        self.lobby.end_after_last(&self.rt);
     }
 }

@@ -1,6 +1,6 @@
 //! What a lane does with a socket that is ready: it accepts connections, reads what came, and sends what waits.
 use crate::conn::{Conn, Filled, Sent};
-use crate::limits::{PAUSE, WELCOMES};
+use crate::limits::{EMFILE, ENFILE, ENOBUFS, ENOMEM, PAUSE, WELCOMES};
 use crate::lobby::{Lobby, time};
 use crate::seat::{LISTENING, Ready};
 use mio::net::TcpStream;
@@ -121,28 +121,43 @@ impl Lobby {
             let Some(token) = self.seat.lock(rt).hire() else {
                 return;
             };
-            match self.socket.accept() {
-                Ok((stream, _)) => {
+            match self.next_stream(rt) {
+                Ok(stream) => {
                     if self.admit(rt, token, stream).is_err() {
                         self.seat.lock(rt).dismiss(token);
                     }
                 }
                 Err(error) => {
-                    self.refuse(rt, token, error.kind());
-                    return;
+                    if self.refuse(rt, token, &error) {
+                        return;
+                    }
                 }
             }
         }
         self.tell(rt, LISTENING);
     }
 
-    /// Takes a token back to which no connection came. What the system refused may be had later.
-    fn refuse<R: Wait>(&self, rt: &R, token: usize, kind: ErrorKind) {
+    /// The next connection that waits. An error where none does, the system gives none, or nobody may connect any more.
+    fn next_stream<R: Wait>(&self, rt: &R) -> io::Result<TcpStream> {
+        match &*self.door.lock(rt) {
+            Some(socket) => Ok(socket.accept()?.0),
+            None => Err(io::Error::from(ErrorKind::WouldBlock)),
+        }
+    }
+
+    /// Takes a token back to which no connection came. Whether no further one is to be tried for now: none waits, or the system is
+    /// short of what one takes, which may be had later. Any other error is that of one connection, as of one that its client gave up.
+    fn refuse<R: Wait>(&self, rt: &R, token: usize, error: &io::Error) -> bool {
         let mut seat = self.seat.lock(rt);
         seat.dismiss(token);
-        if kind != ErrorKind::WouldBlock {
+        if error.kind() == ErrorKind::WouldBlock {
+            return true;
+        }
+        let short = is_shortage(error);
+        if short {
             seat.postpone();
         }
+        short
     }
 
     fn admit<R: Wait + Clock>(&self, rt: &R, token: usize, stream: TcpStream) -> io::Result<()> {
@@ -153,32 +168,66 @@ impl Lobby {
     }
 }
 
+/// Whether the system is short of descriptors or of memory.
+fn is_shortage(error: &io::Error) -> bool {
+    match error.raw_os_error() {
+        Some(code) => code == ENOMEM || code == ENFILE || code == EMFILE || code == ENOBUFS,
+        None => error.kind() == ErrorKind::OutOfMemory,
+    }
+}
+
 // The end of all.
 impl Lobby {
-    /// Sends the answers that wait of connections whose lane has ended, as far as their clients take them within the time of
-    /// one answer.
-    pub fn see_off<R: Wait + Clock>(&self, rt: &R) {
+    /// Ends all, once: nobody connects any more, answers under way are sent, and every connection is closed. No lane may be out.
+    pub fn wind_up<R: Wait + Clock>(&self, rt: &R) {
+        let Some(socket) = self.door.lock(rt).take() else {
+            return;
+        };
+        drop(socket);
+        self.see_off(rt);
+        for token in 1..=self.limits.connections {
+            self.slots.vacate(rt, token);
+        }
+    }
+
+    /// Sends the answers that are under way, as far as their clients take them within the time of one answer. A message that came
+    /// behind them, and was not served, gets none.
+    fn see_off<R: Wait + Clock>(&self, rt: &R) {
+        let begun = time(rt);
         for _ in 0..self.limits.answer / PAUSE {
-            if !self.has_parting(rt) {
+            let is_over = time(rt).saturating_sub(begun) >= self.limits.answer;
+            if !self.is_sending(rt) || is_over {
                 return;
             }
             thread::sleep(rt, Duration::from_millis(PAUSE));
         }
     }
 
-    /// Goes on with the connections that part. Whether one has an answer that isn't sent.
-    fn has_parting<R: Wait + Clock>(&self, rt: &R) -> bool {
+    /// Lets every connection end, and goes on with it. Whether one has an answer that isn't sent.
+    fn is_sending<R: Wait + Clock>(&self, rt: &R) -> bool {
         let mut some = false;
         for token in 1..=self.limits.connections {
-            if self.slots.is_parting(rt, token) {
-                let ready = Ready {
-                    token,
-                    hung_up: false,
-                };
-                self.look(rt, ready);
-                some = true;
-            }
+            self.see_one_off(rt, token);
+            some = some || self.slots.has_answer(rt, token);
         }
         some
+    }
+
+    /// Goes on with the end of the connection of a token, which begins it where it was going on.
+    fn see_one_off<R: Wait + Clock>(&self, rt: &R, token: usize) {
+        let ready = Ready {
+            token,
+            hung_up: false,
+        };
+        let Some(conn) = self.slots.claim(rt, ready) else {
+            return;
+        };
+        let at_hand = AtHand { token, conn };
+        let now = time(rt);
+        if at_hand.conn.is_parting() {
+            self.go_on_parting(rt, at_hand, now);
+        } else {
+            self.part(rt, at_hand, now);
+        }
     }
 }

@@ -6,6 +6,9 @@
 //! So no client holds a worker by being silent, by sending slowly or by not reading, and clients are served in the order in
 //! which they became ready. A link ends with the connection at hand, so that links given are connections ended; one that
 //! waits too long is closed (`limits`) and uses up no link.
+//! Lanes are given before anybody connects whom they may serve. So a listener that was closed listens until the last lane has ended; then
+//! nobody connects any more, the answers under way are sent as far as their clients take them within the time of one, and every
+//! connection is closed, also one whose next message has come and wasn't served.
 //! Bytes that can never become a message are answered as a reader answers them: at once where looking for them is cheap, else
 //! when the time for a whole message is over.
 //! Memory: an open connection holds fewer than 86,016 bytes of what its client sent, in a buffer of at most 131,072, since it

@@ -69,6 +69,16 @@ pub const WATCH: u64 = 1;
 /// How many events the system tells at a time.
 pub const EVENTS: usize = 256;
 
-/// How long is waited between two tries to send the last answers when the listening socket goes. They are tried for as long as
+/// How long is waited between two tries to send the answers under way when the last lane has ended. They are tried for as long as
 /// one answer may wait, all together.
 pub const PAUSE: u64 = 10;
+
+/// The numbers by which the system tells that it has no memory, that it or this process has no descriptor left, and that it has no
+/// buffers.
+pub const ENOMEM: i32 = 12;
+
+pub const ENFILE: i32 = 23;
+
+pub const EMFILE: i32 = 24;
+
+pub const ENOBUFS: i32 = 105;

@@ -1,11 +1,12 @@
 //! What the lanes share: the listening socket, the connections that rest, and the line of those that are ready.
 use crate::limits::{HELD_BACK, LANES, Limits, WATCH};
-use crate::seat::{LISTENING, Poller, Ready, Seat, Step, Vigil};
+use crate::seat::{ALARM, LISTENING, Poller, Ready, Seat, Step, Vigil};
 use crate::slots::Slots;
 use mio::net::TcpListener;
-use mio::{Interest, Poll, Registry, Token};
+use mio::{Interest, Registry, Token, Waker};
 use std::alloc::{AllocError, Global};
 use std::io;
+use std::sync::atomic::{AtomicBool, Ordering};
 use std::sync::{Condvar, Mutex, MutexGuard, Wait};
 use std::time::{Clock, Duration};
 
@@ -14,14 +15,19 @@ use std::time::{Clock, Duration};
 pub struct Lobby {
     pub alloc: Global,
     pub limits: Limits,
-    pub socket: TcpListener,
+    /// The listening socket. Absent once nobody may connect any more.
+    pub door: Mutex<Option<TcpListener>>,
     pub registry: Registry,
     pub slots: Slots,
     pub seat: Mutex<Seat>,
     parked: Condvar,
+    /// Ends the wait of the lane that asks the system.
+    alarm: Waker,
     /// The buffers of the lanes that may still be given out, one each.
     heads: Mutex<Vec<Vec<u8>>>,
     ended: Condvar,
+    /// Whether no further lane is given out.
+    closing: AtomicBool,
 }
 
 /// The buffers of all lanes.
@@ -54,16 +60,19 @@ impl Lobby {
     ) -> io::Result<Lobby> {
         let registry = poller.poll.registry().try_clone()?;
         registry.register(&mut socket, Token(LISTENING), Interest::READABLE)?;
+        let alarm = Waker::new(&registry, Token(ALARM))?;
         Ok(Lobby {
             alloc,
             limits,
-            socket,
+            door: Mutex::new(Some(socket)),
             registry,
             slots: Slots::new(alloc, limits.connections)?,
             seat: Mutex::new(Seat::new(alloc, poller, limits, now)?),
             parked: Condvar::new(),
+            alarm,
             heads: Mutex::new(heads(alloc)?),
             ended: Condvar::new(),
+            closing: AtomicBool::new(false),
         })
     }
 
@@ -78,19 +87,43 @@ impl Lobby {
         head
     }
 
-    /// Takes the buffer of a lane back that has ended.
-    pub fn leave<R: Wait>(&self, rt: &R, mut head: Vec<u8>) {
+    /// Takes the buffer of a lane back that has ended. All ends where it was the last one.
+    pub fn leave<R: Wait + Clock>(&self, rt: &R, mut head: Vec<u8>) {
+        self.call_another(rt);
+        head.clear();
+        let mut heads = self.heads.lock(rt);
+        // There is room for every buffer.
+        let _ = heads.push(head);
+        let all = heads.len() == LANES;
+        drop(heads);
+        self.ended.notify_one();
+        if all && self.closing.load(Ordering::SeqCst) {
+            self.wind_up(rt);
+        }
+    }
+
+    /// Notes that a lane has ended, and has another one look after those in line.
+    fn call_another<R: Wait>(&self, rt: &R) {
         let mut seat = self.seat.lock(rt);
         seat.come_back();
-        let wake = seat.needs_hand();
+        let wakes = seat.needs_hand();
+        let alarms = seat.needs_asker();
         drop(seat);
-        if wake {
+        if wakes {
             self.parked.notify_one();
+        } else if alarms {
+            // Where it can't be woken it looks by itself within the time of a sweep.
+            let _ = self.alarm.wake();
         }
-        head.clear();
-        // There is room for every buffer.
-        let _ = self.heads.lock(rt).push(head);
-        self.ended.notify_one();
+    }
+
+    /// No further lane is given out: all ends once every lane has.
+    pub fn end_after_last<R: Wait + Clock>(&self, rt: &R) {
+        self.closing.store(true, Ordering::SeqCst);
+        let all = self.heads.lock(rt).len() == LANES;
+        if all {
+            self.wind_up(rt);
+        }
     }
 
     /// Puts a socket in line.

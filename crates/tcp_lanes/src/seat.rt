@@ -11,6 +11,9 @@ use std::time::Duration;
 /// The number of the listening socket, before those of the connections.
 pub const LISTENING: usize = 0;
 
+/// The number by which the system tells that a wait is to end. It is that of no socket.
+pub const ALARM: usize = usize::MAX;
+
 /// What waits for the system.
 #[derive(Drop)]
 pub struct Poller {
@@ -280,6 +283,11 @@ impl Seat {
     /// Whether a parked lane has to be woken since somebody is in line.
     pub fn needs_hand(&self) -> bool {
         self.parked > 0 && !self.line.is_empty()
+    }
+
+    /// Whether the lane that asks the system has to be woken since somebody is in line and no lane is parked.
+    pub fn needs_asker(&self) -> bool {
+        self.parked == 0 && self.poller.is_none() && !self.line.is_empty()
     }
 }
 

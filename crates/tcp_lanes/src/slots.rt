@@ -106,13 +106,13 @@ impl Slots {
         }
     }
 
-    /// Whether the connection of a token rests, and the last of its answers isn't sent whole.
-    pub fn is_parting<R: Wait>(&self, rt: &R, token: usize) -> bool {
+    /// Whether the connection of a token rests, and an answer of it isn't sent whole.
+    pub fn has_answer<R: Wait>(&self, rt: &R, token: usize) -> bool {
         let Some(place) = self.places.get(token) else {
             return false;
         };
         match &*place.lock(rt) {
-            Slot::Resting(conn) => conn.is_parting() && conn.has_answer(),
+            Slot::Resting(conn) => conn.has_answer(),
             _ => false,
         }
     }

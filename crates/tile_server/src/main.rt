@@ -60,6 +60,7 @@ It ends with a code, and all but the first are told by a line on standard error:
    7  line N: this line was refused          13  form KIND FIELD: the fault of the cover or
                                                  the job
                                              14  listen fault: the port isn't had, or gives no more
+                                             15  thread fault: the server's threads can't be made
 
 docs/OPERATING.md of its repository has the files, the lines and what to do at each fault; docs/PROMISES.md what is proved.
 ";
@@ -156,7 +157,7 @@ fn main(rt: HostRuntime) -> ExitCode {
     let mut capabilities = Input::File(FileSource::open(&rt, CAPABILITIES));
     let mut input = Input::Stdin(StdinSource::new(rt.stdin()));
     let mut output = StdoutSink::new(rt.stdout());
-    let mut source = AnySource::open(&rt, CELLS, source);
+    let mut source = AnySource::of_a_run(rt, CELLS, source);
     let mut disk = cache_for(&rt, words.as_slice());
     let status = run_command(
         rt.alloc(),

@@ -26,15 +26,15 @@ use tile_serving::ends::ServerEnd;
 use tile_serving::server::run_server;
 
 /// The sources that a server takes.
-fn sources_of(
-    rt: &(impl Files<File = File> + AllocGlobal),
+fn sources_of<R: Files<File = File> + AllocGlobal + Copy + Drop>(
+    rt: R,
     id: u32,
-) -> Result<Vec<AnySource>, AllocError>
+) -> Result<Vec<AnySource<'static, R>>, AllocError>
     ensures { IfOk result (λ sources. length sources.items ≡ SOURCES) }
 {
     let mut sources = Vec::new(rt.alloc());
     'opening: for _ in 0..SOURCES {
-        sources.push(AnySource::open(rt, CELLS, id))?;
+        sources.push(AnySource::of_a_server(rt, CELLS, id))?;
     }
     Ok(sources)
 }
@@ -71,7 +71,7 @@ where
     else {
         return ServerEnd::OutOfMemory;
     };
-    let Ok(sources) = sources_of(rt, source) else {
+    let Ok(sources) = sources_of(*rt, source) else {
         return ServerEnd::OutOfMemory;
     };
     let mut capabilities = Input::File(FileSource::open(rt, CAPABILITIES));

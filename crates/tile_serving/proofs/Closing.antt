@@ -20,6 +20,7 @@ module _ {L D : Type 0} (h : ServerChange L) (d : ServerDisk D) (c : Catalogue) 
   of_service CapabilitiesStay ListenerStays service.Done read is ended = (c, document, read, (served_over is ended.0, ended.1))
   of_service CapabilitiesStay ListenerStays service.ListenFault read is ended = ((c, document, read, served_over is ended.0), ended.1)
   of_service CapabilitiesStay ListenerStays service.OutOfMemory read is ended = ended
+  of_service CapabilitiesStay ListenerStays service.NoThreads read is ended = ended
 
   pub ended_over : (CapabilitiesStay ListenerStays : Type 0) (e : ServiceEnd) (told : ServerEnd) → told ≡ end_of_service e → AreRead h.catalogue h.capabilities c document → IsOpened d c h.clock opened → HasEndedOver (service_of h c document table board opened) (listened h) ListenerStays e → HasEnded h d CapabilitiesStay ListenerStays told
   ended_over CapabilitiesStay ListenerStays e told is_told read is ended = subst (HasEnded h d CapabilitiesStay ListenerStays) (sym is_told) (of_service CapabilitiesStay ListenerStays e read is ended)

@@ -29,3 +29,4 @@ abbrev pub end_of_service : ServiceEnd → ServerEnd
 end_of_service service.Done = end.Done
 end_of_service service.ListenFault = end.ListenFault
 end_of_service service.OutOfMemory = end.OutOfMemory
+end_of_service service.NoThreads = end.NoThreads

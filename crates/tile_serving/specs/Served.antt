@@ -78,3 +78,4 @@ HasEnded h d CapabilitiesStay ListenerStays end.TooLong = IsRefused h.catalogue 
 HasEnded h d CapabilitiesStay ListenerStays (end.Cache f) = IsCacheRefused h d f × ListenerStays
 HasEnded h d CapabilitiesStay ListenerStays end.DiskFault = WithBoth h (λ c _. IsUnopened d fault.DiskFault c) × ListenerStays
 HasEnded h d CapabilitiesStay ListenerStays end.OutOfMemory = ListenerStays
+HasEnded h d CapabilitiesStay ListenerStays end.NoThreads = ListenerStays

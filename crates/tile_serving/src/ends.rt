@@ -29,13 +29,18 @@ pub enum ServerEnd {
     ListenFault,
     /// Memory ran out before the first link.
     OutOfMemory,
+    /// The threads that serve can't be made. The listener was asked for no link.
+    NoThreads,
 }
 
 /// The code that a process ends with whose listener failed.
 const LISTEN_CODE: u8 = 14;
 
+/// The code that a process ends with whose threads can't be made.
+const THREAD_CODE: u8 = 15;
+
 impl ServerEnd {
-    /// The status of a command that ended so; none for `ListenFault`, which no command has.
+    /// The status of a command that ended so; none for `ListenFault` and `NoThreads`, which no command has.
     pub fn status(&self) -> Option<Status> {
         match self {
             ServerEnd::Done => Some(Status::Done),
@@ -44,7 +49,7 @@ impl ServerEnd {
             ServerEnd::TooLong => Some(Status::TooLong),
             ServerEnd::DiskFault => Some(Status::DiskFault),
             ServerEnd::Cache(fault) => Some(Status::Cache(*fault)),
-            ServerEnd::ListenFault => None,
+            ServerEnd::ListenFault | ServerEnd::NoThreads => None,
             ServerEnd::OutOfMemory => Some(Status::OutOfMemory),
         }
     }
@@ -53,6 +58,7 @@ impl ServerEnd {
     pub fn code(&self) -> u8 {
         match self.status() {
             Some(status) => status.code(),
+            None if *self == ServerEnd::NoThreads => THREAD_CODE,
             None => LISTEN_CODE,
         }
     }
@@ -63,6 +69,7 @@ impl fmt::Display for ServerEnd {
     fn fmt<W: fmt::Write>(&self, f: &mut fmt::Formatter<W>) -> fmt::Result {
         match self.status() {
             Some(status) => write!(f, "{status}"),
+            None if *self == ServerEnd::NoThreads => write!(f, "thread fault"),
             None => write!(f, "listen fault"),
         }
     }
@@ -104,5 +111,6 @@ pub(crate) fn end_of_service(end: ServiceEnd) -> ServerEnd
         ServiceEnd::Done => ServerEnd::Done,
         ServiceEnd::ListenFault => ServerEnd::ListenFault,
         ServiceEnd::OutOfMemory => ServerEnd::OutOfMemory,
+        ServiceEnd::NoThreads => ServerEnd::NoThreads,
     }
 }

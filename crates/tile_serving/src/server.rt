@@ -26,7 +26,8 @@ use std::thread::Threads;
 ///
 /// A modelled disk has to hold a file of this program, by the catalogue that is read. Where its caller sets the mark `told`, the disk is
 /// modelled and keeps blobs of the catalogue's pictures alone, and the sources make these pictures; each tile that is served is then the
-/// encoded tile of its number. The mark has no bytes. Where the system gives no thread, it may wait for ever.
+/// encoded tile of its number. The mark has no bytes. Where not all threads can be made before the first link it ends with `NoThreads`; one
+/// that can't be made after that may leave it waiting for ever.
 pub fn run_server<
     R: Threads + Wait + std::time::Clock + Sync,
     S: Source + Send,

@@ -1,6 +1,8 @@
 use Rattle.std.proofs.Common.{All, ap, subst, ◌∙◌}
+use Rattle.cache_hall.specs.Turned.{HallPass}
 use Rattle.job_runner.specs.Idles.{MayJoin}
 use Rattle.hall_service.specs.Stints.{Service, serving}
+use Rattle.hall_service.specs.Upkept.{IsKeptUpBy}
 use Rattle.hall_service.proofs.Holding.{new_has_worked, new_is_ready}
 use Rattle.hall_service.proofs.service.serve_queue.Goals as goal
 
@@ -29,4 +31,4 @@ returns-clause-served g c = λ first charter supplies.
     let s : Service g.row.N-L.Denot = serving g.N.L.ByteSource.left g.N.L.ByteSink.taken g.N.L.ByteSource.faults g.N.L.ByteSink.faults c.args.world.now.capabilities c.args.world.now.hall.catalogue c.args.world.now.board.turnstile.table first in
     let new = c.in_ok-crew.ensures.new s charter supplies in
     let done = c.serve_links.ensures.served in
-    record { before = c.in_ok-crew.crew.runner; new = new.2; on = done.0; among = done.1; links = done.2 first (λ k d lt. new_has_worked s _ _ _ _ _ _ (new.0 k d lt)) }
+    record { before = c.in_ok-crew.crew.runner; new = new.2; on = done.0; among = done.1; upkeep = subst (λ (p : HallPass). IsKeptUpBy c.args.world.now.hall.catalogue p c.serve_links.result.passes.items) new.1 c.serve_links.ensures.upkeep; links = done.2 first (λ k d lt. new_has_worked s _ _ _ _ _ _ (new.0 k d lt)) }

@@ -5,6 +5,7 @@ use Rattle.hall_service.specs.Stints.{Service, serving}
 use Rattle.hall_service.proofs.Crews.{pushed}
 use Rattle.hall_service.proofs.Gathering.{served_with}
 use Rattle.hall_service.proofs.JobTurns.{all_of_hall, idle_among}
+use Rattle.hall_service.proofs.Upkept.{kept_among}
 use Rattle.hall_service.proofs.serving.serve_links.Goals as goal
 
 pub returns-clause-of : goal.returns-clause-of
@@ -13,6 +14,10 @@ returns-clause-of g c =
     let before = c.push_reserved.new.self.items in
     let these = pushed (λ p. p.table ≡ c.args.world.now.hall.turnstile.table) before c.serve_rest-passes.result.items c.accept_and_serve-all.new.staff.crew.upkeep c.push_reserved.ensures.items c.serve_rest-passes.ensures.of upkeep.same_table in
     all_of_hall c.args.world.now.hall.turnstile.table c.args.world.now.hall.catalogue before c.into_passes.result.items c.run_jobs.new.runner.idle c.into_passes.ensures.items these c.run_jobs.ensures.ready.idle
+
+pub returns-clause-upkeep : goal.returns-clause-upkeep
+returns-clause-upkeep g c =
+    kept_among c.args.world.now.hall.catalogue c.args.staff.crew.upkeep c.accept_and_serve-all.new.staff.crew.upkeep c.serve_rest-passes.result.items c.push_reserved.new.self.items c.into_passes.result.items _ c.accept_and_serve-all.ensures.keeps c.push_reserved.ensures.items c.into_passes.ensures.items
 
 pub returns-clause-served : goal.returns-clause-served
 returns-clause-served g c = (

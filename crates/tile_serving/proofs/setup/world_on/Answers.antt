@@ -1,6 +1,6 @@
 use Rattle.std.proofs.Common.{rules, subst, sym}
 use Rattle.cabinet.specs.State.{IsSound}
-use Rattle.tile_serving.proofs.Telling.{opened_sound}
+use Rattle.durable_cabinet.proofs.Pictured.{opened_sound}
 use Rattle.tile_serving.proofs.setup.world_on.Goals as goal
 
 pub stage_of-requires : goal.stage_of-requires

@@ -1,0 +1,9 @@
+use Rattle.cabinet_chest.specs.declared.command.Reply.TheVariants as reply
+use Rattle.hall_service.proofs.Upkept.{saved}
+use Rattle.hall_service.proofs.upkeep.save_all.Goals as goal
+
+pub returns-in-Within : goal.returns-in-Within
+returns-in-Within g c = record {
+  of = c.save_uses_once.ensures.of;
+  keeps = saved c.args.hall.now.catalogue c.args.pass.now c.saving.pass c.save_uses_once.new.pass (reply.Saved c.save_uses_once.result) c.requires.quota c.saving.invariant.1 c.save_uses_once.ensures.done;
+}
