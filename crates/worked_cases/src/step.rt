@@ -82,6 +82,20 @@ fn images_of<R: Files<File = File> + AllocGlobal>(
     Ok(images)
 }
 
+/// For how many truncations each image of a step answers, as the lines of its file `cuts` have them; a line that is no number is none.
+fn cuts_of<R: Files<File = File> + AllocGlobal>(
+    rt: &R,
+    case: &str,
+    step: &str,
+) -> io::Result<Vec<u64>> {
+    let mut cuts = Vec::new(rt.alloc());
+    let all = text(rt, case, step, "cuts")?;
+    for line in all.as_str().lines() {
+        cuts.push(line.parse::<u64>().unwrap_or(0))?;
+    }
+    Ok(cuts)
+}
+
 /// The words of the command that looks at what a step leaves.
 fn look_words_of<R: Files<File = File> + AllocGlobal>(
     rt: &R,
@@ -121,10 +135,10 @@ fn table_of<R: Files<File = File> + AllocGlobal>(
     step: &str,
     given: &Given,
 ) -> io::Result<Table> {
-    let images = images_of(rt, case, step)?;
     Ok(Table {
         look: look_of(rt, case, step, given)?,
-        images,
+        images: images_of(rt, case, step)?,
+        cuts: cuts_of(rt, case, step)?,
     })
 }
 
