@@ -12,7 +12,7 @@ use Rattle.job_board.specs.declared.shown.Note as board
 use Rattle.job_board.specs.declared.shown.Reply.{Reply}
 use Rattle.job_board.specs.declared.shown.Reply.TheVariants as reply
 use Rattle.job_runner.specs.Idles.{Idle, MayJoin, Standby, passes_of, without_hand}
-use Rattle.job_runner.specs.Runs.{AreRun, DoesAfter, IsRun}
+use Rattle.job_runner.specs.Runs.{AreRun, DoesAfter, IsRun, Round}
 use Rattle.job_sheet.specs.Hands.{Holding, Sheet}
 use Rattle.jobs.specs.declared.job.Job.{Job}
 use Rattle.seed_jobs.specs.declared.tally.Tally.{Tally}
@@ -83,24 +83,25 @@ run_keeps c job sheet hands before after r had =
     subst (All (IdleHas c)) (sym r.are)
     (All-append (IdleHas c) r.others (reverse crew_after) (front_of (IdleHas c) r.others (reverse crew) all) (all_reversed (IdleHas c) crew_after (All-from_recursion (IdleHas c) crew_after (to_idle c r.crew_after worked))))
 
-does_keep : (c : Catalogue) (r : Reply) (before after : List Idle) → DoesAfter c r before after → All (IdleHas c) before → All (IdleHas c) after
-does_keep c (reply.Next (Some p)) before after (inl run) had = run_keeps c p.job p.sheet.value p.hands.items before after run had
-does_keep c (reply.Next (Some p)) before after (inr left) had = subst (All (IdleHas c)) (sym left.1) had
-does_keep c (reply.Next None) before after same had = subst (All (IdleHas c)) (sym same) had
-does_keep c (reply.Submit n) before after does had = absurd does
-does_keep c (reply.Look p) before after does had = absurd does
-does_keep c (reply.Stop is) before after does had = absurd does
+does_keep : (c : Catalogue) (r : Reply) (ending : List (Made board.Note)) (before after : List Idle) → DoesAfter c r ending before after → All (IdleHas c) before → All (IdleHas c) after
+does_keep c (reply.Next (Some p)) ending before after (inl run) had = run_keeps c p.job p.sheet.value p.hands.items before after run.0 had
+does_keep c (reply.Next (Some p)) ending before after (inr left) had = subst (All (IdleHas c)) (sym left.2) had
+does_keep c (reply.Next None) ending before after same had = subst (All (IdleHas c)) (sym same.1) had
+does_keep c (reply.Submit n) ending before after does had = absurd does
+does_keep c (reply.Look p) ending before after does had = absurd does
+does_keep c (reply.Stop is) ending before after does had = absurd does
+does_keep c (reply.Finish is) ending before after does had = absurd does
 
-runs_keep : (c : Catalogue) (turns : List (Made board.Note)) (before after : List Idle) → AreRun c turns before after → All (IdleHas c) before → All (IdleHas c) after
+runs_keep : (c : Catalogue) (rounds : List Round) (before after : List Idle) → AreRun c rounds before after → All (IdleHas c) before → All (IdleHas c) after
 runs_keep c [] before after same had = subst (All (IdleHas c)) (sym same) had
-runs_keep c (t ∷ ts) before after (between, does, later) had = runs_keep c ts between after later (does_keep c t.note.reply before between does had)
+runs_keep c (r ∷ rs) before after (between, does, later) had = runs_keep c rs between after later (does_keep c r.look.note.reply r.ending before between does had)
 
 -- members that had made nothing have made such turns
 pub of_idle : (c : Catalogue) (first : HallPass) (before : Standby) (on : HasRunOn c before) → on.heard.idle ≡ on.between.idle → All (λ (i : Idle). i.pass ≡ first) before.idle → first.made ≡ [] → (p : HallPass) → Contains (passes_of on.after.idle) p → HasTurnsAt c p
 of_idle c first before on same nothing none p at =
     let had = All-weaker (λ (i : Idle). i.pass ≡ first) (IdleHas c) (λ i e. subst (HasTurnsAt c) (sym e) (no_turns c first none)) before.idle nothing in
-    let between = runs_keep c on.runs.has_run.turns before.idle on.between.idle on.runs.has_run.are_run had in
-    let after = runs_keep c on.runs_on.has_run.turns on.heard.idle on.after.idle on.runs_on.has_run.are_run (subst (All (IdleHas c)) (sym same) between) in
+    let between = runs_keep c on.runs.has_run.rounds before.idle on.between.idle on.runs.has_run.are_run had in
+    let after = runs_keep c on.runs_on.has_run.rounds on.heard.idle on.after.idle on.runs_on.has_run.are_run (subst (All (IdleHas c)) (sym same) between) in
     All-contains (HasTurnsAt c) (passes_of on.after.idle) p (All-map (HasTurnsAt c) (λ (i : Idle). i.pass) on.after.idle after) at
 
 -- THE PASSES OF ALL THAT WORKED

@@ -151,7 +151,26 @@ pub fn new_stage<G: JobGate>(alloc: Global, gates: Vec<G>) -> Result<Option<Stag
     }))
 }
 
-/// Submits a seed, and tells how far it is before it is run and after all jobs were.
+/// Whether a job that has ended tells the same numbers again, and also once it was stopped.
+fn stays_over<R: Wait>(
+    rt: &R,
+    board: &Board,
+    pass: &mut BoardPass,
+    number: u64,
+    told: Progress,
+) -> bool
+    requires { IsBoardPass board.now.turnstile.table pass.old }
+{
+    let again = board.look(rt, pass, number);
+    let is_stopped = board.stop(rt, pass, number);
+    let Some(last) = board.look(rt, pass, number) else {
+        return false;
+    };
+    let same = last.done == told.done && last.failed == told.failed;
+    again == Some(told) && is_stopped && same && last.cancelled
+}
+
+/// Submits a seed, and tells how far it is before it is run and after all jobs were; none where a later look tells other numbers.
 pub fn run<R: Threads + Wait + Sync, G: JobGate + Send>(
     rt: &R,
     alloc: Global,
@@ -182,5 +201,8 @@ pub fn run<R: Threads + Wait + Sync, G: JobGate + Send>(
         &mut runner,
     );
     let after = board.look(rt, &mut pass, number)?;
+    if !stays_over(rt, &board, &mut pass, number, after) {
+        return None;
+    }
     Some((before, after))
 }

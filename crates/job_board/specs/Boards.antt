@@ -1,11 +1,13 @@
 -- The commands of a board, a row for each reply: where it comes, and the board after it.
 use Rattle.std.specs.Prelude.{ℕ, ◌≡◌, ◌≤◌, ◌<◌, ◌+◌, ◌-◌, ◌==◌, ◌⊎◌, Bool, true, false, if◌then◌else◌, [], ◌∷◌, ◌++◌, length, Option, Some, None, slice_get, slice_set, ⊤}
 use Rattle.job_sheet.specs.declared.progress.Progress.{Progress}
-use Rattle.job_sheet.specs.Calls.{AddsUp, Cancels, Tells}
+use Rattle.job_sheet.specs.Calls.{AddsUp, Cancels, HasEnded, IsSettled, StaysEnded, Tells}
 use Rattle.job_sheet.specs.Hands.{Holding, fresh_holding}
+use Rattle.job_sheet.specs.Standings.{Later}
 use Rattle.jobs.specs.declared.job.Job.{Job}
 use Rattle.truncation_list.specs.declared.book.FrontedBook.{FrontedBook}
 use Rattle.job_board.specs.declared.posted.Posted.{Posted}
+use Rattle.job_board.specs.declared.posted.WatchedJob.{WatchedJob}
 use Rattle.job_board.specs.declared.shown.Command.{Command}
 use Rattle.job_board.specs.declared.shown.Command.TheVariants as command
 use Rattle.job_board.specs.declared.shown.Reply.{Reply}
@@ -48,9 +50,14 @@ Submits b job places None a = ((64 ≤ length b.waiting) ⊎ (1024 ≤ submitted
 
 -- NEXT
 
--- the first that waits is taken; none where none waits
+-- its number is one of so many jobs, from 1
+pub record HasNumber (jobs : ℕ) (p : Posted) : Type 0 where
+  pub least : 1 ≤ p.number
+  pub most : p.number ≤ jobs
+
+-- the first that waits is taken, which is one of the jobs of the board; none where none waits
 abbrev pub TakesNext : Shown → Option Posted → Shown → Type 0
-TakesNext b (Some p) a = b ≡ record { waiting = p ∷ a.waiting; watches = a.watches }
+TakesNext b (Some p) a = HasNumber (submitted b) p × (b ≡ record { waiting = p ∷ a.waiting; watches = a.watches })
 TakesNext b None a = (b.waiting ≡ []) × (a ≡ b)
 
 -- LOOK AND STOP
@@ -63,13 +70,15 @@ watch_of b n = if n == 0 then None else slice_get b.watches (n - 1)
 abbrev pub with_watch : ℕ → Holding → Shown → Shown
 with_watch n watch b = record { waiting = b.waiting; watches = slice_set b.watches (n - 1) watch }
 
--- how far the job is, as its watch finds
+-- how far the job is, as its watch finds; and of a job of which that has seen the end it tells how it ended
 pub record IsLooked (b : Shown) (n : ℕ) (p : Progress) (a : Shown) : Type 0 where
   pub watch : Holding
   pub left : Holding
   pub of_job : watch_of b n ≡ Some watch
   pub tells : Tells watch left p
   pub adds_up : AddsUp watch left p
+  pub settled : (done failed : ℕ) → HasEnded watch.sheet.hands watch.seen done failed → (p.done ≡ done) × (p.failed ≡ failed)
+  pub stays : StaysEnded watch.sheet.hands watch.seen left.seen
   pub is : a ≡ with_watch n left b
 
 abbrev pub Looks : Shown → ℕ → Option Progress → Shown → Type 0
@@ -82,11 +91,34 @@ pub record IsStopped (b : Shown) (n : ℕ) (a : Shown) : Type 0 where
   pub left : Holding
   pub of_job : watch_of b n ≡ Some watch
   pub cancels : Cancels watch left
+  pub stays : StaysEnded watch.sheet.hands watch.seen left.seen
   pub is : a ≡ with_watch n left b
 
 abbrev pub Stops : Shown → ℕ → Bool → Shown → Type 0
 Stops b n true a = IsStopped b n a
 Stops b n false a = (watch_of b n ≡ None) × (a ≡ b)
+
+-- FINISH
+
+-- The watch that was handed in takes the place of the job's: it has seen all that it had, and the end that it had; and where the job's was
+-- cancelled, so is it
+pub record TakesOver (watch ended left : Holding) : Type 0 where
+  pub same_sheet : left.sheet ≡ ended.sheet
+  pub later : Later ended.seen left.seen
+  pub ends : StaysEnded ended.sheet.hands ended.seen left.seen
+  pub cancelled : watch.seen.cancelled ≡ true → left.seen.cancelled ≡ true
+
+-- the job has ended as this watch of its sheet has seen
+pub record IsFinished (b : Shown) (n : ℕ) (ended : Holding) (a : Shown) : Type 0 where
+  pub watch : Holding
+  pub left : Holding
+  pub of_job : watch_of b n ≡ Some watch
+  pub takes : TakesOver watch ended left
+  pub is : a ≡ with_watch n left b
+
+abbrev pub Finishes : Shown → ℕ → Holding → Bool → Shown → Type 0
+Finishes b n ended true a = IsFinished b n ended a
+Finishes b n ended false a = (watch_of b n ≡ None) × (a ≡ b)
 
 -- ANY COMMAND
 
@@ -95,6 +127,7 @@ Admits (command.Submit job places) = MaySubmit job places
 Admits command.Next = ⊤
 Admits (command.Look n) = ⊤
 Admits (command.Stop n) = ⊤
+Admits (command.Finish n job) = IsSettled job.watch.sheet.hands job.watch.seen
 
 -- a submission alone takes memory
 abbrev pub TakesNoMemory : Command → Type 0
@@ -102,6 +135,7 @@ TakesNoMemory (command.Submit job places) = ⊥
 TakesNoMemory command.Next = ⊤
 TakesNoMemory (command.Look n) = ⊤
 TakesNoMemory (command.Stop n) = ⊤
+TakesNoMemory (command.Finish n job) = ⊤
 
 -- the reply is of its command's kind, by the command's row
 abbrev pub MayReply : Shown → Command → Reply → Shown → Type 0
@@ -109,3 +143,27 @@ MayReply b (command.Submit job places) r a = (n : Option ℕ) × (r ≡ reply.Su
 MayReply b command.Next r a = (p : Option Posted) × (r ≡ reply.Next p) × TakesNext b p a
 MayReply b (command.Look n) r a = (p : Option Progress) × (r ≡ reply.Look p) × Looks b n p a
 MayReply b (command.Stop n) r a = (is : Bool) × (r ≡ reply.Stop is) × Stops b n is a
+MayReply b (command.Finish n job) r a = (is : Bool) × (r ≡ reply.Finish is) × Finishes b n job.watch is a
+
+-- A JOB THAT IS OVER
+
+-- the board has been told of the end of the job of this number: so many places done, and so many failed
+pub record IsOver (b : Shown) (n done failed : ℕ) : Type 0 where
+  pub watch : Holding
+  pub of_job : watch_of b n ≡ Some watch
+  pub ended : HasEnded watch.sheet.hands watch.seen done failed
+
+-- it tells of the end of the job of this number
+abbrev pub TellsOfEnd : ℕ → Command → Type 0
+TellsOfEnd n (command.Submit job places) = ⊥
+TellsOfEnd n command.Next = ⊥
+TellsOfEnd n (command.Look m) = ⊥
+TellsOfEnd n (command.Stop m) = ⊥
+TellsOfEnd n (command.Finish m job) = m ≡ n
+
+-- A job that is over stays so with the same numbers, unless its end is told anew; each look at it tells these numbers; and a finish that
+-- finds its job makes it one, with the numbers that the watch has seen which was handed in
+pub record KeepsOver (b : Shown) (does : Command) (r : Reply) (a : Shown) : Type 0 where
+  pub stays : (n done failed : ℕ) → IsOver b n done failed → ¬ (TellsOfEnd n does) → IsOver a n done failed
+  pub tells : (n done failed : ℕ) (p : Progress) → IsOver b n done failed → does ≡ command.Look n → r ≡ reply.Look (Some p) → (p.done ≡ done) × (p.failed ≡ failed)
+  pub ends : (n done failed : ℕ) (job : WatchedJob) → does ≡ command.Finish n job → r ≡ reply.Finish true → HasEnded job.watch.sheet.hands job.watch.seen done failed → IsOver a n done failed

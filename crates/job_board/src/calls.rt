@@ -1,11 +1,12 @@
 //! The calls of a board, one turn each.
 ghost use Rattle.std.specs.Prelude.{◌≡◌};
 ghost use Rattle.job_board.specs.Boards.{MaySubmit};
+ghost use Rattle.job_sheet.specs.Calls.{IsSettled};
 ghost use Rattle.job_board.specs.Calls.{IsBoardPass, MakesOne, SubmitsJob};
 
 use crate::board::Board;
 use crate::fault::BoardFault;
-use crate::posted::Posted;
+use crate::posted::{Posted, WatchedJob};
 use crate::posts::Posts;
 use crate::shown::{Command, Reply};
 use job_sheet::progress::Progress;
@@ -17,6 +18,7 @@ use turnstile::pass::Pass;
 impl Board {
     /// Submits a job of so many places, and answers its number, from 1. `Full` exactly where the turn found 64 jobs waiting or 1,024
     /// submitted; `OutOfMemory` where memory runs out, and then there is no turn. Who waits for a job is woken.
+    #[tactic(auto, using(crate::proofs::Over::keeps_over))]
     pub fn submit<R: Wait>(
         &self,
         rt: &R,
@@ -45,6 +47,7 @@ impl Board {
     }
 
     /// The job that has waited longest; none exactly where the turn found none waiting. It takes no memory.
+    #[tactic(auto, using(crate::proofs::Over::keeps_over))]
     pub fn next<R: Wait>(&self, rt: &R, pass: &mut Pass<Posts>) -> Option<Posted>
         requires of { IsBoardPass self.now.turnstile.table pass.old }
         ensures next { MakesOne pass.old pass.new Command.Next (Reply.Next result) }
@@ -58,6 +61,7 @@ impl Board {
 
     /// How far the job of a number is; none exactly where the number is 0 or above the number of jobs that the turn found. It takes no
     /// memory.
+    #[tactic(auto, using(crate::proofs::Over::keeps_over))]
     pub fn look<R: Wait>(&self, rt: &R, pass: &mut Pass<Posts>, number: u64) -> Option<Progress>
         requires of { IsBoardPass self.now.turnstile.table pass.old }
         ensures look { MakesOne pass.old pass.new (Command.Look number) (Reply.Look result) }
@@ -71,6 +75,7 @@ impl Board {
 
     /// Cancels the job of a number; false exactly where the number is 0 or above the number of jobs that the turn found. It takes no
     /// memory.
+    #[tactic(auto, using(crate::proofs::Over::keeps_over))]
     pub fn stop<R: Wait>(&self, rt: &R, pass: &mut Pass<Posts>, number: u64) -> bool
         requires of { IsBoardPass self.now.turnstile.table pass.old }
         ensures stop { MakesOne pass.old pass.new (Command.Stop number) (Reply.Stop result) }
@@ -78,6 +83,31 @@ impl Board {
     {
         match self.turnstile.turn_plain(rt, pass, Command::Stop(number)) {
             Reply::Stop(is_stopped) => is_stopped,
+            _ => unreachable!(),
+        }
+    }
+
+    /// Tells the board that the job of a number has ended, by a watch of its sheet that has seen all that its hands did: each later look at
+    /// the job tells these numbers of places done and failed. False exactly where the number is 0 or above the number of jobs that the turn
+    /// found. It takes no memory.
+    #[tactic(auto, using(crate::proofs::Over::keeps_over))]
+    pub fn finish<R: Wait>(
+        &self,
+        rt: &R,
+        pass: &mut Pass<Posts>,
+        number: u64,
+        ended: WatchedJob,
+    ) -> bool
+        requires of { IsBoardPass self.now.turnstile.table pass.old }
+        requires ended { IsSettled ended.watch.sheet.hands ended.watch.seen }
+        ensures finish { MakesOne pass.old pass.new (Command.Finish number ended) (Reply.Finish result) }
+        ensures of { IsBoardPass self.now.turnstile.table pass.new }
+    {
+        match self
+            .turnstile
+            .turn_plain(rt, pass, Command::Finish(number, ended))
+        {
+            Reply::Finish(is_finished) => is_finished,
             _ => unreachable!(),
         }
     }

@@ -18,11 +18,11 @@ pub struct Posted {
     pub ghost fresh: { AreFresh sheet.value hands.items },
 }
 
-/// A job on the board, with its sheet's watch.
+/// A job's sheet with a watch of it: what stays on the board of a job, and what is handed in of one that has ended.
 #[derive(Drop)]
-pub(crate) struct WatchedJob {
-    pub(crate) sheet: Arc<JobSheet>,
-    pub(crate) watch: Hand,
-    ghost own: { watch.sheet ≡ sheet.value },
-    ghost claims_none: { watch.number ≡ None },
+pub struct WatchedJob {
+    pub sheet: Arc<JobSheet>,
+    pub watch: Hand,
+    pub ghost own: { watch.sheet ≡ sheet.value },
+    pub ghost claims_none: { watch.number ≡ None },
 }

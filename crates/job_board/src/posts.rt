@@ -13,14 +13,15 @@ pub struct Posts {
 }
 
 impl Model for Posts {
-    ghost use Rattle.std.specs.Prelude.{◌≤◌, length, map};
+    ghost use Rattle.std.specs.Prelude.{All, ◌≤◌, length, map};
+    ghost use Rattle.job_board.specs.Boards.{HasNumber};
     ghost use Rattle.job_board.specs.declared.shown.Shown.{Shown};
 
     ghost Value = { Shown };
 
     ghost view = { λ p. record { waiting = p.waiting.items; watches = map (λ j. j.watch) p.jobs.items } };
 
-    ghost invariant = { λ p. length p.jobs.items ≤ 1024 };
+    ghost invariant = { λ p. (length p.jobs.items ≤ 1024) × All (HasNumber (length p.jobs.items)) p.waiting.items };
 }
 
 impl Chest for Posts {
@@ -66,6 +67,7 @@ impl Chest for Posts {
             Command::Next => Ok(Reply::Next(self.next())),
             Command::Look(number) => Ok(Reply::Look(self.look(number))),
             Command::Stop(number) => Ok(Reply::Stop(self.stop(number))),
+            Command::Finish(number, ended) => Ok(Reply::Finish(self.finish(number, ended))),
         }
     }
 
@@ -75,6 +77,7 @@ impl Chest for Posts {
             Command::Next => Reply::Next(self.next()),
             Command::Look(number) => Reply::Look(self.look(number)),
             Command::Stop(number) => Reply::Stop(self.stop(number)),
+            Command::Finish(number, ended) => Reply::Finish(self.finish(number, ended)),
         }
     }
 

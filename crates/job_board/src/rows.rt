@@ -1,6 +1,7 @@
 //! The commands of the board, one by one.
 ghost use Rattle.std.specs.Prelude.{◌≡◌, IfOk, OnErr};
-ghost use Rattle.job_board.specs.Boards.{IsSubmission, Looks, MaySubmit, Stops, Submits, TakesNext, empty};
+ghost use Rattle.job_board.specs.Boards.{Finishes, IsSubmission, Looks, MaySubmit, Stops, Submits, TakesNext, TakesOver, empty};
+ghost use Rattle.job_sheet.specs.Calls.{Cancels, IsSettled, StaysEnded};
 
 use crate::posted::{Posted, WatchedJob};
 use crate::posts::Posts;
@@ -48,6 +49,28 @@ fn prepared(
             watch,
         },
     ))
+}
+
+/// Cancels a job by its watch.
+fn cancel(job: &mut WatchedJob)
+    ensures cancels { Cancels job.old.watch job.new.watch }
+    ensures stays { StaysEnded job.old.watch.sheet.hands job.old.watch.seen job.new.watch.seen }
+{
+    job.sheet.cancel(&mut job.watch);
+}
+
+/// What stays on the board of a job that has ended: what was handed in takes the place of what was there, and where the job is known to be
+/// cancelled it is so by its watch, too.
+#[tactic(auto, using(crate::proofs::Watches::as_cancelled, crate::proofs::Watches::as_it_is))]
+fn taken_over(old: &mut WatchedJob, ended: WatchedJob) -> WatchedJob
+    ensures { TakesOver old.old.watch ended.watch result.watch }
+{
+    if !old.sheet.progress(&mut old.watch).cancelled {
+        return ended;
+    }
+    let mut ended = ended;
+    cancel(&mut ended);
+    ended
 }
 
 impl Posts {
@@ -115,6 +138,19 @@ impl Posts {
         }
         let job = &mut self.jobs[number as usize - 1];
         job.sheet.cancel(&mut job.watch);
+        true
+    }
+
+    /// Takes over what the hands of a job that has ended have seen, and says whether there is one of this number.
+    pub(crate) fn finish(&mut self, number: u64, ended: WatchedJob) -> bool
+        requires ended { IsSettled ended.watch.sheet.hands ended.watch.seen }
+        ensures { Finishes self.old number ended.watch result self.new }
+    {
+        if number == 0 || number > self.jobs.len() as u64 {
+            return false;
+        }
+        let job = &mut self.jobs[number as usize - 1];
+        *job = taken_over(job, ended);
         true
     }
 }

@@ -1,12 +1,12 @@
 //! What a turn at the board does and is answered, and what the board shows between two turns.
-use crate::posted::Posted;
+use crate::posted::{Posted, WatchedJob};
 use job_sheet::hand::Hand;
 use job_sheet::progress::Progress;
 use jobs::job::Job;
 use std::collections::LinkedList;
 
 /// What a turn does.
-#[derive(Clone, Copy, PartialEq, Eq)]
+#[derive(Drop)]
 pub enum Command {
     /// Submits a job of so many places.
     Submit(Job, u64),
@@ -16,6 +16,8 @@ pub enum Command {
     Look(u64),
     /// Cancels the job of this number.
     Stop(u64),
+    /// Hands in what the hands of the job of this number have seen, which has ended.
+    Finish(u64, WatchedJob),
 }
 
 /// What a turn is answered.
@@ -29,6 +31,8 @@ pub enum Reply {
     Look(Option<Progress>),
     /// Whether a job has the number.
     Stop(bool),
+    /// Whether a job has the number.
+    Finish(bool),
 }
 
 /// What a board shows: the jobs that wait, in the order of their submissions, and of each job that was ever submitted, in the order of

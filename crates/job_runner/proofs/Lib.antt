@@ -1,6 +1,6 @@
 mod Swapping
 mod Joining
 mod Counting
-mod History
+pub mod History
 mod Pairing
 mod Putting

@@ -1,12 +1,12 @@
 //! How a crew comes together for a job, and how its members are idle again.
-ghost use Rattle.std.specs.Prelude.{All, length, map, reverse, vec_capacity, [], ◌++◌, ◌+◌, ◌≡◌, ◌≤◌};
+ghost use Rattle.std.specs.Prelude.{All, length, map, reverse, vec_capacity, [], ◌++◌, ◌+◌, ◌<◌, ◌≡◌, ◌≤◌};
 ghost use Rattle.catalog.specs.Valid.{IsValid};
 ghost use Rattle.job_runner.specs.Idles.{MayJoin, all_idle, without_hand};
 ghost use Rattle.job_runner.specs.Runs.{IsRun};
 ghost use Rattle.job_sheet.specs.Hands.{AreFresh};
 ghost use Rattle.jobs.specs.Job.{Fits};
 ghost use Rattle.jobs.specs.Places.{places};
-ghost use Rattle.seed_jobs.specs.Crews.{AreShared, HaveWorked, hands_of, total_of};
+ghost use Rattle.seed_jobs.specs.Crews.{AreShared, HaveWorked, SeesEnd, hands_of, total_of};
 ghost use Rattle.seed_jobs.specs.Members.{tallies_of, workers_of};
 ghost use Rattle.seed_jobs.specs.Workers.{MayWork};
 
@@ -17,7 +17,7 @@ use cache_hall::hall::Hall;
 use job_sheet::hand::Hand;
 use job_sheet::sheet::JobSheet;
 use jobs::job::Job;
-use seed_jobs::crew::run_seed;
+use seed_jobs::crew::{CrewEnd, run_seed};
 use seed_jobs::member::Member;
 use seed_jobs::tally::Tally;
 use source_render::source::Source;
@@ -78,7 +78,7 @@ fn disband<K: Keeper, S: Source, G: JobGate>(
     }
 }
 
-/// Lets a crew that has all hands of a job's sheet do the job.
+/// Lets a crew that has all hands of a job's sheet do the job. The answer is a watch of the sheet that has seen the end.
 fn crew_works<R: Threads + Wait + Sync, K: Keeper + Send, S: Source + Send, G: JobGate + Send>(
     rt: &R,
     alloc: Global,
@@ -86,22 +86,27 @@ fn crew_works<R: Threads + Wait + Sync, K: Keeper + Send, S: Source + Send, G: J
     job: &Job,
     sheet: &JobSheet,
     crew: &mut Vec<Member<K, S, G>>,
-)
+) -> Hand
     requires valid { IsValid hall.now.catalogue }
     requires fits { Fits hall.now.catalogue job.now }
     requires sheet { sheet.now.places ≡ length (places hall.now.catalogue job.now) }
     requires size { length crew.old.items ≤ 8 }
+    requires some { 0 < length crew.old.items }
     requires crew { All (MayWork hall.now.turnstile.table hall.now.catalogue sheet.now) (workers_of S.told S.faults crew.old.items) }
     requires fresh { AreFresh sheet.now (hands_of (workers_of S.told S.faults crew.old.items)) }
     ensures worked { HaveWorked hall.now.catalogue job.now
         (workers_of S.told S.faults crew.old.items) (workers_of S.told S.faults crew.new.items) (tallies_of crew.new.items) }
     ensures shared { AreShared sheet.now (hands_of (workers_of S.told S.faults crew.new.items)) (total_of (tallies_of crew.new.items)).claimed }
+    ensures ended { SeesEnd sheet.now (total_of (tallies_of crew.new.items)).done (total_of (tallies_of crew.new.items)).failed result }
     ensures room { vec_capacity crew.new ≡ vec_capacity crew.old }
 {
-    run_seed(rt, alloc, hall, job, sheet, crew.as_mut_slice());
+    let CrewEnd { total: _, watch } = run_seed(rt, alloc, hall, job, sheet, crew.as_mut_slice());
+    let Some(watch) = watch else { unreachable!() };
+    watch
 }
 
-/// Runs a job by the last members that are idle, one for each hand of its sheet, who are idle again then.
+/// Runs a job by the last members that are idle, one for each hand of its sheet, who are idle again then. The answer is a watch of the sheet
+/// that has seen the end.
 pub(crate) fn run_by_crew<
     R: Threads + Wait + Sync,
     K: Keeper + Send,
@@ -116,21 +121,24 @@ pub(crate) fn run_by_crew<
     hands: Vec<Hand>,
     idle: &mut Vec<IdleMember<K, S, G>>,
     crew: &mut Vec<Member<K, S, G>>,
-)
+) -> Hand
     requires valid { IsValid hall.now.catalogue }
     requires fits { Fits hall.now.catalogue job.now }
     requires sheet { sheet.now.places ≡ length (places hall.now.catalogue job.now) }
+    requires some { 0 < length hands.items }
     requires few { length hands.items ≤ 8 }
     requires fresh { AreFresh sheet.now hands.items }
     requires idle { All (MayJoin hall.now.turnstile.table hall.now.catalogue) (all_idle S.told S.faults idle.old.items) }
     requires members { (length idle.old.items ≡ 8) × (8 ≤ vec_capacity idle.old) }
     requires room { (crew.old.items ≡ []) × (vec_capacity crew.old ≡ 8) }
-    ensures run { IsRun hall.now.catalogue job.now sheet.now hands.items (all_idle S.told S.faults idle.old.items) (all_idle S.told S.faults idle.new.items) }
+    ensures run { (r : IsRun hall.now.catalogue job.now sheet.now hands.items (all_idle S.told S.faults idle.old.items) (all_idle S.told S.faults idle.new.items))
+        × SeesEnd sheet.now (total_of r.tallies).done (total_of r.tallies).failed result }
     ensures idle { All (MayJoin hall.now.turnstile.table hall.now.catalogue) (all_idle S.told S.faults idle.new.items) }
     ensures members { (length idle.new.items ≡ 8) × (8 ≤ vec_capacity idle.new) }
     ensures room { (crew.new.items ≡ []) × (vec_capacity crew.new ≡ 8) }
 {
     assemble(hands, idle, crew);
-    crew_works(rt, alloc, hall, job, sheet, crew);
+    let watch = crew_works(rt, alloc, hall, job, sheet, crew);
     disband(crew, idle);
+    watch
 }

@@ -1,8 +1,10 @@
 //! How posted jobs are run, one after the other.
 ghost use Rattle.std.specs.Prelude.{All, length, true, vec_capacity, [], ◌≡◌, ◌≤◌, ◌↔◌};
 ghost use Rattle.catalog.specs.Valid.{IsValid};
+ghost use Rattle.job_board.specs.Boards.{HasNumber};
+ghost use Rattle.job_board.specs.Calls.{IsBoardPass};
 ghost use Rattle.job_runner.specs.Idles.{IsReady, MayJoin, all_idle};
-ghost use Rattle.job_runner.specs.Runs.{IsRunnable, Runs, RunsAll, RunsNext};
+ghost use Rattle.job_runner.specs.Runs.{HasRunOut, IsRunnable, RunsAll, RunsNext};
 
 use crate::crews::run_by_crew;
 use crate::gates::JobGate;
@@ -10,8 +12,8 @@ use crate::runner::{IdleMember, Runner};
 use cabinet::keeper::Keeper;
 use cache_hall::hall::Hall;
 use catalog::catalogue::Catalogue;
-use job_board::board::Board;
-use job_board::posted::Posted;
+use job_board::board::{Board, BoardPass};
+use job_board::posted::{Posted, WatchedJob};
 use jobs::places::{count, fits};
 use seed_jobs::member::Member;
 use source_render::source::Source;
@@ -34,21 +36,27 @@ fn is_runnable(catalogue: &Catalogue, posted: &Posted) -> bool
     posted.hands.len() == posted.job.threads as usize
 }
 
-/// Runs a posted job by the last members that are idle, who are idle again then. A job that can't be run over the hall's catalogue is
-/// left.
+/// Runs a posted job by the last members that are idle, who are idle again then, and tells the board of its end. A job that can't be run over
+/// the hall's catalogue is left.
+#[tactic(auto, using(crate::proofs::History::left_out))]
 fn run_posted<R: Threads + Wait + Sync, K: Keeper + Send, S: Source + Send, G: JobGate + Send>(
     rt: &R,
     alloc: Global,
     hall: &Hall<K>,
+    board: &Board,
+    pass: &mut BoardPass,
     posted: Posted,
     idle: &mut Vec<IdleMember<K, S, G>>,
     crew: &mut Vec<Member<K, S, G>>,
 )
     requires valid { IsValid hall.now.catalogue }
+    requires of { IsBoardPass board.now.turnstile.table pass.old }
+    requires number { HasNumber pass.old.book.front posted }
     requires idle { All (MayJoin hall.now.turnstile.table hall.now.catalogue) (all_idle S.told S.faults idle.old.items) }
     requires members { (length idle.old.items ≡ 8) × (8 ≤ vec_capacity idle.old) }
     requires room { (crew.old.items ≡ []) × (vec_capacity crew.old ≡ 8) }
-    ensures runs { Runs hall.now.catalogue posted (all_idle S.told S.faults idle.old.items) (all_idle S.told S.faults idle.new.items) }
+    ensures of { IsBoardPass board.now.turnstile.table pass.new }
+    ensures runs { HasRunOut hall.now.catalogue posted pass.old pass.new (all_idle S.told S.faults idle.old.items) (all_idle S.told S.faults idle.new.items) }
     ensures idle { All (MayJoin hall.now.turnstile.table hall.now.catalogue) (all_idle S.told S.faults idle.new.items) }
     ensures members { (length idle.new.items ≡ 8) × (8 ≤ vec_capacity idle.new) }
     ensures room { (crew.new.items ≡ []) × (vec_capacity crew.new ≡ 8) }
@@ -57,15 +65,16 @@ fn run_posted<R: Threads + Wait + Sync, K: Keeper + Send, S: Source + Send, G: J
         return;
     }
     let Posted {
-        number: _,
+        number,
         job,
         sheet,
         hands,
     } = posted;
-    run_by_crew(rt, alloc, hall, &job, &sheet, hands, idle, crew);
+    let watch = run_by_crew(rt, alloc, hall, &job, &sheet, hands, idle, crew);
+    let _ = board.finish(rt, pass, number, WatchedJob { sheet, watch });
 }
 
-/// Takes the next job of a board, if one waits, runs it, and says whether one was taken.
+/// Takes the next job of a board, if one waits, runs it, tells the board of its end, and says whether one was taken.
 fn run_next<R: Threads + Wait + Sync, K: Keeper + Send, S: Source + Send, G: JobGate + Send>(
     rt: &R,
     alloc: Global,
@@ -80,15 +89,24 @@ fn run_next<R: Threads + Wait + Sync, K: Keeper + Send, S: Source + Send, G: Job
 {
     match board.next(rt, &mut runner.board) {
         Some(posted) => {
-            run_posted(rt, alloc, hall, posted, &mut runner.idle, &mut runner.crew);
+            run_posted(
+                rt,
+                alloc,
+                hall,
+                board,
+                &mut runner.board,
+                posted,
+                &mut runner.idle,
+                &mut runner.crew,
+            );
             true
         }
         None => false,
     }
 }
 
-/// Takes jobs from a board and runs each by a crew of as many members as it has threads, and sleeps while none waits. It returns where it
-/// is over and no job waits any more. To be woken by `wake` of the board where it is over.
+/// Takes jobs from a board, runs each by a crew of as many members as it has threads, and tells the board of its end, and sleeps while none
+/// waits. It returns where it is over and no job waits any more. To be woken by `wake` of the board where it is over.
 pub fn run_jobs<R: Threads + Wait + Sync, K: Keeper + Send, S: Source + Send, G: JobGate + Send>(
     rt: &R,
     alloc: Global,

@@ -4,11 +4,11 @@ use Rattle.std.proofs.lemmas.List.Sums.{sum_by-cons}
 use mathlib.Core.Logic.{dite}
 use native.Mathlib.Decide.{dec_lt}
 use Rattle.job_sheet.specs.declared.standing.Account.{Account}
-use Rattle.job_sheet.specs.declared.standing.End.TheVariants.{AllClaimed}
+use Rattle.job_sheet.specs.declared.standing.End.TheVariants.{AllClaimed, Open}
 use Rattle.job_sheet.specs.declared.standing.Standing.{Standing}
-use Rattle.job_sheet.specs.Standings.{HasCause, IsSound, Later, account, claimed_count, claims_of, fresh, times}
+use Rattle.job_sheet.specs.Standings.{HasCause, IsSound, Later, account, claimed_count, claims_of, done_count, failed_count, fresh, times}
 use Rattle.job_sheet.specs.Hands.{AreApart, HasGathered, Holding, own, own_of}
-use Rattle.job_sheet.specs.Calls.{Gathers, ShareOut, claimed_by, claims_by}
+use Rattle.job_sheet.specs.Calls.{Gathers, HasEnded, ShareOut, claimed_by, claims_by, done_by, failed_by}
 use Rattle.job_sheet.proofs.Counting.{times_append, times_some}
 
 -- a sum over hands is one over as many accounts, where each two terms are one
@@ -55,6 +55,43 @@ module _ (gatherer : Holding) (hands : List Holding) (sound : IsSound gatherer.s
       let l = g.1 in
       let ended : (account gatherer.seen k).end ≡ AllClaimed = (l.ended g.2).1 ∙ e in
       as_many ∙ subst (HasCause gatherer.sheet.places gatherer.seen) ended (sound.cause k)
+
+  -- where each hand has reported all that it claimed, the gatherer has seen the end
+  module _ (reported : (k : ℕ) (h : Holding) → slice_get hands k ≡ Some h → (own h).done + (own h).failed ≡ length (own h).claimed) where
+    as_reported : (k : ℕ) (h : Holding) → slice_get hands k ≡ Some h → ((own h).done ≡ (account gatherer.seen k).done) × ((own h).failed ≡ (account gatherer.seen k).failed)
+    as_reported k h e =
+        let g = gathered.each k h e in
+        let l = g.1 in
+        let same = ap length (same_claims k h e) in
+        let d = l.done in
+        let f = l.failed in
+        let all = reported k h e in
+        let within = sound.reported k in
+        (omega arith, omega arith)
+
+    done_as_many : done_by hands ≡ done_count gatherer.seen
+    done_as_many = sum_over (λ (h : Holding). (own h).done) (λ (a : Account). a.done) hands gatherer.seen.accounts same_length (λ k h e. (as_reported k h e).0)
+
+    failed_as_many : failed_by hands ≡ failed_count gatherer.seen
+    failed_as_many = sum_over (λ (h : Holding). (own h).failed) (λ (a : Account). a.failed) hands gatherer.seen.accounts same_length (λ k h e. (as_reported k h e).1)
+
+    settled_at : (k : ℕ) (h : Holding) → slice_get hands k ≡ Some h → ((account gatherer.seen k).end ≢ Open) × ((account gatherer.seen k).done + (account gatherer.seen k).failed ≡ length (account gatherer.seen k).claimed)
+    settled_at k h e =
+        let g = gathered.each k h e in
+        let l = g.1 in
+        let same = ap length (same_claims k h e) in
+        let r = as_reported k h e in
+        let d = r.0 in
+        let f = r.1 in
+        let all = reported k h e in
+        (λ still. g.2 (sym (l.ended g.2).1 ∙ still), omega arith)
+
+    pub sees_end : HasEnded gatherer.sheet.hands gatherer.seen (done_by hands) (failed_by hands)
+    sees_end = record {
+      settled = λ k below. let c = gathered.count in settled_at k (get_or hands k gatherer) (get_at hands k gatherer (omega arith));
+      done_is = done_as_many;
+      failed_is = failed_as_many;
+    }
 
 -- NO PLACE IN COMMON
 

@@ -11,7 +11,7 @@ use Rattle.job_sheet.specs.declared.standing.Standing.{Standing}
 use Rattle.job_sheet.specs.declared.view.View.{View}
 use Rattle.job_sheet.specs.Standings.{IsSound, Later, account, claimed_count, done_count, failed_count, fresh, vain_count}
 use Rattle.job_sheet.specs.Hands.{AreReports, Holding, own_of}
-use Rattle.job_sheet.specs.Calls.{AddsUp, Gathers, IsFinal, IsSettled, MayFind, Tells, seeing}
+use Rattle.job_sheet.specs.Calls.{AddsUp, Cancels, Gathers, HasEnded, IsFinal, IsSettled, MayFind, StaysEnded, Tells, seeing}
 use Rattle.job_sheet.specs.Views.{claim_word, mark_of, seeing_now}
 use Rattle.job_sheet.specs.Steps.{HeardBy, ReadBy}
 use Rattle.job_sheet.specs.Seats.{IsHand, holding_of}
@@ -99,6 +99,26 @@ module _ (places hands : ℕ) (a b : Standing) (as_many : length a.accounts ≡ 
         let up = sum_within (λ (x : Account). x.done + x.failed) (λ (x : Account). length x.claimed) a.accounts a.accounts refl (λ k lt. let s = (settled k (omega arith)).1 in omega arith) in
         let down = sum_within (λ (x : Account). length x.claimed) (λ (x : Account). x.done + x.failed) a.accounts a.accounts refl (λ k lt. let s = (settled k (omega arith)).1 in omega arith) in
         omega arith
+
+  pub ended_still : StaysEnded hands a b
+  ended_still d f e =
+      let settled = e.settled in
+      record {
+        settled = stays_settled settled;
+        done_is = e.done_is ∙ sym (as_done settled);
+        failed_is = e.failed_is ∙ sym (as_failed settled);
+      }
+
+-- a cancel changes no account
+pub cancelled_still : (before after : Holding) (n : ℕ) → before.sheet.hands ≡ n → length before.seen.accounts ≡ before.sheet.hands → Cancels before after → StaysEnded n before.seen after.seen
+cancelled_still before after n hands_are as_many c =
+    let left : Standing = record c.found { cancelled = true } in
+    let seen : after.seen ≡ left = ap (λ (h : Holding). h.seen) c.is in
+    let later = c.finds.later in
+    let sound = subst (IsSound before.sheet.places before.sheet.hands) seen c.sound in
+    subst (λ (k : ℕ). StaysEnded k before.seen after.seen) hands_are
+    (subst (StaysEnded before.sheet.hands before.seen) (sym seen)
+    (ended_still before.sheet.places before.sheet.hands before.seen left as_many sound (record { accounts = later.accounts; cancelled = λ _. refl })))
 
 -- WHAT THREE LOOKS TELL
 
@@ -202,6 +222,9 @@ module _ (before after : Holding) (p : Progress) (as_many : length before.seen.a
         let y = t.failed in
         omega arith;
   }
+
+  pub told_still : (n : ℕ) → hands ≡ n → StaysEnded n before.seen after.seen
+  told_still n hands_are = subst (λ (k : ℕ). StaysEnded k before.seen after.seen) hands_are (ended_still places hands before.seen after.seen as_many t.then_sees.sound to_third)
 
 -- A HAND THAT LOOKS
 

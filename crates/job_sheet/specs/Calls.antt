@@ -122,6 +122,16 @@ pub record IsFinal (s : Standing) (p : Progress) : Type 0 where
   pub failed : p.failed ≡ failed_count s
   pub all : p.done + p.failed ≡ claimed_count s
 
+-- a standing in which nothing is left to do or to report: so many places are done, and so many failed
+pub record HasEnded (hands : ℕ) (s : Standing) (done failed : ℕ) : Type 0 where
+  pub settled : IsSettled hands s
+  pub done_is : done ≡ done_count s
+  pub failed_is : failed ≡ failed_count s
+
+-- what has ended with these numbers stays so
+abbrev pub StaysEnded : ℕ → Standing → Standing → Type 0
+StaysEnded hands before after = (done failed : ℕ) → HasEnded hands before done failed → HasEnded hands after done failed
+
 -- GATHERING
 
 -- the hand has seen all that the other one had
@@ -137,6 +147,13 @@ claimed_by hands = sum_by (λ (h : Holding). length (own h).claimed) hands
 
 abbrev pub claims_by : ℕ → List Holding → ℕ
 claims_by place hands = sum_by (λ (h : Holding). times place (own h).claimed) hands
+
+-- how many places these hands have reported done, and failed
+abbrev pub done_by : List Holding → ℕ
+done_by hands = sum_by (λ (h : Holding). (own h).done) hands
+
+abbrev pub failed_by : List Holding → ℕ
+failed_by hands = sum_by (λ (h : Holding). (own h).failed) hands
 
 -- what these hands have claimed is the places below how many they are, each claimed by one of them, once
 pub record ShareOut (places : ℕ) (hands : List Holding) : Type 0 where

@@ -1,6 +1,6 @@
 //! How far a job is.
 ghost use Rattle.std.specs.Prelude.{◌≡◌};
-ghost use Rattle.job_sheet.specs.Calls.{AddsUp, IsFinal, IsSettled, Tells};
+ghost use Rattle.job_sheet.specs.Calls.{AddsUp, IsFinal, IsSettled, StaysEnded, Tells};
 
 use crate::counts::CANCELLED;
 use crate::hand::Hand;
@@ -25,6 +25,7 @@ impl JobSheet {
         ensures tells { Tells hand.old hand.new result }
         ensures adds_up { AddsUp hand.old hand.new result }
         ensures settled { IsSettled self.now.hands hand.old.seen → IsFinal hand.old.seen result }
+        ensures stays { StaysEnded self.now.hands hand.old.seen hand.new.seen }
     {
         let done = self.counts.read_done(&mut hand.seat);
         let failed = self.counts.read_failed(&mut hand.seat);

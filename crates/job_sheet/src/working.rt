@@ -1,7 +1,7 @@
 //! Claims and reports of a hand, and the end of a job before its time.
 ghost use Rattle.std.specs.Prelude.{◌≡◌, IfNone, IfSome, None};
 ghost use Rattle.job_sheet.specs.Hands.{MayClaim, MayReport};
-ghost use Rattle.job_sheet.specs.Calls.{Cancels, Claims, MeetsNone, ReportsDone, ReportsFailed};
+ghost use Rattle.job_sheet.specs.Calls.{Cancels, Claims, MeetsNone, ReportsDone, ReportsFailed, StaysEnded};
 
 use crate::hand::Hand;
 use crate::sheet::JobSheet;
@@ -47,7 +47,8 @@ impl JobSheet {
     pub fn cancel(&self, hand: &mut Hand)
         requires own { hand.old.sheet ≡ self.now }
         requires watch { hand.old.number ≡ None }
-        ensures { Cancels hand.old hand.new }
+        ensures cancels { Cancels hand.old hand.new }
+        ensures stays { StaysEnded self.now.hands hand.old.seen hand.new.seen }
     {
         self.counts.cancel(&mut hand.seat);
     }

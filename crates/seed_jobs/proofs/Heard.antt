@@ -5,12 +5,12 @@ use Rattle.std.proofs.lemmas.List.Elements.{All-map, AllWithin-more}
 use Rattle.job_sheet.specs.declared.standing.Account.{Account}
 use Rattle.job_sheet.specs.declared.standing.End.TheVariants.{Open}
 use Rattle.job_sheet.specs.declared.standing.Standing.{Standing}
-use Rattle.job_sheet.specs.Calls.{Gathers, ShareOut, claimed_by, seeing}
-use Rattle.job_sheet.specs.Hands.{HasGathered, Holding, Sheet, own, own_of}
+use Rattle.job_sheet.specs.Calls.{Gathers, HasEnded, ShareOut, claimed_by, done_by, failed_by, seeing}
+use Rattle.job_sheet.specs.Hands.{HasGathered, Holding, Sheet, own, own_of, watching}
 use Rattle.job_sheet.specs.Standings.{IsSound, Later, LaterAccount, account}
-use Rattle.job_sheet.proofs.Gathered.{all_places, shares_out}
+use Rattle.job_sheet.proofs.Gathered.{all_places, sees_end, shares_out}
 use Rattle.seed_jobs.specs.declared.member.Member.{Member}
-use Rattle.seed_jobs.specs.Crews.{AreShared, hands_of}
+use Rattle.seed_jobs.specs.Crews.{AreShared, SeesEnd, hands_of}
 use Rattle.seed_jobs.specs.Gathered.{AreAlike, AreAll, HasHeard, IsAlike}
 use Rattle.seed_jobs.specs.Members.{worker_of, workers_of}
 use Rattle.seed_jobs.specs.Workers.{Worker}
@@ -133,6 +133,13 @@ module _ {K S G : Type 0} where
         subst (λ (ms : List (Member K S G)). AreShared sheet (hands_of (workers_of tells faults (then ∷ ms))) (claimed_by (hands_of (workers_of tells faults (then ∷ ms))))) (sym same)
         (shared (subst (λ (ms : List (Member K S G)). AreAll sheet (hands_of (workers_of tells faults ms))) is all))
 
+    pub ended_all : (sheet : Sheet) (crew others left : List (Member K S G)) (first then : Member K S G) (watch : Holding) → crew ≡ first ∷ others → left ≡ others
+        → (AreAll sheet (first.hand ∷ hands_of (workers_of tells faults others)) → SeesEnd sheet (done_by (then.hand ∷ hands_of (workers_of tells faults others))) (failed_by (then.hand ∷ hands_of (workers_of tells faults others))) watch)
+        → AreAll sheet (hands_of (workers_of tells faults crew)) → SeesEnd sheet (done_by (hands_of (workers_of tells faults (then ∷ left)))) (failed_by (hands_of (workers_of tells faults (then ∷ left)))) watch
+    ended_all sheet crew others left first then watch is same ended all =
+        subst (λ (ms : List (Member K S G)). SeesEnd sheet (done_by (hands_of (workers_of tells faults (then ∷ ms)))) (failed_by (hands_of (workers_of tells faults (then ∷ ms)))) watch) (sym same)
+        (ended (subst (λ (ms : List (Member K S G)). AreAll sheet (hands_of (workers_of tells faults ms))) is all))
+
     pub theirs_of : (sheet : Sheet) (crew others : List (Member K S G)) (first : Member K S G) → crew ≡ first ∷ others → All (λ (h : Holding). h.sheet ≡ sheet) (hands_of (workers_of tells faults crew)) → All (λ (h : Holding). h.sheet ≡ sheet) (first.hand ∷ hands_of (workers_of tells faults others))
     theirs_of sheet crew others first is all = subst (λ (ms : List (Member K S G)). All (λ (h : Holding). h.sheet ≡ sheet) (hands_of (workers_of tells faults ms))) is all
 
@@ -168,6 +175,23 @@ module _ (sheet : Sheet) (first then : Holding) (others : List Holding) (own_is 
         subst (λ (a : Account). LaterAccount a (account then.seen (suc k))) (sym (own_at h (suc k) number)) (later.accounts (suc k)),
         all.met_none (suc k) h e,
       )
+
+  reported_by : (n : ℕ) (h : Holding) → slice_get (then ∷ others) n ≡ Some h → (own h).done + (own h).failed ≡ length (own h).claimed
+  reported_by zero h e =
+      subst (λ (x : Holding). (own x).done + (own x).failed ≡ length (own x).claimed) (some_same e)
+      (subst (λ (a : Account). a.done + a.failed ≡ length a.claimed) (sym heard.own_is) (all.reported 0 first refl))
+  reported_by (suc k) h e = all.reported (suc k) h e
+
+  pub ended_by : (watch : Holding) → watch ≡ watching sheet then.seen → IsSound then.sheet.places then.sheet.hands then.seen → SeesEnd sheet (done_by (then ∷ others)) (failed_by (then ∷ others)) watch
+  ended_by watch is sound =
+      let gathered : HasGathered then (then ∷ others) = record { count = all.count ∙ sym (ap (λ (s : Sheet). s.hands) same); each = each_heard } in
+      let seen : watch.seen ≡ then.seen = ap (λ (h : Holding). h.seen) is in
+      let end : HasEnded sheet.hands then.seen (done_by (then ∷ others)) (failed_by (then ∷ others)) =
+      subst (λ (s : Sheet). HasEnded s.hands then.seen (done_by (then ∷ others)) (failed_by (then ∷ others))) same (sees_end then (then ∷ others) sound gathered reported_by) in
+      record {
+        is = is ∙ ap (watching sheet) (sym seen);
+        ended = subst (λ (s : Standing). HasEnded sheet.hands s (done_by (then ∷ others)) (failed_by (then ∷ others))) (sym seen) end;
+      }
 
   pub shared_by : IsSound then.sheet.places then.sheet.hands then.seen → AreShared sheet (then ∷ others) (claimed_by (then ∷ others))
   shared_by sound =

@@ -1,16 +1,17 @@
 -- The places of a crew are shared out.
-use Rattle.std.proofs.Common.{ℕ, zero, suc, ◌≡◌, ◌≢◌, ◌<◌, ◌≤◌, All, List, [], ◌∷◌, ◌++◌, length, get_or, replicate, slice_get, Some, None, refl, sym, ap, subst, ◌∙◌, arith}
+use Rattle.std.specs.Prelude.{IfSome}
+use Rattle.std.proofs.Common.{ℕ, zero, suc, ◌≡◌, ◌≢◌, ◌+◌, ◌<◌, ◌≤◌, All, List, [], ◌∷◌, ◌++◌, length, get_or, replicate, slice_get, Option, Some, None, sum_by, refl, sym, ap, subst, ◌∙◌, arith}
 use Rattle.std.proofs.lemmas.List.Sums.{sum_by-cons}
 use Rattle.atomic_table.specs.Seated.{TableId}
 use Rattle.catalog.specs.declared.catalogue.Catalogue.{Catalogue}
 use Rattle.job_sheet.specs.declared.standing.Account.{Account}
 use Rattle.job_sheet.specs.declared.standing.End.TheVariants.{Open}
-use Rattle.job_sheet.specs.Calls.{claimed_by}
+use Rattle.job_sheet.specs.Calls.{claimed_by, done_by, failed_by}
 use Rattle.job_sheet.specs.Hands.{AreFresh, Holding, Sheet, fresh_holding, own}
 use Rattle.job_sheet.specs.Standings.{fresh}
 use Rattle.jobs.specs.declared.job.Job.{Job}
 use Rattle.seed_jobs.specs.declared.tally.Tally.{Tally}
-use Rattle.seed_jobs.specs.Crews.{AreShared, HaveWorked, hands_of, total_of}
+use Rattle.seed_jobs.specs.Crews.{AreShared, HaveWorked, SeesEnd, hands_of, total_of}
 use Rattle.seed_jobs.specs.Gathered.{AreAlike, AreAll, IsAlike}
 use Rattle.seed_jobs.specs.Totals.{HasFew}
 use Rattle.seed_jobs.specs.Visits.{visited}
@@ -102,6 +103,21 @@ module _ (c : Catalogue) (job : Job) where
     is_there : slice_get (hands_of before) n ≡ Some was
     number : h.number ≡ was.number
     met_none : (own h).end ≢ Open
+    reported : own was ≡ fresh → (own h).done + (own h).failed ≡ length (own h).claimed
+
+  -- what a hand that had claimed nothing has claimed, and reported, is its tally
+  counted : (b a : Worker) (t : Tally) → Works c job b a t → own b.hand ≡ fresh → (length (own a.hand).claimed ≡ t.claimed) × ((own a.hand).done ≡ t.done) × ((own a.hand).failed ≡ t.failed)
+  counted b a t works none =
+      let vs = works.worked.visits in
+      let is = works.worked.gains.account in
+      let counts = works.worked.counts in (
+        ap (λ (x : Account). length x.claimed) is ∙ ap (λ (x : Account). length (x.claimed ++ visited vs)) none ∙ sym (ap (λ (x : Tally). x.claimed) counts),
+        omega (arith, ap (λ (x : Account). x.done) is, ap (λ (x : Account). x.done) none, ap (λ (x : Tally). x.done) counts),
+        omega (arith, ap (λ (x : Account). x.failed) is, ap (λ (x : Account). x.failed) none, ap (λ (x : Tally). x.failed) counts),
+      )
+
+  reported_one : (b a : Worker) (t : Tally) → Works c job b a t → own b.hand ≡ fresh → (own a.hand).done + (own a.hand).failed ≡ length (own a.hand).claimed
+  reported_one b a t works none = let n = counted b a t works none in omega (arith, n.0, n.1, n.2, works.adds_up)
 
   worked_hand : (before after : List Worker) (ts : List Tally) (n : ℕ) (h : Holding) → HaveWorked c job before after ts → slice_get (hands_of after) n ≡ Some h → IsWorkedHand before n h
   worked_hand before [] ts n h works e = absurd (option_apart e)
@@ -115,10 +131,11 @@ module _ (c : Catalogue) (job : Job) where
         is_there = refl;
         number = ap (λ (x : Holding). x.number) (sym is) ∙ gains.same_number;
         met_none = λ ended. works.0.met_none (ap (λ (x : Account). x.end) (sym gains.account) ∙ ap (λ (x : Holding). (own x).end) is ∙ ended);
+        reported = λ none. subst (λ (x : Holding). (own x).done + (own x).failed ≡ length (own x).claimed) is (reported_one b a t works.0 none);
       }
   worked_hand (b ∷ before) (a ∷ after) (t ∷ ts) (suc n) h works e =
       let there = worked_hand before after ts n h works.1 e in
-      record { was = there.was; is_there = there.is_there; number = there.number; met_none = there.met_none }
+      record { was = there.was; is_there = there.is_there; number = there.number; met_none = there.met_none; reported = there.reported }
 
   module _ (sheet : Sheet) where
     get_within : (hs : List Holding) (n : ℕ) (h : Holding) → slice_get hs n ≡ Some h → n < length hs
@@ -132,12 +149,12 @@ module _ (c : Catalogue) (job : Job) where
     fresh_in (suc k) (suc n) = fresh_in k n
 
     -- a fresh hand has its number, and claimed nothing
-    fresh_at : (hs : List Holding) → AreFresh sheet hs → (n : ℕ) (h : Holding) → slice_get hs n ≡ Some h → (h.number ≡ Some n) × ((own h).claimed ≡ [])
+    fresh_at : (hs : List Holding) → AreFresh sheet hs → (n : ℕ) (h : Holding) → slice_get hs n ≡ Some h → (h.number ≡ Some n) × (own h ≡ fresh)
     fresh_at hs all n h e =
         let below = get_within hs n h e in
         let is : h ≡ fresh_holding sheet (Some n) = some_same (sym e ∙ all.each n (omega (arith, below, all.count))) in (
           ap (λ (x : Holding). x.number) is,
-          ap (λ (x : Holding). (own x).claimed) is ∙ ap (λ (x : Account). x.claimed) (fresh_in sheet.hands n),
+          ap (λ (x : Holding). own x) is ∙ fresh_in sheet.hands n,
         )
 
     pub all_after : (before after : List Worker) (ts : List Tally) → HaveWorked c job before after ts → AreFresh sheet (hands_of before) → AreAll sheet (hands_of after)
@@ -145,26 +162,44 @@ module _ (c : Catalogue) (job : Job) where
       count = same_count before after ts works ∙ all.count;
       number = λ n h e. let w = worked_hand before after ts n h works e in w.number ∙ (fresh_at (hands_of before) all n w.was w.is_there).0;
       met_none = λ n h e. (worked_hand before after ts n h works e).met_none;
+      reported = λ n h e. let w = worked_hand before after ts n h works e in w.reported (fresh_at (hands_of before) all n w.was w.is_there).1;
     }
 
-    claimed_one : (b a : Worker) (t : Tally) → Works c job b a t → (own b.hand).claimed ≡ [] → length (own a.hand).claimed ≡ t.claimed
-    claimed_one b a t works none =
-        let vs = works.worked.visits in
-        ap (λ (x : Account). length x.claimed) works.worked.gains.account ∙ ap (λ (ps : List ℕ). length (ps ++ visited vs)) none ∙ sym (ap (λ (x : Tally). x.claimed) works.worked.counts)
-
-    claimed_sum : (before after : List Worker) (ts : List Tally) → HaveWorked c job before after ts → ((n : ℕ) (h : Holding) → slice_get (hands_of before) n ≡ Some h → (own h).claimed ≡ []) → claimed_by (hands_of after) ≡ (total_of ts).claimed
-    claimed_sum [] [] [] works none = refl
-    claimed_sum [] [] (t ∷ ts) works none = absurd works
-    claimed_sum [] (a ∷ after) ts works none = absurd works
-    claimed_sum (b ∷ before) [] ts works none = absurd works
-    claimed_sum (b ∷ before) (a ∷ after) [] works none = absurd works
-    claimed_sum (b ∷ before) (a ∷ after) (t ∷ ts) works none =
-        let one = claimed_one b a t works.0 (none 0 b.hand refl) in
-        let others = claimed_sum before after ts works.1 (λ n h e. none (suc n) h e) in
-        let mine = sum_by-cons (λ (h : Holding). length (own h).claimed) a.hand (hands_of after) in
-        let theirs = sum_by-cons (λ (x : Tally). x.claimed) t ts in
+    -- a count of the accounts, where each counts as much as the tally at its place
+    sum_of : (f : Account → ℕ) (g : Tally → ℕ) → ((b a : Worker) (t : Tally) → Works c job b a t → own b.hand ≡ fresh → f (own a.hand) ≡ g t) → (before after : List Worker) (ts : List Tally) → HaveWorked c job before after ts
+        → ((n : ℕ) (h : Holding) → slice_get (hands_of before) n ≡ Some h → own h ≡ fresh) → sum_by (λ (h : Holding). f (own h)) (hands_of after) ≡ sum_by g ts
+    sum_of f g each [] [] [] works none = refl
+    sum_of f g each [] [] (t ∷ ts) works none = absurd works
+    sum_of f g each [] (a ∷ after) ts works none = absurd works
+    sum_of f g each (b ∷ before) [] ts works none = absurd works
+    sum_of f g each (b ∷ before) (a ∷ after) [] works none = absurd works
+    sum_of f g each (b ∷ before) (a ∷ after) (t ∷ ts) works none =
+        let one = each b a t works.0 (none 0 b.hand refl) in
+        let others = sum_of f g each before after ts works.1 (λ n h e. none (suc n) h e) in
+        let mine = sum_by-cons (λ (h : Holding). f (own h)) a.hand (hands_of after) in
+        let theirs = sum_by-cons g t ts in
         omega (arith, one, others, mine, theirs)
+
+    module _ (before after : List Worker) (ts : List Tally) (works : HaveWorked c job before after ts) (all : AreFresh sheet (hands_of before)) where
+      none_yet : (n : ℕ) (h : Holding) → slice_get (hands_of before) n ≡ Some h → own h ≡ fresh
+      none_yet n h e = (fresh_at (hands_of before) all n h e).1
+
+      claimed_sum : claimed_by (hands_of after) ≡ (total_of ts).claimed
+      claimed_sum = sum_of (λ (x : Account). length x.claimed) (λ (x : Tally). x.claimed) (λ b a t w none. (counted b a t w none).0) before after ts works none_yet
+
+      done_sum : done_by (hands_of after) ≡ (total_of ts).done
+      done_sum = sum_of (λ (x : Account). x.done) (λ (x : Tally). x.done) (λ b a t w none. (counted b a t w none).1) before after ts works none_yet
+
+      failed_sum : failed_by (hands_of after) ≡ (total_of ts).failed
+      failed_sum = sum_of (λ (x : Account). x.failed) (λ (x : Tally). x.failed) (λ b a t w none. (counted b a t w none).2) before after ts works none_yet
 
     pub shared_at_last : (before after : List Worker) (ts : List Tally) (total : Tally) → HaveWorked c job before after ts → AreFresh sheet (hands_of before) → AreShared sheet (hands_of after) (claimed_by (hands_of after)) → total ≡ total_of ts → AreShared sheet (hands_of after) total.claimed
     shared_at_last before after ts total works all shared is =
-        subst (λ (n : ℕ). AreShared sheet (hands_of after) n) (claimed_sum before after ts works (λ n h e. (fresh_at (hands_of before) all n h e).1) ∙ sym (ap (λ (x : Tally). x.claimed) is)) shared
+        subst (λ (n : ℕ). AreShared sheet (hands_of after) n) (claimed_sum before after ts works all ∙ sym (ap (λ (x : Tally). x.claimed) is)) shared
+
+    pub ended_at_last : (before after : List Worker) (ts : List Tally) (total : Tally) (watch : Option Holding) → HaveWorked c job before after ts → AreFresh sheet (hands_of before)
+        → IfSome watch (λ (w : Holding). SeesEnd sheet (done_by (hands_of after)) (failed_by (hands_of after)) w) → total ≡ total_of ts → IfSome watch (λ (w : Holding). SeesEnd sheet total.done total.failed w)
+    ended_at_last before after ts total None works all ended is = ended
+    ended_at_last before after ts total (Some w) works all ended is =
+        subst (λ (n : ℕ). SeesEnd sheet total.done n w) (failed_sum before after ts works all ∙ sym (ap (λ (x : Tally). x.failed) is))
+        (subst (λ (n : ℕ). SeesEnd sheet n (failed_by (hands_of after)) w) (done_sum before after ts works all ∙ sym (ap (λ (x : Tally). x.done) is)) ended)

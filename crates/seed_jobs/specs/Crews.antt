@@ -2,8 +2,8 @@
 use Rattle.std.specs.Prelude.{◌≡◌, ℕ, List, [], ◌∷◌, map, sum_by, Contains, ⊤}
 use Rattle.catalog.specs.declared.catalogue.Catalogue.{Catalogue}
 use Rattle.job_sheet.specs.declared.standing.End.TheVariants.{AllClaimed}
-use Rattle.job_sheet.specs.Calls.{ShareOut, claimed_by}
-use Rattle.job_sheet.specs.Hands.{Holding, Sheet, own}
+use Rattle.job_sheet.specs.Calls.{HasEnded, ShareOut, claimed_by}
+use Rattle.job_sheet.specs.Hands.{Holding, Sheet, own, watching}
 use Rattle.jobs.specs.declared.job.Job.{Job}
 use Rattle.seed_jobs.specs.declared.tally.Tally.{Tally}
 use Rattle.seed_jobs.specs.Workers.{Worker}
@@ -31,3 +31,9 @@ pub record AreShared (sheet : Sheet) (hands : List Holding) (claimed : ℕ) : Ty
   pub count : claimed ≡ claimed_by hands
   pub shared : ShareOut sheet.places hands
   pub all : (h : Holding) → Contains hands h → (own h).end ≡ AllClaimed → claimed ≡ sheet.places
+
+-- a watch of the sheet that has seen the end of the job: each hand has met None and reported all that it claimed, so many places done, and
+-- so many failed
+pub record SeesEnd (sheet : Sheet) (done failed : ℕ) (watch : Holding) : Type 0 where
+  pub is : watch ≡ watching sheet watch.seen
+  pub ended : HasEnded sheet.hands watch.seen done failed

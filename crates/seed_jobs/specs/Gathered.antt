@@ -1,6 +1,6 @@
 -- What a gathering of a crew's hands does.
 -- A tie between the code and its definitions: the promise can be read without it.
-use Rattle.std.specs.Prelude.{◌≡◌, ◌≢◌, ℕ, List, [], ◌∷◌, All, Some, length, slice_get, ⊤}
+use Rattle.std.specs.Prelude.{◌≡◌, ◌≢◌, ◌+◌, ℕ, List, [], ◌∷◌, All, Some, length, slice_get, ⊤}
 use Rattle.job_sheet.specs.declared.standing.End.TheVariants.{Open}
 use Rattle.job_sheet.specs.Calls.{seeing}
 use Rattle.job_sheet.specs.Hands.{Holding, Sheet, own}
@@ -29,8 +29,9 @@ AreAlike (b ∷ before) (a ∷ after) = IsAlike b a × AreAlike before after
 abbrev pub AreOf : Sheet → List Holding → Type 0
 AreOf sheet hands = All (λ (h : Holding). h.sheet ≡ sheet) hands
 
--- they are all hands of the sheet, in order, and each has met None
+-- they are all hands of the sheet, in order, and each has met None, and has reported all that it claimed
 pub record AreAll (sheet : Sheet) (hands : List Holding) : Type 0 where
   pub count : length hands ≡ sheet.hands
   pub number : (n : ℕ) (h : Holding) → slice_get hands n ≡ Some h → h.number ≡ Some n
   pub met_none : (n : ℕ) (h : Holding) → slice_get hands n ≡ Some h → (own h).end ≢ Open
+  pub reported : (n : ℕ) (h : Holding) → slice_get hands n ≡ Some h → (own h).done + (own h).failed ≡ length (own h).claimed

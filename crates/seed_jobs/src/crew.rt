@@ -1,10 +1,10 @@
 //! A crew: the workers of a job, side by side.
-ghost use Rattle.std.specs.Prelude.{All, length, map, ◌+◌, ◌≡◌, ◌≤◌};
+ghost use Rattle.std.specs.Prelude.{All, IfNone, IfSome, length, map, [], ◌+◌, ◌≡◌, ◌≤◌};
 ghost use Rattle.catalog.specs.Valid.{IsValid};
 ghost use Rattle.job_sheet.specs.Hands.{AreFresh};
 ghost use Rattle.jobs.specs.Job.{Fits};
 ghost use Rattle.jobs.specs.Places.{places};
-ghost use Rattle.seed_jobs.specs.Crews.{AreShared, HaveWorked, hands_of, total_of};
+ghost use Rattle.seed_jobs.specs.Crews.{AreShared, HaveWorked, SeesEnd, hands_of, total_of};
 ghost use Rattle.seed_jobs.specs.Members.{tallies_of, worker_of, workers_of};
 ghost use Rattle.seed_jobs.specs.Workers.{MayWork};
 ghost use Rattle.seed_jobs.specs.Works.{Works};
@@ -17,12 +17,22 @@ use crate::totals::total;
 use crate::work::work;
 use cabinet::keeper::Keeper;
 use cache_hall::hall::Hall;
+use job_sheet::hand::Hand;
 use job_sheet::sheet::JobSheet;
 use jobs::job::Job;
 use source_render::source::Source;
 use std::alloc::Global;
 use std::sync::Wait;
 use std::thread::{Threads, for_each_mut};
+
+/// What a crew came to.
+#[derive(Drop)]
+pub struct CrewEnd {
+    /// The sum of all tallies.
+    pub total: Tally,
+    /// A watch of the job's sheet that has seen all that the hands of the crew have; none where nobody was in it.
+    pub watch: Option<Hand>,
+}
 
 /// Lets a member work, and puts its tally into it.
 fn work_as<R: Wait, K: Keeper, S: Source, G: Gate>(
@@ -87,7 +97,7 @@ fn work_all<R: Threads + Wait + Sync, K: Keeper + Send, S: Source + Send, G: Gat
 }
 
 /// Runs a job by a crew: each member works once, in a thread of its own where one can be made, and its tally is put into it. The answer
-/// is the sum of all tallies.
+/// is the sum of all tallies, and a watch of the sheet that has seen the end of the job where the crew has all hands of a fresh sheet.
 ///
 /// Where threads can't be made the members work one after the other, so a gate must not wait for another member for ever.
 pub fn run_seed<R: Threads + Wait + Sync, K: Keeper + Send, S: Source + Send, G: Gate + Send>(
@@ -97,7 +107,7 @@ pub fn run_seed<R: Threads + Wait + Sync, K: Keeper + Send, S: Source + Send, G:
     job: &Job,
     sheet: &JobSheet,
     crew: &mut [Member<K, S, G>],
-) -> Tally
+) -> CrewEnd
     requires valid { IsValid hall.now.catalogue }
     requires fits { Fits hall.now.catalogue job.now }
     requires sheet { sheet.now.places ≡ length (places hall.now.catalogue job.now) }
@@ -105,11 +115,17 @@ pub fn run_seed<R: Threads + Wait + Sync, K: Keeper + Send, S: Source + Send, G:
     requires crew { All (MayWork hall.now.turnstile.table hall.now.catalogue sheet.now) (workers_of S.told S.faults crew.old) }
     ensures worked { HaveWorked hall.now.catalogue job.now
         (workers_of S.told S.faults crew.old) (workers_of S.told S.faults crew.new) (tallies_of crew.new) }
-    ensures total { result ≡ total_of (tallies_of crew.new) }
+    ensures total { result.total ≡ total_of (tallies_of crew.new) }
     ensures shared { AreFresh sheet.now (hands_of (workers_of S.told S.faults crew.old))
-        → AreShared sheet.now (hands_of (workers_of S.told S.faults crew.new)) result.claimed }
+        → AreShared sheet.now (hands_of (workers_of S.told S.faults crew.new)) result.total.claimed }
+    ensures ended { AreFresh sheet.now (hands_of (workers_of S.told S.faults crew.old))
+        → IfSome result.watch (λ w. SeesEnd sheet.now result.total.done result.total.failed w) }
+    ensures none { IfNone result.watch (crew.old ≡ []) }
 {
     work_all(rt, alloc, hall, job, sheet, crew);
-    gather(sheet, crew);
-    total(crew)
+    let watch = gather(sheet, crew);
+    CrewEnd {
+        total: total(crew),
+        watch,
+    }
 }

@@ -6,4 +6,4 @@ use Rattle.job_board.proofs.posts.Posts.look.Goals as goal
 pub returns : goal.returns
 returns c =
     rw (← c.self.view_is)
-    (looked c.self.inside.waiting.items c.self.inside.jobs.items c.args.number c.index_mut-job.result.now _ c.progress.result c.if-number-eq0.false (slice_get_read c.self.inside.jobs.items c.len.result (c.args.number - 1) c.index_mut-job.result.now (c.len.ensures ∙ c.self.inside.jobs.ok.0) (search rules) c.index_mut-job.ensures.value) c.progress.ensures.tells c.progress.ensures.adds_up)
+    (looked c.self.inside.waiting.items c.self.inside.jobs.items c.args.number c.index_mut-job.result.now _ c.progress.result c.if-number-eq0.false (slice_get_read c.self.inside.jobs.items c.len.result (c.args.number - 1) c.index_mut-job.result.now (c.len.ensures ∙ c.self.inside.jobs.ok.0) (search rules) c.index_mut-job.ensures.value) c.progress.ensures.tells c.progress.ensures.adds_up c.deref.result.now c.deref.ensures c.progress.ensures.settled c.progress.ensures.stays)

@@ -3,7 +3,7 @@ use Rattle.job_sheet.specs.declared.progress.Progress.{Progress}
 use Rattle.job_sheet.specs.Hands.{Holding, Sheet}
 use Rattle.job_sheet.specs.Calls.{IsSettled, Tells}
 use Rattle.job_sheet.specs.Seats.{holding_of}
-use Rattle.job_sheet.proofs.Telling.{adds_up, final, looks_of, looks_still, tells}
+use Rattle.job_sheet.proofs.Telling.{adds_up, final, looks_of, looks_still, tells, told_still}
 use Rattle.job_sheet.proofs.sheet.JobSheet.progress.Goals as goal
 
 pub invariant_of-hand : goal.invariant_of-hand
@@ -32,3 +32,8 @@ pub returns-clause-settled : goal.returns-clause-settled
 returns-clause-settled c settled =
     let as_many = subst (λ (h : Holding). length h.seen.accounts ≡ h.sheet.hands) c.hand.view_is c.hand.invariant.sound.all in
     final c.args.hand.now _ _ as_many (returns-clause-tells c) (subst (λ n. IsSettled n c.args.hand.now.seen) (sym (ap (λ (s : Sheet). s.hands) c.requires.own)) settled)
+
+pub returns-clause-stays : goal.returns-clause-stays
+returns-clause-stays c =
+    let as_many = subst (λ (h : Holding). length h.seen.accounts ≡ h.sheet.hands) c.hand.view_is c.hand.invariant.sound.all in
+    told_still c.args.hand.now _ _ as_many (returns-clause-tells c) c.args.self.now.hands (ap (λ (s : Sheet). s.hands) c.requires.own)
