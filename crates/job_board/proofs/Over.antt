@@ -90,7 +90,6 @@ over_other : (b a : Shown) (m n done failed : ℕ) (watch left : Holding) → m 
 over_other b a m n done failed watch left ne is of_job o =
     subst (λ (x : Shown). IsOver x n done failed) (sym is) (record { watch = o.watch; of_job = set_else b m n watch left o.watch ne of_job o.of_job; ended = o.ended })
 
-
 module _ (b a : Shown) (n done failed : ℕ) (o : IsOver b n done failed) where
   submit_keeps : (job : _) (places : ℕ) (number : Option ℕ) → Submits b job places number a → IsOver a n done failed
   submit_keeps job places None row = over_same b a n done failed (ap (λ (x : Shown). x.watches) row.1) o

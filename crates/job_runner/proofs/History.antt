@@ -199,13 +199,17 @@ finds_it before after p job false numbers one =
     same_finish x y e = cc
 
 -- the job that was run, and the turn that told the board of its end
-pub run_out : (c : Catalogue) (p : Posted) (before after : BoardHolding) (idle_before idle_after : List Idle) (job : WatchedJob) (is : Bool) (r : IsRun c p.job p.sheet.value p.hands.items idle_before idle_after)
-    → SeesEnd p.sheet.value (total_of r.tallies).done (total_of r.tallies).failed job.watch → HasNumber before.book.front p → MakesOne before after (command.Finish p.number job) (reply.Finish is) → HasRunOut c p before after idle_before idle_after
-run_out c p before after idle_before idle_after job is r sees numbers one =
+pub run_out : (c : Catalogue) (p : Posted) (before after : BoardHolding) (idle_before idle_after : List Idle) (job : WatchedJob) (is : Bool) (sheet : Sheet) → sheet ≡ p.sheet.value
+    → ((r : IsRun c p.job sheet p.hands.items idle_before idle_after) × SeesEnd sheet (total_of r.tallies).done (total_of r.tallies).failed job.watch) → HasNumber before.book.front p → MakesOne before after (command.Finish p.number job) (reply.Finish is) → HasRunOut c p before after idle_before idle_after
+run_out c p before after idle_before idle_after job is sheet same run numbers one =
+    let there : (r : IsRun c p.job p.sheet.value p.hands.items idle_before idle_after) × SeesEnd p.sheet.value (total_of r.tallies).done (total_of r.tallies).failed job.watch =
+    subst (λ (s : Sheet). (r : IsRun c p.job s p.hands.items idle_before idle_after) × SeesEnd s (total_of r.tallies).done (total_of r.tallies).failed job.watch) same run in
+    let r = there.0 in
+    let sees = there.1 in
     let total = total_of r.tallies in
     let found : one.turn.note.reply ≡ reply.Finish true = one.reply_is ∙ ap reply.Finish (finds_it before after p job is numbers one) in
-    let sheet : job.watch.sheet ≡ p.sheet.value = ap (λ (h : Holding). h.sheet) sees.is in
-    let ended : HasEnded job.watch.sheet.hands job.watch.seen total.done total.failed = subst (λ (s : Sheet). HasEnded s.hands job.watch.seen total.done total.failed) (sym sheet) sees.ended in
+    let of_sheet : job.watch.sheet ≡ p.sheet.value = ap (λ (h : Holding). h.sheet) sees.is in
+    let ended : HasEnded job.watch.sheet.hands job.watch.seen total.done total.failed = subst (λ (s : Sheet). HasEnded s.hands job.watch.seen total.done total.failed) (sym of_sheet) sees.ended in
     let over = one.may.over in
     record {
       ending = one.turn ∷ [];

@@ -65,6 +65,8 @@ impl<K: Keeper, S: Source, G: JobGate> Runner<K, S, G> {
     ghost use Rattle.std.specs.Prelude.{IfOk, length, reverse, vec_capacity, [], ◌+◌, ◌++◌, ◌∷◌, ◌≡◌, ◌≤◌};
     ghost use Rattle.job_board.specs.Calls.{IsBoardPass};
     ghost use Rattle.job_runner.specs.Idles.{HasHeard, all_idle, passes_of};
+    ghost use Rattle.truncation_list.specs.Books.{AnswersForFronted};
+    ghost use Rattle.turnstile.specs.Passes.{seen_by};
 
     /// A runner with these members. All room that it needs is taken here. `AllocError` where memory runs out.
     pub fn new(
@@ -80,12 +82,14 @@ impl<K: Keeper, S: Source, G: JobGate> Runner<K, S, G> {
         Ok(Runner { board, idle, crew })
     }
 
-    /// Tells the runner of all jobs of which another pass of its board knows: its next look finds a board with all of them. Nobody waits.
+    /// Tells the runner of all jobs of which another pass of its board knows: its next look finds a board with all of them. The other pass is
+    /// told of all of which the runner knew. Nobody waits.
     pub fn hear(&mut self, board: &Board, other: &mut BoardPass)
         requires mine { IsBoardPass board.now.turnstile.table self.old.board }
         requires theirs { IsBoardPass board.now.turnstile.table other.old }
         ensures heard { HasHeard self.old self.new (other.old ∷ []) }
         ensures theirs { IsBoardPass board.now.turnstile.table other.new }
+        ensures told { (other.new ≡ seen_by other.old other.new.book []) × AnswersForFronted other.new.book self.old.board.book }
     {
         board.turnstile.meet(&mut self.board, other);
     }

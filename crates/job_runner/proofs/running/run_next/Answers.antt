@@ -8,7 +8,7 @@ run_posted-requires-clause-idle g c κs within =
     subst (λ (is : List Idle). All (MayJoin c.args.hall.now.turnstile.table c.args.hall.now.catalogue) is) (sym (ap (λ (s : Standby). s.idle) c.runner.view_is)) c.requires.ready.idle
 
 pub run_posted-requires-clause-number : goal.run_posted-requires-clause-number
-run_posted-requires-clause-number g c = numbered _ _ c.in-Some.posted c.next.result c.in-Some.is c.next.ensures.next
+run_posted-requires-clause-number g c κs within = numbered _ _ c.in-Some.posted c.next.result c.in-Some.is c.next.ensures.next
 
 pub returns-in-None-clause-ready : goal.returns-in-None-clause-ready
 returns-in-None-clause-ready g c =
