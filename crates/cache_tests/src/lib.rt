@@ -3,12 +3,14 @@
 //!
 //! It has no code of its own and promises nothing: what the crates promise is proved in each of them. What a whole run of the
 //! program shows, as an expiry or a full list of cuts, is tested there.
-//! Stands on truncation_list, metatile_locks, quota_ledger, expiry_policy, cabinet, cache_core and turnstile, and on
+//! Stands on truncation_list, metatile_locks, kept_areas, quota_ledger, expiry_policy, cabinet, cache_core and turnstile, and on
 //! source_render, raster_field, metatile_plan, catalog, matrix_geometry and exact_ratio for what they are called with.
 #![tactic(auto)]
 
 #[cfg(test)]
 mod accounts;
+#[cfg(test)]
+mod areas;
 #[cfg(test)]
 mod cabinets;
 #[cfg(test)]
