@@ -1,14 +1,16 @@
 -- The end of a run: the actors give up.
-use Rattle.std.proofs.Common.{◌≡◌, ℕ, List, [], ◌∷◌, ◌++◌, length, take, map, Option, Some, None, refl, sym, ap, ◌∙◌, fold}
+use Rattle.std.proofs.Common.{◌≡◌, ◌≤◌, ℕ, List, [], ◌∷◌, ◌++◌, length, take, map, Option, Some, None, refl, sym, ap, ◌∙◌, fold}
+use Rattle.std.specs.Io.KnownBytes.{Consumes, IsAtEnd}
 use Rattle.std.proofs.Math.Seq.{take-append_seam}
 use Rattle.cabinet.specs.State.{State}
 use Rattle.tile_service.specs.declared.run_lines.RunEnd.{RunEnd}
 use Rattle.tile_service.specs.declared.run_lines.RunEnd.TheVariants.{Done, Line, WriteFault}
+use Rattle.tile_service.specs.declared.schedule.TheConstants.{SCHEDULE_LIMIT}
 use Rattle.tile_service.specs.declared.seats.Seat.{Seat}
 use Rattle.tile_service.specs.OneLine.{seat_of}
 use Rattle.tile_service.specs.Outside.{InputChange, Outside}
 use Rattle.tile_service.specs.Run.{PendingRequest, World, left_by, closed, free_seats, world_of}
-use Rattle.tile_service.specs.Schedules.{HasRunAll, Schedules, end_of}
+use Rattle.tile_service.specs.Schedules.{HasRunThrough, SchedulesThrough, end_of}
 use Rattle.tile_service.specs.Seats.{left_at, all_left}
 
 left_same : (s : State) (b : Option PendingRequest) → left_at s (seat_of b) ≡ left_by s b
@@ -27,7 +29,17 @@ pub closes_at : (s t : State) (document : List ℕ) (busy : List (Option Pending
     → world_of t document free_seats ≡ closed (world_of s document busy)
 closes_at s t document busy seats same n rest all e = ap (λ u. world_of u document free_seats) (e ∙ rw (whole_front n seats rest all, sym same) (all_left_same s busy))
 
-pub schedules_to : (i : InputChange) (o : Outside) (Untouched : Type 0) (w t : World) (end : RunEnd) → HasRunAll i o w t end → Schedules i o Untouched w t (end_of end)
-schedules_to i o U w t Done h = h
-schedules_to i o U w t (Line n) h = h
-schedules_to i o U w t WriteFault h = h
+-- THE WHOLE SCHEDULE
+
+-- the text of a schedule was read whole
+pub record ReadsWhole (i : InputChange) (text : List ℕ) : Type 0 where
+  pub read : Consumes i.from i.to text
+  pub at_end : IsAtEnd i.to
+  pub short : length text ≤ SCHEDULE_LIMIT
+
+module _ (P : State → Type 0) (i : InputChange) (o : Outside) (w last t : World) (text : List ℕ) (whole : ReadsWhole i text) (closes : t ≡ closed last) where
+  -- its lines were run, and the actors gave up; what held of the cabinet after each line holds of it yet
+  pub closed_through : (Q : State → Type 0) → ((s : State) → P s → Q s) → (Untouched : Type 0) (end : RunEnd) → HasRunThrough P o w text last end → SchedulesThrough Q i o Untouched w t (end_of end)
+  closed_through Q onward U Done h = (record { text = text; read = whole.read; at_end = whole.at_end; short = whole.short; last = last; ran = h.0; closes = closes }, λ n. onward _ (h.1 n))
+  closed_through Q onward U (Line m) h = (record { text = text; read = whole.read; at_end = whole.at_end; short = whole.short; last = last; ran = h.0; closes = closes }, λ n. onward _ (h.1 n))
+  closed_through Q onward U WriteFault h = (record { text = text; read = whole.read; at_end = whole.at_end; short = whole.short; last = last; ran = h.0; closes = closes }, λ n. onward _ (h.1 n))

@@ -8,6 +8,7 @@ pub mod Served
 pub mod Writing
 pub mod Tiles
 pub mod Far
+pub mod Passing
 pub mod Scheduling
 pub mod Leaving
 pub mod Closing

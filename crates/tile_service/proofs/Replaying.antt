@@ -17,9 +17,10 @@ use Rattle.tile_service.specs.Outside.{InputChange, Outside, counts}
 use Rattle.tile_service.specs.Run.{Answer}
 use Rattle.tile_service.specs.Serving.{Serves}
 use Rattle.tile_service.specs.Session.{reply_text, replies}
-use Rattle.tile_service.specs.SessionEnds.{AreOpen, HasSession}
+use Rattle.tile_service.specs.SessionEnds.{AreOpen, HasSessionThrough}
 use Rattle.tile_service.specs.declared.session.SessionEnd.{SessionEnd}
 use Rattle.tile_requests.proofs.Known.{appends_more, appends_nothing}
+use Rattle.tile_service.proofs.Passing.{ServedSoFar}
 use Rattle.tile_service.proofs.SoFar.{HasServed, served_start, served_next, the_answer}
 
 -- MOMENTS
@@ -40,9 +41,9 @@ input a b = record { reads = record { before = a.wire.reads; after = b.wire.read
 abbrev pub outside : Moment → Moment → Outside
 outside a b = record { told = a.told; renders = record { before = a.renders; after = b.renders }; disk = counts a.disk b.disk; writes = record { before = a.wire.writes; after = b.wire.writes }; from = a.wire.taken; to = b.wire.taken }
 
--- the session was held from one moment to another
-abbrev pub IsHeld : Moment → Moment → SessionEnd → Type 0
-IsHeld start now end = HasSession (input start now) (outside start now) start.document start.cabinet now.cabinet end
+-- the session was held from one moment to another, with P of the cabinet after each message
+abbrev pub IsHeld : (State → Type 0) → Moment → Moment → SessionEnd → Type 0
+IsHeld P start now end = HasSessionThrough P (input start now) (outside start now) start.document start.cabinet now.cabinet end
 
 -- HOW FAR
 
@@ -62,18 +63,25 @@ pub stand_none : (bytes : Option (List ℕ)) → StandIn bytes [] (prepend_known
 stand_none None = tt
 stand_none (Some bytes) = refl
 
-pub under_way_start : {start : Moment} (reading : Reading) → reading ≡ record { held = []; ended = None } → IsUnderWay start start reading.held 0
-under_way_start {start} reading e =
-    record {
-      messages = [];
-      answers = [];
-      all_open = tt;
-      stand = rw e (stand_none start.wire.left);
-      served = served_start start.told start.renders start.disk start.document start.cabinet;
-      text = appends_nothing start.wire.taken;
-      told = refl;
-      document = refl;
-    }
+-- and P holds of the cabinet after each of them
+abbrev pub UnderWay : (State → Type 0) → Moment → Moment → List ℕ → ℕ → Type 0
+UnderWay P start now held n = (f : IsUnderWay start now held n) × ServedSoFar P start.document start.cabinet f.messages f.served.made
+
+pub under_way_start : {start : Moment} (P : State → Type 0) → P start.cabinet → (reading : Reading) → reading ≡ record { held = []; ended = None } → UnderWay P start start reading.held 0
+under_way_start {start} P is reading e =
+    let h = served_start P start.told start.renders start.disk start.document start.cabinet is in (
+      record {
+        messages = [];
+        answers = [];
+        all_open = tt;
+        stand = rw e (stand_none start.wire.left);
+        served = h.0;
+        text = appends_nothing start.wire.taken;
+        told = refl;
+        document = refl;
+      },
+      h.1,
+    )
 
 -- ONE MESSAGE MORE
 
@@ -103,6 +111,10 @@ pub record IsAnswered (Sends : Sending) (start now : Moment) (held : List ℕ) (
   pub text : Appends start.wire.taken between (replies start.document before_it)
   pub sent : Sends between now.wire.taken (reply_text start.document answer)
 
+-- and P holds of the cabinet after each message
+abbrev pub AnsweredThrough : (State → Type 0) → Sending → Moment → Moment → List ℕ → ℕ → Message → Type 0
+AnsweredThrough P Sends start now held n m = (a : IsAnswered Sends start now held n m) × ServedSoFar P start.document start.cabinet (a.earlier ++ m ∷ []) a.served.made
+
 -- what is told is told of the answer's outcome
 which_told : (o : Outcome) (P : Outcome → Type 0) → MayTell o P → (left : Bool) × P (answered_at left o)
 which_told o P (inl k) = (true, k)
@@ -115,21 +127,24 @@ module _ {Sends : Sending} {start now there : Moment} {held later : List ℕ} {n
   tells : MayTell met.outcome (λ o. Sends now.wire.taken there.wire.taken (response start.document m (n + 1) o))
   tells = subst (λ d. MayTell met.outcome (λ o. Sends now.wire.taken there.wire.taken (response d m (n + 1) o))) f.document met.sends
 
-  pub answered : IsAnswered Sends start there later n m
-  answered =
+  pub answered : (P Q : State → Type 0) → ((s : State) → P s → Q s) → ServedSoFar P start.document start.cabinet f.messages f.served.made → Q there.cabinet → AnsweredThrough Q Sends start there later n m
+  answered P Q onward so is =
       let k = which_told met.outcome (λ o. Sends now.wire.taken there.wire.taken (response start.document m (n + 1) o)) tells in
-      record {
-        earlier = f.messages;
-        before_it = f.answers;
-        answer = the_answer f.served f.told serves k.0;
-        all_open = f.all_open;
-        many = f.served.many;
-        stand = stand_in_more start.wire.left (prepend_known held now.wire.left) (prepend_known later there.wire.left) f.messages m f.stand met.takes;
-        served = served_next f.served f.told serves k.0;
-        between = now.wire.taken;
-        text = f.text;
-        sent = k.1;
-      }
+      let h = served_next f.served f.told serves k.0 P Q onward so is in (
+        record {
+          earlier = f.messages;
+          before_it = f.answers;
+          answer = the_answer f.served f.told serves k.0;
+          all_open = f.all_open;
+          many = f.served.many;
+          stand = stand_in_more start.wire.left (prepend_known held now.wire.left) (prepend_known later there.wire.left) f.messages m f.stand met.takes;
+          served = h.0;
+          between = now.wire.taken;
+          text = f.text;
+          sent = k.1;
+        },
+        h.1,
+      )
 
 -- all of it was written
 pub whole_text : {start now : Moment} {held : List ℕ} {n : ℕ} {m : Message} (a : IsAnswered Appends start now held n m) → Appends start.wire.taken now.wire.taken (replies start.document (a.before_it ++ a.answer ∷ []))
@@ -142,16 +157,20 @@ open_more [] m all e = (e, tt)
 open_more (x ∷ messages) m all e = (all.0, open_more messages m all.1 e)
 
 -- and the session goes on
-pub under_way_next : {start now there : Moment} {held later : List ℕ} {n : ℕ} {m : Message} → IsUnderWay start now held n → Meets Appends now there held later n m → m.last ≡ false → IsUnderWay start there later (n + 1)
-under_way_next {m = m} f met last =
-    let a = answered f met in
-    record {
-      messages = a.earlier ++ m ∷ [];
-      answers = a.before_it ++ a.answer ∷ [];
-      all_open = open_more a.earlier m a.all_open last;
-      stand = a.stand;
-      served = a.served;
-      text = whole_text a;
-      told = met.told ∙ f.told;
-      document = met.document ∙ f.document;
-    }
+pub under_way_next : {start now there : Moment} {held later : List ℕ} {n : ℕ} {m : Message} (P Q : State → Type 0) → ((s : State) → P s → Q s) → UnderWay P start now held n → Meets Appends now there held later n m → m.last ≡ false → Q there.cabinet
+    → UnderWay Q start there later (n + 1)
+under_way_next {m = m} P Q onward (f, so) met last is =
+    let k = answered f met P Q onward so is in
+    let a = k.0 in (
+      record {
+        messages = a.earlier ++ m ∷ [];
+        answers = a.before_it ++ a.answer ∷ [];
+        all_open = open_more a.earlier m a.all_open last;
+        stand = a.stand;
+        served = a.served;
+        text = whole_text a;
+        told = met.told ∙ f.told;
+        document = met.document ∙ f.document;
+      },
+      k.1,
+    )

@@ -16,10 +16,11 @@ use Rattle.tile_service.specs.Lines.{lines_of}
 use Rattle.tile_service.specs.OneLine.{seat_of}
 use Rattle.tile_service.specs.Outside.{Outside, counts}
 use Rattle.tile_requests.specs.Requests.{Chance}
-use Rattle.tile_service.specs.Run.{PendingRequest, free_seats, World, Answer, answer_text, world_of}
-use Rattle.tile_service.specs.Schedules.{HasRun}
+use Rattle.tile_service.specs.Run.{PendingRequest, free_seats, World, Answer, Run, answer_text, world_of}
+use Rattle.tile_service.specs.Schedules.{HasRunThrough}
 use Rattle.tile_requests.specs.Sent.{AppendsFront}
 use Rattle.tile_requests.proofs.Known.{appends_more, appends_nothing}
+use Rattle.tile_service.proofs.Passing.{SoFar, passed_none, passed_next, passed_all, passed_refused}
 use Rattle.tile_service.proofs.Far.{Far, far_next, far_start_free, far_waits, so_far_done, ends_done, ends_refused, ends_upheld, free_same}
 
 -- MOMENTS
@@ -59,20 +60,26 @@ pub record Reads (start now : Moment) (text : List ℕ) (lines : ℕ) (rest : Li
   pub later : start.writes ≤ now.writes
   pub far : Far start.told start.renders now.renders (counts start.disk now.disk) (world_at start free_seats) done made answers lines (world_at now busy)
 
-pub reads_start : {start : Moment} {text : List ℕ} → start.seats ≡ replicate ACTORS seat.Free → Reads start start text 0 text
-reads_start {start} free =
-    record {
-      busy = free_seats;
-      seated = free_same ACTORS ∙ sym free;
-      done = [];
-      made = [];
-      answers = [];
-      split = refl;
-      written = appends_nothing start.taken;
-      told = refl;
-      later = omega arith;
-      far = far_start_free start.told start.renders start.disk start.cabinet start.document;
-    }
+-- and P holds of the cabinet after each of them
+abbrev pub ReadsThrough : (State → Type 0) → Moment → Moment → List ℕ → ℕ → List ℕ → Type 0
+ReadsThrough P start now text lines rest = (r : Reads start now text lines rest) × SoFar P (world_at start free_seats) r.done r.made
+
+pub reads_start : {start : Moment} {text : List ℕ} (P : State → Type 0) → P start.cabinet → start.seats ≡ replicate ACTORS seat.Free → ReadsThrough P start start text 0 text
+reads_start {start} P is free = (
+  record {
+    busy = free_seats;
+    seated = free_same ACTORS ∙ sym free;
+    done = [];
+    made = [];
+    answers = [];
+    split = refl;
+    written = appends_nothing start.taken;
+    told = refl;
+    later = omega arith;
+    far = far_start_free start.told start.renders start.disk start.cabinet start.document;
+  },
+  passed_none P (world_at start free_seats) is,
+)
 
 -- ONE LINE MORE
 
@@ -86,9 +93,9 @@ pub record RanLine (now there : Moment) (lines : ℕ) (rest : List ℕ) (end : L
   pub document : there.document ≡ now.document
   pub writes : Writes (seen now there) now.cabinet now.document now.seats (lines + 1) line there.cabinet there.seats end
 
--- the run of a text has ended so
-abbrev pub HasEnded : Moment → Moment → List ℕ → RunEnd → Type 0
-HasEnded start now text end = (busy : List (Option PendingRequest)) × (map seat_of busy ≡ now.seats) × HasRun (seen start now) (world_at start free_seats) text (world_at now busy) end
+-- the run of a text has ended so, with P of the cabinet after each line
+abbrev pub HasEnded : (State → Type 0) → Moment → Moment → List ℕ → RunEnd → Type 0
+HasEnded P start now text end = (busy : List (Option PendingRequest)) × (map seat_of busy ≡ now.seats) × HasRunThrough P (seen start now) (world_at start free_seats) text (world_at now busy) end
 
 module _ {start now there : Moment} {text rest : List ℕ} {lines : ℕ} {end : LineEnd} (f : Reads start now text lines rest) (l : RanLine now there lines rest end) where
   split_more : lines_of text ≡ (f.done ++ l.line ∷ []) ++ lines_of l.next
@@ -100,71 +107,84 @@ module _ {start now there : Moment} {text rest : List ℕ} {lines : ℕ} {end : 
       let d = l.writes f.busy (record { same = f.seated; world = f.far.world }) in
       (d.0, d.1, subst (λ x. LineEnds (seen now there) (world_at now f.busy) (lines + 1) l.line (world_of there.cabinet x d.0) end) (sym l.document) d.2)
 
-pub reads_next : {start now there : Moment} {text rest : List ℕ} {lines : ℕ} {answered : Option CacheResult} (f : Reads start now text lines rest) (l : RanLine now there lines rest (line_end.Done answered)) → Reads start there text (lines + 1) l.next
-reads_next {start} {now} {there} f l =
-    let d = line_ended f l in
-    record {
-      busy = d.0;
-      seated = d.1;
-      done = f.done ++ l.line ∷ [];
-      made = f.made ++ d.2.1.chance ∷ [];
-      answers = f.answers ++ d.2.0;
-      split = split_more f l;
-      written = rw flat_map-append (appends_more start.taken now.taken there.taken _ _ f.written (subst (λ x. Appends now.taken there.taken (flat_map (answer_text x) d.2.0)) f.far.capabilities d.2.2));
-      told = l.told ∙ f.told;
-      later = let i = f.later in let j = l.later in omega arith;
-      far = far_next f.far f.told d.2.1;
-    }
+-- what held of the cabinets so far holds of them yet, said by a later keeper, and so it does of the one now
+module _ (P Q : State → Type 0) (onward : (s : State) → P s → Q s) where
+  pub reads_next : {start now there : Moment} {text rest : List ℕ} {lines : ℕ} {answered : Option CacheResult} (f : ReadsThrough P start now text lines rest) (l : RanLine now there lines rest (line_end.Done answered)) → Q there.cabinet
+      → ReadsThrough Q start there text (lines + 1) l.next
+  reads_next {start} {now} {there} (f, so) l is =
+      let d = line_ended f l in
+      let more = far_next f.far f.told d.2.1 in (
+        record {
+          busy = d.0;
+          seated = d.1;
+          done = f.done ++ l.line ∷ [];
+          made = f.made ++ d.2.1.chance ∷ [];
+          answers = f.answers ++ d.2.0;
+          split = split_more f l;
+          written = rw flat_map-append (appends_more start.taken now.taken there.taken _ _ f.written (subst (λ x. Appends now.taken there.taken (flat_map (answer_text x) d.2.0)) f.far.capabilities d.2.2));
+          told = l.told ∙ f.told;
+          later = let i = f.later in let j = l.later in omega arith;
+          far = more;
+        },
+        passed_next P Q (world_at start free_seats) f.done f.made l.line d.2.1.chance there.cabinet so onward (λ extra. ap (λ (r : Run). r.world.cabinet) (so_far_done more extra)) is,
+      )
 
--- ENDS
+  -- ENDS
 
--- a write failed at the line's answer
-pub run_cut : {start now there : Moment} {text rest : List ℕ} {lines : ℕ} → Reads start now text lines rest → RanLine now there lines rest line_end.WriteFault → HasEnded start there text WriteFault
-run_cut {start} {now} {there} f l =
-    let d = line_ended f l in
-    let answer = d.2.0 in
-    let more = far_next f.far f.told d.2.1 in
-    let all = ends_done more in
-    let front = so_far_done f.far (d.2.1.chance ∷ []) in (
-      d.0,
-      d.1,
-      record {
-        lines = f.done ++ l.line ∷ [];
-        chances = f.made ++ d.2.1.chance ∷ [];
-        through = (lines_of l.next, split_more f l);
-        ends = (
-          ap (λ r. r.world) (sym all),
-          let i = f.later in let rose = d.2.3 in omega arith,
+  -- a write failed at the line's answer
+  pub run_cut : {start now there : Moment} {text rest : List ℕ} {lines : ℕ} → ReadsThrough P start now text lines rest → RanLine now there lines rest line_end.WriteFault → Q there.cabinet → HasEnded Q start there text WriteFault
+  run_cut {start} {now} {there} (f, so) l is =
+      let d = line_ended f l in
+      let answer = d.2.0 in
+      let more = far_next f.far f.told d.2.1 in
+      let all = ends_done more in
+      let front = so_far_done f.far (d.2.1.chance ∷ []) in (
+        d.0,
+        d.1,
+        (
           record {
-            before = f.done;
-            line = l.line;
-            whole = refl;
-            answer = answer;
-            answers = rw (all, front) refl;
-            sent = record { between = now.taken; whole = rw front f.written; part = subst (λ x. AppendsFront now.taken there.taken (answer_text x answer)) f.far.capabilities d.2.2 };
+            lines = f.done ++ l.line ∷ [];
+            chances = f.made ++ d.2.1.chance ∷ [];
+            through = (lines_of l.next, split_more f l);
+            ends = (
+              ap (λ r. r.world) (sym all),
+              let i = f.later in let rose = d.2.3 in omega arith,
+              record {
+                before = f.done;
+                line = l.line;
+                whole = refl;
+                answer = answer;
+                answers = rw (all, front) refl;
+                sent = record { between = now.taken; whole = rw front f.written; part = subst (λ x. AppendsFront now.taken there.taken (answer_text x answer)) f.far.capabilities d.2.2 };
+              },
+            );
+            faults = more.faults;
+            upheld = ends_upheld more _ None all;
           },
-        );
-        faults = more.faults;
-        upheld = ends_upheld more _ None all;
-      },
-    )
+          passed_all Q (world_at start free_seats) (f.done ++ l.line ∷ []) (f.made ++ d.2.1.chance ∷ [])
+              (passed_next P Q (world_at start free_seats) f.done f.made l.line d.2.1.chance there.cabinet so onward (λ extra. ap (λ (r : Run). r.world.cabinet) (so_far_done more extra)) is),
+        ),
+      )
 
 -- the line was refused
-pub run_refused : {start now there : Moment} {text rest : List ℕ} {lines : ℕ} → Reads start now text lines rest → RanLine now there lines rest line_end.Refused → HasEnded start there text (Line (lines + 1))
-run_refused {lines = lines} f l =
+pub run_refused : (P : State → Type 0) {start now there : Moment} {text rest : List ℕ} {lines : ℕ} → ReadsThrough P start now text lines rest → RanLine now there lines rest line_end.Refused → P now.cabinet → HasEnded P start there text (Line (lines + 1))
+run_refused P {start} {now} {lines = lines} (f, so) l is =
     let d = line_ended f l in
     let waits = far_waits f.far d.2.2 d.2.3 in
     let e = ends_refused waits l.line (lines_of l.next) d.2.0 in (
       d.0,
       d.1,
-      rw (d.2.1, d.2.4) (record {
-        lines = f.done ++ l.line ∷ lines_of l.next;
-        chances = f.made;
-        through = sym (f.split ∙ rw l.split refl);
-        ends = rw e (refl, refl, f.written);
-        faults = waits.faults;
-        upheld = ends_upheld waits _ (Some (lines + 1)) e;
-      }),
+      rw (d.2.1, d.2.4) (
+        record {
+          lines = f.done ++ l.line ∷ lines_of l.next;
+          chances = f.made;
+          through = sym (f.split ∙ rw l.split refl);
+          ends = rw e (refl, refl, f.written);
+          faults = waits.faults;
+          upheld = ends_upheld waits _ (Some (lines + 1)) e;
+        },
+        passed_refused P (world_at start free_seats) f.done f.made l.line (lines_of l.next) now.cabinet so (λ tail. ap (λ (r : Run). r.world.cabinet) (ends_refused waits l.line tail d.2.0)) is,
+      ),
     )
 
 no_rest : (rest : List ℕ) → length rest ≡ 0 → lines_of rest ≡ []
@@ -172,17 +192,20 @@ no_rest [] e = refl
 no_rest (b ∷ bs) e = absurd (omega arith)
 
 -- no line is left
-pub run_done : {start now : Moment} {text rest : List ℕ} {lines : ℕ} → Reads start now text lines rest → length rest ≡ 0 → HasEnded start now text Done
-run_done {rest = rest} f none =
+pub run_done : (P : State → Type 0) {start now : Moment} {text rest : List ℕ} {lines : ℕ} → ReadsThrough P start now text lines rest → length rest ≡ 0 → HasEnded P start now text Done
+run_done P {start} {rest = rest} (f, so) none =
     let e = ends_done f.far in (
       f.busy,
       f.seated,
-      record {
-        lines = f.done;
-        chances = f.made;
-        through = sym (f.split ∙ rw (no_rest rest none) (append-nil f.done));
-        ends = rw e (refl, refl, f.written);
-        faults = f.far.faults;
-        upheld = ends_upheld f.far _ None e;
-      },
+      (
+        record {
+          lines = f.done;
+          chances = f.made;
+          through = sym (f.split ∙ rw (no_rest rest none) (append-nil f.done));
+          ends = rw e (refl, refl, f.written);
+          faults = f.far.faults;
+          upheld = ends_upheld f.far _ None e;
+        },
+        passed_all P (world_at start free_seats) f.done f.made so,
+      ),
     )

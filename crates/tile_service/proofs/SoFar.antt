@@ -11,9 +11,11 @@ use Rattle.tile_requests.specs.declared.request.Mode.TheVariants.{Gets}
 use Rattle.tile_service.specs.OneLine.{IsWorld}
 use Rattle.tile_requests.specs.Requests.{Chance, answered_at}
 use Rattle.tile_service.specs.Outside.{FaultCounts, counts}
+use Rattle.tile_service.specs.Passing.{AfterMessages}
 use Rattle.tile_service.specs.Run.{World, Answer, disk_faults, sent, failures, IsTrue}
 use Rattle.tile_service.specs.Serving.{answer_to, Serves}
 use Rattle.tile_service.specs.Session.{lone, and_then, session, IsServed}
+use Rattle.tile_service.proofs.Passing.{ServedSoFar, served_all, served_more, served_none}
 use Rattle.tile_service.proofs.Far.{IsPlaced, answers_later, all_fresh, all_append}
 use Rattle.tile_service.proofs.Tiles.{AreAnswered, session_answered}
 
@@ -31,21 +33,27 @@ pub record HasServed (told : Option ℕ) (before now : ℕ) (disk : FaultCounts)
   pub fresh : AllByRecursion (IsPlaced s.catalogue t.history) answers
   pub catalogue : t.catalogue ≡ s.catalogue
 
-pub served_start : (told : Option ℕ) (count faults : ℕ) (document : List ℕ) (s : State) → HasServed told count count (counts faults faults) document s s [] [] 0
-served_start told count faults document s =
-    record {
-      made = [];
-      goes = λ tail more. refl;
-      many = refl;
-      each = refl;
-      later = omega arith;
-      failed = omega arith;
-      faults = omega arith;
-      sound = λ tells is. is;
-      truth = λ tells is. tt;
-      fresh = tt;
-      catalogue = refl;
-    }
+-- and P holds of the cabinet after each of them
+abbrev pub HasServedThrough : (State → Type 0) → Option ℕ → ℕ → ℕ → FaultCounts → List ℕ → State → State → List Message → List Answer → ℕ → Type 0
+HasServedThrough P told before now disk document s t messages answers n = (h : HasServed told before now disk document s t messages answers n) × ServedSoFar P document s messages h.made
+
+pub served_start : (P : State → Type 0) (told : Option ℕ) (count faults : ℕ) (document : List ℕ) (s : State) → P s → HasServedThrough P told count count (counts faults faults) document s s [] [] 0
+served_start P told count faults document s is = (
+  record {
+    made = [];
+    goes = λ tail more. refl;
+    many = refl;
+    each = refl;
+    later = omega arith;
+    failed = omega arith;
+    faults = omega arith;
+    sound = λ tells is. is;
+    truth = λ tells is. tt;
+    fresh = tt;
+    catalogue = refl;
+  },
+  served_none P document s is,
+)
 
 -- a session of one actor who isn't busy
 lone_world : (s : State) (document : List ℕ) → IsWorld (lone s document)
@@ -100,36 +108,45 @@ module _ {told told' : Option ℕ} {before mid after disk_before disk_mid disk_a
       let k = h.keeps (n + 1) left in
       all_append (IsPlaced s.catalogue u.history) answers (the_answer ∷ []) (answers_later s.catalogue t.history u.history k.grows answers f.fresh) (rw (sym f.catalogue) (k.fresh (lone_world t document)))
 
-  pub served_next : HasServed told before after (counts disk_before disk_after) document s u (messages ++ m ∷ []) (answers ++ the_answer ∷ []) (n + 1)
-  served_next =
-      let k = h.keeps (n + 1) left in
-      record {
-        made = f.made ++ h.chance left ∷ [];
-        goes = goes_more;
-        many = let e = length-append messages (m ∷ []) in let i = f.many in omega arith;
-        each = map-append (λ a. a.message) answers (the_answer ∷ []) ∙ rw f.each refl;
-        later = let i = f.later in let j = k.later in omega arith;
-        failed = more_failed;
-        faults = more_faults;
-        sound = λ e is. (k.sound (tells e) (lone_world t document) (f.sound e is, (tt, tt))).0;
-        truth = more_truth;
-        fresh = more_fresh;
-        catalogue = k.catalogue ∙ f.catalogue;
-      }
+  came_to : (more : List Chance) → (session (lone s document) 1 (messages ++ m ∷ []) ((f.made ++ h.chance left ∷ []) ++ more)).0.cabinet ≡ u
+  came_to more = subst (λ (ms : List Message). (session (lone s document) 1 ms ((f.made ++ h.chance left ∷ []) ++ more)).0.cabinet ≡ u) (append-nil (messages ++ m ∷ [])) (ap (λ (d : World × List Answer). d.0.cabinet) (goes_more [] more))
+
+  pub served_next : (P Q : State → Type 0) → ((x : State) → P x → Q x) → ServedSoFar P document s messages f.made → Q u
+      → HasServedThrough Q told before after (counts disk_before disk_after) document s u (messages ++ m ∷ []) (answers ++ the_answer ∷ []) (n + 1)
+  served_next P Q onward so is =
+      let k = h.keeps (n + 1) left in (
+        record {
+          made = f.made ++ h.chance left ∷ [];
+          goes = goes_more;
+          many = let e = length-append messages (m ∷ []) in let i = f.many in omega arith;
+          each = map-append (λ a. a.message) answers (the_answer ∷ []) ∙ rw f.each refl;
+          later = let i = f.later in let j = k.later in omega arith;
+          failed = more_failed;
+          faults = more_faults;
+          sound = λ e is. (k.sound (tells e) (lone_world t document) (f.sound e is, (tt, tt))).0;
+          truth = more_truth;
+          fresh = more_fresh;
+          catalogue = k.catalogue ∙ f.catalogue;
+        },
+        served_more P Q document s messages f.made m (h.chance left) u so onward came_to is,
+      )
 
 -- that is what is promised
-pub is_served : {told : Option ℕ} {before now : ℕ} {disk : FaultCounts} {document : List ℕ} {s t : State} {messages : List Message} {answers : List Answer} {n : ℕ}
-    → HasServed told before now disk document s t messages answers n → IsServed told (record { before = before; after = now }) disk document s t messages answers
-is_served {document = document} {s} {t} {messages} {answers} f =
-    let made : session (lone s document) 1 messages f.made ≡ (lone t document, answers) = rw (append-nil messages, append-nil f.made, append-nil answers) at (f.goes [] []) in
-    record {
-      chances = f.made;
-      made = made;
-      each = f.each;
-      failed = f.failed;
-      faults = f.faults;
-      truth = f.truth;
-      sound = f.sound;
-      fresh = all_fresh s.catalogue t.history answers f.fresh;
-      tiles = (subst (λ d. AreAnswered s d.0.cabinet d.1) made (session_answered (lone s document) 1 messages f.made)).1;
-    }
+pub is_served : (P : State → Type 0) {told : Option ℕ} {before now : ℕ} {disk : FaultCounts} {document : List ℕ} {s t : State} {messages : List Message} {answers : List Answer} {n : ℕ}
+    → (f : HasServed told before now disk document s t messages answers n) → ServedSoFar P document s messages f.made
+    → (h : IsServed told (record { before = before; after = now }) disk document s t messages answers) × AfterMessages P document s messages h.chances
+is_served P {document = document} {s} {t} {messages} {answers} f so =
+    let made : session (lone s document) 1 messages f.made ≡ (lone t document, answers) = rw (append-nil messages, append-nil f.made, append-nil answers) at (f.goes [] []) in (
+      record {
+        chances = f.made;
+        made = made;
+        each = f.each;
+        failed = f.failed;
+        faults = f.faults;
+        truth = f.truth;
+        sound = f.sound;
+        fresh = all_fresh s.catalogue t.history answers f.fresh;
+        tiles = (subst (λ d. AreAnswered s d.0.cabinet d.1) made (session_answered (lone s document) 1 messages f.made)).1;
+      },
+      served_all P document s messages f.made so,
+    )

@@ -1,6 +1,7 @@
 pub mod Outside
 pub mod Lines
 pub mod Run
+pub mod Passing
 pub mod Schedules
 pub mod Session
 pub mod SessionEnds

@@ -1,8 +1,8 @@
 -- What the run of a schedule came to, and what it wrote.
-use Rattle.std.specs.Prelude.{ℕ, ◌≡◌, ◌≤◌, ◌+◌, List, [], ◌∷◌, ◌++◌, length, Option, Some, None}
+use Rattle.std.specs.Prelude.{ℕ, ◌≡◌, ◌≤◌, ◌+◌, List, [], ◌∷◌, ◌++◌, length, Option, Some, None, ⊤}
 use Rattle.std.specs.Io.KnownBytes.{Appends, Consumes, IsAtEnd}
 use Rattle.std.specs.List.{AllByRecursion}
-use Rattle.cabinet.specs.State.{IsSound}
+use Rattle.cabinet.specs.State.{IsSound, State}
 use Rattle.causes.specs.Causes.{Rose, RoseBy}
 use Rattle.tile_service.specs.declared.run_lines.RunEnd.{RunEnd}
 use Rattle.tile_service.specs.declared.run_lines.RunEnd.TheVariants as run_end
@@ -11,6 +11,7 @@ use Rattle.tile_service.specs.declared.schedule.ScheduleEnd.TheVariants.{Done, L
 use Rattle.tile_service.specs.declared.schedule.TheConstants.{SCHEDULE_LIMIT}
 use Rattle.tile_service.specs.Lines.{lines_of}
 use Rattle.tile_service.specs.Outside.{FaultCounts, Outside, InputChange}
+use Rattle.tile_service.specs.Passing.{AfterLines}
 use Rattle.tile_requests.specs.Requests.{Chance}
 use Rattle.tile_service.specs.Run.{World, Answer, Run, run, answer_text, disk_faults, output_of, failures, unanswered, closed, HasNumbers, IsAnsweredTile, IsTrue, IsFresh}
 use Rattle.tile_requests.specs.Sent.{AppendsPart}
@@ -64,6 +65,10 @@ pub record HasRun (o : Outside) (w : World) (text : List ℕ) (t : World) (end :
   pub faults : RoseBy (disk_faults chances) o.disk.before o.disk.after
   pub upheld : IsUpheld o.told o.renders w (run w 1 lines chances)
 
+-- such a run, with P of the cabinet after each of its lines
+abbrev pub HasRunThrough : (State → Type 0) → Outside → World → List ℕ → World → RunEnd → Type 0
+HasRunThrough P o w text t end = (h : HasRun o w text t end) × AfterLines P w h.lines h.chances
+
 -- A SCHEDULE WAS READ AND RUN
 
 -- the input was read to its end, the lines of its text were run, and then the actors that were busy gave up
@@ -94,3 +99,16 @@ Schedules i o Untouched w t WriteFault = HasRunAll i o w t run_end.WriteFault
 Schedules i o Untouched w t ReadFault = Rose i.reads.before i.reads.after × Untouched
 Schedules i o Untouched w t TooLong = IsTooLong i × Untouched
 Schedules i o Untouched w t OutOfMemory = Untouched
+
+-- the cabinet after each line that was run has P; where none was run nothing is said
+abbrev pub Passes : (P : State → Type 0) (i : InputChange) (o : Outside) (Untouched : Type 0) (w t : World) (end : ScheduleEnd) → Schedules i o Untouched w t end → Type 0
+Passes P i o Untouched w t Done h = AfterLines P w h.ran.lines h.ran.chances
+Passes P i o Untouched w t (Line n) h = AfterLines P w h.ran.lines h.ran.chances
+Passes P i o Untouched w t WriteFault h = AfterLines P w h.ran.lines h.ran.chances
+Passes P i o Untouched w t ReadFault h = ⊤
+Passes P i o Untouched w t TooLong h = ⊤
+Passes P i o Untouched w t OutOfMemory h = ⊤
+
+-- a schedule ended so, with P of the cabinet after each line that was run
+abbrev pub SchedulesThrough : (State → Type 0) → InputChange → Outside → Type 0 → World → World → ScheduleEnd → Type 0
+SchedulesThrough P i o Untouched w t end = (h : Schedules i o Untouched w t end) × Passes P i o Untouched w t end h

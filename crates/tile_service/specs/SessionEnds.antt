@@ -13,6 +13,7 @@ use Rattle.http_wire.specs.Streams.{StandIn}
 use Rattle.tile_service.specs.declared.session.SessionEnd.{SessionEnd}
 use Rattle.tile_service.specs.declared.session.SessionEnd.TheVariants.{Closed, Truncated, Bad, ReadFault, WriteFault, TooMany, OutOfMemory}
 use Rattle.tile_service.specs.Outside.{InputChange, Outside}
+use Rattle.tile_service.specs.Passing.{AfterMessages}
 use Rattle.tile_service.specs.Run.{Answer}
 use Rattle.tile_requests.specs.Sent.{AppendsPart}
 use Rattle.tile_service.specs.Session.{IsServed, reply_text, replies, bad_text}
@@ -73,3 +74,7 @@ pub record HasSession (i : InputChange) (o : Outside) (document : List ℕ) (s t
   pub stand : StandIn i.from messages (prepend_known held i.to)
   pub served : IsServed o.told o.renders o.disk document s t messages answers
   pub ends : Ends i o document messages answers held (prepend_known held i.to) end
+
+-- such a session, with P of the cabinet after each of its messages
+abbrev pub HasSessionThrough : (State → Type 0) → InputChange → Outside → List ℕ → State → State → SessionEnd → Type 0
+HasSessionThrough P i o document s t end = (h : HasSession i o document s t end) × AfterMessages P document s h.messages h.served.chances

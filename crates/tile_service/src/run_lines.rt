@@ -4,8 +4,9 @@ ghost use Rattle.cache_core.specs.Lasting.{Lasting};
 ghost use Rattle.catalog.specs.Valid.{IsValid};
 ghost use Rattle.tile_service.specs.OneLine.{seat_of};
 ghost use Rattle.tile_service.specs.Outside.{counts};
+ghost use Rattle.tile_service.specs.Passing.{LeadsThrough};
 ghost use Rattle.tile_service.specs.Run.{PendingRequest, free_seats, world_of};
-ghost use Rattle.tile_service.specs.Schedules.{HasRun};
+ghost use Rattle.tile_service.specs.Schedules.{HasRunThrough};
 
 use crate::counter::Counter;
 use crate::lines::split_line;
@@ -38,7 +39,8 @@ pub fn run_lines<C: Keeper, S: Source, O: ByteSink>(
     requires valid { IsValid (C.state counter.old.cabinet).catalogue }
     requires short { length text.now < 2 ^ 32 }
     requires free { seats.old ≡ replicate ACTORS Seat.Free }
-    ensures run { (busy : List (Option PendingRequest)) × (map seat_of busy ≡ seats.new) × HasRun
+    ensures run { (busy : List (Option PendingRequest)) × (map seat_of busy ≡ seats.new) × HasRunThrough
+        (LeadsThrough C C.state C.outlasts counter.old.cabinet counter.new.cabinet)
         (record { told = S.told source.old; renders = record { before = S.faults source.old; after = S.faults source.new }; disk = counts (C.faults counter.old.cabinet) (C.faults counter.new.cabinet); writes = record { before = O.faults output.old; after = O.faults output.new }; from = O.taken output.old; to = O.taken output.new })
         (world_of (C.state counter.old.cabinet) counter.old.capabilities free_seats) text.now (world_of (C.state counter.new.cabinet) counter.new.capabilities busy) result }
     ensures capabilities { counter.new.capabilities ≡ counter.old.capabilities }

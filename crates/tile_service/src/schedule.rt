@@ -3,8 +3,9 @@ ghost use Rattle.std.specs.Prelude.{◌≡◌};
 ghost use Rattle.cache_core.specs.Lasting.{Lasting};
 ghost use Rattle.catalog.specs.Valid.{IsValid};
 ghost use Rattle.tile_service.specs.Outside.{counts};
+ghost use Rattle.tile_service.specs.Passing.{LeadsThrough};
 ghost use Rattle.tile_service.specs.Run.{free_seats, world_of};
-ghost use Rattle.tile_service.specs.Schedules.{Schedules, end_of};
+ghost use Rattle.tile_service.specs.Schedules.{Schedules, SchedulesThrough, end_of};
 
 use crate::counter::Counter;
 use crate::run_lines::{RunEnd, run_lines};
@@ -37,7 +38,8 @@ pub enum ScheduleEnd {
 }
 
 /// Reads a schedule whole, runs its lines in order, and writes the answers. At the end, whatever it is, the actors that are
-/// busy give up.
+/// busy give up. It leads through a keeper after each line, from which on a crash leaves what answers for the truncations of
+/// that line too.
 pub fn run_schedule<C: Keeper, S: Source, I: ByteSource, O: ByteSink>(
     alloc: Global,
     counter: &mut Counter<C>,
@@ -47,6 +49,11 @@ pub fn run_schedule<C: Keeper, S: Source, I: ByteSource, O: ByteSink>(
 ) -> ScheduleEnd
     requires { IsValid (C.state counter.old.cabinet).catalogue }
     ensures schedules { Schedules
+        (record { reads = record { before = I.faults input.old; after = I.faults input.new }; from = I.left input.old; to = I.left input.new })
+        (record { told = S.told source.old; renders = record { before = S.faults source.old; after = S.faults source.new }; disk = counts (C.faults counter.old.cabinet) (C.faults counter.new.cabinet); writes = record { before = O.faults output.old; after = O.faults output.new }; from = O.taken output.old; to = O.taken output.new })
+        ((output.new ≡ output.old) × (source.new ≡ source.old) × (counter.new ≡ counter.old))
+        (world_of (C.state counter.old.cabinet) counter.old.capabilities free_seats) (world_of (C.state counter.new.cabinet) counter.new.capabilities free_seats) result }
+    ensures leads { SchedulesThrough (LeadsThrough C C.state C.outlasts counter.old.cabinet counter.new.cabinet)
         (record { reads = record { before = I.faults input.old; after = I.faults input.new }; from = I.left input.old; to = I.left input.new })
         (record { told = S.told source.old; renders = record { before = S.faults source.old; after = S.faults source.new }; disk = counts (C.faults counter.old.cabinet) (C.faults counter.new.cabinet); writes = record { before = O.faults output.old; after = O.faults output.new }; from = O.taken output.old; to = O.taken output.new })
         ((output.new ≡ output.old) × (source.new ≡ source.old) × (counter.new ≡ counter.old))

@@ -6,11 +6,12 @@ ghost use Rattle.catalog.specs.Valid.{IsValid};
 ghost use Rattle.causes.specs.Causes.{HasCause};
 ghost use Rattle.tile_service.specs.OneLine.{MayTell};
 ghost use Rattle.tile_service.specs.Outside.{InputChange, Outside, counts};
+ghost use Rattle.tile_service.specs.Passing.{LeadsThrough};
 ghost use Rattle.tile_requests.specs.Response.{closes, response};
 ghost use Rattle.tile_requests.specs.Sent.{AppendsFront};
 ghost use Rattle.tile_service.specs.Serving.{Serves};
 ghost use Rattle.tile_service.specs.Session.{IsAtRest};
-ghost use Rattle.tile_service.specs.SessionEnds.{HasSession};
+ghost use Rattle.tile_service.specs.SessionEnds.{HasSession, HasSessionThrough};
 
 use crate::answer::write_response;
 use crate::coming::next_message;
@@ -96,6 +97,10 @@ pub fn replay_session<C: Keeper, S: Source, L: Link>(
     requires valid { IsValid (C.state counter.old.cabinet).catalogue }
     requires rest { IsAtRest (C.state counter.old.cabinet) }
     ensures session { HasSession
+        (record { reads = record { before = L.ByteSource.faults link.old; after = L.ByteSource.faults link.new }; from = L.left link.old; to = L.left link.new })
+        (record { told = S.told source.old; renders = record { before = S.faults source.old; after = S.faults source.new }; disk = counts (C.faults counter.old.cabinet) (C.faults counter.new.cabinet); writes = record { before = L.ByteSink.faults link.old; after = L.ByteSink.faults link.new }; from = L.taken link.old; to = L.taken link.new })
+        counter.old.capabilities (C.state counter.old.cabinet) (C.state counter.new.cabinet) result }
+    ensures leads { HasSessionThrough (LeadsThrough C C.state C.outlasts counter.old.cabinet counter.new.cabinet)
         (record { reads = record { before = L.ByteSource.faults link.old; after = L.ByteSource.faults link.new }; from = L.left link.old; to = L.left link.new })
         (record { told = S.told source.old; renders = record { before = S.faults source.old; after = S.faults source.new }; disk = counts (C.faults counter.old.cabinet) (C.faults counter.new.cabinet); writes = record { before = L.ByteSink.faults link.old; after = L.ByteSink.faults link.new }; from = L.taken link.old; to = L.taken link.new })
         counter.old.capabilities (C.state counter.old.cabinet) (C.state counter.new.cabinet) result }

@@ -1,6 +1,7 @@
 use Rattle.std.proofs.Common.{◌≡◌, ◌+◌, ◌≤◌, length}
 use Rattle.cache_core.specs.Lasting.{Lasting}
-use Rattle.tile_service.proofs.Scheduling.{Moment, Reads}
+use Rattle.tile_service.specs.Passing.{LeadsThrough}
+use Rattle.tile_service.proofs.Scheduling.{Moment, ReadsThrough}
 use Rattle.tile_service.proofs.run_lines.run_lines.Given as goal
 
 abbrev pub invariant-loop-rest : goal.invariant-loop-rest
@@ -28,7 +29,7 @@ invariant-loop-rest g l =
       seats = l.seats;
     } in
     record {
-      so_far : Reads start now l.text l.lines l.rest;
+      so_far : ReadsThrough (LeadsThrough _ g.C.Keeper.state g.C.Keeper.outlasts l.initial.counter.cabinet l.counter.cabinet) start now l.text l.lines l.rest;
       valid : (g.C.Keeper.state l.counter.cabinet).catalogue ≡ (g.C.Keeper.state l.initial.counter.cabinet).catalogue;
       capabilities : l.counter.capabilities ≡ l.initial.counter.capabilities;
       lasts : Lasting (g.C.Keeper.outlasts l.initial.counter.cabinet l.counter.cabinet) (g.C.Keeper.state l.initial.counter.cabinet) (g.C.Keeper.state l.counter.cabinet);

@@ -2,7 +2,8 @@ use Rattle.std.proofs.Common.{◌≡◌, ◌≤◌, None}
 use Rattle.cache_core.specs.Lasting.{Lasting}
 use Rattle.http_wire.specs.Answers.{IsPartOfTake}
 use Rattle.tile_service.specs.Session.{IsAtRest}
-use Rattle.tile_service.proofs.Replaying.{IsUnderWay, Moment}
+use Rattle.tile_service.specs.Passing.{LeadsThrough}
+use Rattle.tile_service.proofs.Replaying.{Moment, UnderWay}
 use Rattle.tile_service.proofs.session.replay_session.Given as goal
 
 abbrev pub invariant-serving : goal.invariant-serving
@@ -26,7 +27,7 @@ invariant-serving g l =
       wire = record { reads = g.L.ByteSource.faults l.link; writes = g.L.ByteSink.faults l.link; left = g.L.ByteSource.left l.link; taken = g.L.ByteSink.taken l.link };
     } in
     record {
-      under_way : IsUnderWay start now l.reader.held l.answered;
+      under_way : UnderWay (LeadsThrough _ g.C.Keeper.state g.C.Keeper.outlasts l.initial.counter.cabinet l.counter.cabinet) start now l.reader.held l.answered;
       going : l.reader.ended ≡ None;
       surplus : IsPartOfTake l.reader.held;
       rests : IsAtRest (g.C.Keeper.state l.counter.cabinet);
