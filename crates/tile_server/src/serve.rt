@@ -47,7 +47,8 @@ fn end_of_port(error: &io::Error) -> ServerEnd {
     ServerEnd::ListenFault
 }
 
-/// Serves so many connections at a port.
+/// Serves so many connections at a port. The sources are sent to threads and open their files there, so all that the runtime opens may go
+/// there, folders among it.
 fn served<R>(rt: &R, words: ServeWords, clock: Clock) -> ServerEnd
 where
     R: Threads
@@ -60,6 +61,7 @@ where
         + Drop
         + Send
         + Sync,
+    R::Dir: Send + Sync,
     requires { (1 ≤ words.connections) × (words.connections ≤ 1000000) }
 {
     let Ok(
@@ -115,6 +117,7 @@ where
         + Drop
         + Send
         + Sync,
+    R::Dir: Send + Sync,
 {
     match serve_words(rt.alloc(), words) {
         Ok(words) => server_ended(rt, served(rt, words, clock)),
