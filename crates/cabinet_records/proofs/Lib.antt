@@ -1,3 +1,4 @@
+pub mod AimedCuts
 pub mod Tied
 pub mod Allowing
 pub mod Playing

@@ -3,3 +3,4 @@ pub mod Recorded
 pub mod Placed
 pub mod Played
 pub mod Shows
+pub mod Aiming

@@ -4,8 +4,11 @@ ghost use Rattle.catalog.specs.Valid.{IsValid};
 ghost use Rattle.record_text.specs.declared.entries.Record.{Record as Entry};
 ghost use Rattle.cabinet_records.specs.Replay.{AreRecordsOf, IsRefusedAt, IsRestored};
 
+mod aimed;
+mod aiming;
 mod allowed;
 mod beginning;
+mod cuts;
 mod cutting;
 mod entering;
 mod finishing;

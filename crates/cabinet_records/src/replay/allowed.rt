@@ -108,7 +108,7 @@ pub fn may_cut(progress: &Progress, catalogue: &Catalogue, number: u64, cover: &
     if !is_given(number, progress.opening) {
         return false;
     }
-    is_above(&progress.cuts, number)
+    is_above(progress.cuts.list(), number)
 }
 
 /// Whether nothing else that is kept has the number that a metatile is to be kept under.

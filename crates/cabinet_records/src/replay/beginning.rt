@@ -4,13 +4,13 @@ ghost use Rattle.catalog.specs.Valid.{IsValid};
 ghost use Rattle.cabinet_records.specs.Played.{IsPlayed, replayed_of};
 ghost use Rattle.cabinet_records.specs.Replay.{unplayed};
 
+use crate::replay::cuts::ReplayCuts;
 use crate::replay::progress::Progress;
 use cabinet::store::Store;
 use catalog::catalogue::Catalogue;
 use extent_map::extents::Extents;
 use indexmap::IndexMap;
 use std::alloc::{AllocError, Global};
-use truncation_list::list::CutList;
 
 /// Nothing was played yet. `AllocError` where memory runs out.
 pub fn begin(alloc: Global, catalogue: &Catalogue) -> Result<Progress, AllocError>
@@ -22,7 +22,7 @@ pub fn begin(alloc: Global, catalogue: &Catalogue) -> Result<Progress, AllocErro
         Err(fault) => return Err(fault),
         Ok(regions) => regions,
     };
-    let cuts = match CutList::new(alloc) {
+    let cuts = match ReplayCuts::new(alloc) {
         Err(fault) => return Err(fault),
         Ok(cuts) => cuts,
     };

@@ -8,6 +8,7 @@ ghost use Rattle.cabinet_records.specs.Placed.{place_in};
 ghost use Rattle.cabinet_records.specs.Played.{Claims, HasRoom, IsPlayed, LeavesAll, Plays, Steps, places_but};
 
 use crate::replay::allowed::{is_kept_under, may_keep, may_open};
+use crate::replay::newer::aim;
 use crate::replay::places::{Places, drop_place, put_place};
 use crate::replay::progress::Progress;
 use cabinet::kept::Kept;
@@ -64,8 +65,8 @@ fn move_place(places: &mut Places, older: Option<Kept>, number: u64, place: u64)
     put_place(places, number, place);
 }
 
-/// Plays a record that stores a metatile.
-pub fn stored(
+/// Plays a record that stores a metatile, with the cuts as they are.
+fn put(
     progress: &mut Progress,
     alloc: Global,
     catalogue: &Catalogue,
@@ -90,6 +91,28 @@ pub fn stored(
     progress.store.put(kept, Text::away(0));
     move_place(&mut progress.places, older, kept.number, place);
     Ok(true)
+}
+
+/// Plays a record that stores a metatile. The cuts are aimed first.
+pub fn stored(
+    progress: &mut Progress,
+    alloc: Global,
+    catalogue: &Catalogue,
+    kept: Kept,
+    place: u64,
+) -> Result<bool, AllocError>
+    requires valid { IsValid catalogue.now }
+    requires played { IsPlayed catalogue.now place progress.old }
+    ensures { Steps catalogue.now place progress.old (Record.Stored kept.number kept.meta kept.place kept.length kept.moment kept.uses) result progress.new }
+{
+    aim(
+        &mut progress.cuts,
+        alloc,
+        catalogue,
+        kept.number,
+        &kept.meta,
+    );
+    put(progress, alloc, catalogue, kept, place)
 }
 
 /// Plays a record that drops a metatile.

@@ -71,9 +71,10 @@ pub fn finished(progress: Progress, limit: u32) -> Option<Restored>
         store,
         regions: _regions,
         places,
-        mut cuts,
+        cuts,
         out,
     } = progress;
+    let mut cuts = cuts.into_list();
     cuts.raise(floor);
     cuts.purge(store.least_with(None));
     if cuts.count() > limit {

@@ -1,9 +1,9 @@
 //! What the records of a journal come to so far, as a replay holds it.
+use crate::replay::cuts::ReplayCuts;
 use crate::replay::places::Places;
 use cabinet::kept::Kept;
 use cabinet::store::Store;
 use extent_map::extents::Extents;
-use truncation_list::list::CutList;
 
 /// What is held while records are played.
 #[derive(Drop)]
@@ -18,7 +18,7 @@ pub struct Progress {
     /// The numbers of what is kept, each with the place of its record.
     pub places: Places,
     /// All cuts, none of them purged. The floor of this list is 0.
-    pub cuts: CutList,
+    pub cuts: ReplayCuts,
     /// Where what is kept will be listed. There is room for all of it.
     pub out: Vec<Kept>,
 }

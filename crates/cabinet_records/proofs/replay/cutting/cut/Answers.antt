@@ -31,8 +31,8 @@ returns c = λ next played.
     let new : Cut = record { number = c.args.number; cover = c.args.cover.now } in
     let may : MayCut cat (replayed_of p) c.args.number c.args.cover.now = c.may_cut.ensures.0 (cc (c.if-not-may_cut.false)) in
     let list = c.spare.ensures.spared in
-    let cuts : c.enter.new.self.book.cuts ≡ p.cuts.book.cuts ++ new ∷ [] = ap (λ (b : Book). b.cuts) c.enter.ensures.book ∙ ap (λ (b : Book). b.cuts ++ new ∷ []) c.reserve.ensures.book in
-    let floor : c.enter.new.self.book.floor ≡ p.cuts.book.floor = ap (λ (b : Book). b.floor) c.enter.ensures.book ∙ ap (λ (b : Book). b.floor) c.reserve.ensures.book in
+    let cuts : c.enter.new.self.book.cuts ≡ p.cuts.book.cuts ++ new ∷ [] = ap (λ (b : Book). b.cuts) c.enter.ensures ∙ ap (λ (b : Book). b.cuts ++ new ∷ []) c.reserve.ensures.book in
+    let floor : c.enter.new.self.book.floor ≡ p.cuts.book.floor = ap (λ (b : Book). b.floor) c.enter.ensures ∙ ap (λ (b : Book). b.floor) c.reserve.ensures.book in
     let x = record_of.Cut c.args.number c.args.cover.now in
     let same : replayed_of (later c) ≡ replayed cat (replayed_of p) x = λ i. with_cuts (replayed_of p) (list i) (cuts i) in
     let tied = c.spare.ensures.tied next played.tied in
