@@ -23,10 +23,11 @@ use Rattle.durable_cabinet.specs.Filed.{on_disk}
 use Rattle.durable_cabinet.specs.Images.{blob_on, blobs_start}
 use Rattle.durable_cabinet.specs.Tiles.{IsPartOf}
 use Rattle.durable_cabinet.proofs.Forcing.{alike_then, as_alike, ask_alike, asked_entered, entry_alike, forced_alike, forced_needed, needed_as}
+use Rattle.durable_cabinet.proofs.Missing.{alike_itself}
 
 -- a cabinet is alike to itself
 pub same_alike : (s u : State) → u ≡ s → IsAlikeTo s u
-same_alike s u is = as_alike s s u is (record { catalogue = refl; opening = refl; kept = refl; book = refl; cuts = refl })
+same_alike s u is = as_alike s s u is (alike_itself s)
 
 -- A USE
 

@@ -26,11 +26,15 @@ use Rattle.catalog.specs.declared.catalogue.Catalogue.{Catalogue}
 use Rattle.cabinet.specs.declared.kept.Kept.{Kept}
 use Rattle.cache_file.specs.File.{Anywhere, Brings, HasHeld, HoldsBlob, held, readied}
 use Rattle.durable_cabinet.specs.Backing.{AreRegionsOf, Enters, IsRegionIn, IsWritten, Leads, Rests, Writes}
+use Rattle.durable_cabinet.specs.Alike.{IsAlikeTo}
 use Rattle.durable_cabinet.specs.Drafts.{IsCompactionOf}
 use Rattle.durable_cabinet.specs.Filed.{IsFiled, IsHeldOn, IsKeptOn, IsRecordOf, on_disk}
 use Rattle.durable_cabinet.specs.Images.{IsBeside, IsLeft, Restores, blob_on, blobs_start, slots_for}
+use Rattle.durable_cabinet.specs.Missed.{HasMissed}
 use Rattle.durable_cabinet.proofs.Blobs.{AreHeld, all_same, same_on}
 use Rattle.durable_cabinet.proofs.Calling.{call_moment, kept_done, kept_failed, sure_moment}
+use Rattle.durable_cabinet.proofs.Forcing.{filed_alike}
+use Rattle.durable_cabinet.proofs.Missing.{alike_itself, missed_now}
 use Rattle.durable_cabinet.proofs.Tying.{anywhere, beside_itself, recorded_one, shown}
 
 -- A COMPACTION
@@ -59,7 +63,7 @@ readied_record s known (suc room) before bodies compacts r = r
 
 module _ {T E : Type 0} (told : Bool) (s u : State) (known : IsKnown s) (start : ℕ) (j : Journal) (old : DiskState) (filed : IsFiled s told start j old) (start' : ℕ) (j' : Journal) (new : DiskState) (same_start : start' ≡ start)
     (alike : IsAlike j j') (version : version_of j ≡ 2 → version_of j' ≡ 2) (lead_known : IsKnown u) (is_beside : IsBeside s u) (after : Opening) (leads : IsTrue told → IsRecordOf u after)
-    (holds : IsTrue told → AreHeld s.catalogue old (now u).kept) (result : Result T E) (brings : IsTrue told → Brings result after start j j' old new) (settled : OnOk result (IsSettled j')) (reads : IsTrue told → new.may_leave new.seen) where
+    (missed : State) (like : IsAlikeTo s missed) (misses : IsTrue told → IsRecordOf missed after ⊎ HasMissed (shown missed old) (shown u old)) (holds : IsTrue told → AreHeld s.catalogue old (now u).kept) (result : Result T E) (brings : IsTrue told → Brings result after start j j' old new) (settled : OnOk result (IsSettled j')) (reads : IsTrue told → new.may_leave new.seen) where
   call : IsTrue told → Brings result after (blobs_start s.catalogue) j j' old new
   call is = subst (λ (n : ℕ). Brings result after n j j' old new) filed.start_is (brings is)
 
@@ -78,14 +82,14 @@ module _ {T E : Type 0} (told : Bool) (s u : State) (known : IsKnown s) (start :
   }
 
   on_done : {T' E' : Type 0} (r : Result T' E') → (IsTrue told → Brings r after (blobs_start s.catalogue) j j' old new) → OnOk r (IsSettled j') → OnOk r (IsFiled u told start' j' new)
-  on_done (Ok value) b is = filed_as u is_beside.same_catalogue (λ t. kept_done s u known lead_known is_beside j j' old new filed.digest filed.slots (filed.on t) after (leads t) (holds t) (Ok value) (b t) (reads t) (b t).done is)
+  on_done (Ok value) b is = filed_as u is_beside.same_catalogue (λ t. kept_done s u known lead_known is_beside j j' old new filed.digest filed.slots (filed.on t) after (leads t) (holds t) missed like (misses t) (Ok value) (b t) (reads t) (b t).done is)
   on_done (Err fault) b is = tt
 
-  on_failed : {T' E' : Type 0} (r : Result T' E') → (IsTrue told → Brings r after (blobs_start s.catalogue) j j' old new) → OnErr r (IsFiled s told start' j' new)
+  on_failed : {T' E' : Type 0} (r : Result T' E') → (IsTrue told → Brings r after (blobs_start s.catalogue) j j' old new) → OnErr r (IsFiled missed told start' j' new)
   on_failed (Ok value) b = tt
-  on_failed (Err fault) b = filed_as s refl (λ t. kept_failed s u known lead_known is_beside j j' old new filed.digest filed.slots (filed.on t) after (leads t) (holds t) (Err fault) (b t) (reads t) (b t).failed)
+  on_failed (Err fault) b = filed_as missed like.catalogue (λ t. kept_failed s u known lead_known is_beside j j' old new filed.digest filed.slots (filed.on t) after (leads t) (holds t) missed like (misses t) (Err fault) (b t) (reads t) (b t).failed)
 
-  pub written : IsWritten result told s u start' j' old new
+  pub written : IsWritten result told s missed u start' j' old new
   written = record {
     ok = on_done result call settled;
     err = on_failed result call;
@@ -97,13 +101,13 @@ module _ {T E : Type 0} (told : Bool) (s u : State) (known : IsKnown s) (start :
   call_images is =
       subst (λ (b : Bool). Leaves old new (λ image. IsLeft (on_disk b old.seen s) j old image ⊎ Restores (on_disk b old.seen u) image)) (sym is)
       (leaves_as old new _ (λ image. IsLeft (shown s old) j old image ⊎ Restores (shown u old) image) (call is).any_moment
-      (call_moment s u known lead_known is_beside j j' old new filed.digest filed.slots (filed.on is) after (leads is) (holds is) result (call is) (reads is)))
+      (call_moment s u known lead_known is_beside j j' old new filed.digest filed.slots (filed.on is) after (leads is) (holds is) missed like (misses is) result (call is) (reads is)))
 
   pub sure_images : IsSettled j → IsTrue told → Leaves old new (λ image. Restores (on_disk told old.seen s) image ⊎ Restores (on_disk told old.seen u) image)
   sure_images sure is =
       subst (λ (b : Bool). Leaves old new (λ image. Restores (on_disk b old.seen s) image ⊎ Restores (on_disk b old.seen u) image)) (sym is)
       (leaves_as old new _ (λ image. Restores (shown s old) image ⊎ Restores (shown u old) image) (call is).any_moment
-      (sure_moment s u known lead_known is_beside j j' old new filed.digest filed.slots (filed.on is) after (leads is) (holds is) result (call is) (reads is) sure))
+      (sure_moment s u known lead_known is_beside j j' old new filed.digest filed.slots (filed.on is) after (leads is) (holds is) missed like (misses is) result (call is) (reads is) sure))
 
   pub call_keeps : IsTrue told → Every new.may_leave (HasHeld (blobs_start s.catalogue) Anywhere old)
   call_keeps is = (call is).keeps
@@ -113,7 +117,7 @@ rest_image : (told : Bool) (s : State) (j : Journal) (old : DiskState) (image : 
 rest_image told s j old image (inl left) = left
 rest_image told s j old image (inr restores) = inl restores
 
-rests_in : {T E : Type 0} (told : Bool) (s : State) (start : ℕ) (j' : Journal) (old new : DiskState) (result : Result T E) → IsWritten result told s s start j' old new → IsFiled s told start j' new
+rests_in : {T E : Type 0} (told : Bool) (s : State) (start : ℕ) (j' : Journal) (old new : DiskState) (result : Result T E) → IsWritten result told s s s start j' old new → IsFiled s told start j' new
 rests_in told s start j' old new (Ok value) w = w.ok
 rests_in told s start j' old new (Err fault) w = w.err
 
@@ -127,9 +131,10 @@ ready_of told s known start j old filed start' j' new same_start alike version b
     let leads : IsTrue told → IsRecordOf s after = λ is. readied_record s known (room_of j) (held j old) bodies compacts (filed.on is).recorded in
     let holds : IsTrue told → AreHeld s.catalogue old (now s).kept = λ is. (filed.on is).holds in
     let settled : OnOk result (IsSettled j') = on_ok_weaker result (λ done. done.0) ok in
-    let w = written told s s known start j old filed start' j' new same_start alike version known (beside_itself s) after leads holds result brings settled reads in
-    let images = call_images told s s known start j old filed start' j' new same_start alike version known (beside_itself s) after leads holds result brings settled reads in
-    let keeps = call_keeps told s s known start j old filed start' j' new same_start alike version known (beside_itself s) after leads holds result brings settled reads in
+    let own : IsTrue told → IsRecordOf s after ⊎ HasMissed (shown s old) (shown s old) = λ is. inl (leads is) in
+    let w = written told s s known start j old filed start' j' new same_start alike version known (beside_itself s) after leads s (alike_itself s) own holds result brings settled reads in
+    let images = call_images told s s known start j old filed start' j' new same_start alike version known (beside_itself s) after leads s (alike_itself s) own holds result brings settled reads in
+    let keeps = call_keeps told s s known start j old filed start' j' new same_start alike version known (beside_itself s) after leads s (alike_itself s) own holds result brings settled reads in
     (rests_in told s start' j' old new result w, record { same = w.same; keeps = keeps; images = λ is. leaves_as old new _ (IsLeft (on_disk told old.seen s) j old) (images is) (rest_image told s j old) })
 
 -- the records of a compaction are fewer than a half of the journal has slots
@@ -150,13 +155,14 @@ compaction_few s known bodies c =
 pub enters_of : {T E : Type 0} (told : Bool) (s : State) (known : IsKnown s) (start : ℕ) (j : Journal) (old : DiskState) (filed : IsFiled s told start j old) (start' : ℕ) (j' : Journal) (new : DiskState) → start' ≡ start → IsAlike j j'
     → (version_of j ≡ 2 → version_of j' ≡ 2) → IsSettled j → (entry : Record) → Fits entry → (result : Result T E) → OnOk result (IsSettled j')
     → (IsTrue told → Brings result (records (version_of j) (kept j old.seen ++ spelling entry ∷ [])) start j j' old new) → (IsTrue told → new.may_leave new.seen)
-    → (u : State) → Leads s u entry → (IsTrue told → AreHeld s.catalogue old (now u).kept) → Enters result told s u start' j' old new
-enters_of told s known start j old filed start' j' new same_start alike version sure entry fits result settled brings reads u leads holds =
+    → (missed u : State) → Leads s missed u entry → (IsTrue told → AreHeld s.catalogue old (now u).kept) → Enters result told s missed u start' j' old new
+enters_of told s known start j old filed start' j' new same_start alike version sure entry fits result settled brings reads missed u leads holds =
     let after = records (version_of j) (kept j old.seen ++ spelling entry ∷ []) in
     let lead : IsTrue told → IsRecordOf u after = λ is. recorded_one s u (version_of j) (kept j old.seen) entry filed.version fits leads.recorded (filed.on is).recorded in
+    let misses : IsTrue told → IsRecordOf missed after ⊎ HasMissed (shown missed old) (shown u old) = λ is. inr (missed_now old.seen s missed u leads.known (leads.misses old.seen)) in
     record {
-      written = written told s u known start j old filed start' j' new same_start alike version leads.known leads.is_beside after lead holds result brings settled reads;
-      images = sure_images told s u known start j old filed start' j' new same_start alike version leads.known leads.is_beside after lead holds result brings settled reads sure;
+      written = written told s u known start j old filed start' j' new same_start alike version leads.known leads.is_beside after lead missed leads.alike misses holds result brings settled reads;
+      images = sure_images told s u known start j old filed start' j' new same_start alike version leads.known leads.is_beside after lead missed leads.alike misses holds result brings settled reads sure;
     }
 
 -- WRITE
@@ -171,20 +177,20 @@ pub regions_held : (s u : State) (disk : DiskState) → AreRegionsOf s u → Are
 regions_held s u disk regions h =
     all_weaker (IsRegionIn (now s).kept) (IsHeldOn s.catalogue disk) (λ t r. region_held s.catalogue disk r.0 t r.2 r.3 (all_contained (IsHeldOn s.catalogue disk) (now s).kept r.0 h r.1)) (now u).kept regions
 
-module _ (told : Bool) (s u : State) (entry : Record) (start : ℕ) (j : Journal) (old : DiskState) (filed : IsFiled s told start j old) (leads : Leads s u entry) (regions : AreRegionsOf s u) (j1 : Journal) (mid : DiskState)
+module _ (told : Bool) (s missed u : State) (entry : Record) (start : ℕ) (j : Journal) (old : DiskState) (filed : IsFiled s told start j old) (leads : Leads s missed u entry) (regions : AreRegionsOf s u) (j1 : Journal) (mid : DiskState)
     (rests : Rests told s j old mid) (reads : IsTrue told → mid.may_leave mid.seen) where
   same_before : on_disk told mid.seen u ≡ on_disk told old.seen u
   same_before = same_on told u old.seen mid.seen (λ is.
       subst (λ (c : Catalogue). map (blob_on c mid.seen) (now u).kept ≡ map (blob_on c old.seen) (now u).kept) (sym leads.is_beside.same_catalogue)
       (all_same s.catalogue old mid Anywhere (rests.keeps is) (reads is) (now u).kept (anywhere (now u).kept) (regions_held s u old regions (filed.on is).holds)))
 
-  pub writes_failed : {T E : Type 0} (start1 : ℕ) (fault : E) → IsFiled s told start1 j1 mid → Writes {T = T} {E = E} (Err fault) told s u start1 j j1 old mid
+  pub writes_failed : {T E : Type 0} (start1 : ℕ) (fault : E) → IsFiled s told start1 j1 mid → Writes {T = T} {E = E} (Err fault) told s missed u start1 j j1 old mid
   writes_failed start1 fault then = record {
-    written = record { ok = tt; err = then; same = rests.same; same_next = same_before };
+    written = record { ok = tt; err = filed_alike told s missed start1 j1 mid leads.alike then; same = rests.same; same_next = same_before };
     images = λ is. leaves_as old mid (IsLeft (on_disk told old.seen s) j old) (λ image. IsLeft (on_disk told old.seen s) j old image ⊎ Restores (on_disk told old.seen u) image) (rests.images is) (λ image left. inl left);
   }
 
-  pub writes_then : {T E : Type 0} (result : Result T E) (start2 : ℕ) (j2 : Journal) (new : DiskState) → Enters result told s u start2 j2 mid new → Writes result told s u start2 j j2 old new
+  pub writes_then : {T E : Type 0} (result : Result T E) (start2 : ℕ) (j2 : Journal) (new : DiskState) → Enters result told s missed u start2 j2 mid new → Writes result told s missed u start2 j j2 old new
   writes_then result start2 j2 new e = record {
     written = record { ok = e.written.ok; err = e.written.err; same = e.written.same ∙ rests.same; same_next = e.written.same_next ∙ same_before };
     images = λ is. leaves_then old mid new (λ image. IsLeft (on_disk told old.seen s) j old image ⊎ Restores (on_disk told old.seen u) image)

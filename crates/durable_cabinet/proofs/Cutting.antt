@@ -1,5 +1,5 @@
 -- A truncation of a cabinet on a disk.
-use Rattle.std.proofs.Common.{ℕ, ◌≡◌, ◌⊎◌, ◌+◌, ◌≤◌, Bool, not, IsTrue, [], ◌∷◌, length, refl, sym, ap, subst, ◌∙◌, inl, inr, Result, arith, length-append}
+use Rattle.std.proofs.Common.{ℕ, ◌≡◌, ◌⊎◌, ◌+◌, ◌≤◌, Bool, true, not, IsTrue, [], ◌∷◌, length, refl, sym, ap, subst, ◌∙◌, inl, inr, Result, arith, length-append}
 use Rattle.std.specs.Option.{option_map}
 use Rattle.causes.specs.Causes.{Rose}
 use Rattle.disk_model.specs.Content.{Content}
@@ -52,10 +52,16 @@ module _ (s : State) (known : IsKnown s) (cover : Cover) (is_cover : IsCoverOf s
   cut_kept_is : (now after_cut).kept ≡ spared s.catalogue cover (now s).kept
   cut_kept_is = kept_more s (entry.Cut t cover) (option_map (blobs_spared s.catalogue cover) s.blobs)
 
-  pub cut_leads : Leads s after_cut (record_of.Cut t cover)
+  pub cut_leads : Leads s (with_entry s (entry.Missed t)) after_cut (record_of.Cut t cover)
   cut_leads =
       let k = cuts_known s after_cut cover (reply.Done t) known is_cover cut_row in
-      record { known = k.known; is_beside = beside_of s after_cut k (inr (inr (inr (inl (cover, cut_kept_is))))); recorded = λ entries r. cuts_recorded s after_cut entries cover t known r is_cover cut_row }
+      record {
+        known = k.known;
+        is_beside = beside_of s after_cut k (inr (inr (inr (inl (cover, cut_kept_is)))));
+        recorded = λ entries r. cuts_recorded s after_cut entries cover t known r is_cover cut_row;
+        alike = missed_alike s t;
+        misses = λ seen. inr (inl (cover, t, (admits.0, admits.1, cut_on true seen s t cover), entered_on true seen s (entry.Missed t) refl));
+      }
 
   pub cut_regions : AreRegionsOf s after_cut
   cut_regions = regions_filtered s after_cut (λ x. not (hits_of s.catalogue cover x.meta)) cut_kept_is
@@ -76,7 +82,7 @@ module _ (s : State) (known : IsKnown s) (cover : Cover) (is_cover : IsCoverOf s
   pub missed_row_on : (told : Bool) (old new : Content) (before after : ℕ) → Rose before after → on_disk told new s ≡ on_disk told old s → Cuts (on_disk told old s) cover (reply.DiskFault before after) (on_disk told new (with_entry s (entry.Missed t)))
   missed_row_on told old new before after rose same = (t, admits.0, admits.1, rose, entered_on told new s (entry.Missed t) refl ∙ ap (λ (x : State). with_entry x (entry.Missed t)) same)
 
-  pub cut_images : {T E : Type 0} (told : Bool) (old new : DiskState) (result : Result T E) (start : ℕ) (j j' : Journal) → Writes result told s after_cut start j j' old new → IsTrue told
+  pub cut_images : {T E : Type 0} (told : Bool) (old new : DiskState) (result : Result T E) (start : ℕ) (j j' : Journal) → Writes result told s (with_entry s (entry.Missed t)) after_cut start j j' old new → IsTrue told
       → Lasts (on_disk told old.seen s) (λ u. (n : ℕ) × Cuts (on_disk told old.seen s) cover (reply.Done n) u) j old new
   cut_images told old new result start j j' w is =
       leaves_as old new (λ image. IsLeft (on_disk told old.seen s) j old image ⊎ Restores (on_disk told old.seen after_cut) image) _ (w.images is) (λ image left. moment image left)

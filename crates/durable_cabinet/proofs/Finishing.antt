@@ -3,7 +3,8 @@ use Rattle.std.proofs.Common.{ℕ, ◌≡◌, ◌⊎◌, ◌+◌, ◌≤◌, Boo
 use Rattle.std.proofs.lemmas.List.{length-replicate}
 use Rattle.std.specs.Option.{is_some, option_map}
 use Rattle.causes.specs.Causes.{Rose}
-use Rattle.disk_model.specs.Content.{Content}
+use Rattle.disk_model.specs.Content.{Content, bytes_at}
+use Rattle.disk_model.proofs.Reading.{length-bytes_at}
 use Rattle.disk_model.specs.Images.{DiskState}
 use Rattle.disk_model.specs.Moments.{leaves_as}
 use Rattle.gate_journal.specs.declared.journal.Journal.{Journal}
@@ -25,9 +26,11 @@ use Rattle.cabinet_records.proofs.RecordedKept.{finish_recorded}
 use Rattle.durable_cabinet.specs.Backing.{Leads, Stores, with_away}
 use Rattle.durable_cabinet.specs.Drafts.{needed}
 use Rattle.durable_cabinet.specs.Filed.{on_disk}
-use Rattle.durable_cabinet.specs.Images.{IsLeft, Lasts, Restores}
+use Rattle.durable_cabinet.specs.Images.{IsLeft, Lasts, Restores, blobs_start}
+use Rattle.durable_cabinet.specs.Missed.{Misses}
+use Rattle.durable_cabinet.proofs.Forcing.{ended_alike}
 use Rattle.durable_cabinet.proofs.Leading.{beside_of}
-use Rattle.durable_cabinet.proofs.Moving.{entered_on, kept_more}
+use Rattle.durable_cabinet.proofs.Moving.{blob_there, entered_on, kept_more}
 
 both_true : (a b : Bool) → (a && b) ≡ true → a ≡ true
 both_true true b e = refl
@@ -48,7 +51,29 @@ module _ (s : State) (known : IsKnown s) (t : Ticketed) (x : Kept) (fits : Judge
   abbrev zeros_long : length zeros ≡ blob_size s.catalogue t.meta
   zeros_long = length-replicate x.length 0 ∙ long_is
 
-  pub finish_leads : Leads s (with_away s x) (stored_record x)
+  pub kept_on_disk : (told : Bool) (seen : Content) (blob : List ℕ) (u : State) → length blob ≡ blob_size s.catalogue t.meta → u ≡ with_blob (on_disk told seen s) x blob → Finishes (on_disk told seen s) t blob finished.Kept u
+  kept_on_disk told seen blob u long is = (
+    fits.0,
+    fits.1,
+    fits.2,
+    (
+      x.place,
+      subst (λ (n : ℕ). place_for s n ≡ Some x.place) (sym long) fits.3,
+      is ∙ ap (λ (k : Kept). with_blob (on_disk told seen s) k blob) (fits.4 ∙ ap (λ (n : ℕ). kept_at t fits.0 x.place n) (sym long)),
+    ),
+  )
+
+  abbrev pub unkept : State
+  unkept = with_entry s (entry.Ended t.number)
+
+  -- what would be kept is the blob that a read of the disk gives
+  misses : (seen : Content) → Misses (on_disk true seen s) (on_disk true seen (with_away s x)) (on_disk true seen unkept)
+  misses seen =
+      let at = blobs_start s.catalogue + x.place in
+      let blob = bytes_at seen at x.length in
+      inl (t, blob, kept_on_disk true seen blob (on_disk true seen (with_away s x)) (length-bytes_at seen at x.length ∙ long_is) (blob_there true seen s x zeros blob (λ is. refl)), entered_on true seen s (entry.Ended t.number) refl)
+
+  pub finish_leads : Leads s unkept (with_away s x) (stored_record x)
   finish_leads =
       let k = finishes_known s (with_away s x) t zeros finished.Kept known zeros_long (row_of zeros zeros_long) in
       let same : kept_at t fits.0 x.place (length zeros) ≡ x = sym (fits.4 ∙ ap (λ (n : ℕ). kept_at t fits.0 x.place n) (sym zeros_long)) in
@@ -56,7 +81,14 @@ module _ (s : State) (known : IsKnown s) (t : Ticketed) (x : Kept) (fits : Judge
         known = k.known;
         is_beside = beside_of s (with_away s x) k (inr (inl (x, kept_more s (stored_entry x) (option_map (blobs_with x zeros) s.blobs))));
         recorded = λ entries r. subst (λ (y : Kept). IsRecordedIn (with_away s x) (entries ++ Some (stored_record y) ∷ [])) same (finish_recorded s (with_away s x) entries t zeros known r zeros_long (row_of zeros zeros_long));
+        alike = ended_alike s t.number;
+        misses = misses;
       }
+
+  -- a render that runs is ended so
+  pub unkept_is : (u : State) → Abandons s t u → u ≡ unkept
+  unkept_is u (inl a) = absurd (let e : None ≡ Some _ = sym a.0 ∙ fits.1 in cc)
+  unkept_is u (inr a) = a.1
 
   -- the room that a compaction may come to need: what was running is kept
   pub needed_kept : needed (with_away s x) ≤ needed s
@@ -71,18 +103,6 @@ module _ (s : State) (known : IsKnown s) (t : Ticketed) (x : Kept) (fits : Judge
 
   -- ON A DISK
 
-  pub kept_on_disk : (told : Bool) (seen : Content) (blob : List ℕ) (u : State) → length blob ≡ blob_size s.catalogue t.meta → u ≡ with_blob (on_disk told seen s) x blob → Finishes (on_disk told seen s) t blob finished.Kept u
-  kept_on_disk told seen blob u long is = (
-    fits.0,
-    fits.1,
-    fits.2,
-    (
-      x.place,
-      subst (λ (n : ℕ). place_for s n ≡ Some x.place) (sym long) fits.3,
-      is ∙ ap (λ (k : Kept). with_blob (on_disk told seen s) k blob) (fits.4 ∙ ap (λ (n : ℕ). kept_at t fits.0 x.place n) (sym long)),
-    ),
-  )
-
   pub fault_on_disk : (told : Bool) (old new : Content) (blob : List ℕ) (u : State) (before after' : ℕ) → length blob ≡ blob_size s.catalogue t.meta → Rose before after' → Abandons s t u → on_disk told new s ≡ on_disk told old s
       → Finishes (on_disk told old s) t blob (finished.DiskFault before after') (on_disk told new u)
   fault_on_disk told old new blob u before after' long rose (inl a) same = absurd (let e : None ≡ Some _ = sym a.0 ∙ fits.1 in cc)
@@ -95,7 +115,7 @@ module _ (s : State) (known : IsKnown s) (t : Ticketed) (x : Kept) (fits : Judge
     ap (on_disk told new) a.1 ∙ entered_on told new s (entry.Ended t.number) refl ∙ ap (λ (y : State). with_entry y (entry.Ended t.number)) same,
   )
 
-  pub finish_images : {T E : Type 0} (told : Bool) (blob : List ℕ) (old new : DiskState) (result : Result T E) (start : ℕ) (j j' : Journal) → length blob ≡ blob_size s.catalogue t.meta → Stores result told s x blob start j j' old new → IsTrue told
+  pub finish_images : {T E : Type 0} (told : Bool) (blob : List ℕ) (old new : DiskState) (result : Result T E) (start : ℕ) (j j' : Journal) → length blob ≡ blob_size s.catalogue t.meta → Stores result told s unkept x blob start j j' old new → IsTrue told
       → Lasts (on_disk told old.seen s) (λ u. Finishes (on_disk told old.seen s) t blob finished.Kept u) j old new
   finish_images told blob old new result start j j' long w is =
       leaves_as old new (λ image. IsLeft (on_disk told old.seen s) j old image ⊎ Restores (with_blob (on_disk told old.seen s) x blob) image) _ (w.images is) (λ image left. moment image left)

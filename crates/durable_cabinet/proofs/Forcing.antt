@@ -24,6 +24,7 @@ use Rattle.durable_cabinet.specs.Filed.{IsFiled, blobs_on, on_disk}
 use Rattle.durable_cabinet.specs.Images.{blobs_start, slots_for}
 use Rattle.durable_cabinet.specs.Alike.{IsAlikeTo}
 use Rattle.durable_cabinet.proofs.Calling.{kept_alike}
+use Rattle.durable_cabinet.proofs.Missing.{alike_further, alike_itself}
 use Rattle.durable_cabinet.proofs.Moving.{entered_on}
 
 pub filed_alike : (told : Bool) (s t : State) (start : ℕ) (j : Journal) (disk : DiskState) → IsAlikeTo s t → IsFiled s told start j disk → IsFiled t told start j disk
@@ -49,6 +50,7 @@ entry_alike s e q = record {
   kept = ap (λ (n : Standing). n.kept) (now_more s e s.blobs) ∙ q.kept;
   book = ap (λ (n : Standing). n.book) (now_more s e s.blobs) ∙ q.book;
   cuts = past;
+  later = (e ∷ [], refl);
 }
   where
     past : cuts_of (s.history ++ e ∷ []) ≡ cuts_of s.history
@@ -61,13 +63,14 @@ ask_alike s n = record {
   kept = ap (λ (x : Standing). x.kept) (now_asked s n);
   book = ap (λ (x : Standing). x.book) (now_asked s n);
   cuts = past;
+  later = (entry.At n ∷ [], refl);
 }
   where
     past : cuts_of (s.history ++ entry.At n ∷ []) ≡ cuts_of s.history
     past = rw fold-append refl
 
 pub alike_then : (s t u : State) → IsAlikeTo s t → IsAlikeTo t u → IsAlikeTo s u
-alike_then s t u a b = record { catalogue = b.catalogue ∙ a.catalogue; opening = b.opening ∙ a.opening; kept = b.kept ∙ a.kept; book = b.book ∙ a.book; cuts = b.cuts ∙ a.cuts }
+alike_then s t u a b = alike_further s t u a b
 
 -- A FORCE
 
@@ -122,7 +125,7 @@ pub ended_alike : (s : State) (k : ℕ) → IsAlikeTo s (with_entry s (entry.End
 ended_alike s k = entry_alike s (entry.Ended k) (record { kept = refl; book = refl; cuts = refl })
 
 pub abandons_alike : (s u : State) (t : Ticketed) → Abandons s t u → IsAlikeTo s u
-abandons_alike s u t (inl a) = as_alike s s u a.1 (record { catalogue = refl; opening = refl; kept = refl; book = refl; cuts = refl })
+abandons_alike s u t (inl a) = as_alike s s u a.1 (alike_itself s)
 abandons_alike s u t (inr a) = as_alike s (with_entry s (entry.Ended t.number)) u a.1 (ended_alike s t.number)
 
 pub abandons_needed : (s u : State) (t : Ticketed) → Abandons s t u → needed u ≤ needed s

@@ -9,6 +9,7 @@ pub mod Once
 pub mod Owning
 pub mod Blobs
 pub mod Tying
+pub mod Missing
 pub mod Calling
 pub mod Imaging
 pub mod Pictured

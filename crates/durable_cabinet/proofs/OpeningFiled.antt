@@ -53,12 +53,13 @@ kept_on : (s : State) (o : Opening) (j : Journal) (old new : DiskState) {T E : T
     → start ≡ blobs_start s.catalogue → IsKnown s → IsSettled j → new.may_leave new.seen → held j new ≡ o → IsRecordOf s o
     → AllByRecursion (IsHeldOn s.catalogue old) (now s).kept → Brings result o start j0 j old new → IsKeptOn s j new
 kept_on s o j old new result start j0 start_is known settled reads done is holds brings =
+    let unsure_is = subst (IsRecordOf s) (sym (settled_sure j new settled ∙ done)) is in
     let after = all_held s.catalogue old new (now s).kept reads (subst (λ (n : ℕ). Every new.may_leave (HasHeld n Anywhere old)) start_is brings.keeps) holds in
     record {
       sound = brings.sound;
       recorded = subst (IsRecordOf s) (sym done) is;
       holds = after;
-      beside = record { beside = s; known = known; is_beside = beside_itself s; recorded = subst (IsRecordOf s) (sym (settled_sure j new settled ∙ done)) is; holds = after };
+      beside = record { beside = s; known = known; is_beside = beside_itself s; recorded = unsure_is; holds = after; missed = inl unsure_is };
     }
 
 pub filed_now : (s : State) (told told' : Bool) (start start' : ℕ) (j j' : Journal) (old new : DiskState) {T E : Type 0} (result : Result T E)

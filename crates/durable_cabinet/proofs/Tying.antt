@@ -98,4 +98,4 @@ pub beside_itself : (s : State) → IsBeside s s
 beside_itself s = record { same_catalogue = refl; same_opening = refl; kept = inl refl; answers = answers_itself (now s).book }
 
 abbrev pub beside_none : (s : State) (j : Journal) (disk : DiskState) → IsKnown s → unsure j disk ≡ held j disk → IsRecordOf s (held j disk) → AreHeld s.catalogue disk (now s).kept → IsBesideOn s j disk
-beside_none s j disk known none r holds = record { beside = s; known = known; is_beside = beside_itself s; recorded = record_as s (held j disk) (unsure j disk) none r; holds = holds }
+beside_none s j disk known none r holds = record { beside = s; known = known; is_beside = beside_itself s; recorded = record_as s (held j disk) (unsure j disk) none r; holds = holds; missed = inl (record_as s (held j disk) (unsure j disk) none r) }

@@ -1,5 +1,5 @@
 -- What contracts see of a cabinet on a disk, and how it is tied to its file.
-use Rattle.std.specs.Prelude.{ℕ, ◌≡◌, ◌≤◌, ◌+◌, ◌^◌, ◌⊎◌, Bool, IsTrue, if◌then◌else◌, List, [], map, Option, Some, None, ⊤}
+use Rattle.std.specs.Prelude.{ℕ, ◌≡◌, ◌≤◌, ◌+◌, ◌^◌, ◌⊎◌, Bool, true, IsTrue, if◌then◌else◌, List, [], map, Option, Some, None, ⊤}
 use Rattle.std.specs.List.{AllByRecursion}
 use Rattle.cabinet.specs.declared.kept.Kept.{Kept}
 use Rattle.cabinet.specs.declared.kept.KeptBlob.{KeptBlob}
@@ -22,6 +22,7 @@ use Rattle.gate_journal.specs.Sound.{IsSound, digest_of, slots_of, version_of}
 use Rattle.record_text.specs.declared.entries.Record.{Record}
 use Rattle.truncation_list.specs.Books.{AnswersForBook}
 use Rattle.std.specs.List.Sorted.{IsPermutation}
+use Rattle.durable_cabinet.specs.Missed.{HasMissed}
 use Rattle.durable_cabinet.specs.Images.{HasIn, IsBeside, OpensTo, blob_on, blobs_start, slots_for}
 
 -- THE BLOBS of what is kept, as they stand on a disk
@@ -52,13 +53,15 @@ pub record IsRecordOf (s : State) (o : Opening) : Type 0 where
 abbrev pub IsHeldOn : Catalogue → DiskState → Kept → Type 0
 IsHeldOn c disk t = HoldsBlob (blobs_start c) t.place (bytes_at disk.seen (blobs_start c + t.place) t.length) disk
 
--- what an undecided record would have made of the cabinet; the cabinet itself where there is none
+-- what an undecided record would have made of the cabinet; the cabinet itself where there is none. It says what the cabinet is, or it is the record of the
+-- last command, which the disk failed at.
 pub record IsBesideOn (s : State) (j : Journal) (disk : DiskState) : Type 0 where
   pub beside : State
   pub known : IsKnown beside
   pub is_beside : IsBeside s beside
   pub recorded : IsRecordOf beside (unsure j disk)
   pub holds : AllByRecursion (IsHeldOn s.catalogue disk) (now beside).kept
+  pub missed : IsRecordOf s (unsure j disk) ⊎ HasMissed (on_disk true disk.seen s) (on_disk true disk.seen beside)
 
 pub record IsKeptOn (s : State) (j : Journal) (disk : DiskState) : Type 0 where
   pub sound : IsSound j disk

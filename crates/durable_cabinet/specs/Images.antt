@@ -19,6 +19,7 @@ use Rattle.raster_field.specs.Blocks.{block_text}
 use Rattle.record_text.specs.declared.entries.Record.{Record}
 use Rattle.truncation_list.specs.declared.cover.Cover.{Cover}
 use Rattle.truncation_list.specs.Books.{AnswersForBook}
+use Rattle.durable_cabinet.specs.Missed.{HasMissed}
 
 -- how many slots a half of the journal has
 abbrev pub slots_for : Catalogue → ℕ
@@ -84,12 +85,13 @@ pub record IsBeside (s u : State) : Type 0 where
   pub kept : IsOneRecordOn s.catalogue (now s).kept (now u).kept
   pub answers : AnswersForBook (now u).book (now s).book
 
--- an image has the undecided record of a command that failed, and each region of what that record would have kept holds in the image what
--- a read of the disk gives there
+-- an image has the undecided record of the last command, which the disk failed at: it opens to exactly what that command would have led to, with the
+-- blobs of that, and each region of what is kept then holds in the image what a read of the disk gives there
 pub record HasUndecided (s : State) (j : Journal) (disk : DiskState) (image : Content) : Type 0 where
   pub unsure_is : opens_to j image ≡ unsure j disk
   pub beside : State
   pub is_beside : IsBeside s beside
+  pub missed : HasMissed s beside
   pub restores : Restores beside image
   pub has : AllByRecursion (λ t. HasIn s.catalogue image (blob_on s.catalogue disk.seen t)) (now beside).kept
 

@@ -7,4 +7,5 @@ pub mod Drafts
 pub mod Openings
 pub mod Tiles
 pub mod Alike
+pub mod Missed
 pub mod Hot

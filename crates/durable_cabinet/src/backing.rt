@@ -57,9 +57,9 @@ pub(crate) fn enter<D: Disk>(
     requires fits { Fits entry.now }
     ensures told { D.told file.new.disk ≡ D.told file.old.disk }
     ensures settled { OnOk result (IsSettled file.new.journal) }
-    ensures enters { (u : State) → Leads core.now.state u entry.now
+    ensures enters { (missed u : State) → Leads core.now.state missed u entry.now
         → (IsTrue (D.told file.old.disk) → AllByRecursion (IsHeldOn core.now.state.catalogue (D.state file.old.disk)) (now u).kept)
-        → Enters result (D.told file.old.disk) core.now.state u file.new.start file.new.journal (D.state file.old.disk) (D.state file.new.disk) }
+        → Enters result (D.told file.old.disk) core.now.state missed u file.new.start file.new.journal (D.state file.old.disk) (D.state file.new.disk) }
     ensures cause { HasCause (D.faults file.old.disk) (D.faults file.new.disk) result }
 {
     core.known();
@@ -79,8 +79,8 @@ pub(crate) fn write<D: Disk>(
     ensures told { D.told file.new.disk ≡ D.told file.old.disk }
     ensures room { draft.new.room ≡ draft.old.room }
     ensures settled { OnOk result (IsSettled file.new.journal) }
-    ensures writes { (u : State) → Leads core.now.state u entry.now → AreRegionsOf core.now.state u
-        → Writes result (D.told file.old.disk) core.now.state u file.new.start file.old.journal file.new.journal (D.state file.old.disk) (D.state file.new.disk) }
+    ensures writes { (missed u : State) → Leads core.now.state missed u entry.now → AreRegionsOf core.now.state u
+        → Writes result (D.told file.old.disk) core.now.state missed u file.new.start file.old.journal file.new.journal (D.state file.old.disk) (D.state file.new.disk) }
     ensures cause { HasCause (D.faults file.old.disk) (D.faults file.new.disk) result }
 {
     match ready(core, file, draft) {
@@ -105,8 +105,8 @@ pub(crate) fn keep<D: Disk>(
     ensures told { D.told file.new.disk ≡ D.told file.old.disk }
     ensures room { draft.new.room ≡ draft.old.room }
     ensures settled { OnOk result (IsSettled file.new.journal) }
-    ensures stores { Leads core.now.state (with_away core.now.state kept) (stored_record kept)
-        → Stores result (D.told file.old.disk) core.now.state kept blob.now file.new.start file.old.journal file.new.journal (D.state file.old.disk) (D.state file.new.disk) }
+    ensures stores { (missed : State) → Leads core.now.state missed (with_away core.now.state kept) (stored_record kept)
+        → Stores result (D.told file.old.disk) core.now.state missed kept blob.now file.new.start file.old.journal file.new.journal (D.state file.old.disk) (D.state file.new.disk) }
     ensures cause { HasCause (D.faults file.old.disk) (D.faults file.new.disk) result }
 {
     core.known();

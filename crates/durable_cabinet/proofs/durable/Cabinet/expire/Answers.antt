@@ -21,8 +21,8 @@ invariant_of-self g c =
     let s = i.core.state in
     let t = c.in-Some.kept in
     let n = c.write.new.file in
-    let leads = subst (Leads s (with_dropped s t.meta)) (sym c.dropped-entry.ensures.is) (drop_leads s c.known.ensures t c.in-Some.ensures) in
-    let w = c.in-Err.ensures.writes (with_dropped s t.meta) leads (drop_regions s c.known.ensures t c.in-Some.ensures) in (
+    let leads = subst (Leads s s (with_dropped s t.meta)) (sym c.dropped-entry.ensures.is) (drop_leads s c.known.ensures t c.in-Some.ensures) in
+    let w = c.in-Err.ensures.writes s (with_dropped s t.meta) leads (drop_regions s c.known.ensures t c.in-Some.ensures) in (
       subst (λ b. IsFiled s b n.start n.journal (g.D.Disk.state n.disk)) (sym c.write.ensures.told) w.written.err,
       omega (arith, c.self.invariant.1, c.write.ensures.room),
       hot_written (g.D.Disk.told i.file.disk) (g.D.Disk.told n.disk) s s (g.D.Disk.state i.file.disk).seen (g.D.Disk.state n.disk).seen i.hot c.write.ensures.told w.written.same (hot_itself s) c.self.invariant.2,
@@ -34,8 +34,8 @@ invariant_of-self-in-Ok g c =
     let s = i.core.state in
     let t = c.in-Some.kept in
     let n = c.write.new.file in
-    let leads = subst (Leads s (with_dropped s t.meta)) (sym c.dropped-entry.ensures.is) (drop_leads s c.known.ensures t c.in-Some.ensures) in
-    let w = c.in-Ok.ensures.writes (with_dropped s t.meta) leads (drop_regions s c.known.ensures t c.in-Some.ensures) in
+    let leads = subst (Leads s s (with_dropped s t.meta)) (sym c.dropped-entry.ensures.is) (drop_leads s c.known.ensures t c.in-Some.ensures) in
+    let w = c.in-Ok.ensures.writes s (with_dropped s t.meta) leads (drop_regions s c.known.ensures t c.in-Some.ensures) in
     subst (λ (x : State). IsFiled x (g.D.Disk.told n.disk) n.start n.journal (g.D.Disk.state n.disk) × HasRoom x c.write.new.draft × IsHot (g.D.Disk.told n.disk) x (g.D.Disk.state n.disk).seen i.hot) (sym c.drop_kept.ensures) (
       subst (λ b. IsFiled (with_dropped s t.meta) b n.start n.journal (g.D.Disk.state n.disk)) (sym c.write.ensures.told) w.written.ok,
       omega (arith, c.self.invariant.1, c.write.ensures.room, needed_dropped s t.meta),
@@ -51,8 +51,8 @@ returns-in-Err-clause-expires g c =
     let n = c.write.new.file in
     let old = g.D.Disk.state f.disk in
     let new = g.D.Disk.state n.disk in
-    let leads = subst (Leads s (with_dropped s t.meta)) (sym c.dropped-entry.ensures.is) (drop_leads s c.known.ensures t c.in-Some.ensures) in
-    let w = c.in-Err.ensures.writes (with_dropped s t.meta) leads (drop_regions s c.known.ensures t c.in-Some.ensures) in
+    let leads = subst (Leads s s (with_dropped s t.meta)) (sym c.dropped-entry.ensures.is) (drop_leads s c.known.ensures t c.in-Some.ensures) in
+    let w = c.in-Err.ensures.writes s (with_dropped s t.meta) leads (drop_regions s c.known.ensures t c.in-Some.ensures) in
     subst (λ v. Expires v.state (expired.DiskFault c.fault_count-before.result c.fault_count.result) (on_disk (g.D.Disk.told n.disk) new.seen s)) c.self.view_is
     (subst (λ b. Expires (on_disk (g.D.Disk.told f.disk) old.seen s) (expired.DiskFault c.fault_count-before.result c.fault_count.result) (on_disk b new.seen s)) (sym c.write.ensures.told)
     (fault_row_on (g.D.Disk.told f.disk) s t c.in-Some.ensures old new c.fault_count-before.result c.fault_count.result (search rules) w.written.same))
@@ -64,8 +64,8 @@ returns-in-Err-clause-images g c =
     let t = c.in-Some.kept in
     let f = i.file in
     let n = c.write.new.file in
-    let leads = subst (Leads s (with_dropped s t.meta)) (sym c.dropped-entry.ensures.is) (drop_leads s c.known.ensures t c.in-Some.ensures) in
-    let w = c.write.ensures.writes (with_dropped s t.meta) leads (drop_regions s c.known.ensures t c.in-Some.ensures) in
+    let leads = subst (Leads s s (with_dropped s t.meta)) (sym c.dropped-entry.ensures.is) (drop_leads s c.known.ensures t c.in-Some.ensures) in
+    let w = c.write.ensures.writes s (with_dropped s t.meta) leads (drop_regions s c.known.ensures t c.in-Some.ensures) in
     subst (λ v. IsTrue (g.D.Disk.told v.file.disk) → Lasts v.state (λ u. (m : MetaKey) × Expires v.state (expired.Dropped m) u) v.file.journal (g.D.Disk.state v.file.disk) (g.D.Disk.state n.disk)) c.self.view_is
     (drop_images (g.D.Disk.told f.disk) s t c.in-Some.ensures (g.D.Disk.state f.disk) (g.D.Disk.state n.disk) c.write.result n.start f.journal n.journal w)
 
@@ -78,8 +78,8 @@ returns-in-Ok-clause-expires g c =
     let n = c.write.new.file in
     let old = g.D.Disk.state f.disk in
     let new = g.D.Disk.state n.disk in
-    let leads = subst (Leads s (with_dropped s t.meta)) (sym c.dropped-entry.ensures.is) (drop_leads s c.known.ensures t c.in-Some.ensures) in
-    let w = c.in-Ok.ensures.writes (with_dropped s t.meta) leads (drop_regions s c.known.ensures t c.in-Some.ensures) in
+    let leads = subst (Leads s s (with_dropped s t.meta)) (sym c.dropped-entry.ensures.is) (drop_leads s c.known.ensures t c.in-Some.ensures) in
+    let w = c.in-Ok.ensures.writes s (with_dropped s t.meta) leads (drop_regions s c.known.ensures t c.in-Some.ensures) in
     subst (λ v. Expires v.state (expired.Dropped t.meta) (on_disk (g.D.Disk.told n.disk) new.seen c.drop_kept.new.self.state)) c.self.view_is
     (subst (λ (x : State). Expires (on_disk (g.D.Disk.told f.disk) old.seen s) (expired.Dropped t.meta) (on_disk (g.D.Disk.told n.disk) new.seen x)) (sym c.drop_kept.ensures)
     (subst (λ b. Expires (on_disk (g.D.Disk.told f.disk) old.seen s) (expired.Dropped t.meta) (on_disk b new.seen (with_dropped s t.meta))) (sym c.write.ensures.told)
@@ -92,7 +92,7 @@ returns-in-Ok-clause-images g c =
     let t = c.in-Some.kept in
     let f = i.file in
     let n = c.write.new.file in
-    let leads = subst (Leads s (with_dropped s t.meta)) (sym c.dropped-entry.ensures.is) (drop_leads s c.known.ensures t c.in-Some.ensures) in
-    let w = c.write.ensures.writes (with_dropped s t.meta) leads (drop_regions s c.known.ensures t c.in-Some.ensures) in
+    let leads = subst (Leads s s (with_dropped s t.meta)) (sym c.dropped-entry.ensures.is) (drop_leads s c.known.ensures t c.in-Some.ensures) in
+    let w = c.write.ensures.writes s (with_dropped s t.meta) leads (drop_regions s c.known.ensures t c.in-Some.ensures) in
     subst (λ v. IsTrue (g.D.Disk.told v.file.disk) → Lasts v.state (λ u. (m : MetaKey) × Expires v.state (expired.Dropped m) u) v.file.journal (g.D.Disk.state v.file.disk) (g.D.Disk.state n.disk)) c.self.view_is
     (drop_images (g.D.Disk.told f.disk) s t c.in-Some.ensures (g.D.Disk.state f.disk) (g.D.Disk.state n.disk) c.write.result n.start f.journal n.journal w)

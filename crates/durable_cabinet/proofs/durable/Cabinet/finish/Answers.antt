@@ -8,7 +8,7 @@ use Rattle.durable_cabinet.specs.Drafts.{HasRoom}
 use Rattle.durable_cabinet.specs.Filed.{IsFiled, on_disk}
 use Rattle.durable_cabinet.specs.Hot.{IsHot}
 use Rattle.durable_cabinet.specs.Images.{Lasts}
-use Rattle.durable_cabinet.proofs.Finishing.{fault_on_disk, finish_images, finish_leads, kept_on_disk, needed_kept}
+use Rattle.durable_cabinet.proofs.Finishing.{fault_on_disk, finish_images, finish_leads, kept_on_disk, needed_kept, unkept, unkept_is}
 use Rattle.durable_cabinet.proofs.Forcing.{abandons_alike, abandons_needed, filed_alike}
 use Rattle.durable_cabinet.proofs.Heating.{abandons_hot, hot_stays, hot_written, kept_hot}
 use Rattle.durable_cabinet.proofs.durable.Cabinet.finish.Goals as goal
@@ -56,8 +56,8 @@ invariant_of-self-in-Err g c =
     let leads = finish_leads s c.known.ensures t x c.in-Fits.ensures in
     let u = c.abandon-in-Err.new.self.state in
     let a = c.abandon-in-Err.ensures.abandons in
-    let w = c.in-Err.ensures.stores leads in (
-      filed_alike (g.D.Disk.told n.disk) s u n.start n.journal new (abandons_alike s u t a) (subst (λ b. IsFiled s b n.start n.journal new) (sym c.keep.ensures.told) w.err),
+    let w = c.in-Err.ensures.stores (unkept s c.known.ensures t x c.in-Fits.ensures) leads in (
+      subst (λ b. IsFiled u b n.start n.journal new) (sym c.keep.ensures.told) (subst (λ (y : State). IsFiled y told n.start n.journal new) (sym (unkept_is s c.known.ensures t x c.in-Fits.ensures u a)) w.err),
       omega (arith, c.self.invariant.1, c.keep.ensures.room, abandons_needed s u t a),
       hot_written told (g.D.Disk.told n.disk) s u old.seen new.seen i.hot c.keep.ensures.told w.same (abandons_hot s u t a) c.self.invariant.2,
     )
@@ -77,7 +77,7 @@ returns-in-Err-clause-finished g c =
     let long : length blob ≡ blob_size s.catalogue t.meta = subst (λ v. length blob ≡ blob_size v.state.catalogue t.meta) (sym c.self.view_is) c.requires.blob in
     let leads = finish_leads s c.known.ensures t x c.in-Fits.ensures in
     let u = c.abandon-in-Err.new.self.state in
-    let w = c.in-Err.ensures.stores leads in
+    let w = c.in-Err.ensures.stores (unkept s c.known.ensures t x c.in-Fits.ensures) leads in
     let fault = finished.DiskFault c.fault_count-before.result c.fault_count.result in
     subst (λ v. Finishes v.state t blob fault (on_disk (g.D.Disk.told n.disk) new.seen u)) c.self.view_is
     (subst (λ b. Finishes (on_disk told old.seen s) t blob fault (on_disk b new.seen u)) (sym c.keep.ensures.told)
@@ -97,7 +97,7 @@ returns-in-Err-clause-images g c =
     let blob : List ℕ = c.args.blob in
     let long : length blob ≡ blob_size s.catalogue t.meta = subst (λ v. length blob ≡ blob_size v.state.catalogue t.meta) (sym c.self.view_is) c.requires.blob in
     let leads = finish_leads s c.known.ensures t x c.in-Fits.ensures in
-    let w = subst (λ (b : List ℕ). Stores c.keep.result told s x b n.start f.journal n.journal old new) (search rules) (c.keep.ensures.stores leads) in
+    let w = subst (λ (b : List ℕ). Stores c.keep.result told s (unkept s c.known.ensures t x c.in-Fits.ensures) x b n.start f.journal n.journal old new) (search rules) (c.keep.ensures.stores (unkept s c.known.ensures t x c.in-Fits.ensures) leads) in
     subst (λ v. IsTrue (g.D.Disk.told v.file.disk) → Lasts v.state (λ u. Finishes v.state t blob finished.Kept u) v.file.journal (g.D.Disk.state v.file.disk) new) c.self.view_is
     (finish_images s c.known.ensures t x c.in-Fits.ensures told blob old new c.keep.result n.start f.journal n.journal long w)
 
@@ -115,7 +115,7 @@ invariant_of-self-in-Ok g c =
     let blob : List ℕ = c.args.blob in
     let long : length blob ≡ blob_size s.catalogue t.meta = subst (λ v. length blob ≡ blob_size v.state.catalogue t.meta) (sym c.self.view_is) c.requires.blob in
     let leads = finish_leads s c.known.ensures t x c.in-Fits.ensures in
-    let w = c.in-Ok.ensures.stores leads in
+    let w = c.in-Ok.ensures.stores (unkept s c.known.ensures t x c.in-Fits.ensures) leads in
     let is : c.keep-in-Ok.new.self.state ≡ with_away s x = c.keep-in-Ok.ensures ∙ ap (λ text. with_blob s x text) c.away.ensures in
     subst (λ (y : State). IsFiled y (g.D.Disk.told n.disk) n.start n.journal new × HasRoom y c.keep.new.draft × IsHot (g.D.Disk.told n.disk) y new.seen i.hot) (sym is) (
       subst (λ b. IsFiled (with_away s x) b n.start n.journal new) (sym c.keep.ensures.told) w.ok,
@@ -138,7 +138,7 @@ returns-clause-finished g c =
     let long : length blob ≡ blob_size s.catalogue t.meta = subst (λ v. length blob ≡ blob_size v.state.catalogue t.meta) (sym c.self.view_is) c.requires.blob in
     let leads = finish_leads s c.known.ensures t x c.in-Fits.ensures in
     let same : c.bytes.result.now ≡ blob = search rules in
-    let w = subst (λ (b : List ℕ). Stores (Ok c.in-Ok.field-0) told s x b n.start f.journal n.journal old new) same (c.in-Ok.ensures.stores leads) in
+    let w = subst (λ (b : List ℕ). Stores (Ok c.in-Ok.field-0) told s (unkept s c.known.ensures t x c.in-Fits.ensures) x b n.start f.journal n.journal old new) same (c.in-Ok.ensures.stores (unkept s c.known.ensures t x c.in-Fits.ensures) leads) in
     let is : c.keep-in-Ok.new.self.state ≡ with_away s x = c.keep-in-Ok.ensures ∙ ap (λ text. with_blob s x text) c.away.ensures in
     subst (λ v. Finishes v.state t blob finished.Kept (on_disk (g.D.Disk.told n.disk) new.seen c.keep-in-Ok.new.self.state)) c.self.view_is
     (subst (λ (y : State). Finishes (on_disk told old.seen s) t blob finished.Kept (on_disk (g.D.Disk.told n.disk) new.seen y)) (sym is)
@@ -159,6 +159,6 @@ returns-clause-images g c =
     let blob : List ℕ = c.args.blob in
     let long : length blob ≡ blob_size s.catalogue t.meta = subst (λ v. length blob ≡ blob_size v.state.catalogue t.meta) (sym c.self.view_is) c.requires.blob in
     let leads = finish_leads s c.known.ensures t x c.in-Fits.ensures in
-    let w = subst (λ (b : List ℕ). Stores c.keep.result told s x b n.start f.journal n.journal old new) (search rules) (c.keep.ensures.stores leads) in
+    let w = subst (λ (b : List ℕ). Stores c.keep.result told s (unkept s c.known.ensures t x c.in-Fits.ensures) x b n.start f.journal n.journal old new) (search rules) (c.keep.ensures.stores (unkept s c.known.ensures t x c.in-Fits.ensures) leads) in
     subst (λ v. IsTrue (g.D.Disk.told v.file.disk) → Lasts v.state (λ u. Finishes v.state t blob finished.Kept u) v.file.journal (g.D.Disk.state v.file.disk) new) c.self.view_is
     (finish_images s c.known.ensures t x c.in-Fits.ensures told blob old new c.keep.result n.start f.journal n.journal long w)

@@ -2,6 +2,7 @@ use Rattle.std.proofs.Common.{◌⊎◌, IsTrue, subst}
 use Rattle.cabinet.specs.State.{IsSound}
 use Rattle.disk_model.specs.Images.{Every}
 use Rattle.gate_journal.specs.Sound.{IsSettled}
+use Rattle.durable_cabinet.specs.Missed.{IsPicture}
 use Rattle.durable_cabinet.specs.Images.{HasUndecided, IsLeft, IsOurs, IsSoundImage, Restores}
 use Rattle.durable_cabinet.proofs.Imaging.{images_all_sound, images_left, images_ours, images_settled, images_sound}
 use Rattle.durable_cabinet.proofs.durable.Cabinet.images.Goals as goal
@@ -31,7 +32,8 @@ pub returns-clause-sound : goal.returns-clause-sound
 returns-clause-sound g c =
     let i = c.self.inside in
     let f = i.file in
-    subst (λ v. IsTrue (g.D.Disk.told v.file.disk) → IsSound v.state → Every (g.D.Disk.state v.file.disk).may_leave (λ image. IsSoundImage v.state.catalogue image ⊎ HasUndecided v.state v.file.journal (g.D.Disk.state v.file.disk) image)) c.self.view_is
+    subst (λ v. IsTrue (g.D.Disk.told v.file.disk) → IsSound v.state → Every (g.D.Disk.state v.file.disk).may_leave (λ image. IsSoundImage v.state.catalogue image
+    ⊎ ((u : HasUndecided v.state v.file.journal (g.D.Disk.state v.file.disk) image) × (IsPicture u.missed.from u.beside u.missed.missed u.missed.misses → IsSoundImage v.state.catalogue image)))) c.self.view_is
     (images_sound (g.D.Disk.told f.disk) i.core.state c.known.ensures f.start f.journal (g.D.Disk.state f.disk) f.behind c.self.invariant.0)
 
 pub returns-clause-all_sound : goal.returns-clause-all_sound

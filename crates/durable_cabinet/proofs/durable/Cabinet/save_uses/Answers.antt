@@ -23,8 +23,8 @@ invariant_of-self g c =
     let t = c.in-Some.found in
     let m = t.kept.meta in
     let n = c.write.new.file in
-    let leads = subst (Leads s (with_counted s m (uses s.history m))) (sym c.used-entry.ensures.is) (save_leads s c.known.ensures t c.in-Some.ensures) in
-    let w = c.in-Err.ensures.writes (with_counted s m (uses s.history m)) leads (save_regions s c.known.ensures t c.in-Some.ensures) in (
+    let leads = subst (Leads s s (with_counted s m (uses s.history m))) (sym c.used-entry.ensures.is) (save_leads s c.known.ensures t c.in-Some.ensures) in
+    let w = c.in-Err.ensures.writes s (with_counted s m (uses s.history m)) leads (save_regions s c.known.ensures t c.in-Some.ensures) in (
       subst (λ b. IsFiled s b n.start n.journal (g.D.Disk.state n.disk)) (sym c.write.ensures.told) w.written.err,
       omega (arith, c.self.invariant.1, c.write.ensures.room),
       hot_written (g.D.Disk.told i.file.disk) (g.D.Disk.told n.disk) s s (g.D.Disk.state i.file.disk).seen (g.D.Disk.state n.disk).seen i.hot c.write.ensures.told w.written.same (hot_itself s) c.self.invariant.2,
@@ -37,8 +37,8 @@ invariant_of-self-in-Ok g c =
     let t = c.in-Some.found in
     let m = t.kept.meta in
     let n = c.write.new.file in
-    let leads = subst (Leads s (with_counted s m (uses s.history m))) (sym c.used-entry.ensures.is) (save_leads s c.known.ensures t c.in-Some.ensures) in
-    let w = c.in-Ok.ensures.writes (with_counted s m (uses s.history m)) leads (save_regions s c.known.ensures t c.in-Some.ensures) in
+    let leads = subst (Leads s s (with_counted s m (uses s.history m))) (sym c.used-entry.ensures.is) (save_leads s c.known.ensures t c.in-Some.ensures) in
+    let w = c.in-Ok.ensures.writes s (with_counted s m (uses s.history m)) leads (save_regions s c.known.ensures t c.in-Some.ensures) in
     subst (λ (x : State). IsFiled x (g.D.Disk.told n.disk) n.start n.journal (g.D.Disk.state n.disk) × HasRoom x c.write.new.draft × IsHot (g.D.Disk.told n.disk) x (g.D.Disk.state n.disk).seen i.hot) (sym c.save.ensures) (
       subst (λ b. IsFiled (with_counted s m (uses s.history m)) b n.start n.journal (g.D.Disk.state n.disk)) (sym c.write.ensures.told) w.written.ok,
       omega (arith, c.self.invariant.1, c.write.ensures.room, needed_counted s m (uses s.history m)),
@@ -55,8 +55,8 @@ returns-in-Err-clause-saves g c =
     let n = c.write.new.file in
     let old = g.D.Disk.state f.disk in
     let new = g.D.Disk.state n.disk in
-    let leads = subst (Leads s (with_counted s m (uses s.history m))) (sym c.used-entry.ensures.is) (save_leads s c.known.ensures t c.in-Some.ensures) in
-    let w = c.in-Err.ensures.writes (with_counted s m (uses s.history m)) leads (save_regions s c.known.ensures t c.in-Some.ensures) in
+    let leads = subst (Leads s s (with_counted s m (uses s.history m))) (sym c.used-entry.ensures.is) (save_leads s c.known.ensures t c.in-Some.ensures) in
+    let w = c.in-Err.ensures.writes s (with_counted s m (uses s.history m)) leads (save_regions s c.known.ensures t c.in-Some.ensures) in
     subst (λ v. Saves v.state (saved.DiskFault c.fault_count-before.result c.fault_count.result) (on_disk (g.D.Disk.told n.disk) new.seen s)) c.self.view_is
     (subst (λ b. Saves (on_disk (g.D.Disk.told f.disk) old.seen s) (saved.DiskFault c.fault_count-before.result c.fault_count.result) (on_disk b new.seen s)) (sym c.write.ensures.told)
     (fault_row_on (g.D.Disk.told f.disk) s t c.in-Some.ensures old new c.fault_count-before.result c.fault_count.result (search rules) w.written.same))
@@ -69,8 +69,8 @@ returns-in-Err-clause-images g c =
     let m = t.kept.meta in
     let f = i.file in
     let n = c.write.new.file in
-    let leads = subst (Leads s (with_counted s m (uses s.history m))) (sym c.used-entry.ensures.is) (save_leads s c.known.ensures t c.in-Some.ensures) in
-    let w = c.write.ensures.writes (with_counted s m (uses s.history m)) leads (save_regions s c.known.ensures t c.in-Some.ensures) in
+    let leads = subst (Leads s s (with_counted s m (uses s.history m))) (sym c.used-entry.ensures.is) (save_leads s c.known.ensures t c.in-Some.ensures) in
+    let w = c.write.ensures.writes s (with_counted s m (uses s.history m)) leads (save_regions s c.known.ensures t c.in-Some.ensures) in
     subst (λ v. IsTrue (g.D.Disk.told v.file.disk) → Lasts v.state (λ u. (k : MetaKey) × Saves v.state (saved.Done k) u) v.file.journal (g.D.Disk.state v.file.disk) (g.D.Disk.state n.disk)) c.self.view_is
     (save_images (g.D.Disk.told f.disk) s t c.in-Some.ensures (g.D.Disk.state f.disk) (g.D.Disk.state n.disk) c.write.result n.start f.journal n.journal w)
 
@@ -84,8 +84,8 @@ returns-in-Ok-clause-saves g c =
     let n = c.write.new.file in
     let old = g.D.Disk.state f.disk in
     let new = g.D.Disk.state n.disk in
-    let leads = subst (Leads s (with_counted s m (uses s.history m))) (sym c.used-entry.ensures.is) (save_leads s c.known.ensures t c.in-Some.ensures) in
-    let w = c.in-Ok.ensures.writes (with_counted s m (uses s.history m)) leads (save_regions s c.known.ensures t c.in-Some.ensures) in
+    let leads = subst (Leads s s (with_counted s m (uses s.history m))) (sym c.used-entry.ensures.is) (save_leads s c.known.ensures t c.in-Some.ensures) in
+    let w = c.in-Ok.ensures.writes s (with_counted s m (uses s.history m)) leads (save_regions s c.known.ensures t c.in-Some.ensures) in
     subst (λ v. Saves v.state (saved.Done m) (on_disk (g.D.Disk.told n.disk) new.seen c.save.new.self.state)) c.self.view_is
     (subst (λ (x : State). Saves (on_disk (g.D.Disk.told f.disk) old.seen s) (saved.Done m) (on_disk (g.D.Disk.told n.disk) new.seen x)) (sym c.save.ensures)
     (subst (λ b. Saves (on_disk (g.D.Disk.told f.disk) old.seen s) (saved.Done m) (on_disk b new.seen (with_counted s m (uses s.history m)))) (sym c.write.ensures.told)
@@ -99,8 +99,8 @@ returns-in-Ok-clause-images g c =
     let m = t.kept.meta in
     let f = i.file in
     let n = c.write.new.file in
-    let leads = subst (Leads s (with_counted s m (uses s.history m))) (sym c.used-entry.ensures.is) (save_leads s c.known.ensures t c.in-Some.ensures) in
-    let w = c.write.ensures.writes (with_counted s m (uses s.history m)) leads (save_regions s c.known.ensures t c.in-Some.ensures) in
+    let leads = subst (Leads s s (with_counted s m (uses s.history m))) (sym c.used-entry.ensures.is) (save_leads s c.known.ensures t c.in-Some.ensures) in
+    let w = c.write.ensures.writes s (with_counted s m (uses s.history m)) leads (save_regions s c.known.ensures t c.in-Some.ensures) in
     subst (λ v. IsTrue (g.D.Disk.told v.file.disk) → Lasts v.state (λ u. (k : MetaKey) × Saves v.state (saved.Done k) u) v.file.journal (g.D.Disk.state v.file.disk) (g.D.Disk.state n.disk)) c.self.view_is
     (save_images (g.D.Disk.told f.disk) s t c.in-Some.ensures (g.D.Disk.state f.disk) (g.D.Disk.state n.disk) c.write.result n.start f.journal n.journal w)
 
