@@ -71,6 +71,7 @@ pub fn closed<'a, D: Disk, L: Loan>(cabinet: Cabinet<LentDisk<'a, D, L>>) -> &'a
     ensures same { result.now ≡ cabinet.entry.file.disk.disk.now }
     ensures closed { IsClosed (D.told result.now) cabinet.entry.file.journal (D.state result.now) cabinet.entry.state }
 {
+    cabinet.known();
     cabinet.images();
     cabinet.take_apart().disk.into_disk()
 }
