@@ -1,0 +1,4 @@
+pub mod Applies
+pub mod Ends
+pub mod Files
+pub mod Marks
