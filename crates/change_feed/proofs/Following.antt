@@ -44,3 +44,11 @@ single mark body above is = (mark, (is, above), refl)
 pub readied_ends : (room : ℕ) (before : Opening) (bodies : List (List ℕ)) (mark : Option Mark) → EndsAt mark before → LeadsTo None bodies mark → EndsAt mark (readied room before bodies)
 readied_ends zero before bodies mark ends leads = leads
 readied_ends (suc room) before bodies mark ends leads = ends
+
+-- what is one as an option is one
+abbrev or_mark : Mark → Option Mark → Mark
+or_mark m None = m
+or_mark m (Some n) = n
+
+pub some_mark : (m n : Mark) → Some m ≡ Some n → m ≡ n
+some_mark m n is = ap (or_mark m) is

@@ -2,3 +2,4 @@ pub mod Applies
 pub mod Ends
 pub mod Files
 pub mod Marks
+pub mod Runs

@@ -14,6 +14,7 @@ mod applying;
 mod bodies;
 pub mod change;
 pub mod feed;
+pub mod laws;
 pub mod mark;
 mod marking;
 pub mod opening;
