@@ -50,11 +50,7 @@ impl<D: Disk> Feed<D> {
     /// A refusal hands the disk back: `NotACache` and `CatalogueDiffers` exactly where the disk opens so; `BadRecord`, with the slot of
     /// the first record that isn't a mark above the one before it, exactly where there is one; `DiskFault` only where the disk's count
     /// of faults rose; `OutOfMemory` where memory runs out; never `Spent`. The disk is only read and synced.
-    pub fn open(
-        alloc: Global,
-        catalogue: &Catalogue,
-        marks: D,
-    ) -> Result<Feed<D>, (OpenFault, D)>
+    pub fn open(alloc: Global, catalogue: &Catalogue, marks: D) -> Result<Feed<D>, (OpenFault, D)>
         requires ours { IsTrue (D.told marks) → IsMarksFile catalogue.now.digest (D.state marks).seen }
         ensures told { D.told (marks_of result) ≡ D.told marks }
         ensures opened { IfOk result (λ f. IsTrue (D.told marks) → EndsIn catalogue.now.digest f.stand.mark (D.state marks).seen) }

@@ -13,7 +13,7 @@ returns-in-Ok-found-clause-opened g c is =
     let f = c.in-Ok.file in
     let told = g.D.Disk.told c.args.marks in
     let opens =
-        opens_to_marks told c.args.catalogue.now.digest (g.D.Disk.state c.args.marks) (g.D.Disk.state f.disk) c.new-reader.result c.open.new.visit f.journal c.new-reader.ensures c.in-Ok.ensures.opened c.in-Ok-found.mark c.in-Ok-found.ensures is
+    opens_to_marks told c.args.catalogue.now.digest (g.D.Disk.state c.args.marks) (g.D.Disk.state f.disk) c.new-reader.result c.open.new.visit f.journal c.new-reader.ensures c.in-Ok.ensures.opened c.in-Ok-found.mark c.in-Ok-found.ensures is
     in
     record { opens = opens; whole = c.requires.ours is c.in-Ok-found.mark opens }
 
