@@ -1,0 +1,5 @@
+pub mod Ending
+pub mod Going
+pub mod Opened
+pub mod Reached
+pub mod ShortNumbers

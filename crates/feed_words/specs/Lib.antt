@@ -1,0 +1,8 @@
+pub mod Ends
+pub mod Fed
+pub mod OneLine
+pub mod Orders
+pub mod Run
+pub mod Statuses
+pub mod Texts
+pub mod Words

@@ -1,0 +1,162 @@
+//! The changes of an input, made on an opened cabinet with the marks of a disk.
+ghost use Rattle.std.specs.Prelude.{◌≡◌, ◌≤◌, IfErr, IfOk, IsTrue, None};
+ghost use Rattle.cache_core.specs.Lasting.{Lasting};
+ghost use Rattle.catalog.specs.Valid.{IsValid};
+ghost use Rattle.change_feed.specs.Files.{EndsIn, IsMarksFile, IsRefusedAs, MayEndIn};
+ghost use Rattle.disk_model.specs.Content.{Same};
+ghost use Rattle.disk_model.specs.Images.{ChangesBy, Every};
+ghost use Rattle.gate_journal.specs.Sound.{digest_of};
+ghost use Rattle.kept_cache.specs.Change.{DiskChange, OutputChange};
+ghost use Rattle.tile_service.specs.Outside.{InputChange, counts};
+ghost use Rattle.feed_words.specs.Ends.{FeedsOn};
+ghost use Rattle.feed_words.specs.Fed.{RunsInput, end_of_lines};
+
+use crate::lines::{LinesEnd, run_lines};
+use cabinet::keeper::Keeper;
+use cache_core::laws::laws_of_lasting;
+use catalog::catalogue::Catalogue;
+use change_feed::feed::Feed;
+use disk_model::disk::Disk;
+use gate_journal::fault::OpenFault;
+use http_wire::inputs::{InputEnd, read_all};
+use http_wire::streams::{ByteSink, ByteSource};
+use kept_cache::end::KeptEnd;
+use kept_cache::lent::{LentDisk, Loan};
+use kept_cache::opened::end_of_refusal;
+use std::alloc::Global;
+use std::marker::Brand;
+
+/// The most bytes of the changes of an input.
+const FEED_LIMIT: usize = 16_777_216;
+
+/// The end of a feed whose lines ended so.
+fn end_of_lines(end: LinesEnd) -> KeptEnd
+    ensures { result ≡ end_of_lines end }
+{
+    match end {
+        LinesEnd::Done => KeptEnd::Done,
+        LinesEnd::Line(n) => KeptEnd::Line(n),
+        LinesEnd::WriteFault => KeptEnd::WriteFault,
+        LinesEnd::OutOfMemory => KeptEnd::OutOfMemory,
+    }
+}
+
+/// Reads the input whole, and makes the changes of its lines.
+fn run_input<C: Keeper, D: Disk, I: ByteSource, O: ByteSink>(
+    alloc: Global,
+    feed: &mut Feed<D>,
+    cabinet: &mut C,
+    input: &mut I,
+    output: &mut O,
+) -> KeptEnd
+    requires { IsValid (C.state cabinet.old).catalogue }
+    ensures runs { RunsInput
+        (record { reads = counts (I.faults input.old) (I.faults input.new); from = I.left input.old; to = I.left input.new })
+        (record { writes = counts (O.faults output.old) (O.faults output.new); from = O.taken output.old; to = O.taken output.new })
+        (output.new ≡ output.old) (D.told feed.old.file.disk) (digest_of feed.old.file.journal) (D.state feed.old.file.disk) (D.state feed.new.file.disk)
+        (record { stand = feed.old.stand; faults = D.faults feed.old.file.disk; cabinet = C.state cabinet.old; cabinet_faults = C.faults cabinet.old })
+        (record { stand = feed.new.stand; faults = D.faults feed.new.file.disk; cabinet = C.state cabinet.new; cabinet_faults = C.faults cabinet.new }) result }
+    ensures told { D.told feed.new.file.disk ≡ D.told feed.old.file.disk }
+    ensures digest { digest_of feed.new.file.journal ≡ digest_of feed.old.file.journal }
+    ensures lasts { Lasting (C.outlasts cabinet.old cabinet.new) (C.state cabinet.old) (C.state cabinet.new) }
+{
+    laws_of_lasting::<C>();
+    match read_all(alloc, input, FEED_LIMIT) {
+        Ok(text) => end_of_lines(run_lines(alloc, feed, cabinet, output, text.as_slice())),
+        Err(InputEnd::ReadFault) => KeptEnd::ReadFault,
+        Err(InputEnd::TooLong) => KeptEnd::TooLong,
+        Err(InputEnd::OutOfMemory) => KeptEnd::OutOfMemory,
+    }
+}
+
+/// Opens the feed of marks that are lent. A refusal hands the loan back.
+fn opened_marks<'m, D: Disk, L: Loan>(
+    alloc: Global,
+    catalogue: &Catalogue,
+    marks: &'m mut D,
+) -> Result<Feed<LentDisk<'m, D, L>>, (OpenFault, &'m mut D)>
+    requires loan { marks.ghost_name ≡ L.disk }
+    requires ours { IsTrue (D.told marks.now) → IsMarksFile catalogue.now.digest (D.state marks.now).seen }
+    ensures opened { IfOk result (λ f. IsTrue (D.told marks.entry.now) → EndsIn catalogue.now.digest f.stand.mark (D.state marks.entry.now).seen) }
+    ensures sure { IfOk result (λ f. f.stand.undecided ≡ None) }
+    ensures digest { IfOk result (λ f. digest_of f.file.journal ≡ catalogue.now.digest) }
+    ensures quiet { IfOk result (λ f. IsTrue (D.told marks.entry.now) → ChangesBy Same (D.state marks.entry.now) (D.state f.file.disk.disk.now)) }
+    ensures told { IfOk result (λ f. D.told f.file.disk.disk.now ≡ D.told marks.entry.now) }
+    ensures later { IfOk result (λ f. D.faults marks.entry.now ≤ D.faults f.file.disk.disk.now) }
+    ensures refused { IfErr result (λ r. IsRefusedAs (D.told marks.entry.now) catalogue.now.digest (D.state marks.entry.now).seen (D.faults marks.entry.now) (D.faults r.1.now) r.0) }
+    ensures refused_quiet { IfErr result (λ r. IsTrue (D.told marks.entry.now) → ChangesBy Same (D.state marks.entry.now) (D.state r.1.now)) }
+    ensures refused_told { IfErr result (λ r. D.told r.1.now ≡ D.told marks.entry.now) }
+    ensures refused_loan { IfErr result (λ r. r.1.ghost_name ≡ L.disk) }
+{
+    match Feed::open(alloc, catalogue, LentDisk::<D, L>::new(marks)) {
+        Ok(feed) => Ok(feed),
+        Err(refusal) => {
+            let (fault, lent) = refusal;
+            Err((fault, lent.into_disk()))
+        }
+    }
+}
+
+/// Closes the feed of marks that are lent, and hands the loan back.
+fn closed_marks<'m, D: Disk, L: Loan>(feed: Feed<LentDisk<'m, D, L>>) -> &'m mut D
+    ensures loan { result.ghost_name ≡ L.disk }
+    ensures same { result.now ≡ feed.entry.file.disk.disk.now }
+    ensures left { IsTrue (D.told result.now) → Every (D.state result.now).may_leave (MayEndIn (digest_of feed.entry.file.journal) feed.entry.stand) }
+{
+    feed.images();
+    feed.close().into_disk()
+}
+
+/// Makes the changes of the input with marks that are lent, which are handed back.
+fn feed_over<'m, C: Keeper, D: Disk, I: ByteSource, O: ByteSink, L: Loan>(
+    alloc: Global,
+    cabinet: &mut C,
+    marks: &'m mut D,
+    input: &mut I,
+    output: &mut O,
+) -> (&'m mut D, KeptEnd)
+    requires valid { IsValid (C.state cabinet.old).catalogue }
+    requires loan { marks.ghost_name ≡ L.disk }
+    requires ours { IsTrue (D.told marks.now) → IsMarksFile (C.state cabinet.old).catalogue.digest (D.state marks.now).seen }
+    ensures feeds { FeedsOn (C.state cabinet.old).catalogue (counts (C.faults cabinet.old) (C.faults cabinet.new))
+        (record { reads = counts (I.faults input.old) (I.faults input.new); from = I.left input.old; to = I.left input.new })
+        (record { writes = counts (O.faults output.old) (O.faults output.new); from = O.taken output.old; to = O.taken output.new })
+        (record { told = D.told marks.entry.now; faults = counts (D.faults marks.entry.now) (D.faults result.0.now); from = D.state marks.entry.now; to = D.state result.0.now })
+        (input.new ≡ input.old) (output.new ≡ output.old) (C.state cabinet.old) (C.state cabinet.new) result.1 }
+    ensures lasts { Lasting (C.outlasts cabinet.old cabinet.new) (C.state cabinet.old) (C.state cabinet.new) }
+    ensures told { D.told result.0.now ≡ D.told marks.entry.now }
+    ensures loan { result.0.ghost_name ≡ L.disk }
+{
+    laws_of_lasting::<C>();
+    match opened_marks::<D, L>(alloc, cabinet.catalogue(), marks) {
+        Ok(mut feed) => {
+            let end = run_input(alloc, &mut feed, cabinet, input, output);
+            (closed_marks(feed), end)
+        }
+        Err(refusal) => {
+            let (fault, marks) = refusal;
+            (marks, end_of_refusal(fault))
+        }
+    }
+}
+
+/// Opens the feed of the marks, makes the changes of the input on the cabinet, and closes the feed.
+pub(crate) fn feed_on<C: Keeper, D: Disk, I: ByteSource, O: ByteSink>(
+    alloc: Global,
+    cabinet: &mut C,
+    marks: &mut D,
+    input: &mut I,
+    output: &mut O,
+) -> KeptEnd
+    requires valid { IsValid (C.state cabinet.old).catalogue }
+    requires ours { IsTrue (D.told marks.old) → IsMarksFile (C.state cabinet.old).catalogue.digest (D.state marks.old).seen }
+    ensures feeds { FeedsOn (C.state cabinet.old).catalogue (counts (C.faults cabinet.old) (C.faults cabinet.new))
+        (record { reads = counts (I.faults input.old) (I.faults input.new); from = I.left input.old; to = I.left input.new })
+        (record { writes = counts (O.faults output.old) (O.faults output.new); from = O.taken output.old; to = O.taken output.new })
+        (record { told = D.told marks.old; faults = counts (D.faults marks.old) (D.faults marks.new); from = D.state marks.old; to = D.state marks.new })
+        (input.new ≡ input.old) (output.new ≡ output.old) (C.state cabinet.old) (C.state cabinet.new) result }
+    ensures lasts { Lasting (C.outlasts cabinet.old cabinet.new) (C.state cabinet.old) (C.state cabinet.new) }
+    ensures told { D.told marks.new ≡ D.told marks.old }
+{
+    feed_over::<C, D, I, O, Brand>(alloc, cabinet, marks, input, output).1
+}

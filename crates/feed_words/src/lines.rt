@@ -1,0 +1,65 @@
+//! The lines of a feed, one after the other.
+ghost use Rattle.std.specs.Prelude.{◌≡◌, ◌<◌, ◌^◌, length};
+ghost use Rattle.cache_core.specs.Lasting.{Lasting};
+ghost use Rattle.catalog.specs.Valid.{IsValid};
+ghost use Rattle.gate_journal.specs.Sound.{digest_of};
+ghost use Rattle.kept_cache.specs.Change.{OutputChange};
+ghost use Rattle.tile_service.specs.Outside.{counts};
+ghost use Rattle.feed_words.specs.Fed.{HasRunLines};
+
+use crate::line::{LineEnd, run_line};
+use crate::split::split_line;
+use cabinet::keeper::Keeper;
+use cache_core::laws::laws_of_lasting;
+use change_feed::feed::Feed;
+use disk_model::disk::Disk;
+use http_wire::streams::ByteSink;
+use std::alloc::Global;
+
+/// How the lines of a feed ended.
+#[derive(Clone, Copy, PartialEq, Eq)]
+pub enum LinesEnd {
+    /// Each line was answered.
+    Done,
+    /// This line orders no change, counted from 1; the lines before it were answered.
+    Line(u64),
+    /// A write of an answer failed; no later change was made.
+    WriteFault,
+    /// Memory ran out; no later change was made.
+    OutOfMemory,
+}
+
+/// Makes the changes that the lines of a text order, one after the other, and tells what became of each.
+pub(crate) fn run_lines<C: Keeper, D: Disk, O: ByteSink>(
+    alloc: Global,
+    feed: &mut Feed<D>,
+    cabinet: &mut C,
+    output: &mut O,
+    text: &[u8],
+) -> LinesEnd
+    requires valid { IsValid (C.state cabinet.old).catalogue }
+    requires short { length text.now < 2 ^ 32 }
+    ensures runs { HasRunLines (D.told feed.old.file.disk) (digest_of feed.old.file.journal) (D.state feed.old.file.disk) (D.state feed.new.file.disk)
+        (record { writes = counts (O.faults output.old) (O.faults output.new); from = O.taken output.old; to = O.taken output.new }) text.now
+        (record { stand = feed.old.stand; faults = D.faults feed.old.file.disk; cabinet = C.state cabinet.old; cabinet_faults = C.faults cabinet.old })
+        (record { stand = feed.new.stand; faults = D.faults feed.new.file.disk; cabinet = C.state cabinet.new; cabinet_faults = C.faults cabinet.new }) result }
+    ensures told { D.told feed.new.file.disk ≡ D.told feed.old.file.disk }
+    ensures digest { digest_of feed.new.file.journal ≡ digest_of feed.old.file.journal }
+    ensures lasts { Lasting (C.outlasts cabinet.old cabinet.new) (C.state cabinet.old) (C.state cabinet.new) }
+{
+    laws_of_lasting::<C>();
+    let mut rest = text;
+    let mut lines = 0;
+    while !rest.is_empty() {
+        let (line, next) = split_line(rest);
+        lines += 1;
+        match run_line(alloc, feed, cabinet, output, line) {
+            LineEnd::Told => {}
+            LineEnd::Refused => return LinesEnd::Line(lines),
+            LineEnd::WriteFault => return LinesEnd::WriteFault,
+            LineEnd::OutOfMemory => return LinesEnd::OutOfMemory,
+        }
+        rest = next;
+    }
+    LinesEnd::Done
+}
