@@ -1,10 +1,12 @@
 //! The program `tile_server`, a cache of map tiles: it hands the words, files and streams of the process to `run_command`
-//! of tile_command, and tells how that ended; at `serve` it hands them to `run_server` of tile_serving, with a listening socket.
+//! of tile_command, and tells how that ended; at `serve` it hands them to `run_server` of tile_serving, with a listening socket, and at
+//! `feed` to `run_feed` of feed_words.
 //!
 //! Promises: none that a clause says; this is the trusted edge. What the command does is promised there.
-//! Stands on tile_command and tile_serving, and on the crates whose files, streams and socket it opens.
+//! Stands on tile_command, tile_serving and feed_words, and on the crates whose files, streams and socket it opens.
 #![tactic(auto)]
 
+mod feed;
 mod serve;
 
 use clock::clock::Clock;
@@ -41,6 +43,8 @@ tile_server job < JOB                runs a seed, a reseed or a truncation, and 
 tile_server usage                    writes what is kept, layer by layer, and how many truncations are in force
 tile_server serve --port PORT --connections COUNT
                                      serves so many connections at that port over TCP on that cache, and keeps its quotas
+tile_server feed make                makes an empty list of the changes that were made on the cache
+tile_server feed < CHANGES           makes each numbered truncation once on the cache, and writes what became of each
 tile_server --help                   writes this text
 tile_server --version                writes the version
 
@@ -49,6 +53,7 @@ It works with these files of the folder in which it is run:
   capabilities.xml   the capabilities document that GetCapabilities answers; where it is absent, one of no bytes
   source.grid        the cells of which pictures are made; where it is absent, the pictures of a formula
   cache.disk         the cache; `make` makes it, and one program at a time may work on it
+  cache.marks        which change of the feed was made last; `feed make` makes it
 
 It ends with a code, and all but the first are told by a line on standard error:
    0  done                                    8  not a cache, catalogue differs KEPT ASKED,
@@ -78,6 +83,9 @@ const CELLS: &str = "source.grid";
 
 /// The cache, a file of that folder.
 const CACHE: &str = "cache.disk";
+
+/// Which change of a feed was made last on the cache, a file of that folder.
+const MARKS: &str = "cache.marks";
 
 /// The most bytes of the catalogue that the command takes at a time.
 const PIECE: usize = 4_096;
@@ -143,6 +151,9 @@ fn main(rt: HostRuntime) -> ExitCode {
     if let [word, rest @ ..] = words.as_slice() {
         if word.bytes() == b"serve".as_slice() {
             return serve::serve(&rt, rest, Clock::system(rt));
+        }
+        if word.bytes() == b"feed".as_slice() {
+            return feed::feed(rt, words.as_slice());
         }
     }
     let Ok(
