@@ -1,15 +1,12 @@
-//! A feed of the demo catalogue: its calls on their happy path, its refusals, and many changes.
+//! A feed of the demo catalogue: its calls on their happy path, and many changes.
 use cabinet::cabinet::Cabinet;
 use cabinet::keeper::Keeper;
-use cabinet::replies::CutReply;
 use catalog::catalogue::Catalogue;
-use change_feed::applied::{Applied, Judged};
+use change_feed::applied::Applied;
 use change_feed::change::Change;
 use change_feed::feed::Feed;
-use change_feed::mark::Mark;
 use clock::clock::Clock;
 use disk_model::pick::Pick;
-use gate_journal::fault::OpenFault;
 use matrix_geometry::theme::Filter;
 use served_covers::of_catalogue::is_cover_of;
 use silent_disk::SilentDisk;
@@ -31,10 +28,10 @@ const ALL: Cover = Cover {
 };
 
 /// A feed with its marks on a disk of which contracts know the count of faults alone.
-pub type OnDisk = Feed<SilentDisk>;
+type OnDisk = Feed<SilentDisk>;
 
 /// The bytes of a file of marks with no mark.
-pub fn made(alloc: Global) -> Result<Vec<u8>, Fail> {
+fn made(alloc: Global) -> Result<Vec<u8>, Fail> {
     let mut disk = SilentDisk::new(alloc, Vec::new(alloc), Vec::new(alloc));
     if Feed::make(&Catalogue::demo(alloc)?, &mut disk).is_err() {
         return Err(Fail::from("the marks are not made"));
@@ -43,7 +40,7 @@ pub fn made(alloc: Global) -> Result<Vec<u8>, Fail> {
 }
 
 /// A feed that is opened from a disk, or the disk where it is refused.
-pub fn opened(alloc: Global, disk: SilentDisk) -> Result<Result<OnDisk, SilentDisk>, AllocError> {
+fn opened(alloc: Global, disk: SilentDisk) -> Result<Result<OnDisk, SilentDisk>, AllocError> {
     let catalogue = Catalogue::demo(alloc)?;
     match Feed::open(alloc, &catalogue, disk) {
         Ok(feed) => Ok(Ok(feed)),
@@ -55,12 +52,12 @@ pub fn opened(alloc: Global, disk: SilentDisk) -> Result<Result<OnDisk, SilentDi
 }
 
 /// A disk with these bytes.
-pub fn disk_of(alloc: Global, bytes: Vec<u8>) -> SilentDisk {
+fn disk_of(alloc: Global, bytes: Vec<u8>) -> SilentDisk {
     SilentDisk::new(alloc, bytes, Vec::new(alloc))
 }
 
 /// What becomes of the change of this number, of all zooms of the demo layer; `None` where the cabinet has another catalogue.
-pub fn fed<C: Keeper>(
+fn fed<C: Keeper>(
     alloc: Global,
     feed: &mut OnDisk,
     cabinet: &mut C,
@@ -78,7 +75,7 @@ pub fn fed<C: Keeper>(
 }
 
 /// Whether the change of this number is done.
-pub fn is_done<C: Keeper>(
+fn is_done<C: Keeper>(
     alloc: Global,
     feed: &mut OnDisk,
     cabinet: &mut C,
@@ -88,7 +85,7 @@ pub fn is_done<C: Keeper>(
 }
 
 /// The last change and its cut that an image of the marks opens to; `None` where it isn't opened.
-pub fn last_in(alloc: Global, image: Vec<u8>) -> Result<Option<(u64, u64)>, AllocError> {
+fn last_in(alloc: Global, image: Vec<u8>) -> Result<Option<(u64, u64)>, AllocError> {
     match opened(alloc, disk_of(alloc, image))? {
         Err(disk) => {
             drop(disk);
@@ -144,50 +141,8 @@ fn a_change_is_made_once_and_in_order(rt: HostRuntime) -> Result<(), Fail> {
     Ok(())
 }
 
-/// The change of this number in steps: judged, the marks made ready, cut and marked.
-fn is_made_in_steps<C: Keeper>(
-    alloc: Global,
-    feed: &mut OnDisk,
-    cabinet: &mut C,
-    number: u64,
-) -> Result<bool, AllocError> {
-    match feed.judge(number) {
-        Judged::Next => match feed.ready() {
-            Ok(()) => {
-                cabinet.known();
-                if !is_cover_of(cabinet.catalogue(), &ALL) {
-                    return Ok(false);
-                }
-                match cabinet.cut(alloc, &ALL)? {
-                    CutReply::Done(cut) => Ok(feed.mark(Mark { number, cut }).is_ok()),
-                    CutReply::Full | CutReply::Spent | CutReply::DiskFault(_, _) => Ok(false),
-                }
-            }
-            Err(_) => Ok(false),
-        },
-        Judged::Repeated => Ok(false),
-        Judged::Gap(_) => Ok(false),
-    }
-}
-
-#[test]
-fn a_change_is_made_in_steps(rt: HostRuntime) -> Result<(), Fail> {
-    let alloc = rt.alloc();
-    let empty = made(alloc)?;
-    let Ok(mut feed) = opened(alloc, disk_of(alloc, empty))? else {
-        return Err(Fail::from("the marks are not opened"));
-    };
-    let mut cabinet = in_memory(alloc)?;
-    let first = is_made_in_steps(alloc, &mut feed, &mut cabinet, 1)?;
-    let again = is_made_in_steps(alloc, &mut feed, &mut cabinet, 1)?;
-    let second = is_made_in_steps(alloc, &mut feed, &mut cabinet, 2)?;
-    assert!(rt; first && !again && second);
-    assert!(rt; last_in(alloc, feed.close().left(alloc, Pick::Old)?)? == Some((2, 2)));
-    Ok(())
-}
-
 /// Whether so many changes are done one after the other, from this number on.
-pub fn are_done<C: Keeper>(
+fn are_done<C: Keeper>(
     alloc: Global,
     feed: &mut OnDisk,
     cabinet: &mut C,
@@ -203,7 +158,7 @@ pub fn are_done<C: Keeper>(
 }
 
 /// The bytes of marks of so many changes.
-pub fn marked(alloc: Global, count: u64) -> Result<Vec<u8>, Fail> {
+fn marked(alloc: Global, count: u64) -> Result<Vec<u8>, Fail> {
     let empty = made(alloc)?;
     let Ok(mut feed) = opened(alloc, disk_of(alloc, empty))? else {
         return Err(Fail::from("the marks are not opened"));
@@ -226,46 +181,5 @@ fn the_last_mark_stays_where_the_marks_are_compacted(rt: HostRuntime) -> Result<
         assert!(rt; image.len() == 8320);
         assert!(rt; last_in(alloc, image)? == Some((count, count)));
     }
-    Ok(())
-}
-
-/// Why marks with these bytes are refused; `None` where they are opened.
-fn refusal(alloc: Global, bytes: Vec<u8>) -> Result<Option<OpenFault>, AllocError> {
-    let catalogue = Catalogue::demo(alloc)?;
-    match Feed::open(alloc, &catalogue, disk_of(alloc, bytes)) {
-        Ok(feed) => {
-            drop(feed);
-            Ok(None)
-        }
-        Err(refusal) => {
-            let (fault, disk) = refusal;
-            drop(disk);
-            Ok(Some(fault))
-        }
-    }
-}
-
-/// These bytes with another one at a place.
-fn with_byte(bytes: &[u8], at: usize, byte: u8, alloc: Global) -> Result<Vec<u8>, AllocError> {
-    let mut changed = Vec::from_slice(alloc, bytes)?;
-    if let Some(place) = changed.get_mut(at) {
-        *place = byte;
-    }
-    Ok(changed)
-}
-
-#[test]
-fn bytes_that_are_no_marks_are_refused(rt: HostRuntime) -> Result<(), Fail> {
-    let alloc = rt.alloc();
-    let two = marked(alloc, 2)?;
-    let bytes = two.as_slice();
-    assert!(rt; refusal(alloc, Vec::new(alloc))? == Some(OpenFault::NotACache));
-    // the number of the second mark, that of the first, the last byte of the second, and a gate behind a closed one
-    assert!(rt; refusal(alloc, with_byte(bytes, 199, 1, alloc)?)? == Some(OpenFault::BadRecord(1)));
-    assert!(rt; refusal(alloc, with_byte(bytes, 135, 0, alloc)?)? == Some(OpenFault::BadRecord(0)));
-    assert!(rt; refusal(alloc, with_byte(bytes, 254, 1, alloc)?)? == Some(OpenFault::BadRecord(1)));
-    assert!(rt; refusal(alloc, with_byte(bytes, 383, 1, alloc)?)? == Some(OpenFault::NotACache));
-    let other = refusal(alloc, with_byte(bytes, 16, bytes[16] ^ 1, alloc)?)?;
-    assert!(rt; matches!(other, Some(OpenFault::CatalogueDiffers(_, _))));
     Ok(())
 }
