@@ -5,26 +5,20 @@ use Rattle.std.specs.Option.{option_to_list}
 use Rattle.std.proofs.lemmas.List.{append_assoc, take-append-drop, take-take, drop-take, drop-drop, drop-append-le, length-take-le, length-set, length_push, get_or_push}
 use Rattle.std.proofs.lemmas.List.Edits.{length-insert}
 use Rattle.extent_map.specs.declared.part.Part.{Part}
-use Rattle.extent_map.specs.Chunks.{all_parts, chunk_at, parts_before, parts_behind, IsDivided, IsLastFree}
+use Rattle.extent_map.specs.Chunks.{all_parts, chunk_at, parts_before, parts_behind, IsDivided, IsUsed}
 use Rattle.extent_map.proofs.InChunks.{all_with_free}
+use Rattle.extent_map.proofs.Used.{none_last}
 
 -- THE FREE CHUNK
 
-pub popped : (old pss : List (List Part)) (last : Option (List Part)) (fresh : List Part) → old ≡ pss ++ option_to_list last → last ≡ Some fresh → IsLastFree old → (fresh ≡ []) × (old ≡ pss ++ [] ∷ [])
-popped old pss last fresh items is free =
+pub popped : (old pss : List (List Part)) (last : Option (List Part)) (fresh : List Part) (used : ℕ) → old ≡ pss ++ option_to_list last → last ≡ Some fresh → used < length old → IsUsed old used → (fresh ≡ []) × (old ≡ pss ++ [] ∷ [])
+popped old pss last fresh used items is free first =
     let whole : old ≡ pss ++ fresh ∷ [] = items ∙ ap (λ (o : Option (List Part)). pss ++ option_to_list o) is in
     let long : length old ≡ length pss + 1 = ap length whole ∙ length_push pss fresh in
     let place : length pss ≡ length old - 1 = omega arith in
     let read : get_or old (length old - 1) [] ≡ fresh = ap (λ (qss : List (List Part)). get_or qss (length old - 1) []) whole ∙ get_or_push pss fresh [] (length old - 1) place in
-    let none : fresh ≡ [] = sym read ∙ free.free [] in
+    let none : fresh ≡ [] = sym read ∙ none_last old used [] free first.none in
     (none, whole ∙ ap (λ (f : List Part). pss ++ f ∷ []) none)
-
--- a chunk with parts is not the free one
-pub known_apart : (pss : List (List Part)) (chunk : ℕ) → 1 ≤ length (chunk_at (pss ++ [] ∷ []) chunk) → chunk < length pss
-known_apart [] zero h = absurd (omega arith)
-known_apart [] (suc chunk) h = absurd (omega arith)
-known_apart (ps ∷ pss) zero h = omega arith
-known_apart (ps ∷ pss) (suc chunk) h = let k = known_apart pss chunk h in omega arith
 
 -- ONE CHUNK DIVIDED
 

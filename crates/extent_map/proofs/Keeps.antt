@@ -1,12 +1,13 @@
 -- A space before and after a part is taken or given back.
-use Rattle.std.proofs.Common.{◌≡◌, ℕ, suc, ◌+◌, ◌-◌, ◌*◌, ◌/◌, ◌<◌, ◌≤◌, List, ◌∷◌, ◌++◌, length, get_or, ap, subst, sym, ◌∙◌, arith, length-append}
+use Rattle.std.proofs.Common.{◌≡◌, ℕ, suc, ◌+◌, ◌-◌, ◌*◌, ◌/◌, ◌<◌, ◌≤◌, List, ◌∷◌, ◌++◌, length, get_or, take, ap, subst, sym, ◌∙◌, arith, length-append}
 use Rattle.extent_map.specs.declared.part.Part.{Part}
 use Rattle.extent_map.specs.Parts.{LieInOrder, inserted}
 use Rattle.extent_map.specs.Spaces.{IsFree}
-use Rattle.extent_map.specs.Chunks.{all_parts, chunk_at, parts_before, parts_behind, FitsAt}
+use Rattle.extent_map.specs.Chunks.{all_parts, chunk_at, parts_before, parts_behind, FitsAt, IsUsed}
 use Rattle.extent_map.specs.Kept.{IsKept}
 use Rattle.extent_map.proofs.Order.{inserted_is}
 use Rattle.extent_map.proofs.Search.{fits_free}
+use Rattle.extent_map.proofs.Used.{fits_first}
 use Rattle.extent_map.proofs.InChunks.{around, behind_more, entered_order, taken_order}
 
 -- the chunks made ready, and then a part entered at a spot of them
@@ -17,6 +18,18 @@ pub record IsEntered (old ready new : List (List Part)) (size chunk index : ℕ)
   pub some : 1 ≤ p.length
   pub parts : all_parts new ≡ parts_before ready chunk index ++ p ∷ parts_behind ready chunk index
   pub len : length new ≡ length ready
+
+-- where the spot was found among the first chunks, which are all that may have parts
+pub entered_first : (old ready first new : List (List Part)) (size used chunk index : ℕ) (p : Part) → all_parts ready ≡ all_parts old → length ready ≡ length old → first ≡ take used ready → IsUsed ready used
+    → FitsAt first size chunk index p → 1 ≤ p.length → all_parts new ≡ parts_before ready chunk index ++ p ∷ parts_behind ready chunk index → length new ≡ length ready → IsEntered old ready new size chunk index p
+entered_first old ready first new size used chunk index p same same_len is all fits some parts len = record {
+  same = same;
+  same_len = same_len;
+  fits = fits_first ready first size used chunk index p is all.none fits;
+  some = some;
+  parts = parts;
+  len = len;
+}
 
 module _ (old ready new : List (List Part)) (size chunk index : ℕ) (p : Part) (e : IsEntered old ready new size chunk index p) where
   parted : all_parts old ≡ parts_before ready chunk index ++ parts_behind ready chunk index
@@ -35,8 +48,8 @@ module _ (old ready new : List (List Part)) (size chunk index : ℕ) (p : Part) 
   pub entered_is : all_parts new ≡ inserted p (all_parts old)
   entered_is = e.parts ∙ sym (inserted_is 0 (parts_before ready chunk index) (parts_behind ready chunk index) p size order) ∙ ap (inserted p) (sym parted)
 
-  pub entered_kept : (taken room : ℕ) → IsKept old size taken room → taken < room → IsKept new size (taken + 1) room
-  entered_kept taken room k spare =
+  pub entered_kept : (taken room was used : ℕ) → IsKept old size taken room was → taken < room → IsUsed new used → IsKept new size (taken + 1) room used
+  entered_kept taken room was used k spare first =
       let before = length-append (parts_before ready chunk index) (parts_behind ready chunk index) in
       let after = length-append (parts_before ready chunk index) (p ∷ parts_behind ready chunk index) in
       let old_long = ap (λ (ps : List Part). length ps) parted in
@@ -47,6 +60,7 @@ module _ (old ready new : List (List Part)) (size chunk index : ℕ) (p : Part) 
         counted = omega arith;
         within = omega arith;
         enough = subst (λ n. room ≤ n / 2 * 1024) (sym (e.len ∙ e.same_len)) k.enough;
+        first = first;
       }
 
 -- a part that stands at a spot taken out
@@ -77,12 +91,13 @@ module _ (old new : List (List Part)) (size chunk index : ℕ) (p : Part) (e : I
       let new_long = ap (λ (ps : List Part). length ps) e.parts in
       omega arith
 
-  pub left_kept : (taken room : ℕ) → IsKept old size taken room → IsKept new size (taken - 1) room
-  left_kept taken room k =
+  pub left_kept : (taken room used : ℕ) → IsKept old size taken room used → IsUsed new used → IsKept new size (taken - 1) room used
+  left_kept taken room used k first =
       let counted = k.counted in let within = k.within in let fewer = left_fewer in
       record {
         ordered = left_ordered k.ordered;
         counted = omega arith;
         within = omega arith;
         enough = subst (λ n. room ≤ n / 2 * 1024) (sym e.len) k.enough;
+        first = first;
       }

@@ -8,3 +8,5 @@ pub mod Divided
 pub mod Spots
 pub mod Keeps
 pub mod Without
+pub mod WithPart
+pub mod Used

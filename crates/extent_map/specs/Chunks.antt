@@ -46,10 +46,11 @@ AreCrowded [] = Unit {0}
 AreCrowded (ps ∷ []) = Unit {0}
 AreCrowded (ps ∷ qs ∷ pss) = (chunk_room < length ps + length qs) × AreCrowded (qs ∷ pss)
 
--- the last chunk is there, and has no part
-pub record IsLastFree (pss : List (List Part)) : Type 0 where
-  pub some : 0 < length pss
-  pub free : (d : List Part) → slice_index_or pss (length pss - 1) d ≡ []
+-- the first so many chunks, at least one, are all that may have parts
+pub record IsUsed (pss : List (List Part)) (used : ℕ) : Type 0 where
+  pub some : 1 ≤ used
+  pub within : 1 < used → used ≤ length pss
+  pub none : all_parts (drop used pss) ≡ []
 
 -- the parts of a chunk from an index on have come into a chunk of their own behind it
 pub record IsDivided (old : List (List Part)) (chunk kept : ℕ) (new : List (List Part)) : Type 0 where

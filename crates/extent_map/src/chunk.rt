@@ -1,5 +1,5 @@
 //! A chunk: a short list of parts in memory of its own, with a summary of its holes.
-ghost use Rattle.std.specs.Prelude.{◌≡◌, ◌+◌, ◌<◌, ◌≤◌, [], ◌++◌, IfSome, IfNone, IfOk, insert, remove, length, take};
+ghost use Rattle.std.specs.Prelude.{◌≡◌, ◌+◌, ◌<◌, ◌≤◌, [], ◌++◌, IfSome, IfNone, IfOk, insert, remove, length, take, vec_len, vec_capacity};
 ghost use Rattle.extent_map.specs.Parts.{LieInOrder};
 ghost use Rattle.extent_map.specs.Holes.{first_start, last_end, FitsBeforeNone, IsGap};
 ghost use Rattle.extent_map.specs.Chunks.{chunk_room};
@@ -31,6 +31,16 @@ impl Model for Chunk {
     ghost view = { λ c. c.parts.items };
 
     ghost invariant = { λ c. (chunk_room ≤ vec_capacity c.parts) × (length c.parts.items ≤ chunk_room) × IsSummed c.parts.items c.summary.start c.summary.end c.summary.widest };
+}
+
+/// Puts a part before the one at an index, with no memory taken.
+fn insert_within(parts: &mut Vec<Part>, index: usize, part: Part)
+    requires room { vec_len parts.old < vec_capacity parts.old }
+    requires within { index ≤ length parts.old.items }
+    ensures items { parts.new.items ≡ insert parts.old.items index part }
+    ensures capacity { vec_capacity parts.old ≤ vec_capacity parts.new }
+{
+    let _ = parts.insert(index, part);
 }
 
 impl Chunk {
@@ -98,8 +108,30 @@ impl Chunk {
         requires ordered { LieInOrder 0 (insert self.old index part) size }
         ensures { self.new ≡ insert self.old index part }
     {
-        let _ = self.parts.insert(index, part);
+        insert_within(&mut self.parts, index, part);
+        let all = self.parts.as_slice();
+        // No hole between two of them is new but the two beside the part.
+        let before = hole_before(all, size, index);
+        let behind = hole_before(all, size, index + 1);
+        self.summary = Summary {
+            start: start_behind(all, 0, 0),
+            end: end_before(all, size, all.len()),
+            widest: larger(self.summary.widest, larger(before, behind)),
+        };
+    }
+
+    /// Whether so many bytes may fit in a hole between two of its parts. Where its summary says so, it is made anew: a part that
+    /// was entered since may fill that hole.
+    pub fn refresh(&mut self, size: u64, bytes: u32) -> bool
+        requires ordered { LieInOrder 0 self.old size }
+        ensures { self.new ≡ self.old }
+    {
+        let bytes = u64::from(bytes);
+        if self.summary.widest < bytes {
+            return false;
+        }
         self.summary = summary_of(self.parts.as_slice(), size);
+        bytes <= self.summary.widest
     }
 
     /// Takes out the part at an index.

@@ -1,5 +1,5 @@
 //! The search among chunks that lie in order, one behind the other. Chunks with no part may stand among them.
-ghost use Rattle.std.specs.Prelude.{◌≡◌, ◌+◌, ◌<◌, ◌≤◌, [], Contains, IfSome, IfNone, IsFalse, IsTrue, ℕ, length, slice_index_or, suc};
+ghost use Rattle.std.specs.Prelude.{◌≡◌, ◌+◌, ◌<◌, ◌≤◌, [], Contains, IfSome, IfNone, IsFalse, IsTrue, ℕ, length, slice_index_or, suc, take};
 ghost use Rattle.extent_map.specs.Parts.{part_at, LieInOrder};
 ghost use Rattle.extent_map.specs.Spaces.{IsFree, NoneFree, NoneFreeBelow};
 ghost use Rattle.extent_map.specs.Holes.{last_end, FitsBeforeNone, IsFirstHole};
@@ -8,6 +8,14 @@ ghost use Rattle.extent_map.specs.Chunks.{all_parts, chunk_at, chunk_room, parts
 use crate::chunk::{Chunk, ROOM};
 use crate::holes::{fits, hole_at, index_of};
 use crate::part::{Found, Hole, Part, Spot};
+
+/// The first so many chunks.
+pub fn first_of(chunks: &[Chunk], used: usize) -> &[Chunk]
+    requires within { used ≤ length chunks.now }
+    ensures { result.now ≡ take used chunks.now }
+{
+    &chunks[..used]
+}
 
 /// The number of the last chunk that has a part; 0 where none has.
 fn last_used(chunks: &[Chunk]) -> usize

@@ -1,7 +1,7 @@
 //! Changes of the chunks. None of them takes memory, but for `grow`.
-ghost use Rattle.std.specs.Prelude.{◌≡◌, ◌+◌, ◌*◌, ◌/◌, ◌<◌, ◌≤◌, ◌++◌, ◌∷◌, [], OnOk, IsTrue, insert, length, suc, vec_len, vec_capacity};
+ghost use Rattle.std.specs.Prelude.{◌≡◌, ◌+◌, ◌*◌, ◌/◌, ◌<◌, ◌≤◌, ◌++◌, ◌∷◌, ◌-◌, [], OnOk, ℕ, insert, length, suc, vec_len, vec_capacity};
 ghost use Rattle.extent_map.specs.Parts.{LieInOrder};
-ghost use Rattle.extent_map.specs.Chunks.{all_parts, chunk_at, chunk_room, parts_before, parts_behind, FitsAt, IsDivided, IsLastFree, IsSpot};
+ghost use Rattle.extent_map.specs.Chunks.{all_parts, chunk_at, chunk_room, parts_before, parts_behind, FitsAt, IsDivided, IsSpot, IsUsed};
 
 use crate::chunk::{Chunk, ROOM};
 use crate::chunks::loose_pair;
@@ -13,12 +13,31 @@ pub fn grow(chunks: &mut Vec<Chunk>, alloc: Global, count: usize) -> Result<(), 
     ensures parts { all_parts chunks.new.items ≡ all_parts chunks.old.items }
     ensures more { length chunks.old.items ≤ length chunks.new.items }
     ensures enough { OnOk result (count ≤ length chunks.new.items) }
+    ensures first { (used : ℕ) → IsUsed chunks.old.items used → IsUsed chunks.new.items used }
 {
     'growing: for _count in chunks.len()..count {
         let chunk = Chunk::new(alloc)?;
         chunks.push(chunk)?;
     }
     Ok(())
+}
+
+/// Makes anew the summaries of the first so many chunks that say that so many bytes may fit, up to the first of which it is still
+/// true. So a search for so many bytes goes through the parts of no other chunk.
+pub fn refresh(chunks: &mut Vec<Chunk>, size: u64, used: usize, bytes: u32)
+    requires ordered { LieInOrder 0 (all_parts chunks.old.items) size }
+    ensures { chunks.new.items ≡ chunks.old.items }
+{
+    let mut chunk = 0;
+    while chunk < chunks.len() {
+        if chunk == used {
+            return;
+        }
+        if chunks[chunk].refresh(size, bytes) {
+            return;
+        }
+        chunk += 1;
+    }
 }
 
 /// Puts a chunk before the one at an index, with no memory taken.
@@ -38,14 +57,6 @@ fn stand_behind(chunks: &mut Vec<Chunk>, chunk: Chunk)
     let _ = chunks.push(chunk);
 }
 
-/// Whether the last chunk has no part.
-fn is_last_free(chunks: &[Chunk]) -> bool
-    requires some { 0 < length chunks.now }
-    ensures { IsTrue result → IsLastFree chunks.now }
-{
-    chunks[chunks.len() - 1].len() == 0
-}
-
 /// Puts the parts of the next chunk behind those of a chunk, and that next chunk, now free, behind all others.
 fn merge(chunks: &mut Vec<Chunk>, size: u64, chunk: usize)
     requires ordered { LieInOrder 0 (all_parts chunks.old.items) size }
@@ -53,7 +64,7 @@ fn merge(chunks: &mut Vec<Chunk>, size: u64, chunk: usize)
     requires room { length (chunk_at chunks.old.items chunk) + length (chunk_at chunks.old.items (suc chunk)) ≤ chunk_room }
     ensures parts { all_parts chunks.new.items ≡ all_parts chunks.old.items }
     ensures len { length chunks.new.items ≡ length chunks.old.items }
-    ensures free { IsLastFree chunks.new.items }
+    ensures first { IsUsed chunks.new.items (length chunks.old.items - 1) }
 {
     let mut gone = chunks.remove(chunk + 1);
     chunks[chunk].append(size, gone.parts());
@@ -61,20 +72,25 @@ fn merge(chunks: &mut Vec<Chunk>, size: u64, chunk: usize)
     stand_behind(chunks, gone);
 }
 
-/// Sees to it that the last chunk has no part.
-pub fn prepare(chunks: &mut Vec<Chunk>, size: u64)
+/// Sees to it that the last chunk has no part, where the first so many are all that may have one, and tells how many these are then.
+pub fn prepare(chunks: &mut Vec<Chunk>, size: u64, used: usize) -> usize
     requires ordered { LieInOrder 0 (all_parts chunks.old.items) size }
+    requires first { IsUsed chunks.old.items used }
     requires spare { length (all_parts chunks.old.items) < length chunks.old.items / 2 * chunk_room }
     ensures parts { all_parts chunks.new.items ≡ all_parts chunks.old.items }
     ensures len { length chunks.new.items ≡ length chunks.old.items }
-    ensures free { IsLastFree chunks.new.items }
+    ensures first { IsUsed chunks.new.items result }
+    ensures free { result < length chunks.new.items }
 {
-    if is_last_free(chunks.as_slice()) {
-        return;
+    if used < chunks.len() {
+        return used;
     }
     match loose_pair(chunks.as_slice()) {
-        Some(chunk) => merge(chunks, size, chunk),
-        None => {}
+        Some(chunk) => {
+            merge(chunks, size, chunk);
+            chunks.len() - 1
+        }
+        None => used,
     }
 }
 
@@ -90,13 +106,15 @@ fn kept_of(index: usize) -> usize
 }
 
 /// Moves the parts of a chunk from an index on to the last chunk, which has none, and puts that one behind it.
-fn divide(chunks: &mut Vec<Chunk>, size: u64, chunk: usize, kept: usize)
+fn divide(chunks: &mut Vec<Chunk>, size: u64, used: usize, chunk: usize, kept: usize)
     requires ordered { LieInOrder 0 (all_parts chunks.old.items) size }
-    requires free { IsLastFree chunks.old.items }
-    requires some { 1 ≤ length (chunk_at chunks.old.items chunk) }
+    requires first { IsUsed chunks.old.items used }
+    requires free { used < length chunks.old.items }
+    requires known { chunk < used }
     requires most { length (chunk_at chunks.old.items chunk) ≤ chunk_room }
     requires within { kept ≤ length (chunk_at chunks.old.items chunk) }
     ensures divided { IsDivided chunks.old.items chunk kept chunks.new.items }
+    ensures first { IsUsed chunks.new.items (used + 1) }
 {
     let mut fresh = chunks.pop().unwrap();
     let (_, behind) = chunks[chunk].parts().split_at(kept);
@@ -106,9 +124,11 @@ fn divide(chunks: &mut Vec<Chunk>, size: u64, chunk: usize, kept: usize)
 }
 
 /// Divides a full chunk so that there is room at a spot of it, and tells where that spot is then.
-fn make_room(chunks: &mut Vec<Chunk>, size: u64, spot: Spot) -> Spot
+fn make_room(chunks: &mut Vec<Chunk>, size: u64, used: usize, spot: Spot) -> Spot
     requires ordered { LieInOrder 0 (all_parts chunks.old.items) size }
-    requires free { IsLastFree chunks.old.items }
+    requires first { IsUsed chunks.old.items used }
+    requires free { used < length chunks.old.items }
+    requires known { spot.chunk < used }
     requires full { length (chunk_at chunks.old.items spot.chunk) ≡ chunk_room }
     requires within { spot.index ≤ chunk_room }
     ensures spot { IsSpot chunks.new.items result.chunk result.index }
@@ -116,9 +136,11 @@ fn make_room(chunks: &mut Vec<Chunk>, size: u64, spot: Spot) -> Spot
     ensures before { parts_before chunks.new.items result.chunk result.index ≡ parts_before chunks.old.items spot.chunk spot.index }
     ensures behind { parts_behind chunks.new.items result.chunk result.index ≡ parts_behind chunks.old.items spot.chunk spot.index }
     ensures len { length chunks.new.items ≡ length chunks.old.items }
+    ensures first { IsUsed chunks.new.items (used + 1) }
+    ensures known { result.chunk < used + 1 }
 {
     let kept = kept_of(spot.index);
-    divide(chunks, size, spot.chunk, kept);
+    divide(chunks, size, used, spot.chunk, kept);
     if spot.index <= ROOM / 2 {
         return spot;
     }
@@ -135,23 +157,29 @@ fn put(chunks: &mut Vec<Chunk>, size: u64, spot: Spot, part: Part)
     requires room { length (chunk_at chunks.old.items spot.chunk) < chunk_room }
     ensures parts { all_parts chunks.new.items ≡ parts_before chunks.old.items spot.chunk spot.index ++ part ∷ parts_behind chunks.old.items spot.chunk spot.index }
     ensures len { length chunks.new.items ≡ length chunks.old.items }
+    ensures first { (used : ℕ) → spot.chunk < used → IsUsed chunks.old.items used → IsUsed chunks.new.items used }
 {
     chunks[spot.chunk].enter(size, spot.index, part);
 }
 
-/// Enters a part at a spot.
-pub fn enter(chunks: &mut Vec<Chunk>, size: u64, spot: Spot, part: Part)
+/// Enters a part at a spot of the first so many chunks, which are all that may have parts, and tells how many these are then.
+pub fn enter(chunks: &mut Vec<Chunk>, size: u64, used: usize, spot: Spot, part: Part) -> usize
     requires fits { FitsAt chunks.old.items size spot.chunk spot.index part }
     requires some { 1 ≤ part.length }
-    requires free { IsLastFree chunks.old.items }
+    requires first { IsUsed chunks.old.items used }
+    requires free { used < length chunks.old.items }
+    requires known { spot.chunk < used }
     ensures parts { all_parts chunks.new.items ≡ parts_before chunks.old.items spot.chunk spot.index ++ part ∷ parts_behind chunks.old.items spot.chunk spot.index }
     ensures len { length chunks.new.items ≡ length chunks.old.items }
+    ensures first { IsUsed chunks.new.items result }
 {
     if chunks[spot.chunk].len() < ROOM {
-        return put(chunks, size, spot, part);
+        put(chunks, size, spot, part);
+        return used;
     }
-    let apart = make_room(chunks, size, spot);
+    let apart = make_room(chunks, size, used, spot);
     put(chunks, size, apart, part);
+    used + 1
 }
 
 /// Takes out the part at a spot.
@@ -161,6 +189,7 @@ pub fn leave(chunks: &mut Vec<Chunk>, size: u64, spot: Spot)
     requires within { spot.index < length (chunk_at chunks.old.items spot.chunk) }
     ensures parts { all_parts chunks.new.items ≡ parts_before chunks.old.items spot.chunk spot.index ++ parts_behind chunks.old.items spot.chunk (suc spot.index) }
     ensures len { length chunks.new.items ≡ length chunks.old.items }
+    ensures first { (used : ℕ) → spot.chunk < used → IsUsed chunks.old.items used → IsUsed chunks.new.items used }
 {
     chunks[spot.chunk].leave(size, spot.index);
 }

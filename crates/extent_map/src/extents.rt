@@ -3,8 +3,8 @@ ghost use Rattle.std.specs.Prelude.{◌≡◌, ◌+◌, ◌^◌, ◌<◌, ◌≤
 ghost use Rattle.extent_map.specs.Parts.{part_at};
 
 use crate::chunk::{Chunk, ROOM};
-use crate::chunks::{free_spot, lowest_hole, spot_of};
-use crate::edits::{enter, grow, leave, prepare};
+use crate::chunks::{first_of, free_spot, lowest_hole, spot_of};
+use crate::edits::{enter, grow, leave, prepare, refresh};
 use crate::part::Part;
 use std::alloc::{AllocError, Global};
 use std::marker::Model;
@@ -33,6 +33,8 @@ pub struct Extents {
     taken: usize,
     /// How many parts can be taken in all with no more memory.
     room: usize,
+    /// How many chunks there are, counted from the first, beyond which none has a part: the searches go through these alone.
+    used: usize,
 }
 
 impl Model for Extents {
@@ -46,7 +48,7 @@ impl Model for Extents {
 
     ghost view = { λ e. record { parts = all_parts e.chunks.items; size = e.size; spare = e.room - e.taken } };
 
-    ghost invariant = { λ e. IsKept e.chunks.items e.size e.taken e.room };
+    ghost invariant = { λ e. IsKept e.chunks.items e.size e.taken e.room e.used };
 }
 
 impl Extents {
@@ -62,6 +64,7 @@ impl Extents {
             size,
             taken: 0,
             room: 0,
+            used: 1,
         })
     }
 
@@ -102,12 +105,15 @@ impl Extents {
         ensures unchanged { IfNone result (self.new ≡ self.old) }
         ensures sound { IsSound self.new }
     {
-        prepare(&mut self.chunks, self.size);
-        let found = lowest_hole(self.chunks.as_slice(), self.size, length)?;
+        refresh(&mut self.chunks, self.size, self.used, length);
+        self.used = prepare(&mut self.chunks, self.size, self.used);
+        let first = first_of(self.chunks.as_slice(), self.used);
+        let found = lowest_hole(first, self.size, length)?;
         let place = found.place;
-        enter(
+        self.used = enter(
             &mut self.chunks,
             self.size,
+            self.used,
             found.spot,
             Part { place, length },
         );
@@ -124,7 +130,8 @@ impl Extents {
         ensures lowest { IfSome result (λ place. NoneFreeBelow self.now.parts self.now.size length place) }
         ensures none { IfNone result (NoneFree self.now.parts self.now.size length) }
     {
-        match lowest_hole(self.chunks.as_slice(), self.size, length) {
+        let first = first_of(self.chunks.as_slice(), self.used);
+        match lowest_hole(first, self.size, length) {
             None => None,
             Some(found) => Some(found.place),
         }
@@ -136,7 +143,8 @@ impl Extents {
         ensures given { IsTaken self.new (part_at place length) self.old }
         ensures sound { IsSound self.new }
     {
-        let spot = spot_of(self.chunks.as_slice(), self.size, Part { place, length });
+        let first = first_of(self.chunks.as_slice(), self.used);
+        let spot = spot_of(first, self.size, Part { place, length });
         leave(&mut self.chunks, self.size, spot);
         self.taken -= 1;
     }
@@ -150,10 +158,12 @@ impl Extents {
         ensures unchanged { IsFalse result → self.new ≡ self.old }
         ensures sound { IsSound self.new }
     {
-        prepare(&mut self.chunks, self.size);
-        match free_spot(self.chunks.as_slice(), self.size, place, length) {
+        self.used = prepare(&mut self.chunks, self.size, self.used);
+        let first = first_of(self.chunks.as_slice(), self.used);
+        match free_spot(first, self.size, place, length) {
             Some(spot) => {
-                enter(&mut self.chunks, self.size, spot, Part { place, length });
+                let part = Part { place, length };
+                self.used = enter(&mut self.chunks, self.size, self.used, spot, part);
                 self.taken += 1;
                 true
             }

@@ -3,6 +3,7 @@ use Rattle.std.proofs.lemmas.List.{length_push}
 use Rattle.extent_map.specs.declared.part.Part.{Part}
 use Rattle.extent_map.specs.Chunks.{all_parts}
 use Rattle.extent_map.proofs.InChunks.{all_with_free}
+use Rattle.extent_map.proofs.Used.{used_pushed}
 use Rattle.extent_map.proofs.edits.grow.Goals as goal
 
 pub growing-preserved : goal.growing-preserved
@@ -14,4 +15,5 @@ growing-preserved c =
       ap all_parts items ∙ ap (λ (ps : List Part). all_parts (chunks ++ ps ∷ [])) c.in_ok-chunk.ensures ∙ all_with_free chunks ∙ c.growing.invariant.0,
       omega arith,
       omega arith,
+      λ used u. used_pushed chunks _ used (items ∙ ap (λ (ps : List Part). chunks ++ ps ∷ []) c.in_ok-chunk.ensures) (c.growing.invariant.3 used u),
     )

@@ -4,6 +4,7 @@ use Rattle.extent_map.specs.declared.part.Part.{Part}
 use Rattle.extent_map.specs.Parts.{LieInOrder}
 use Rattle.extent_map.specs.Chunks.{all_parts}
 use Rattle.extent_map.proofs.InChunks.{entered_order, entered_parts, written_order}
+use Rattle.extent_map.proofs.Used.{used_set}
 use Rattle.extent_map.proofs.edits.put.Goals as goal
 
 pub enter-requires-clause-ordered : goal.enter-requires-clause-ordered
@@ -17,3 +18,6 @@ pub returns-clause-parts : goal.returns-clause-parts
 returns-clause-parts c =
     let chunks = c.args.chunks.now.items in let chunk = c.args.spot.chunk in let index = c.args.spot.index in
     ap (λ (ps : List Part). all_parts (set chunks chunk ps)) c.enter.ensures ∙ entered_parts chunks chunk index c.index_mut.result.now c.args.part c.index_mut.ensures.value c.requires.fits.spot.known
+
+pub returns-clause-first : goal.returns-clause-first
+returns-clause-first c = λ used l u. used_set c.args.chunks.now.items used c.args.spot.chunk c.enter.new.self l u
