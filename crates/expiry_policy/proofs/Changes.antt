@@ -10,15 +10,16 @@ use Rattle.expiry_policy.specs.declared.uses.Use.{Use}
 use Rattle.expiry_policy.specs.Entries.{goes, use_at, uses_of}
 use Rattle.expiry_policy.specs.Layers.{use_in}
 use Rattle.expiry_policy.specs.Orders.{Leads, precedes}
-use Rattle.expiry_policy.specs.Tournaments.{IsRanked, IsRankedBut}
+use Rattle.expiry_policy.specs.Tournaments.{IsRanked, IsRankedUpTo}
+use Rattle.expiry_policy.proofs.Climbs.{changed_up_to}
 use Rattle.expiry_policy.proofs.Lookups.{found_at, get_or-slice_get}
 use Rattle.expiry_policy.proofs.Rankings.{goes_ranks}
-use Rattle.expiry_policy.proofs.Winners.{first_of_ranked, ranked_alike, ranked_but_changed}
+use Rattle.expiry_policy.proofs.Winners.{first_of_ranked, ranked_alike}
 
 module _ (o : Order) (es fs : List (MetaKey × Tally)) where
   -- the entry at an index may have changed
-  pub changed_but : (ws : List ℕ) (at : ℕ) → IsRanked (goes o es) (length ws) (slice_index ws) → ((i : ℕ) → i < length ws → i ≢ at → use_at fs i ≡ use_at es i) → IsRankedBut (goes o fs) (length ws) (slice_index ws) at
-  changed_but ws at all same = ranked_but_changed (goes o es) (goes o fs) (length ws) (slice_index ws) at all (λ i j h k n m. λ t. precedes o (same i h n t) (same j k m t))
+  pub changed_one : (ws : List ℕ) (at : ℕ) → IsRanked (goes o es) (length ws) (slice_index ws) → ((i : ℕ) → i < length ws → i ≢ at → use_at fs i ≡ use_at es i) → IsRankedUpTo (goes o fs) (length ws) (slice_index ws) at at
+  changed_one ws at all same = changed_up_to (goes o es) (goes o fs) (length ws) (slice_index ws) at all (λ i j h k n m. λ t. precedes o (same i h n t) (same j k m t))
 
   -- entries may have come behind
   pub ranked_before : (ws : List ℕ) → IsRanked (goes o es) (length ws) (slice_index ws) → ((i : ℕ) → i < length ws → use_at fs i ≡ use_at es i) → IsRanked (goes o fs) (length ws) (slice_index ws)

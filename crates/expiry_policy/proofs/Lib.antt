@@ -3,6 +3,7 @@ pub mod Finds
 pub mod First
 pub mod Choices
 pub mod Winners
+pub mod Climbs
 pub mod Rankings
 pub mod Lookups
 pub mod Changes

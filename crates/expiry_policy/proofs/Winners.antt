@@ -1,9 +1,7 @@
 -- How a tournament stays right through a change, and that its first winner goes first.
-use Rattle.std.proofs.Common.{ℕ, ◌≡◌, ◌≢◌, ◌+◌, ◌-◌, ◌*◌, ◌<◌, ◌≤◌, ◌&&◌, ◌⊎◌, inl, inr, eqb, suc, zero, Bool, true, false, cond, nat_lt, refl, sym, ap, subst, ◌∙◌, arith}
+use Rattle.std.proofs.Common.{ℕ, ◌≡◌, ◌≢◌, ◌+◌, ◌*◌, ◌<◌, ◌≤◌, ◌&&◌, ◌⊎◌, inl, inr, eqb, suc, zero, Bool, true, false, cond, nat_lt, refl, sym, ap, subst, ◌∙◌, arith}
 use borrow.Author.Tests.{ltb-true, ltb-false}
-use Rattle.std.proofs.Common.{List, length, slice_index, slice_set, get_or-set_same, get_or-set_other, length-set, length-append, length-take-le, take, get_or-take, [], ◌∷◌, ◌++◌}
 use Rattle.std.proofs.lemmas.Bool.Decides.{eqb_tells}
-use Rattle.std.proofs.lemmas.List.{get_or_append_left}
 use Rattle.expiry_policy.specs.Tournaments.{above, IsAbove, itself, higher, Wins, IsRanked, IsRankedBut, pick}
 
 -- what holds of a test of which of two goes first
@@ -14,21 +12,21 @@ pub record IsRanking (goes : ℕ → ℕ → Bool) : Type 0 where
 
 -- NODES
 
-above_below : (c : ℕ) → 0 < c → above c < c
+pub above_below : (c : ℕ) → 0 < c → above c < c
 above_below c h = omega arith
 
 -- a node that stands above a node beneath another stands above that one too
-above_above : {c k : ℕ} → IsAbove c k → 0 < c → IsAbove (above c) k
+pub above_above : {c k : ℕ} → IsAbove c k → 0 < c → IsAbove (above c) k
 above_above itself h = higher h itself
 above_above (higher i a) h = higher i (above_above a h)
 
 -- a node that stands above another is that one, or stands above the one right above it
-above_next : {k c : ℕ} → IsAbove k c → (k ≡ c) ⊎ ((0 < c) × IsAbove k (above c))
+pub above_next : {k c : ℕ} → IsAbove k c → (k ≡ c) ⊎ ((0 < c) × IsAbove k (above c))
 above_next itself = inl refl
 above_next (higher h a) = inr (h, a)
 
 -- no node stands above one of a lesser number
-above_least : {k c : ℕ} → IsAbove k c → k ≤ c
+pub above_least : {k c : ℕ} → IsAbove k c → k ≤ c
 above_least itself = omega arith
 above_least {k} {c} (higher h a) = let low = above_least a in let less = above_below c h in omega arith
 
@@ -117,7 +115,7 @@ module _ (goes : ℕ → ℕ → Bool) (r : IsRanking goes) where
 module _ (goes : ℕ → ℕ → Bool) where
   -- ONE NODE MORE IS RIGHT
 
-  right_elsewhere : (count : ℕ) (winner new : ℕ → ℕ) (at k : ℕ) → k ≢ at → (0 < at → k ≢ above at) → ((i : ℕ) → i ≢ at → new i ≡ winner i) → Wins goes count winner k (winner k) → Wins goes count new k (new k)
+  pub right_elsewhere : (count : ℕ) (winner new : ℕ → ℕ) (at k : ℕ) → k ≢ at → (0 < at → k ≢ above at) → ((i : ℕ) → i ≢ at → new i ≡ winner i) → Wins goes count winner k (winner k) → Wins goes count new k (new k)
   right_elsewhere count winner new at k other not_above same w =
       let here = same k other in
       let beside : (c : ℕ) → 0 < c → above c ≡ k → new c ≡ winner c = λ c some e. same c (λ is. not_above (subst (λ z. 0 < z) is some) (sym e ∙ ap above is)) in
@@ -163,25 +161,6 @@ module _ (goes : ℕ → ℕ → Bool) where
   -- the winner of a node beneath the one that is not right yet
   pub right_within : (count : ℕ) (winner : ℕ → ℕ) (at c : ℕ) → IsRankedBut goes count winner at → at < c → c < count → winner c < count
   right_within count winner at c but past few = elim (but.right c few) [ inl h ↦ let low = above_least h.1 in absurd (omega arith) | inr w ↦ w.within ]
-
-  -- THE SAME ON LISTS
-
-  module _ (ws : List ℕ) (at x : ℕ) (lt : at < length ws) (but : IsRankedBut goes (length ws) (slice_index ws) at) (w : Wins goes (length ws) (slice_index ws) at x) where
-    set_here : slice_index (slice_set ws at x) at ≡ x
-    set_here = get_or-set_same ws at x 0 lt
-
-    set_elsewhere : (i : ℕ) → i ≢ at → slice_index (slice_set ws at x) i ≡ slice_index ws i
-    set_elsewhere i n = get_or-set_other ws at i x 0 n
-
-    pub set_all : at ≡ 0 → IsRanked goes (length (slice_set ws at x)) (slice_index (slice_set ws at x))
-    set_all last = subst (λ n. IsRanked goes n (slice_index (slice_set ws at x))) (sym (length-set ws at x)) (settled_all (length ws) (slice_index ws) (slice_index (slice_set ws at x)) at x but set_here set_elsewhere w last)
-
-    pub set_more : 0 < at → (above at < length (slice_set ws at x)) × IsRankedBut goes (length (slice_set ws at x)) (slice_index (slice_set ws at x)) (above at)
-    set_more some =
-        let less = above_below at some in (
-          subst (λ n. above at < n) (sym (length-set ws at x)) (omega arith),
-          subst (λ n. IsRankedBut goes n (slice_index (slice_set ws at x)) (above at)) (sym (length-set ws at x)) (settled_more (length ws) (slice_index ws) (slice_index (slice_set ws at x)) at x lt but set_here set_elsewhere w some),
-        )
 
   -- WHAT A CHANGE LEAVES RIGHT
 
@@ -247,7 +226,24 @@ module _ (goes later : ℕ → ℕ → Bool) where
         };
   }
 
-  -- one entry more is the last
+  -- one entry more is the last: of a node that is not right above it
+  pub right_before : (count : ℕ) (winner new : ℕ → ℕ) → IsRanked goes count winner → ((i j : ℕ) → i < count → j < count → later i j ≡ goes i j) → ((i : ℕ) → i < count → new i ≡ winner i)
+      → (k : ℕ) → k < count → k ≢ above count → Wins later (count + 1) new k (new k)
+  right_before count winner new all same kept k few other =
+      let w = all.right k few in
+      let here = kept k few in
+      let within : (c : ℕ) → c < count + 1 → above c ≡ k → c < count =
+      λ c more e. let past : c ≢ count = λ f. other (sym e ∙ ap above f) in omega (arith, past) in
+      subst (Wins later (count + 1) new k) (sym here) (record {
+        within = let small = w.within in omega arith;
+        own = same k (winner k) few w.within ∙ w.own;
+        beneath = λ c some more e.
+            let c_few = within c more e in
+            subst (λ z. later z (winner k) ≡ false) (sym (kept c c_few)) (same (winner c) (winner k) (all.right c c_few).within w.within ∙ w.beneath c some c_few e);
+        from = elim w.from [ inl e ↦ inl e | inr e ↦ inr (e.0, e.1, let small = e.2 in omega arith, e.3, e.4 ∙ sym (kept e.0 e.2)) ];
+      })
+
+  -- and of all but those above it
   pub ranked_but_last : (count : ℕ) (winner new : ℕ → ℕ) → IsRanked goes count winner → ((i j : ℕ) → i < count → j < count → later i j ≡ goes i j) → ((i : ℕ) → i < count → new i ≡ winner i) → IsRankedBut later (count + 1) new count
   ranked_but_last count winner new all same kept = record { right = λ k lt. by k lt (tells k count) }
     where
@@ -256,55 +252,32 @@ module _ (goes later : ℕ → ℕ → Bool) where
       by k lt (inr free) =
           let other : k ≢ count = λ e. free (subst (IsAbove k) e itself) in
           let few : k < count = omega (arith, other) in
-          let w = all.right k few in
-          let here = kept k few in
-          let within : (c : ℕ) → 0 < c → c < count + 1 → above c ≡ k → c < count =
-          λ c some more e. let past : c ≢ count = λ f. free (subst (IsAbove k) f (higher some (subst (IsAbove k) (sym e) itself))) in omega (arith, past) in
-          inr (subst (Wins later (count + 1) new k) (sym here) (record {
-            within = let small = w.within in omega arith;
-            own = same k (winner k) few w.within ∙ w.own;
-            beneath = λ c some more e.
-                let c_few = within c some more e in
-                subst (λ z. later z (winner k) ≡ false) (sym (kept c c_few)) (same (winner c) (winner k) (all.right c c_few).within w.within ∙ w.beneath c some c_few e);
-            from = elim w.from [ inl e ↦ inl e | inr e ↦ inr (e.0, e.1, let small = e.2 in omega arith, e.3, e.4 ∙ sym (kept e.0 e.2)) ];
-          }))
+          inr (right_before count winner new all same kept k few (λ e. free (higher (omega arith) (subst (IsAbove k) e itself))))
 
 module _ (goes : ℕ → ℕ → Bool) where
-  -- the last entry is left out
+  -- the last entry is left out: of a node that is not right above it, and had another winner
+  pub right_without : (count : ℕ) (winner new : ℕ → ℕ) → IsRanked goes (count + 1) winner → ((i : ℕ) → i < count → new i ≡ winner i) → (k : ℕ) → k < count → winner k ≢ count → k ≢ above count → Wins goes count new k (new k)
+  right_without count winner new all kept k lt winner_free other =
+      let more : k < count + 1 = omega arith in
+      let w = all.right k more in
+      let here = kept k lt in
+      let within : (i : ℕ) → i < count + 1 → i ≢ count → i < count = λ i small differs. omega (arith, differs) in
+      subst (Wins goes count new k) (sym here) (record {
+        within = within (winner k) w.within winner_free;
+        own = w.own;
+        beneath = λ c some few e. subst (λ z. goes z (winner k) ≡ false) (sym (kept c few)) (w.beneath c some (omega arith) e);
+        from = elim w.from [
+          | inl e ↦ inl e
+          | inr e ↦ let few = within e.0 e.2 (λ f. other (sym e.3 ∙ ap above f)) in inr (e.0, e.1, few, e.3, e.4 ∙ sym (kept e.0 few))
+        ];
+      })
+
+  -- and of all but those above it
   pub ranked_but_first : (count : ℕ) (winner new : ℕ → ℕ) → IsRanked goes (count + 1) winner → ((i : ℕ) → i < count → new i ≡ winner i) → IsRankedBut goes count new (above count)
   ranked_but_first count winner new all kept = record { right = λ k lt. by k lt (tells k count) }
     where
       by : (k : ℕ) → k < count → IsAbove k count ⊎ (IsAbove k count → ⊥) → ((above count < count) × IsAbove k (above count)) ⊎ Wins goes count new k (new k)
       by k lt (inl a) = elim (above_next a) [ inl e ↦ absurd (omega (arith, e)) | inr f ↦ inl (above_below count f.0, f.1) ]
       by k lt (inr free) =
-          let more : k < count + 1 = omega arith in
-          let w = all.right k more in
-          let here = kept k lt in
-          let within : (i : ℕ) → i < count + 1 → i ≢ count → i < count = λ i small other. omega (arith, other) in
-          let winner_free : winner k ≢ count = λ e. free (subst (IsAbove k) e (stands_above goes (count + 1) winner all k more)) in
-          inr (subst (Wins goes count new k) (sym here) (record {
-            within = within (winner k) w.within winner_free;
-            own = w.own;
-            beneath = λ c some few e. subst (λ z. goes z (winner k) ≡ false) (sym (kept c few)) (w.beneath c some (omega arith) e);
-            from = elim w.from [
-              | inl e ↦ inl e
-              | inr e ↦
-                  let c_free : e.0 ≢ count = λ f. free (subst (IsAbove k) f (higher e.1 (subst (IsAbove k) (sym e.3) itself))) in
-                  let few = within e.0 e.2 c_free in
-                  inr (e.0, e.1, few, e.3, e.4 ∙ sym (kept e.0 few))
-            ];
-          }))
-
-  -- the same on lists
-  pub ranked_popped : (ws vs : List ℕ) (n : ℕ) → n ≡ length ws → 0 < n → vs ≡ take (n - 1) ws → IsRanked goes (length ws) (slice_index ws) → IsRankedBut goes (length vs) (slice_index vs) (above (length vs))
-  ranked_popped ws vs n size some is all =
-      let few : length vs ≡ n - 1 = ap length is ∙ length-take-le (n - 1) ws (omega arith) in
-      let more : length ws ≡ length vs + 1 = omega arith in
-      ranked_but_first (length vs) (slice_index ws) (slice_index vs) (subst (λ k. IsRanked goes k (slice_index ws)) more all)
-      (λ i lt. ap (λ zs. slice_index zs i) is ∙ get_or-take (n - 1) ws i 0 (omega arith))
-
-  pub ranked_pushed : (ws vs : List ℕ) (n x : ℕ) → n ≡ length ws → vs ≡ ws ++ x ∷ [] → IsRanked goes (length ws) (slice_index ws) → IsRankedBut goes (length vs) (slice_index vs) n
-  ranked_pushed ws vs n x size is all =
-      let more : length vs ≡ length ws + 1 = ap length is ∙ length-append ws (x ∷ []) in
-      subst (IsRankedBut goes (length vs) (slice_index vs)) (sym size) (subst (λ k. IsRankedBut goes k (slice_index vs) (length ws)) (sym more)
-      (ranked_but_last goes goes (length ws) (slice_index ws) (slice_index vs) all (λ i j h k. refl) (λ i lt. ap (λ zs. slice_index zs i) is ∙ get_or_append_left ws (x ∷ []) 0 i lt)))
+          let winner_free : winner k ≢ count = λ e. free (subst (IsAbove k) e (stands_above goes (count + 1) winner all k (omega arith))) in
+          inr (right_without count winner new all kept k lt winner_free (λ e. free (higher (omega arith) (subst (IsAbove k) e itself))))

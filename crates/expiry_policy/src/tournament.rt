@@ -3,10 +3,11 @@
 //!
 //! Node `n` of a tree has the entry `n` of its own, and the nodes `2n + 1` and `2n + 2` right beneath it. It keeps the index of
 //! the entry that goes first of its own and all those beneath, so node 0 has the first of all. A change of one entry is
-//! settled by finding the winners of its node and of those above it anew.
+//! settled by finding the winners of its node and of those above it anew, up to the first node that keeps its winner, where
+//! that is another entry: nothing has changed for the nodes above it.
 ghost use Rattle.std.specs.Prelude.{OnOk, length, slice_get, slice_index, vec_capacity, vec_len, ◌*◌, ◌+◌, ◌-◌, ◌<◌, ◌≡◌, ◌≤◌};
 ghost use Rattle.expiry_policy.specs.Entries.{goes};
-ghost use Rattle.expiry_policy.specs.Tournaments.{IsRanked, IsRankedBut, Wins, above, pick};
+ghost use Rattle.expiry_policy.specs.Tournaments.{IsRanked, IsRankedUpTo, Wins, above, pick};
 
 use crate::held::{Held, goes_before};
 use crate::order::Order;
@@ -47,16 +48,20 @@ fn winner_of(order: Order, held: &Held, winners: &[usize], node: usize) -> usize
     first_of(order, held, winners, first, 2 * node + 2)
 }
 
-/// Finds the winners of a node and of all above it anew.
-fn settle_from(order: Order, held: &Held, winners: &mut [usize], node: usize)
+/// Finds the winners of a node and of those above it anew, up to the first one whose winner stays and is not the changed entry.
+fn settle_from(order: Order, held: &Held, winners: &mut [usize], changed: usize, node: usize)
     requires node { node < length winners.old }
     requires known { length winners.old ≤ length held.now.entries }
-    requires right { IsRankedBut (goes order held.now.entries) (length winners.old) (slice_index winners.old) node }
+    requires right { IsRankedUpTo (goes order held.now.entries) (length winners.old) (slice_index winners.old) changed node }
     ensures { IsRanked (goes order held.now.entries) (length winners.new) (slice_index winners.new) }
 {
     let mut at = node;
     'climbing: loop {
-        winners[at] = winner_of(order, held, winners, at);
+        let winner = winner_of(order, held, winners, at);
+        if winner == winners[at] && winner != changed {
+            return;
+        }
+        winners[at] = winner;
         if at == 0 {
             return;
         }
@@ -100,18 +105,30 @@ impl Tournament {
         self.winners.first().copied()
     }
 
-    /// Settles the change of the entry at an index, which may be past the last one.
-    pub fn settle(&mut self, held: &Held, at: usize)
+    /// Settles the change of an entry from a node on, which may be past the last one.
+    fn settle_above(&mut self, held: &Held, changed: usize, node: usize)
         requires known { length self.old.winners.items ≤ length held.now.entries }
-        requires right { IsRankedBut (goes self.old.order held.now.entries) (length self.old.winners.items) (slice_index self.old.winners.items) at }
+        requires right { IsRankedUpTo (goes self.old.order held.now.entries) (length self.old.winners.items) (slice_index self.old.winners.items) changed node }
         ensures order { self.new.order ≡ self.old.order }
         ensures size { length self.new.winners.items ≡ length self.old.winners.items }
         ensures capacity { vec_capacity self.new.winners ≡ vec_capacity self.old.winners }
         ensures ranked { IsRanked (goes self.new.order held.now.entries) (length self.new.winners.items) (slice_index self.new.winners.items) }
     {
-        if at < self.winners.len() {
-            settle_from(self.order, held, self.winners.as_mut_slice(), at);
+        if node < self.winners.len() {
+            settle_from(self.order, held, self.winners.as_mut_slice(), changed, node);
         }
+    }
+
+    /// Settles the change of the entry at an index, which may be past the last one.
+    pub fn settle(&mut self, held: &Held, at: usize)
+        requires known { length self.old.winners.items ≤ length held.now.entries }
+        requires right { IsRankedUpTo (goes self.old.order held.now.entries) (length self.old.winners.items) (slice_index self.old.winners.items) at at }
+        ensures order { self.new.order ≡ self.old.order }
+        ensures size { length self.new.winners.items ≡ length self.old.winners.items }
+        ensures capacity { vec_capacity self.new.winners ≡ vec_capacity self.old.winners }
+        ensures ranked { IsRanked (goes self.new.order held.now.entries) (length self.new.winners.items) (slice_index self.new.winners.items) }
+    {
+        self.settle_above(held, at, at);
     }
 
     /// Takes in the last entry, which is new. It takes no memory.
@@ -141,6 +158,6 @@ impl Tournament {
     {
         self.winners.pop();
         let last = self.winners.len();
-        self.settle(held, last.saturating_sub(1) / 2);
+        self.settle_above(held, last, last.saturating_sub(1) / 2);
     }
 }

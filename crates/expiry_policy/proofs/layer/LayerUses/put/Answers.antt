@@ -4,18 +4,18 @@ use Rattle.expiry_policy.specs.declared.order.Order.{Order}
 use Rattle.expiry_policy.specs.declared.order.Ranking.TheVariants.{Expiry, Unsaved}
 use Rattle.expiry_policy.specs.Entries.{uses_of}
 use Rattle.expiry_policy.specs.Layers.{OfLayer, use_in}
-use Rattle.expiry_policy.proofs.Changes.{changed_but, ranked_before, still_numbered, still_ordered}
+use Rattle.expiry_policy.proofs.Changes.{changed_one, ranked_before, still_numbered, still_ordered}
 use Rattle.expiry_policy.proofs.layer.LayerUses.put.Goals as goal
 
 pub settle-requires-clause-right : goal.settle-requires-clause-right
 settle-requires-clause-right c =
     let t = c.self.inside.expiry in
-    changed_but t.order c.self.inside.held.entries c.change.new.held.entries t.winners.items c.in-Some.at c.self.invariant.expiry.ranked (λ i _ n. c.change.ensures.others i n)
+    changed_one t.order c.self.inside.held.entries c.change.new.held.entries t.winners.items c.in-Some.at c.self.invariant.expiry.ranked (λ i _ n. c.change.ensures.others i n)
 
 pub settle-requires-in-Some-clause-right : goal.settle-requires-in-Some-clause-right
 settle-requires-in-Some-clause-right c =
     let t = c.self.inside.unsaved in
-    changed_but t.order c.self.inside.held.entries c.change.new.held.entries t.winners.items c.in-Some.at c.self.invariant.unsaved.ranked (λ i _ n. c.change.ensures.others i n)
+    changed_one t.order c.self.inside.held.entries c.change.new.held.entries t.winners.items c.in-Some.at c.self.invariant.unsaved.ranked (λ i _ n. c.change.ensures.others i n)
 
 pub invariant_of-self : goal.invariant_of-self
 invariant_of-self c =

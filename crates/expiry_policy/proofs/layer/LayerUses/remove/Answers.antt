@@ -5,20 +5,20 @@ use Rattle.expiry_policy.specs.declared.order.Order.{Order}
 use Rattle.expiry_policy.specs.declared.order.Ranking.TheVariants.{Expiry, Unsaved}
 use Rattle.expiry_policy.specs.Entries.{use_at, uses_of}
 use Rattle.expiry_policy.specs.Layers.{OfLayer, use_in}
-use Rattle.expiry_policy.proofs.Changes.{changed_but, fewer_numbered, still_ordered}
+use Rattle.expiry_policy.proofs.Changes.{changed_one, fewer_numbered, still_ordered}
 use Rattle.expiry_policy.proofs.layer.LayerUses.remove.Goals as goal
 
 pub settle-requires-clause-right : goal.settle-requires-clause-right
 settle-requires-clause-right c =
     let t = c.pop.new.self in
     let before = c.self.invariant.expiry.size in
-    changed_but t.order c.self.inside.held.entries c.take_out.new.held.entries t.winners.items c.unwrap-gone.result c.pop.ensures.ranked (λ i lt n. c.take_out.ensures.others i (omega arith) n)
+    changed_one t.order c.self.inside.held.entries c.take_out.new.held.entries t.winners.items c.unwrap-gone.result c.pop.ensures.ranked (λ i lt n. c.take_out.ensures.others i (omega arith) n)
 
 pub settle-requires-2-clause-right : goal.settle-requires-2-clause-right
 settle-requires-2-clause-right c =
     let t = c.pop-2.new.self in
     let before = c.self.invariant.unsaved.size in
-    changed_but t.order c.self.inside.held.entries c.take_out.new.held.entries t.winners.items c.unwrap-gone.result c.pop-2.ensures.ranked (λ i lt n. c.take_out.ensures.others i (omega arith) n)
+    changed_one t.order c.self.inside.held.entries c.take_out.new.held.entries t.winners.items c.unwrap-gone.result c.pop-2.ensures.ranked (λ i lt n. c.take_out.ensures.others i (omega arith) n)
 
 pub invariant_of-self : goal.invariant_of-self
 invariant_of-self c =
