@@ -1,14 +1,14 @@
 -- Keys in chunks: what a change of one chunk is for them all.
-use Rattle.std.proofs.Common.{ℕ, zero, suc, ◌≡◌, ◌+◌, ◌-◌, ◌<◌, ◌≤◌, List, [], ◌∷◌, ◌++◌, length, get_or, set, take, drop, Option, Some, None, IsSome, Bool, true, false, cond, find, refl, ap, subst, sym, ◌∙◌, arith, length-append}
+use Rattle.std.proofs.Common.{ℕ, zero, suc, ◌≡◌, ◌+◌, ◌<◌, ◌≤◌, List, [], ◌∷◌, ◌++◌, length, get_or, set, take, drop, Some, None, IsSome, Bool, true, false, cond, find, refl, ap, subst, sym, ◌∙◌, arith, length-append}
 use Rattle.std.specs.List.{insert, remove}
-use Rattle.std.specs.Option.{option_map, option_to_list}
-use Rattle.std.proofs.lemmas.List.{append_assoc, append-nil, take-append-drop, get_or_default, get_or_push, length_push, length-drop, length-set, length-take-le}
+use Rattle.std.specs.Option.{option_map}
+use Rattle.std.proofs.lemmas.List.{append_assoc, append-nil, take-append-drop, get_or_default, length-drop, length-set, length-take-le}
 use Rattle.std.proofs.lemmas.List.Edits.{get_or-remove_below, length-insert}
 use Rattle.metatile_plan.specs.declared.metatile.MetaKey.{MetaKey}
 use Rattle.metatile_plan.specs.Keys.{same_meta}
 use Rattle.kept_areas.specs.declared.spot.Spot.{Spot}
 use Rattle.kept_areas.specs.Areas.{all_spots, is_spot_of, number_in}
-use Rattle.kept_areas.specs.Kept.{IsEntered, IsLastFree, chunk_at}
+use Rattle.kept_areas.specs.Kept.{IsEntered, chunk_at}
 
 -- ALL KEYS
 
@@ -154,22 +154,6 @@ pub at_right : (sss : List (List Spot)) (chunk kept : ℕ) (d : List Spot) → c
 at_right [] chunk kept d l = absurd (omega arith)
 at_right (ss ∷ sss) zero kept d l = refl
 at_right (ss ∷ sss) (suc chunk) kept d l = at_right sss chunk kept d (omega arith)
-
-pub popped : (old sss : List (List Spot)) (last : Option (List Spot)) (fresh : List Spot) → old ≡ sss ++ option_to_list last → last ≡ Some fresh → IsLastFree old → (fresh ≡ []) × (old ≡ sss ++ [] ∷ [])
-popped old sss last fresh items is free =
-    let whole : old ≡ sss ++ fresh ∷ [] = items ∙ ap (λ (o : Option (List Spot)). sss ++ option_to_list o) is in
-    let long : length old ≡ length sss + 1 = ap length whole ∙ length_push sss fresh in
-    let place : length sss ≡ length old - 1 = omega arith in
-    let read : get_or old (length old - 1) [] ≡ fresh = ap (λ (qss : List (List Spot)). get_or qss (length old - 1) []) whole ∙ get_or_push sss fresh [] (length old - 1) place in
-    let none : fresh ≡ [] = sym read ∙ free.free [] in
-    (none, whole ∙ ap (λ (f : List Spot). sss ++ f ∷ []) none)
-
--- a chunk with keys is not the free one
-pub known_apart : (sss : List (List Spot)) (chunk : ℕ) → 1 ≤ length (chunk_at (sss ++ [] ∷ []) chunk) → chunk < length sss
-known_apart [] zero h = absurd (omega arith)
-known_apart [] (suc chunk) h = absurd (omega arith)
-known_apart (ss ∷ sss) zero h = omega arith
-known_apart (ss ∷ sss) (suc chunk) h = let k = known_apart sss chunk h in omega arith
 
 pub at_with_free : (sss : List (List Spot)) (chunk : ℕ) (d : List Spot) → chunk < length sss → chunk_at (sss ++ [] ∷ []) chunk ≡ get_or sss chunk d
 at_with_free [] chunk d l = absurd (omega arith)

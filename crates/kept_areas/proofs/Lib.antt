@@ -4,6 +4,7 @@ pub mod Leaving
 pub mod Least
 pub mod Bounded
 pub mod InChunks
+pub mod Used
 pub mod Crowded
 pub mod Parted
 pub mod Entered

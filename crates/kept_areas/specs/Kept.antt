@@ -1,5 +1,5 @@
 -- What is true of the chunks at all times.
-use Rattle.std.specs.Prelude.{ℕ, ◌≡◌, ◌+◌, ◌-◌, ◌*◌, ◌/◌, ◌<◌, ◌≤◌, List, [], ◌∷◌, ◌++◌, length, slice_index_or}
+use Rattle.std.specs.Prelude.{ℕ, ◌≡◌, ◌+◌, ◌*◌, ◌/◌, ◌<◌, ◌≤◌, List, [], ◌∷◌, ◌++◌, drop, length, slice_index_or}
 use Rattle.kept_areas.specs.declared.spot.Spot.{Spot}
 use Rattle.kept_areas.specs.Areas.{AreOnce, all_spots}
 
@@ -24,14 +24,15 @@ AreCrowded [] = Unit {0}
 AreCrowded (ss ∷ []) = Unit {0}
 AreCrowded (ss ∷ ts ∷ sss) = (chunk_room < length ss + length ts) × AreCrowded (ts ∷ sss)
 
--- the last chunk is there, and has no key
-pub record IsLastFree (sss : List (List Spot)) : Type 0 where
-  pub some : 0 < length sss
-  pub free : (d : List Spot) → slice_index_or sss (length sss - 1) d ≡ []
+-- the first so many chunks, at least one, are all that may have keys
+pub record IsUsed (sss : List (List Spot)) (used : ℕ) : Type 0 where
+  pub some : 1 ≤ used
+  pub none : all_spots (drop used sss) ≡ []
 
--- no two keys are of one metatile, and no more are promised room than half of the chunks have
-pub record IsKept (sss : List (List Spot)) (taken room : ℕ) : Type 0 where
+-- no two keys are of one metatile, no more are promised room than half of the chunks have, and chunks that may have keys stand first
+pub record IsKept (sss : List (List Spot)) (taken room used : ℕ) : Type 0 where
   pub once : AreOnce (all_spots sss)
   pub counted : taken ≡ length (all_spots sss)
   pub within : taken ≤ room
   pub enough : room ≤ length sss / 2 * chunk_room
+  pub first : IsUsed sss used

@@ -8,7 +8,7 @@ ghost use Rattle.truncation_list.specs.Covers.{IsWithinReach};
 
 use crate::area::{Area, ROOM};
 use crate::chunks::{enter, grow, prepare, take_out};
-use crate::looking::place_of;
+use crate::looking::{first_of, place_of};
 use crate::spot::{Hit, Spot};
 use crate::walk::{hit_among, least_among};
 use catalog::grid::Grid;
@@ -48,6 +48,8 @@ pub struct KeptAreas {
     taken: usize,
     /// How many can be kept in all with no more memory.
     room: usize,
+    /// How many chunks there are, counted from the first, beyond which none has a key: the searches go through these alone.
+    used: usize,
     /// How often a metatile wasn't where it was looked for first.
     strays: u64,
 }
@@ -61,7 +63,7 @@ impl Model for KeptAreas {
 
     ghost view = { λ a. record { chunks = a.chunks.items; spare = a.room - a.taken } };
 
-    ghost invariant = { λ a. IsKept a.chunks.items a.taken a.room };
+    ghost invariant = { λ a. IsKept a.chunks.items a.taken a.room a.used };
 }
 
 impl KeptAreas {
@@ -77,6 +79,7 @@ impl KeptAreas {
             chunks: Vec::new(alloc),
             taken: 0,
             room: 0,
+            used: 1,
             strays: 0,
         }
     }
@@ -104,9 +107,10 @@ impl KeptAreas {
         ensures numbers { (m : MetaKey) → number_at self.new m ≡ (if same_meta m meta.now then Some number else number_at self.old m) }
         ensures spare { self.old.spare ≤ self.new.spare + 1 }
     {
-        prepare(&mut self.chunks);
-        enter(
+        self.used = prepare(&mut self.chunks, self.used);
+        self.used = enter(
             &mut self.chunks,
+            self.used,
             &Spot {
                 meta: *meta,
                 number,
@@ -133,7 +137,8 @@ impl KeptAreas {
         ensures clear { (is_hit : MetaKey → Bool) (count : ℕ) → IsClear is_hit count self.old.chunks → IsClear is_hit count self.new.chunks }
         ensures spare { self.old.spare ≤ self.new.spare }
     {
-        match place_of(self.chunks.as_slice(), meta) {
+        let first = first_of(self.chunks.as_slice(), self.used);
+        match place_of(first, meta) {
             None => {}
             Some(place) => {
                 take_out(&mut self.chunks, place);
@@ -148,7 +153,7 @@ impl KeptAreas {
         ensures least { result ≡ least_in was (all_spots self.now.chunks) }
         ensures once { AreOnce (all_spots self.now.chunks) }
     {
-        least_among(self.chunks.as_slice(), was)
+        least_among(first_of(self.chunks.as_slice(), self.used), was)
     }
 
     /// A metatile that a cover hits, the first in the chunks from one on; `None` exactly where none of these is hit. The factors
@@ -163,7 +168,8 @@ impl KeptAreas {
         ensures clear { IfSome result (λ hit. IsClear (hits_in f.now grid.now cover.now) from self.now.chunks → IsClear (hits_in f.now grid.now cover.now) hit.at self.now.chunks) }
         ensures none { IfNone result (IsClear (hits_in f.now grid.now cover.now) from self.now.chunks → (m : MetaKey) → IsSome (number_at self.now m) → hits_in f.now grid.now cover.now m ≡ false) }
     {
-        hit_among(self.chunks.as_slice(), f, grid, cover, from)
+        let first = first_of(self.chunks.as_slice(), self.used);
+        hit_among(first, f, grid, cover, from)
     }
 
     /// How often a metatile was not where it was looked for first.

@@ -1,10 +1,10 @@
 //! Changes of the chunks. None of them takes memory, but for `grow`.
-ghost use Rattle.std.specs.Prelude.{IfNone, IfSome, IsFalse, IsTrue, OnOk, [], insert, length, remove, slice_set, suc, vec_capacity, vec_len, ◌*◌, ◌+◌, ◌++◌, ◌/◌, ◌<◌, ◌≡◌, ◌≤◌, ◌∷◌};
+ghost use Rattle.std.specs.Prelude.{IfNone, IfSome, IsFalse, IsTrue, OnOk, [], insert, length, remove, slice_set, suc, vec_capacity, vec_len, ℕ, ◌*◌, ◌+◌, ◌-◌, ◌++◌, ◌/◌, ◌<◌, ◌≡◌, ◌≤◌, ◌∷◌};
 ghost use Rattle.kept_areas.specs.Areas.{all_spots};
-ghost use Rattle.kept_areas.specs.Kept.{AreCrowded, IsEntered, IsLastFree, chunk_at, chunk_room};
+ghost use Rattle.kept_areas.specs.Kept.{AreCrowded, IsEntered, IsUsed, chunk_at, chunk_room};
 
 use crate::area::{Area, ROOM};
-use crate::looking::{Place, chunk_for};
+use crate::looking::{Place, chunk_for, first_of};
 use crate::order::place_in;
 use crate::spot::Spot;
 use metatile_plan::metatile::MetaKey;
@@ -15,6 +15,7 @@ pub fn grow(chunks: &mut Vec<Area>, alloc: Global, count: usize) -> Result<(), A
     ensures spots { all_spots chunks.new.items ≡ all_spots chunks.old.items }
     ensures more { length chunks.old.items ≤ length chunks.new.items }
     ensures enough { OnOk result (count ≤ length chunks.new.items) }
+    ensures first { (used : ℕ) → IsUsed chunks.old.items used → IsUsed chunks.new.items used }
 {
     'growing: for _count in chunks.len()..count {
         let chunk = Area::new(alloc)?;
@@ -69,21 +70,13 @@ fn loose_pair(chunks: &[Area]) -> Option<usize>
     None
 }
 
-/// Whether the last chunk has no key.
-fn is_last_free(chunks: &[Area]) -> bool
-    requires some { 0 < length chunks.now }
-    ensures { IsTrue result → IsLastFree chunks.now }
-{
-    chunks[chunks.len() - 1].len() == 0
-}
-
 /// Puts the keys of the next chunk behind those of a chunk, and that next chunk, now free, behind all others.
 fn merge(chunks: &mut Vec<Area>, chunk: usize)
     requires known { chunk + 1 < length chunks.old.items }
     requires room { length (chunk_at chunks.old.items chunk) + length (chunk_at chunks.old.items (suc chunk)) ≤ chunk_room }
     ensures spots { all_spots chunks.new.items ≡ all_spots chunks.old.items }
     ensures len { length chunks.new.items ≡ length chunks.old.items }
-    ensures free { IsLastFree chunks.new.items }
+    ensures first { IsUsed chunks.new.items (length chunks.old.items - 1) }
 {
     let mut gone = chunks.remove(chunk + 1);
     chunks[chunk].append(gone.spots());
@@ -92,27 +85,33 @@ fn merge(chunks: &mut Vec<Area>, chunk: usize)
     stand_behind(chunks, gone);
 }
 
-/// Sees to it that the last chunk has no key.
-pub fn prepare(chunks: &mut Vec<Area>)
+/// Sees to it that the last chunk has no key, where the first so many are all that may have one, and tells how many these are then.
+pub fn prepare(chunks: &mut Vec<Area>, used: usize) -> usize
+    requires first { IsUsed chunks.old.items used }
     requires spare { length (all_spots chunks.old.items) < length chunks.old.items / 2 * chunk_room }
     ensures spots { all_spots chunks.new.items ≡ all_spots chunks.old.items }
     ensures len { length chunks.new.items ≡ length chunks.old.items }
-    ensures free { IsLastFree chunks.new.items }
+    ensures first { IsUsed chunks.new.items result }
+    ensures free { result < length chunks.new.items }
 {
-    if is_last_free(chunks.as_slice()) {
-        return;
+    if used < chunks.len() {
+        return used;
     }
     match loose_pair(chunks.as_slice()) {
-        Some(chunk) => merge(chunks, chunk),
-        None => {}
+        Some(chunk) => {
+            merge(chunks, chunk);
+            chunks.len() - 1
+        }
+        None => used,
     }
 }
 
 /// Moves the keys of a chunk from an index on to the last chunk, which has none, and puts that one behind it, for the keys from
 /// one on.
-fn divide(chunks: &mut Vec<Area>, chunk: usize, kept: usize, first: &MetaKey)
-    requires free { IsLastFree chunks.old.items }
-    requires some { 1 ≤ length (chunk_at chunks.old.items chunk) }
+fn divide(chunks: &mut Vec<Area>, used: usize, chunk: usize, kept: usize, first: &MetaKey)
+    requires first { IsUsed chunks.old.items used }
+    requires free { used < length chunks.old.items }
+    requires known { chunk < used }
     requires most { length (chunk_at chunks.old.items chunk) ≤ chunk_room }
     requires within { kept ≤ length (chunk_at chunks.old.items chunk) }
     ensures spots { all_spots chunks.new.items ≡ all_spots chunks.old.items }
@@ -120,6 +119,7 @@ fn divide(chunks: &mut Vec<Area>, chunk: usize, kept: usize, first: &MetaKey)
     ensures known { chunk + 1 < length chunks.new.items }
     ensures left { length (chunk_at chunks.new.items chunk) ≡ kept }
     ensures right { length (chunk_at chunks.new.items (chunk + 1)) + kept ≡ length (chunk_at chunks.old.items chunk) }
+    ensures first { IsUsed chunks.new.items (used + 1) }
 {
     let mut fresh = chunks.pop().unwrap();
     fresh.begin_at(first);
@@ -131,22 +131,25 @@ fn divide(chunks: &mut Vec<Area>, chunk: usize, kept: usize, first: &MetaKey)
 
 /// Divides a full chunk so that a key has room in it or behind it, and tells in which chunk: half of the keys move, and none
 /// where the key comes behind them all.
-fn make_room(chunks: &mut Vec<Area>, chunk: usize, meta: &MetaKey) -> usize
-    requires free { IsLastFree chunks.old.items }
+fn make_room(chunks: &mut Vec<Area>, used: usize, chunk: usize, meta: &MetaKey) -> usize
+    requires first { IsUsed chunks.old.items used }
+    requires free { used < length chunks.old.items }
     requires full { length (chunk_at chunks.old.items chunk) ≡ chunk_room }
-    requires known { chunk < length chunks.old.items }
+    requires known { chunk < used }
     ensures spots { all_spots chunks.new.items ≡ all_spots chunks.old.items }
     ensures len { length chunks.new.items ≡ length chunks.old.items }
     ensures known { result < length chunks.new.items }
     ensures room { length (chunk_at chunks.new.items result) < chunk_room }
+    ensures first { IsUsed chunks.new.items (used + 1) }
+    ensures among { result < used + 1 }
 {
     let index = place_in(chunks[chunk].spots(), meta);
     if index == ROOM {
-        divide(chunks, chunk, ROOM, meta);
+        divide(chunks, used, chunk, ROOM, meta);
         return chunk + 1;
     }
     let first = chunks[chunk].spots()[ROOM / 2].meta;
-    divide(chunks, chunk, ROOM / 2, &first);
+    divide(chunks, used, chunk, ROOM / 2, &first);
     if index > ROOM / 2 {
         return chunk + 1;
     }
@@ -159,22 +162,28 @@ fn put(chunks: &mut Vec<Area>, chunk: usize, spot: &Spot)
     requires room { length (chunk_at chunks.old.items chunk) < chunk_room }
     ensures entered { IsEntered spot.now (all_spots chunks.old.items) (all_spots chunks.new.items) }
     ensures len { length chunks.new.items ≡ length chunks.old.items }
+    ensures first { (used : ℕ) → chunk < used → IsUsed chunks.old.items used → IsUsed chunks.new.items used }
 {
     chunks[chunk].enter(spot);
 }
 
-/// Enters a key where it is meant to stand.
-pub fn enter(chunks: &mut Vec<Area>, spot: &Spot)
-    requires free { IsLastFree chunks.old.items }
+/// Enters a key where it is meant to stand among the first so many chunks, which are all that may have keys, and tells how many
+/// these are then.
+pub fn enter(chunks: &mut Vec<Area>, used: usize, spot: &Spot) -> usize
+    requires first { IsUsed chunks.old.items used }
+    requires free { used < length chunks.old.items }
     ensures entered { IsEntered spot.now (all_spots chunks.old.items) (all_spots chunks.new.items) }
     ensures len { length chunks.new.items ≡ length chunks.old.items }
+    ensures first { IsUsed chunks.new.items result }
 {
-    let chunk = chunk_for(chunks.as_slice(), &spot.meta);
+    let chunk = chunk_for(first_of(chunks.as_slice(), used), &spot.meta);
     if chunks[chunk].len() < ROOM {
-        return put(chunks, chunk, spot);
+        put(chunks, chunk, spot);
+        return used;
     }
-    let apart = make_room(chunks, chunk, &spot.meta);
+    let apart = make_room(chunks, used, chunk, &spot.meta);
     put(chunks, apart, spot);
+    used + 1
 }
 
 /// Takes out the key at a place.

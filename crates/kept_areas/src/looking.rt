@@ -1,5 +1,5 @@
 //! Where a key stands, or is meant to stand, among the chunks.
-ghost use Rattle.std.specs.Prelude.{IfNone, IfSome, None, length, slice_index_or, true, ◌<◌, ◌≡◌};
+ghost use Rattle.std.specs.Prelude.{IfNone, IfSome, None, length, slice_index_or, take, true, ◌<◌, ◌≡◌};
 ghost use Rattle.kept_areas.specs.Areas.{all_spots, number_in};
 ghost use Rattle.kept_areas.specs.Kept.{chunk_at};
 ghost use Rattle.metatile_plan.specs.Keys.{same_meta};
@@ -16,6 +16,16 @@ pub struct Place {
     pub index: usize,
     /// Whether it isn't where it is meant to stand.
     pub is_stray: bool,
+}
+
+/// The first so many chunks; all of them where there are no more.
+pub fn first_of(chunks: &[Area], used: usize) -> &[Area]
+    ensures { result.now ≡ take used chunks.now }
+{
+    if used >= chunks.len() {
+        return chunks;
+    }
+    &chunks[..used]
 }
 
 /// The chunk in which a key is meant to stand: the last one that is for it, or else the first.

@@ -3,6 +3,7 @@ use Rattle.std.proofs.lemmas.List.{length_push}
 use Rattle.kept_areas.specs.declared.spot.Spot.{Spot}
 use Rattle.kept_areas.specs.Areas.{all_spots}
 use Rattle.kept_areas.proofs.InChunks.{all_with_free}
+use Rattle.kept_areas.proofs.Used.{used_pushed}
 use Rattle.kept_areas.proofs.chunks.grow.Goals as goal
 
 pub growing-preserved : goal.growing-preserved
@@ -14,4 +15,5 @@ growing-preserved c =
       ap all_spots items ∙ ap (λ (ss : List Spot). all_spots (chunks ++ ss ∷ [])) c.in_ok-chunk.ensures ∙ all_with_free chunks ∙ c.growing.invariant.0,
       omega arith,
       omega arith,
+      λ used u. used_pushed chunks _ used (items ∙ ap (λ (ss : List Spot). chunks ++ ss ∷ []) c.in_ok-chunk.ensures) (c.growing.invariant.3 used u),
     )

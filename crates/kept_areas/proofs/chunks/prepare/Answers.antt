@@ -7,7 +7,7 @@ use Rattle.kept_areas.proofs.chunks.prepare.Goals as goal
 pub returns-in-None-clause-free : goal.returns-in-None-clause-free
 returns-in-None-clause-free c =
     let chunks = c.args.chunks.now.items in
-    let crowded = subst (λ (sss : List (List Spot)). AreCrowded sss) c.as_slice-2.ensures.value c.in-None.ensures.none in
+    let crowded = subst (λ (sss : List (List Spot)). AreCrowded sss) c.as_slice.ensures.value c.in-None.ensures.none in
     let many = crowded_many (length chunks / 2) chunks (omega arith) crowded in
     let spare = c.requires.spare in
     absurd (omega arith)
