@@ -5,3 +5,4 @@ pub mod Unsaved
 pub mod Within
 pub mod Refusing
 pub mod Refused
+pub mod Passing

@@ -1,11 +1,11 @@
 -- The saving of uses keeps every blob, and so what is the picture of its number.
-use Rattle.std.proofs.Common.{◌≡◌, ℕ, zero, suc, List, [], ◌∷◌, Option, Some, None, map, sym, subst}
+use Rattle.std.proofs.Common.{◌≡◌, ℕ, zero, suc, List, [], ◌∷◌, Option, Some, None, sym, subst}
 use Rattle.std.specs.Prelude.{IsSomeAnd}
 use Rattle.std.specs.List.{AllByRecursion}
 use Rattle.std.specs.Option.{option_map}
 use Rattle.cabinet.specs.Counted.{uses}
 use Rattle.cabinet.specs.declared.kept.KeptBlob.{KeptBlob}
-use Rattle.cabinet.specs.State.{IsPictured, IsSound, State, blobs_counted, with_counted}
+use Rattle.cabinet.specs.State.{IsPictured, IsSound, State, blobs_counted}
 use Rattle.cabinet.proofs.WithUses.{set_has}
 use Rattle.catalog.specs.declared.catalogue.Catalogue.{Catalogue}
 use Rattle.kept_cache.specs.Saving.{SavesMany}

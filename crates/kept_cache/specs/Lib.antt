@@ -4,3 +4,4 @@ pub mod Opened
 pub mod Formed
 pub mod Texts
 pub mod Saving
+pub mod Passing

@@ -11,6 +11,7 @@
 pub mod end;
 pub mod formed;
 pub mod lent;
+pub mod lent_cabinet;
 pub mod opened;
 pub mod saving;
 pub mod writing;

@@ -1,5 +1,6 @@
 -- What a word tells of a schedule or of a session.
 use Rattle.std.proofs.Common.{ℕ, List, inr}
+use Rattle.cabinet.specs.State.{State}
 use Rattle.catalog.specs.declared.catalogue.Catalogue.{Catalogue}
 use Rattle.clock.specs.Readings.{Readings}
 use Rattle.kept_cache.specs.Change.{DiskChange}
@@ -10,8 +11,8 @@ use Rattle.tile_service.specs.declared.session.SessionEnd.{SessionEnd}
 use Rattle.tile_service.specs.declared.session.SessionEnd.TheVariants as session
 use Rattle.tile_service.specs.Outside.{InputChange, Outside}
 
-module _ (c : Catalogue) (clock : Readings) (document : List ℕ) (i : InputChange) (o : Outside) (d : DiskChange) (InputStays Stays : Type 0) where
-  pub schedule_tells : (e : ScheduleEnd) → HasScheduled c clock document i o d Stays e → RunsSchedule c clock document i o d InputStays Stays (end_of_schedule e)
+module _ (P : State → Type 0) (c : Catalogue) (clock : Readings) (document : List ℕ) (i : InputChange) (o : Outside) (d : DiskChange) (InputStays Stays : Type 0) where
+  pub schedule_tells : (e : ScheduleEnd) → HasScheduled P c clock document i o d Stays e → RunsSchedule P c clock document i o d InputStays Stays (end_of_schedule e)
   schedule_tells schedule.Done h = h
   schedule_tells (schedule.Line n) h = h
   schedule_tells schedule.ReadFault h = h
@@ -19,7 +20,7 @@ module _ (c : Catalogue) (clock : Readings) (document : List ℕ) (i : InputChan
   schedule_tells schedule.TooLong h = h
   schedule_tells schedule.OutOfMemory h = inr h
 
-  pub session_tells : (e : SessionEnd) → HasReplayed c clock document i o d e → RunsSession c clock document i o d InputStays Stays (end_of_session e)
+  pub session_tells : (e : SessionEnd) → HasReplayed P c clock document i o d e → RunsSession P c clock document i o d InputStays Stays (end_of_session e)
   session_tells session.Closed h = h
   session_tells session.Truncated h = h
   session_tells (session.Bad status) h = h

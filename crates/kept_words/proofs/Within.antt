@@ -18,8 +18,8 @@ use Rattle.tile_service.specs.declared.session.SessionEnd.TheVariants as session
 use Rattle.tile_requests.specs.Requests.{Chance}
 use Rattle.tile_service.specs.Outside.{FaultCounts, InputChange, Outside}
 use Rattle.tile_service.specs.Run.{Answer, World, free_seats, world_of}
-use Rattle.tile_service.specs.Schedules.{Ends, HasRun, HasRunAll, Schedules}
-use Rattle.tile_service.specs.SessionEnds.{Ends as SessionEnds, HasSession}
+use Rattle.tile_service.specs.Schedules.{Ends, HasRun, HasRunAll, Schedules, SchedulesThrough}
+use Rattle.tile_service.specs.SessionEnds.{Ends as SessionEnds, HasSession, HasSessionThrough}
 
 -- A SCHEDULE
 
@@ -48,13 +48,15 @@ module _ (i : InputChange) (o : Outside) (f : FaultCounts) (earlier : f.before �
   all_within w t e h =
       record { text = h.text; read = h.read; at_end = h.at_end; short = h.short; last = h.last; ran = run_within w h.text h.last e h.ran; closes = h.closes }
 
-  pub schedules_within : (U V : Type 0) → (U → V) → (w t : World) (e : ScheduleEnd) → Schedules i o U w t e → Schedules i (with_disk f o) V w t e
-  schedules_within U V less w t schedule.Done h = all_within w t run_end.Done h
-  schedules_within U V less w t (schedule.Line n) h = all_within w t (run_end.Line n) h
-  schedules_within U V less w t schedule.WriteFault h = all_within w t run_end.WriteFault h
-  schedules_within U V less w t schedule.ReadFault h = (h.0, less h.1)
-  schedules_within U V less w t schedule.TooLong h = (h.0, less h.1)
-  schedules_within U V less w t schedule.OutOfMemory h = less h
+  -- with P of the cabinet after each line, or with what follows from it
+  pub schedules_within : (P Q : State → Type 0) → ((x : State) → P x → Q x) → (U V : Type 0) → (U → V) → (w t : World) (e : ScheduleEnd) → SchedulesThrough P i o U w t e → SchedulesThrough Q i (with_disk f o) V w t e
+  unfolding all_within run_within
+  schedules_within P Q onward U V less w t schedule.Done h = (all_within w t run_end.Done h.0, λ n. onward _ (h.1 n))
+  schedules_within P Q onward U V less w t (schedule.Line n) h = (all_within w t (run_end.Line n) h.0, λ n. onward _ (h.1 n))
+  schedules_within P Q onward U V less w t schedule.WriteFault h = (all_within w t run_end.WriteFault h.0, λ n. onward _ (h.1 n))
+  schedules_within P Q onward U V less w t schedule.ReadFault h = ((h.0.0, less h.0.1), tt)
+  schedules_within P Q onward U V less w t schedule.TooLong h = ((h.0.0, less h.0.1), tt)
+  schedules_within P Q onward U V less w t schedule.OutOfMemory h = (less h.0, tt)
 
 -- the count doesn't fall in a schedule, nor where nothing was run
 rises_in : (i : InputChange) (o : Outside) (w t : World) (e : RunEnd) → HasRunAll i o w t e → (n : ℕ) × RoseBy n o.disk.before o.disk.after
@@ -75,17 +77,17 @@ schedules_rises i o U same w t schedule.TooLong h = rises_not o (same h.1)
 schedules_rises i o U same w t schedule.OutOfMemory h = rises_not o (same h)
 
 -- a schedule and the saving after it
-pub runs_and_saves : (document : List ℕ) (i : InputChange) (o : Outside) (before after : ℕ) (Stays U : Type 0) (s u : State) (w : World) (e : ScheduleEnd)
+pub runs_and_saves : (P Q : State → Type 0) → ((x : State) → P x → Q x) → (document : List ℕ) (i : InputChange) (o : Outside) (before after : ℕ) (Stays U : Type 0) (s u : State) (w : World) (e : ScheduleEnd)
     → before ≤ o.disk.before → o.disk.after ≤ after → (U → Stays) → (U → w.cabinet ≡ s) → (U → o.disk.after ≡ o.disk.before)
-    → Schedules i o U (world_of s document free_seats) w e → SavesAll (record { before = o.disk.after; after = after }) w.cabinet u
-    → RunsAndSaves document i (with_disk (record { before = before; after = after }) o) Stays s u e
-runs_and_saves document i o before after Stays U s u w e earlier later less same faults h saves =
-    let rises = schedules_rises i o U faults (world_of s document free_seats) w e h in
+    → SchedulesThrough P i o U (world_of s document free_seats) w e → SavesAll (record { before = o.disk.after; after = after }) w.cabinet u
+    → RunsAndSaves Q document i (with_disk (record { before = before; after = after }) o) Stays s u e
+runs_and_saves P Q onward document i o before after Stays U s u w e earlier later less same faults h saves =
+    let rises = schedules_rises i o U faults (world_of s document free_seats) w e h.0 in
     record {
       world = w;
-      schedules = schedules_within i o (record { before = before; after = after }) earlier later U (Stays × (w.cabinet ≡ s)) (λ untouched. (less untouched, same untouched)) (world_of s document free_seats) w e h;
+      schedules = schedules_within i o (record { before = before; after = after }) earlier later P Q onward U (Stays × (w.cabinet ≡ s)) (λ untouched. (less untouched, same untouched)) (world_of s document free_seats) w e h;
       saves = saved_so w.cabinet u before o.disk.before o.disk.after after rises.0 earlier rises.1 saves;
-      sound = λ told sound. saves_sound saves.count w.cabinet u saves.saves (schedule_sound i o (world_of s document free_seats) w U same e h told sound);
+      sound = λ told sound. saves_sound saves.count w.cabinet u saves.saves (schedule_sound i o (world_of s document free_seats) w U same e h.0 told sound);
     }
 
 -- A SESSION
@@ -121,11 +123,12 @@ module _ (i : InputChange) (o : Outside) (f : FaultCounts) (earlier : f.before �
   }
 
 -- a session and the saving after it
-pub serves_and_saves : (document : List ℕ) (i : InputChange) (o : Outside) (before after : ℕ) (s t u : State) (e : SessionEnd) → before ≤ o.disk.before → o.disk.after ≤ after
-    → HasSession i o document s t e → SavesAll (record { before = o.disk.after; after = after }) t u → ServesAndSaves document i (with_disk (record { before = before; after = after }) o) s u e
-serves_and_saves document i o before after s t u e earlier later h saves = record {
+pub serves_and_saves : (P Q : State → Type 0) → ((x : State) → P x → Q x) → (document : List ℕ) (i : InputChange) (o : Outside) (before after : ℕ) (s t u : State) (e : SessionEnd) → before ≤ o.disk.before → o.disk.after ≤ after
+    → HasSessionThrough P i o document s t e → SavesAll (record { before = o.disk.after; after = after }) t u → ServesAndSaves Q document i (with_disk (record { before = before; after = after }) o) s u e
+unfolding session_within
+serves_and_saves P Q onward document i o before after s t u e earlier later h saves = record {
   served = t;
-  session = session_within i o (record { before = before; after = after }) earlier later document s t e h;
-  saves = saved_so t u before o.disk.before o.disk.after after _ earlier h.served.faults saves;
-  sound = λ told sound. saves_sound saves.count t u saves.saves (h.served.sound told sound);
+  session = (session_within i o (record { before = before; after = after }) earlier later document s t e h.0, λ n. onward _ (h.1 n));
+  saves = saved_so t u before o.disk.before o.disk.after after _ earlier h.0.served.faults saves;
+  sound = λ told sound. saves_sound saves.count t u saves.saves (h.0.served.sound told sound);
 }

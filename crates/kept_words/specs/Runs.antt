@@ -15,19 +15,20 @@ use Rattle.tile_service.specs.declared.session.SessionEnd.{SessionEnd}
 use Rattle.tile_service.specs.declared.session.SessionEnd.TheVariants as session
 use Rattle.tile_service.specs.Outside.{InputChange, Outside}
 use Rattle.tile_service.specs.Run.{World, free_seats, world_of}
-use Rattle.tile_service.specs.Schedules.{Schedules}
-use Rattle.tile_service.specs.SessionEnds.{HasSession}
+use Rattle.tile_service.specs.Schedules.{SchedulesThrough}
+use Rattle.tile_service.specs.SessionEnds.{HasSessionThrough}
 
--- In what follows the faults of the disk are counted over the whole word, from before the opening until after the saving.
+-- In what follows the faults of the disk are counted over the whole word, from before the opening until after the saving. `P` is said of the cabinet after
+-- each line of a schedule and after each message of a session.
 
 -- SCHEDULE
 
 -- From s a schedule came to a world, and then its uses were saved, to u; `Stays` is that the output and the source stay as they are. Where
 -- nothing was run the cabinet is as it was before the saving. Where the source is modelled as the catalogue's, what the cabinet then keeps is the pictures
 -- of the numbers, if what was opened was.
-pub record RunsAndSaves (document : List ℕ) (i : InputChange) (o : Outside) (Stays : Type 0) (s u : State) (e : ScheduleEnd) : Type 0 where
+pub record RunsAndSaves (P : State → Type 0) (document : List ℕ) (i : InputChange) (o : Outside) (Stays : Type 0) (s u : State) (e : ScheduleEnd) : Type 0 where
   pub world : World
-  pub schedules : Schedules i o (Stays × (world.cabinet ≡ s)) (world_of s document free_seats) world e
+  pub schedules : SchedulesThrough P i o (Stays × (world.cabinet ≡ s)) (world_of s document free_seats) world e
   pub saves : SavesAll o.disk world.cabinet u
   pub sound : o.told ≡ Some s.catalogue.source → IsSound s → IsSound u
 
@@ -41,30 +42,30 @@ end_of_schedule schedule.TooLong = end.TooLong
 end_of_schedule schedule.OutOfMemory = end.OutOfMemory
 
 -- the cache was opened, a schedule ended so, and the cache was closed
-abbrev pub HasScheduled : Catalogue → Readings → List ℕ → InputChange → Outside → DiskChange → Type 0 → ScheduleEnd → Type 0
-HasScheduled c clock document i o d Stays e = (s : State) × (u : State) × HasOpened c clock d s u × RunsAndSaves document i o Stays s u e
+abbrev pub HasScheduled : (State → Type 0) → Catalogue → Readings → List ℕ → InputChange → Outside → DiskChange → Type 0 → ScheduleEnd → Type 0
+HasScheduled P c clock document i o d Stays e = (s : State) × (u : State) × HasOpened c clock d s u × RunsAndSaves P document i o Stays s u e
 
 -- what each end says; no fault of the disk ends what is run
-abbrev pub RunsSchedule : Catalogue → Readings → List ℕ → InputChange → Outside → DiskChange → Type 0 → Type 0 → KeptEnd → Type 0
-RunsSchedule c clock document i o d InputStays Stays end.Done = HasScheduled c clock document i o d Stays schedule.Done
-RunsSchedule c clock document i o d InputStays Stays (end.Line n) = HasScheduled c clock document i o d Stays (schedule.Line n)
-RunsSchedule c clock document i o d InputStays Stays end.ReadFault = HasScheduled c clock document i o d Stays schedule.ReadFault
-RunsSchedule c clock document i o d InputStays Stays end.WriteFault = HasScheduled c clock document i o d Stays schedule.WriteFault
-RunsSchedule c clock document i o d InputStays Stays end.TooLong = HasScheduled c clock document i o d Stays schedule.TooLong
-RunsSchedule c clock document i o d InputStays Stays end.OutOfMemory = (InputStays × Stays × OpeningLeaves c d) ⊎ HasScheduled c clock document i o d Stays schedule.OutOfMemory
-RunsSchedule c clock document i o d InputStays Stays (end.Refused cause) = IsRefused c d cause × InputStays × Stays × RefusalLeaves c d cause
-RunsSchedule c clock document i o d InputStays Stays end.DiskFault = HasFailed d × InputStays × Stays × OpeningLeaves c d
-RunsSchedule c clock document i o d InputStays Stays (end.Form cause) = ⊥
-RunsSchedule c clock document i o d InputStays Stays end.CutsFull = ⊥
-RunsSchedule c clock document i o d InputStays Stays (end.Stream how) = ⊥
+abbrev pub RunsSchedule : (State → Type 0) → Catalogue → Readings → List ℕ → InputChange → Outside → DiskChange → Type 0 → Type 0 → KeptEnd → Type 0
+RunsSchedule P c clock document i o d InputStays Stays end.Done = HasScheduled P c clock document i o d Stays schedule.Done
+RunsSchedule P c clock document i o d InputStays Stays (end.Line n) = HasScheduled P c clock document i o d Stays (schedule.Line n)
+RunsSchedule P c clock document i o d InputStays Stays end.ReadFault = HasScheduled P c clock document i o d Stays schedule.ReadFault
+RunsSchedule P c clock document i o d InputStays Stays end.WriteFault = HasScheduled P c clock document i o d Stays schedule.WriteFault
+RunsSchedule P c clock document i o d InputStays Stays end.TooLong = HasScheduled P c clock document i o d Stays schedule.TooLong
+RunsSchedule P c clock document i o d InputStays Stays end.OutOfMemory = (InputStays × Stays × OpeningLeaves c d) ⊎ HasScheduled P c clock document i o d Stays schedule.OutOfMemory
+RunsSchedule P c clock document i o d InputStays Stays (end.Refused cause) = IsRefused c d cause × InputStays × Stays × RefusalLeaves c d cause
+RunsSchedule P c clock document i o d InputStays Stays end.DiskFault = HasFailed d × InputStays × Stays × OpeningLeaves c d
+RunsSchedule P c clock document i o d InputStays Stays (end.Form cause) = ⊥
+RunsSchedule P c clock document i o d InputStays Stays end.CutsFull = ⊥
+RunsSchedule P c clock document i o d InputStays Stays (end.Stream how) = ⊥
 
 -- REPLAY
 
 -- From s a session came to a cabinet, and then its uses were saved, to u. Where the source is modelled as the catalogue's, what the cabinet then keeps is
 -- the pictures of the numbers, if what was opened was.
-pub record ServesAndSaves (document : List ℕ) (i : InputChange) (o : Outside) (s u : State) (e : SessionEnd) : Type 0 where
+pub record ServesAndSaves (P : State → Type 0) (document : List ℕ) (i : InputChange) (o : Outside) (s u : State) (e : SessionEnd) : Type 0 where
   pub served : State
-  pub session : HasSession i o document s served e
+  pub session : HasSessionThrough P i o document s served e
   pub saves : SavesAll o.disk served u
   pub sound : o.told ≡ Some s.catalogue.source → IsSound s → IsSound u
 
@@ -79,28 +80,28 @@ end_of_session session.WriteFault = end.WriteFault
 end_of_session session.OutOfMemory = end.OutOfMemory
 
 -- the cache was opened, the session of the input's bytes ended so, and the cache was closed
-abbrev pub HasReplayed : Catalogue → Readings → List ℕ → InputChange → Outside → DiskChange → SessionEnd → Type 0
-HasReplayed c clock document i o d e = (s : State) × (u : State) × HasOpened c clock d s u × ServesAndSaves document i o s u e
+abbrev pub HasReplayed : (State → Type 0) → Catalogue → Readings → List ℕ → InputChange → Outside → DiskChange → SessionEnd → Type 0
+HasReplayed P c clock document i o d e = (s : State) × (u : State) × HasOpened c clock d s u × ServesAndSaves P document i o s u e
 
 -- the session ended within the stream: in a message, at bytes that are no message, or after as many as it answers
-abbrev pub HasBrokenOff : Catalogue → Readings → List ℕ → InputChange → Outside → DiskChange → SessionEnd → Type 0
-HasBrokenOff c clock document i o d session.Truncated = HasReplayed c clock document i o d session.Truncated
-HasBrokenOff c clock document i o d (session.Bad code) = HasReplayed c clock document i o d (session.Bad code)
-HasBrokenOff c clock document i o d session.TooMany = HasReplayed c clock document i o d session.TooMany
-HasBrokenOff c clock document i o d session.Closed = ⊥
-HasBrokenOff c clock document i o d session.ReadFault = ⊥
-HasBrokenOff c clock document i o d session.WriteFault = ⊥
-HasBrokenOff c clock document i o d session.OutOfMemory = ⊥
+abbrev pub HasBrokenOff : (State → Type 0) → Catalogue → Readings → List ℕ → InputChange → Outside → DiskChange → SessionEnd → Type 0
+HasBrokenOff P c clock document i o d session.Truncated = HasReplayed P c clock document i o d session.Truncated
+HasBrokenOff P c clock document i o d (session.Bad code) = HasReplayed P c clock document i o d (session.Bad code)
+HasBrokenOff P c clock document i o d session.TooMany = HasReplayed P c clock document i o d session.TooMany
+HasBrokenOff P c clock document i o d session.Closed = ⊥
+HasBrokenOff P c clock document i o d session.ReadFault = ⊥
+HasBrokenOff P c clock document i o d session.WriteFault = ⊥
+HasBrokenOff P c clock document i o d session.OutOfMemory = ⊥
 
-abbrev pub RunsSession : Catalogue → Readings → List ℕ → InputChange → Outside → DiskChange → Type 0 → Type 0 → KeptEnd → Type 0
-RunsSession c clock document i o d InputStays Stays end.Done = HasReplayed c clock document i o d session.Closed
-RunsSession c clock document i o d InputStays Stays (end.Stream how) = HasBrokenOff c clock document i o d how
-RunsSession c clock document i o d InputStays Stays end.ReadFault = HasReplayed c clock document i o d session.ReadFault
-RunsSession c clock document i o d InputStays Stays end.WriteFault = HasReplayed c clock document i o d session.WriteFault
-RunsSession c clock document i o d InputStays Stays end.OutOfMemory = (InputStays × Stays × OpeningLeaves c d) ⊎ HasReplayed c clock document i o d session.OutOfMemory
-RunsSession c clock document i o d InputStays Stays (end.Refused cause) = IsRefused c d cause × InputStays × Stays × RefusalLeaves c d cause
-RunsSession c clock document i o d InputStays Stays end.DiskFault = HasFailed d × InputStays × Stays × OpeningLeaves c d
-RunsSession c clock document i o d InputStays Stays (end.Line n) = ⊥
-RunsSession c clock document i o d InputStays Stays end.TooLong = ⊥
-RunsSession c clock document i o d InputStays Stays (end.Form cause) = ⊥
-RunsSession c clock document i o d InputStays Stays end.CutsFull = ⊥
+abbrev pub RunsSession : (State → Type 0) → Catalogue → Readings → List ℕ → InputChange → Outside → DiskChange → Type 0 → Type 0 → KeptEnd → Type 0
+RunsSession P c clock document i o d InputStays Stays end.Done = HasReplayed P c clock document i o d session.Closed
+RunsSession P c clock document i o d InputStays Stays (end.Stream how) = HasBrokenOff P c clock document i o d how
+RunsSession P c clock document i o d InputStays Stays end.ReadFault = HasReplayed P c clock document i o d session.ReadFault
+RunsSession P c clock document i o d InputStays Stays end.WriteFault = HasReplayed P c clock document i o d session.WriteFault
+RunsSession P c clock document i o d InputStays Stays end.OutOfMemory = (InputStays × Stays × OpeningLeaves c d) ⊎ HasReplayed P c clock document i o d session.OutOfMemory
+RunsSession P c clock document i o d InputStays Stays (end.Refused cause) = IsRefused c d cause × InputStays × Stays × RefusalLeaves c d cause
+RunsSession P c clock document i o d InputStays Stays end.DiskFault = HasFailed d × InputStays × Stays × OpeningLeaves c d
+RunsSession P c clock document i o d InputStays Stays (end.Line n) = ⊥
+RunsSession P c clock document i o d InputStays Stays end.TooLong = ⊥
+RunsSession P c clock document i o d InputStays Stays (end.Form cause) = ⊥
+RunsSession P c clock document i o d InputStays Stays end.CutsFull = ⊥

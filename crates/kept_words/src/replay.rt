@@ -5,10 +5,12 @@ ghost use Rattle.catalog.specs.Valid.{IsValid};
 ghost use Rattle.durable_cabinet.specs.Images.{IsOurs};
 ghost use Rattle.kept_cache.specs.Change.{DiskChange};
 ghost use Rattle.kept_cache.specs.Crash.{LastsThrough};
+ghost use Rattle.kept_cache.specs.Passing.{PassesDisk};
 ghost use Rattle.kept_words.specs.Runs.{RunsSession, ServesAndSaves, end_of_session};
 ghost use Rattle.tile_service.specs.Outside.{InputChange, Outside, counts};
+ghost use Rattle.tile_service.specs.Passing.{LeadsThrough};
 ghost use Rattle.tile_service.specs.Session.{IsAtRest};
-ghost use Rattle.tile_service.specs.SessionEnds.{HasSession};
+ghost use Rattle.tile_service.specs.SessionEnds.{HasSessionThrough};
 
 use cabinet::keeper::Keeper;
 use cache_core::laws::laws_of_lasting;
@@ -20,6 +22,7 @@ use http_wire::duplex::{Duplex, Ends, Loans};
 use http_wire::streams::{ByteSink, ByteSource};
 use kept_cache::end::KeptEnd;
 use kept_cache::lent::Loan;
+use kept_cache::lent_cabinet::{LentCabinet, leaves_now};
 use kept_cache::opened::{closed, end_of_refusal, opened};
 use kept_cache::saving::save_all;
 use source_render::source::Source;
@@ -30,7 +33,8 @@ use tile_service::session::{SessionEnd, replay_session};
 use wmts_rest::table::RestTable;
 
 /// Opens the cache of the disk, serves the bytes of the input as those of one connection with it, writes the responses, and saves the
-/// uses of what is kept. A fault of the disk ends it at the opening alone. Each end comes as `RunsSession` says.
+/// uses of what is kept. A fault of the disk ends it at the opening alone. Each end comes as `RunsSession` says. After each message there
+/// is a moment from which on a crash leaves what answers for each truncation that was done by then (`PassesDisk`).
 pub fn replay<D: Disk, S: Source, I: ByteSource, O: ByteSink>(
     alloc: Global,
     catalogue: Catalogue,
@@ -43,7 +47,7 @@ pub fn replay<D: Disk, S: Source, I: ByteSource, O: ByteSink>(
 ) -> KeptEnd
     requires valid { IsValid catalogue }
     requires ours { IsTrue (D.told disk.old) → IsOurs catalogue (D.state disk.old).seen }
-    ensures serves { RunsSession catalogue clock capabilities
+    ensures serves { RunsSession (PassesDisk D D.state (D.told disk.old) (D.state disk.old) (D.state disk.new)) catalogue clock capabilities
         (record { reads = counts (I.faults input.old) (I.faults input.new); from = I.left input.old; to = I.left input.new })
         (record { told = S.told source.old; renders = counts (S.faults source.old) (S.faults source.new); disk = counts (D.faults disk.old) (D.faults disk.new); writes = counts (O.faults output.old) (O.faults output.new); from = O.taken output.old; to = O.taken output.new })
         (record { told = D.told disk.old; faults = counts (D.faults disk.old) (D.faults disk.new); from = D.state disk.old; to = D.state disk.new })
@@ -96,7 +100,7 @@ fn serve_over<'a, 'b, C: Keeper, S: Source, I: ByteSource, O: ByteSink, L: Loans
     requires rest { IsAtRest (C.state counter.old.cabinet) }
     requires input { ends.input.ghost_name ≡ L.input }
     requires output { ends.output.ghost_name ≡ L.output }
-    ensures session { HasSession
+    ensures leads { HasSessionThrough (LeadsThrough C C.state C.outlasts counter.old.cabinet counter.new.cabinet)
         (record { reads = counts (I.faults ends.entry.input.now) (I.faults result.0.input.now); from = I.left ends.entry.input.now; to = I.left result.0.input.now })
         (record { told = S.told source.old; renders = counts (S.faults source.old) (S.faults source.new); disk = counts (C.faults counter.old.cabinet) (C.faults counter.new.cabinet); writes = counts (O.faults ends.entry.output.now) (O.faults result.0.output.now); from = O.taken ends.entry.output.now; to = O.taken result.0.output.now })
         counter.old.capabilities (C.state counter.old.cabinet) (C.state counter.new.cabinet) result.1 }
@@ -119,7 +123,7 @@ fn serve<C: Keeper, S: Source, I: ByteSource, O: ByteSink>(
 ) -> SessionEnd
     requires valid { IsValid (C.state counter.old.cabinet).catalogue }
     requires rest { IsAtRest (C.state counter.old.cabinet) }
-    ensures session { HasSession
+    ensures leads { HasSessionThrough (LeadsThrough C C.state C.outlasts counter.old.cabinet counter.new.cabinet)
         (record { reads = counts (I.faults input.old) (I.faults input.new); from = I.left input.old; to = I.left input.new })
         (record { told = S.told source.old; renders = counts (S.faults source.old) (S.faults source.new); disk = counts (C.faults counter.old.cabinet) (C.faults counter.new.cabinet); writes = counts (O.faults output.old) (O.faults output.new); from = O.taken output.old; to = O.taken output.new })
         counter.old.capabilities (C.state counter.old.cabinet) (C.state counter.new.cabinet) result }
@@ -140,7 +144,7 @@ fn serve_and_save<C: Keeper, S: Source, I: ByteSource, O: ByteSink>(
 ) -> SessionEnd
     requires valid { IsValid (C.state counter.old.cabinet).catalogue }
     requires rest { IsAtRest (C.state counter.old.cabinet) }
-    ensures serves { (before : ℕ) → before ≤ C.faults counter.old.cabinet → ServesAndSaves counter.old.capabilities
+    ensures serves { (before : ℕ) → before ≤ C.faults counter.old.cabinet → ServesAndSaves (LeadsThrough C C.state C.outlasts counter.old.cabinet counter.new.cabinet) counter.old.capabilities
         (record { reads = counts (I.faults input.old) (I.faults input.new); from = I.left input.old; to = I.left input.new })
         (record { told = S.told source.old; renders = counts (S.faults source.old) (S.faults source.new); disk = counts before (C.faults counter.new.cabinet); writes = counts (O.faults output.old) (O.faults output.new); from = O.taken output.old; to = O.taken output.new })
         (C.state counter.old.cabinet) (C.state counter.new.cabinet) result }
@@ -167,7 +171,7 @@ fn replay_over<'a, D: Disk, S: Source, I: ByteSource, O: ByteSink, L: Loan>(
     requires valid { IsValid catalogue }
     requires loan { disk.ghost_name ≡ L.disk }
     requires ours { IsTrue (D.told disk.now) → IsOurs catalogue (D.state disk.now).seen }
-    ensures serves { RunsSession catalogue clock capabilities
+    ensures serves { RunsSession (PassesDisk D D.state (D.told disk.entry.now) (D.state disk.entry.now) (D.state result.0.now)) catalogue clock capabilities
         (record { reads = counts (I.faults input.old) (I.faults input.new); from = I.left input.old; to = I.left input.new })
         (record { told = S.told source.old; renders = counts (S.faults source.old) (S.faults source.new); disk = counts (D.faults disk.entry.now) (D.faults result.0.now); writes = counts (O.faults output.old) (O.faults output.new); from = O.taken output.old; to = O.taken output.new })
         (record { told = D.told disk.entry.now; faults = counts (D.faults disk.entry.now) (D.faults result.0.now); from = D.state disk.entry.now; to = D.state result.0.now })
@@ -178,8 +182,9 @@ fn replay_over<'a, D: Disk, S: Source, I: ByteSource, O: ByteSink, L: Loan>(
 {
     match opened::<D, L>(alloc, catalogue, clock, disk) {
         Ok(cabinet) => {
+            leaves_now(&cabinet);
             let mut counter = Counter {
-                cabinet,
+                cabinet: LentCabinet { cabinet },
                 rest,
                 capabilities,
             };
@@ -191,7 +196,7 @@ fn replay_over<'a, D: Disk, S: Source, I: ByteSource, O: ByteSink, L: Loan>(
             } = counter;
             drop(rest);
             drop(capabilities);
-            (closed(cabinet), end_of_session(end))
+            (closed(cabinet.cabinet), end_of_session(end))
         }
         Err(refusal) => {
             drop(rest);

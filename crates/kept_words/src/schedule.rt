@@ -5,8 +5,10 @@ ghost use Rattle.catalog.specs.Valid.{IsValid};
 ghost use Rattle.durable_cabinet.specs.Images.{IsOurs};
 ghost use Rattle.kept_cache.specs.Change.{DiskChange};
 ghost use Rattle.kept_cache.specs.Crash.{LastsThrough};
+ghost use Rattle.kept_cache.specs.Passing.{PassesDisk};
 ghost use Rattle.kept_words.specs.Runs.{RunsAndSaves, RunsSchedule, end_of_schedule};
 ghost use Rattle.tile_service.specs.Outside.{InputChange, Outside, counts};
+ghost use Rattle.tile_service.specs.Passing.{LeadsThrough};
 
 use cabinet::keeper::Keeper;
 use cache_core::laws::laws_of_lasting;
@@ -17,6 +19,7 @@ use exact_ratio::words::Words;
 use http_wire::streams::{ByteSink, ByteSource};
 use kept_cache::end::KeptEnd;
 use kept_cache::lent::Loan;
+use kept_cache::lent_cabinet::{LentCabinet, leaves_now};
 use kept_cache::opened::{closed, end_of_refusal, opened};
 use kept_cache::saving::save_all;
 use source_render::source::Source;
@@ -27,7 +30,8 @@ use tile_service::schedule::{ScheduleEnd, run_schedule};
 use wmts_rest::table::RestTable;
 
 /// Opens the cache of the disk, runs the schedule of the input in it, writes the answers, and saves the uses of what is kept. A fault
-/// of the disk ends it at the opening alone. Each end comes as `RunsSchedule` says.
+/// of the disk ends it at the opening alone. Each end comes as `RunsSchedule` says. After each line there is a moment from which on a
+/// crash leaves what answers for each truncation that was done by then (`PassesDisk`).
 pub fn schedule<D: Disk, S: Source, I: ByteSource, O: ByteSink>(
     alloc: Global,
     catalogue: Catalogue,
@@ -40,7 +44,7 @@ pub fn schedule<D: Disk, S: Source, I: ByteSource, O: ByteSink>(
 ) -> KeptEnd
     requires valid { IsValid catalogue }
     requires ours { IsTrue (D.told disk.old) → IsOurs catalogue (D.state disk.old).seen }
-    ensures runs { RunsSchedule catalogue clock capabilities
+    ensures runs { RunsSchedule (PassesDisk D D.state (D.told disk.old) (D.state disk.old) (D.state disk.new)) catalogue clock capabilities
         (record { reads = counts (I.faults input.old) (I.faults input.new); from = I.left input.old; to = I.left input.new })
         (record { told = S.told source.old; renders = counts (S.faults source.old) (S.faults source.new); disk = counts (D.faults disk.old) (D.faults disk.new); writes = counts (O.faults output.old) (O.faults output.new); from = O.taken output.old; to = O.taken output.new })
         (record { told = D.told disk.old; faults = counts (D.faults disk.old) (D.faults disk.new); from = D.state disk.old; to = D.state disk.new })
@@ -90,7 +94,7 @@ fn run_and_save<C: Keeper, S: Source, I: ByteSource, O: ByteSink>(
     output: &mut O,
 ) -> ScheduleEnd
     requires valid { IsValid (C.state counter.old.cabinet).catalogue }
-    ensures runs { (before : ℕ) → before ≤ C.faults counter.old.cabinet → RunsAndSaves counter.old.capabilities
+    ensures runs { (before : ℕ) → before ≤ C.faults counter.old.cabinet → RunsAndSaves (LeadsThrough C C.state C.outlasts counter.old.cabinet counter.new.cabinet) counter.old.capabilities
         (record { reads = counts (I.faults input.old) (I.faults input.new); from = I.left input.old; to = I.left input.new })
         (record { told = S.told source.old; renders = counts (S.faults source.old) (S.faults source.new); disk = counts before (C.faults counter.new.cabinet); writes = counts (O.faults output.old) (O.faults output.new); from = O.taken output.old; to = O.taken output.new })
         ((output.new ≡ output.old) × (source.new ≡ source.old)) (C.state counter.old.cabinet) (C.state counter.new.cabinet) result }
@@ -117,7 +121,7 @@ fn schedule_over<'a, D: Disk, S: Source, I: ByteSource, O: ByteSink, L: Loan>(
     requires valid { IsValid catalogue }
     requires loan { disk.ghost_name ≡ L.disk }
     requires ours { IsTrue (D.told disk.now) → IsOurs catalogue (D.state disk.now).seen }
-    ensures runs { RunsSchedule catalogue clock capabilities
+    ensures runs { RunsSchedule (PassesDisk D D.state (D.told disk.entry.now) (D.state disk.entry.now) (D.state result.0.now)) catalogue clock capabilities
         (record { reads = counts (I.faults input.old) (I.faults input.new); from = I.left input.old; to = I.left input.new })
         (record { told = S.told source.old; renders = counts (S.faults source.old) (S.faults source.new); disk = counts (D.faults disk.entry.now) (D.faults result.0.now); writes = counts (O.faults output.old) (O.faults output.new); from = O.taken output.old; to = O.taken output.new })
         (record { told = D.told disk.entry.now; faults = counts (D.faults disk.entry.now) (D.faults result.0.now); from = D.state disk.entry.now; to = D.state result.0.now })
@@ -128,8 +132,9 @@ fn schedule_over<'a, D: Disk, S: Source, I: ByteSource, O: ByteSink, L: Loan>(
 {
     match opened::<D, L>(alloc, catalogue, clock, disk) {
         Ok(cabinet) => {
+            leaves_now(&cabinet);
             let mut counter = Counter {
-                cabinet,
+                cabinet: LentCabinet { cabinet },
                 rest,
                 capabilities,
             };
@@ -141,7 +146,7 @@ fn schedule_over<'a, D: Disk, S: Source, I: ByteSource, O: ByteSink, L: Loan>(
             } = counter;
             drop(rest);
             drop(capabilities);
-            (closed(cabinet), end_of_schedule(end))
+            (closed(cabinet.cabinet), end_of_schedule(end))
         }
         Err(refusal) => {
             drop(rest);

@@ -79,15 +79,15 @@ module _ (h : CommandChange) (stays : Stays) (d : DiskChange) (clock : Readings)
 -- ON THE CACHE OF A DISK
 
 module _ (h : CommandChange) (stays : Stays) (d : DiskChange) (DiskStays : Type 0) (clock : Readings) (c : Catalogue) (be : IsOf h.catalogue c) where
-  module _ (document : List ℕ) (has : Tells h.capabilities document) where
-    scheduled : (e : ScheduleEnd) → HasScheduled c clock document h.input h.outside d (stays.output × stays.source) e → IsCaused h d clock (word.Kept kept.Schedule) (status_of_schedule e)
+  module _ (P : State → Type 0) (document : List ℕ) (has : Tells h.capabilities document) where
+    scheduled : (e : ScheduleEnd) → HasScheduled P c clock document h.input h.outside d (stays.output × stays.source) e → IsCaused h d clock (word.Kept kept.Schedule) (status_of_schedule e)
     scheduled e x =
-        by_schedule h d clock (word.Kept kept.Schedule) (λ P p. p) h.outside x.0 document (λ rose. rose) (λ o. inr (inr (c, be, (document, has, (x.0, x.2.opened, o))))) (λ r. (c, be, (document, has, (x.0, x.2.opened, r)))) (λ n r. (c, be, (document, has, (x.0, x.2.opened, r)))) _ x.3.world e x.3.schedules
+        by_schedule h d clock (word.Kept kept.Schedule) (λ P p. p) h.outside x.0 document (λ rose. rose) (λ o. inr (inr (c, be, (document, has, (x.0, x.2.opened, o))))) (λ r. (c, be, (document, has, (x.0, x.2.opened, r)))) (λ n r. (c, be, (document, has, (x.0, x.2.opened, r)))) _ x.3.world e x.3.schedules.0
 
-    replayed : (e : SessionEnd) → HasReplayed c clock document h.input h.outside d e → IsCaused h d clock (word.Kept kept.Replay) (status_of_session e)
-    replayed e x = by_session h d clock (word.Kept kept.Replay) (λ P p. p) h.outside document x.0 x.3.served (λ rose. rose) (λ r. (c, be, (document, has, (x.0, x.2.opened, r)))) (λ e b. (c, be, (document, has, (x.0, x.2.opened, b)))) e x.3.session
+    replayed : (e : SessionEnd) → HasReplayed P c clock document h.input h.outside d e → IsCaused h d clock (word.Kept kept.Replay) (status_of_session e)
+    replayed e x = by_session h d clock (word.Kept kept.Replay) (λ P p. p) h.outside document x.0 x.3.served (λ rose. rose) (λ r. (c, be, (document, has, (x.0, x.2.opened, r)))) (λ e b. (c, be, (document, has, (x.0, x.2.opened, b)))) e x.3.session.0
 
-    by_run : (w : KeptWord) (e : KeptEnd) → HasRun h.input h.outside stays d clock w c document e → IsCaused h d clock (word.Kept w) (status_of_kept e)
+    by_run : (w : KeptWord) (e : KeptEnd) → HasRun P h.input h.outside stays d clock w c document e → IsCaused h d clock (word.Kept w) (status_of_kept e)
     by_run kept.Schedule end.Done x = scheduled schedule_end.Done x
     by_run kept.Schedule (end.Line n) x = scheduled (schedule_end.Line n) x
     by_run kept.Schedule end.ReadFault x = scheduled schedule_end.ReadFault x
@@ -218,12 +218,12 @@ module _ (h : CommandChange) (stays : Stays) (d : DiskChange) (DiskStays : Type 
 
 -- ALL WORDS
 
-module _ (h : CommandChange) (stays : Stays) (d : DiskChange) (DiskStays : Type 0) (clock : Readings) where
-  by_word : (w : Word) (s : Status) → HasServed h stays d DiskStays clock (Some w) s → IsCaused h d clock w s
+module _ (P : State → Type 0) (h : CommandChange) (stays : Stays) (d : DiskChange) (DiskStays : Type 0) (clock : Readings) where
+  by_word : (w : Word) (s : Status) → HasServed P h stays d DiskStays clock (Some w) s → IsCaused h d clock w s
   by_word (word.InMemory w) s x = by_memory h stays d clock w s x.0
   by_word (word.Kept w) s (inl x) = subst (IsCaused h d clock (word.Kept w)) (sym x.0.1) (by_both h d clock (word.Kept w) (λ P p. p) stays.capabilities x.0.0 x.0.2)
   by_word (word.Kept w) s (inr x) =
-      subst (IsCaused h d clock (word.Kept w)) (sym x.3.1) (by_run h stays d DiskStays clock x.0 (read_in h.catalogue x.0 x.2.read) x.1 (document_of h.capabilities x.1 x.2.describes) w x.3.0 x.3.2)
+      subst (IsCaused h d clock (word.Kept w)) (sym x.3.1) (by_run h stays d DiskStays clock x.0 (read_in h.catalogue x.0 x.2.read) P x.1 (document_of h.capabilities x.1 x.2.describes) w x.3.0 x.3.2)
   by_word (word.Upkeep w) s (inl x, first, second) = subst (IsCaused h d clock (word.Upkeep w)) (sym x.1) (by_catalogue h d clock (word.Upkeep w) x.0 x.2)
   by_word (word.Upkeep w) s (inr x, first, second) = subst (IsCaused h d clock (word.Upkeep w)) (sym x.2.1) (by_upkeep h stays d DiskStays clock x.0 (read_in h.catalogue x.0 x.1) w x.2.0 x.2.2)
   by_word word.Job s (inl x, same) = subst (IsCaused h d clock word.Job) (sym x.1) (by_catalogue h d clock word.Job x.0 x.2)
@@ -278,10 +278,10 @@ module _ (h : CommandChange) (d : DiskChange) (clock : Readings) (w : Word) (val
 
 -- ALL WORDS
 
-module _ (h : CommandChange) (stays : Stays) (d : DiskChange) (DiskStays : Type 0) (clock : Readings) where
+module _ (P : State → Type 0) (h : CommandChange) (stays : Stays) (d : DiskChange) (DiskStays : Type 0) (clock : Readings) where
   -- the words are a command
-  pub caused : (w : Word) (s : Status) → HasServed h stays d DiskStays clock (Some w) s → (read : Option Word) → read ≡ Some w → HasCause h d clock read s
-  caused w s served read is = subst (λ r. HasCause h d clock r s) (sym is) (by_word h stays d DiskStays clock w s served)
+  pub caused : (w : Word) (s : Status) → HasServed P h stays d DiskStays clock (Some w) s → (read : Option Word) → read ≡ Some w → HasCause h d clock read s
+  caused w s served read is = subst (λ r. HasCause h d clock r s) (sym is) (by_word P h stays d DiskStays clock w s served)
 
 pub completed : (h : CommandChange) (d : DiskChange) (clock : Readings) (read : Option Word) (s : Status) → HasCause h d clock read s → IsComplete h d clock read s
 completed h d clock None s cause = tt

@@ -1,5 +1,6 @@
 -- What the ends of the work and the refusals before it tell.
 use Rattle.std.proofs.Common.{◌≡◌, ◌↔◌, Option, Some, None, inl, inr, sym, ◌∙◌}
+use Rattle.cabinet.specs.State.{State}
 use Rattle.command_status.specs.declared.status.Status.TheVariants as status
 use Rattle.command_status.specs.declared.status.Status.{Status}
 use Rattle.command_words.specs.declared.words.MemoryWord.{MemoryWord}
@@ -78,14 +79,14 @@ other_of_kept (kept_end.Stream how) is = cc
 other_of_kept kept_end.WriteFault is = cc
 other_of_kept kept_end.OutOfMemory is = cc
 
-module _ (h : CommandChange) (stays : Stays) (d : DiskChange) (DiskStays : Type 0) (clock : Readings) where
+module _ (P : State → Type 0) (h : CommandChange) (stays : Stays) (d : DiskChange) (DiskStays : Type 0) (clock : Readings) where
   other_in_memory : (w : MemoryWord) (s : Status) → MemoryTells (without_disk h) stays clock w s → s ≡ status.Usage → ⊥
   other_in_memory w s (inl refused) is = other_of_refusal refused.0 (sym refused.1 ∙ is)
   other_in_memory memory.Schedule s (inr done) is = other_of_schedule done.3.0 (sym done.3.1 ∙ is)
   other_in_memory memory.Replay s (inr done) is = other_of_session done.3.0 (sym done.3.1 ∙ is)
   other_in_memory (memory.Drill number) s (inr done) is = other_of_drill done.3.0 (sym done.3.1 ∙ is)
 
-  other_of_word : (w : Word) (s : Status) → HasServed h stays d DiskStays clock (Some w) s → s ≡ status.Usage → ⊥
+  other_of_word : (w : Word) (s : Status) → HasServed P h stays d DiskStays clock (Some w) s → s ≡ status.Usage → ⊥
   other_of_word (word.InMemory w) s told is = other_in_memory w s told.0 is
   other_of_word (word.Kept w) s (inl refused) is = other_of_refusal refused.0.0 (sym refused.0.1 ∙ is)
   other_of_word (word.Kept w) s (inr done) is = other_of_kept done.3.0 (sym done.3.1 ∙ is)
@@ -95,7 +96,7 @@ module _ (h : CommandChange) (stays : Stays) (d : DiskChange) (DiskStays : Type 
   other_of_word word.Job s (inr done, same) is = other_of_kept done.2.0 (sym done.2.1 ∙ is)
 
   -- so `Usage` is told exactly where words are no command
-  pub exactly_usage : (w : Word) (s : Status) → HasServed h stays d DiskStays clock (Some w) s → (read : Option Word) → read ≡ Some w → (s ≡ status.Usage) ↔ (read ≡ None)
+  pub exactly_usage : (w : Word) (s : Status) → HasServed P h stays d DiskStays clock (Some w) s → (read : Option Word) → read ≡ Some w → (s ≡ status.Usage) ↔ (read ≡ None)
   exactly_usage w s told read is = ((λ usage. absurd (other_of_word w s told usage)), (λ none. absurd (no_word none)))
     where
       no_word : read ≡ None → ⊥

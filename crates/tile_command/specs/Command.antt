@@ -1,5 +1,6 @@
 -- What a command came to.
 use Rattle.std.specs.Prelude.{ℕ, Bool, IsTrue, List, Option, Some, None, ⊤}
+use Rattle.cabinet.specs.State.{State}
 use Rattle.catalog.specs.declared.catalogue.Catalogue.{Catalogue}
 use Rattle.clock.specs.Readings.{Readings}
 use Rattle.command_setup.specs.Held.{HoldsFile, MayBe}
@@ -37,14 +38,15 @@ IsFitFor (Some word.Job) text told seen = HoldsFile text told seen
 
 -- WHAT IT CAME TO
 
--- What each status says, by what the words ask for; the clock has given this before. Words that are no command touch nothing.
-abbrev pub HasServed : CommandChange → Stays → DiskChange → Type 0 → Readings → Option Word → Status → Type 0
-HasServed h stays d DiskStays clock None s = stays.catalogue × stays.capabilities × stays.input × stays.output × stays.source × DiskStays
-HasServed h stays d DiskStays clock (Some (word.InMemory w)) s = MemoryTells (without_disk h) stays clock w s × DiskStays
-HasServed h stays d DiskStays clock (Some (word.Kept w)) s = RunTells h stays d DiskStays clock w s
-HasServed h stays d DiskStays clock (Some (word.Upkeep w)) s =
+-- What each status says, by what the words ask for; the clock has given this before. Words that are no command touch nothing. Of a run on the cache of
+-- the disk P holds of the cabinet after each line of its schedule, or after each message of its session.
+abbrev pub HasServed : (State → Type 0) → CommandChange → Stays → DiskChange → Type 0 → Readings → Option Word → Status → Type 0
+HasServed P h stays d DiskStays clock None s = stays.catalogue × stays.capabilities × stays.input × stays.output × stays.source × DiskStays
+HasServed P h stays d DiskStays clock (Some (word.InMemory w)) s = MemoryTells (without_disk h) stays clock w s × DiskStays
+HasServed P h stays d DiskStays clock (Some (word.Kept w)) s = RunTells P h stays d DiskStays clock w s
+HasServed P h stays d DiskStays clock (Some (word.Upkeep w)) s =
     UpkeepTells h.catalogue h.input (output_of h.outside) stays d DiskStays clock w s × stays.capabilities × stays.source
-HasServed h stays d DiskStays clock (Some word.Job) s = JobTells h.catalogue h.input h.outside stays d DiskStays clock s × stays.capabilities
+HasServed P h stays d DiskStays clock (Some word.Job) s = JobTells h.catalogue h.input h.outside stays d DiskStays clock s × stays.capabilities
 
 -- what a crash leaves, by what the words ask for
 abbrev pub HasLastedBy : CommandChange → DiskChange → Type 0 → Option Word → Type 0

@@ -1,5 +1,6 @@
 -- What a word on the cache of a disk came to.
 use Rattle.std.specs.Prelude.{ℕ, ◌≡◌, ◌⊎◌, List, Ok, Err, ⊤}
+use Rattle.cabinet.specs.State.{State}
 use Rattle.catalog.specs.declared.catalogue.Catalogue.{Catalogue}
 use Rattle.clock.specs.Readings.{Readings}
 use Rattle.command_setup.specs.Setup.{Configures, IsRead}
@@ -18,18 +19,18 @@ use Rattle.tile_command.specs.Change.{CommandChange, IsUnready, Stays, WithBoth}
 use Rattle.tile_command.specs.Statuses.{status_of_kept, status_of_refusal}
 use Rattle.tile_service.specs.Outside.{InputChange, Outside}
 
--- RUNS
+-- RUNS, with P of the cabinet after each line of a schedule and after each message of a session
 
 -- a run ended so
-abbrev pub HasRun : InputChange → Outside → Stays → DiskChange → Readings → KeptWord → Catalogue → List ℕ → KeptEnd → Type 0
-HasRun i o stays d clock kept.Schedule c document e = RunsSchedule c clock document i o d stays.input (stays.output × stays.source) e
-HasRun i o stays d clock kept.Replay c document e = RunsSession c clock document i o d stays.input (stays.output × stays.source) e
+abbrev pub HasRun : (State → Type 0) → InputChange → Outside → Stays → DiskChange → Readings → KeptWord → Catalogue → List ℕ → KeptEnd → Type 0
+HasRun P i o stays d clock kept.Schedule c document e = RunsSchedule P c clock document i o d stays.input (stays.output × stays.source) e
+HasRun P i o stays d clock kept.Replay c document e = RunsSession P c clock document i o d stays.input (stays.output × stays.source) e
 
 -- what each status says of a run: it was refused before the disk was touched, or the catalogue and the document were read and it ended
-abbrev pub RunTells : CommandChange → Stays → DiskChange → Type 0 → Readings → KeptWord → Status → Type 0
-RunTells h stays d DiskStays clock w s =
+abbrev pub RunTells : (State → Type 0) → CommandChange → Stays → DiskChange → Type 0 → Readings → KeptWord → Status → Type 0
+RunTells P h stays d DiskStays clock w s =
     (IsUnready h stays s × DiskStays)
-    ⊎ WithBoth h (λ c document. (e : KeptEnd) × (s ≡ status_of_kept e) × HasRun h.input h.outside stays d clock w c document e)
+    ⊎ WithBoth h (λ c document. (e : KeptEnd) × (s ≡ status_of_kept e) × HasRun P h.input h.outside stays d clock w c document e)
 
 -- UPKEEP
 

@@ -2,6 +2,7 @@
 ghost use Rattle.std.specs.Prelude.{◌≡◌, ◌↔◌, None};
 ghost use Rattle.command_words.specs.Words.{word_of};
 ghost use Rattle.kept_cache.specs.Change.{DiskChange};
+ghost use Rattle.kept_cache.specs.Passing.{PassesDisk};
 ghost use Rattle.tile_command.specs.Causes.{HasCause, IsComplete};
 ghost use Rattle.tile_command.specs.Change.{CommandChange, Stays};
 ghost use Rattle.tile_command.specs.Command.{HasLastedBy, HasServed, IsFitFor};
@@ -29,8 +30,10 @@ use std::alloc::Global;
 ///
 /// `Usage` exactly where the words are none of these; each other status comes as `HasServed` says, and for no other cause than
 /// `HasCause` says, so that what is in order is done, and what is refused of the files is told, unless something failed or memory ran out
-/// (`IsComplete`, `IsExact`). At every moment of every word but `make` a crash leaves what `HasLastedBy` says. A modelled disk has to hold
-/// a file of this program, by the catalogue that is read, where a word opens it.
+/// (`IsComplete`, `IsExact`). At every moment of every word but `make` a crash leaves what `HasLastedBy` says; and after each line of a
+/// schedule, and each message of a connection, on the cache of the disk there is a moment from which on a crash leaves what answers for each
+/// truncation that was done by then (`PassesDisk`). A modelled disk has to hold a file of this program, by the catalogue that is read, where
+/// a word opens it.
 pub fn run_command<S: Source, D: Disk, I: ByteSource, O: ByteSink>(
     alloc: Global,
     words: &[Words],
@@ -44,7 +47,7 @@ pub fn run_command<S: Source, D: Disk, I: ByteSource, O: ByteSink>(
 ) -> Status
     requires { IsFitFor (word_of words.now) (I.left catalogue.old) (D.told disk.old) (D.state disk.old).seen }
     ensures usage { (result ≡ Status.Usage) ↔ (word_of words.now ≡ None) }
-    ensures served { HasServed
+    ensures served { HasServed (PassesDisk D D.state (D.told disk.old) (D.state disk.old) (D.state disk.new))
         (record {
           catalogue = record { reads = counts (I.faults catalogue.old) (I.faults catalogue.new); from = I.left catalogue.old; to = I.left catalogue.new };
           capabilities = record { reads = counts (I.faults capabilities.old) (I.faults capabilities.new); from = I.left capabilities.old; to = I.left capabilities.new };

@@ -5,6 +5,7 @@ ghost use Rattle.command_setup.specs.Held.{HoldsFile};
 ghost use Rattle.durable_cabinet.specs.Images.{IsOurs};
 ghost use Rattle.kept_cache.specs.Change.{DiskChange};
 ghost use Rattle.kept_cache.specs.Crash.{LastsThrough};
+ghost use Rattle.kept_cache.specs.Passing.{PassesDisk};
 ghost use Rattle.tile_command.specs.Change.{CommandChange, Stays};
 ghost use Rattle.tile_command.specs.Kept.{HasLasted, HasRun, RunTells};
 ghost use Rattle.tile_service.specs.Outside.{InputChange, Outside, counts};
@@ -38,7 +39,7 @@ fn run<S: Source, D: Disk, I: ByteSource, O: ByteSink>(
 ) -> KeptEnd
     requires valid { IsValid catalogue }
     requires ours { IsTrue (D.told disk.old) → IsOurs catalogue (D.state disk.old).seen }
-    ensures runs { HasRun
+    ensures runs { HasRun (PassesDisk D D.state (D.told disk.old) (D.state disk.old) (D.state disk.new))
         (record { reads = counts (I.faults input.old) (I.faults input.new); from = I.left input.old; to = I.left input.new })
         (record { told = S.told source.old; renders = counts (S.faults source.old) (S.faults source.new); disk = counts (D.faults disk.old) (D.faults disk.new); writes = counts (O.faults output.old) (O.faults output.new); from = O.taken output.old; to = O.taken output.new })
         (record { catalogue = ⊤; capabilities = ⊤; input = (input.new ≡ input.old); output = (output.new ≡ output.old); source = (source.new ≡ source.old) })
@@ -70,7 +71,7 @@ pub fn on_disk<S: Source, D: Disk, I: ByteSource, O: ByteSink>(
     clock: Clock,
 ) -> Status
     requires { HoldsFile (I.left catalogue.old) (D.told disk.old) (D.state disk.old).seen }
-    ensures tells { RunTells
+    ensures tells { RunTells (PassesDisk D D.state (D.told disk.old) (D.state disk.old) (D.state disk.new))
         (record {
           catalogue = record { reads = counts (I.faults catalogue.old) (I.faults catalogue.new); from = I.left catalogue.old; to = I.left catalogue.new };
           capabilities = record { reads = counts (I.faults capabilities.old) (I.faults capabilities.new); from = I.left capabilities.old; to = I.left capabilities.new };

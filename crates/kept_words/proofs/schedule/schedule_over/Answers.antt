@@ -1,6 +1,8 @@
 use Rattle.std.proofs.Common.{sym, ◌∙◌}
 use Rattle.kept_cache.proofs.Closing.{has_opened}
 use Rattle.kept_cache.proofs.Lasting.{worked}
+use Rattle.kept_cache.proofs.Passing.{leads_passes}
+use Rattle.kept_words.proofs.Passing.{runs_weaker}
 use Rattle.kept_words.proofs.Running.{schedule_tells}
 use Rattle.kept_words.proofs.schedule.schedule_over.Goals as goal
 
@@ -11,19 +13,22 @@ returns-in-Ok-clause-runs g c =
     let work = c.run_and_save-end in
     let faults = g.D.Disk.faults in
     let first = c.in-Ok.cabinet in
-    let last = work.new.counter.cabinet in
-    let outlasts = work.ensures.lasts.outlasts in
+    let last = work.new.counter.cabinet.cabinet in
+    let outlasts = work.ensures.lasts.outlasts.outlasts in
     let told = outlasts.same_told ∙ o.told in
     rw (same, c.end_of_schedule.ensures)
-    (schedule_tells _ _ _ _ _ _ _ _ work.result (
-      c.in-Ok.cabinet.state,
-      work.new.counter.cabinet.state,
+    (schedule_tells _ _ _ _ _ _ _ _ _ work.result (
+      first.state,
+      last.state,
       has_opened _ _ _ _ _ (faults c.args.disk.now) (faults first.file.disk.disk.now) (faults last.file.disk.disk.now) first.file.journal last.file.journal _ _ _ _ _ c.requires.valid o.opened outlasts.same_catalogue told o.later o.settled outlasts.settled (rw (sym same) c.closed.ensures.closed),
-      work.ensures.runs _ o.later,
+      runs_weaker _ _
+          (leads_passes work.new.counter.cabinet c.args.disk.now (λ k. k.cabinet.file.disk.disk.now) (λ k. k.cabinet.state) (λ k. k.cabinet.file.journal) g.D.Disk.told g.D.Disk.faults g.D.Disk.state g.met.D.Disk.lawful
+          _ _ _ (record { cabinet = first }) o.opened o.lasts o.told c.leaves_now.ensures)
+          _ _ _ _ _ _ work.result (work.ensures.runs _ o.later),
     ))
 
 pub returns-in-Ok-clause-lasts : goal.returns-in-Ok-clause-lasts
 returns-in-Ok-clause-lasts g c =
     let o = c.in-Ok.ensures in
     rw c.closed.ensures.same
-    (worked _ _ _ _ _ _ _ _ _ _ _ _ _ _ _ (λ told. g.met.D.Disk.lawful c.args.disk.now told) o.opened o.lasts o.told c.run_and_save-end.ensures.lasts.outlasts)
+    (worked _ _ _ _ _ _ _ _ _ _ _ _ _ _ _ (λ told. g.met.D.Disk.lawful c.args.disk.now told) o.opened o.lasts o.told c.run_and_save-end.ensures.lasts.outlasts.outlasts)
