@@ -3,6 +3,7 @@ ghost use Rattle.std.specs.Prelude.{◌≡◌, ◌↔◌, None, Some, IsTrue};
 ghost use Rattle.catalog.specs.Valid.{IsValid};
 ghost use Rattle.kept_cache.specs.Change.{DiskChange, OutputChange};
 ghost use Rattle.tile_service.specs.Outside.{InputChange, counts};
+ghost use Rattle.feed_words.specs.Complete.{IsComplete};
 ghost use Rattle.feed_words.specs.Ends.{CacheLasts, FeedChange, FeedTells, IsFitFor, IsFitUnder, Stays, WordEnds, WordLasts};
 ghost use Rattle.feed_words.specs.Words.{feed_word};
 
@@ -93,7 +94,8 @@ fn done<D: Disk, I: ByteSource, O: ByteSink>(
 /// but where memory runs out or a write fails. A line is the number of a change, of 1 to 18 digits without a leading zero, one blank, and a
 /// cover.
 ///
-/// `Usage` exactly where the words are neither; each other status comes as `FeedTells` says. At every moment a crash leaves of the cache
+/// `Usage` exactly where the words are neither; each other status comes as `FeedTells` says, so that a feed whose files and lines are in
+/// order is done unless something failed or memory ran out (`IsComplete`). At every moment a crash leaves of the cache
 /// what `CacheLasts` says, and of the marks what `HasFed` does. Modelled disks have to hold files of this program, by the catalogue that is
 /// read, where they are opened.
 pub fn run_feed<D: Disk, I: ByteSource, O: ByteSink>(
@@ -118,6 +120,15 @@ pub fn run_feed<D: Disk, I: ByteSource, O: ByteSink>(
         })
         (catalogue.new ≡ catalogue.old)
         (record { input = (input.new ≡ input.old); output = (output.new ≡ output.old); cache = (disk.new ≡ disk.old); marks = (marks.new ≡ marks.old) })
+        clock (feed_word words.now) result }
+    ensures complete { IsComplete
+        (record {
+          catalogue = record { reads = counts (I.faults catalogue.old) (I.faults catalogue.new); from = I.left catalogue.old; to = I.left catalogue.new };
+          input = record { reads = counts (I.faults input.old) (I.faults input.new); from = I.left input.old; to = I.left input.new };
+          output = record { writes = counts (O.faults output.old) (O.faults output.new); from = O.taken output.old; to = O.taken output.new };
+          cache = record { told = D.told disk.old; faults = counts (D.faults disk.old) (D.faults disk.new); from = D.state disk.old; to = D.state disk.new };
+          marks = record { told = D.told marks.old; faults = counts (D.faults marks.old) (D.faults marks.new); from = D.state marks.old; to = D.state marks.new };
+        })
         clock (feed_word words.now) result }
     ensures lasts { CacheLasts
         (record { reads = counts (I.faults catalogue.old) (I.faults catalogue.new); from = I.left catalogue.old; to = I.left catalogue.new })
