@@ -18,6 +18,7 @@ use Rattle.hall_service.specs.Stints.{IsStint, Service, Stint, passes_of}
 use Rattle.hall_service.specs.Upkept.{HasKeptUp}
 use Rattle.hall_service.proofs.Between.{HasTurnsAt, are_newer, of_stints}
 use Rattle.hall_service.proofs.JobTurns.{of_idle}
+use Rattle.hall_service.proofs.Knowing.{all_cancelled}
 use Rattle.hall_service.proofs.Upkept.{of_upkeep}
 
 -- those that served, those that ran jobs, and the one that kept the cache up
@@ -57,6 +58,13 @@ module _ {L : Type 0} (s : Service L) where
         given = by.links.given;
         served = served;
         jobs = record { before = by.before; new = by.new; on = by.on; heard = by.links.served.heard };
+        cancelled = record {
+          before = by.canceller;
+          new = by.place;
+          on = by.cancels;
+          knows = by.links.knows;
+          each = all_cancelled s served.stints by.cancels.heard by.cancels.after served.held by.links.knows by.cancels.stops_again;
+        };
         upkeep = keeps.after;
         kept_up = keeps.kept_up;
         line = stands;

@@ -1,11 +1,12 @@
 -- The hands of all workers, gathered in one.
-use Rattle.std.proofs.Common.{⊎_elim, ◌≡◌, ◌∙◌, ◌<◌, ℕ, ◌+◌, List, [], ◌∷◌, ◌++◌, append_assoc, append-nil, refl, sym, ap, subst, arith}
+use Rattle.std.proofs.Common.{⊎_elim, ◌≡◌, ◌∙◌, ◌<◌, ℕ, ◌+◌, Bool, List, [], ◌∷◌, ◌++◌, length, append_assoc, append-nil, refl, sym, ap, subst, arith}
 use Rattle.std.proofs.lemmas.List.Elements.{Contains-append_cases, Contains-append_left, Contains-push}
 use Rattle.std.specs.List.{AllByRecursion, Contains}
-use Rattle.std.specs.Prelude.{Option}
+use Rattle.std.specs.Prelude.{MatchBool, Option}
 use Rattle.atomic_table.specs.Seated.{TableId}
 use Rattle.cache_hall.specs.Turned.{HallPass}
 use Rattle.catalog.specs.declared.catalogue.Catalogue.{Catalogue}
+use Rattle.causes.specs.Causes.{Rose}
 use Rattle.crossbeam_queue.specs.Passes.{Pass, view}
 use Rattle.job_board.specs.Calls.{BoardHolding}
 use Rattle.job_runner.specs.Idles.{HasHeard, Standby}
@@ -13,10 +14,11 @@ use Rattle.link_queue.proofs.Sums.{weigh-append}
 use Rattle.link_queue.specs.Hands.{IsEven, IsHand, hand, with_other}
 use Rattle.link_queue.specs.Weights.{weigh}
 use Rattle.link_queue.specs.declared.hand.Hand.{Hand}
-use Rattle.hall_service.specs.Crew.{AreKept, AreServedBy, HasGathered, HasWorked, IsReady}
+use Rattle.truncation_list.specs.Books.{AnswersForFronted}
+use Rattle.hall_service.specs.Crew.{AreKept, AreServedBy, HasGathered, HasServedLinks, HasWorked, IsReady}
 use Rattle.hall_service.specs.Stints.{HeldSession, IsStint, Service, Stint, boards_of, links_in, links_of, passes_of}
 use Rattle.turnstile.proofs.Notes.{the_one}
-use Rattle.hall_service.proofs.Hearing.{hears_none, hears_one}
+use Rattle.hall_service.proofs.Hearing.{hears_none, hears_on, hears_one, tells_on}
 use Rattle.hall_service.proofs.Holding.{stint_of}
 
 abbrev stint : {L : Type 0} → List (HeldSession L) → HallPass → BoardHolding → Stint L
@@ -28,10 +30,6 @@ keeps_one stints passes sessions pass board kept p c = ⊎_elim
     (λ (first : Contains (pass ∷ []) p). subst (Contains (passes ++ pass ∷ [])) (the_one pass p first) (Contains-push passes pass))
     (λ (later : Contains (passes_of stints) p). Contains-append_left passes (pass ∷ []) p (kept p later))
     (Contains-append_cases (pass ∷ []) (passes_of stints) p c)
-
--- more passes
-pub served_with : {L : Type 0} (s : Service L) (links : List L) (passes more : List HallPass) (before after : Standby) → AreServedBy s links passes before after → AreServedBy s links (passes ++ more) before after
-served_with s links passes more before after by = record { served = by.served; kept = λ p c. Contains-append_left passes more p (by.kept p c); heard = by.heard }
 
 module _ {L : Type 0} (s : Service L) where
   pub gathers_none : (pass : HallPass) (board : BoardHolding) (renders : ℕ) (mine : Pass L (Hand L)) (r : Standby) → HasWorked s (hand 1 [] []) pass board renders mine → HasGathered s 1 pass board renders mine [] r r
@@ -103,6 +101,27 @@ module _ {L : Type 0} (s : Service L) where
 
   pub gather_ends : (all left : ℕ) (pass : HallPass) (board : BoardHolding) (renders : ℕ) (mine : Pass L (Hand L)) (passes : List HallPass) (before after : Standby) → left ≡ 0 → Gather all left pass board renders mine passes before after → HasGathered s (1 + all) pass board renders mine passes before after
   gather_ends all left pass board renders mine passes before after none g = subst (λ n. HasGathered s n pass board renders mine passes before after) (omega (arith, none, g.each)) g.gathered
+
+  -- what was served, with the pass of the upkeep and those of members put behind those that served; who runs jobs and who cancels them have
+  -- heard of it
+  pub links_served : (asked : ℕ) (given_before given_after links put : List L) (faults_before faults_after : ℕ) (rest kept passes members : List HallPass) (upkeep : HallPass) (before mid after : Standby) (other cancels : BoardHolding) (all : Bool) → put ≡ links → kept ≡ rest ++ upkeep ∷ []
+      → passes ≡ kept ++ members → AreServedBy s put rest before mid → HasHeard mid after (other ∷ []) → AnswersForFronted cancels.book mid.board.book → given_after ≡ given_before ++ links → MatchBool all (length links ≡ asked) (Rose faults_before faults_after)
+      → HasServedLinks s asked given_before given_after faults_before faults_after passes before after cancels all
+  links_served asked given_before given_after links put faults_before faults_after rest kept passes members upkeep before mid after other cancels all is_put is_kept are by more told given each =
+      let left = subst (λ (xs : List L). AreServedBy s xs rest before mid) is_put by in
+      record {
+        links = links;
+        given = given;
+        served = record {
+          served = left.served;
+          kept = λ p c.
+              subst (λ (ps : List HallPass). Contains ps p) (sym are)
+              (Contains-append_left kept members p (subst (λ (ps : List HallPass). Contains ps p) (sym is_kept) (Contains-append_left rest (upkeep ∷ []) p (left.kept p c))));
+          heard = hears_on before mid after other (boards_of left.served.stints) left.heard more;
+        };
+        knows = tells_on mid cancels (boards_of left.served.stints) left.heard.theirs told;
+        each = each;
+      }
 
 -- a worker that has taken over another hand may serve
 pub ready_with : {L : Type 0} (queue table at : TableId) (c : Catalogue) (tells : Option ℕ) (pass : HallPass) (board : BoardHolding) (mine other later : Pass L (Hand L)) → IsReady queue table at c tells pass board mine → IsHand queue (with_other (view mine) (view other)) later

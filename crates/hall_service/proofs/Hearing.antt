@@ -1,6 +1,6 @@
 -- What who runs jobs has heard of the board.
 use Rattle.std.proofs.Common.{◌∙◌, List, [], ◌∷◌, ◌++◌, append-nil, refl, sym, ap, subst}
-use Rattle.std.proofs.lemmas.List.Elements.{All-cons, All-head, All-nil, All-weaker}
+use Rattle.std.proofs.lemmas.List.Elements.{All-cons, All-head, All-nil, All-tail, All-weaker}
 use Rattle.std.specs.List.{All}
 use Rattle.atomic_table.specs.Seated.{TableId}
 use Rattle.catalog.specs.declared.catalogue.Catalogue.{Catalogue}
@@ -36,6 +36,17 @@ hears_one before mid after other others had more =
       theirs = All-cons knows other others (All-head knows other [] more.theirs)
           (All-weaker (λ (p : BoardHolding). AnswersForFronted mid.board.book p.book) knows (λ p h. fronted_through after.board.book mid.board.book p.book more.mine h) others had.theirs);
     }
+
+-- what it had heard it knows after it heard one pass more
+pub hears_on : (before mid after : Standby) (other : BoardHolding) (others : List BoardHolding) → HasHeard before mid others → HasHeard mid after (other ∷ []) → HasHeard before after others
+hears_on before mid after other others had more =
+    let all = hears_one before mid after other others had more in
+    record { idle = all.idle; is = all.is; mine = all.mine; theirs = All-tail (λ (p : BoardHolding). AnswersForFronted after.board.book p.book) other others all.theirs }
+
+-- whom it told then knows all that it had heard
+pub tells_on : (mid : Standby) (told : BoardHolding) (others : List BoardHolding) → All (λ (p : BoardHolding). AnswersForFronted mid.board.book p.book) others → AnswersForFronted told.book mid.board.book → All (λ (p : BoardHolding). AnswersForFronted told.book p.book) others
+tells_on mid told others heard more =
+    All-weaker (λ (p : BoardHolding). AnswersForFronted mid.board.book p.book) (λ (p : BoardHolding). AnswersForFronted told.book p.book) (λ p h. fronted_through told.book mid.board.book p.book more h) others heard
 
 -- it may run jobs as before
 pub ready_heard : (boards table : TableId) (c : Catalogue) (before after : Standby) (others : List BoardHolding) → IsReady boards table c before → HasHeard before after others → IsReady boards table c after

@@ -5,6 +5,8 @@ pub mod Hearing
 pub mod Holding
 pub mod Between
 pub mod JobTurns
+pub mod Stopping
+pub mod Knowing
 pub mod Closing
 pub mod Gathering
 pub mod Passes

@@ -1,5 +1,5 @@
 -- The turns of an upkeep, one after the other.
-use Rattle.std.proofs.Common.{All, ◌≡◌, ◌||◌, ◌∙◌, Bool, true, false, IsTrue, List, [], ◌∷◌, ◌++◌, inl, inr, ap, subst, sym}
+use Rattle.std.proofs.Common.{◌≡◌, ◌||◌, ◌∙◌, Bool, true, false, IsTrue, List, [], ◌∷◌, ◌++◌, inl, inr, ap, subst, sym}
 use Rattle.std.proofs.lemmas.List.Elements.{All-nil, All-push, All-append, Contains-append_left, Contains-push}
 use Rattle.std.specs.List.{Contains}
 use Rattle.cabinet_chest.specs.declared.command.Command.TheVariants as command

@@ -11,6 +11,7 @@ use Rattle.job_board.specs.Calls.{BoardHolding, IsBoardPass, IsFirstBoardPass}
 use Rattle.job_runner.specs.Idles.{HasHeard, Standby}
 use Rattle.link_queue.specs.Hands.{IsHand, hand}
 use Rattle.link_queue.specs.declared.hand.Hand.{Hand}
+use Rattle.truncation_list.specs.Books.{AnswersForFronted}
 use Rattle.hall_service.specs.Stints.{AreHeld, AreServed, HeldSession, IsStint, Service, Stint, boards_of, links_in, links_of, passes_of}
 
 -- a worker of this queue, of this turnstile and of this board may serve: where its pass is told, its source tells the catalogue's number
@@ -65,9 +66,10 @@ pub record AreServedBy {L : Type 0} (s : Service L) (links : List L) (passes : L
   pub heard : HasHeard before after (boards_of served.stints)
 
 -- so many links were asked for; the listener gave these, each of which was served, by passes that are among these; and where it gave
--- fewer, an accept had failed
-pub record HasServedLinks {L : Type 0} (s : Service L) (asked : ℕ) (given_before given_after : List L) (faults_before faults_after : ℕ) (passes : List HallPass) (before after : Standby) (all : Bool) : Type 0 where
+-- fewer, an accept had failed. Who cancels jobs has heard what those that served know of the board
+pub record HasServedLinks {L : Type 0} (s : Service L) (asked : ℕ) (given_before given_after : List L) (faults_before faults_after : ℕ) (passes : List HallPass) (before after : Standby) (cancels : BoardHolding) (all : Bool) : Type 0 where
   pub links : List L
   pub given : given_after ≡ given_before ++ links
   pub served : AreServedBy s links passes before after
+  pub knows : All (λ (p : BoardHolding). AnswersForFronted cancels.book p.book) (boards_of served.served.stints)
   pub each : MatchBool all (length links ≡ asked) (Rose faults_before faults_after)

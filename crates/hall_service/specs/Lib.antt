@@ -1,6 +1,7 @@
 pub mod Upkept
 pub mod Between
 pub mod Stints
+pub mod Cancelled
 pub mod Crew
 pub mod Runners
 pub mod First

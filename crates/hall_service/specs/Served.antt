@@ -3,6 +3,7 @@ use Rattle.std.specs.Prelude.{ℕ, ◌≡◌, ◌++◌, List, [], ◌∷◌, len
 use Rattle.cache_hall.specs.Turned.{HallPass}
 use Rattle.causes.specs.Causes.{Rose}
 use Rattle.hall_service.specs.Between.{AreNewer}
+use Rattle.hall_service.specs.Cancelled.{HasCancelledJobs}
 use Rattle.hall_service.specs.Runners.{HasRunJobs}
 use Rattle.hall_service.specs.Stints.{AreServed, Service, boards_of, passes_of}
 use Rattle.hall_service.specs.Upkept.{HasKeptUp}
@@ -21,13 +22,15 @@ pub record Listened (L : Type 0) : Type 0 where
 
 -- Each link that the listener gave was served to the end of one session, by passes of one turnstile, which had made nothing before their
 -- first session, and from places at one board, on which there was no job at first; jobs were run from that board until none waited of all
--- that the sessions had submitted; meanwhile one pass that had made nothing kept the cache up, and did nothing else. The turns of all of
--- them stand in one line, and of any two of them what was asked for is newer than what was truncated before.
+-- that the sessions had submitted; at the end each of these was cancelled; meanwhile one pass that had made nothing kept the cache up, and
+-- did nothing else. The turns of all of them stand in one line, and of any two of them what was asked for is newer than what was truncated
+-- before.
 pub record HasServedOver {L : Type 0} (s : Service L) (h : Listened L) : Type 0 where
   pub links : List L
   pub given : h.given_after ≡ h.given_before ++ links
   pub served : AreServed s links
   pub jobs : HasRunJobs s (boards_of served.stints)
+  pub cancelled : HasCancelledJobs s.board (boards_of served.stints)
   pub upkeep : HallPass
   pub kept_up : HasKeptUp s.catalogue s.first upkeep
   pub line : AreInLine (passes_of served.stints ++ idles.passes_of jobs.on.after.idle ++ upkeep ∷ [])

@@ -4,12 +4,13 @@ use Rattle.std.specs.Prelude.{ℕ, ◌≡◌, Bool, List, [], Option, Some}
 use Rattle.std.specs.List.{Contains}
 use Rattle.atomic_table.specs.Seated.{TableId}
 use Rattle.cache_hall.specs.Turned.{HallPass}
+use Rattle.hall_service.specs.Cancelled.{HasCancelledOn}
 use Rattle.hall_service.specs.Crew.{AreSupplies, HasServedLinks}
 use Rattle.hall_service.specs.Runners.{HasRunOn, IsNewRunner}
 use Rattle.hall_service.specs.Served.{Listened}
 use Rattle.hall_service.specs.Stints.{Service}
 use Rattle.hall_service.specs.Upkept.{IsKeptUpBy}
-use Rattle.job_board.specs.Calls.{BoardHolding}
+use Rattle.job_board.specs.Calls.{BoardHolding, IsFirstBoardPass}
 use Rattle.job_runner.specs.Idles.{Standby}
 use Rattle.job_runner.specs.Idles as idles
 
@@ -21,11 +22,14 @@ pub record IsSupplied {L S : Type 0} (table : TableId) (service : HallPass → S
   pub unused : first.made ≡ []
   pub supplies : AreSupplies (service first) tells passes boards sources
 
--- all links that were given were served, all jobs were run, and the cache was kept up, by passes that are among these
+-- all links that were given were served, all jobs were run or cancelled, and the cache was kept up, by passes that are among these
 pub record HasServedBy {L : Type 0} (s : Service L) (h : Listened L) (passes : List HallPass) (all : Bool) : Type 0 where
   pub before : Standby
   pub new : IsNewRunner s before
   pub on : HasRunOn s.catalogue before
   pub among : (p : HallPass) → Contains (idles.passes_of on.after.idle) p → Contains passes p
   pub upkeep : IsKeptUpBy s.catalogue s.first passes
-  pub links : HasServedLinks s h.connections h.given_before h.given_after h.accepts.before h.accepts.after passes on.between on.heard all
+  pub canceller : BoardHolding
+  pub place : IsFirstBoardPass s.board canceller
+  pub cancels : HasCancelledOn canceller
+  pub links : HasServedLinks s h.connections h.given_before h.given_after h.accepts.before h.accepts.after passes on.between on.heard cancels.heard all

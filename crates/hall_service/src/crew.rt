@@ -3,6 +3,7 @@ ghost use Rattle.std.specs.Prelude.{All, Bool, IfOk, Some, length, true, [], ◌
 ghost use Rattle.atomic_table.specs.Seated.{TableId};
 ghost use Rattle.cache_hall.specs.Turned.{HallPass, IsPassOf};
 ghost use Rattle.catalog.specs.declared.catalogue.Catalogue.{Catalogue};
+ghost use Rattle.job_board.specs.Calls.{IsFirstBoardPass};
 ghost use Rattle.job_runner.specs.Idles.{MayJoin};
 ghost use Rattle.link_queue.specs.Hands.{IsHand, all_parts, hand, table_of};
 ghost use Rattle.hall_service.specs.Crew.{AreSupplies, IsNew};
@@ -33,12 +34,14 @@ pub(crate) struct Worker<K: Keeper, S: Source, L: Link> {
     pub(crate) source: S,
 }
 
-/// The workers of a server, the pass for its upkeep, and who runs its jobs.
+/// The workers of a server, the pass for its upkeep, who runs its jobs, and the place at the board from which these are cancelled at the
+/// end.
 #[derive(Drop)]
 pub(crate) struct Crew<K: Keeper, S: Source, L: Link, G: JobGate> {
     pub(crate) workers: Vec<Worker<K, S, L>>,
     pub(crate) upkeep: Pass<CabinetChest<K>>,
     pub(crate) runner: Runner<K, S, G>,
+    pub(crate) canceller: BoardPass,
 }
 
 /// All that have a hand at the queue: a crew, and who accepts links.
@@ -118,7 +121,8 @@ fn runner_of<K: Keeper, S: Source, G: JobGate>(
     Runner::new(alloc, board, idle)
 }
 
-/// A crew of workers, the upkeep, and who runs jobs with all that is left of the supplies. `AllocError` where memory runs out.
+/// A crew of workers, the upkeep, who cancels jobs, and who runs them with all that is left of the supplies. `AllocError` where memory runs
+/// out.
 pub(crate) fn crew_of<K: Keeper, S: Source, L: Link, G: JobGate>(
     alloc: Global,
     queue: &LinkQueue<L>,
@@ -127,7 +131,7 @@ pub(crate) fn crew_of<K: Keeper, S: Source, L: Link, G: JobGate>(
     gates: Vec<G>,
 ) -> Result<Crew<K, S, L, G>, AllocError>
     requires passes { length supplies.passes.items ≡ WORKERS + 1 + MEMBERS }
-    requires boards { length supplies.boards.items ≡ WORKERS + 1 }
+    requires boards { length supplies.boards.items ≡ WORKERS + 2 }
     requires sources { length supplies.sources.items ≡ WORKERS + MEMBERS }
     requires gates { length gates.items ≡ MEMBERS }
     requires mine { IsHand (table_of queue.now.links) (hand all_parts [] []) mine.old }
@@ -135,7 +139,7 @@ pub(crate) fn crew_of<K: Keeper, S: Source, L: Link, G: JobGate>(
     ensures each { IfOk result (λ crew. length crew.workers.items ≡ WORKERS) }
     ensures new { (s : Service L) → s.first.charter ≡ Some s.catalogue → AreSupplies s S.told supplies.passes.items supplies.boards.items supplies.sources.items
         → IfOk result (λ crew. All (λ w. IsNew (table_of queue.now.links) s (S.told w.source) w.pass w.board w.hand) crew.workers.items
-        × (crew.upkeep ≡ s.first) × IsNewRunner s crew.runner) }
+        × (crew.upkeep ≡ s.first) × IsNewRunner s crew.runner × IsFirstBoardPass s.board crew.canceller) }
 {
     let mut supplies = supplies;
     let workers = workers_of(alloc, queue, mine, &mut supplies)?;
@@ -150,10 +154,14 @@ pub(crate) fn crew_of<K: Keeper, S: Source, L: Link, G: JobGate>(
     let Some(board) = boards.pop() else {
         unreachable!()
     };
+    let Some(canceller) = boards.pop() else {
+        unreachable!()
+    };
     let runner = runner_of(alloc, board, passes, sources, gates)?;
     Ok(Crew {
         workers,
         upkeep,
         runner,
+        canceller,
     })
 }

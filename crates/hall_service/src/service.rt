@@ -31,10 +31,10 @@ const THREADS: u32 = 8;
 
 /// Serves so many links of a listener over what was made ready, and closes its hall: four workers serve each link to its end, while quotas
 /// are kept, uses are saved, and the jobs that messages submit are run, one after the other; where requests come, a job's crew rests
-/// meanwhile. It ends when all links are served and no job waits. Everything that it needs besides the sessions and the work at jobs is
-/// taken before the first link. The supplies are of a first pass, which has made nothing; of the pass that the caller names as theirs the
-/// end says what `HasEndedOver` has. Where not all threads can be made at its begin it ends with `NoThreads`; one that can't be made after
-/// that may leave it waiting for ever.
+/// meanwhile. When the last link has been served all jobs that run or wait are cancelled, and it ends once each member is done with the
+/// place that it is at. Everything that it needs besides the sessions and the work at jobs is taken before the first link. The supplies are
+/// of a first pass, which has made nothing; of the pass that the caller names as theirs the end says what `HasEndedOver` has. Where not all
+/// threads can be made at its begin it ends with `NoThreads`; one that can't be made after that may leave it waiting for ever.
 pub fn serve_hall<
     R: Threads + Wait + std::time::Clock + Sync,
     K: Keeper + Send,

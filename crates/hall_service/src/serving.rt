@@ -4,17 +4,20 @@ ghost use Rattle.std.specs.Prelude.{All, MatchBool, [], length, vec_capacity, �
 ghost use Rattle.cache_hall.specs.Turned.{HallPass, IsPassOf};
 ghost use Rattle.catalog.specs.Valid.{IsValid};
 ghost use Rattle.crossbeam_queue.specs.Passes.{view};
+ghost use Rattle.job_board.specs.Calls.{IsBoardPass};
 ghost use Rattle.job_runner.specs.Idles as idles;
 ghost use Rattle.job_runner.specs.Idles.{passes_of};
 ghost use Rattle.job_runner.specs.Runs.{RunsAll};
 ghost use Rattle.link_queue.specs.Accepted.{HasAccepted};
 ghost use Rattle.link_queue.specs.Hands.{IsHand, all_parts, hand, table_of};
 ghost use Rattle.link_queue.specs.declared.hand.Hand.{Hand};
+ghost use Rattle.hall_service.specs.Cancelled.{HasCancelledOn, HasStoppedTo};
 ghost use Rattle.hall_service.specs.Crew.{HasServedLinks, HasWorked, IsReady};
 ghost use Rattle.hall_service.specs.Runners.{HasRunOn};
 ghost use Rattle.hall_service.specs.Stints.{serving};
 ghost use Rattle.hall_service.specs.Upkept.{HasKeptUp, IsKeptUpBy};
 
+use crate::cancelling::cancel_all;
 use crate::crew::{Crew, Staff, WORKERS, Worker};
 use crate::crossing::is_shared;
 use crate::ending::serve_rest;
@@ -24,6 +27,7 @@ use cabinet::keeper::Keeper;
 use cabinet_chest::chest::CabinetChest;
 use hall_sessions::world::World;
 use http_wire::links::Link;
+use job_board::board::BoardPass;
 use job_runner::gates::JobGate;
 use job_runner::runner::{MEMBERS, Runner};
 use job_runner::running::run_jobs;
@@ -39,7 +43,7 @@ use std::thread::{Threads, for_each_mut, join_mut};
 use turnstile::pass::Pass;
 use wmts_rest::table::RestTable;
 
-/// Lets all workers serve until no more links come, and then tells who runs jobs.
+/// Lets all workers serve until no more links come. Then all jobs are cancelled, and who runs them is told.
 #[tactic(auto, using(crate::proofs::Shared::world_sync))]
 fn work_all<
     R: Threads + Wait + std::time::Clock + Sync,
@@ -53,13 +57,17 @@ fn work_all<
     queue: &LinkQueue<L>,
     is_over: &AtomicBool,
     workers: &mut [Worker<K, S, L>],
+    canceller: &mut BoardPass,
 )
     requires valid { IsValid world.now.hall.catalogue }
     requires ready { All (λ w. IsReady (table_of queue.now.links) world.now.hall.turnstile.table world.now.board.turnstile.table world.now.hall.catalogue (S.told w.source) w.pass w.board w.hand) workers.old }
+    requires place { IsBoardPass world.now.board.turnstile.table canceller.old }
     ensures ready { All (λ w. IsReady (table_of queue.now.links) world.now.hall.turnstile.table world.now.board.turnstile.table world.now.hall.catalogue (S.told w.source) w.pass w.board w.hand) workers.new }
     ensures worked { (first : HallPass) (before : Hand L)
         → All (λ w. HasWorked (serving L.left L.taken L.ByteSource.faults L.ByteSink.faults world.now.capabilities world.now.hall.catalogue world.now.board.turnstile.table first) before w.pass w.board (S.faults w.source) w.hand) workers.old
         → All (λ w. HasWorked (serving L.left L.taken L.ByteSource.faults L.ByteSink.faults world.now.capabilities world.now.hall.catalogue world.now.board.turnstile.table first) before w.pass w.board (S.faults w.source) w.hand) workers.new }
+    ensures place { IsBoardPass world.now.board.turnstile.table canceller.new }
+    ensures stops { HasStoppedTo 1024 canceller.old canceller.new }
 {
     // The table of routes holds a tree, of which proofs have to be told that threads may share it.
     is_shared::<RestTable>();
@@ -76,10 +84,11 @@ fn work_all<
         { work(rt, alloc, world, queue, worker) },
     );
     is_over.store(true, Ordering::SeqCst);
+    cancel_all(rt, &world.board, canceller);
     world.board.wake(rt);
 }
 
-/// Serves links until no more come, and runs jobs until then and until none is left; then ends the upkeep.
+/// Serves links until no more come, and runs jobs until then, where all are cancelled; then ends the upkeep.
 #[tactic(auto, using(crate::proofs::Shared::world_sync))]
 fn work_and_run<
     R: Threads + Wait + std::time::Clock + Sync,
@@ -95,16 +104,20 @@ fn work_and_run<
     upkeep: &Shift,
     workers: &mut [Worker<K, S, L>],
     runner: &mut Runner<K, S, G>,
+    canceller: &mut BoardPass,
 )
     requires valid { IsValid world.now.hall.catalogue }
     requires ready { All (λ w. IsReady (table_of queue.now.links) world.now.hall.turnstile.table world.now.board.turnstile.table world.now.hall.catalogue (S.told w.source) w.pass w.board w.hand) workers.old }
     requires runner { idles.IsReady world.now.board.turnstile.table world.now.hall.turnstile.table world.now.hall.catalogue runner.old }
+    requires place { IsBoardPass world.now.board.turnstile.table canceller.old }
     ensures ready { All (λ w. IsReady (table_of queue.now.links) world.now.hall.turnstile.table world.now.board.turnstile.table world.now.hall.catalogue (S.told w.source) w.pass w.board w.hand) workers.new }
     ensures runner { idles.IsReady world.now.board.turnstile.table world.now.hall.turnstile.table world.now.hall.catalogue runner.new }
     ensures runs { RunsAll world.now.hall.catalogue runner.old runner.new }
     ensures worked { (first : HallPass) (before : Hand L)
         → All (λ w. HasWorked (serving L.left L.taken L.ByteSource.faults L.ByteSink.faults world.now.capabilities world.now.hall.catalogue world.now.board.turnstile.table first) before w.pass w.board (S.faults w.source) w.hand) workers.old
         → All (λ w. HasWorked (serving L.left L.taken L.ByteSource.faults L.ByteSink.faults world.now.capabilities world.now.hall.catalogue world.now.board.turnstile.table first) before w.pass w.board (S.faults w.source) w.hand) workers.new }
+    ensures place { IsBoardPass world.now.board.turnstile.table canceller.new }
+    ensures stops { HasStoppedTo 1024 canceller.old canceller.new }
 {
     // The table of routes holds a tree, of which proofs have to be told that threads may share it.
     is_shared::<RestTable>();
@@ -112,6 +125,7 @@ fn work_and_run<
     let is_over = &is_over;
     let workers = identity(workers);
     let runner = identity(runner);
+    let canceller = identity(canceller);
     let ((), ()) = join_mut(
         rt,
         &mut ||
@@ -120,12 +134,14 @@ fn work_and_run<
             ensures runs { RunsAll world.entry.now.hall.catalogue runner.entry.now runner.exit.now }
         { run_jobs(rt, alloc, &world.hall, &world.board, is_over, runner) },
         &mut ||
-            requires { IsValid world.now.hall.catalogue × All (λ w. IsReady (table_of queue.now.links) world.now.hall.turnstile.table world.now.board.turnstile.table world.now.hall.catalogue (S.told w.source) w.pass w.board w.hand) workers.now }
+            requires { IsValid world.now.hall.catalogue × All (λ w. IsReady (table_of queue.now.links) world.now.hall.turnstile.table world.now.board.turnstile.table world.now.hall.catalogue (S.told w.source) w.pass w.board w.hand) workers.now × IsBoardPass world.now.board.turnstile.table canceller.now }
             ensures ready { All (λ w. IsReady (table_of queue.entry.now.links) world.entry.now.hall.turnstile.table world.entry.now.board.turnstile.table world.entry.now.hall.catalogue (S.told w.source) w.pass w.board w.hand) workers.exit.now }
             ensures worked { (first : HallPass) (before : Hand L)
                 → All (λ w. HasWorked (serving L.left L.taken L.ByteSource.faults L.ByteSink.faults world.entry.now.capabilities world.entry.now.hall.catalogue world.entry.now.board.turnstile.table first) before w.pass w.board (S.faults w.source) w.hand) workers.entry.now
                 → All (λ w. HasWorked (serving L.left L.taken L.ByteSource.faults L.ByteSink.faults world.entry.now.capabilities world.entry.now.hall.catalogue world.entry.now.board.turnstile.table first) before w.pass w.board (S.faults w.source) w.hand) workers.exit.now }
-        { work_all(rt, alloc, world, queue, is_over, workers) },
+            ensures place { IsBoardPass world.entry.now.board.turnstile.table canceller.exit.now }
+            ensures stops { HasStoppedTo 1024 canceller.entry.now canceller.exit.now }
+        { work_all(rt, alloc, world, queue, is_over, workers, canceller) },
     );
     upkeep.end();
     world.hall.wake(rt);
@@ -144,6 +160,7 @@ fn serve_all<
     requires ready { All (λ w. IsReady (table_of queue.now.links) world.now.hall.turnstile.table world.now.board.turnstile.table world.now.hall.catalogue (S.told w.source) w.pass w.board w.hand) crew.old.workers.items }
     requires upkeep { IsPassOf world.now.hall.turnstile.table world.now.hall.catalogue crew.old.upkeep }
     requires runner { idles.IsReady world.now.board.turnstile.table world.now.hall.turnstile.table world.now.hall.catalogue crew.old.runner }
+    requires place { IsBoardPass world.now.board.turnstile.table crew.old.canceller }
     ensures ready { All (λ w. IsReady (table_of queue.now.links) world.now.hall.turnstile.table world.now.board.turnstile.table world.now.hall.catalogue (S.told w.source) w.pass w.board w.hand) crew.new.workers.items }
     ensures upkeep { IsPassOf world.now.hall.turnstile.table world.now.hall.catalogue crew.new.upkeep }
     ensures keeps { HasKeptUp world.now.hall.catalogue crew.old.upkeep crew.new.upkeep }
@@ -153,6 +170,8 @@ fn serve_all<
         → All (λ w. HasWorked (serving L.left L.taken L.ByteSource.faults L.ByteSink.faults world.now.capabilities world.now.hall.catalogue world.now.board.turnstile.table first) before w.pass w.board (S.faults w.source) w.hand) crew.old.workers.items
         → All (λ w. HasWorked (serving L.left L.taken L.ByteSource.faults L.ByteSink.faults world.now.capabilities world.now.hall.catalogue world.now.board.turnstile.table first) before w.pass w.board (S.faults w.source) w.hand) crew.new.workers.items }
     ensures each { length crew.new.workers.items ≡ length crew.old.workers.items }
+    ensures place { IsBoardPass world.now.board.turnstile.table crew.new.canceller }
+    ensures stops { HasStoppedTo 1024 crew.old.canceller crew.new.canceller }
 {
     // The table of routes holds a tree, of which proofs have to be told that threads may share it.
     is_shared::<RestTable>();
@@ -162,10 +181,12 @@ fn serve_all<
         workers,
         upkeep,
         runner,
+        canceller,
     } = crew;
     let workers = workers.as_mut_slice();
     let upkeep = identity(upkeep);
     let runner = identity(runner);
+    let canceller = identity(canceller);
     let hall = &world.hall;
     let ((), ()) = join_mut(
         rt,
@@ -175,14 +196,16 @@ fn serve_all<
             ensures keeps { HasKeptUp hall.entry.now.catalogue upkeep.entry.now upkeep.exit.now }
         { keep_up(rt, hall, shift, upkeep) },
         &mut ||
-            requires { IsValid world.now.hall.catalogue × All (λ w. IsReady (table_of queue.now.links) world.now.hall.turnstile.table world.now.board.turnstile.table world.now.hall.catalogue (S.told w.source) w.pass w.board w.hand) workers.now × idles.IsReady world.now.board.turnstile.table world.now.hall.turnstile.table world.now.hall.catalogue runner.now }
+            requires { IsValid world.now.hall.catalogue × All (λ w. IsReady (table_of queue.now.links) world.now.hall.turnstile.table world.now.board.turnstile.table world.now.hall.catalogue (S.told w.source) w.pass w.board w.hand) workers.now × idles.IsReady world.now.board.turnstile.table world.now.hall.turnstile.table world.now.hall.catalogue runner.now × IsBoardPass world.now.board.turnstile.table canceller.now }
             ensures ready { All (λ w. IsReady (table_of queue.entry.now.links) world.entry.now.hall.turnstile.table world.entry.now.board.turnstile.table world.entry.now.hall.catalogue (S.told w.source) w.pass w.board w.hand) workers.exit.now }
             ensures runner { idles.IsReady world.entry.now.board.turnstile.table world.entry.now.hall.turnstile.table world.entry.now.hall.catalogue runner.exit.now }
             ensures runs { RunsAll world.entry.now.hall.catalogue runner.entry.now runner.exit.now }
             ensures worked { (first : HallPass) (before : Hand L)
                 → All (λ w. HasWorked (serving L.left L.taken L.ByteSource.faults L.ByteSink.faults world.entry.now.capabilities world.entry.now.hall.catalogue world.entry.now.board.turnstile.table first) before w.pass w.board (S.faults w.source) w.hand) workers.entry.now
                 → All (λ w. HasWorked (serving L.left L.taken L.ByteSource.faults L.ByteSink.faults world.entry.now.capabilities world.entry.now.hall.catalogue world.entry.now.board.turnstile.table first) before w.pass w.board (S.faults w.source) w.hand) workers.exit.now }
-        { work_and_run(rt, alloc, world, queue, shift, workers, runner) },
+            ensures place { IsBoardPass world.entry.now.board.turnstile.table canceller.exit.now }
+            ensures stops { HasStoppedTo 1024 canceller.entry.now canceller.exit.now }
+        { work_and_run(rt, alloc, world, queue, shift, workers, runner, canceller) },
     );
 }
 
@@ -209,6 +232,7 @@ where
     requires ready { All (λ w. IsReady (table_of queue.now.links) world.now.hall.turnstile.table world.now.board.turnstile.table world.now.hall.catalogue (S.told w.source) w.pass w.board w.hand) staff.old.crew.workers.items }
     requires upkeep { IsPassOf world.now.hall.turnstile.table world.now.hall.catalogue staff.old.crew.upkeep }
     requires runner { idles.IsReady world.now.board.turnstile.table world.now.hall.turnstile.table world.now.hall.catalogue staff.old.crew.runner }
+    requires place { IsBoardPass world.now.board.turnstile.table staff.old.crew.canceller }
     requires acceptor { IsHand (table_of queue.now.links) (view staff.old.acceptor) staff.old.acceptor }
     requires parts { 0 < (view staff.old.acceptor).parts }
     ensures accepted { HasAccepted (table_of queue.now.links) connections (view staff.old.acceptor) staff.new.acceptor (N.given listener.old) (N.given listener.new) (N.faults listener.old) (N.faults listener.new) result }
@@ -218,6 +242,8 @@ where
     ensures runner { idles.IsReady world.now.board.turnstile.table world.now.hall.turnstile.table world.now.hall.catalogue staff.new.crew.runner }
     ensures runs { RunsAll world.now.hall.catalogue staff.old.crew.runner staff.new.crew.runner }
     ensures each { length staff.new.crew.workers.items ≡ length staff.old.crew.workers.items }
+    ensures place { IsBoardPass world.now.board.turnstile.table staff.new.crew.canceller }
+    ensures stops { HasStoppedTo 1024 staff.old.crew.canceller staff.new.crew.canceller }
     ensures worked { (first : HallPass) (before : Hand N.L)
         → All (λ w. HasWorked (serving N.L.left N.L.taken N.L.ByteSource.faults N.L.ByteSink.faults world.now.capabilities world.now.hall.catalogue world.now.board.turnstile.table first) before w.pass w.board (S.faults w.source) w.hand) staff.old.crew.workers.items
         → All (λ w. HasWorked (serving N.L.left N.L.taken N.L.ByteSource.faults N.L.ByteSink.faults world.now.capabilities world.now.hall.catalogue world.now.board.turnstile.table first) before w.pass w.board (S.faults w.source) w.hand) staff.new.crew.workers.items }
@@ -230,7 +256,7 @@ where
     let ((), all) = join_mut(
         rt,
         &mut ||
-            requires { IsValid world.now.hall.catalogue × All (λ w. IsReady (table_of queue.now.links) world.now.hall.turnstile.table world.now.board.turnstile.table world.now.hall.catalogue (S.told w.source) w.pass w.board w.hand) crew.now.workers.items × IsPassOf world.now.hall.turnstile.table world.now.hall.catalogue crew.now.upkeep × idles.IsReady world.now.board.turnstile.table world.now.hall.turnstile.table world.now.hall.catalogue crew.now.runner }
+            requires { IsValid world.now.hall.catalogue × All (λ w. IsReady (table_of queue.now.links) world.now.hall.turnstile.table world.now.board.turnstile.table world.now.hall.catalogue (S.told w.source) w.pass w.board w.hand) crew.now.workers.items × IsPassOf world.now.hall.turnstile.table world.now.hall.catalogue crew.now.upkeep × idles.IsReady world.now.board.turnstile.table world.now.hall.turnstile.table world.now.hall.catalogue crew.now.runner × IsBoardPass world.now.board.turnstile.table crew.now.canceller }
             ensures ready { All (λ w. IsReady (table_of queue.entry.now.links) world.entry.now.hall.turnstile.table world.entry.now.board.turnstile.table world.entry.now.hall.catalogue (S.told w.source) w.pass w.board w.hand) crew.exit.now.workers.items }
             ensures worked { (first : HallPass) (before : Hand N.L)
                 → All (λ w. HasWorked (serving N.L.left N.L.taken N.L.ByteSource.faults N.L.ByteSink.faults world.entry.now.capabilities world.entry.now.hall.catalogue world.entry.now.board.turnstile.table first) before w.pass w.board (S.faults w.source) w.hand) crew.entry.now.workers.items
@@ -240,6 +266,8 @@ where
             ensures runner { idles.IsReady world.entry.now.board.turnstile.table world.entry.now.hall.turnstile.table world.entry.now.hall.catalogue crew.exit.now.runner }
             ensures runs { RunsAll world.entry.now.hall.catalogue crew.entry.now.runner crew.exit.now.runner }
             ensures each { length crew.exit.now.workers.items ≡ length crew.entry.now.workers.items }
+            ensures place { IsBoardPass world.entry.now.board.turnstile.table crew.exit.now.canceller }
+            ensures stops { HasStoppedTo 1024 crew.entry.now.canceller crew.exit.now.canceller }
         { serve_all(rt, alloc, world, queue, crew) },
         &mut || -> bool
             requires { IsHand (table_of queue.now.links) (view acceptor.now) acceptor.now × (0 < (view acceptor.now).parts) }
@@ -256,8 +284,9 @@ pub(crate) struct Served<K: Keeper> {
     pub(crate) passes: Vec<Pass<CabinetChest<K>>>,
 }
 
-/// Accepts so many links of a listener in this thread, while a crew serves them, and sees that each is served to its end and that each job
-/// is run which a session has submitted. All passes come back in a list that has room for them.
+/// Accepts so many links of a listener in this thread, while a crew serves them, and sees that each is served to its end. Jobs are run
+/// meanwhile; then all that a session has submitted are cancelled, and run as far as that lets them. All passes come back in a list that has
+/// room for them.
 pub(crate) fn serve_links<
     R: Threads + Wait + std::time::Clock + Sync,
     K: Keeper + Send,
@@ -280,6 +309,7 @@ where
     requires ready { All (λ w. IsReady (table_of queue.now.links) world.now.hall.turnstile.table world.now.board.turnstile.table world.now.hall.catalogue (S.told w.source) w.pass w.board w.hand) staff.crew.workers.items }
     requires upkeep { IsPassOf world.now.hall.turnstile.table world.now.hall.catalogue staff.crew.upkeep }
     requires runner { idles.IsReady world.now.board.turnstile.table world.now.hall.turnstile.table world.now.hall.catalogue staff.crew.runner }
+    requires place { IsBoardPass world.now.board.turnstile.table staff.crew.canceller }
     requires each { length staff.crew.workers.items ≡ WORKERS }
     requires empty { passes.items ≡ [] }
     requires room { WORKERS + 1 + MEMBERS ≤ vec_capacity passes }
@@ -287,9 +317,9 @@ where
     ensures of { All (λ p. p.table ≡ world.now.hall.turnstile.table) result.passes.items }
     ensures count { length result.passes.items ≡ WORKERS + 1 + MEMBERS }
     ensures upkeep { IsKeptUpBy world.now.hall.catalogue staff.crew.upkeep result.passes.items }
-    ensures served { (j : HasRunOn world.now.hall.catalogue staff.crew.runner) × ((p : HallPass) → Contains (passes_of j.after.idle) p → Contains result.passes.items p) × ((first : HallPass)
+    ensures served { (j : HasRunOn world.now.hall.catalogue staff.crew.runner) × (k : HasCancelledOn staff.crew.canceller) × ((p : HallPass) → Contains (passes_of j.after.idle) p → Contains result.passes.items p) × ((first : HallPass)
         → All (λ w. HasWorked (serving N.L.left N.L.taken N.L.ByteSource.faults N.L.ByteSink.faults world.now.capabilities world.now.hall.catalogue world.now.board.turnstile.table first) (hand 1 [] []) w.pass w.board (S.faults w.source) w.hand) staff.crew.workers.items
-        → HasServedLinks (serving N.L.left N.L.taken N.L.ByteSource.faults N.L.ByteSink.faults world.now.capabilities world.now.hall.catalogue world.now.board.turnstile.table first) connections (N.given listener.old) (N.given listener.new) (N.faults listener.old) (N.faults listener.new) result.passes.items j.between j.heard result.all) }
+        → HasServedLinks (serving N.L.left N.L.taken N.L.ByteSource.faults N.L.ByteSink.faults world.now.capabilities world.now.hall.catalogue world.now.board.turnstile.table first) connections (N.given listener.old) (N.given listener.new) (N.faults listener.old) (N.faults listener.new) result.passes.items j.between j.heard k.heard result.all) }
 {
     let mut staff = staff;
     let all = accept_and_serve(rt, alloc, connections, world, queue, &mut staff, listener);
@@ -298,8 +328,10 @@ where
         workers,
         upkeep,
         runner,
+        canceller,
     } = crew;
     let mut runner = runner;
+    let mut canceller = canceller;
     let mut passes = serve_rest(
         rt,
         alloc,
@@ -310,6 +342,8 @@ where
         passes,
         &mut runner,
     );
+    runner.hear(&world.board, &mut canceller);
+    cancel_all(rt, &world.board, &mut canceller);
     run_jobs(
         rt,
         alloc,

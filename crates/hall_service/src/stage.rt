@@ -20,8 +20,8 @@ pub const SOURCES: usize = 12;
 /// How many passes of the hall a server has: one for each worker, one for the upkeep, and one for each member of a job's crew.
 pub const PASSES: u32 = 13;
 
-/// How many places at the board of jobs a server has: one for each worker, and one for who runs jobs.
-pub const BOARD_PASSES: u32 = 5;
+/// How many places at the board of jobs a server has: one for each worker, one for who runs jobs, and one for who cancels them at the end.
+pub const BOARD_PASSES: u32 = 6;
 
 /// What is served, the passes of its hall, and the places at its board.
 #[derive(Drop)]

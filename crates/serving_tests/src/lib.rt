@@ -11,11 +11,15 @@ mod client;
 #[cfg(test)]
 mod door;
 #[cfg(test)]
+mod ending;
+#[cfg(test)]
 mod held;
 #[cfg(test)]
 mod loopback;
 #[cfg(test)]
 mod servers;
+#[cfg(test)]
+mod slow;
 #[cfg(test)]
 mod stage;
 #[cfg(test)]

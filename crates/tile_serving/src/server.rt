@@ -21,8 +21,9 @@ use std::thread::Threads;
 
 /// Serves so many links of a listener, over the cache of a disk: it reads the catalogue and the capabilities document, opens the cache,
 /// and then four workers serve each link to its end, while quotas are kept, uses are saved, and the jobs that messages submit are run, one
-/// after the other; where requests come, a job's crew rests meanwhile. It ends when all links are served and no job waits. Everything
-/// that it needs besides the sessions and the work at jobs is taken before the first link. Each end comes as `HasEnded` says.
+/// after the other; where requests come, a job's crew rests meanwhile. When the last link has been served all jobs that run or wait are
+/// cancelled, and it ends once each member of a crew is done with the place that it is at. Everything that it needs besides the sessions
+/// and the work at jobs is taken before the first link. Each end comes as `HasEnded` says.
 ///
 /// A modelled disk has to hold a file of this program, by the catalogue that is read. Where its caller sets the mark `told`, the disk is
 /// modelled and keeps blobs of the catalogue's pictures alone, and the sources make these pictures; each tile that is served is then the

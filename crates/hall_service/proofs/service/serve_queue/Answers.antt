@@ -26,9 +26,25 @@ serve_links-requires-clause-runner g c κs within =
     let new = c.in_ok-crew.ensures.new s had.charter had.supplies in
     record { of_board = new.2.at_board.of; idle = subst (λ t. All (MayJoin t c.args.world.now.hall.catalogue) c.in_ok-crew.crew.runner.idle) had.of new.2.members }
 
+pub serve_links-requires-clause-place : goal.serve_links-requires-clause-place
+serve_links-requires-clause-place g c κs within =
+    let had = c.requires.supplied in
+    let s : Service g.row.N-L.Denot = serving g.N.L.ByteSource.left g.N.L.ByteSink.taken g.N.L.ByteSource.faults g.N.L.ByteSink.faults c.args.world.now.capabilities c.args.world.now.hall.catalogue c.args.world.now.board.turnstile.table had.first in
+    (c.in_ok-crew.ensures.new s had.charter had.supplies).3.of
+
 pub returns-clause-served : goal.returns-clause-served
 returns-clause-served g c = λ first charter supplies.
     let s : Service g.row.N-L.Denot = serving g.N.L.ByteSource.left g.N.L.ByteSink.taken g.N.L.ByteSource.faults g.N.L.ByteSink.faults c.args.world.now.capabilities c.args.world.now.hall.catalogue c.args.world.now.board.turnstile.table first in
     let new = c.in_ok-crew.ensures.new s charter supplies in
     let done = c.serve_links.ensures.served in
-    record { before = c.in_ok-crew.crew.runner; new = new.2; on = done.0; among = done.1; upkeep = subst (λ (p : HallPass). IsKeptUpBy c.args.world.now.hall.catalogue p c.serve_links.result.passes.items) new.1 c.serve_links.ensures.upkeep; links = done.2 first (λ k d lt. new_has_worked s _ _ _ _ _ _ (new.0 k d lt)) }
+    record {
+      before = c.in_ok-crew.crew.runner;
+      new = new.2;
+      on = done.0;
+      among = done.2;
+      upkeep = subst (λ (p : HallPass). IsKeptUpBy c.args.world.now.hall.catalogue p c.serve_links.result.passes.items) new.1 c.serve_links.ensures.upkeep;
+      canceller = c.in_ok-crew.crew.canceller;
+      place = new.3;
+      cancels = done.1;
+      links = done.3 first (λ k d lt. new_has_worked s _ _ _ _ _ _ (new.0 k d lt));
+    }
