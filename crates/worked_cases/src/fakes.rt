@@ -1,5 +1,6 @@
 //! How the objects that a command is handed behave, as the lines of a step's file `fakes` say.
 use crate::disk_fake::DiskFake;
+use crate::disks::Crashes;
 use std::alloc::{AllocError, Global};
 
 /// The most bytes of a take, where a step doesn't say it.
@@ -58,6 +59,7 @@ pub struct Fakes {
     pub output: Fake,
     pub source: Fake,
     pub disk: DiskFake,
+    pub marks: DiskFake,
     pub expected: Fake,
 }
 
@@ -71,7 +73,16 @@ impl Fakes {
             output: Fake::new(alloc),
             source: Fake::new(alloc),
             disk: DiskFake::new(alloc),
+            marks: DiskFake::new(alloc),
             expected: Fake::new(alloc),
+        }
+    }
+
+    /// What a crash leaves of the disks behind the run.
+    pub fn crashes(&self) -> Crashes {
+        Crashes {
+            cache: self.disk.crash,
+            marks: self.marks.crash,
         }
     }
 
@@ -116,6 +127,7 @@ impl Fakes {
             "output" => self.output.take_in(verb, number),
             "source" => self.source.take_in(verb, number),
             "disk" => self.disk.take_in(verb, number),
+            "marks" => self.marks.take_in(verb, number),
             "expected" => self.expected.take_in(verb, number),
             _ => Ok(false),
         }

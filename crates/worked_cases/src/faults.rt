@@ -1,9 +1,9 @@
 //! A table of faults: a command is run with the first call of an object failing, with the second and so on up to a run without a
 //! fault, and each of these runs has to come to what a line of the table says.
+use crate::disks::{Contents, Crashes, Disks};
 use crate::fakes::Fakes;
 use crate::run::{Given, Outcome, came_to_by};
 use crate::stops::Table;
-use disk_model::pick::Pick;
 use std::alloc::Global;
 use std::io;
 
@@ -53,16 +53,11 @@ impl Line {
     }
 }
 
-/// What a run came to, behind which this crash leaves the disk.
-fn came_of(
-    alloc: Global,
-    table: &Table,
-    outcome: Outcome,
-    crash: Option<Pick>,
-) -> io::Result<Came> {
+/// What a run came to, behind which these crashes leave the disks.
+fn came_of(alloc: Global, table: &Table, outcome: Outcome, crashes: Crashes) -> io::Result<Came> {
     let status = String::from_str(alloc, outcome.status.as_str().trim_end())?;
     let written = Vec::from_slice(alloc, outcome.output.as_slice())?;
-    let left = outcome.left(alloc, crash)?;
+    let left = outcome.left(alloc, crashes)?;
     Ok(Came {
         status,
         written,
@@ -76,16 +71,16 @@ fn came_by(
     given: &Given,
     table: &Table,
     lines: &str,
-    disk: &[u8],
+    contents: &Contents,
 ) -> io::Result<Option<Came>> {
     let Some(fakes) = Fakes::read(alloc, lines)? else {
         return Ok(None);
     };
-    let outcome = came_to_by(alloc, given, &fakes, fakes.disk.over(alloc, disk)?)?;
-    let crash = fakes.disk.crash;
+    let outcome = came_to_by(alloc, given, &fakes, Disks::faked(alloc, &fakes, contents)?)?;
+    let crashes = fakes.crashes();
     drop(fakes);
     if outcome.has_failed() {
-        return Ok(Some(came_of(alloc, table, outcome, crash)?));
+        return Ok(Some(came_of(alloc, table, outcome, crashes)?));
     }
     Ok(None)
 }
@@ -98,12 +93,12 @@ fn runs_by(
     table: &Table,
     fault: &str,
     rest: &str,
-    disk: &[u8],
+    contents: &Contents,
 ) -> io::Result<Vec<Came>> {
     let mut runs = Vec::new(alloc);
     for call in 1..MOST_CALLS {
         let fakes = format!(in alloc; "{fault} {call}\n{rest}")?;
-        match came_by(alloc, given, table, fakes.as_str(), disk)? {
+        match came_by(alloc, given, table, fakes.as_str(), contents)? {
             Some(came) => runs.push(came)?,
             None => return Ok(runs),
         }
@@ -189,7 +184,7 @@ pub fn differs_from(
     table: &Table,
     lines: &[Line],
     rest: &str,
-    disk: &[u8],
+    contents: &Contents,
 ) -> io::Result<Option<String>> {
     for (place, line) in lines.iter().enumerate() {
         let fault = line.fault.as_str();
@@ -197,7 +192,7 @@ pub fn differs_from(
         if has_fault(before, fault) {
             continue;
         }
-        let runs = runs_by(alloc, given, table, fault, rest, disk)?;
+        let runs = runs_by(alloc, given, table, fault, rest, contents)?;
         let difference = differs_by(alloc, lines, fault, runs.as_slice())?;
         if difference.is_some() {
             return Ok(difference);

@@ -1,15 +1,19 @@
-//! The worked cases: runs each step of each case of a folder through `run_command`, the top call of the program, and prints
-//! what differs from what the step's files expect. The folder is the one that its first word names, or else the current one.
+//! The worked cases: runs each step of each case of a folder through `run_command`, or where its words are a feed's through `run_feed`,
+//! the top calls of the program, and prints what differs from what the step's files expect. The folder is the one that its first word names, or else the current one.
 //!
 //! A case is a folder, and a step of it is a folder with the words of a command, its input and its expected output and
-//! status, as files that `step.rt` names. The steps of a case have one disk, which each of them finds as the one before it left it.
+//! status, as files that `step.rt` names. The steps of a case have one disk for the cache, and one for a feed's marks, which each of
+//! them finds as the one before it left them.
 //! Promises: none that a clause says; it is a test whose cases are data.
-//! Stands on tile_command, and on the memory forms of its streams, its source, its disk and its clock.
+//! Stands on tile_command and feed_words, and on the memory forms of its streams, its source, its disk and its clock.
 #![tactic(auto)]
 
+mod acknowledged;
 mod disk_fake;
+mod disks;
 mod fakes;
 mod faults;
+mod feeding;
 mod files;
 mod folders;
 mod giving;
@@ -20,6 +24,7 @@ mod step;
 mod stops;
 mod tally;
 
+use disks::Contents;
 use std::fs::File;
 use std::io::Print;
 use std::process::ExitCode;
@@ -28,8 +33,17 @@ use std::{env, io};
 use step::{Ran, run_step};
 use tally::Tally;
 
-/// Runs the steps of a case in the order of their names, prints the line of each that differs, and counts them. The first one finds
-/// the disk that the case's file has, or else an empty one.
+/// The disks that the first step of a case finds: those that the case's files have, or else empty ones.
+fn first_of<R: Files<File = File> + AllocGlobal>(rt: &R, inside: &str) -> io::Result<Contents> {
+    let disk = format!(in rt.alloc(); "{inside}/disk")?;
+    let marks = format!(in rt.alloc(); "{inside}/marks")?;
+    Ok(Contents {
+        cache: folders::bytes_or_none(rt, disk.as_str())?,
+        marks: folders::bytes_or_none(rt, marks.as_str())?,
+    })
+}
+
+/// Runs the steps of a case in the order of their names, prints the line of each that differs, and counts them.
 fn run_case<R: Files<File = File> + Print + AllocGlobal + Clone + Drop>(
     rt: &R,
     folder: &str,
@@ -37,15 +51,14 @@ fn run_case<R: Files<File = File> + Print + AllocGlobal + Clone + Drop>(
 ) -> io::Result<Tally> {
     let mut tally = Tally::new();
     let inside = format!(in rt.alloc(); "{folder}/{case}")?;
-    let first = format!(in rt.alloc(); "{inside}/disk")?;
-    let mut left = folders::bytes_or_none(rt, first.as_str())?;
+    let mut contents = first_of(rt, inside.as_str())?;
     for step in folders::names_in(rt, inside.as_str())? {
-        let Ran { difference, disk } = run_step(rt, inside.as_str(), step.as_str(), left)?;
+        let Ran { difference, left } = run_step(rt, inside.as_str(), step.as_str(), contents)?;
         tally.count(difference.is_none());
         if let Some(difference) = difference {
             println!(rt; "{case}/{step}: {difference}")?;
         }
-        left = disk;
+        contents = left;
     }
     println!(rt; "{case}: {tally}")?;
     Ok(tally)

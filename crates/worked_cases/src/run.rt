@@ -2,24 +2,25 @@
 ghost use Rattle.command_words.specs.Words.{word_of};
 ghost use Rattle.tile_command.specs.Command.{IsFitFor};
 
+use crate::disks::{Contents, Crashes, Disks};
 use crate::fakes::{Fake, Fakes};
+use crate::feeding::fed_status;
 use crate::source_fake::SourceFake;
 use clock::clock::Clock;
 use command_setup::configured::source_number;
 use command_status::status::Status;
 use disk_model::disk::Disk;
-use disk_model::pick::Pick;
 use exact_ratio::words::Words;
+use feed_words::words::feed_word;
 use http_wire::memory_sink::MemorySink;
 use http_wire::memory_source::MemorySource;
 use http_wire::streams::{ByteSink, ByteSource};
-use silent_disk::SilentDisk;
 use source_render::source::Source;
 use std::alloc::{AllocError, Global};
 use std::io;
 use tile_command::command::run_command;
 
-/// What a command is given beside its disk: its words, one a line, the bytes that it reads, the moments that its clock gives, and how
+/// What a command is given beside its disks: its words, one a line, the bytes that it reads, the moments that its clock gives, and how
 /// its objects behave.
 #[derive(Drop)]
 pub struct Given {
@@ -31,14 +32,21 @@ pub struct Given {
     pub fakes: Fakes,
 }
 
+impl Given {
+    /// Whether its words are those that make a feed's changes.
+    pub fn is_feed(&self) -> bool {
+        self.words.as_str().trim_end() == "feed"
+    }
+}
+
 /// What has to come of a command.
 #[derive(Drop)]
 pub struct Expected {
     /// The code and the line of its status.
     pub status: String,
     pub output: Vec<u8>,
-    /// The bytes with which its disk has to begin.
-    pub front: Vec<u8>,
+    /// The bytes with which its disks have to begin.
+    pub fronts: Contents,
 }
 
 /// What a command came to.
@@ -49,11 +57,13 @@ pub struct Outcome {
     pub output: Vec<u8>,
     /// Whether a take of the input was due to fail next, and didn't.
     took_more: bool,
-    /// Whether a call of another object than the disk failed.
+    /// Whether a call of another object than the disks failed.
     failed: bool,
-    disk: SilentDisk,
-    /// How many bytes the disk has to hold, where that is said.
+    disks: Disks,
+    /// How many bytes the disk of the cache has to hold, where that is said.
     length: Option<u64>,
+    /// How many bytes that of the marks has to hold.
+    marks_length: Option<u64>,
 }
 
 /// The words of a command, one a line.
@@ -170,7 +180,7 @@ impl Streams {
     }
 }
 
-/// What a command came to, but for its disk.
+/// What a command came to, but for its disks.
 #[derive(Drop)]
 struct Told {
     status: String,
@@ -199,55 +209,110 @@ fn told_of(
     })
 }
 
-/// Runs the command over a disk that stays with the caller.
+/// Runs the command over these objects, by `run_feed` where its words are a feed's, and tells its status alone.
+fn status_by(
+    alloc: Global,
+    words: &[Words],
+    streams: &mut Streams,
+    output: &mut MemorySink,
+    source: &mut SourceFake,
+    disks: &mut Disks,
+    clock: Clock,
+) -> Status {
+    if feed_word(words).is_some() {
+        return fed_status(
+            alloc,
+            words,
+            &mut streams.catalogue,
+            &mut streams.input,
+            output,
+            clock,
+            &mut disks.cache,
+            &mut disks.marks,
+        );
+    }
+    status_of(
+        alloc,
+        words,
+        &mut streams.catalogue,
+        &mut streams.capabilities,
+        &mut streams.input,
+        output,
+        source,
+        &mut disks.cache,
+        clock,
+    )
+}
+
+/// Runs the command over disks that stay with the caller.
 fn told_by(
     alloc: Global,
     given: &Given,
     fakes: &Fakes,
-    disk: &mut SilentDisk,
+    disks: &mut Disks,
 ) -> Result<Told, AllocError> {
     let words = words_in(alloc, given.words.as_str())?;
     let clock = clock_of(alloc, given)?;
     let mut output = sink_of(alloc, fakes)?;
     let mut source = source_of(alloc, given, fakes)?;
     let mut streams = streams_of(alloc, given, fakes)?;
-    let status = status_of(
+    let status = status_by(
         alloc,
         words.as_slice(),
-        &mut streams.catalogue,
-        &mut streams.capabilities,
-        &mut streams.input,
+        &mut streams,
         &mut output,
         &mut source,
-        disk,
+        disks,
         clock,
     );
     let faulted = streams.have_faulted(given, fakes);
     told_of(alloc, &status, faulted, &mut output, &source, fakes)
 }
 
-/// Runs the command over a disk.
-pub fn came_to(alloc: Global, given: &Given, disk: SilentDisk) -> io::Result<Outcome> {
-    came_to_by(alloc, given, &given.fakes, disk)
+/// Runs the command over disks.
+pub fn came_to(alloc: Global, given: &Given, disks: Disks) -> io::Result<Outcome> {
+    came_to_by(alloc, given, &given.fakes, disks)
 }
 
-/// Runs the command over a disk, where its other objects behave as these fakes say.
+/// Runs the command over disks, where its other objects behave as these fakes say.
 pub fn came_to_by(
     alloc: Global,
     given: &Given,
     fakes: &Fakes,
-    disk: SilentDisk,
+    disks: Disks,
 ) -> io::Result<Outcome> {
-    let mut disk = disk;
-    let told = told_by(alloc, given, fakes, &mut disk)?;
+    let mut disks = disks;
+    let told = told_by(alloc, given, fakes, &mut disks)?;
     Ok(Outcome {
         status: told.status,
         output: told.output,
         took_more: fakes.input.fails_next && told.took_more,
         failed: told.failed,
-        disk,
+        disks,
         length: fakes.disk.length,
+        marks_length: fakes.marks.length,
     })
+}
+
+/// How a disk differs from its expected length and from the bytes with which it has to begin.
+fn disk_differs(
+    alloc: Global,
+    name: &str,
+    bytes: &[u8],
+    length: Option<u64>,
+    front: &[u8],
+) -> io::Result<Option<String>> {
+    let holds = bytes.len() as u64;
+    let expected = length.unwrap_or(holds);
+    if holds != expected {
+        return Ok(Some(format!(in alloc; "the {name} holds {holds} bytes, and not {expected}")?));
+    }
+    let same = count_same(bytes, front);
+    if same < front.len() {
+        let at = same.saturating_add(1);
+        return Ok(Some(format!(in alloc; "byte {at} of the {name} differs first")?));
+    }
+    Ok(None)
 }
 
 impl Outcome {
@@ -270,39 +335,34 @@ impl Outcome {
                 "the input was not taken to the call that fails next"
             )?));
         }
-        self.disk_differs(alloc, expected.front.as_slice())
+        self.disks_differ(alloc, &expected.fronts)
     }
 
-    /// How the disk differs from its expected length and from the bytes with which it has to begin.
-    fn disk_differs(&self, alloc: Global, front: &[u8]) -> io::Result<Option<String>> {
-        let bytes = self.disk.bytes();
-        let length = bytes.len() as u64;
-        let expected = self.length.unwrap_or(length);
-        if length != expected {
-            return Ok(Some(format!(in alloc;
-                "the disk holds {length} bytes, and not {expected}"
-            )?));
+    /// How the disks differ from their expected lengths and from the bytes with which they have to begin.
+    fn disks_differ(&self, alloc: Global, fronts: &Contents) -> io::Result<Option<String>> {
+        let cache = self.disks.cache.bytes();
+        let difference = disk_differs(alloc, "disk", cache, self.length, fronts.cache.as_slice())?;
+        if difference.is_some() {
+            return Ok(difference);
         }
-        let same = count_same(bytes, front);
-        if same < front.len() {
-            let at = same.saturating_add(1);
-            return Ok(Some(format!(in alloc; "byte {at} of the disk differs first")?));
-        }
-        Ok(None)
+        let (marks, front) = (self.disks.marks.bytes(), fronts.marks.as_slice());
+        disk_differs(alloc, "disk of the marks", marks, self.marks_length, front)
+    }
+
+    /// Whether a call of the disk of the marks failed.
+    pub fn marks_failed(&self) -> bool {
+        self.disks.marks_failed()
     }
 
     /// Whether a call of an object failed.
     pub fn has_failed(&self) -> bool {
-        self.failed || self.disk.fault_count() > 0
+        self.failed || self.disks.have_failed()
     }
 
-    /// The bytes that the disk is left with: what this crash leaves, or where there is none what a read gives.
-    pub fn left(self, alloc: Global, crash: Option<Pick>) -> Result<Vec<u8>, AllocError> {
-        let Outcome { disk, .. } = self;
-        match crash {
-            Some(pick) => disk.left(alloc, pick),
-            None => Vec::from_slice(alloc, disk.bytes()),
-        }
+    /// The bytes that the disks are left with.
+    pub fn left(self, alloc: Global, crashes: Crashes) -> Result<Contents, AllocError> {
+        let Outcome { disks, .. } = self;
+        disks.left(alloc, crashes)
     }
 }
 

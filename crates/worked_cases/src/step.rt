@@ -1,4 +1,5 @@
 //! A step: the files that say what a command is given and what has to come of it.
+use crate::disks::{Contents, Disks};
 use crate::fakes::Fakes;
 use crate::faults;
 use crate::faults::Line;
@@ -20,8 +21,8 @@ const MOST_IMAGES: u32 = 1_000;
 pub struct Ran {
     /// How it differs from what its files expect; `None` where it doesn't.
     pub difference: Option<String>,
-    /// The bytes that its disk is left with.
-    pub disk: Vec<u8>,
+    /// The bytes that its disks are left with.
+    pub left: Contents,
 }
 
 /// The status that a step has to come to.
@@ -51,6 +52,18 @@ fn output_of<R: Files<File = File> + AllocGlobal>(
     Ok(output)
 }
 
+/// The bytes with which the disks of a step have to begin behind it.
+fn fronts_of<R: Files<File = File> + AllocGlobal>(
+    rt: &R,
+    case: &str,
+    step: &str,
+) -> io::Result<Contents> {
+    Ok(Contents {
+        cache: own(rt, case, step, "disk_front")?,
+        marks: own(rt, case, step, "marks_front")?,
+    })
+}
+
 /// What has to come of a step, whose output stands so many times.
 fn expected_of<R: Files<File = File> + AllocGlobal>(
     rt: &R,
@@ -61,7 +74,7 @@ fn expected_of<R: Files<File = File> + AllocGlobal>(
     Ok(Expected {
         status: status_of(rt, case, step)?,
         output: output_of(rt, case, step, times)?,
-        front: own(rt, case, step, "disk_front")?,
+        fronts: fronts_of(rt, case, step)?,
     })
 }
 
@@ -262,62 +275,77 @@ impl Plan {
         &self,
         alloc: Global,
         outcome: &Outcome,
-        disk: &[u8],
+        contents: &Contents,
     ) -> io::Result<Option<String>> {
         let wanted = &self.wanted;
         let difference = outcome.differs_from(alloc, &wanted.expected)?;
         if difference.is_some() {
             return Ok(difference);
         }
-        let difference = wanted.table.difference_of(alloc, &self.given, disk)?;
+        let difference = wanted.table.difference_of(alloc, &self.given, contents)?;
         if difference.is_some() {
             return Ok(difference);
         }
         let (lines, rest) = (wanted.lines.as_slice(), self.rest.as_str());
-        faults::differs_from(alloc, &self.given, &wanted.table, lines, rest, disk)
+        faults::differs_from(alloc, &self.given, &wanted.table, lines, rest, contents)
     }
 
-    /// Runs what the step gives over a disk, and tells what came of it.
-    fn ran(&self, alloc: Global, disk: &[u8]) -> io::Result<Ran> {
-        let faked = &self.given.fakes.disk;
-        let outcome = came_to(alloc, &self.given, faked.over(alloc, disk)?)?;
-        let difference = self.difference_of(alloc, &outcome, disk)?;
+    /// Runs what the step gives over disks of these bytes, and tells what came of it.
+    fn ran(&self, alloc: Global, contents: &Contents) -> io::Result<Ran> {
+        let fakes = &self.given.fakes;
+        let outcome = came_to(alloc, &self.given, Disks::faked(alloc, fakes, contents)?)?;
+        let difference = self.difference_of(alloc, &outcome, contents)?;
         Ok(Ran {
             difference,
-            disk: outcome.left(alloc, faked.crash)?,
+            left: outcome.left(alloc, fakes.crashes())?,
         })
     }
 }
 
-/// What came of a step one of whose files isn't of its form; the disk stays.
-fn unread(alloc: Global, disk: Vec<u8>, fault: &str) -> Result<Ran, AllocError> {
+/// What came of a step one of whose files isn't of its form; the disks stay.
+fn unread(alloc: Global, left: Contents, fault: &str) -> Result<Ran, AllocError> {
     Ok(Ran {
         difference: Some(String::from_str(alloc, fault)?),
-        disk,
+        left,
     })
 }
 
-/// The disk that a step's own file has, or else the one that the step before it left.
-fn disk_of<R: Files<File = File> + AllocGlobal>(
+/// The bytes of a step's own file, or else these.
+fn own_or<R: Files<File = File> + AllocGlobal>(
     rt: &R,
     case: &str,
     step: &str,
+    name: &str,
     left: Vec<u8>,
 ) -> io::Result<Vec<u8>> {
-    let path = format!(in rt.alloc(); "{case}/{step}/disk")?;
+    let path = format!(in rt.alloc(); "{case}/{step}/{name}")?;
     Ok(bytes_of(rt, path.as_str())?.unwrap_or(left))
 }
 
-/// Runs a step over the disk that its own file has, or else over the one that the step before it left.
+/// The disks that a step's own files have, or else those that the step before it left.
+fn contents_of<R: Files<File = File> + AllocGlobal>(
+    rt: &R,
+    case: &str,
+    step: &str,
+    left: Contents,
+) -> io::Result<Contents> {
+    let Contents { cache, marks } = left;
+    Ok(Contents {
+        cache: own_or(rt, case, step, "disk", cache)?,
+        marks: own_or(rt, case, step, "marks", marks)?,
+    })
+}
+
+/// Runs a step over the disks that its own files have, or else over those that the step before it left.
 pub fn run_step<R: Files<File = File> + AllocGlobal>(
     rt: &R,
     case: &str,
     step: &str,
-    left: Vec<u8>,
+    left: Contents,
 ) -> io::Result<Ran> {
-    let disk = disk_of(rt, case, step, left)?;
+    let contents = contents_of(rt, case, step, left)?;
     match plan_of(rt, case, step)? {
-        Ok(plan) => plan.ran(rt.alloc(), disk.as_slice()),
-        Err(fault) => Ok(unread(rt.alloc(), disk, fault)?),
+        Ok(plan) => plan.ran(rt.alloc(), &contents),
+        Err(fault) => Ok(unread(rt.alloc(), contents, fault)?),
     }
 }

@@ -1,15 +1,17 @@
-//! A table of stops: a command is run with its disk stopped after 0, 1, 2 and so on calls, or with one call failing alone, and what a
+//! A table of stops: a command is run with its disks stopped after 0, 1, 2 and so on calls, or with one call failing alone, and what a
 //! crash then leaves is looked at: it has to be one of the images of the table, and one that answers for each truncation that the stopped
-//! command had written.
+//! command had written. Each number of calls of the cache's disk is run with each one of that of the marks.
+use crate::acknowledged::Bounds;
 use crate::disk_fake::number_of;
+use crate::disks::{Contents, Crashes, Disks};
 use crate::run::{Given, came_to};
 use disk_model::pick::Pick;
 use silent_disk::SilentDisk;
 use std::alloc::{AllocError, Global};
 use std::io;
 
-/// The most calls that a command of a table may make.
-const MOST_CALLS: u64 = 4_096;
+/// The most runs of a table.
+const MOST_RUNS: u64 = 65_536;
 
 /// What may be found where the disk of a command fails.
 #[derive(Drop)]
@@ -22,30 +24,39 @@ pub struct Table {
     pub cuts: Vec<u64>,
 }
 
+/// How many calls of each disk succeed before one fails.
+#[derive(Clone, Copy)]
+struct Stops {
+    cache: u64,
+    marks: u64,
+}
+
 /// What a crash leaves of a run.
 #[derive(Drop)]
 struct Left {
-    image: Vec<u8>,
-    /// Whether no call of the disk failed.
+    contents: Contents,
+    /// Whether no call of an object failed.
     whole: bool,
-    /// How many truncations the run had written as done.
-    acknowledged: u64,
+    /// Whether a call of the disk of the marks failed.
+    marks_failed: bool,
+    /// For how many truncations it has to answer.
+    bounds: Bounds,
 }
 
-/// How often a text stands in an output.
-fn count_of(output: &[u8], text: &[u8]) -> u64 {
-    let mut count: u64 = 0;
-    for at in 0..output.len() {
-        if output[at..].starts_with(text) {
-            count = count.saturating_add(1);
+impl Stops {
+    /// The stops that are tried behind a run; `None` where it had no fault.
+    fn after(self, run: &Left) -> Option<Stops> {
+        let Stops { cache, marks } = self;
+        if run.marks_failed {
+            let marks = marks.saturating_add(1);
+            return Some(Stops { cache, marks });
         }
+        if run.whole {
+            return None;
+        }
+        let cache = cache.saturating_add(1);
+        Some(Stops { cache, marks: 0 })
     }
-    count
-}
-
-/// How many truncations an output tells as done, as an answer's body or as the word `truncate` does.
-fn acknowledged_in(output: &[u8]) -> u64 {
-    count_of(output, b"{\"cut\":").saturating_add(count_of(output, b"cut "))
 }
 
 /// A disk of these bytes, of which the call behind so many fails, alone or with each one behind it.
@@ -59,51 +70,96 @@ fn failing(alloc: Global, bytes: &[u8], calls: u64, alone: bool) -> Result<Silen
     Ok(disk)
 }
 
-/// What a crash leaves where the disk fails behind so many calls of a command.
-fn left_after(
+/// The disks of a command, which fail behind so many calls.
+fn failing_both(
     alloc: Global,
     given: &Given,
-    disk: &[u8],
-    calls: u64,
-    pick: Pick,
-) -> io::Result<Left> {
-    let disk = failing(alloc, disk, calls, given.fakes.disk.alone)?;
-    let outcome = came_to(alloc, given, disk)?;
-    let whole = !outcome.has_failed();
-    let acknowledged = acknowledged_in(outcome.output.as_slice());
-    Ok(Left {
-        image: outcome.left(alloc, Some(pick))?,
-        whole,
-        acknowledged,
+    contents: &Contents,
+    stops: Stops,
+) -> Result<Disks, AllocError> {
+    let (cache, marks) = (contents.cache.as_slice(), contents.marks.as_slice());
+    let fakes = &given.fakes;
+    Ok(Disks {
+        cache: failing(alloc, cache, stops.cache, fakes.disk.alone)?,
+        marks: failing(alloc, marks, stops.marks, fakes.marks.alone)?,
     })
 }
 
+/// What is said of a run, stopped so, behind which no image has what a crash leaves.
+fn strange(alloc: Global, stops: Stops, bounds: Bounds, pick: Pick) -> io::Result<String> {
+    let Stops { cache, marks } = stops;
+    let kind = number_of(pick);
+    let least = bounds.least;
+    Ok(format!(in alloc;
+        "where the disk fails after {cache} calls, and that of the marks after {marks}, with {least} truncations written as done, a crash of kind {kind} leaves what no image has that answers for them"
+    )?)
+}
+
 impl Table {
-    /// Whether the image at this place answers for so many truncations.
-    fn answers_for(&self, at: usize, acknowledged: u64) -> bool {
-        self.cuts.get(at).is_none_or(|cuts| acknowledged <= *cuts)
+    /// Whether the image at this place answers for as many truncations as it has to.
+    fn answers_for(&self, at: usize, bounds: Bounds) -> bool {
+        self.cuts.get(at).is_none_or(|cuts| bounds.admit(*cuts))
     }
 
-    /// Whether the look may write this, once so many truncations were written as done.
-    fn admits(&self, seen: &[u8], whole: bool, acknowledged: u64) -> bool {
+    /// Whether the look may write this behind a run, and answer for so many truncations.
+    fn admits(&self, seen: &[u8], whole: bool, bounds: Bounds) -> bool {
         let first = if whole {
             self.images.len().saturating_sub(1)
         } else {
             0
         };
         for at in first..self.images.len() {
-            if self.images[at].as_slice() == seen && self.answers_for(at, acknowledged) {
+            if self.images[at].as_slice() == seen && self.answers_for(at, bounds) {
                 return true;
             }
         }
         false
     }
 
-    /// What the look writes where the disk is left so.
-    pub fn seen_in(&self, alloc: Global, image: Vec<u8>) -> io::Result<Vec<u8>> {
-        let disk = SilentDisk::new(alloc, image, Vec::new(alloc));
-        let outcome = came_to(alloc, &self.look, disk)?;
+    /// What the look writes where the disks are left so.
+    pub fn seen_in(&self, alloc: Global, contents: Contents) -> io::Result<Vec<u8>> {
+        let outcome = came_to(alloc, &self.look, Disks::of(alloc, contents))?;
         Ok(Vec::from_slice(alloc, outcome.output.as_slice())?)
+    }
+
+    /// What a crash of both disks leaves where they fail behind so many calls of a command.
+    fn left_after(
+        &self,
+        alloc: Global,
+        given: &Given,
+        contents: &Contents,
+        stops: Stops,
+        pick: Pick,
+    ) -> io::Result<Left> {
+        let outcome = came_to(alloc, given, failing_both(alloc, given, contents, stops)?)?;
+        let whole = !outcome.has_failed();
+        let marks_failed = outcome.marks_failed();
+        let bounds = Bounds::of(given, &self.look, outcome.output.as_slice());
+        Ok(Left {
+            contents: outcome.left(alloc, Crashes::both(pick))?,
+            whole,
+            marks_failed,
+            bounds,
+        })
+    }
+
+    /// The stops that are tried behind a run with these; or how what a crash by this pick leaves of that run differs from what it may leave.
+    fn tried(
+        &self,
+        alloc: Global,
+        given: &Given,
+        contents: &Contents,
+        stops: Stops,
+        pick: Pick,
+    ) -> io::Result<Result<Option<Stops>, String>> {
+        let left = self.left_after(alloc, given, contents, stops, pick)?;
+        let (next, whole, bounds) = (stops.after(&left), left.whole, left.bounds);
+        let Left { contents, .. } = left;
+        let seen = self.seen_in(alloc, contents)?;
+        if self.admits(seen.as_slice(), whole, bounds) {
+            return Ok(Ok(next));
+        }
+        Ok(Err(strange(alloc, stops, bounds, pick)?))
     }
 
     /// How what crashes by this pick leave differs from what they may leave; `None` where it doesn't.
@@ -111,27 +167,18 @@ impl Table {
         &self,
         alloc: Global,
         given: &Given,
-        disk: &[u8],
+        contents: &Contents,
         pick: Pick,
     ) -> io::Result<Option<String>> {
-        for calls in 0..MOST_CALLS {
-            let Left {
-                image,
-                whole,
-                acknowledged,
-            } = left_after(alloc, given, disk, calls, pick)?;
-            let seen = self.seen_in(alloc, image)?;
-            if !self.admits(seen.as_slice(), whole, acknowledged) {
-                let kind = number_of(pick);
-                return Ok(Some(format!(in alloc;
-                    "where the disk fails after {calls} calls, with {acknowledged} truncations written as done, a crash of kind {kind} leaves what no image has that answers for them"
-                )?));
-            }
-            if whole {
-                return Ok(None);
-            }
+        let mut stops = Stops { cache: 0, marks: 0 };
+        for _ in 0..MOST_RUNS {
+            stops = match self.tried(alloc, given, contents, stops, pick)? {
+                Ok(Some(next)) => next,
+                Ok(None) => return Ok(None),
+                Err(difference) => return Ok(Some(difference)),
+            };
         }
-        Ok(Some(format!(in alloc; "the disk is called more often than a table may")?))
+        Ok(Some(format!(in alloc; "the disks are called more often than a table may")?))
     }
 
     /// How the command differs from the table; `None` where it doesn't, or where the table has no image.
@@ -139,13 +186,13 @@ impl Table {
         &self,
         alloc: Global,
         given: &Given,
-        disk: &[u8],
+        contents: &Contents,
     ) -> io::Result<Option<String>> {
         if self.images.is_empty() {
             return Ok(None);
         }
         for pick in [Pick::Old, Pick::New, Pick::Noise] {
-            let difference = self.differs_by(alloc, given, disk, pick)?;
+            let difference = self.differs_by(alloc, given, contents, pick)?;
             if difference.is_some() {
                 return Ok(difference);
             }
