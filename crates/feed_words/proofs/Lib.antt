@@ -3,4 +3,3 @@ pub mod Ending
 pub mod Going
 pub mod Opened
 pub mod Reached
-pub mod ShortNumbers

@@ -1,10 +1,8 @@
 //! The changes of an input, made on an opened cabinet with the marks of a disk.
-ghost use Rattle.std.specs.Prelude.{◌≡◌, ◌≤◌, IfErr, IfOk, IsTrue, None};
+ghost use Rattle.std.specs.Prelude.{◌≡◌, IsTrue};
 ghost use Rattle.cache_core.specs.Lasting.{Lasting};
 ghost use Rattle.catalog.specs.Valid.{IsValid};
-ghost use Rattle.change_feed.specs.Files.{EndsIn, IsMarksFile, IsRefusedAs, MayEndIn};
-ghost use Rattle.disk_model.specs.Content.{Same};
-ghost use Rattle.disk_model.specs.Images.{ChangesBy, Every};
+ghost use Rattle.change_feed.specs.Files.{IsMarksFile};
 ghost use Rattle.gate_journal.specs.Sound.{digest_of};
 ghost use Rattle.kept_cache.specs.Change.{DiskChange, OutputChange};
 ghost use Rattle.tile_service.specs.Outside.{InputChange, counts};
@@ -12,16 +10,15 @@ ghost use Rattle.feed_words.specs.Ends.{FeedsOn};
 ghost use Rattle.feed_words.specs.Fed.{RunsInput, end_of_lines};
 
 use crate::lines::{LinesEnd, run_lines};
+use crate::marks::{closed_marks, opened_marks};
 use cabinet::keeper::Keeper;
 use cache_core::laws::laws_of_lasting;
-use catalog::catalogue::Catalogue;
 use change_feed::feed::Feed;
 use disk_model::disk::Disk;
-use gate_journal::fault::OpenFault;
 use http_wire::inputs::{InputEnd, read_all};
 use http_wire::streams::{ByteSink, ByteSource};
 use kept_cache::end::KeptEnd;
-use kept_cache::lent::{LentDisk, Loan};
+use kept_cache::lent::Loan;
 use kept_cache::opened::end_of_refusal;
 use std::alloc::Global;
 use std::marker::Brand;
@@ -67,44 +64,6 @@ fn run_input<C: Keeper, D: Disk, I: ByteSource, O: ByteSink>(
         Err(InputEnd::TooLong) => KeptEnd::TooLong,
         Err(InputEnd::OutOfMemory) => KeptEnd::OutOfMemory,
     }
-}
-
-/// Opens the feed of marks that are lent. A refusal hands the loan back.
-fn opened_marks<'m, D: Disk, L: Loan>(
-    alloc: Global,
-    catalogue: &Catalogue,
-    marks: &'m mut D,
-) -> Result<Feed<LentDisk<'m, D, L>>, (OpenFault, &'m mut D)>
-    requires loan { marks.ghost_name ≡ L.disk }
-    requires ours { IsTrue (D.told marks.now) → IsMarksFile catalogue.now.digest (D.state marks.now).seen }
-    ensures opened { IfOk result (λ f. IsTrue (D.told marks.entry.now) → EndsIn catalogue.now.digest f.stand.mark (D.state marks.entry.now).seen) }
-    ensures sure { IfOk result (λ f. f.stand.undecided ≡ None) }
-    ensures digest { IfOk result (λ f. digest_of f.file.journal ≡ catalogue.now.digest) }
-    ensures quiet { IfOk result (λ f. IsTrue (D.told marks.entry.now) → ChangesBy Same (D.state marks.entry.now) (D.state f.file.disk.disk.now)) }
-    ensures told { IfOk result (λ f. D.told f.file.disk.disk.now ≡ D.told marks.entry.now) }
-    ensures later { IfOk result (λ f. D.faults marks.entry.now ≤ D.faults f.file.disk.disk.now) }
-    ensures refused { IfErr result (λ r. IsRefusedAs (D.told marks.entry.now) catalogue.now.digest (D.state marks.entry.now).seen (D.faults marks.entry.now) (D.faults r.1.now) r.0) }
-    ensures refused_quiet { IfErr result (λ r. IsTrue (D.told marks.entry.now) → ChangesBy Same (D.state marks.entry.now) (D.state r.1.now)) }
-    ensures refused_told { IfErr result (λ r. D.told r.1.now ≡ D.told marks.entry.now) }
-    ensures refused_loan { IfErr result (λ r. r.1.ghost_name ≡ L.disk) }
-{
-    match Feed::open(alloc, catalogue, LentDisk::<D, L>::new(marks)) {
-        Ok(feed) => Ok(feed),
-        Err(refusal) => {
-            let (fault, lent) = refusal;
-            Err((fault, lent.into_disk()))
-        }
-    }
-}
-
-/// Closes the feed of marks that are lent, and hands the loan back.
-fn closed_marks<'m, D: Disk, L: Loan>(feed: Feed<LentDisk<'m, D, L>>) -> &'m mut D
-    ensures loan { result.ghost_name ≡ L.disk }
-    ensures same { result.now ≡ feed.entry.file.disk.disk.now }
-    ensures left { IsTrue (D.told result.now) → Every (D.state result.now).may_leave (MayEndIn (digest_of feed.entry.file.journal) feed.entry.stand) }
-{
-    feed.images();
-    feed.close().into_disk()
 }
 
 /// Makes the changes of the input with marks that are lent, which are handed back.

@@ -8,13 +8,13 @@ ghost use Rattle.tile_service.specs.Outside.{counts};
 ghost use Rattle.feed_words.specs.Fed.{HasRunLines};
 
 use crate::line::{LineEnd, run_line};
-use crate::split::split_line;
 use cabinet::keeper::Keeper;
 use cache_core::laws::laws_of_lasting;
 use change_feed::feed::Feed;
 use disk_model::disk::Disk;
 use http_wire::streams::ByteSink;
 use std::alloc::Global;
+use tile_service::lines::split_line;
 
 /// How the lines of a feed ended.
 #[derive(Clone, Copy, PartialEq, Eq)]

@@ -1,9 +1,7 @@
 //! The change that a line of a feed orders.
-ghost use Rattle.std.specs.Prelude.{◌≡◌, ◌≤◌, IfOk, length};
-ghost use Rattle.std.specs.Str.Parse.{AllDigits, digits_value};
+ghost use Rattle.std.specs.Prelude.{◌≡◌, IfOk};
 ghost use Rattle.catalog.specs.Valid.{IsValid};
 ghost use Rattle.job_forms.specs.Cover.{cover_of};
-ghost use Rattle.schedule_text.specs.Line.{digits_len};
 ghost use Rattle.served_covers.specs.OfCatalogue.{IsCoverOf};
 ghost use Rattle.feed_words.specs.Orders.{IsReadAs, change_in, number_in, with_cover, with_number};
 
@@ -11,9 +9,9 @@ use catalog::catalogue::Catalogue;
 use change_feed::change::Change;
 use job_forms::cover::read_cover;
 use job_forms::fault::JobFault;
-use schedule_text::line::LINE_LIMIT;
+use schedule_text::line::{LINE_LIMIT, digits_len};
 use std::alloc::Global;
-use wmts_kvp::number::is_number;
+use wmts_kvp::number::{is_number, short_number};
 
 /// Why a line gives no change.
 #[derive(Clone, Copy, PartialEq, Eq)]
@@ -22,33 +20,6 @@ pub enum Unread {
     Refused,
     /// Memory ran out.
     OutOfMemory,
-}
-
-/// How many digits a text begins with.
-fn digits_len(text: &[u8]) -> usize
-    ensures value { result ≡ digits_len text.now }
-    ensures within { result ≤ length text.now }
-{
-    for (place, byte) in text.iter().enumerate() {
-        if !byte.is_ascii_digit() {
-            return place;
-        }
-    }
-    text.len()
-}
-
-/// The number that so many digits spell.
-#[tactic(auto, using(crate::proofs::ShortNumbers::next_digit, crate::proofs::ShortNumbers::short_value, wmts_kvp::proofs::Numbers::digits_left, wmts_kvp::proofs::Numbers::digit_code))]
-fn value_of(digits: &[u8]) -> u64
-    requires digits { AllDigits 10 digits.now }
-    requires short { length digits.now ≤ 18 }
-    ensures { result ≡ digits_value 10 digits.now }
-{
-    let mut value: u64 = 0;
-    for digit in digits {
-        value = value * 10 + u64::from(*digit - b'0');
-    }
-    value
 }
 
 /// The number of 1 to 18 digits without a leading zero; none where a text is no such number.
@@ -65,7 +36,7 @@ fn number_in(text: &[u8]) -> Option<u64>
     if text[0] == b'0' {
         return None;
     }
-    Some(value_of(text))
+    Some(short_number(text))
 }
 
 /// The change of a number, and of the cover that a text is.

@@ -7,7 +7,7 @@ use command_status::status::Status;
 use kept_cache::end::KeptEnd;
 
 /// The status of a catalogue that was refused.
-pub(crate) fn status_of_refusal(refusal: Unconfigured) -> Status
+pub fn status_of_refusal(refusal: Unconfigured) -> Status
     ensures { result ≡ status_of_refusal refusal }
 {
     match refusal {
@@ -19,7 +19,7 @@ pub(crate) fn status_of_refusal(refusal: Unconfigured) -> Status
 }
 
 /// The status of the end of a word on the cache and the marks.
-pub(crate) fn status_of_end(end: KeptEnd) -> Status
+pub fn status_of_end(end: KeptEnd) -> Status
     ensures { result ≡ status_of_end end }
 {
     match end {

@@ -6,7 +6,6 @@
 //! Stands on jobs, whose texts bodies have, on job_board and job_sheet, and on tile_requests for messages, paths and outcomes.
 #![tactic(auto)]
 
-mod digits;
 pub mod request;
 pub mod routes;
 pub mod serving;

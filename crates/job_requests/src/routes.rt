@@ -5,7 +5,6 @@ ghost use Rattle.jobs.specs.Reading.{job_of};
 ghost use Rattle.job_requests.specs.Routes.{IsOf, asked_of, job_at, number_in, request_for, submission_of};
 ghost use Rattle.tile_requests.specs.Shown.{shown_message};
 
-use crate::digits::value_of;
 use crate::request::JobRequest;
 use catalog::catalogue::Catalogue;
 use http_wire::message::Method;
@@ -14,7 +13,7 @@ use jobs::reading::read_job;
 use std::alloc::{AllocError, Global};
 use tile_requests::message_ref::MessageRef;
 use tile_requests::routes::path_of;
-use wmts_kvp::number::is_number;
+use wmts_kvp::number::{is_number, short_number};
 
 /// The number that a text of 1 to 18 digits spells; none where it is no such text.
 #[tactic(auto, using(wmts_kvp::proofs::Numbers::digits_of_number))]
@@ -27,7 +26,7 @@ fn number_in(text: &[u8]) -> Option<u64>
     if !is_number(text) {
         return None;
     }
-    Some(value_of(text))
+    Some(short_number(text))
 }
 
 /// What is asked of a job by a method.

@@ -29,7 +29,8 @@ pub enum LineFault {
 /// The most bytes of a line.
 pub const LINE_LIMIT: usize = 16_384;
 
-fn digits_len(text: &[u8]) -> usize
+/// How many ASCII digits a text begins with.
+pub fn digits_len(text: &[u8]) -> usize
     ensures value { result ≡ digits_len text.now }
     ensures within { result ≤ length text.now }
     ensures digits { (k : ℕ) → k < result → (48 ≤ slice_index text.now k) × (slice_index text.now k ≤ 57) }

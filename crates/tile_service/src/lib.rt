@@ -19,7 +19,7 @@ pub mod cache_tally;
 pub mod coming;
 pub mod counter;
 pub mod laws;
-mod lines;
+pub mod lines;
 mod perform;
 pub mod run_line;
 mod run_lines;

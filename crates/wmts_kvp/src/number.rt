@@ -1,5 +1,5 @@
-//! Numbers of any count of digits, compared with a limit by value.
-ghost use Rattle.std.specs.Prelude.{◌≡◌, ◌^◌, ◌<◌, true, min, IfSome};
+//! Numbers of any count of digits, compared with a limit by value, and those of up to 18, which fit in 64 bits.
+ghost use Rattle.std.specs.Prelude.{◌≡◌, ◌^◌, ◌<◌, ◌≤◌, true, length, min, IfSome};
 ghost use Rattle.std.specs.Char.{is_ascii_digit};
 ghost use Rattle.std.specs.List.{list_all};
 ghost use Rattle.std.specs.Str.Parse.{AllDigits, digits_value};
@@ -47,4 +47,18 @@ pub fn below(limit: u32, digits: &[u8]) -> Option<u32>
     } else {
         None
     }
+}
+
+/// The number that so many digits spell.
+#[tactic(auto, using(crate::proofs::ShortNumbers::next_digit, crate::proofs::ShortNumbers::short_value, crate::proofs::Numbers::digits_left, crate::proofs::Numbers::digit_code))]
+pub fn short_number(digits: &[u8]) -> u64
+    requires digits { AllDigits 10 digits.now }
+    requires short { length digits.now ≤ 18 }
+    ensures { result ≡ digits_value 10 digits.now }
+{
+    let mut value: u64 = 0;
+    for digit in digits {
+        value = value * 10 + u64::from(*digit - b'0');
+    }
+    value
 }
