@@ -1,0 +1,20 @@
+//! The type of an outbox. Its calls stand in files of their own.
+use cache_file::file::CacheFile;
+use catalog::catalogue::Catalogue;
+use disk_model::disk::Disk;
+use std::marker::Model;
+use trace::Trace;
+use truncation_list::cover::Cover;
+
+/// The covers that a leader has posted, with their file, and how many of them were heard as seen. Contracts see the catalogue that it was
+/// opened with, the posts, and the file.
+#[derive(Drop)]
+pub struct Outbox<D: Disk> {
+    pub(crate) catalogue: Trace<Catalogue>,
+    pub(crate) posts: Vec<Cover>,
+    /// The post that a call may have left that failed.
+    pub(crate) undecided: Option<Cover>,
+    /// The greatest number that was heard as seen since it was opened.
+    pub(crate) heard: u64,
+    pub(crate) file: CacheFile<D>,
+}
