@@ -4,3 +4,4 @@ pub mod Packing
 pub mod Ranging
 pub mod Reached
 pub mod Recorded
+pub mod Sending

@@ -23,12 +23,12 @@ use Rattle.outbox.specs.Packets.{FitsPacket, IsRanged, IsRangedCover}
 
 -- WHAT IS FOUND
 
-within : {A : Type 0} (xs : List A) (i : ℕ) (x : A) → slice_get xs i ≡ Some x → i < length xs
+pub within : {A : Type 0} (xs : List A) (i : ℕ) (x : A) → slice_get xs i ≡ Some x → i < length xs
 within [] i x e = absurd (cc)
 within (y ∷ ys) zero x e = omega arith
 within (y ∷ ys) (suc i) x e = omega (arith, within ys i x e)
 
-there : {A : Type 0} (P : A → Type 0) (xs : List A) (i : ℕ) (x : A) → AllByRecursion P xs → slice_get xs i ≡ Some x → P x
+pub there : {A : Type 0} (P : A → Type 0) (xs : List A) (i : ℕ) (x : A) → AllByRecursion P xs → slice_get xs i ≡ Some x → P x
 there P [] i x all e = absurd (cc)
 there P (y ∷ ys) zero x all e = let d : y ≡ x = cc in subst P d all.0
 there P (y ∷ ys) (suc i) x all e = there P ys i x all.1 e
@@ -129,6 +129,9 @@ ranged_fits cover is = record {
   bounds = bounds_fit cover.bounds is.reach;
   filter = record { style = style_fits cover.filter.style is.style; four = is.four; values = each_fits cover.filter.dims is.values };
 }
+
+pub cover_fits : (c : Catalogue) (cover : Cover) → IsValid c → IsCoverOf c cover → length cover.filter.dims ≡ 4 → FitsCover cover
+cover_fits c cover valid is four = ranged_fits cover (cover_ranged c cover valid is four)
 
 pub packet_fits : (p : Packet) → IsRanged p → FitsPacket p
 packet_fits (packet.Change n cover) is = (is.1, ranged_fits cover is.2)

@@ -152,6 +152,7 @@ both_moments c s more old mid new first next =
   where
     none_some : (x : Cover) → None ≡ Some x → ⊥
     none_some x is = cc
+
     back : (image : Content) → MayOpenTo c (decided s) image → MayOpenTo c s image
     back image (inl opens) = inl opens
     back image (inr (x, is, opens)) = absurd (none_some x is)

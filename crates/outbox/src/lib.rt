@@ -8,6 +8,7 @@
 #![tactic(auto)]
 
 mod hearing;
+mod images;
 pub mod laws;
 pub mod opening;
 pub mod outbox;

@@ -25,6 +25,11 @@ use truncation_list::cover::Cover;
 /// How many posts an outbox can hold.
 const SLOTS: u64 = 65536;
 
+/// The type of a filter says that it has four values.
+fn four(values: [Option<u32>; 4])
+    ensures { length values ≡ 4 }
+{}
+
 /// The body of the record of a change.
 #[tactic(auto, unfolding(crate::specs::Files::post_body))]
 fn body_for(number: u64, cover: &Cover) -> [u8; 63]
@@ -102,6 +107,7 @@ impl<D: Disk> Outbox<D> {
             Err(fault) => return Err(fault),
             Ok(()) => {}
         }
+        four(cover.filter.dims);
         let before = self.file.fault_count();
         match write(&mut self.file, number, cover) {
             Written::Unready => Ok(Posted::DiskFault(before, self.file.fault_count())),

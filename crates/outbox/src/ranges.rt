@@ -47,7 +47,10 @@ fn are_values(values: [Option<u32>; 4]) -> bool
     ensures values { (result ≡ true) ↔ AllByRecursion (λ wanted. IfSome wanted (λ value. value < 1024)) values }
 {
     let [first, second, third, fourth] = values;
-    is_below(first, 1024) && is_below(second, 1024) && is_below(third, 1024) && is_below(fourth, 1024)
+    is_below(first, 1024)
+        && is_below(second, 1024)
+        && is_below(third, 1024)
+        && is_below(fourth, 1024)
 }
 
 fn are_numbers(cover: &Cover) -> bool
