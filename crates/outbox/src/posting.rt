@@ -1,5 +1,5 @@
 //! How a cover is posted: its record is written first, and the list has it where every image has the record.
-ghost use Rattle.std.specs.Prelude.{◌≡◌, ◌⊎◌, ◌+◌, ◌<◌, ◌≤◌, ◌^◌, ◌++◌, ◌∷◌, [], ℕ, IfOk, IsTrue, List, Ok, OnErr, OnOk, length};
+ghost use Rattle.std.specs.Prelude.{◌≡◌, ◌⊎◌, ◌+◌, ◌<◌, ◌≤◌, ◌++◌, ◌∷◌, [], ℕ, IfOk, IsTrue, Ok, OnErr, OnOk, length};
 ghost use Rattle.cache_file.specs.File.{Brings, held};
 ghost use Rattle.catalog.specs.declared.catalogue.Catalogue.{Catalogue};
 ghost use Rattle.causes.specs.Causes.{HasCause};
@@ -9,8 +9,8 @@ ghost use Rattle.record_text.specs.Fits.{FitsCover};
 ghost use Rattle.served_covers.specs.OfCatalogue.{IsCoverOf};
 ghost use Rattle.outbox.specs.declared.posted.Posted.TheVariants as posted;
 ghost use Rattle.outbox.specs.Files.{IsPostable, IsPosted, MayOpenTo, OpensToPosts, post_body};
-ghost use Rattle.outbox.specs.Posts.{Outgoing, Posts, post_slots};
-ghost use Rattle.outbox.specs.Writes.{HasWritten, IsFailedOnly, written};
+ghost use Rattle.outbox.specs.Posts.{Outgoing, Posts};
+ghost use Rattle.outbox.specs.Writes.{HasWritten, IsFailedOnly};
 
 use crate::outbox::{Outbox, SLOTS};
 use crate::posted::Posted;

@@ -1,6 +1,5 @@
 //! The visitor that reads the posts of a file while it is opened.
 ghost use Rattle.std.specs.Prelude.{ℕ, [], ◌∷◌, ◌++◌, ◌≡◌, ◌≢◌, ◌+◌, ◌<◌, ◌^◌, List, IfErr, IfOk, MatchOption, OnErr, length};
-ghost use Rattle.catalog.specs.Valid.{IsValid};
 ghost use Rattle.truncation_list.specs.declared.cover.Cover.{Cover};
 ghost use Rattle.outbox.specs.Files.{ArePosts, IsBadBehind, IsPostable, post_body};
 ghost use Rattle.outbox.specs.Opens.{StandsAt};

@@ -1,9 +1,6 @@
 //! How a packet is read from 64 bytes, which have to be the one spelling of it.
-ghost use Rattle.std.specs.Prelude.{◌≡◌, ◌↔◌, ◌<◌, ◌≤◌, ◌^◌, ◌∷◌, ℕ, Some, slice_index};
-ghost use Rattle.record_text.specs.declared.entries.Record.TheVariants as record_of;
-ghost use Rattle.record_text.specs.Spelling.{spelling};
+ghost use Rattle.std.specs.Prelude.{◌≡◌, ◌↔◌, ◌<◌, ◌∷◌, Some, slice_index};
 ghost use Rattle.outbox.specs.declared.packet.Packet.{Packet};
-ghost use Rattle.outbox.specs.declared.packet.Packet.TheVariants as packet;
 ghost use Rattle.outbox.specs.Packets.{IsReadAs, IsRanged, cut_in, packet_text};
 
 use crate::packet::Packet;

@@ -1,5 +1,5 @@
 //! How a packet is written.
-ghost use Rattle.std.specs.Prelude.{◌≡◌, ◌∷◌, ◌++◌, ◌<◌, ◌^◌, replicate};
+ghost use Rattle.std.specs.Prelude.{◌≡◌, ◌∷◌, ◌++◌, replicate};
 ghost use Rattle.byteorder.specs.Endian.{big_bytes};
 ghost use Rattle.record_text.specs.declared.entries.Record.TheVariants as record_of;
 ghost use Rattle.record_text.specs.Fits.{FitsCover};
