@@ -6,5 +6,6 @@
 //! Stands on change_feed and outbox, and on cabinet with the crates of its types.
 #![tactic(auto)]
 
+pub mod laws;
 pub mod taken;
 pub mod taking;
