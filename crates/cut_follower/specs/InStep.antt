@@ -17,7 +17,7 @@ use Rattle.cut_follower.specs.Lossy.{Lossy}
 
 -- a list begins with this one
 abbrev pub IsFront : {X : Type 0} → List X → List X → Type 0
-IsFront front whole = (rest : List _) × (whole ≡ front ++ rest)
+IsFront {X} front whole = (rest : List X) × (whole ≡ front ++ rest)
 
 -- the number of the last change that is marked
 abbrev pub last_in : Lossy → ℕ
