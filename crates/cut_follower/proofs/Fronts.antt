@@ -32,6 +32,10 @@ got_before (y ∷ ys) more (suc i) x is = got_before ys more i x is
 pub got_front : {X : Type 0} (xs ys : List X) (i : ℕ) (x : X) → IsFront xs ys → slice_get xs i ≡ Some x → slice_get ys i ≡ Some x
 got_front xs ys i x front is = subst (λ l. slice_get l i ≡ Some x) (sym front.1) (got_before xs front.0 i x is)
 
+pub got_last : {X : Type 0} (xs : List X) (x : X) → slice_get (xs ++ x ∷ []) (length xs) ≡ Some x
+got_last [] x = refl
+got_last (y ∷ ys) x = got_last ys x
+
 -- what stands behind the front is the next
 next_there : {X : Type 0} (xs more : List X) (x : X) → slice_get (xs ++ more) (length xs) ≡ Some x → IsFront (xs ++ x ∷ []) (xs ++ more)
 next_there [] [] x is = absurd (cc)

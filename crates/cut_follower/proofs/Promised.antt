@@ -24,7 +24,8 @@ use Rattle.truncation_list.specs.declared.book.Cut.{Cut}
 use Rattle.truncation_list.specs.declared.cover.Cover.{Cover}
 use Rattle.cut_follower.specs.InStep.{IsAcknowledged, IsFront, IsInStep, IsTrueOf, book_in, covers_of, last_in, tile_number}
 use Rattle.cut_follower.specs.Lossy.{Event, Happens, IsPosted, Lossy, Passes, applied_after, arrived, asked, cabinet_opened, commanded, cut_for, heard, marks_opened, next_sent, outbox_opened, packet_of, posted, ran_out}
-use Rattle.cut_follower.proofs.Fronts.{front_itself, front_some, front_through, got_all, got_below, got_front, got_map, some_is}
+use Rattle.cut_follower.proofs.Feeds.{called_of}
+use Rattle.cut_follower.proofs.Fronts.{front_itself, front_some, front_through, got_all, got_below, got_front, got_last, got_map, some_is}
 use Rattle.cut_follower.proofs.Stepping.{step_on, steps_on}
 
 -- WHAT STAYS
@@ -40,7 +41,6 @@ applied_grow cuts change applied.Spent = front_itself cuts
 applied_grow cuts change applied.Full = front_itself cuts
 applied_grow cuts change (applied.DiskFault b a) = front_itself cuts
 applied_grow cuts change (applied.Done k) = (cut_for change k ∷ [], refl)
-
 
 cuts_stay : (l m : Lossy) (event : Event) → Happens l event m → IsFront l.applied m.applied
 cuts_stay l m (posted cover reply) is = front_same l.applied m.applied (ap (λ (x : Lossy). x.applied) is.rest)
@@ -76,9 +76,9 @@ posts_stay : (l m : Lossy) (event : Event) → Happens l event m → IsFront l.o
 posts_stay l m (posted cover reply) is = posted_stay l m cover reply is
 posts_stay l m next_sent is = front_same l.out.posts m.out.posts (ap posts_of is)
 posts_stay l m (heard n i news) is = heard_stay l.out m.out i news is.1
-posts_stay l m outbox_opened is = elim is.0.posts [
+posts_stay l m outbox_opened is = elim is.0.found [
   | inl same ↦ front_same l.out.posts m.out.posts same
-  | inr more ↦ subst (IsFront l.out.posts) (sym more) (front_some l.out.posts l.out.undecided)
+  | inr more ↦ (more.0 ∷ [], more.2)
 ]
 posts_stay l m (arrived n change reply) is = front_same l.out.posts m.out.posts (ap posts_of is.rest)
 posts_stay l m (ran_out n change) is = front_same l.out.posts m.out.posts (ap posts_of is.2)
@@ -140,3 +140,14 @@ pub arrived_posted : (l before m : Lossy) (events : List Event) (place : ℕ) (c
 arrived_posted l before m events place change reply h first is =
     let at = steps_on l before events h first in
     got_all (IsTrueOf before.out.posts (last_in before)) before.sent place (packet_of change) at.sent is.there
+
+-- the cut that was answered as done is that of its change
+pub done_applied : (l before m : Lossy) (events : List Event) (place k : ℕ) (change : Change) → IsInStep l → Passes l events before → Happens before (arrived place change (applied.Done k)) m
+    → (i : ℕ) × (change.number ≡ i + 1) × (slice_get m.applied i ≡ Some (record { number = k; cover = change.cover }))
+done_applied l before m events place k change h first is =
+    let at = steps_on l before events h first in
+    let next = (called_of before.stores m.stores change (applied.Done k) is.seen is.takes).row.next in (
+      length before.applied,
+      omega (arith, next, at.counted),
+      subst (λ cuts. slice_get cuts (length before.applied) ≡ Some (cut_for change k)) (sym (ap (λ (x : Lossy). x.applied) is.rest)) (got_last before.applied (cut_for change k)),
+    )

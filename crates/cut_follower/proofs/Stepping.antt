@@ -107,17 +107,13 @@ module _ (l : Lossy) (h : IsInStep l) where
       (out_on (record { posts = l.out.posts; undecided = l.out.undecided; heard = i }) (front_itself l.out.posts) h.served h.served_too (got_all (IsTrueOf l.out.posts (last_in l)) l.sent n (packets.Seen i) h.sent there))
   heard_on n i false out there is = same_on out is.1
 
-  all_some : (more : Option Cover) → IfSome more Served → AllByRecursion Served (with_some l.out.posts more)
-  all_some None is = h.served
-  all_some (Some cover) is = all_push Served l.out.posts cover h.served is
-
   opened_on : (out : Outgoing) → IsOpenedFrom l.out out → IsInStep (with_out l out)
   opened_on out is =
       let none : IfSome out.undecided Served = subst (λ u. IfSome u Served) (sym is.decided) tt in
       let upto : out.heard ≤ last_in l = omega (arith, is.silent) in
-      elim is.posts [
+      elim is.found [
         | inl same ↦ out_on out (subst (IsFront l.out.posts) (sym same) (front_itself l.out.posts)) (subst (AllByRecursion Served) (sym same) h.served) none upto
-        | inr more ↦ out_on out (subst (IsFront l.out.posts) (sym more) (front_some l.out.posts l.out.undecided)) (subst (AllByRecursion Served) (sym more) (all_some l.out.undecided h.served_too)) none upto
+        | inr more ↦ out_on out (more.0 ∷ [], more.2) (subst (AllByRecursion Served) (sym more.2) (all_push Served l.out.posts more.0 h.served (subst (λ u. IfSome u Served) more.1 h.served_too))) none upto
       ]
 
   sends_on : (found : Option Cover) → slice_get l.out.posts l.out.heard ≡ found → IsInStep (with_sent l (with_some l.sent (option_map (λ cover. packets.Change (l.out.heard + 1) cover) found)))

@@ -110,7 +110,7 @@ pub record IsPosted (l : Lossy) (cover : Cover) (reply : Posted) (m : Lossy) : T
 
 -- what an image of the outbox may open to: the posts, or these and the one that is undecided; nothing is heard then
 pub record IsOpenedFrom (s t : Outgoing) : Type 0 where
-  pub posts : (t.posts ≡ s.posts) ⊎ (t.posts ≡ with_some s.posts s.undecided)
+  pub found : (t.posts ≡ s.posts) ⊎ ((cover : Cover) × (s.undecided ≡ Some cover) × (t.posts ≡ s.posts ++ cover ∷ []))
   pub decided : t.undecided ≡ None
   pub silent : t.heard ≡ 0
 

@@ -23,9 +23,9 @@ ghost use Rattle.truncation_list.specs.declared.book.Cut.{Cut};
 /// the post of that number, and is answered for by the follower's book, then and after any further events, openings among them; it
 /// stays the cut of that change. Each tile that the follower answers has a number above each cut that was applied before and covers
 /// it. What was applied is a prefix of the posts, in their order, and stays, as the posts do. Nothing is applied that wasn't posted: a
-/// change that arrives is the post of its number. Behind a change that is answered `Done` each change that is cut for has a greater
-/// number; where a change is cut for twice, or one behind it of no greater number, its first call told a fault of the marks with the
-/// number of its cut.
+/// change that arrives is the post of its number. The cut that a change was answered with as `Done` is the one that was applied for it.
+/// Behind a change that is answered `Done` each change that is cut for has a greater number; where a change is cut for twice, or one
+/// behind it of no greater number, its first call told a fault of the marks with the number of its cut.
 pub fn laws_of_lossy_links()
     ensures begins { (out : Outgoing) (cabinet : State) → IsKnown cabinet → AllByRecursion (IsCoverOf cabinet.catalogue) out.posts → IfSome out.undecided (IsCoverOf cabinet.catalogue) → out.heard ≡ 0 → IsInStep (begun out cabinet) }
     ensures all { (l m : Lossy) (events : List Event) → IsInStep l → Passes l events m → IsInStep m }
@@ -36,6 +36,8 @@ pub fn laws_of_lossy_links()
     ensures prefix { (l m : Lossy) (events : List Event) → IsInStep l → Passes l events m → IsFront (covers_of m.applied) m.out.posts × IsFront l.applied m.applied × IsFront l.out.posts m.out.posts }
     ensures posted { (l before m : Lossy) (events : List Event) (place : ℕ) (change : Change) (reply : Applied) → IsInStep l → Passes l events before → Happens before (arrived place change reply) m
         → (i : ℕ) × (change.number ≡ i + 1) × (slice_get before.out.posts i ≡ Some change.cover) }
+    ensures done { (l before m : Lossy) (events : List Event) (place k : ℕ) (change : Change) → IsInStep l → Passes l events before → Happens before (arrived place change (applied.Done k)) m
+        → (i : ℕ) × (change.number ≡ i + 1) × (slice_get m.applied i ≡ Some (record { number = k; cover = change.cover })) }
     ensures once { (l m : Lossy) (before between after : List Event) (p q k : ℕ) (c d : Change) (reply : Applied) → IsInStep l → Passes l (before ++ (arrived p c (applied.Done k) ∷ (between ++ (arrived q d reply ∷ after)))) m → IsSome (marked_cut reply) → c.number < d.number }
     ensures again { (l m : Lossy) (before between after : List Event) (p q : ℕ) (c d : Change) (first reply : Applied) → IsInStep l → Passes l (before ++ (arrived p c first ∷ (between ++ (arrived q d reply ∷ after)))) m
         → IsSome (marked_cut first) → IsSome (marked_cut reply) → d.number ≤ c.number → (k : ℕ) × (first ≡ applied.FeedFault (Some k)) }
