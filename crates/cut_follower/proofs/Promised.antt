@@ -22,8 +22,10 @@ use Rattle.std.proofs.Common.{Bool, true, false}
 use Rattle.truncation_list.specs.Books.{AnswersFor}
 use Rattle.truncation_list.specs.declared.book.Cut.{Cut}
 use Rattle.truncation_list.specs.declared.cover.Cover.{Cover}
+use Rattle.served_covers.specs.OfCatalogue.{IsCoverOf}
 use Rattle.cut_follower.specs.InStep.{IsAcknowledged, IsFront, IsInStep, IsTrueOf, book_in, covers_of, last_in, tile_number}
 use Rattle.cut_follower.specs.Lossy.{Event, Happens, IsPosted, Lossy, Passes, applied_after, arrived, asked, cabinet_opened, commanded, cut_for, heard, marks_opened, next_sent, outbox_opened, packet_of, posted, ran_out}
+use Rattle.cut_follower.specs.Takes.{IsOfCatalogue}
 use Rattle.cut_follower.proofs.Feeds.{called_of}
 use Rattle.cut_follower.proofs.Fronts.{front_itself, front_some, front_through, got_all, got_below, got_front, got_last, got_map, some_is}
 use Rattle.cut_follower.proofs.Stepping.{step_on, steps_on}
@@ -140,6 +142,12 @@ pub arrived_posted : (l before m : Lossy) (events : List Event) (place : ℕ) (c
 arrived_posted l before m events place change reply h first is =
     let at = steps_on l before events h first in
     got_all (IsTrueOf before.out.posts (last_in before)) before.sent place (packet_of change) at.sent is.there
+
+pub sent_served : (l : Lossy) (place : ℕ) (p : Packet) → IsInStep l → slice_get l.sent place ≡ Some p → IsOfCatalogue l.stores.cabinet.catalogue p
+sent_served l place (packets.Change n cover) h there =
+    let is = got_all (IsTrueOf l.out.posts (last_in l)) l.sent place (packets.Change n cover) h.sent there in
+    got_all (IsCoverOf l.stores.cabinet.catalogue) l.out.posts is.0 cover h.served is.2
+sent_served l place (packets.Seen j) h there = tt
 
 -- the cut that was answered as done is that of its change
 pub done_applied : (l before m : Lossy) (events : List Event) (place k : ℕ) (change : Change) → IsInStep l → Passes l events before → Happens before (arrived place change (applied.Done k)) m

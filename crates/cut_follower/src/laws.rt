@@ -10,7 +10,9 @@ ghost use Rattle.change_feed.specs.declared.change.Change.{Change};
 ghost use Rattle.change_feed.specs.Applies.{marked_cut};
 ghost use Rattle.cut_follower.specs.InStep.{IsAcknowledged, IsFront, IsInStep, book_in, covers_of, tile_number};
 ghost use Rattle.cut_follower.specs.Lossy.{Event, Happens, Lossy, Passes, arrived, asked, begun};
+ghost use Rattle.cut_follower.specs.Takes.{IsOfCatalogue};
 ghost use Rattle.matrix_geometry.specs.declared.address.Address.{Address};
+ghost use Rattle.outbox.specs.declared.packet.Packet.{Packet};
 ghost use Rattle.outbox.specs.Posts.{Outgoing};
 ghost use Rattle.served_covers.specs.OfCatalogue.{IsCoverOf};
 ghost use Rattle.truncation_list.specs.Books.{AnswersFor};
@@ -24,6 +26,8 @@ ghost use Rattle.truncation_list.specs.declared.book.Cut.{Cut};
 /// stays the cut of that change. Each tile that the follower answers has a number above each cut that was applied before and covers
 /// it. What was applied is a prefix of the posts, in their order, and stays, as the posts do. Nothing is applied that wasn't posted: a
 /// change that arrives is the post of its number. The cut that a change was answered with as `Done` is the one that was applied for it.
+/// Each change that was sent has a cover of the catalogue of the follower's cabinet, so that it can be taken.
+///
 /// Behind a change that is answered `Done` each change that is cut for has a greater number; where a change is cut for twice, or one
 /// behind it of no greater number, its first call told a fault of the marks with the number of its cut.
 pub fn laws_of_lossy_links()
@@ -38,6 +42,7 @@ pub fn laws_of_lossy_links()
         → (i : ℕ) × (change.number ≡ i + 1) × (slice_get before.out.posts i ≡ Some change.cover) }
     ensures done { (l before m : Lossy) (events : List Event) (place k : ℕ) (change : Change) → IsInStep l → Passes l events before → Happens before (arrived place change (applied.Done k)) m
         → (i : ℕ) × (change.number ≡ i + 1) × (slice_get m.applied i ≡ Some (record { number = k; cover = change.cover })) }
+    ensures served { (l : Lossy) (place : ℕ) (p : Packet) → IsInStep l → slice_get l.sent place ≡ Some p → IsOfCatalogue l.stores.cabinet.catalogue p }
     ensures once { (l m : Lossy) (before between after : List Event) (p q k : ℕ) (c d : Change) (reply : Applied) → IsInStep l → Passes l (before ++ (arrived p c (applied.Done k) ∷ (between ++ (arrived q d reply ∷ after)))) m → IsSome (marked_cut reply) → c.number < d.number }
     ensures again { (l m : Lossy) (before between after : List Event) (p q : ℕ) (c d : Change) (first reply : Applied) → IsInStep l → Passes l (before ++ (arrived p c first ∷ (between ++ (arrived q d reply ∷ after)))) m
         → IsSome (marked_cut first) → IsSome (marked_cut reply) → d.number ≤ c.number → (k : ℕ) × (first ≡ applied.FeedFault (Some k)) }

@@ -1,7 +1,7 @@
 use Rattle.std.proofs.Common.{◌++◌, ◌∷◌}
 use Rattle.change_feed.specs.declared.applied.Applied.TheVariants as applied
 use Rattle.cut_follower.proofs.Feeds.{arrives_above, arrives_again}
-use Rattle.cut_follower.proofs.Promised.{acknowledged_cut, all_cuts_stay, all_posts_stay, arrived_posted, done_applied, tile_above}
+use Rattle.cut_follower.proofs.Promised.{acknowledged_cut, all_cuts_stay, all_posts_stay, arrived_posted, done_applied, sent_served, tile_above}
 use Rattle.cut_follower.proofs.Stepping.{begins_in_step, may_begin, steps_on}
 use Rattle.cut_follower.proofs.laws.laws_of_lossy_links.Goals as goal
 
@@ -25,6 +25,9 @@ returns-clause-posted x = arrived_posted
 
 pub returns-clause-done : goal.returns-clause-done
 returns-clause-done x = done_applied
+
+pub returns-clause-served : goal.returns-clause-served
+returns-clause-served x = sent_served
 
 pub returns-clause-once : goal.returns-clause-once
 returns-clause-once x l m before between after p q k c d reply h is cuts = arrives_above l m before between after p q k c d reply (may_begin l h) is cuts
