@@ -1,7 +1,6 @@
 -- A lossy link as a run of its follower's feed.
-use Rattle.std.proofs.Common.{◌≡◌, ℕ, ◌+◌, ◌<◌, ◌≤◌, List, [], ◌∷◌, ◌++◌, Option, Some, None, IsSome, refl, sym, subst, ◌∙◌, ap}
+use Rattle.std.proofs.Common.{◌≡◌, ℕ, ◌<◌, ◌≤◌, List, [], ◌∷◌, ◌++◌, Some, None, IsSome, refl, sym, subst, ◌∙◌, ap}
 use Rattle.std.proofs.lemmas.List.{append_assoc}
-use Rattle.cabinet.specs.declared.replies.CutReply.{CutReply}
 use Rattle.cabinet.specs.declared.replies.CutReply.TheVariants as cut
 use Rattle.cabinet.specs.State.{IsKnown, IsKnownAs, State, now}
 use Rattle.cabinet.proofs.Rows.{asks_known, cuts_known}
@@ -13,7 +12,7 @@ use Rattle.change_feed.specs.Applies.{Pair, marked_cut}
 use Rattle.change_feed.specs.Runs.{GoesOn, IsCalled, MayBegin, Runs, Stores}
 use Rattle.change_feed.specs.Runs as feeds
 use Rattle.change_feed.proofs.Lawful.{cut_above, cut_again}
-use Rattle.change_feed.proofs.Running.{begins_next, runs_begin}
+use Rattle.change_feed.proofs.Running.{runs_begin}
 use Rattle.outbox.specs.declared.packet.Packet.{Packet}
 use Rattle.cut_follower.specs.declared.taken.Taken.TheVariants as taken
 use Rattle.cut_follower.specs.Lossy.{Event, Happens, IsTaken, Lossy, Passes, arrived, asked, cabinet_opened, commanded, heard, marks_opened, next_sent, outbox_opened, packet_of, posted, ran_out}

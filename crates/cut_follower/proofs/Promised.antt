@@ -1,11 +1,9 @@
 -- What a lossy link promises.
-use Rattle.std.proofs.Common.{◌≡◌, ⊎_elim, ℕ, ◌+◌, ◌<◌, ◌≤◌, List, [], ◌∷◌, ◌++◌, length, map, Contains, Option, Some, None, IsTrue, refl, sym, subst, ◌∙◌, ap, arith, inl, inr}
+use Rattle.std.proofs.Common.{◌≡◌, ℕ, ◌+◌, ◌<◌, ◌≤◌, List, [], ◌∷◌, length, Some, IsTrue, refl, sym, subst, ap, arith, inl, inr}
 use Rattle.std.specs.Prelude.{slice_get}
-use Rattle.std.proofs.lemmas.Bool.{false≢true}
 use Rattle.cabinet.specs.declared.replies.Asked.{Asked}
 use Rattle.cabinet.specs.declared.replies.Asked.TheVariants as replies
 use Rattle.cabinet.specs.Hits.{covers_in}
-use Rattle.cabinet.specs.State.{now}
 use Rattle.cabinet.proofs.Lists.{all_contained}
 use Rattle.cabinet_chest.specs.Above.{IsAboveCovering}
 use Rattle.cabinet_chest.proofs.Numbering.{all_covering, answered_below, asked_above}
@@ -28,7 +26,7 @@ use Rattle.cut_follower.specs.Lossy.{Event, Happens, IsPosted, Lossy, Passes, ap
 use Rattle.cut_follower.specs.Takes.{IsOfCatalogue}
 use Rattle.cut_follower.proofs.Feeds.{called_of}
 use Rattle.cut_follower.proofs.Fronts.{front_itself, front_some, front_through, got_all, got_below, got_front, got_last, got_map, some_is}
-use Rattle.cut_follower.proofs.Stepping.{step_on, steps_on}
+use Rattle.cut_follower.proofs.Stepping.{steps_on}
 
 -- WHAT STAYS
 

@@ -1,5 +1,5 @@
 -- Each event keeps a follower in step with its leader.
-use Rattle.std.proofs.Common.{◌≡◌, ◌⊎◌, ℕ, ◌+◌, ◌<◌, ◌≤◌, Bool, true, false, List, [], ◌∷◌, ◌++◌, length, map, Option, Some, None, IsSome, refl, sym, subst, ◌∙◌, ap, arith, inl, inr}
+use Rattle.std.proofs.Common.{◌≡◌, ℕ, ◌+◌, ◌≤◌, Bool, true, false, List, [], ◌∷◌, ◌++◌, length, Option, Some, None, IsSome, refl, sym, subst, ◌∙◌, ap, arith, inl, inr}
 use Rattle.std.specs.Prelude.{IfSome, slice_get}
 use Rattle.std.specs.List.{AllByRecursion}
 use Rattle.std.specs.Option.{option_map}
@@ -7,8 +7,7 @@ use Rattle.std.proofs.lemmas.Bool.{false≢true}
 use Rattle.std.proofs.lemmas.List.{length-append, length-map, map-append}
 use Rattle.cabinet.specs.State.{IsKnown, State, now}
 use Rattle.cabinet.proofs.Lists.{all_push}
-use Rattle.catalog.specs.declared.catalogue.Catalogue.{Catalogue}
-use Rattle.metatile_locks.proofs.Lists.{all_joined, all_weaker}
+use Rattle.metatile_locks.proofs.Lists.{all_weaker}
 use Rattle.served_covers.specs.OfCatalogue.{IsCoverOf}
 use Rattle.truncation_list.specs.declared.book.Cut.{Cut}
 use Rattle.truncation_list.specs.declared.cover.Cover.{Cover}
@@ -18,21 +17,20 @@ use Rattle.change_feed.specs.declared.applied.Applied.{Applied}
 use Rattle.change_feed.specs.declared.applied.Applied.TheVariants as applied
 use Rattle.change_feed.specs.declared.change.Change.{Change}
 use Rattle.change_feed.specs.declared.mark.Mark.{Mark}
-use Rattle.change_feed.specs.Applies.{Pair, decided, mark_for, marked_cut}
+use Rattle.change_feed.specs.Applies.{Pair, decided, mark_for}
 use Rattle.change_feed.specs.Files.{IsBehind, Stand}
 use Rattle.change_feed.specs.Marks.{last_of}
 use Rattle.change_feed.specs.Runs.{GoesOn, IsCalled, MayBegin, Stores}
-use Rattle.change_feed.specs.Runs as feeds
-use Rattle.change_feed.proofs.Running.{called_answers, next_number}
+use Rattle.change_feed.proofs.Running.{called_answers}
 use Rattle.outbox.specs.declared.packet.Packet.{Packet}
 use Rattle.outbox.specs.declared.packet.Packet.TheVariants as packets
 use Rattle.outbox.specs.declared.posted.Posted.{Posted}
 use Rattle.outbox.specs.declared.posted.Posted.TheVariants as posts
-use Rattle.outbox.specs.Posts.{Hears, Outgoing, Posts, next_of}
+use Rattle.outbox.specs.Posts.{Hears, Outgoing}
 use Rattle.cut_follower.specs.InStep.{IsFront, IsInStep, IsLastOf, IsNextIn, IsTrueOf, book_in, covers_of, last_in}
-use Rattle.cut_follower.specs.Lossy.{Event, Happens, IsArrived, IsFound, IsOpenedFrom, IsPosted, Lossy, Passes, applied_after, arrived, asked, begun, cabinet_opened, commanded, cut_for, heard, marks_opened, next_sent, outbox_opened, packet_of, posted, ran_out, unsure_after, with_cuts, with_out, with_sent, with_some, with_stores}
+use Rattle.cut_follower.specs.Lossy.{Event, Happens, IsArrived, IsFound, IsOpenedFrom, IsPosted, Lossy, Passes, applied_after, arrived, asked, begun, cabinet_opened, commanded, heard, marks_opened, next_sent, outbox_opened, packet_of, posted, ran_out, unsure_after, with_cuts, with_out, with_sent, with_some, with_stores}
 use Rattle.cut_follower.proofs.Feeds.{called_of, goes_asked, goes_called, goes_same}
-use Rattle.cut_follower.proofs.Fronts.{front_itself, front_next, front_some, front_through, got_all, got_front, some_is, some_weaker}
+use Rattle.cut_follower.proofs.Fronts.{front_itself, front_next, front_through, got_all, got_front, some_weaker}
 
 -- a link that is in step stands where a run of its feed may begin
 behind_of : (l : Lossy) (undecided : Option Mark) → IfSome undecided (IsNextIn l) → IsBehind l.stores.stand.mark undecided

@@ -1,5 +1,3 @@
-use Rattle.std.proofs.Common.{◌++◌, ◌∷◌}
-use Rattle.change_feed.specs.declared.applied.Applied.TheVariants as applied
 use Rattle.cut_follower.proofs.Feeds.{arrives_above, arrives_again}
 use Rattle.cut_follower.proofs.Promised.{acknowledged_cut, all_cuts_stay, all_posts_stay, arrived_posted, done_applied, sent_served, tile_above}
 use Rattle.cut_follower.proofs.Stepping.{begins_in_step, may_begin, steps_on}
