@@ -18,7 +18,7 @@ use Rattle.matrix_geometry.specs.declared.address.Address.{Address}
 use Rattle.outbox.specs.declared.packet.Packet.{Packet}
 use Rattle.outbox.specs.declared.packet.Packet.TheVariants as packets
 use Rattle.outbox.specs.declared.posted.Posted.{Posted}
-use Rattle.outbox.specs.Posts.{Hears, Outgoing, Posts, next_of}
+use Rattle.outbox.specs.Posts.{Hears, MayBeFound, Outgoing, Posts, next_of}
 use Rattle.served_covers.specs.OfCatalogue.{IsCoverOf}
 use Rattle.truncation_list.specs.declared.book.Cut.{Cut}
 use Rattle.truncation_list.specs.declared.cover.Cover.{Cover}
@@ -110,7 +110,7 @@ pub record IsPosted (l : Lossy) (cover : Cover) (reply : Posted) (m : Lossy) : T
 
 -- what an image of the outbox may open to: the posts, or these and the one that is undecided; nothing is heard then
 pub record IsOpenedFrom (s t : Outgoing) : Type 0 where
-  pub found : (t.posts ≡ s.posts) ⊎ ((cover : Cover) × (s.undecided ≡ Some cover) × (t.posts ≡ s.posts ++ cover ∷ []))
+  pub found : MayBeFound s t.posts
   pub decided : t.undecided ≡ None
   pub silent : t.heard ≡ 0
 
