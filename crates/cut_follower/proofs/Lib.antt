@@ -1,0 +1,4 @@
+pub mod Feeds
+pub mod Fronts
+pub mod Promised
+pub mod Stepping
