@@ -1,0 +1,2 @@
+pub mod Composes
+pub mod Parts

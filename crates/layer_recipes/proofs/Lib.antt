@@ -1,0 +1,10 @@
+pub mod Ascii
+pub mod Bytes
+pub mod Laying
+pub mod Loop
+pub mod Rows
+pub mod Seen
+pub mod Sheets
+pub mod Texts
+pub mod Told
+pub mod Values

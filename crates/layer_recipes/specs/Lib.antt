@@ -1,0 +1,7 @@
+pub mod Composite
+pub mod Dimensions
+pub mod Members
+pub mod OfCatalogue
+pub mod Outcome
+pub mod Overlaid
+pub mod Recipes

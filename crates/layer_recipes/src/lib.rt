@@ -1,0 +1,22 @@
+//! Recipes: tiles of several layers, laid over each other.
+//!
+//! Promises: `Recipe::read` gives the recipe of a JSON text or its first fault in the order of its members
+//! (`specs/Recipes.antt`), and a recipe that was read is of the catalogue (`specs/OfCatalogue.antt`). An `Overlay` gives the text
+//! of a composite of the parts that were laid on it, from the top down (`specs/Composite.antt`); where each part's text is that of a
+//! picture, it is the composite of the pictures.
+//! Stands on json_forms, dimension_key, raster_field, metatile_plan, catalog, matrix_geometry, exact_ratio, serde_json and itoa.
+#![tactic(auto)]
+
+pub mod composed;
+mod dimensions;
+pub mod fault;
+mod header;
+pub mod laws;
+mod member;
+mod names;
+pub mod overlay;
+mod part;
+mod pixels;
+pub mod place;
+pub mod reading;
+pub mod recipe;
