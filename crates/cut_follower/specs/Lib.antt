@@ -1,1 +1,5 @@
+pub mod Following
+pub mod Leading
+pub mod Links
+pub mod Steps
 pub mod Takes

@@ -6,5 +6,9 @@
 //! Stands on change_feed and outbox, and on cabinet with the crates of its types.
 #![tactic(auto)]
 
+pub mod ends;
+pub mod following;
+pub mod leading;
+pub mod packets;
 pub mod taken;
 pub mod taking;
