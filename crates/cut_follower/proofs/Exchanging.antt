@@ -22,7 +22,7 @@ follow_more s m [] x follow next hears = subst (λ (o : Outgoing). (next_of o �
 follow_more s m (y ∷ ys) x follow next hears = (follow.0, follow.1, follow_more y.after m ys x follow.2 next hears)
 
 -- one text behind several
-joined : {X : Type 0} (f : X → List ℕ) (xs : List X) (x : X) → flat_map f (xs ++ x ∷ []) ≡ flat_map f xs ++ f x
+pub joined : {X : Type 0} (f : X → List ℕ) (xs : List X) (x : X) → flat_map f (xs ++ x ∷ []) ≡ flat_map f xs ++ f x
 joined f xs x = flat_map-append f xs (x ∷ []) ∙ ap (λ (l : List ℕ). flat_map f xs ++ l) (append-nil (f x))
 
 -- what is heard leaves the posts
