@@ -1,5 +1,5 @@
 -- Packets: how one is spelled in 64 bytes, and which numbers it may have.
-use Rattle.std.specs.Prelude.{ℕ, ◌<◌, ◌≤◌, ◌^◌, List, ◌∷◌, ◌++◌, replicate, IfSome}
+use Rattle.std.specs.Prelude.{◌≡◌, ℕ, ◌<◌, ◌≤◌, ◌^◌, List, ◌∷◌, ◌++◌, length, replicate, IfSome}
 use Rattle.std.specs.List.{AllByRecursion}
 use Rattle.byteorder.specs.Endian.{big_bytes}
 use Rattle.record_text.specs.declared.entries.Record.TheVariants as record_of
@@ -20,14 +20,15 @@ abbrev pub FitsPacket : Packet → Type 0
 FitsPacket (packet.Change n cover) = Fits (record_of.Cut n cover)
 FitsPacket (packet.Seen n) = n < 2 ^ 64
 
--- a cover that a catalogue may have, by the limits of catalogues: 64 layers, 16 grids, 30 matrices a grid, 32 styles a layer, 1,024 values a
--- dimension, coordinates of 10^8 units
+-- a cover that a catalogue may have, by the limits of catalogues: 64 layers, 16 grids, 30 matrices a grid, 32 styles a layer, 4 dimensions,
+-- 1,024 values a dimension, coordinates of 10^8 units
 pub record IsRangedCover (cover : Cover) : Type 0 where
   pub layer : cover.layer < 64
   pub grid : cover.grid < 16
   pub z_start : cover.z_start < 30
   pub z_stop : cover.z_stop < 30
   pub style : IfSome cover.filter.style (λ style. style < 32)
+  pub four : length cover.filter.dims ≡ 4
   pub values : AllByRecursion (λ wanted. IfSome wanted (λ value. value < 1024)) cover.filter.dims
   pub reach : IsWithinReach cover
 

@@ -1,5 +1,5 @@
 -- What an outbox has posted and heard, and what its calls come to, a row for each reply.
-use Rattle.std.specs.Prelude.{◌≡◌, ◌⊎◌, ℕ, ◌+◌, ◌<◌, ◌≤◌, Bool, true, false, List, [], ◌∷◌, ◌++◌, length, slice_get, Option, Some, None, ⊥}
+use Rattle.std.specs.Prelude.{◌≡◌, ◌⊎◌, ℕ, ◌+◌, ◌<◌, ◌≤◌, Bool, true, false, List, [], ◌∷◌, ◌++◌, length, slice_get, Option, Some, None}
 use Rattle.std.specs.Option.{option_map}
 use Rattle.cache_file.specs.declared.file.CacheFile.{CacheFile}
 use Rattle.catalog.specs.declared.catalogue.Catalogue.{Catalogue}

@@ -6,3 +6,8 @@
 //! a failed call may have left, or to what the call brings (`specs/Files.antt`).
 //! Stands on cache_file and record_text, and on the crates of the types of a cover.
 #![tactic(auto)]
+
+mod hearing;
+pub mod outbox;
+pub mod packet;
+pub mod posted;
