@@ -1,5 +1,5 @@
 -- What a leader's side of a link does: what it sends and hears, and how it ends.
-use Rattle.std.specs.Prelude.{◌≡◌, ◌⊎◌, ℕ, ◌<◌, ◌≤◌, ◌^◌, true, List, [], ◌∷◌, ◌++◌, length, flat_map, Some, None, ⊥}
+use Rattle.std.specs.Prelude.{◌≡◌, ◌⊎◌, ℕ, ◌<◌, ◌≤◌, ◌^◌, true, List, [], ◌∷◌, ◌++◌, length, flat_map, Some, None}
 use Rattle.cut_follower.specs.declared.ends.LinkEnd.{LinkEnd}
 use Rattle.cut_follower.specs.declared.ends.LinkEnd.TheVariants as link_end
 use Rattle.cut_follower.specs.Links.{HasEnded, HasMissed, HasSent, HasTaken, IsCutShort, IsPart, LinkAt}

@@ -1,5 +1,5 @@
 -- A link at a moment, and what one packet off it or onto it does.
-use Rattle.std.specs.Prelude.{◌≡◌, ℕ, ◌<◌, ◌≤◌, Bool, true, false, List, [], ◌++◌, length, Option, Result, Ok, Err, ⊥}
+use Rattle.std.specs.Prelude.{◌≡◌, ℕ, ◌<◌, ◌≤◌, Bool, true, false, List, [], ◌++◌, length, Option, Result, Ok, Err}
 use Rattle.std.specs.Io.KnownBytes.{Appends, Consumes, IsAtEnd}
 use Rattle.causes.specs.Causes.{Rose}
 use Rattle.tile_requests.specs.Sent.{AppendsFront, AppendsPart}

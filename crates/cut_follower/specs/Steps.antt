@@ -1,6 +1,6 @@
 -- What one exchange of a leader and one arrival at a follower come to.
 -- A tie between the code and its definitions: the promise can be read without it.
-use Rattle.std.specs.Prelude.{◌≡◌, ◌⊎◌, ℕ, ◌<◌, ◌≤◌, Bool, true, false, IsTrue, List, [], length, Result, Ok, Err, ⊤, ⊥}
+use Rattle.std.specs.Prelude.{◌≡◌, ◌⊎◌, ℕ, ◌<◌, ◌≤◌, Bool, true, false, IsTrue, List, [], length, Result, Ok, Err, ⊤}
 use Rattle.cabinet.specs.State.{IsSound, now}
 use Rattle.catalog.specs.declared.catalogue.Catalogue.{Catalogue}
 use Rattle.change_feed.specs.declared.applied.Applied.{Applied}

@@ -1,5 +1,5 @@
 -- What a packet comes to that a follower takes: a change is made by its row, and the last change that is marked then is told.
-use Rattle.std.specs.Prelude.{◌≡◌, ℕ, List, ⊤, ⊥}
+use Rattle.std.specs.Prelude.{◌≡◌, ℕ, List, ⊤}
 use Rattle.catalog.specs.declared.catalogue.Catalogue.{Catalogue}
 use Rattle.change_feed.specs.Applies.{Applies, MayEndAfter, Pair}
 use Rattle.change_feed.specs.Files.{MayEndIn, Stand}
