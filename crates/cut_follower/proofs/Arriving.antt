@@ -1,6 +1,6 @@
 -- How far a follower has come on a link, one arrival more, and its ends.
 use Rattle.std.specs.Prelude.{IsTrue}
-use Rattle.std.proofs.Common.{◌≡◌, ◌⊎◌, ℕ, ◌+◌, ◌<◌, ◌≤◌, Bool, List, [], ◌∷◌, ◌++◌, length, Option, Some, None, refl, sym, subst, ap, ◌∙◌, arith, append-nil, length-append, inl, inr}
+use Rattle.std.proofs.Common.{◌≡◌, ◌⊎◌, ℕ, ◌+◌, ◌-◌, ◌<◌, ◌≤◌, ◌^◌, Bool, List, [], ◌∷◌, ◌++◌, flat_map, length, Option, Some, None, refl, sym, subst, ap, ◌∙◌, arith, append-nil, length-append, inl, inr}
 use Rattle.std.specs.List.{AllByRecursion}
 use Rattle.std.proofs.KnownBytes.{Appends-nil, Appends-trans, Consumes-nil, Consumes-trans}
 use Rattle.cabinet.specs.State.{IsSound, State, now}
@@ -11,7 +11,7 @@ use Rattle.change_feed.specs.Files.{MayEndIn, Stand}
 use Rattle.change_feed.specs.Marks.{last_of}
 use Rattle.change_feed.specs.Runs.{MayBegin}
 use Rattle.cut_follower.proofs.Chained.{acknowledged, all_in_force, along_here, along_more, along_next, arrive_more, arrive_runs, decided_in}
-use Rattle.cut_follower.proofs.Exchanging.{joined}
+use Rattle.cut_follower.proofs.Exchanging.{cut_behind, joined}
 use Rattle.cut_follower.specs.declared.ends.LinkEnd.{LinkEnd}
 use Rattle.cut_follower.specs.declared.ends.LinkEnd.TheVariants as link_end
 use Rattle.cut_follower.specs.declared.following.Arrived.{Arrived}
@@ -174,10 +174,7 @@ module _ (told told' : Bool) (digest digest' : List ℕ) (from mid to : DiskStat
     here one.0 arrived.WriteFault one.1,
     ends_with one.0 arrived.WriteFault one.1 few,
     one.1.tells.0,
-    record {
-      sent = record { between = m.taken; whole = f.sent; part = one.1.tells.1 };
-      failed = rose_before (2 ^ 64 - 1) a.write_faults m.write_faults b.write_faults f.write_later one.1.tells.2;
-    },
+    cut_behind a m b (seen_in f.arrivals) (packet_text (seen_of (here one.0 arrived.WriteFault one.1))) f.write_later f.sent one.1.tells.1,
   ) refl
 
   pub far_stopped : MayBegin (stores_of s) → count < most_packets → (reply : Applied) → ArrivesOne m b u (arrived.Stopped reply) t → FollowsOn told digest from to a b s t (link_end.Stopped reply)

@@ -1,14 +1,16 @@
 -- How far a leader has come on a link, one exchange more, and its ends.
-use Rattle.std.proofs.Common.{◌≡◌, ◌≤◌, ℕ, true, List, [], ◌∷◌, ◌++◌, Option, Some, None, refl, sym, subst, ap, ◌∙◌, arith, append-nil}
+use Rattle.std.proofs.Common.{◌≡◌, ◌<◌, ◌≤◌, ℕ, ◌-◌, ◌^◌, length, take, drop, true, flat_map, List, [], ◌∷◌, ◌++◌, Option, Some, None, refl, sym, subst, ap, ◌∙◌, arith, append-nil}
 use Rattle.std.proofs.KnownBytes.{Appends-nil, Appends-trans, Consumes-nil, Consumes-trans}
 use Rattle.std.proofs.lemmas.Bool.{false≢true}
 use Rattle.std.proofs.lemmas.Grind.{flat_map-append}
+use Rattle.std.proofs.lemmas.List.{length-drop, take-append-drop}
+use Rattle.causes.specs.Causes.{Rose}
 use Rattle.http_wire.proofs.TakesOn.{rose_before}
 use Rattle.cut_follower.specs.declared.ends.LinkEnd.{LinkEnd}
 use Rattle.cut_follower.specs.declared.ends.LinkEnd.TheVariants as link_end
 use Rattle.cut_follower.specs.declared.leading.Exchanged.TheVariants as exchanged
 use Rattle.cut_follower.specs.Leading.{Exchange, Exchanges, IsWaiting, LeadEnds, Leads, heard_in, sent_in}
-use Rattle.cut_follower.specs.Links.{HasSent, HasTaken, LinkAt}
+use Rattle.cut_follower.specs.Links.{HasSent, HasTaken, IsCutShort, LinkAt}
 use Rattle.cut_follower.specs.Steps.{ExchangesOne, IsUnheard}
 use Rattle.outbox.specs.declared.packet.Packet.{Packet}
 use Rattle.outbox.specs.declared.packet.Packet.TheVariants as packets
@@ -62,6 +64,21 @@ far_start a s = record {
 pub far_done : (a b : LinkAt) (s t : Outgoing) → SoFar a b s t → next_of t ≡ None → Leads a b s t link_end.Finished
 far_done a b s t f none = record { exchanges = f.exchanges; follow = f.follow; ends = (none, f.sent, f.taken) }
 
+-- the first so many bytes of a text went out
+pub cut_at : (a b : LinkAt) (bytes : List ℕ) (n : ℕ) → n < length bytes → HasSent a b (take n bytes) → Rose a.write_faults b.write_faults → IsCutShort a b [] bytes
+cut_at a b bytes n within sent failed = record { front = take n bytes; rest = drop n bytes; whole = sym (take-append-drop n bytes); short = let e = length-drop n bytes in omega (arith, e, within); sent = sent; failed = failed }
+
+-- a text that was cut short, behind texts that went out whole
+pub cut_behind : (a m b : LinkAt) (first second : List ℕ) → a.write_faults ≤ m.write_faults → HasSent a m first → IsCutShort m b [] second → IsCutShort a b first second
+cut_behind a m b first second later sent cut = record {
+  front = cut.front;
+  rest = cut.rest;
+  whole = cut.whole;
+  short = cut.short;
+  sent = Appends-trans a.taken m.taken b.taken first cut.front sent cut.sent;
+  failed = rose_before (2 ^ 64 - 1) a.write_faults m.write_faults b.write_faults later cut.failed;
+}
+
 module _ (a m b : LinkAt) (s u t : Outgoing) (post : Packet) (f : SoFar a m s u) (next : next_of u ≡ Some post) where
   pub far_next : ExchangesOne m b post u exchanged.Heard t → m.read_faults ≤ b.read_faults → m.write_faults ≤ b.write_faults → SoFar a b s t
   far_next one reads writes =
@@ -102,10 +119,7 @@ module _ (a m b : LinkAt) (s u t : Outgoing) (post : Packet) (f : SoFar a m s u)
   far_unsent one = leads_by link_end.WriteFault one.0 (
     post,
     next,
-    record {
-      sent = record { between = m.taken; whole = f.sent; part = one.2 };
-      failed = rose_before (2 ^ 64 - 1) a.write_faults m.write_faults b.write_faults f.write_later one.3;
-    },
+    cut_behind a m b (sent_in f.exchanges) (packet_text post) f.write_later f.sent one.2,
     subst (HasTaken a b) (append-nil (heard_in f.exchanges)) (Consumes-trans a.left m.left b.left (heard_in f.exchanges) [] f.taken one.1),
   )
 

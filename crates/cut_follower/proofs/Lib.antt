@@ -1,3 +1,4 @@
 pub mod Arriving
 pub mod Chained
 pub mod Exchanging
+pub mod Hearing

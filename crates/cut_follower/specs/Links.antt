@@ -2,7 +2,6 @@
 use Rattle.std.specs.Prelude.{◌≡◌, ℕ, ◌<◌, ◌≤◌, Bool, true, false, List, [], ◌++◌, length, Option, Result, Ok, Err}
 use Rattle.std.specs.Io.KnownBytes.{Appends, Consumes, IsAtEnd}
 use Rattle.causes.specs.Causes.{Rose}
-use Rattle.tile_requests.specs.Sent.{AppendsFront, AppendsPart}
 use Rattle.cut_follower.specs.declared.packets.Missed.{Missed}
 use Rattle.cut_follower.specs.declared.packets.Missed.TheVariants as missed
 
@@ -25,7 +24,11 @@ HasSent a b bytes = Appends a.taken b.taken bytes
 
 -- all of the first bytes went out, and of the second ones a front, and not all of them; a write failed
 pub record IsCutShort (a b : LinkAt) (first second : List ℕ) : Type 0 where
-  pub sent : AppendsPart a.taken b.taken first second
+  pub front : List ℕ
+  pub rest : List ℕ
+  pub whole : second ≡ front ++ rest
+  pub short : 0 < length rest
+  pub sent : HasSent a b (first ++ front)
   pub failed : Rose a.write_faults b.write_faults
 
 -- a read failed
@@ -65,7 +68,7 @@ pub record TakesOff (a b : LinkAt) (result : Result (List ℕ) Missed) : Type 0 
 -- the bytes went out whole, or a front of them, and not all, and a write failed
 abbrev pub GoesOnto : LinkAt → LinkAt → List ℕ → Bool → Type 0
 GoesOnto a b bytes true = HasSent a b bytes
-GoesOnto a b bytes false = AppendsFront a.taken b.taken bytes × Rose a.write_faults b.write_faults
+GoesOnto a b bytes false = IsCutShort a b [] bytes
 
 -- nothing was taken meanwhile
 pub record PutsOnto (a b : LinkAt) (bytes : List ℕ) (whole : Bool) : Type 0 where
