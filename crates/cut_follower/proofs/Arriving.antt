@@ -237,5 +237,5 @@ module _ (told told' : Bool) (digest digest' : List ℕ) (from mid to : DiskStat
         (stay_images (inr one.starved.stand)) same_all sound_all
 
 -- so many as may come
-pub far_full : (told : Bool) (digest : List ℕ) (from to : DiskState) (a b : LinkAt) (s t : Pair) → MayBegin (stores_of s) → SoFar told digest from to a b s t most_packets → FollowsOn told digest from to a b s t link_end.TooMany
-far_full told digest from to a b s t begins f = follows_by told digest from to a b s t t link_end.TooMany f.arrivals begins f.arrive (f.made, sym f.counted, f.taken, f.sent) refl f.images f.same_catalogue f.still_sound
+pub far_full : (told : Bool) (digest : List ℕ) (from to : DiskState) (a b : LinkAt) (s t : Pair) (count : ℕ) → MayBegin (stores_of s) → SoFar told digest from to a b s t count → count ≡ most_packets → FollowsOn told digest from to a b s t link_end.TooMany
+far_full told digest from to a b s t count begins f full = follows_by told digest from to a b s t t link_end.TooMany f.arrivals begins f.arrive (f.made, sym f.counted ∙ full, f.taken, f.sent) refl f.images f.same_catalogue f.still_sound

@@ -70,7 +70,7 @@ mark_same s t is = ap (λ (x : Stand). last_of x.mark) is
 pub more_in_force : (s t : Pair) (change : Change) (reply : Applied) (cuts : List Cut) → MayBegin (stores_of s) → IsCalled (stores_of s) change reply (stores_of t) → Applies s change reply t → AreInForce s cuts → AreInForce t (cuts ++ cut_of change reply)
 more_in_force s t change reply cuts begins is row are = by reply is row
   where
-    abbrev answers_by : (r : Applied) → IsCalled (stores_of s) change r (stores_of t) → AnswersForBook (now t.cabinet).book (now s.cabinet).book
+    answers_by : (r : Applied) → IsCalled (stores_of s) change r (stores_of t) → AnswersForBook (now t.cabinet).book (now s.cabinet).book
     answers_by r c = runs_answer (stores_of s) (stores_of t) (called change r ∷ []) begins (stores_of t, c, refl)
 
     by : (r : Applied) → IsCalled (stores_of s) change r (stores_of t) → Applies s change r t → AreInForce t (cuts ++ cut_of change r)

@@ -5,7 +5,7 @@ ghost use Rattle.cabinet.specs.State.{State};
 ghost use Rattle.change_feed.specs.Applies.{Pair};
 ghost use Rattle.cut_follower.specs.Following.{FollowsOn, IsMade};
 ghost use Rattle.cut_follower.specs.Links.{LinkAt};
-ghost use Rattle.cut_follower.specs.Steps.{ArrivesOne, GoesTo, TellsOf};
+ghost use Rattle.cut_follower.specs.Steps.{ArrivesOne, ComesAs, GoesTo, MakesOne, TellsOf};
 ghost use Rattle.cut_follower.specs.Takes.{IsOfCatalogue};
 ghost use Rattle.gate_journal.specs.Sound.{digest_of};
 ghost use Rattle.outbox.specs.Packets.{FitsPacket};
@@ -15,7 +15,6 @@ use crate::packets::{Missed, send_packet, take_packet};
 use crate::taken::Taken;
 use crate::taking::take;
 use cabinet::keeper::Keeper;
-use cabinet::laws::laws_of_rows;
 use cache_core::laws::laws_of_lasting;
 use catalog::catalogue::Catalogue;
 use change_feed::applied::Applied;
@@ -142,7 +141,6 @@ fn make_and_tell<M: Disk, K: Keeper, L: Link>(
     ensures later { L.ByteSink.faults link.old ≤ L.ByteSink.faults link.new }
 {
     cabinet.known();
-    laws_of_rows();
     match take(alloc, feed, cabinet, packet) {
         Err(_) => Arrived::OutOfMemory,
         Ok(Taken::NotAChange) => Arrived::BadPacket,
@@ -174,7 +172,6 @@ fn arrive<M: Disk, K: Keeper, L: Link>(
     ensures write_later { L.ByteSink.faults link.old ≤ L.ByteSink.faults link.new }
 {
     laws_of_lasting::<K>();
-    feed.images();
     match read_next(catalogue, link) {
         Ok(packet) => make_and_tell(alloc, feed, cabinet, link, &packet),
         Err(arrived) => arrived,

@@ -1,4 +1,4 @@
-use Rattle.std.proofs.Common.{ℕ, List, ap, subst, sym, ◌∙◌}
+use Rattle.std.proofs.Common.{ℕ, List, [], ap, subst, sym, ◌∙◌}
 use Rattle.http_wire.specs.Side.{Side}
 use Rattle.cut_follower.proofs.Exchanging.{cut_at}
 use Rattle.cut_follower.specs.Links.{IsCutShort, LinkAt}
