@@ -111,44 +111,6 @@ goes_to told digest from to s t packet reply known of row later cabinet_later st
       still_sound = still_sound;
     }
 
--- where memory ran out, and the cabinet is as it was
-pub goes_starved : (told : Bool) (digest : List ℕ) (from to : DiskState) (s t : Pair) → t.cabinet ≡ s.cabinet → s.faults ≤ t.faults → s.cabinet_faults ≤ t.cabinet_faults → (IsTrue told → Leaves from to (MayEndIn digest s.stand)) → GoesTo told digest from to s t
-goes_starved told digest from to s t same later cabinet_later images =
-    let g = goes_same s.cabinet t.cabinet same in
-    record {
-      images = λ is. leaves_as from to (MayEndIn digest s.stand) (λ image. MayEndIn digest s.stand image ⊎ MayEndIn digest t.stand image) (images is) (λ image may. inl may);
-      later = later;
-      cabinet_later = cabinet_later;
-      same_catalogue = g.same_catalogue;
-      answers = g.answers;
-      still_sound = λ sound. subst IsSound (sym same) sound;
-    }
-
--- nothing was done
-pub goes_nowhere : (told : Bool) (digest : List ℕ) (from : DiskState) (s : Pair) → GoesTo told digest from from s s
-goes_nowhere told digest from s = goes_starved told digest from from s s refl (omega arith) (omega arith) (λ is. leaves_none from (MayEndIn digest s.stand))
-
--- WHAT IT CAME TO
-
--- what became of it was told so
-pub made_one : (a b : LinkAt) (s t : Pair) (packet : Packet) (reply : Applied) (seen : Packet) (e : Arrived) → Takes s packet (taken.Answer reply seen) t → TellsOf a b reply seen e → MakesOne a b s packet e t
-made_one a b s t packet reply seen arrived.Told takes tells = (reply, seen, takes, tells)
-made_one a b s t packet reply seen arrived.WriteFault takes tells = (reply, seen, takes, tells)
-made_one a b s t packet reply seen (arrived.Stopped stop) takes tells = (reply, seen, takes, tells)
-made_one a b s t packet reply seen arrived.AtEnd takes tells = absurd tells
-made_one a b s t packet reply seen arrived.Truncated takes tells = absurd tells
-made_one a b s t packet reply seen arrived.BadPacket takes tells = absurd tells
-made_one a b s t packet reply seen arrived.ReadFault takes tells = absurd tells
-made_one a b s t packet reply seen arrived.OutOfMemory takes tells = absurd tells
-
--- memory runs out for a change alone
-pub starved_change : {E : Type 0} (packet : Packet) (result : Result Taken E) (fault : E) (P Q : Type 0) → result ≡ Err fault → WhereSeen packet ((result ≡ Ok taken.NotAChange) × P × Q) → IsChange packet
-starved_change (packets.Change n cover) result fault P Q is where_seen = tt
-starved_change (packets.Seen i) result fault P Q is where_seen = absurd (apart where_seen.0)
-  where
-    apart : result ≡ Ok taken.NotAChange → ⊥
-    apart same = cc
-
 -- OFF THE LINK
 
 abbrev IsRead : List ℕ → Option Packet → Type 0
@@ -171,11 +133,6 @@ some_packet p q is = ap (or_packet p) is
 pub not_of : (c : Catalogue) (bytes : List ℕ) (packet : Packet) → IsRead bytes (Some packet) → length bytes ≡ 64 → (IsOfCatalogue c packet → ⊥) → IsNoChange c bytes
 not_of c bytes packet read size other =
     record { size = size; none = λ n cover ranged text of. other (subst (IsOfCatalogue c) (sym (some_packet packet (packets.Change n cover) ((read (packets.Change n cover)).1 (text, ranged)))) of) }
-
-pub come_of : (c : Catalogue) (a b : LinkAt) (bytes : List ℕ) (packet : Packet) → IsRead bytes (Some packet) → HasTaken a b bytes → length bytes ≡ 64 → IsOfCatalogue c packet → ComesAs c a b (Ok packet)
-come_of c a b bytes packet read taken size of =
-    let text : packet_text packet ≡ bytes = ((read packet).0 refl).0 in
-    (of, subst (HasTaken a b) (sym text) taken, ap length text ∙ size)
 
 -- WHAT ARRIVED
 
@@ -241,30 +198,16 @@ module _ (a m b : LinkAt) (s t : Pair) (same_taken : m.taken ≡ a.taken) (same_
   }
   forgotten (packets.Seen i) comes change starved sent = absurd change
 
-  pub arrives_made : (packet : Packet) (e : Arrived) → ComesAs s.cabinet.catalogue a m (Ok packet) → MakesOne m b s packet e t → ArrivesOne a b s e t
-  arrives_made packet arrived.Told comes made = (made.0, told_one packet made.0 made.1 arrived.Told comes made.2 made.3)
-  arrives_made packet arrived.WriteFault comes made = (made.0, told_one packet made.0 made.1 arrived.WriteFault comes made.2 made.3)
-  arrives_made packet (arrived.Stopped stop) comes made =
+  arrives_of : (packet : Packet) (e : Arrived) → ComesAs s.cabinet.catalogue a m (Ok packet) → MakesOne m b s packet e t → ArrivesOne a b s e t
+  arrives_of packet arrived.Told comes made = (made.0, told_one packet made.0 made.1 arrived.Told comes made.2 made.3)
+  arrives_of packet arrived.WriteFault comes made = (made.0, told_one packet made.0 made.1 arrived.WriteFault comes made.2 made.3)
+  arrives_of packet (arrived.Stopped stop) comes made =
       subst (λ (r : Applied). IsTold a b s r t (arrived.Stopped stop)) (sym made.3.0) (told_one packet made.0 made.1 (arrived.Stopped stop) comes made.2 made.3)
-  arrives_made packet arrived.BadPacket comes made = (packet_text packet, untold packet comes made.0 made.1)
-  arrives_made packet arrived.OutOfMemory comes made = forgotten packet comes made.0 made.1 made.2
-  arrives_made packet arrived.AtEnd comes made = absurd made
-  arrives_made packet arrived.Truncated comes made = absurd made
-  arrives_made packet arrived.ReadFault comes made = absurd made
+  arrives_of packet arrived.BadPacket comes made = (packet_text packet, untold packet comes made.0 made.1)
+  arrives_of packet arrived.OutOfMemory comes made = forgotten packet comes made.0 made.1 made.2
+  arrives_of packet arrived.AtEnd comes made = absurd made
+  arrives_of packet arrived.Truncated comes made = absurd made
+  arrives_of packet arrived.ReadFault comes made = absurd made
 
--- nothing came that could be made
-pub arrives_none : (a b : LinkAt) (s : Pair) (e : Arrived) → b.taken ≡ a.taken → ComesAs s.cabinet.catalogue a b (Err e) → ArrivesOne a b s e s
-arrives_none a b s e same comes = by e comes
-  where
-    unsent : HasSent a b []
-    unsent = subst (λ (x : Option (List ℕ)). Appends a.taken x []) (sym same) (Appends-nil a.taken)
-
-    by : (x : Arrived) → ComesAs s.cabinet.catalogue a b (Err x) → ArrivesOne a b s x s
-    by arrived.AtEnd c = (record { same = refl; sent = unsent; taken = c.0 }, c.1)
-    by arrived.Truncated c = (c.0, record { same = refl; sent = unsent; taken = c.1 }, c.2, c.3, c.4)
-    by arrived.BadPacket c = (c.0, record { same = refl; sent = unsent; taken = c.1 }, c.2)
-    by arrived.ReadFault c = (c.0, record { same = refl; sent = unsent; taken = c.1 }, c.2, c.3)
-    by arrived.Told c = absurd c
-    by arrived.WriteFault c = absurd c
-    by (arrived.Stopped stop) c = absurd c
-    by arrived.OutOfMemory c = absurd c
+  pub arrives_made : (c : Catalogue) (packet : Packet) (e : Arrived) → c ≡ s.cabinet.catalogue → ComesAs c a m (Ok packet) → MakesOne m b s packet e t → ArrivesOne a b s e t
+  arrives_made c packet e same comes made = arrives_of packet e (subst (λ (x : Catalogue). ComesAs x a m (Ok packet)) same comes) made
