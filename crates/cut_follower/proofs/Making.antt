@@ -140,8 +140,8 @@ abbrev first_of : List ℕ → ℕ
 first_of [] = 0
 first_of (x ∷ xs) = x
 
-two_kinds : 1 ≡ 2 → ⊥
-two_kinds is = absurd (omega (arith, is))
+two_kinds : (m n : ℕ) → m ≡ 1 → n ≡ 2 → m ≡ n → ⊥
+two_kinds m n one two is = absurd (omega (arith, one, two, is))
 
 -- from a moment on at which as much had been sent
 sent_from : (a m b : LinkAt) (bytes : List ℕ) → m.taken ≡ a.taken → HasSent m b bytes → HasSent a b bytes
@@ -185,7 +185,7 @@ module _ (a m b : LinkAt) (s t : Pair) (same_taken : m.taken ≡ a.taken) (same_
   untold (packets.Change n cover) comes takes sent = absurd takes
   untold (packets.Seen i) comes takes sent = (
     record { same = takes; sent = sent_from a m b [] same_taken sent; taken = taken_to (packet_text (packets.Seen i)) comes.1 },
-    record { size = comes.2; none = λ n cover ranged text of. absurd (two_kinds (ap first_of text)) },
+    record { size = comes.2; none = λ n cover ranged text of. two_kinds 1 2 refl refl (ap first_of text) },
   )
 
   forgotten : (packet : Packet) → ComesAs s.cabinet.catalogue a m (Ok packet) → IsChange packet → IsStarved s t → HasSent m b [] → IsForgotten a b s t
@@ -203,7 +203,7 @@ module _ (a m b : LinkAt) (s t : Pair) (same_taken : m.taken ≡ a.taken) (same_
   arrives_of packet arrived.WriteFault comes made = (made.0, told_one packet made.0 made.1 arrived.WriteFault comes made.2 made.3)
   arrives_of packet (arrived.Stopped stop) comes made =
       subst (λ (r : Applied). IsTold a b s r t (arrived.Stopped stop)) (sym made.3.0) (told_one packet made.0 made.1 (arrived.Stopped stop) comes made.2 made.3)
-  arrives_of packet arrived.BadPacket comes made = (packet_text packet, untold packet comes made.0 made.1)
+  arrives_of packet arrived.BadPacket comes made = let u = untold packet comes made.0 made.1 in (packet_text packet, u.0, u.1)
   arrives_of packet arrived.OutOfMemory comes made = forgotten packet comes made.0 made.1 made.2
   arrives_of packet arrived.AtEnd comes made = absurd made
   arrives_of packet arrived.Truncated comes made = absurd made
