@@ -1,8 +1,8 @@
 -- What the images of an outbox's file open to, between two calls and at each moment of one.
-use Rattle.std.proofs.Common.{◌≡◌, ◌⊎◌, ℕ, zero, suc, ◌+◌, ◌≤◌, Bool, IsTrue, List, [], ◌∷◌, ◌++◌, length, Option, Some, None, Result, Ok, Err, refl, sym, subst, ap, ◌∙◌, inl, inr}
+use Rattle.std.proofs.Common.{◌≡◌, ◌⊎◌, ℕ, ◌+◌, ◌≤◌, List, [], ◌∷◌, ◌++◌, length, Some, Result, refl, sym, subst, ap, ◌∙◌, inl, inr}
 use Rattle.std.specs.List.{AllByRecursion}
-use Rattle.cache_file.specs.File.{Anywhere, Brings, HasHeld, IsAmong, held, opens_to, unsure}
-use Rattle.cache_file.proofs.Sparing.{settled_sure, whole_now}
+use Rattle.cache_file.specs.File.{Anywhere, Brings, HasHeld, IsAmong, opens_to, unsure}
+use Rattle.cache_file.proofs.Sparing.{whole_now}
 use Rattle.catalog.specs.declared.catalogue.Catalogue.{Catalogue}
 use Rattle.disk_model.specs.Content.{Content}
 use Rattle.disk_model.specs.Images.{DiskState, Every, Leaves}
@@ -16,7 +16,7 @@ use Rattle.record_text.specs.Fits.{FitsCover}
 use Rattle.record_text.specs.Reading.{cover_at}
 use Rattle.record_text.proofs.Back.{cover_back}
 use Rattle.truncation_list.specs.declared.cover.Cover.{Cover}
-use Rattle.outbox.specs.Files.{ArePosts, Holds, IsOutboxFile, IsPostable, IsPostedOn, MayOpenTo, OpensToPosts, bodies_from, bodies_of, post_body}
+use Rattle.outbox.specs.Files.{Holds, IsOutboxFile, IsPostable, IsPostedOn, MayOpenTo, OpensToPosts, bodies_from, post_body}
 use Rattle.outbox.specs.Posts.{MayBeFound, Outgoing, post_slots}
 
 module _ (c : Catalogue) (start : ℕ) (j : Journal) (begins : start ≡ journal_length (slots_of j)) (same_slots : slots_of j ≡ post_slots) (same_digest : digest_of j ≡ c.digest) where

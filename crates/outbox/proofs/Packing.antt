@@ -1,5 +1,5 @@
 -- How packets are told apart by their bytes, and which one bytes are read as.
-use Rattle.std.proofs.Common.{◌≡◌, ◌≢◌, ℕ, zero, suc, ◌+◌, ◌<◌, ◌≤◌, ◌^◌, List, [], ◌∷◌, ◌++◌, length, drop, take, replicate, slice_index, Option, Some, None, is_some, Bool, true, false, refl, sym, subst, ap, ◌∙◌, arith, length-append}
+use Rattle.std.proofs.Common.{◌≡◌, ◌≢◌, ℕ, suc, ◌+◌, ◌<◌, ◌^◌, List, [], ◌∷◌, ◌++◌, length, drop, take, replicate, slice_index, Option, Some, None, is_some, refl, sym, subst, ap, ◌∙◌, arith}
 use Rattle.std.proofs.lemmas.Bool.{false≢true}
 use Rattle.std.proofs.lemmas.List.{take_all}
 use Rattle.byteorder.specs.Endian.{big_bytes, big_number}
@@ -19,7 +19,7 @@ use Rattle.outbox.specs.declared.packet.Packet.{Packet}
 use Rattle.outbox.specs.declared.packet.Packet.TheVariants as packet
 use Rattle.outbox.specs.Packets.{FitsPacket, IsRanged, IsReadAs, cut_in, packet_text}
 use Rattle.outbox.specs.Files.{IsPostable, post_body}
-use Rattle.outbox.proofs.Ranging.{packet_fits, ranged_fits}
+use Rattle.outbox.proofs.Ranging.{ranged_fits}
 
 -- SPELLINGS
 

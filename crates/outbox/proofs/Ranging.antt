@@ -1,5 +1,5 @@
 -- The numbers of covers of a valid catalogue are in its ranges, and those in the ranges fit the fields of a record.
-use Rattle.std.proofs.Common.{ℕ, zero, suc, ◌≡◌, ◌+◌, ◌^◌, ◌<◌, ◌≤◌, List, [], ◌∷◌, length, slice_get, map, Option, Some, None, refl, subst, arith}
+use Rattle.std.proofs.Common.{ℕ, zero, suc, ◌≡◌, ◌^◌, ◌<◌, List, [], ◌∷◌, length, slice_get, map, Option, Some, None, refl, subst, arith}
 use Rattle.std.proofs.lemmas.Int.{fits_signed_from_abs}
 use Rattle.std.specs.Prelude.{Contains, IfSome, IsSome, IsSomeAnd, option_and_then}
 use Rattle.std.specs.Int.{w64}

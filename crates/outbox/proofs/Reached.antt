@@ -1,5 +1,5 @@
 -- What a reader of posts was shown, and what the file is that was opened with it.
-use Rattle.std.proofs.Common.{◌≡◌, ℕ, ◌+◌, ◌≤◌, Bool, IsTrue, List, [], ◌∷◌, ◌++◌, length, Option, Some, None, refl, sym, subst, ◌∙◌, ap, arith, inl}
+use Rattle.std.proofs.Common.{◌≡◌, ℕ, ◌+◌, Bool, IsTrue, List, [], ◌∷◌, ◌++◌, None, refl, sym, subst, ◌∙◌, ap, arith, inl}
 use Rattle.std.proofs.lemmas.List.{append-nil}
 use mathlib.Core.List.{append_assoc}
 use Rattle.cache_file.specs.File.{held}
@@ -13,9 +13,9 @@ use Rattle.gate_journal.specs.Opened.{opened}
 use Rattle.gate_journal.specs.Sound.{kept, room_of}
 use Rattle.gate_journal.specs.Visiting.{Reaches, VisitsAll}
 use Rattle.truncation_list.specs.declared.cover.Cover.{Cover}
-use Rattle.outbox.specs.Files.{ArePosts, Holds, IsBadBehind, IsBadIn, IsOutboxFile, IsPosted, IsPostedOn}
+use Rattle.outbox.specs.Files.{ArePosts, Holds, IsBadBehind, IsBadIn, IsOutboxFile, IsPosted}
 use Rattle.outbox.specs.Opens.{Read}
-use Rattle.outbox.specs.Posts.{Outgoing, post_slots}
+use Rattle.outbox.specs.Posts.{post_slots}
 use Rattle.outbox.proofs.Numbering.{posts_count}
 
 -- each visit shows one body more

@@ -1,20 +1,18 @@
 -- What the parts of a post make of its outbox: the file is settled, and the record is added.
-use Rattle.std.proofs.Common.{◌≡◌, ◌⊎◌, ℕ, suc, ◌+◌, ◌<◌, ◌≤◌, Bool, IsTrue, List, [], ◌∷◌, ◌++◌, length, Option, Some, None, Result, Ok, Err, refl, sym, subst, ap, ◌∙◌, arith, inl, inr, length-append}
-use Rattle.std.proofs.lemmas.Bool.{false≢true}
-use Rattle.std.specs.List.{AllByRecursion}
-use Rattle.cache_file.specs.File.{Brings, held, unsure}
+use Rattle.std.proofs.Common.{◌≡◌, ◌⊎◌, ℕ, ◌+◌, Bool, IsTrue, List, [], ◌∷◌, ◌++◌, length, Some, None, Result, Ok, Err, refl, sym, subst, ap, ◌∙◌, arith, inl, inr, length-append}
+use Rattle.cache_file.specs.File.{Brings, held}
 use Rattle.cache_file.proofs.Sparing.{settled_sure}
 use Rattle.catalog.specs.declared.catalogue.Catalogue.{Catalogue}
 use Rattle.disk_model.specs.Content.{Content}
-use Rattle.disk_model.specs.Images.{DiskState, Every, Leaves}
+use Rattle.disk_model.specs.Images.{DiskState, Leaves}
 use Rattle.disk_model.specs.Moments.{leaves_as, leaves_then}
 use Rattle.gate_journal.specs.declared.journal.Journal.{Journal}
 use Rattle.gate_journal.specs.Layout.{journal_length}
 use Rattle.gate_journal.specs.Opened.{Opening, records}
-use Rattle.gate_journal.specs.Sound.{IsAlike, IsSettled, digest_of, kept, room_of, slots_of, version_of}
+use Rattle.gate_journal.specs.Sound.{IsAlike, IsSettled, kept, room_of, slots_of, version_of}
 use Rattle.truncation_list.specs.declared.cover.Cover.{Cover}
 use Rattle.outbox.specs.declared.written.Written.TheVariants as outcome
-use Rattle.outbox.specs.Files.{Holds, IsPostable, IsPosted, IsPostedOn, MayOpenTo, OpensToPosts, post_body}
+use Rattle.outbox.specs.Files.{Holds, IsPostable, IsPosted, MayOpenTo, OpensToPosts, post_body}
 use Rattle.outbox.specs.Posts.{Outgoing, post_slots}
 use Rattle.outbox.specs.Writes.{HasWritten, written}
 use Rattle.outbox.proofs.Imaging.{moments, settled_now, unsure_then}

@@ -1,5 +1,5 @@
 -- What an image of the file of an outbox says, and what holds of each outbox.
-use Rattle.std.specs.Prelude.{◌≡◌, ◌≢◌, ◌⊎◌, ℕ, ◌+◌, ◌≤◌, Bool, IsTrue, List, [], ◌∷◌, ◌++◌, length, Option, Some, None, IfSome, ⊤}
+use Rattle.std.specs.Prelude.{◌≡◌, ◌≢◌, ◌⊎◌, ℕ, ◌+◌, ◌≤◌, Bool, IsTrue, List, [], ◌∷◌, ◌++◌, length, Some, None, IfSome, ⊤}
 use Rattle.std.specs.List.{AllByRecursion}
 use Rattle.cache_file.specs.File.{held, unsure}
 use Rattle.catalog.specs.declared.catalogue.Catalogue.{Catalogue}

@@ -8,7 +8,7 @@ ghost use Rattle.gate_journal.specs.Sound.{IsSettled, digest_of};
 ghost use Rattle.outbox.specs.Files.{IsOutboxFile, IsRefusedAs, OpensToPosts};
 ghost use Rattle.outbox.specs.Opens.{asked_for, disk_of};
 
-use crate::outbox::Outbox;
+use crate::outbox::{Outbox, SLOTS};
 use crate::reader::PostReader;
 use cache_file::file::CacheFile;
 use cache_file::opening;
@@ -17,9 +17,6 @@ use disk_model::disk::{Disk, Failed};
 use gate_journal::fault::OpenFault;
 use std::alloc::Global;
 use std::snapshot::Snapshot;
-
-/// How many slots a half of the file of an outbox has, and so how many posts it can hold.
-const SLOTS: u64 = 65536;
 
 /// The fault with this digest as the one that was asked for.
 fn asked_for(digest: &[u8; 32], fault: OpenFault) -> OpenFault

@@ -12,7 +12,7 @@ ghost use Rattle.outbox.specs.Files.{IsPostable, IsPosted, MayOpenTo, OpensToPos
 ghost use Rattle.outbox.specs.Posts.{Outgoing, Posts, post_slots};
 ghost use Rattle.outbox.specs.Writes.{HasWritten, IsFailedOnly, written};
 
-use crate::outbox::Outbox;
+use crate::outbox::{Outbox, SLOTS};
 use crate::posted::Posted;
 use crate::written::Written;
 use cache_file::file::CacheFile;
@@ -21,9 +21,6 @@ use record_text::entries::Record;
 use record_text::writing::encode;
 use std::alloc::{AllocError, Global};
 use truncation_list::cover::Cover;
-
-/// How many posts an outbox can hold.
-const SLOTS: u64 = 65536;
 
 /// The type of a filter says that it has four values.
 fn four(values: [Option<u32>; 4])

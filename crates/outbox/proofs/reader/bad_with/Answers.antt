@@ -1,8 +1,7 @@
-use Rattle.std.proofs.Common.{ℕ, Option, List, ◌≡◌, [], ◌∷◌, ◌++◌, sym, subst}
-use Rattle.truncation_list.specs.declared.cover.Cover.{Cover}
+use Rattle.std.proofs.Common.{[], ◌∷◌, ◌++◌, sym, subst}
 use Rattle.outbox.specs.Files.{ArePosts}
 use Rattle.outbox.specs.Opens.{StandsAt}
-use Rattle.outbox.proofs.Numbering.{bad_still, bad_there, posts_on}
+use Rattle.outbox.proofs.Numbering.{bad_there, posts_on}
 use Rattle.outbox.proofs.reader.bad_with.Goals as goal
 
 pub returns-in-None-post_in-clause-stands : goal.returns-in-None-post_in-clause-stands

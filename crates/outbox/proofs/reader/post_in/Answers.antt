@@ -1,5 +1,4 @@
-use Rattle.std.proofs.Common.{true, false, sym, ◌∙◌, rules}
-use Rattle.std.proofs.lemmas.Bool.{false≢true}
+use Rattle.std.proofs.Common.{rules}
 use Rattle.outbox.proofs.Packing.{post_foreign, post_none, post_other, post_some}
 use Rattle.outbox.proofs.reader.post_in.Goals as goal
 

@@ -1,4 +1,4 @@
-use Rattle.std.proofs.Common.{true, false, sym, ◌∙◌}
+use Rattle.std.proofs.Common.{sym, ◌∙◌}
 use Rattle.std.proofs.lemmas.Bool.{false≢true}
 use Rattle.outbox.proofs.Packing.{reads_none, reads_out, reads_some}
 use Rattle.outbox.proofs.reading.change_of.Goals as goal

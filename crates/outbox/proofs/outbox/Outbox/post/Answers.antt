@@ -1,6 +1,6 @@
-use Rattle.std.proofs.Common.{◌≡◌, ◌⊎◌, ℕ, ◌+◌, List, [], ◌∷◌, ◌++◌, length, Some, None, IsTrue, sym, subst, ap, ◌∙◌, rules}
+use Rattle.std.proofs.Common.{◌≡◌, ◌⊎◌, ◌+◌, List, [], ◌∷◌, ◌++◌, length, Some, None, IsTrue, sym, subst, ap, ◌∙◌, rules}
 use Rattle.disk_model.specs.Images.{Every, Leaves}
-use Rattle.gate_journal.specs.Sound.{IsSettled, digest_of}
+use Rattle.gate_journal.specs.Sound.{digest_of}
 use Rattle.served_covers.specs.OfCatalogue.{IsCoverOf}
 use Rattle.truncation_list.specs.declared.cover.Cover.{Cover}
 use Rattle.outbox.specs.Files.{IsPostable, IsPosted, MayOpenTo, OpensToPosts}
