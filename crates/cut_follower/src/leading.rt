@@ -4,13 +4,14 @@ ghost use Rattle.cut_follower.specs.declared.ends.LinkEnd.TheVariants as link_en
 ghost use Rattle.cut_follower.specs.Leading.{Leads};
 ghost use Rattle.cut_follower.specs.Links.{LinkAt};
 ghost use Rattle.cut_follower.specs.Steps.{ExchangesOne, HearsBytes};
-ghost use Rattle.outbox.specs.Packets.{FitsPacket};
+ghost use Rattle.outbox.specs.Packets.{IsRanged};
 ghost use Rattle.outbox.specs.Posts.{next_of};
 
 use crate::ends::LinkEnd;
 use crate::packets::{Missed, send_packet, take_packet};
 use disk_model::disk::Disk;
 use http_wire::links::Link;
+use outbox::laws::laws_of_packets;
 use outbox::outbox::Outbox;
 use outbox::packet::Packet;
 use outbox::reading::read_packet;
@@ -48,7 +49,7 @@ fn exchange<D: Disk, L: Link>(
     link: &mut L,
     post: &Packet,
 ) -> Exchanged
-    requires fits { FitsPacket post.now }
+    requires ranged { IsRanged post.now }
     ensures exchanges { ExchangesOne
         (record { left = L.left link.old; read_faults = L.ByteSource.faults link.old; taken = L.taken link.old; write_faults = L.ByteSink.faults link.old })
         (record { left = L.left link.new; read_faults = L.ByteSource.faults link.new; taken = L.taken link.new; write_faults = L.ByteSink.faults link.new })
@@ -58,6 +59,7 @@ fn exchange<D: Disk, L: Link>(
     ensures read_later { L.ByteSource.faults link.old ≤ L.ByteSource.faults link.new }
     ensures write_later { L.ByteSink.faults link.old ≤ L.ByteSink.faults link.new }
 {
+    laws_of_packets();
     if !send_packet(link, post) {
         return Exchanged::WriteFault;
     }

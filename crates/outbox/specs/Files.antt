@@ -1,5 +1,5 @@
 -- What an image of the file of an outbox says, and what holds of each outbox.
-use Rattle.std.specs.Prelude.{◌≡◌, ◌≢◌, ◌⊎◌, ℕ, ◌+◌, ◌≤◌, Bool, IsTrue, List, [], ◌∷◌, ◌++◌, length, Option, Some, None, IfSome, ⊤}
+use Rattle.std.specs.Prelude.{◌≡◌, ◌≢◌, ◌⊎◌, ℕ, ◌+◌, ◌≤◌, Bool, IsTrue, List, [], ◌∷◌, ◌++◌, length, Some, None, IfSome, ⊤}
 use Rattle.std.specs.List.{AllByRecursion}
 use Rattle.cache_file.specs.File.{held, unsure}
 use Rattle.catalog.specs.declared.catalogue.Catalogue.{Catalogue}
@@ -28,7 +28,7 @@ pub record IsPostable (c : Catalogue) (cover : Cover) : Type 0 where
   pub fits : FitsCover cover
 
 -- the body of the record of a change
-abbrev pub post_body : ℕ → Cover → List ℕ
+unfoldable pub post_body : ℕ → Cover → List ℕ
 post_body n cover = spelling (record_of.Cut n cover)
 
 -- the bodies of changes that follow the one of this number
@@ -40,10 +40,9 @@ bodies_from n (cover ∷ covers) = post_body (n + 1) cover ∷ bodies_from (n + 
 abbrev pub bodies_of : List Cover → List (List ℕ)
 bodies_of posts = bodies_from 0 posts
 
--- a file opens to the records of these posts, and of no others
-pub record Holds (c : Catalogue) (posts : List Cover) (o : Opening) : Type 0 where
-  pub version : ℕ
-  pub opens : o ≡ records version (bodies_of posts)
+-- bodies are those of these posts, whose covers are of the catalogue
+pub record ArePosts (c : Catalogue) (bodies : List (List ℕ)) (posts : List Cover) : Type 0 where
+  pub bodies_are : bodies ≡ bodies_of posts
   pub postable : AllByRecursion (IsPostable c) posts
 
 -- behind the bodies of posts stands one, in this slot, that is no next post's
@@ -55,6 +54,12 @@ pub record IsBadBehind (c : Catalogue) (bodies : List (List ℕ)) (slot : ℕ) :
   pub bodies_are : bodies ≡ bodies_of posts ++ bad ∷ others
   pub slot_is : slot ≡ length posts
   pub is_bad : (cover : Cover) → IsPostable c cover → bad ≢ post_body (slot + 1) cover
+
+-- a file opens to the records of these posts, and to no others
+abbrev pub Holds : Catalogue → List Cover → Opening → Type 0
+Holds c posts no_cache = ⊥
+Holds c posts (differs found) = ⊥
+Holds c posts (records version bodies) = ArePosts c bodies posts
 
 -- a file opens to records, of which the one in this slot is the first that is no post's
 abbrev pub IsBadIn : Catalogue → ℕ → Opening → Type 0

@@ -1,3 +1,5 @@
 pub mod Files
+pub mod Opens
 pub mod Packets
 pub mod Posts
+pub mod Writes

@@ -4,6 +4,7 @@ use Rattle.std.specs.Option.{option_map}
 use Rattle.cache_file.specs.declared.file.CacheFile.{CacheFile}
 use Rattle.catalog.specs.declared.catalogue.Catalogue.{Catalogue}
 use Rattle.causes.specs.Causes.{Rose}
+use Rattle.served_covers.specs.OfCatalogue.{IsCoverOf}
 use Rattle.truncation_list.specs.declared.cover.Cover.{Cover}
 use Rattle.outbox.specs.declared.packet.Packet.{Packet}
 use Rattle.outbox.specs.declared.packet.Packet.TheVariants as packet
@@ -46,3 +47,12 @@ abbrev pub Hears : Outgoing → Packet → Bool → Outgoing → Type 0
 Hears s (packet.Change n cover) news t = (news ≡ false) × (t ≡ s)
 Hears s (packet.Seen i) true t = (s.heard < i) × (i ≤ length s.posts) × (t ≡ record { posts = s.posts; undecided = s.undecided; heard = i })
 Hears s (packet.Seen i) false t = ((i ≤ s.heard) ⊎ (length s.posts < i)) × (t ≡ s)
+
+-- AN OPENING FROM AN IMAGE finds the posts, or these and the undecided one
+abbrev pub MayBeFound : Outgoing → List Cover → Type 0
+MayBeFound s found = (found ≡ s.posts) ⊎ ((cover : Cover) × (s.undecided ≡ Some cover) × (found ≡ s.posts ++ cover ∷ []))
+
+-- a packet is the change of a cover of the catalogue
+abbrev pub IsChangeOf : Catalogue → Packet → Type 0
+IsChangeOf c (packet.Change n cover) = IsCoverOf c cover
+IsChangeOf c (packet.Seen n) = ⊥

@@ -1,10 +1,22 @@
 //! What an outbox sends next, and what it hears.
 ghost use Rattle.std.specs.Prelude.{◌≡◌, IfSome, length};
-ghost use Rattle.outbox.specs.Posts.{Hears, next_behind, next_of};
+ghost use Rattle.outbox.specs.Packets.{IsRanged};
+ghost use Rattle.outbox.specs.Posts.{Hears, IsChangeOf, next_behind, next_of};
 
 use crate::outbox::Outbox;
 use crate::packet::Packet;
 use disk_model::disk::Disk;
+use truncation_list::cover::Cover;
+
+/// The change behind the one of this number.
+fn behind(posts: &[Cover], number: u64) -> Option<Packet>
+    ensures { result ≡ next_behind posts.now number }
+{
+    match posts.get(number as usize) {
+        Some(cover) => Some(Packet::Change(number + 1, *cover)),
+        None => None,
+    }
+}
 
 impl<D: Disk> Outbox<D> {
     /// How many covers were posted.
@@ -21,19 +33,18 @@ impl<D: Disk> Outbox<D> {
         self.file.fault_count()
     }
 
-    /// The change behind the one of this number; `None` exactly where there is none.
+    /// The change behind the one of this number; `None` exactly where there is none. It can be written and read, and is of the catalogue.
     pub fn next_after(&self, number: u64) -> Option<Packet>
-        ensures { result ≡ next_behind self.now.out.posts number }
+        ensures behind { result ≡ next_behind self.now.out.posts number }
+        ensures ranged { IfSome result (λ p. IsRanged p × IsChangeOf self.now.catalogue p) }
     {
-        match self.posts.get(number as usize) {
-            Some(cover) => Some(Packet::Change(number + 1, *cover)),
-            None => None,
-        }
+        behind(&self.posts, number)
     }
 
-    /// The first post that wasn't heard as seen; `None` exactly where there is none.
+    /// The first post that wasn't heard as seen; `None` exactly where there is none. It can be written and read, and is of the catalogue.
     pub fn next(&self) -> Option<Packet>
-        ensures { result ≡ next_of self.now.out }
+        ensures first { result ≡ next_of self.now.out }
+        ensures ranged { IfSome result (λ p. IsRanged p × IsChangeOf self.now.catalogue p) }
     {
         self.next_after(self.heard)
     }

@@ -8,6 +8,15 @@
 #![tactic(auto)]
 
 mod hearing;
+mod images;
+pub mod laws;
+pub mod opening;
 pub mod outbox;
 pub mod packet;
 pub mod posted;
+mod posting;
+mod ranges;
+mod reader;
+pub mod reading;
+pub mod writing;
+mod written;

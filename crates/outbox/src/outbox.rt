@@ -6,6 +6,9 @@ use std::marker::Model;
 use std::snapshot::Snapshot;
 use truncation_list::cover::Cover;
 
+/// How many slots a half of the file of an outbox has, and so how many posts it can hold.
+pub(crate) const SLOTS: u64 = 65536;
+
 /// The covers that a leader has posted, with their file, and how many of them were heard as seen. Contracts see the catalogue that it was
 /// opened with, the posts, and the file.
 #[derive(Drop)]
