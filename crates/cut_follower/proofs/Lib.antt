@@ -1,4 +1,9 @@
+pub mod Arriving
+pub mod Chained
+pub mod Exchanging
 pub mod Feeds
 pub mod Fronts
+pub mod Hearing
+pub mod Making
 pub mod Promised
 pub mod Stepping

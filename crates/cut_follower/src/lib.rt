@@ -7,9 +7,16 @@
 //! stays in step with the leader (`specs/InStep.antt`). So for each change that it acknowledged its book answers for the cut, also after
 //! each opening; each tile that it answers afterwards is above each such cut that covers it; and what it applied is a prefix of the
 //! posts, in their order.
-//! Stands on change_feed and outbox, and on cabinet with the crates of its types.
+//! `lead_link` and `follow_link` are the two sides of a link over which packets go: what each sends and takes, in which order, and which
+//! cause each end has (`specs/Leading.antt`, `specs/Following.antt`).
+//! Stands on change_feed and outbox, on http_wire for links, on cache_core for what outlasts a crash, and on cabinet with the crates of its
+//! types.
 #![tactic(auto)]
 
+pub mod ends;
+pub mod following;
 pub mod laws;
+pub mod leading;
+pub mod packets;
 pub mod taken;
 pub mod taking;
