@@ -234,7 +234,7 @@ module _ (told told' : Bool) (digest digest' : List ℕ) (from mid to : DiskStat
       let n = one.change.number in
       let cover = one.change.cover in
       follows_by told digest from to a b s u t link_end.OutOfMemory f.arrivals begins f.arrive (n, cover, told_by few (packet_text (packets.Change n cover)) one.taken one.sent, subst (λ (c : Catalogue). IsCoverOf c cover) f.same_catalogue one.cover) one.starved
-        (stay_images (inr one.starved.stand)) same_all sound_all
+      (stay_images (inr one.starved.stand)) same_all sound_all
 
 -- so many as may come
 pub far_full : (told : Bool) (digest : List ℕ) (from to : DiskState) (a b : LinkAt) (s t : Pair) (count : ℕ) → MayBegin (stores_of s) → SoFar told digest from to a b s t count → count ≡ most_packets → FollowsOn told digest from to a b s t link_end.TooMany

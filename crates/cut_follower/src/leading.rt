@@ -44,11 +44,7 @@ fn hear<D: Disk>(outbox: &mut Outbox<D>, bytes: &[u8; 64]) -> bool
 }
 
 /// Sends a post, and hears the packet that comes for it.
-fn exchange<D: Disk, L: Link>(
-    outbox: &mut Outbox<D>,
-    link: &mut L,
-    post: &Packet,
-) -> Exchanged
+fn exchange<D: Disk, L: Link>(outbox: &mut Outbox<D>, link: &mut L, post: &Packet) -> Exchanged
     requires ranged { IsRanged post.now }
     ensures exchanges { ExchangesOne
         (record { left = L.left link.old; read_faults = L.ByteSource.faults link.old; taken = L.taken link.old; write_faults = L.ByteSink.faults link.old })
