@@ -1,5 +1,5 @@
 -- A tile that was got where no render ran.
-use Rattle.std.proofs.Common.{◌≡◌, ℕ, ◌+◌, length, Option, Some, None, sym, ap, ◌∙◌, subst, arith}
+use Rattle.std.proofs.Common.{◌≡◌, ℕ, ◌+◌, length, Option, Some, sym, ap, ◌∙◌, subst, arith}
 use Rattle.cabinet.specs.State.{State}
 use Rattle.cache_core.specs.declared.actor.Actor.{Actor}
 use Rattle.cache_core.specs.declared.actor.Actor.TheVariants as actor

@@ -1,5 +1,5 @@
 -- The parts of a recipe, got one after the other from the top down.
-use Rattle.std.specs.Prelude.{ℕ, ◌≡◌, ◌≤◌, List, [], ◌∷◌, length, Option, Some, None}
+use Rattle.std.specs.Prelude.{ℕ, ◌≡◌, ◌≤◌, List, [], ◌∷◌, length, Option, Some}
 use Rattle.cabinet.specs.State.{State, IsSound}
 use Rattle.cache_core.specs.declared.outcome.Tile.{Tile}
 use Rattle.cache_core.specs.declared.outcome.TileOutcome.{TileOutcome}

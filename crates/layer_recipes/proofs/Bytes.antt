@@ -1,5 +1,5 @@
 -- The pixels of a text after one of them was written.
-use Rattle.std.proofs.Common.{◌≡◌, ℕ, ◌+◌, ◌≤◌, ◌<◌, ◌⊎◌, inl, inr, List, length, take, get_or, slice_set, arith, sym, ◌∙◌}
+use Rattle.std.proofs.Common.{◌≡◌, ℕ, ◌+◌, ◌≤◌, ◌<◌, ◌⊎◌, inl, inr, List, length, take, get_or, slice_set, arith, ◌∙◌}
 use Rattle.std.proofs.lemmas.List.{get_or-set_other, get_or-set_same, length-set, take-set-le}
 use Rattle.raster_field.specs.declared.colour.Colour.{Colour}
 use Rattle.layer_recipes.specs.Composite.{pixel_in}

@@ -1,5 +1,5 @@
 -- Sheets: without a part, with one part more, and as a text.
-use Rattle.std.proofs.Common.{◌≡◌, ℕ, zero, suc, ◌+◌, ◌*◌, ◌-◌, ◌≤◌, ◌<◌, ◌&&◌, Bool, true, false, List, [], ◌∷◌, ◌++◌, length, map, take, drop, get_or, replicate, refl, sym, ap, subst, ◌∙◌, arith, length-append, length-drop}
+use Rattle.std.proofs.Common.{◌≡◌, ℕ, zero, suc, ◌+◌, ◌*◌, ◌-◌, ◌<◌, ◌&&◌, Bool, true, false, List, [], ◌∷◌, ◌++◌, length, map, take, drop, get_or, replicate, refl, sym, ap, subst, ◌∙◌, arith, length-append, length-drop}
 use Rattle.std.proofs.lemmas.List.{get_or-append_right, get_or-drop, get_or-replicate, get_or_past, length-replicate, map-append, take-append-drop}
 use Rattle.std.proofs.lemmas.Nat.{mul-add-lt}
 use Rattle.std.proofs.Math.Nat.{mul_comm}
@@ -9,7 +9,7 @@ use Rattle.matrix_geometry.specs.Limits.{IsWithinLimits}
 use Rattle.metatile_plan.specs.Texts.{header}
 use Rattle.raster_field.specs.declared.colour.Colour.{Colour}
 use Rattle.layer_recipes.specs.Composite.{Layered, black, is_same, laid_over, pixel_at, pixel_in, seen_through, shown}
-use Rattle.layer_recipes.specs.Overlaid.{AreLaid, IsSheet, Lays, Sheet, are_keys, laid}
+use Rattle.layer_recipes.specs.Overlaid.{AreLaid, IsSheet, Lays, are_keys, laid}
 use Rattle.layer_recipes.proofs.Rows.{pixels_are}
 use Rattle.layer_recipes.proofs.Seen.{keys_more, seen_more}
 

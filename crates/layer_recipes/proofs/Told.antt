@@ -1,5 +1,5 @@
 -- Encoded tiles of pictures show what the pictures do.
-use Rattle.std.proofs.Common.{◌≡◌, ℕ, zero, suc, ◌+◌, ◌*◌, ◌-◌, ◌≤◌, ◌<◌, Bool, List, [], ◌∷◌, ◌++◌, length, map, get_or, Option, Some, None, refl, sym, ap, subst, ◌∙◌, arith}
+use Rattle.std.proofs.Common.{◌≡◌, ℕ, zero, suc, ◌+◌, ◌*◌, ◌-◌, ◌≤◌, ◌<◌, List, [], ◌∷◌, ◌++◌, length, map, get_or, Option, Some, None, refl, sym, ap, subst, ◌∙◌, arith}
 use Rattle.std.specs.Prelude.{IfSome, if◌then◌else◌, option_and_then}
 use Rattle.std.specs.List.{flat_map, range_with_len}
 use Rattle.std.specs.Option.{option_map_or}
@@ -13,7 +13,7 @@ use Rattle.matrix_geometry.specs.declared.theme.Theme.{Theme}
 use Rattle.metatile_plan.specs.declared.window.Window.{Window}
 use Rattle.metatile_plan.specs.Texts.{header}
 use Rattle.raster_field.specs.declared.colour.Colour.{Colour}
-use Rattle.raster_field.specs.Picture.{Scene, colour_at, scene_of}
+use Rattle.raster_field.specs.Picture.{Scene, scene_of}
 use Rattle.raster_field.specs.Rasters.{picture_in, place_of}
 use Rattle.raster_field.specs.TileText.{bytes_of, text_in, tile_pixels, tile_text}
 use Rattle.raster_field.proofs.Windows.{window_colour}

@@ -1,4 +1,4 @@
-use Rattle.std.proofs.Common.{◌≡◌, ℕ, [], Option, arith, drop, get_or, length, suc, sym, subst, take, ◌+◌, ◌<◌, ◌∙◌}
+use Rattle.std.proofs.Common.{[], arith, drop, get_or, length, suc, sym, subst, take, ◌+◌, ◌<◌, ◌∙◌}
 use Rattle.std.proofs.lemmas.List.{take_more}
 use Rattle.catalog.specs.declared.catalogue.Catalogue.{Catalogue}
 use Rattle.layer_recipes.specs.declared.recipe.Part.{Part}
