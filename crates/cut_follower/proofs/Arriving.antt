@@ -1,6 +1,6 @@
 -- How far a follower has come on a link, one arrival more, and its ends.
 use Rattle.std.specs.Prelude.{IsTrue}
-use Rattle.std.proofs.Common.{◌≡◌, ◌⊎◌, ℕ, ◌+◌, ◌-◌, ◌<◌, ◌≤◌, ◌^◌, Bool, List, [], ◌∷◌, ◌++◌, flat_map, length, Option, Some, None, refl, sym, subst, ap, ◌∙◌, arith, append-nil, length-append, inl, inr}
+use Rattle.std.proofs.Common.{◌≡◌, ◌⊎◌, ℕ, ◌+◌, ◌-◌, ◌<◌, ◌≤◌, ◌^◌, Bool, List, [], ◌∷◌, ◌++◌, length, refl, sym, subst, ap, ◌∙◌, arith, append-nil, length-append, inl, inr}
 use Rattle.std.specs.List.{AllByRecursion}
 use Rattle.std.proofs.KnownBytes.{Appends-nil, Appends-trans, Consumes-nil, Consumes-trans}
 use Rattle.cabinet.specs.State.{IsSound, State, now}
@@ -16,9 +16,9 @@ use Rattle.cut_follower.specs.declared.ends.LinkEnd.{LinkEnd}
 use Rattle.cut_follower.specs.declared.ends.LinkEnd.TheVariants as link_end
 use Rattle.cut_follower.specs.declared.following.Arrived.{Arrived}
 use Rattle.cut_follower.specs.declared.following.Arrived.TheVariants as arrived
-use Rattle.cut_follower.specs.Following.{AreInForce, AreMade, AreTold, Arrival, Arrive, EndsWith, FollowEnds, FollowsOn, IsLeftAt, IsMade, IsNoChange, IsStarved, MayEndAlong, bytes_of, came_in, cuts_of, most_packets, seen_in, seen_of, stores_of}
+use Rattle.cut_follower.specs.Following.{AreInForce, AreMade, AreTold, Arrival, Arrive, EndsWith, FollowEnds, FollowsOn, IsLeftAt, IsMade, IsNoChange, MayEndAlong, bytes_of, came_in, cuts_of, most_packets, seen_in, seen_of, stores_of}
 use Rattle.cut_follower.specs.Links.{HasSent, HasTaken, LinkAt}
-use Rattle.cut_follower.specs.Steps.{ArrivesOne, GoesTo, IsForgotten, IsTold, IsUntold}
+use Rattle.cut_follower.specs.Steps.{ArrivesOne, GoesTo, IsTold}
 use Rattle.disk_model.specs.Content.{Content}
 use Rattle.disk_model.specs.Images.{DiskState, Leaves}
 use Rattle.disk_model.specs.Moments.{leaves_as, leaves_none, leaves_then}

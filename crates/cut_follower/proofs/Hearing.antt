@@ -1,5 +1,5 @@
 -- What the bytes of a packet are to a leader.
-use Rattle.std.proofs.Common.{◌≡◌, ◌⊎◌, ◌↔◌, ℕ, ◌≤◌, ◌<◌, ◌^◌, Bool, true, false, List, [], ◌∷◌, length, Option, Some, None, refl, sym, subst, ap, ◌∙◌, arith, inl, inr}
+use Rattle.std.proofs.Common.{◌≡◌, ◌⊎◌, ◌↔◌, ℕ, ◌≤◌, ◌<◌, Bool, true, false, List, length, Option, Some, None, refl, subst, ap}
 use Rattle.cut_follower.specs.Leading.{IsNoAnswer}
 use Rattle.cut_follower.specs.Steps.{HearsBytes}
 use Rattle.outbox.specs.declared.packet.Packet.{Packet}

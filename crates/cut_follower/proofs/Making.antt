@@ -1,9 +1,7 @@
 -- What one packet comes to at a follower.
 use Rattle.std.specs.Prelude.{IsTrue}
-use Rattle.std.proofs.Common.{◌≡◌, ◌⊎◌, ◌↔◌, ℕ, ◌≤◌, ◌++◌, arith, Bool, true, false, List, [], ◌∷◌, length, Option, Some, None, Result, Ok, Err, IfOk, OnErr, refl, sym, subst, ap, ◌∙◌, inl, inr}
+use Rattle.std.proofs.Common.{◌≡◌, ◌⊎◌, ◌↔◌, ℕ, ◌≤◌, ◌++◌, arith, Bool, List, [], ◌∷◌, length, Option, Some, None, Ok, refl, sym, subst, ap, inl, inr}
 use Rattle.std.specs.Io.KnownBytes.{Appends, Consumes}
-use Rattle.std.proofs.KnownBytes.{Appends-nil}
-use Rattle.std.proofs.lemmas.Bool.{false≢true}
 use Rattle.cabinet.proofs.Rows.{cuts_known}
 use Rattle.cabinet.specs.declared.replies.CutReply.{CutReply}
 use Rattle.cabinet.specs.declared.replies.CutReply.TheVariants as cut
@@ -23,17 +21,16 @@ use Rattle.cut_follower.specs.declared.taken.Taken.TheVariants as taken
 use Rattle.cut_follower.specs.Following.{IsNoChange, IsStarved}
 use Rattle.cut_follower.specs.Links.{HasSent, HasTaken, IsCutShort, LinkAt}
 use Rattle.cut_follower.specs.Steps.{ArrivesOne, ComesAs, GoesTo, IsChange, IsForgotten, IsTold, IsUntold, MakesOne, TellsOf}
-use Rattle.cut_follower.specs.Takes.{IsOfCatalogue, MayEndTaken, Takes, WhereSeen}
+use Rattle.cut_follower.specs.Takes.{IsOfCatalogue, MayEndTaken, Takes}
 use Rattle.disk_model.specs.Content.{Content}
 use Rattle.disk_model.specs.Images.{DiskState, Leaves}
-use Rattle.disk_model.specs.Moments.{leaves_as, leaves_none}
+use Rattle.disk_model.specs.Moments.{leaves_as}
 use Rattle.outbox.specs.declared.packet.Packet.{Packet}
 use Rattle.outbox.specs.declared.packet.Packet.TheVariants as packets
 use Rattle.outbox.specs.Packets.{IsRanged, packet_text}
 use Rattle.served_covers.specs.OfCatalogue.{IsCoverOf}
 use Rattle.truncation_list.proofs.Answering.{answers_itself}
 use Rattle.truncation_list.specs.Books.{AnswersForBook}
-use Rattle.truncation_list.specs.declared.cover.Cover.{Cover}
 
 -- THE CABINET
 

@@ -1,7 +1,7 @@
 -- What a follower's side of a link does: which changes arrive, what becomes of each, what it sends, and how it ends.
-use Rattle.std.specs.Prelude.{◌≡◌, ◌⊎◌, ℕ, ◌<◌, ◌≤◌, Bool, IsTrue, List, [], ◌∷◌, ◌++◌, length, flat_map, map, None, Some, ⊤}
+use Rattle.std.specs.Prelude.{◌≡◌, ◌⊎◌, ℕ, ◌<◌, ◌≤◌, Bool, IsTrue, List, [], ◌∷◌, ◌++◌, length, flat_map, map, ⊤}
 use Rattle.std.specs.List.{AllByRecursion}
-use Rattle.cabinet.specs.State.{IsSound, State, now}
+use Rattle.cabinet.specs.State.{IsSound, now}
 use Rattle.catalog.specs.declared.catalogue.Catalogue.{Catalogue}
 use Rattle.change_feed.specs.declared.applied.Applied.{Applied}
 use Rattle.change_feed.specs.declared.applied.Applied.TheVariants as applied

@@ -1,4 +1,3 @@
-use Rattle.std.proofs.Common.{sym, ◌∙◌}
 use Rattle.cut_follower.proofs.Making.{not_of, unread}
 use Rattle.cut_follower.proofs.following.read_next.Goals as goal
 

@@ -1,5 +1,5 @@
 use Rattle.cut_follower.proofs.Hearing.{heard_bytes, unheard_bytes}
-use Rattle.std.proofs.Common.{refl, rules}
+use Rattle.std.proofs.Common.{refl}
 use Rattle.cut_follower.proofs.leading.hear.Goals as goal
 
 pub returns-in-Some-clause-hears : goal.returns-in-Some-clause-hears

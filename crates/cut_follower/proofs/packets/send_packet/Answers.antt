@@ -1,7 +1,7 @@
-use Rattle.std.proofs.Common.{ℕ, List, [], ap, subst, sym, ◌∙◌}
+use Rattle.std.proofs.Common.{[], ap, subst, sym, ◌∙◌}
 use Rattle.http_wire.specs.Side.{Side}
 use Rattle.cut_follower.proofs.Exchanging.{cut_at}
-use Rattle.cut_follower.specs.Links.{IsCutShort, LinkAt}
+use Rattle.cut_follower.specs.Links.{IsCutShort}
 use Rattle.cut_follower.proofs.packets.send_packet.Goals as goal
 
 pub returns-in-Err : goal.returns-in-Err
