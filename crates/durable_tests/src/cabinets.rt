@@ -22,7 +22,7 @@ use std::test::Fail;
 use truncation_list::cover::Cover;
 
 /// A cover of all zooms of the demo layer.
-const ALL: Cover = Cover {
+pub const ALL: Cover = Cover {
     layer: 0,
     grid: 0,
     z_start: 0,
@@ -154,7 +154,8 @@ fn left_by(alloc: Global, cabinet: OnDisk) -> Result<Vec<u8>, AllocError> {
     disk.left(alloc, Pick::New)
 }
 
-fn disk_of(alloc: Global, bytes: Vec<u8>) -> SilentDisk {
+/// A disk with these bytes.
+pub fn disk_of(alloc: Global, bytes: Vec<u8>) -> SilentDisk {
     SilentDisk::new(alloc, bytes, Vec::new(alloc))
 }
 

@@ -1,11 +1,13 @@
-//! Tests of the cabinet on a disk: its calls one after the other, and its disk stopped after each call.
+//! Tests of the cabinet on a disk: its calls one after the other, and its disk stopped after each call; and of a follower on it.
 //!
-//! It has no code of its own and promises nothing: what the cabinet promises is proved in its crate. Its disk isn't modelled, so that
-//! what comes back is read from the bytes alone.
-//! Stands on durable_cabinet and silent_disk, and on the crates of what it is called with.
+//! It has no code of its own and promises nothing: what the cabinet and the follower promise is proved in their crates. No disk here is
+//! modelled, so that what comes back is read from the bytes alone.
+//! Stands on durable_cabinet, cut_follower and silent_disk, and on the crates of what they are called with.
 #![tactic(auto)]
 
 #[cfg(test)]
 mod cabinets;
+#[cfg(test)]
+mod followers;
 #[cfg(test)]
 mod stops;
