@@ -19,7 +19,8 @@ const KEY: MetaKey = MetaKey {
     col: 11,
 };
 
-const ANY: Cover = Cover {
+/// A cover with values of some dimensions.
+pub const ANY: Cover = Cover {
     layer: 1,
     grid: 2,
     z_start: 3,
@@ -51,7 +52,7 @@ const BOXED: Cover = Cover {
 const NO_FILTER: [u8; 9] = [0; 9];
 
 /// A body that begins with these bytes, has these as a cut's style and values, and is else 0.
-fn body_of(front: &[u8], filter: [u8; 9]) -> [u8; 63] {
+pub fn body_of(front: &[u8], filter: [u8; 9]) -> [u8; 63] {
     let mut body = [0; 63];
     body[47..56].copy_from_slice(&filter);
     for (place, byte) in body.iter_mut().zip(front) {
