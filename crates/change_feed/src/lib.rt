@@ -3,7 +3,7 @@
 //!
 //! Promises: `Feed::apply` answers by its row (`specs/Applies.antt`): a change that was made is not made again, and one behind a gap is
 //! not made. The mark of the last change stands in a file of its own. Before a cut is done no image of that file ends in a mark other
-//! than those of before the call, and after `Done` each one ends in the mark of the change (`specs/Images.antt`). The same is had in
+//! than those of before the call, and after `Done` each one ends in the mark of the change (`specs/Files.antt`). The same is had in
 //! steps, `judge`, `ready`, the cut and `mark`, where the cut is made elsewhere. `laws_of_feeds` says what follows for runs of changes
 //! with stops and openings between them (`specs/Runs.antt`).
 //! Stands on cache_file, and on cabinet with the crates of its types.
