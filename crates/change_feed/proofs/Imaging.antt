@@ -1,5 +1,5 @@
 -- What the images of a feed's file end in, between two calls and at each moment of one.
-use Rattle.std.proofs.Common.{◌≡◌, ◌⊎◌, ℕ, ◌≤◌, List, [], ◌∷◌, length, Option, Some, None, IsSome, Result, Ok, sym, subst, ◌∙◌, inl, inr}
+use Rattle.std.proofs.Common.{◌≡◌, ◌⊎◌, ℕ, ◌≤◌, Bool, IsTrue, List, [], ◌∷◌, length, Option, Some, None, IsSome, Result, Ok, Err, sym, subst, ◌∙◌, inl, inr}
 use Rattle.cache_file.specs.File.{Anywhere, HasHeld, IsAmong, held, opens_to, unsure}
 use Rattle.cache_file.proofs.Sparing.{settled_sure, whole_now}
 use Rattle.disk_model.specs.Content.{Content}

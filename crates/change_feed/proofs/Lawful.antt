@@ -1,5 +1,5 @@
 -- What holds of each run.
-use Rattle.std.proofs.Common.{◌≡◌, ℕ, ◌+◌, ◌<◌, ◌≤◌, List, ◌∷◌, ◌++◌, Option, Some, None, IsSome, refl, subst, ap, arith, inl, inr}
+use Rattle.std.proofs.Common.{◌≡◌, ◌⊎◌, ℕ, ◌+◌, ◌<◌, ◌≤◌, List, [], ◌∷◌, ◌++◌, Option, Some, None, IsSome, refl, sym, subst, ap, arith, inl, inr}
 use Rattle.std.proofs.lemmas.Bool.{false≢true}
 use Rattle.cabinet.specs.State.{now}
 use Rattle.truncation_list.specs.Books.{AnswersFor}
@@ -11,7 +11,7 @@ use Rattle.change_feed.specs.declared.mark.Mark.{Mark}
 use Rattle.change_feed.specs.Applies.{marked_cut}
 use Rattle.change_feed.specs.Files.{Stand}
 use Rattle.change_feed.specs.Marks.{last_of}
-use Rattle.change_feed.specs.Runs.{Event, IsCutIn, IsEither, MayBegin, Runs, Stores, called}
+use Rattle.change_feed.specs.Runs.{Event, IsCalled, IsCutIn, IsEither, MayBegin, Runs, Stores, called}
 use Rattle.change_feed.proofs.Running.{begins_next, called_answers, either_grows, next_number, runs_answer, runs_begin, runs_grow, runs_rise, runs_split}
 
 -- a run in which a change is answered as done

@@ -11,7 +11,7 @@ use Rattle.gate_journal.specs.Opened.{opened}
 use Rattle.gate_journal.specs.Sound.{kept}
 use Rattle.gate_journal.specs.Visiting.{Reaches, VisitsAll}
 use Rattle.change_feed.specs.declared.mark.Mark.{Mark}
-use Rattle.change_feed.specs.Files.{IsMarked, IsMarksFile}
+use Rattle.change_feed.specs.Files.{IsMarked, IsMarkedOn, IsMarksFile, Stand}
 use Rattle.change_feed.specs.Marks.{EndsAt, IsBadAt, IsBadIn, LeadsTo, mark_slots}
 use Rattle.change_feed.proofs.Following.{leads_above}
 

@@ -1,11 +1,12 @@
 -- What the events of a run do to a feed and to a cabinet.
 use Rattle.std.proofs.Common.{◌≡◌, ◌⊎◌, ℕ, ◌+◌, ◌<◌, ◌≤◌, List, [], ◌∷◌, ◌++◌, Option, Some, None, IsSome, refl, sym, subst, ◌∙◌, ap, arith, inl, inr}
 use Rattle.std.proofs.lemmas.Bool.{cases_lt, false≢true}
+use Rattle.cabinet.specs.declared.replies.CutReply.{CutReply}
 use Rattle.cabinet.specs.declared.replies.CutReply.TheVariants as cut
 use Rattle.cabinet.specs.declared.entry.Entry.TheVariants as entry
 use Rattle.cabinet.specs.Commands.{Cuts}
 use Rattle.cabinet.specs.History.{Standing, least_of, numbers}
-use Rattle.cabinet.specs.State.{IsKnown, IsKnownAs, State, blobs_spared, now}
+use Rattle.cabinet.specs.State.{IsKnown, IsKnownAs, State, blobs_spared, now, with_cut}
 use Rattle.cabinet.proofs.Rows.{cuts_known, now_more}
 use Rattle.std.specs.Option.{option_map}
 use Rattle.truncation_list.specs.Books.{AnswersFor, AnswersForBook}

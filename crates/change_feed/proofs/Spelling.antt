@@ -1,8 +1,9 @@
 -- What a body spells that was written for a mark.
-use Rattle.std.proofs.Common.{◌≡◌, ℕ, ◌<◌, ◌^◌, ◌++◌, List, replicate, take, drop, nat_eq, true, false, Some, None, sym}
+use Rattle.std.proofs.Common.{◌≡◌, ℕ, ◌<◌, ◌^◌, ◌++◌, List, replicate, take, drop, nat_eq, if◌then◌else◌, true, false, Option, Some, None, sym}
 use Rattle.std.proofs.lemmas.Nat.{from_be_bytes-to_be_bytes_8}
 use Rattle.std.specs.Cmp.Lexicographic.{pointwise}
 use Rattle.std.specs.Int.{w64, to_be_bytes}
+use Rattle.change_feed.specs.declared.mark.Mark.{Mark}
 use Rattle.change_feed.specs.Marks.{mark_of, number_at}
 
 pub spelled : (number cut : ℕ) → number < 2 ^ 64 → cut < 2 ^ 64 → mark_of (to_be_bytes w64 number ++ to_be_bytes w64 cut ++ replicate 47 0) ≡ Some (record { number = number; cut = cut })

@@ -1,5 +1,6 @@
 -- The disk that a call leaves.
 use Rattle.std.specs.Prelude.{Result, Ok, Err}
+use Rattle.cache_file.specs.declared.file.CacheFile.{CacheFile}
 use Rattle.gate_journal.specs.declared.fault.OpenFault.{OpenFault}
 use Rattle.change_feed.specs.Files.{Shown}
 

@@ -1,5 +1,5 @@
 -- What an image of the file of marks says, and what contracts see of a feed.
-use Rattle.std.specs.Prelude.{◌≡◌, ◌⊎◌, ℕ, ◌+◌, ◌<◌, ◌≤◌, Bool, IsTrue, List, length, Option, None, IfSome, IsSome, Result, ⊤}
+use Rattle.std.specs.Prelude.{◌≡◌, ◌⊎◌, ℕ, ◌+◌, ◌<◌, ◌≤◌, Bool, IsTrue, List, length, Option, Some, None, IfSome, IsSome, Result, Ok, Err, ⊤}
 use Rattle.cache_file.specs.declared.file.CacheFile.{CacheFile}
 use Rattle.cache_file.specs.File.{Brings, held, unsure}
 use Rattle.causes.specs.Causes.{Rose}

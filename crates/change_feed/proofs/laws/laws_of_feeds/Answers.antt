@@ -1,3 +1,5 @@
+use Rattle.std.proofs.Common.{◌∷◌, ◌++◌}
+use Rattle.change_feed.specs.Runs.{called}
 use Rattle.change_feed.proofs.Lawful.{cut_above, cut_again, cut_between, cut_stands, kept_after}
 use Rattle.change_feed.proofs.Running.{runs_make}
 use Rattle.change_feed.proofs.laws.laws_of_feeds.Goals as goal

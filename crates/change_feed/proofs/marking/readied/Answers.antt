@@ -1,6 +1,7 @@
-use Rattle.std.proofs.Common.{[], ◌∷◌, List, ℕ, None, subst, sym}
+use Rattle.std.proofs.Common.{[], ◌∷◌, List, ℕ, None, Option, subst, sym}
 use Rattle.cache_file.specs.File.{held, readied}
 use Rattle.gate_journal.specs.Sound.{room_of}
+use Rattle.change_feed.specs.declared.mark.Mark.{Mark}
 use Rattle.change_feed.specs.Files.{IsAboveZero}
 use Rattle.change_feed.specs.Marks.{LeadsTo}
 use Rattle.change_feed.proofs.Following.{readied_ends, single}

@@ -1,4 +1,4 @@
-use Rattle.std.proofs.Common.{[], ◌∷◌, ◌++◌, None}
+use Rattle.std.proofs.Common.{[], ◌∷◌, ◌++◌, List, ℕ, None}
 use Rattle.gate_journal.specs.Opened.{records}
 use Rattle.gate_journal.specs.Sound.{kept, version_of}
 use Rattle.change_feed.proofs.Following.{leads_on}
