@@ -1,5 +1,5 @@
 -- What the words of a link ask for.
-use Rattle.std.specs.Prelude.{ℕ, ◌==◌, ◌&&◌, not, if◌then◌else◌, List, [], ◌∷◌, slice_index, Option, Some, None, codes, bytes_eq}
+use Rattle.std.specs.Prelude.{ℕ, ◌==◌, if◌then◌else◌, List, [], ◌∷◌, slice_index, Option, Some, None, codes, bytes_eq}
 use Rattle.std.specs.Str.Parse.{digits_value}
 use Rattle.wmts_kvp.specs.Rows.{below, is_number}
 use Rattle.link_words.specs.declared.words.LinkWord.{LinkWord}

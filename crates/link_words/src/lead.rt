@@ -34,6 +34,7 @@ fn led_over<'o, D: Disk, L: Link, N: Loan>(
         (record { left = L.left link.new; read_faults = L.ByteSource.faults link.new; taken = L.taken link.new; write_faults = L.ByteSink.faults link.new })
         (link.new ≡ link.old) result.1 }
     ensures told { D.told result.0.now ≡ D.told outbox.entry.now }
+    ensures loan { result.0.ghost_name ≡ N.disk }
 {
     match opened_outbox::<D, N>(alloc, catalogue, outbox) {
         Ok(mut outbox) => {
