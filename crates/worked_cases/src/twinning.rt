@@ -1,5 +1,5 @@
 //! The words of a twin, run over any objects.
-ghost use Rattle.twin_words.specs.Ends.{Handed, IsFitFor};
+ghost use Rattle.twin_words.specs.Ends.{IsFitFor, text_of};
 ghost use Rattle.twin_words.specs.Words.{twin_word};
 
 use clock::clock::Clock;
@@ -24,7 +24,7 @@ pub fn twin_status<S: Source, D: Disk, I: ByteSource, O: ByteSink>(
     marks: &mut D,
     outbox: &mut D,
 ) -> Status
-    requires { IsFitFor (twin_word words.now) (I.left catalogue.old) (record { cache_told = D.told cache.old; cache = (D.state cache.old).seen; marks_told = D.told marks.old; marks = (D.state marks.old).seen; outbox_told = D.told outbox.old; outbox = (D.state outbox.old).seen }) }
+    requires { IsFitFor (twin_word words.now) (I.left catalogue.old) (text_of D.told D.state cache.old) (text_of D.told D.state marks.old) (text_of D.told D.state outbox.old) }
 {
     run_twin(
         alloc,
