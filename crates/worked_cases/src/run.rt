@@ -26,9 +26,9 @@ pub struct Given {
 }
 
 impl Given {
-    /// Whether its words are those that make a feed's changes.
-    pub fn is_feed(&self) -> bool {
-        self.words.as_str().trim_end() == "feed"
+    /// Whether its words are those that make changes which are marked: a feed's, or a follower's.
+    pub fn is_marked(&self) -> bool {
+        matches!(self.words.as_str().trim_end(), "feed" | "twin")
     }
 }
 
