@@ -1,13 +1,17 @@
 "use strict";
 
 /**
- * The parts of the map, from the top down, each a layer and a style of examples/web. A part is seen through where it has the colour of
- * its key: red, green and blue. The last one has none.
+ * The parts that a map can have, from the top down, each a layer and a style of examples/web. A part is seen through where it has the
+ * colour of its key: red, green and blue. The last one has none.
  */
-const PARTS = [
+const ALL_PARTS = [
   { layer: "roads", style: "overlay", key: [255, 0, 255] },
   { layer: "islands", style: "relief" },
 ];
+
+/** Those that the page's address names, as ?parts=islands does; all where it names none. */
+const NAMED = new URLSearchParams(location.search).get("parts");
+const PARTS = NAMED === null ? ALL_PARTS : ALL_PARTS.filter(({ layer }) => NAMED.split(",").includes(layer));
 
 /** The grid of all parts. Its matrices are the levels of the usual web map. */
 const GRID = { grid: "web", zooms: 18 };
@@ -75,13 +79,11 @@ function coverInView(layer) {
   return { layer, grid: GRID.grid, zoomStart: 0, zoomStop: GRID.zooms, bounds };
 }
 
-/** Truncates what is in view of a layer, says what the server answered, and asks for all tiles again. */
-async function truncate(layer) {
-  const answer = await fetch("/truncate", { method: "POST", body: JSON.stringify(coverInView(layer)) });
-  document.getElementById("said").textContent = `${layer}: ${answer.status} ${await answer.text()}`;
-  tiles.redraw();
-}
+const chosen = document.getElementById("layer");
+for (const { layer } of PARTS) chosen.add(new Option(layer));
 
-for (const { layer } of PARTS) {
-  document.getElementById(`truncate-${layer}`).addEventListener("click", () => truncate(layer));
-}
+document.getElementById("truncate").addEventListener("click", async () => {
+  const answer = await fetch("/truncate", { method: "POST", body: JSON.stringify(coverInView(chosen.value)) });
+  document.getElementById("said").textContent = `${answer.status} ${await answer.text()}`;
+  tiles.redraw();
+});
