@@ -2,8 +2,8 @@
 use crate::{CELLS, Catalogue, catalogue_of, ended};
 use clock::clock::Clock;
 use command_status::status::Status;
-use compose_words::word::run_compose;
 use compose_words::end::ComposeEnd;
+use compose_words::word::run_compose;
 use exact_ratio::words::Words;
 use http_wire::std_streams::{StdinSource, StdoutSink};
 use program_files::input::Input;

@@ -1,7 +1,7 @@
 //! The word of a composition, run over any objects.
 use clock::clock::Clock;
-use compose_words::word::run_compose;
 use compose_words::end::ComposeEnd;
+use compose_words::word::run_compose;
 use exact_ratio::words::Words;
 use http_wire::streams::{ByteSink, ByteSource};
 use source_render::source::Source;

@@ -276,7 +276,13 @@ impl Outcome {
             return Ok(difference);
         }
         let (outbox, front) = (self.disks.outbox.bytes(), fronts.outbox.as_slice());
-        disk_differs(alloc, "disk of the outbox", outbox, self.outbox_length, front)
+        disk_differs(
+            alloc,
+            "disk of the outbox",
+            outbox,
+            self.outbox_length,
+            front,
+        )
     }
 
     /// Whether a call of the disk of the marks failed.

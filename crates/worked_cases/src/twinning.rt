@@ -27,15 +27,6 @@ pub fn twin_status<S: Source, D: Disk, I: ByteSource, O: ByteSink>(
     requires { IsFitFor (twin_word words.now) (I.left catalogue.old) (text_of D.told D.state cache.old) (text_of D.told D.state marks.old) (text_of D.told D.state outbox.old) }
 {
     run_twin(
-        alloc,
-        words,
-        catalogue,
-        input,
-        output,
-        source,
-        clock,
-        cache,
-        marks,
-        outbox,
+        alloc, words, catalogue, input, output, source, clock, cache, marks, outbox,
     )
 }
