@@ -126,7 +126,7 @@ def page(report, world, folder, port, address, served):
     """Looks at the map, goes nearer, truncates what is in view, and looks at what isn't."""
     driver = Driver(folder, port)
     try:
-        driver.ask("POST", "/url", {"url": address + "/"})
+        driver.ask("POST", "/url", {"url": address + "/?parts=islands"})
         report.versions["Leaflet"] += f" (says {driver.script('return L.version;')}), Chromium {driver.version}"
         it = Page(report, world, driver)
         it.tiles("page, level 2", 2)

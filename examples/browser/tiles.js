@@ -1,36 +1,61 @@
 "use strict";
 
-/** The layer of examples/web that is shown. Its matrices are the levels of the usual web map. */
-const LAYER = { layer: "islands", style: "relief", grid: "web", zooms: 18 };
+/**
+ * The parts that a map can have, from the top down, each a layer and a style of examples/web. A part is seen through where it has the
+ * colour of its key: red, green and blue. The last one has none.
+ */
+const ALL_PARTS = [
+  { layer: "roads", style: "overlay", key: [255, 0, 255] },
+  { layer: "islands", style: "relief" },
+];
+
+/** Those that the page's address names, as ?parts=islands does; all where it names none. */
+const NAMED = new URLSearchParams(location.search).get("parts");
+const PARTS = NAMED === null ? ALL_PARTS : ALL_PARTS.filter(({ layer }) => NAMED.split(",").includes(layer));
+
+/** The grid of all parts. Its matrices are the levels of the usual web map. */
+const GRID = { grid: "web", zooms: 18 };
 
 /** Half the side of the web map's world, in meters. */
 const HALF_WORLD = 20037508.342789244;
 
-/** The pixels of a binary PPM image: its width, its height, and red, green, blue and 255 for each pixel. */
-function decoded(bytes) {
+/** The pixels of a binary PPM image: its width, its height, and red, green, blue and opacity of each pixel, which is 0 where it is the key. */
+function decoded(bytes, key) {
   const head = /^P6\n(\d+) (\d+)\n255\n/.exec(new TextDecoder("latin1").decode(bytes.subarray(0, 32)));
   if (!head) throw new Error("no binary PPM image");
   const [width, height] = [Number(head[1]), Number(head[2])];
   const samples = bytes.subarray(head[0].length);
-  const pixels = new Uint8ClampedArray(4 * width * height).fill(255);
+  const pixels = new Uint8ClampedArray(4 * width * height);
   for (let pixel = 0; pixel < width * height; pixel++) {
-    pixels.set(samples.subarray(3 * pixel, 3 * pixel + 3), 4 * pixel);
+    const colour = samples.subarray(3 * pixel, 3 * pixel + 3);
+    const isKey = key !== undefined && colour.every((sample, at) => sample === key[at]);
+    pixels.set(colour, 4 * pixel);
+    pixels[4 * pixel + 3] = isKey ? 0 : 255;
   }
   return new ImageData(pixels, width, height);
 }
 
-/** Paints one tile, and names its render. */
-async function paint(frame, { x, y, z }) {
-  const answer = await fetch(`/rest/wmts/${LAYER.layer}/${LAYER.style}/${LAYER.grid}/${z}/${y}/${x}.ppm`, { cache: "no-store" });
+/** One part of a tile: its image, and what its answer says of the render. Each part is asked for by itself, so each is newer than all truncations of it. */
+async function fetched(part, { x, y, z }) {
+  const answer = await fetch(`/rest/wmts/${part.layer}/${part.style}/${GRID.grid}/${z}/${y}/${x}.ppm`, { cache: "no-store" });
   if (!answer.ok) throw new Error(`the server answered ${answer.status}`);
-  const image = decoded(new Uint8Array(await answer.arrayBuffer()));
-  const canvas = frame.appendChild(document.createElement("canvas"));
-  canvas.width = image.width;
-  canvas.height = image.height;
-  canvas.getContext("2d").putImageData(image, 0, 0);
+  const image = decoded(new Uint8Array(await answer.arrayBuffer()), part.key);
+  return { image, render: `${answer.headers.get("tile-render")} ${answer.headers.get("geowebcache-cache-result")}` };
+}
+
+/** Paints one tile, part over part from the bottom up, and names the render of each from the top down. */
+async function paint(frame, place) {
+  const parts = await Promise.all(PARTS.map((part) => fetched(part, place)));
+  for (const { image } of parts.slice().reverse()) {
+    const canvas = frame.appendChild(document.createElement("canvas"));
+    canvas.className = "part";
+    canvas.width = image.width;
+    canvas.height = image.height;
+    canvas.getContext("2d").putImageData(image, 0, 0);
+  }
   const label = frame.appendChild(document.createElement("div"));
   label.className = "render";
-  label.textContent = `${answer.headers.get("tile-render")} ${answer.headers.get("geowebcache-cache-result")}`;
+  label.textContent = parts.map(({ render }) => render).join(" over ");
 }
 
 const PpmLayer = L.GridLayer.extend({
@@ -41,21 +66,24 @@ const PpmLayer = L.GridLayer.extend({
   },
 });
 
-const map = L.map("map", { maxZoom: LAYER.zooms }).setView([0, 0], 2);
+const map = L.map("map", { maxZoom: GRID.zooms }).setView([0, 0], 2);
 const tiles = new PpmLayer({ noWrap: true, bounds: [[-85.06, -180], [85.06, 180]] }).addTo(map);
 
-/** What is in view, as a cover of all zooms. */
-function coverInView() {
+/** What is in view of a layer, as a cover of all zooms. */
+function coverInView(layer) {
   const corner = (place) => L.CRS.EPSG3857.project(place);
   const within = (meters) => Math.max(-HALF_WORLD, Math.min(HALF_WORLD, meters)).toFixed(3);
   const view = map.getBounds();
   const [least, greatest] = [corner(view.getSouthWest()), corner(view.getNorthEast())];
   const bounds = [least.x, least.y, greatest.x, greatest.y].map(within);
-  return { layer: LAYER.layer, grid: LAYER.grid, zoomStart: 0, zoomStop: LAYER.zooms, bounds };
+  return { layer, grid: GRID.grid, zoomStart: 0, zoomStop: GRID.zooms, bounds };
 }
 
+const chosen = document.getElementById("layer");
+for (const { layer } of PARTS) chosen.add(new Option(layer));
+
 document.getElementById("truncate").addEventListener("click", async () => {
-  const answer = await fetch("/truncate", { method: "POST", body: JSON.stringify(coverInView()) });
+  const answer = await fetch("/truncate", { method: "POST", body: JSON.stringify(coverInView(chosen.value)) });
   document.getElementById("said").textContent = `${answer.status} ${await answer.text()}`;
   tiles.redraw();
 });

@@ -1,13 +1,18 @@
 //! The program `tile_server`, a cache of map tiles: it hands the words, files and streams of the process to `run_command`
-//! of tile_command, and tells how that ended; at `serve` it hands them to `run_server` of tile_serving, with a listening socket, and at
-//! `feed` to `run_feed` of feed_words.
+//! of tile_command, and tells how that ended; at `serve` it hands them to `run_server` of tile_serving, with a listening socket, at
+//! `feed` to `run_feed` of feed_words, at `compose` to `run_compose` of compose_words, at `twin` to `run_twin` of twin_words, and at `lead`
+//! and `follow` to `run_link` of link_words, with a connection.
 //!
 //! Promises: none that a clause says; this is the trusted edge. What the command does is promised there.
-//! Stands on tile_command, tile_serving and feed_words, and on the crates whose files, streams and socket it opens.
+//! Stands on tile_command, tile_serving, feed_words, compose_words, twin_words and link_words, and on the crates whose files, streams and
+//! sockets it opens.
 #![tactic(auto)]
 
+mod compose;
 mod feed;
+mod link;
 mod serve;
+mod twin;
 
 use clock::clock::Clock;
 use command_setup::configured::{CATALOGUE_LIMIT, source_number};
@@ -45,6 +50,11 @@ tile_server serve --port PORT --connections COUNT
                                      serves so many connections at that port over TCP on that cache, and keeps its quotas
 tile_server feed make                makes an empty list of the changes that were made on the cache
 tile_server feed < CHANGES           makes each numbered truncation once on the cache, and writes what became of each
+tile_server compose < LINES          lays tiles of several layers over each other on a cabinet in memory, and writes them
+tile_server twin make                makes an empty cache, its marks and an outbox, whatever stood in their files
+tile_server twin < EVENTS            runs a leader and a follower over a lossy link, event by event
+tile_server lead PORT                sends the outbox to one follower at that port of this machine, until all of it was seen
+tile_server follow PORT              makes the changes that a leader at that port of this machine sends, until it ends
 tile_server --help                   writes this text
 tile_server --version                writes the version
 
@@ -53,7 +63,8 @@ It works with these files of the folder in which it is run:
   capabilities.xml   the capabilities document that GetCapabilities answers; where it is absent, one of no bytes
   source.grid        the cells of which pictures are made; where it is absent, the pictures of a formula
   cache.disk         the cache; `make` makes it, and one program at a time may work on it
-  cache.marks        which change of the feed was made last; `feed make` makes it
+  cache.marks        which change of the feed was made last; `feed make` and `twin make` make it
+  cache.outbox       the truncations that a leader has for its follower; `twin make` makes it
 
 It ends with a code, and all but the first are told by a line on standard error:
    0  done                                    8  not a cache, catalogue differs KEPT ASKED,
@@ -65,7 +76,9 @@ It ends with a code, and all but the first are told by a line on standard error:
    7  line N: this line was refused          13  form KIND FIELD: the fault of the cover or
                                                  the job
                                              14  listen fault: the port isn't had, or gives no more
-                                             15  thread fault: the server's threads can't be made
+                                             15  recipe KIND FIELD PART: the fault of the recipe
+                                             16  link ..: it broke off, or a change was not made
+                                             18  thread fault: the server's threads can't be made
 
 docs/OPERATING.md of its repository has the files, the lines and what to do at each fault; docs/PROMISES.md what is proved.
 ";
@@ -86,6 +99,9 @@ const CACHE: &str = "cache.disk";
 
 /// Which change of a feed was made last on the cache, a file of that folder.
 const MARKS: &str = "cache.marks";
+
+/// The truncations that a leader has for its follower, a file of that folder.
+const OUTBOX: &str = "cache.outbox";
 
 /// The most bytes of the catalogue that the command takes at a time.
 const PIECE: usize = 4_096;
@@ -154,6 +170,15 @@ fn main(rt: HostRuntime) -> ExitCode {
         }
         if word.bytes() == b"feed".as_slice() {
             return feed::feed(rt, words.as_slice());
+        }
+        if word.bytes() == b"compose".as_slice() {
+            return compose::compose(rt, words.as_slice());
+        }
+        if word.bytes() == b"twin".as_slice() {
+            return twin::twin(rt, words.as_slice());
+        }
+        if word.bytes() == b"lead".as_slice() || word.bytes() == b"follow".as_slice() {
+            return link::link(rt, words.as_slice());
         }
     }
     let Ok(

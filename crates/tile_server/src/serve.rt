@@ -96,7 +96,7 @@ where
 }
 
 /// Tells the end of a server on standard error, `Done` apart, and gives its code. A standard error that takes nothing changes nothing.
-fn server_ended(rt: &impl Eprint, end: ServerEnd) -> ExitCode {
+pub(crate) fn server_ended(rt: &impl Eprint, end: ServerEnd) -> ExitCode {
     if end != ServerEnd::Done {
         let _ = eprintln!(rt; "{end}");
     }

@@ -37,7 +37,7 @@ pub enum ServerEnd {
 const LISTEN_CODE: u8 = 14;
 
 /// The code that a process ends with whose threads can't be made.
-const THREAD_CODE: u8 = 15;
+const THREAD_CODE: u8 = 18;
 
 impl ServerEnd {
     /// The status of a command that ended so; none for `ListenFault` and `NoThreads`, which no command has.

@@ -31,7 +31,7 @@ fn unsure_in(output: &[u8]) -> u64 {
 }
 
 impl Bounds {
-    /// What the output of a feed asks of a look that is one too: each change that is told as done stands marked, and beside these at most
+    /// What the output of a feed, or of a twin, asks of a look that is one too: each change that is told as done stands marked, and beside these at most
     /// those whose mark is unsure.
     fn of_marks(output: &[u8]) -> Bounds {
         let done = count_of(output, b"done ");
@@ -51,10 +51,10 @@ impl Bounds {
 
     /// What the output of a command asks of what this look then writes.
     pub fn of(given: &Given, look: &Given, output: &[u8]) -> Bounds {
-        if !given.is_feed() {
+        if !given.is_marked() {
             return Bounds::of_cuts(cuts_in(output));
         }
-        if look.is_feed() {
+        if look.is_marked() {
             return Bounds::of_marks(output);
         }
         Bounds::of_cuts(count_of(output, b"done ").saturating_add(unsure_in(output)))

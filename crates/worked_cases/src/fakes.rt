@@ -60,6 +60,7 @@ pub struct Fakes {
     pub source: Fake,
     pub disk: DiskFake,
     pub marks: DiskFake,
+    pub outbox: DiskFake,
     pub expected: Fake,
 }
 
@@ -74,6 +75,7 @@ impl Fakes {
             source: Fake::new(alloc),
             disk: DiskFake::new(alloc),
             marks: DiskFake::new(alloc),
+            outbox: DiskFake::new(alloc),
             expected: Fake::new(alloc),
         }
     }
@@ -83,6 +85,7 @@ impl Fakes {
         Crashes {
             cache: self.disk.crash,
             marks: self.marks.crash,
+            outbox: self.outbox.crash,
         }
     }
 
@@ -128,6 +131,7 @@ impl Fakes {
             "source" => self.source.take_in(verb, number),
             "disk" => self.disk.take_in(verb, number),
             "marks" => self.marks.take_in(verb, number),
+            "outbox" => self.outbox.take_in(verb, number),
             "expected" => self.expected.take_in(verb, number),
             _ => Ok(false),
         }

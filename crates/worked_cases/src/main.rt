@@ -1,14 +1,16 @@
-//! The worked cases: runs each step of each case of a folder through `run_command`, or where its words are a feed's through `run_feed`,
-//! the top calls of the program, and prints what differs from what the step's files expect. The folder is the one that its first word names, or else the current one.
+//! The worked cases: runs each step of each case of a folder through the top call of the program that its first word names, and prints
+//! what differs from what the step's files expect. The folder is the one that the program's first word names, or else the current one.
 //!
 //! A case is a folder, and a step of it is a folder with the words of a command, its input and its expected output and
-//! status, as files that `step.rt` names. The steps of a case have one disk for the cache, and one for a feed's marks, which each of
-//! them finds as the one before it left them.
+//! status, as files that `step.rt` names. The steps of a case have one disk for the cache, one for a feed's marks and one for an outbox,
+//! which each of them finds as the one before it left them. What goes over a link is the step's input and its output.
 //! Promises: none that a clause says; it is a test whose cases are data.
-//! Stands on tile_command and feed_words, and on the memory forms of its streams, its source, its disk and its clock.
+//! Stands on tile_command, feed_words, compose_words, twin_words and link_words, and on the memory forms of their streams, their source,
+//! their disks and their clock.
 #![tactic(auto)]
 
 mod acknowledged;
+mod composing;
 mod disk_fake;
 mod disks;
 mod fakes;
@@ -17,12 +19,15 @@ mod feeding;
 mod files;
 mod folders;
 mod giving;
+mod linking;
 mod moments;
 mod run;
 mod source_fake;
 mod step;
 mod stops;
 mod tally;
+mod top_calls;
+mod twinning;
 
 use disks::Contents;
 use std::fs::File;
@@ -37,9 +42,11 @@ use tally::Tally;
 fn first_of<R: Files<File = File> + AllocGlobal>(rt: &R, inside: &str) -> io::Result<Contents> {
     let disk = format!(in rt.alloc(); "{inside}/disk")?;
     let marks = format!(in rt.alloc(); "{inside}/marks")?;
+    let outbox = format!(in rt.alloc(); "{inside}/outbox")?;
     Ok(Contents {
         cache: folders::bytes_or_none(rt, disk.as_str())?,
         marks: folders::bytes_or_none(rt, marks.as_str())?,
+        outbox: folders::bytes_or_none(rt, outbox.as_str())?,
     })
 }
 

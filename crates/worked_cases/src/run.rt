@@ -1,24 +1,17 @@
 //! One run of the command over memory forms, and how it differs from what is expected.
-ghost use Rattle.command_words.specs.Words.{word_of};
-ghost use Rattle.tile_command.specs.Command.{IsFitFor};
 
 use crate::disks::{Contents, Crashes, Disks};
 use crate::fakes::{Fake, Fakes};
-use crate::feeding::fed_status;
 use crate::source_fake::SourceFake;
+use crate::top_calls::{Streams, status_by};
 use clock::clock::Clock;
 use command_setup::configured::source_number;
-use command_status::status::Status;
-use disk_model::disk::Disk;
 use exact_ratio::words::Words;
-use feed_words::words::feed_word;
 use http_wire::memory_sink::MemorySink;
 use http_wire::memory_source::MemorySource;
 use http_wire::streams::{ByteSink, ByteSource};
-use source_render::source::Source;
 use std::alloc::{AllocError, Global};
 use std::io;
-use tile_command::command::run_command;
 
 /// What a command is given beside its disks: its words, one a line, the bytes that it reads, the moments that its clock gives, and how
 /// its objects behave.
@@ -33,9 +26,9 @@ pub struct Given {
 }
 
 impl Given {
-    /// Whether its words are those that make a feed's changes.
-    pub fn is_feed(&self) -> bool {
-        self.words.as_str().trim_end() == "feed"
+    /// Whether its words are those that make changes which are marked: a feed's, or a follower's.
+    pub fn is_marked(&self) -> bool {
+        matches!(self.words.as_str().trim_end(), "feed" | "twin")
     }
 }
 
@@ -64,6 +57,8 @@ pub struct Outcome {
     length: Option<u64>,
     /// How many bytes that of the marks has to hold.
     marks_length: Option<u64>,
+    /// How many bytes that of the outbox has to hold.
+    outbox_length: Option<u64>,
 }
 
 /// The words of a command, one a line.
@@ -104,14 +99,6 @@ fn has_refused(fake: &Fake, sink: &mut MemorySink) -> bool {
     sink.put(&[0]).is_ok()
 }
 
-/// The streams that a command reads.
-#[derive(Drop)]
-struct Streams {
-    catalogue: MemorySource,
-    capabilities: MemorySource,
-    input: MemorySource,
-}
-
 /// The streams of what a command is given, which behave as these fakes say.
 fn streams_of(alloc: Global, given: &Given, fakes: &Fakes) -> Result<Streams, AllocError> {
     Ok(Streams {
@@ -140,33 +127,6 @@ fn clock_of(alloc: Global, given: &Given) -> Result<Clock, AllocError> {
     Ok(Clock::listed(moments))
 }
 
-/// Runs the command over any objects, and tells its status alone.
-fn status_of<S: Source, D: Disk, I: ByteSource, O: ByteSink>(
-    alloc: Global,
-    words: &[Words],
-    catalogue: &mut I,
-    capabilities: &mut I,
-    input: &mut I,
-    output: &mut O,
-    source: &mut S,
-    disk: &mut D,
-    clock: Clock,
-) -> Status
-    requires { IsFitFor (word_of words.now) (I.left catalogue.old) (D.told disk.old) (D.state disk.old).seen }
-{
-    run_command(
-        alloc,
-        words,
-        catalogue,
-        capabilities,
-        input,
-        output,
-        source,
-        disk,
-        clock,
-    )
-}
-
 impl Streams {
     /// Whether a stream ended too early, or is past the call that was to fail: the input, and any of them.
     fn have_faulted(&mut self, given: &Given, fakes: &Fakes) -> (bool, bool) {
@@ -192,7 +152,7 @@ struct Told {
 /// What a command came to by this status, which left these objects.
 fn told_of(
     alloc: Global,
-    status: &Status,
+    status: String,
     (took_more, failed): (bool, bool),
     output: &mut MemorySink,
     source: &SourceFake,
@@ -200,48 +160,12 @@ fn told_of(
 ) -> Result<Told, AllocError> {
     let written = Vec::from_slice(alloc, output.taken())?;
     let failed = failed || has_refused(&fakes.output, output) || source.has_failed();
-    let code = status.code();
     Ok(Told {
-        status: format!(in alloc; "{code} {status}")?,
+        status,
         output: written,
         took_more,
         failed,
     })
-}
-
-/// Runs the command over these objects, by `run_feed` where its words are a feed's, and tells its status alone.
-fn status_by(
-    alloc: Global,
-    words: &[Words],
-    streams: &mut Streams,
-    output: &mut MemorySink,
-    source: &mut SourceFake,
-    disks: &mut Disks,
-    clock: Clock,
-) -> Status {
-    if feed_word(words).is_some() {
-        return fed_status(
-            alloc,
-            words,
-            &mut streams.catalogue,
-            &mut streams.input,
-            output,
-            clock,
-            &mut disks.cache,
-            &mut disks.marks,
-        );
-    }
-    status_of(
-        alloc,
-        words,
-        &mut streams.catalogue,
-        &mut streams.capabilities,
-        &mut streams.input,
-        output,
-        source,
-        &mut disks.cache,
-        clock,
-    )
 }
 
 /// Runs the command over disks that stay with the caller.
@@ -264,9 +188,9 @@ fn told_by(
         &mut source,
         disks,
         clock,
-    );
+    )?;
     let faulted = streams.have_faulted(given, fakes);
-    told_of(alloc, &status, faulted, &mut output, &source, fakes)
+    told_of(alloc, status, faulted, &mut output, &source, fakes)
 }
 
 /// Runs the command over disks.
@@ -291,6 +215,7 @@ pub fn came_to_by(
         disks,
         length: fakes.disk.length,
         marks_length: fakes.marks.length,
+        outbox_length: fakes.outbox.length,
     })
 }
 
@@ -346,12 +271,28 @@ impl Outcome {
             return Ok(difference);
         }
         let (marks, front) = (self.disks.marks.bytes(), fronts.marks.as_slice());
-        disk_differs(alloc, "disk of the marks", marks, self.marks_length, front)
+        let difference = disk_differs(alloc, "disk of the marks", marks, self.marks_length, front)?;
+        if difference.is_some() {
+            return Ok(difference);
+        }
+        let (outbox, front) = (self.disks.outbox.bytes(), fronts.outbox.as_slice());
+        disk_differs(
+            alloc,
+            "disk of the outbox",
+            outbox,
+            self.outbox_length,
+            front,
+        )
     }
 
     /// Whether a call of the disk of the marks failed.
     pub fn marks_failed(&self) -> bool {
         self.disks.marks_failed()
+    }
+
+    /// Whether a call of the disk of the outbox failed.
+    pub fn outbox_failed(&self) -> bool {
+        self.disks.outbox_failed()
     }
 
     /// Whether a call of an object failed.

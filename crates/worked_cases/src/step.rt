@@ -61,6 +61,7 @@ fn fronts_of<R: Files<File = File> + AllocGlobal>(
     Ok(Contents {
         cache: own(rt, case, step, "disk_front")?,
         marks: own(rt, case, step, "marks_front")?,
+        outbox: own(rt, case, step, "outbox_front")?,
     })
 }
 
@@ -329,10 +330,15 @@ fn contents_of<R: Files<File = File> + AllocGlobal>(
     step: &str,
     left: Contents,
 ) -> io::Result<Contents> {
-    let Contents { cache, marks } = left;
+    let Contents {
+        cache,
+        marks,
+        outbox,
+    } = left;
     Ok(Contents {
         cache: own_or(rt, case, step, "disk", cache)?,
         marks: own_or(rt, case, step, "marks", marks)?,
+        outbox: own_or(rt, case, step, "outbox", outbox)?,
     })
 }
 

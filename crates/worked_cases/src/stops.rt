@@ -1,6 +1,7 @@
 //! A table of stops: a command is run with its disks stopped after 0, 1, 2 and so on calls, or with one call failing alone, and what a
 //! crash then leaves is looked at: it has to be one of the images of the table, and one that answers for each truncation that the stopped
-//! command had written. Each number of calls of the cache's disk is run with each one of that of the marks.
+//! command had written. Each number of calls of the cache's disk is run with each one of that of the marks, and these with each one of
+//! that of the outbox.
 use crate::acknowledged::Bounds;
 use crate::disk_fake::number_of;
 use crate::disks::{Contents, Crashes, Disks};
@@ -29,6 +30,7 @@ pub struct Table {
 struct Stops {
     cache: u64,
     marks: u64,
+    outbox: u64,
 }
 
 /// What a crash leaves of a run.
@@ -39,6 +41,8 @@ struct Left {
     whole: bool,
     /// Whether a call of the disk of the marks failed.
     marks_failed: bool,
+    /// Whether a call of the disk of the outbox failed.
+    outbox_failed: bool,
     /// For how many truncations it has to answer.
     bounds: Bounds,
 }
@@ -46,16 +50,32 @@ struct Left {
 impl Stops {
     /// The stops that are tried behind a run; `None` where it had no fault.
     fn after(self, run: &Left) -> Option<Stops> {
-        let Stops { cache, marks } = self;
+        let Stops {
+            cache,
+            marks,
+            outbox,
+        } = self;
+        if run.outbox_failed {
+            return Some(Stops {
+                outbox: outbox.saturating_add(1),
+                ..self
+            });
+        }
         if run.marks_failed {
-            let marks = marks.saturating_add(1);
-            return Some(Stops { cache, marks });
+            return Some(Stops {
+                cache,
+                marks: marks.saturating_add(1),
+                outbox: 0,
+            });
         }
         if run.whole {
             return None;
         }
-        let cache = cache.saturating_add(1);
-        Some(Stops { cache, marks: 0 })
+        Some(Stops {
+            cache: cache.saturating_add(1),
+            marks: 0,
+            outbox: 0,
+        })
     }
 }
 
@@ -71,27 +91,33 @@ fn failing(alloc: Global, bytes: &[u8], calls: u64, alone: bool) -> Result<Silen
 }
 
 /// The disks of a command, which fail behind so many calls.
-fn failing_both(
+fn failing_all(
     alloc: Global,
     given: &Given,
     contents: &Contents,
     stops: Stops,
 ) -> Result<Disks, AllocError> {
     let (cache, marks) = (contents.cache.as_slice(), contents.marks.as_slice());
+    let outbox = contents.outbox.as_slice();
     let fakes = &given.fakes;
     Ok(Disks {
         cache: failing(alloc, cache, stops.cache, fakes.disk.alone)?,
         marks: failing(alloc, marks, stops.marks, fakes.marks.alone)?,
+        outbox: failing(alloc, outbox, stops.outbox, fakes.outbox.alone)?,
     })
 }
 
 /// What is said of a run, stopped so, behind which no image has what a crash leaves.
 fn strange(alloc: Global, stops: Stops, bounds: Bounds, pick: Pick) -> io::Result<String> {
-    let Stops { cache, marks } = stops;
+    let Stops {
+        cache,
+        marks,
+        outbox,
+    } = stops;
     let kind = number_of(pick);
     let least = bounds.least;
     Ok(format!(in alloc;
-        "where the disk fails after {cache} calls, and that of the marks after {marks}, with {least} truncations written as done, a crash of kind {kind} leaves what no image has that answers for them"
+        "where the disk fails after {cache} calls, that of the marks after {marks} and that of the outbox after {outbox}, with {least} truncations written as done, a crash of kind {kind} leaves what no image has that answers for them"
     )?)
 }
 
@@ -122,7 +148,7 @@ impl Table {
         Ok(Vec::from_slice(alloc, outcome.output.as_slice())?)
     }
 
-    /// What a crash of both disks leaves where they fail behind so many calls of a command.
+    /// What a crash of the disks leaves where they fail behind so many calls of a command.
     fn left_after(
         &self,
         alloc: Global,
@@ -131,14 +157,16 @@ impl Table {
         stops: Stops,
         pick: Pick,
     ) -> io::Result<Left> {
-        let outcome = came_to(alloc, given, failing_both(alloc, given, contents, stops)?)?;
+        let outcome = came_to(alloc, given, failing_all(alloc, given, contents, stops)?)?;
         let whole = !outcome.has_failed();
         let marks_failed = outcome.marks_failed();
+        let outbox_failed = outcome.outbox_failed();
         let bounds = Bounds::of(given, &self.look, outcome.output.as_slice());
         Ok(Left {
-            contents: outcome.left(alloc, Crashes::both(pick))?,
+            contents: outcome.left(alloc, Crashes::all(pick))?,
             whole,
             marks_failed,
+            outbox_failed,
             bounds,
         })
     }
@@ -170,7 +198,11 @@ impl Table {
         contents: &Contents,
         pick: Pick,
     ) -> io::Result<Option<String>> {
-        let mut stops = Stops { cache: 0, marks: 0 };
+        let mut stops = Stops {
+            cache: 0,
+            marks: 0,
+            outbox: 0,
+        };
         for _ in 0..MOST_RUNS {
             stops = match self.tried(alloc, given, contents, stops, pick)? {
                 Ok(Some(next)) => next,

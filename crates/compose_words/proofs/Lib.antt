@@ -1,0 +1,4 @@
+pub mod Completing
+pub mod Going
+pub mod Leaving
+pub mod Newness

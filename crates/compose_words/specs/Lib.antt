@@ -1,0 +1,9 @@
+pub mod Complete
+pub mod Composing
+pub mod Ends
+pub mod OneLine
+pub mod Orders
+pub mod Run
+pub mod Texts
+pub mod Words
+pub mod Written

@@ -1,0 +1,69 @@
+//! Single calls on a hall.
+ghost use Rattle.composite_tests.specs.Fit.{IsFit};
+ghost use Rattle.layer_recipes.specs.OfCatalogue.{IsRecipeOf};
+
+use crate::rows::{Outcome, has_first, zoom_0_of};
+use cabinet::keeper::Keeper;
+use cabinet_chest::chest::CabinetChest;
+use cache_hall::hall::Hall;
+use cache_hall::upkeep::{truncate, usage};
+use composite_hall::compose::compose;
+use layer_recipes::recipe::Recipe;
+use served_covers::of_catalogue::is_cover_of;
+use source_render::source::Source;
+use std::alloc::Global;
+use std::sync::Wait;
+use turnstile::pass::Pass;
+
+/// Makes the composite at zoom 0.
+pub fn composed<R: Wait, K: Keeper, S: Source>(
+    rt: &R,
+    alloc: Global,
+    hall: &Hall<K>,
+    pass: &mut Pass<CabinetChest<K>>,
+    source: &mut S,
+    recipe: &Recipe,
+) -> Outcome
+    requires fit { IsFit hall.now.turnstile hall.now.catalogue pass.old }
+    requires recipe { IsRecipeOf hall.now.catalogue recipe.now }
+    ensures { IsFit hall.now.turnstile hall.now.catalogue pass.new }
+{
+    if !has_first(&hall.catalogue, recipe) {
+        return None;
+    }
+    Some(compose(rt, alloc, hall, pass, source, recipe, 0, 0, 0))
+}
+
+/// Truncates a layer at zoom 0, and tells the truncation's number.
+pub fn cut<R: Wait, K: Keeper>(
+    rt: &R,
+    alloc: Global,
+    hall: &Hall<K>,
+    pass: &mut Pass<CabinetChest<K>>,
+    layer: u32,
+) -> Option<u64>
+    requires fit { IsFit hall.now.turnstile hall.now.catalogue pass.old }
+    ensures { IsFit hall.now.turnstile hall.now.catalogue pass.new }
+{
+    let cover = zoom_0_of(layer);
+    if !is_cover_of(&hall.catalogue, &cover) {
+        return None;
+    }
+    truncate(rt, alloc, hall, pass, &cover).ok()
+}
+
+/// How many metatiles of a layer are kept; none where there is no such layer.
+pub fn kept<R: Wait, K: Keeper>(
+    rt: &R,
+    hall: &Hall<K>,
+    pass: &mut Pass<CabinetChest<K>>,
+    layer: u32,
+) -> Option<u32>
+    requires fit { IsFit hall.now.turnstile hall.now.catalogue pass.old }
+    ensures { IsFit hall.now.turnstile hall.now.catalogue pass.new }
+{
+    if layer as usize >= hall.catalogue.layers.len() {
+        return None;
+    }
+    Some(usage(rt, hall, pass, layer).metatiles)
+}

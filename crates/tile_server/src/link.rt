@@ -1,0 +1,89 @@
+//! The words of a link: a leader's posts go over a connection, or the changes that come over one are made on the cache.
+use crate::serve::server_ended;
+use crate::{CACHE, CATALOGUE, MARKS, OUTBOX};
+use clock::clock::Clock;
+use exact_ratio::words::Words;
+use http_wire::file_source::FileSource;
+use link_words::ends::LinkingEnd;
+use link_words::link::run_link;
+use link_words::words::{LinkWord, link_word};
+use program_files::cache_disk::CacheDisk;
+use program_files::input::Input;
+use program_files::stream_link::StreamLink;
+use std::fs::File;
+use std::io;
+use std::io::Eprint;
+use std::net::{Net, TcpListener, TcpStream};
+use std::process::ExitCode;
+use std::rt::Files;
+use tile_serving::ends::ServerEnd;
+
+/// The connection that the words ask for: a leader waits for a follower's, and a follower makes one. Words that are none ask for none.
+fn link_for<R: Net<Listener = TcpListener, Stream = TcpStream>>(
+    rt: &R,
+    word: Option<LinkWord>,
+) -> io::Result<StreamLink> {
+    match word {
+        Some(LinkWord::Lead(port)) => StreamLink::accepted(rt, port),
+        Some(LinkWord::Follow(port)) => StreamLink::connected(rt, port),
+        None => Ok(StreamLink::without_bytes()),
+    }
+}
+
+/// A file of a follower, opened for the word that works on it.
+fn followers_file(rt: &impl Files<File = File>, word: Option<LinkWord>, path: &str) -> CacheDisk {
+    match word {
+        Some(LinkWord::Follow(_)) => CacheDisk::open(rt, path, false),
+        Some(LinkWord::Lead(_)) | None => CacheDisk::Absent(0),
+    }
+}
+
+/// The outbox, opened for the word that works on it.
+fn leaders_file(rt: &impl Files<File = File>, word: Option<LinkWord>) -> CacheDisk {
+    match word {
+        Some(LinkWord::Lead(_)) => CacheDisk::open(rt, OUTBOX, false),
+        Some(LinkWord::Follow(_)) | None => CacheDisk::Absent(0),
+    }
+}
+
+/// Tells the end of a link on standard error, that it finished apart, and gives its code. A standard error that takes nothing changes
+/// nothing.
+fn link_ended(rt: &impl Eprint, end: LinkingEnd) -> ExitCode {
+    let code = end.code();
+    if code != 0 {
+        let _ = eprintln!(rt; "{end}");
+    }
+    ExitCode::from(code)
+}
+
+/// The end where no connection is had.
+fn end_of_connection(error: &io::Error) -> ServerEnd {
+    if error.kind() == io::ErrorKind::OutOfMemory {
+        return ServerEnd::OutOfMemory;
+    }
+    ServerEnd::ListenFault
+}
+
+/// Does what the words of a link say. The connection is made first, so that a leader that waits for a follower has no file open.
+pub fn link(rt: HostRuntime, words: &[Words]) -> ExitCode {
+    let word = link_word(words);
+    let mut link = match link_for(&rt, word) {
+        Ok(link) => link,
+        Err(error) => return server_ended(&rt, end_of_connection(&error)),
+    };
+    let mut catalogue = Input::File(FileSource::open(&rt, CATALOGUE));
+    let mut disk = followers_file(&rt, word, CACHE);
+    let mut marks = followers_file(&rt, word, MARKS);
+    let mut outbox = leaders_file(&rt, word);
+    let end = run_link(
+        rt.alloc(),
+        words,
+        &mut catalogue,
+        &mut link,
+        Clock::system(rt),
+        &mut disk,
+        &mut marks,
+        &mut outbox,
+    );
+    link_ended(&rt, end)
+}

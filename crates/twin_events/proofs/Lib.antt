@@ -1,0 +1,4 @@
+pub mod Answering
+pub mod Bringing
+pub mod Leading
+pub mod Resting

@@ -1,0 +1,5 @@
+pub mod Ends
+pub mod OneLine
+pub mod Orders
+pub mod Steps
+pub mod Texts

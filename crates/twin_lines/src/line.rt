@@ -1,0 +1,232 @@
+//! One line of a twin: what it orders happens, and is answered.
+ghost use Rattle.std.specs.Prelude.{◌≡◌, ◌≤◌, ℕ, IfOk, Option, Some};
+ghost use Rattle.cache_core.specs.Lasting.{Lasting};
+ghost use Rattle.catalog.specs.LookUp.{IsTile};
+ghost use Rattle.gate_journal.specs.Sound.{digest_of};
+ghost use Rattle.kept_cache.specs.Change.{OutputChange};
+ghost use Rattle.served_covers.specs.OfCatalogue.{IsCoverOf};
+ghost use Rattle.tile_service.specs.Outside.{counts};
+ghost use Rattle.twin_events.specs.Twins.{IsReady, standing};
+ghost use Rattle.twin_lines.specs.declared.order.Order.TheVariants as order;
+ghost use Rattle.twin_lines.specs.Ends.{passage};
+ghost use Rattle.twin_lines.specs.OneLine.{GoesTo, RunsOrder};
+ghost use Rattle.twin_lines.specs.Orders.{IsOrderOf, IsReadAs, order_in};
+ghost use Rattle.twin_lines.specs.Steps.{faults, moment};
+
+use crate::line_end::LineEnd;
+use crate::order::Order;
+use crate::orders::{Unread, read_order};
+use crate::text::{tell_carried, tell_got, tell_posted, tell_sent};
+use cabinet::keeper::Keeper;
+use cache_core::laws::laws_of_lasting;
+use disk_model::disk::Disk;
+use http_wire::streams::ByteSink;
+use matrix_geometry::address::Address;
+use source_render::source::Source;
+use std::alloc::Global;
+use truncation_list::cover::Cover;
+use twin_events::twin::Twin;
+
+/// Posts a cover at the leader, and tells what became of it.
+fn run_post<K: Keeper, M: Disk, N: Disk, O: ByteSink>(
+    alloc: Global,
+    twin: &mut Twin<K, M, N>,
+    output: &mut O,
+    line: u64,
+    cover: &Cover,
+) -> LineEnd
+    requires ready { IsReady twin.old.outbox.catalogue (standing twin.old.outbox.out twin.old.feed.stand (K.state twin.old.cabinet) twin.old.sent.items) }
+    requires cover { IsCoverOf twin.old.outbox.catalogue cover.now }
+    ensures runs { (source : Option ℕ) (failed : ℕ) → RunsOrder twin.old.outbox.catalogue source (passage (N.told twin.old.outbox.file.disk) (N.state twin.old.outbox.file.disk) (N.state twin.new.outbox.file.disk)) (Some (order.Post cover.now)) line (record { writes = counts (O.faults output.old) (O.faults output.new); from = O.taken output.old; to = O.taken output.new }) (output.new ≡ output.old)
+        (moment (standing twin.old.outbox.out twin.old.feed.stand (K.state twin.old.cabinet) twin.old.sent.items) (faults failed (N.faults twin.old.outbox.file.disk) (M.faults twin.old.feed.file.disk) (K.faults twin.old.cabinet)))
+        (moment (standing twin.new.outbox.out twin.new.feed.stand (K.state twin.new.cabinet) twin.new.sent.items) (faults failed (N.faults twin.new.outbox.file.disk) (M.faults twin.new.feed.file.disk) (K.faults twin.new.cabinet))) result }
+    ensures goes { (source : Option ℕ) (failed : ℕ) → GoesTo twin.old.outbox.catalogue source (digest_of twin.old.feed.file.journal) (passage (M.told twin.old.feed.file.disk) (M.state twin.old.feed.file.disk) (M.state twin.new.feed.file.disk))
+        (moment (standing twin.old.outbox.out twin.old.feed.stand (K.state twin.old.cabinet) twin.old.sent.items) (faults failed (N.faults twin.old.outbox.file.disk) (M.faults twin.old.feed.file.disk) (K.faults twin.old.cabinet)))
+        (moment (standing twin.new.outbox.out twin.new.feed.stand (K.state twin.new.cabinet) twin.new.sent.items) (faults failed (N.faults twin.new.outbox.file.disk) (M.faults twin.new.feed.file.disk) (K.faults twin.new.cabinet))) }
+    ensures ready { IsReady twin.new.outbox.catalogue (standing twin.new.outbox.out twin.new.feed.stand (K.state twin.new.cabinet) twin.new.sent.items) }
+    ensures catalogue { twin.new.outbox.catalogue ≡ twin.old.outbox.catalogue }
+    ensures posts_told { N.told twin.new.outbox.file.disk ≡ N.told twin.old.outbox.file.disk }
+    ensures marks_told { M.told twin.new.feed.file.disk ≡ M.told twin.old.feed.file.disk }
+    ensures digest { digest_of twin.new.feed.file.journal ≡ digest_of twin.old.feed.file.journal }
+    ensures lasts { Lasting (K.outlasts twin.old.cabinet twin.new.cabinet) (K.state twin.old.cabinet) (K.state twin.new.cabinet) }
+    ensures later { O.faults output.old ≤ O.faults output.new }
+{
+    laws_of_lasting::<K>();
+    match twin.post(alloc, cover) {
+        Ok(reply) => tell_posted(output, line, reply),
+        Err(_) => LineEnd::OutOfMemory,
+    }
+}
+
+/// Lets the leader send, and tells which place the packet has.
+fn run_send<K: Keeper, M: Disk, N: Disk, O: ByteSink>(
+    alloc: Global,
+    twin: &mut Twin<K, M, N>,
+    output: &mut O,
+    line: u64,
+) -> LineEnd
+    requires ready { IsReady twin.old.outbox.catalogue (standing twin.old.outbox.out twin.old.feed.stand (K.state twin.old.cabinet) twin.old.sent.items) }
+    ensures runs { (source : Option ℕ) (failed : ℕ) → RunsOrder twin.old.outbox.catalogue source (passage (N.told twin.old.outbox.file.disk) (N.state twin.old.outbox.file.disk) (N.state twin.new.outbox.file.disk)) (Some order.Send) line (record { writes = counts (O.faults output.old) (O.faults output.new); from = O.taken output.old; to = O.taken output.new }) (output.new ≡ output.old)
+        (moment (standing twin.old.outbox.out twin.old.feed.stand (K.state twin.old.cabinet) twin.old.sent.items) (faults failed (N.faults twin.old.outbox.file.disk) (M.faults twin.old.feed.file.disk) (K.faults twin.old.cabinet)))
+        (moment (standing twin.new.outbox.out twin.new.feed.stand (K.state twin.new.cabinet) twin.new.sent.items) (faults failed (N.faults twin.new.outbox.file.disk) (M.faults twin.new.feed.file.disk) (K.faults twin.new.cabinet))) result }
+    ensures goes { (source : Option ℕ) (failed : ℕ) → GoesTo twin.old.outbox.catalogue source (digest_of twin.old.feed.file.journal) (passage (M.told twin.old.feed.file.disk) (M.state twin.old.feed.file.disk) (M.state twin.new.feed.file.disk))
+        (moment (standing twin.old.outbox.out twin.old.feed.stand (K.state twin.old.cabinet) twin.old.sent.items) (faults failed (N.faults twin.old.outbox.file.disk) (M.faults twin.old.feed.file.disk) (K.faults twin.old.cabinet)))
+        (moment (standing twin.new.outbox.out twin.new.feed.stand (K.state twin.new.cabinet) twin.new.sent.items) (faults failed (N.faults twin.new.outbox.file.disk) (M.faults twin.new.feed.file.disk) (K.faults twin.new.cabinet))) }
+    ensures ready { IsReady twin.new.outbox.catalogue (standing twin.new.outbox.out twin.new.feed.stand (K.state twin.new.cabinet) twin.new.sent.items) }
+    ensures catalogue { twin.new.outbox.catalogue ≡ twin.old.outbox.catalogue }
+    ensures posts_told { N.told twin.new.outbox.file.disk ≡ N.told twin.old.outbox.file.disk }
+    ensures marks_told { M.told twin.new.feed.file.disk ≡ M.told twin.old.feed.file.disk }
+    ensures digest { digest_of twin.new.feed.file.journal ≡ digest_of twin.old.feed.file.journal }
+    ensures lasts { Lasting (K.outlasts twin.old.cabinet twin.new.cabinet) (K.state twin.old.cabinet) (K.state twin.new.cabinet) }
+    ensures later { O.faults output.old ≤ O.faults output.new }
+{
+    laws_of_lasting::<K>();
+    match twin.send(alloc) {
+        Ok(place) => tell_sent(output, line, place),
+        Err(_) => LineEnd::OutOfMemory,
+    }
+}
+
+/// Carries the packet at a place, and tells what became of it. `Refused` where nothing was sent to that place.
+fn run_carry<K: Keeper, M: Disk, N: Disk, O: ByteSink>(
+    alloc: Global,
+    twin: &mut Twin<K, M, N>,
+    output: &mut O,
+    line: u64,
+    place: u64,
+) -> LineEnd
+    requires ready { IsReady twin.old.outbox.catalogue (standing twin.old.outbox.out twin.old.feed.stand (K.state twin.old.cabinet) twin.old.sent.items) }
+    ensures runs { (source : Option ℕ) (failed : ℕ) → RunsOrder twin.old.outbox.catalogue source (passage (N.told twin.old.outbox.file.disk) (N.state twin.old.outbox.file.disk) (N.state twin.new.outbox.file.disk)) (Some (order.Carry place)) line (record { writes = counts (O.faults output.old) (O.faults output.new); from = O.taken output.old; to = O.taken output.new }) (output.new ≡ output.old)
+        (moment (standing twin.old.outbox.out twin.old.feed.stand (K.state twin.old.cabinet) twin.old.sent.items) (faults failed (N.faults twin.old.outbox.file.disk) (M.faults twin.old.feed.file.disk) (K.faults twin.old.cabinet)))
+        (moment (standing twin.new.outbox.out twin.new.feed.stand (K.state twin.new.cabinet) twin.new.sent.items) (faults failed (N.faults twin.new.outbox.file.disk) (M.faults twin.new.feed.file.disk) (K.faults twin.new.cabinet))) result }
+    ensures goes { (source : Option ℕ) (failed : ℕ) → GoesTo twin.old.outbox.catalogue source (digest_of twin.old.feed.file.journal) (passage (M.told twin.old.feed.file.disk) (M.state twin.old.feed.file.disk) (M.state twin.new.feed.file.disk))
+        (moment (standing twin.old.outbox.out twin.old.feed.stand (K.state twin.old.cabinet) twin.old.sent.items) (faults failed (N.faults twin.old.outbox.file.disk) (M.faults twin.old.feed.file.disk) (K.faults twin.old.cabinet)))
+        (moment (standing twin.new.outbox.out twin.new.feed.stand (K.state twin.new.cabinet) twin.new.sent.items) (faults failed (N.faults twin.new.outbox.file.disk) (M.faults twin.new.feed.file.disk) (K.faults twin.new.cabinet))) }
+    ensures ready { IsReady twin.new.outbox.catalogue (standing twin.new.outbox.out twin.new.feed.stand (K.state twin.new.cabinet) twin.new.sent.items) }
+    ensures catalogue { twin.new.outbox.catalogue ≡ twin.old.outbox.catalogue }
+    ensures posts_told { N.told twin.new.outbox.file.disk ≡ N.told twin.old.outbox.file.disk }
+    ensures marks_told { M.told twin.new.feed.file.disk ≡ M.told twin.old.feed.file.disk }
+    ensures digest { digest_of twin.new.feed.file.journal ≡ digest_of twin.old.feed.file.journal }
+    ensures lasts { Lasting (K.outlasts twin.old.cabinet twin.new.cabinet) (K.state twin.old.cabinet) (K.state twin.new.cabinet) }
+    ensures later { O.faults output.old ≤ O.faults output.new }
+{
+    match twin.carry(alloc, place) {
+        Ok(Some(carried)) => tell_carried(output, line, carried),
+        Ok(None) => LineEnd::Refused,
+        Err(_) => LineEnd::OutOfMemory,
+    }
+}
+
+/// Gets a tile at the follower, and tells what became of it.
+fn run_get<K: Keeper, M: Disk, N: Disk, S: Source, O: ByteSink>(
+    alloc: Global,
+    twin: &mut Twin<K, M, N>,
+    source: &mut S,
+    output: &mut O,
+    line: u64,
+    address: &Address,
+) -> LineEnd
+    requires ready { IsReady twin.old.outbox.catalogue (standing twin.old.outbox.out twin.old.feed.stand (K.state twin.old.cabinet) twin.old.sent.items) }
+    requires tile { IsTile twin.old.outbox.catalogue address.now }
+    ensures runs { RunsOrder twin.old.outbox.catalogue (S.told source.old) (passage (N.told twin.old.outbox.file.disk) (N.state twin.old.outbox.file.disk) (N.state twin.new.outbox.file.disk)) (Some (order.Get address.now)) line (record { writes = counts (O.faults output.old) (O.faults output.new); from = O.taken output.old; to = O.taken output.new }) (output.new ≡ output.old)
+        (moment (standing twin.old.outbox.out twin.old.feed.stand (K.state twin.old.cabinet) twin.old.sent.items) (faults (S.faults source.old) (N.faults twin.old.outbox.file.disk) (M.faults twin.old.feed.file.disk) (K.faults twin.old.cabinet)))
+        (moment (standing twin.new.outbox.out twin.new.feed.stand (K.state twin.new.cabinet) twin.new.sent.items) (faults (S.faults source.new) (N.faults twin.new.outbox.file.disk) (M.faults twin.new.feed.file.disk) (K.faults twin.new.cabinet))) result }
+    ensures goes { GoesTo twin.old.outbox.catalogue (S.told source.old) (digest_of twin.old.feed.file.journal) (passage (M.told twin.old.feed.file.disk) (M.state twin.old.feed.file.disk) (M.state twin.new.feed.file.disk))
+        (moment (standing twin.old.outbox.out twin.old.feed.stand (K.state twin.old.cabinet) twin.old.sent.items) (faults (S.faults source.old) (N.faults twin.old.outbox.file.disk) (M.faults twin.old.feed.file.disk) (K.faults twin.old.cabinet)))
+        (moment (standing twin.new.outbox.out twin.new.feed.stand (K.state twin.new.cabinet) twin.new.sent.items) (faults (S.faults source.new) (N.faults twin.new.outbox.file.disk) (M.faults twin.new.feed.file.disk) (K.faults twin.new.cabinet))) }
+    ensures ready { IsReady twin.new.outbox.catalogue (standing twin.new.outbox.out twin.new.feed.stand (K.state twin.new.cabinet) twin.new.sent.items) }
+    ensures catalogue { twin.new.outbox.catalogue ≡ twin.old.outbox.catalogue }
+    ensures posts_told { N.told twin.new.outbox.file.disk ≡ N.told twin.old.outbox.file.disk }
+    ensures marks_told { M.told twin.new.feed.file.disk ≡ M.told twin.old.feed.file.disk }
+    ensures digest { digest_of twin.new.feed.file.journal ≡ digest_of twin.old.feed.file.journal }
+    ensures source_told { S.told source.new ≡ S.told source.old }
+    ensures lasts { Lasting (K.outlasts twin.old.cabinet twin.new.cabinet) (K.state twin.old.cabinet) (K.state twin.new.cabinet) }
+    ensures later { O.faults output.old ≤ O.faults output.new }
+{
+    match twin.ask(alloc, source, address) {
+        Ok(reply) => tell_got(output, line, &reply),
+        Err(_) => LineEnd::OutOfMemory,
+    }
+}
+
+/// Lets happen what was ordered, and tells what became of it. A stop is left to the caller.
+fn run_order<K: Keeper, M: Disk, N: Disk, S: Source, O: ByteSink>(
+    alloc: Global,
+    twin: &mut Twin<K, M, N>,
+    source: &mut S,
+    output: &mut O,
+    line: u64,
+    order: Order,
+) -> LineEnd
+    requires ready { IsReady twin.old.outbox.catalogue (standing twin.old.outbox.out twin.old.feed.stand (K.state twin.old.cabinet) twin.old.sent.items) }
+    requires of { IsOrderOf twin.old.outbox.catalogue order }
+    ensures runs { RunsOrder twin.old.outbox.catalogue (S.told source.old) (passage (N.told twin.old.outbox.file.disk) (N.state twin.old.outbox.file.disk) (N.state twin.new.outbox.file.disk)) (Some order) line (record { writes = counts (O.faults output.old) (O.faults output.new); from = O.taken output.old; to = O.taken output.new }) (output.new ≡ output.old)
+        (moment (standing twin.old.outbox.out twin.old.feed.stand (K.state twin.old.cabinet) twin.old.sent.items) (faults (S.faults source.old) (N.faults twin.old.outbox.file.disk) (M.faults twin.old.feed.file.disk) (K.faults twin.old.cabinet)))
+        (moment (standing twin.new.outbox.out twin.new.feed.stand (K.state twin.new.cabinet) twin.new.sent.items) (faults (S.faults source.new) (N.faults twin.new.outbox.file.disk) (M.faults twin.new.feed.file.disk) (K.faults twin.new.cabinet))) result }
+    ensures goes { GoesTo twin.old.outbox.catalogue (S.told source.old) (digest_of twin.old.feed.file.journal) (passage (M.told twin.old.feed.file.disk) (M.state twin.old.feed.file.disk) (M.state twin.new.feed.file.disk))
+        (moment (standing twin.old.outbox.out twin.old.feed.stand (K.state twin.old.cabinet) twin.old.sent.items) (faults (S.faults source.old) (N.faults twin.old.outbox.file.disk) (M.faults twin.old.feed.file.disk) (K.faults twin.old.cabinet)))
+        (moment (standing twin.new.outbox.out twin.new.feed.stand (K.state twin.new.cabinet) twin.new.sent.items) (faults (S.faults source.new) (N.faults twin.new.outbox.file.disk) (M.faults twin.new.feed.file.disk) (K.faults twin.new.cabinet))) }
+    ensures ready { IsReady twin.new.outbox.catalogue (standing twin.new.outbox.out twin.new.feed.stand (K.state twin.new.cabinet) twin.new.sent.items) }
+    ensures catalogue { twin.new.outbox.catalogue ≡ twin.old.outbox.catalogue }
+    ensures posts_told { N.told twin.new.outbox.file.disk ≡ N.told twin.old.outbox.file.disk }
+    ensures marks_told { M.told twin.new.feed.file.disk ≡ M.told twin.old.feed.file.disk }
+    ensures digest { digest_of twin.new.feed.file.journal ≡ digest_of twin.old.feed.file.journal }
+    ensures source_told { S.told source.new ≡ S.told source.old }
+    ensures lasts { Lasting (K.outlasts twin.old.cabinet twin.new.cabinet) (K.state twin.old.cabinet) (K.state twin.new.cabinet) }
+    ensures later { O.faults output.old ≤ O.faults output.new }
+{
+    laws_of_lasting::<K>();
+    match order {
+        Order::Post(cover) => run_post(alloc, twin, output, line, &cover),
+        Order::Send => run_send(alloc, twin, output, line),
+        Order::Carry(place) => run_carry(alloc, twin, output, line, place),
+        Order::Stop(side) => LineEnd::Stop(side),
+        Order::Get(address) => run_get(alloc, twin, source, output, line, &address),
+    }
+}
+
+/// The order that a line gives, of the catalogue that both sides have.
+fn order_of<K: Keeper, M: Disk, N: Disk>(
+    alloc: Global,
+    twin: &Twin<K, M, N>,
+    text: &[u8],
+) -> Result<Order, Unread>
+    requires ready { IsReady twin.now.outbox.catalogue (standing twin.now.outbox.out twin.now.feed.stand (K.state twin.now.cabinet) twin.now.sent.items) }
+    ensures reads { IsReadAs (order_in twin.now.outbox.catalogue text.now) result }
+    ensures of { IfOk result (IsOrderOf twin.now.outbox.catalogue) }
+{
+    read_order(alloc, twin.cabinet.catalogue(), text)
+}
+
+/// Lets happen what a line orders, and tells what became of it. `line` is its number.
+pub(crate) fn run_line<K: Keeper, M: Disk, N: Disk, S: Source, O: ByteSink>(
+    alloc: Global,
+    twin: &mut Twin<K, M, N>,
+    source: &mut S,
+    output: &mut O,
+    line: u64,
+    text: &[u8],
+) -> LineEnd
+    requires ready { IsReady twin.old.outbox.catalogue (standing twin.old.outbox.out twin.old.feed.stand (K.state twin.old.cabinet) twin.old.sent.items) }
+    ensures runs { RunsOrder twin.old.outbox.catalogue (S.told source.old) (passage (N.told twin.old.outbox.file.disk) (N.state twin.old.outbox.file.disk) (N.state twin.new.outbox.file.disk)) (order_in twin.old.outbox.catalogue text.now) line (record { writes = counts (O.faults output.old) (O.faults output.new); from = O.taken output.old; to = O.taken output.new }) (output.new ≡ output.old)
+        (moment (standing twin.old.outbox.out twin.old.feed.stand (K.state twin.old.cabinet) twin.old.sent.items) (faults (S.faults source.old) (N.faults twin.old.outbox.file.disk) (M.faults twin.old.feed.file.disk) (K.faults twin.old.cabinet)))
+        (moment (standing twin.new.outbox.out twin.new.feed.stand (K.state twin.new.cabinet) twin.new.sent.items) (faults (S.faults source.new) (N.faults twin.new.outbox.file.disk) (M.faults twin.new.feed.file.disk) (K.faults twin.new.cabinet))) result }
+    ensures goes { GoesTo twin.old.outbox.catalogue (S.told source.old) (digest_of twin.old.feed.file.journal) (passage (M.told twin.old.feed.file.disk) (M.state twin.old.feed.file.disk) (M.state twin.new.feed.file.disk))
+        (moment (standing twin.old.outbox.out twin.old.feed.stand (K.state twin.old.cabinet) twin.old.sent.items) (faults (S.faults source.old) (N.faults twin.old.outbox.file.disk) (M.faults twin.old.feed.file.disk) (K.faults twin.old.cabinet)))
+        (moment (standing twin.new.outbox.out twin.new.feed.stand (K.state twin.new.cabinet) twin.new.sent.items) (faults (S.faults source.new) (N.faults twin.new.outbox.file.disk) (M.faults twin.new.feed.file.disk) (K.faults twin.new.cabinet))) }
+    ensures ready { IsReady twin.new.outbox.catalogue (standing twin.new.outbox.out twin.new.feed.stand (K.state twin.new.cabinet) twin.new.sent.items) }
+    ensures catalogue { twin.new.outbox.catalogue ≡ twin.old.outbox.catalogue }
+    ensures posts_told { N.told twin.new.outbox.file.disk ≡ N.told twin.old.outbox.file.disk }
+    ensures marks_told { M.told twin.new.feed.file.disk ≡ M.told twin.old.feed.file.disk }
+    ensures digest { digest_of twin.new.feed.file.journal ≡ digest_of twin.old.feed.file.journal }
+    ensures source_told { S.told source.new ≡ S.told source.old }
+    ensures lasts { Lasting (K.outlasts twin.old.cabinet twin.new.cabinet) (K.state twin.old.cabinet) (K.state twin.new.cabinet) }
+    ensures later { O.faults output.old ≤ O.faults output.new }
+{
+    laws_of_lasting::<K>();
+    match order_of(alloc, twin, text) {
+        Ok(order) => run_order(alloc, twin, source, output, line, order),
+        Err(Unread::Refused) => LineEnd::Refused,
+        Err(Unread::OutOfMemory) => LineEnd::OutOfMemory,
+    }
+}

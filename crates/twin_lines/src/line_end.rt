@@ -1,0 +1,17 @@
+//! How a line ends.
+use crate::order::Side;
+
+/// How a line ended.
+#[derive(Clone, Copy, PartialEq, Eq)]
+pub enum LineEnd {
+    /// Its order was answered, and the answer went out.
+    Told,
+    /// It orders a stop of this side, and nothing happened.
+    Stop(Side),
+    /// It is no event of a lossy link, and nothing happened.
+    Refused,
+    /// Its order was answered, and a write of the answer failed.
+    WriteFault,
+    /// Memory ran out before there was an answer.
+    OutOfMemory,
+}

@@ -1,0 +1,121 @@
+//! The order that a line gives.
+ghost use Rattle.std.specs.Prelude.{◌≡◌, IfOk, IsTrue, drop, length, nat_eq};
+ghost use Rattle.std.specs.List.{starts_with};
+ghost use Rattle.catalog.specs.declared.catalogue.Catalogue.{Catalogue};
+ghost use Rattle.catalog.specs.Valid.{IsValid};
+ghost use Rattle.job_forms.specs.Cover.{cover_of};
+ghost use Rattle.wmts_kvp.specs.Reading.{query_reading};
+ghost use Rattle.twin_lines.specs.Orders.{IsOrderOf, IsReadAs, carry_of, get_in, order_in, post_of, tile_of};
+
+use crate::order::{Order, Side};
+use catalog::catalogue::Catalogue;
+use job_forms::cover::read_cover;
+use job_forms::fault::JobFault;
+use schedule_text::line::LINE_LIMIT;
+use std::alloc::Global;
+use wmts_kvp::number::{is_number, short_number};
+use wmts_kvp::query::{Query, read_query};
+
+/// Why a line gives no order.
+#[derive(Clone, Copy, PartialEq, Eq)]
+pub enum Unread {
+    /// It has none of the forms, or its cover or its query is refused.
+    Refused,
+    /// Memory ran out.
+    OutOfMemory,
+}
+
+/// The post of the cover that a text is.
+fn read_post(alloc: Global, catalogue: &Catalogue, text: &[u8]) -> Result<Order, Unread>
+    requires { IsValid catalogue.now }
+    ensures reads { IsReadAs (post_of (cover_of catalogue.now text.now)) result }
+    ensures of { IfOk result (IsOrderOf catalogue.now) }
+{
+    match read_cover(alloc, catalogue, text) {
+        Ok(cover) => Ok(Order::Post(cover)),
+        Err(JobFault::OutOfMemory) => Err(Unread::OutOfMemory),
+        Err(_) => Err(Unread::Refused),
+    }
+}
+
+/// The carrying of the packet whose place 1 to 18 digits name.
+#[tactic(auto, using(wmts_kvp::proofs::Numbers::digits_of_number))]
+fn read_carry(digits: &[u8]) -> Result<Order, Unread>
+    ensures reads { IsReadAs (carry_of digits.now) result }
+    ensures of { (c : Catalogue) → IfOk result (IsOrderOf c) }
+{
+    if digits.len() > 18 {
+        return Err(Unread::Refused);
+    }
+    if !is_number(digits) {
+        return Err(Unread::Refused);
+    }
+    Ok(Order::Carry(short_number(digits)))
+}
+
+/// The asking for the tile of a query.
+fn read_tile(alloc: Global, catalogue: &Catalogue, query: &[u8]) -> Result<Order, Unread>
+    requires { IsValid catalogue.now }
+    ensures reads { IsReadAs (tile_of (query_reading catalogue.now query.now)) result }
+    ensures of { IfOk result (IsOrderOf catalogue.now) }
+{
+    match read_query(alloc, catalogue, query) {
+        Ok(Query::Tile(address)) => Ok(Order::Get(address)),
+        Ok(_) => Err(Unread::Refused),
+        Err(_) => Err(Unread::OutOfMemory),
+    }
+}
+
+/// The asking for the tile of a query that has no blank.
+fn read_get(alloc: Global, catalogue: &Catalogue, query: &[u8]) -> Result<Order, Unread>
+    requires { IsValid catalogue.now }
+    ensures reads { IsReadAs (get_in catalogue.now query.now) result }
+    ensures of { IfOk result (IsOrderOf catalogue.now) }
+{
+    if query.contains(&b' ') {
+        return Err(Unread::Refused);
+    }
+    read_tile(alloc, catalogue, query)
+}
+
+/// What stands behind a word that a line begins with.
+fn behind<'a>(line: &'a [u8], word: &[u8]) -> &'a [u8]
+    requires { IsTrue (starts_with nat_eq line.now word.now) }
+    ensures { result.now ≡ drop (length word.now) line.now }
+{
+    match line.strip_prefix(word) {
+        Some(text) => text,
+        None => line,
+    }
+}
+
+/// The order that a line gives.
+#[tactic(auto, unfolding(crate::specs::Orders::order_in))]
+pub(crate) fn read_order(alloc: Global, catalogue: &Catalogue, line: &[u8]) -> Result<Order, Unread>
+    requires { IsValid catalogue.now }
+    ensures reads { IsReadAs (order_in catalogue.now line.now) result }
+    ensures of { IfOk result (IsOrderOf catalogue.now) }
+{
+    if line.len() > LINE_LIMIT {
+        return Err(Unread::Refused);
+    }
+    if line.starts_with(b"POST ") {
+        return read_post(alloc, catalogue, behind(line, b"POST "));
+    }
+    if line == b"SEND".as_slice() {
+        return Ok(Order::Send);
+    }
+    if line.starts_with(b"CARRY ") {
+        return read_carry(behind(line, b"CARRY "));
+    }
+    if line == b"STOP L".as_slice() {
+        return Ok(Order::Stop(Side::Leader));
+    }
+    if line == b"STOP F".as_slice() {
+        return Ok(Order::Stop(Side::Follower));
+    }
+    if line.starts_with(b"GET /wmts?") {
+        return read_get(alloc, catalogue, behind(line, b"GET /wmts?"));
+    }
+    Err(Unread::Refused)
+}

@@ -1,0 +1,24 @@
+use Rattle.std.proofs.Common.{sym}
+use Rattle.kept_cache.proofs.Refused.{refusal_leaves}
+use Rattle.tile_service.specs.Outside.{counts}
+use Rattle.twin_words.proofs.cabinets.opened_cabinet.Goals as goal
+
+pub open-requires-clause-ours : goal.open-requires-clause-ours
+open-requires-clause-ours g c = rw c.new.ensures c.requires.ours
+
+pub returns-in-Ok-clause-leaves : goal.returns-in-Ok-clause-leaves
+returns-in-Ok-clause-leaves g c = λ told. rw (sym c.new.ensures) (c.in-Ok.ensures.images (rw c.new.ensures told))
+
+pub returns-in-Err-clause-refused : goal.returns-in-Err-clause-refused
+returns-in-Err-clause-refused g c = record {
+  refused = rw (sym c.new.ensures, c.into_disk.ensures) c.in-Err.ensures.refused;
+  leaves =
+      refusal_leaves c.args.catalogue
+      (record { told = g.D.Disk.told c.args.disk.now; faults = counts (g.D.Disk.faults c.args.disk.now) (g.D.Disk.faults c.into_disk.result.now); from = g.D.Disk.state c.args.disk.now; to = g.D.Disk.state c.into_disk.result.now })
+      c.in-Err.refusal.0
+      (rw (sym c.new.ensures, c.into_disk.ensures) c.in-Err.ensures.refused)
+      (λ told. rw (sym c.new.ensures, c.into_disk.ensures) (c.in-Err.ensures.images (rw c.new.ensures told)));
+}
+
+pub returns-in-Err-clause-refused_leaves : goal.returns-in-Err-clause-refused_leaves
+returns-in-Err-clause-refused_leaves g c = λ told. rw (sym c.new.ensures, c.into_disk.ensures) (c.in-Err.ensures.images (rw c.new.ensures told))

@@ -1,4 +1,0 @@
-use Rattle.worked_cases.proofs.run.status_of.Goals as goal
-
-pub run_command-requires : goal.run_command-requires
-run_command-requires g c = c.requires

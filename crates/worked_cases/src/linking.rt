@@ -1,0 +1,50 @@
+//! The words of a link, run over any objects: what comes over the link is an input, and what goes is an output.
+ghost use Rattle.link_words.specs.Ends.{Handed, IsFitFor};
+ghost use Rattle.link_words.specs.Words.{link_word};
+
+use clock::clock::Clock;
+use disk_model::disk::Disk;
+use exact_ratio::words::Words;
+use http_wire::duplex::{Duplex, Ends};
+use http_wire::links::Link;
+use http_wire::streams::{ByteSink, ByteSource};
+use link_words::ends::LinkingEnd;
+use link_words::link::run_link;
+use std::alloc::Global;
+use std::marker::Brand;
+
+/// Runs the words over a link, and tells their end alone.
+fn end_over<D: Disk, I: ByteSource, L: Link>(
+    alloc: Global,
+    words: &[Words],
+    catalogue: &mut I,
+    link: &mut L,
+    clock: Clock,
+    cache: &mut D,
+    marks: &mut D,
+    outbox: &mut D,
+) -> LinkingEnd
+    requires { IsFitFor (link_word words.now) (I.left catalogue.old) (record { cache_told = D.told cache.old; cache = (D.state cache.old).seen; marks_told = D.told marks.old; marks = (D.state marks.old).seen; outbox_told = D.told outbox.old; outbox = (D.state outbox.old).seen }) }
+{
+    run_link(alloc, words, catalogue, link, clock, cache, marks, outbox)
+}
+
+/// Runs the words over an input and an output, and tells their end alone.
+pub fn linked_end<D: Disk, I: ByteSource, O: ByteSink>(
+    alloc: Global,
+    words: &[Words],
+    catalogue: &mut I,
+    input: &mut I,
+    output: &mut O,
+    clock: Clock,
+    cache: &mut D,
+    marks: &mut D,
+    outbox: &mut D,
+) -> LinkingEnd
+    requires { IsFitFor (link_word words.now) (I.left catalogue.old) (record { cache_told = D.told cache.old; cache = (D.state cache.old).seen; marks_told = D.told marks.old; marks = (D.state marks.old).seen; outbox_told = D.told outbox.old; outbox = (D.state outbox.old).seen }) }
+{
+    let mut link = Duplex::<I, O, Brand>::new(Ends { input, output });
+    end_over(
+        alloc, words, catalogue, &mut link, clock, cache, marks, outbox,
+    )
+}
