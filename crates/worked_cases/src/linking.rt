@@ -5,7 +5,7 @@ ghost use Rattle.link_words.specs.Words.{link_word};
 use clock::clock::Clock;
 use disk_model::disk::Disk;
 use exact_ratio::words::Words;
-use http_wire::duplex::{Duplex, Ends};
+use http_wire::duplex::{Duplex, Ends, Loans};
 use http_wire::links::Link;
 use http_wire::streams::{ByteSink, ByteSource};
 use link_words::ends::LinkingEnd;
@@ -29,6 +29,27 @@ fn end_over<D: Disk, I: ByteSource, L: Link>(
     run_link(alloc, words, catalogue, link, clock, cache, marks, outbox)
 }
 
+/// Runs the words over the link of these two, and tells their end alone.
+fn end_over_both<D: Disk, I: ByteSource, O: ByteSink, L: Loans>(
+    alloc: Global,
+    words: &[Words],
+    catalogue: &mut I,
+    ends: Ends<'_, '_, I, O>,
+    clock: Clock,
+    cache: &mut D,
+    marks: &mut D,
+    outbox: &mut D,
+) -> LinkingEnd
+    requires fit { IsFitFor (link_word words.now) (I.left catalogue.old) (record { cache_told = D.told cache.old; cache = (D.state cache.old).seen; marks_told = D.told marks.old; marks = (D.state marks.old).seen; outbox_told = D.told outbox.old; outbox = (D.state outbox.old).seen }) }
+    requires input { ends.input.ghost_name ≡ L.input }
+    requires output { ends.output.ghost_name ≡ L.output }
+{
+    let mut link = Duplex::<I, O, L>::new(ends);
+    end_over(
+        alloc, words, catalogue, &mut link, clock, cache, marks, outbox,
+    )
+}
+
 /// Runs the words over an input and an output, and tells their end alone.
 pub fn linked_end<D: Disk, I: ByteSource, O: ByteSink>(
     alloc: Global,
@@ -43,8 +64,6 @@ pub fn linked_end<D: Disk, I: ByteSource, O: ByteSink>(
 ) -> LinkingEnd
     requires { IsFitFor (link_word words.now) (I.left catalogue.old) (record { cache_told = D.told cache.old; cache = (D.state cache.old).seen; marks_told = D.told marks.old; marks = (D.state marks.old).seen; outbox_told = D.told outbox.old; outbox = (D.state outbox.old).seen }) }
 {
-    let mut link = Duplex::<I, O, Brand>::new(Ends { input, output });
-    end_over(
-        alloc, words, catalogue, &mut link, clock, cache, marks, outbox,
-    )
+    let ends = Ends { input, output };
+    end_over_both::<D, I, O, Brand>(alloc, words, catalogue, ends, clock, cache, marks, outbox)
 }
