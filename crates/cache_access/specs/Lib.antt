@@ -1,0 +1,3 @@
+pub mod Turned
+pub mod Waits
+pub mod Gets
