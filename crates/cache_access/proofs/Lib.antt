@@ -1,0 +1,4 @@
+pub mod Turning
+pub mod Asked
+pub mod Getting
+pub mod Refreshing
