@@ -10,7 +10,7 @@ use cabinet::keeper::Keeper;
 use cabinet_chest::chest::CabinetChest;
 use cabinet_chest::command::Counts;
 use cache_hall::hall::Hall;
-use cache_hall::refreshed::Refreshed;
+use cache_access::refreshed::Refreshed;
 use fixtures::tiles::{GREY, first_tile};
 use matrix_geometry::address::Address;
 use source_render::numbered::Numbered;
