@@ -1,3 +1,5 @@
 pub mod Turned
 pub mod Waits
 pub mod Gets
+pub mod Alone
+pub mod Stepping

@@ -10,4 +10,5 @@
 #![tactic(auto)]
 
 pub mod access;
+pub mod alone;
 pub mod fault;
