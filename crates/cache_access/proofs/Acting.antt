@@ -55,7 +55,7 @@ module _ {K : Type 0} (state : K → State) (faults : K → ℕ) (outlasts : K �
     pub one_gained : (does : Command) (r : Reply) → Acts (shows k) (shows l) does r → GainsOne leads k l does r
     one_gained does r acts = record {
       turn = made does r;
-      gains = (record { state = refl; later = omega arith; found = refl; left = refl; reply = acts.may false (λ e. absurd (false≢true e)) }, (refl, omega arith));
+      gains = (record { state = refl; later = omega arith; found = refl; left = refl; reply = acts.may }, (refl, omega arith));
       of = record { command = refl; reply = refl };
     }
 

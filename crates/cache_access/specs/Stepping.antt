@@ -1,16 +1,22 @@
 -- Turns of a thread that has a cabinet for itself, one after the other: the laws of an access hold of them.
 -- A tie between the code and its definitions: the promise can be read without it.
 use Rattle.std.proofs.Common.{◌≡◌, ◌≤◌, false, List, [], ◌∷◌, ◌++◌, refl, sym, ap, subst, ◌∙◌, arith}
+use Rattle.std.proofs.lemmas.Bool.{false≢true}
 use Rattle.truncation_list.specs.declared.book.FrontedBook.{FrontedBook}
 use Rattle.truncation_list.specs.Books.{AnswersForFronted}
 use Rattle.truncation_list.proofs.Answering.{fronted_itself}
 use Rattle.cabinet.specs.State.{State, fronted, now}
 use Rattle.cabinet_chest.specs.declared.shown.Note.{Note}
 use Rattle.cabinet_chest.specs.declared.shown.Shown.{Shown}
+use Rattle.cabinet_chest.specs.Replies.{MayReply}
 use Rattle.catalog.specs.declared.catalogue.Catalogue.{Catalogue}
 use Rattle.turnstile.specs.declared.view.Made.{Made}
-use Rattle.cache_access.specs.Alone.{AreSteps}
+use Rattle.cache_access.specs.Alone.{AreSteps, IsStep}
 use Rattle.cache_access.specs.Turned.{AreTurns}
+
+-- the reply of a turn, by who doesn't know whether the cabinet is sound
+pub unsure : (c : Catalogue) (x : Shown) (m : Made Note) → IsStep c x m → MayReply c false m.note.before m.note.after m.note.command m.note.reply
+unsure c x m step = step.reply false (λ e. absurd (false≢true e))
 
 -- NO TURN, AND TURNS AFTER TURNS
 
@@ -19,7 +25,7 @@ steps_none c x = (refl, omega arith)
 
 pub steps_catalogue : (c : Catalogue) (x y : Shown) (ms : List (Made Note)) → AreSteps c x ms y → x.state.catalogue ≡ c → y.state.catalogue ≡ c
 steps_catalogue c x y [] h same = ap (λ (s : State). s.catalogue) h.0 ∙ same
-steps_catalogue c x y (m ∷ ms) h same = steps_catalogue c m.note.after y ms h.1 (h.0.reply.goes_on.same_catalogue ∙ h.0.reply.catalogue)
+steps_catalogue c x y (m ∷ ms) h same = steps_catalogue c m.note.after y ms h.1 ((unsure c x m h.0).goes_on.same_catalogue ∙ (unsure c x m h.0).catalogue)
 
 -- turns from a state that was left as it was are turns from that
 steps_from : (c : Catalogue) (x y z : Shown) (ns : List (Made Note)) → y.state ≡ x.state → x.faults ≤ y.faults → AreSteps c y ns z → AreSteps c x ns z
@@ -43,7 +49,7 @@ steps_are_turns c x y (m ∷ ms) h = (
     found = h.0.found;
     left = h.0.left;
     answers = subst (λ (b : FrontedBook). AnswersForFronted b (fronted (now x.state))) (sym (h.0.found ∙ ap (λ (s : State). fronted (now s)) h.0.state)) (fronted_itself (fronted (now x.state)));
-    reply = h.0.reply;
+    reply = unsure c x m h.0;
   },
   steps_are_turns c m.note.after y ms h.1,
 )
