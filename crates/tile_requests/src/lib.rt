@@ -11,6 +11,7 @@ pub mod dropped;
 pub mod events;
 pub mod head;
 pub mod immediate;
+pub mod laws;
 pub mod message_ref;
 pub mod numbers;
 pub mod outcome;
