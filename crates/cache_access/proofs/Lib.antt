@@ -1,3 +1,5 @@
+pub mod Resting
+pub mod Acting
 pub mod Turning
 pub mod Asked
 pub mod Getting

@@ -9,6 +9,7 @@
 #![tactic(auto)]
 
 pub mod access;
+pub mod alone;
 pub mod fault;
 pub mod get;
 mod making;

@@ -4,3 +4,6 @@ pub mod Joined
 pub mod Known
 pub mod Moving
 pub mod Opening
+pub mod LoneTurns
+pub mod LoneRuns
+pub mod LoneRefreshes

@@ -1,13 +1,19 @@
 -- What events of one request came to.
 -- A tie between the code and its definitions: the promise can be read without it.
-use Rattle.std.specs.Prelude.{ℕ, ◌≡◌, ◌≤◌, ◌+◌, true, false, length, Option, Some, None, ◌⊎◌}
+use Rattle.std.specs.Prelude.{ℕ, ◌≡◌, ◌≤◌, ◌+◌, Bool, true, false, length, Result, Ok, Err, Option, Some, None, ◌⊎◌}
 use Rattle.cabinet.specs.State.{State, IsSound}
+use Rattle.cache_access.specs.declared.fault.GetFault.{GetFault}
+use Rattle.cache_access.specs.declared.fault.GetFault.TheVariants as fault
+use Rattle.cache_access.specs.declared.refreshed.Refreshed.{Refreshed}
+use Rattle.cache_access.specs.Refreshes.{number_of}
 use Rattle.cache_core.specs.declared.actor.Actor.{Actor}
 use Rattle.cache_core.specs.declared.actor.Actor.TheVariants as actor
 use Rattle.cache_core.specs.declared.actor.Step.{Step}
+use Rattle.cache_core.specs.declared.outcome.Tile.{Tile}
 use Rattle.cache_core.specs.declared.outcome.TileOutcome.{TileOutcome}
 use Rattle.cache_core.specs.declared.outcome.TileOutcome.TheVariants as outcome
 use Rattle.cache_core.specs.Advanced.{Advances}
+use Rattle.cache_core.specs.Begun.{Begins}
 use Rattle.cache_core.specs.Fits.{IsFit, IsTrueActor, IsTrueOutcome, IsFreshActor, IsFreshOutcome, Extends}
 use Rattle.cache_core.specs.Shown.{shown, IsIdle}
 use Rattle.causes.specs.Causes.{RoseBy}
@@ -60,3 +66,37 @@ pub record Opens (told : Option ℕ) (before after disk_before disk_after : ℕ)
   pub disk_later : disk_before ≤ disk_after
   pub disk_cause : RoseBy (disk_faults_in chance) disk_before disk_after
   pub moves : Moves told before after s actor.Idle a (length s.history) step t
+
+-- ONE AFTER ANOTHER, of a thread that has the cabinet for itself
+
+-- the step at which a request has its outcome
+abbrev pub ended_so : TileOutcome → Step
+ended_so o = record { actor = actor.Idle; outcome = Some o }
+
+-- From s to t a request for the tile, with force or without, had this outcome, by an ask or a force and two events more, if there was work
+-- for them, while the source and the disk went from one count of faults to another. What the events say of a modelled source is left out.
+pub record RunsTo (before after disk_before disk_after : ℕ) (s : State) (a : Address) (force : Bool) (o : TileOutcome) (t : State) : Type 0 where
+  pub asked : Step
+  pub at_ask : State
+  pub disk_asked : ℕ
+  pub begins : Begins disk_before disk_asked s a force asked at_ask
+  pub rendered : Step
+  pub at_render : State
+  pub mid : ℕ
+  pub disk_mid : ℕ
+  pub renders : GoesFurther None before mid disk_asked disk_mid at_ask asked rendered at_render
+  pub ends : GoesFurther None mid after disk_mid disk_after at_render rendered (ended_so o) t
+
+-- the outcome of a request whose get came to this
+abbrev pub ended_by : Result Tile GetFault → TileOutcome
+ended_by (Ok tile) = outcome.Tile tile
+ended_by (Err fault.SourceFault) = outcome.SourceFailed
+ended_by (Err fault.Spent) = outcome.Spent
+ended_by (Err fault.OutOfMemory) = outcome.NoMemory
+
+-- a request whose refresh came to this has such an outcome: of a tile, the number is said
+abbrev pub EndsAs : Result Refreshed GetFault → TileOutcome → Type 0
+EndsAs (Ok x) o = (tile : Tile) × (o ≡ outcome.Tile tile) × (tile.number ≡ number_of x)
+EndsAs (Err fault.SourceFault) o = o ≡ outcome.SourceFailed
+EndsAs (Err fault.Spent) o = o ≡ outcome.Spent
+EndsAs (Err fault.OutOfMemory) o = o ≡ outcome.NoMemory

@@ -2,8 +2,9 @@
 //!
 //! Promises: a message is led by the table of paths (`specs/Routes.antt`); the events of a request for a tile in one line are
 //! those of its mode, and a truncation, an expiry and what is kept are those of the cabinet (`specs/Requests.antt`,
-//! `specs/Texts.antt`); each outcome has its response (`specs/Response.antt`), whose head takes no memory.
-//! Stands on cabinet, cache_core, source_render, job_forms, exception_report, wmts_kvp, wmts_rest and http_wire.
+//! `specs/Texts.antt`); each outcome has its response (`specs/Response.antt`), whose head takes no memory. What a thread that has a cabinet
+//! for itself gets or refreshes by cache_access is the run of those events (`laws`).
+//! Stands on cabinet, cache_core, cache_access, source_render, job_forms, exception_report, wmts_kvp, wmts_rest and http_wire.
 #![tactic(auto)]
 
 pub mod commands;
@@ -11,6 +12,7 @@ pub mod dropped;
 pub mod events;
 pub mod head;
 pub mod immediate;
+pub mod laws;
 pub mod message_ref;
 pub mod numbers;
 pub mod outcome;

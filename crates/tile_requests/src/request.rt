@@ -1,8 +1,10 @@
 //! What messages ask for, and the ways in which a tile is asked for.
 ghost use Rattle.std.specs.Prelude.{◌≡◌};
+ghost use Rattle.tile_requests.specs.Events.{ended_by};
 ghost use Rattle.tile_requests.specs.Requests.{outcome_of};
 
 use crate::outcome::Outcome;
+use cache_access::fault::GetFault;
 use cache_core::outcome::{Tile, TileOutcome};
 use exception_report::code::{Code, Locator};
 use job_forms::fault::JobFault;
@@ -52,5 +54,17 @@ pub fn outcome_of(outcome: TileOutcome) -> Outcome
         TileOutcome::SourceFailed => Outcome::SourceFailed,
         TileOutcome::Spent => Outcome::Spent,
         TileOutcome::NoMemory => Outcome::NoMemory,
+    }
+}
+
+/// The outcome of a request for a tile whose get came to this.
+pub fn outcome_of_get(got: Result<Tile, GetFault>) -> Outcome
+    ensures { result ≡ outcome_of (ended_by got) }
+{
+    match got {
+        Ok(Tile { hit, number, bytes }) => Outcome::Tile(hit, number, bytes),
+        Err(GetFault::SourceFault) => Outcome::SourceFailed,
+        Err(GetFault::Spent) => Outcome::Spent,
+        Err(GetFault::OutOfMemory) => Outcome::NoMemory,
     }
 }

@@ -10,18 +10,18 @@ ghost use Rattle.tile_service.specs.Session.{IsAtRest};
 
 use crate::counter::Counter;
 use cabinet::keeper::Keeper;
-use cache_core::actor::Step;
+use cache_access::alone::Alone;
+use cache_access::get::get;
 use cache_core::laws::laws_of_lasting;
-use cache_core::steps::give_up;
 use http_wire::message::Message;
 use matrix_geometry::address::Address;
 use source_render::source::Source;
 use std::alloc::Global;
-use tile_requests::events::events;
 use tile_requests::immediate::immediate;
+use tile_requests::laws::laws_of_lone_threads;
 use tile_requests::message_ref::MessageRef;
 use tile_requests::outcome::Outcome;
-use tile_requests::request::{Mode, Request, outcome_of};
+use tile_requests::request::{Request, outcome_of_get};
 use tile_requests::routes::read_request;
 
 /// Serves a request for a tile, in a cabinet in which no render runs: it is asked for, rendered and finished.
@@ -31,21 +31,16 @@ fn serve_tile<C: Keeper, S: Source>(
     source: &mut S,
     address: &Address,
 ) -> Outcome
+    requires valid { IsValid (C.state cabinet.old).catalogue }
     requires tile { IsTile (C.state cabinet.old).catalogue address.now }
     requires rest { IsAtRest (C.state cabinet.old) }
     ensures got { IsGot (S.told source.old) (S.faults source.old) (S.faults source.new) (counts (C.faults cabinet.old) (C.faults cabinet.new)) (C.state cabinet.old) address.now result (C.state cabinet.new) }
     ensures told { S.told source.new ≡ S.told source.old }
     ensures lasts { Lasting (C.outlasts cabinet.old cabinet.new) (C.state cabinet.old) (C.state cabinet.new) }
 {
-    laws_of_lasting::<C>();
-    let Step { actor, outcome } = events(alloc, cabinet, source, address, Mode::Gets);
-    match outcome {
-        None => unreachable!(),
-        Some(ended) => {
-            give_up(cabinet, actor);
-            outcome_of(ended)
-        }
-    }
+    laws_of_lone_threads();
+    let way = Alone::new();
+    outcome_of_get(get(&way, alloc, cabinet, source, address))
 }
 
 /// Serves a message of a session: a tile is asked for, rendered and finished. Where memory runs out, its outcome says so.
