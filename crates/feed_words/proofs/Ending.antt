@@ -13,7 +13,7 @@ use Rattle.kept_cache.specs.Change.{DiskChange, OutputChange}
 use Rattle.kept_cache.specs.declared.end.KeptEnd.{KeptEnd}
 use Rattle.kept_cache.specs.declared.end.KeptEnd.TheVariants as end
 use Rattle.kept_cache.specs.Opened.{HasOpened, RefusalLeaves, end_of_refusal}
-use Rattle.tile_service.specs.Outside.{InputChange, counts}
+use Rattle.sessions.specs.Outside.{InputChange, counts}
 use Rattle.feed_words.specs.declared.lines.LinesEnd.{LinesEnd}
 use Rattle.feed_words.specs.declared.lines.LinesEnd.TheVariants as lines_end
 use Rattle.feed_words.specs.Ends.{Feeds, FeedsOn, HasFed, HasFedLines, HasFedNone}

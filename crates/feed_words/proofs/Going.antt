@@ -19,7 +19,7 @@ use Rattle.kept_cache.specs.Change.{OutputChange}
 use Rattle.served_covers.specs.OfCatalogue.{IsCoverOf}
 use Rattle.tile_requests.proofs.Known.{appends_more, appends_nothing}
 use Rattle.tile_service.specs.Lines.{lines_of}
-use Rattle.tile_service.specs.Outside.{counts}
+use Rattle.sessions.specs.Outside.{counts}
 use Rattle.feed_words.specs.declared.line.LineEnd.TheVariants as line_end
 use Rattle.feed_words.specs.declared.lines.LinesEnd.TheVariants as lines_end
 use Rattle.feed_words.specs.Fed.{HasRunLines}

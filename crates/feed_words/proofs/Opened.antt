@@ -16,7 +16,7 @@ use Rattle.kept_cache.specs.declared.end.KeptEnd.{KeptEnd}
 use Rattle.kept_cache.specs.declared.end.KeptEnd.TheVariants as end
 use Rattle.kept_cache.specs.Opened.{end_of_refusal}
 use Rattle.tile_service.specs.Lines.{lines_of}
-use Rattle.tile_service.specs.Outside.{FaultCounts, InputChange}
+use Rattle.sessions.specs.Outside.{FaultCounts, InputChange}
 use Rattle.feed_words.proofs.Going.{decided_in}
 use Rattle.feed_words.specs.declared.lines.LinesEnd.{LinesEnd}
 use Rattle.feed_words.specs.declared.lines.LinesEnd.TheVariants as lines_end

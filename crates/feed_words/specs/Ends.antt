@@ -23,7 +23,7 @@ use Rattle.kept_cache.specs.Change.{DiskChange, HasFailed, HasWritten, IsCutShor
 use Rattle.kept_cache.specs.Crash.{LastsThrough, OpeningLeaves}
 use Rattle.kept_cache.specs.Opened.{HasOpened, IsRefused, RefusalLeaves}
 use Rattle.tile_service.specs.Lines.{lines_of}
-use Rattle.tile_service.specs.Outside.{FaultCounts, InputChange}
+use Rattle.sessions.specs.Outside.{FaultCounts, InputChange}
 use Rattle.feed_words.specs.declared.lines.LinesEnd.{LinesEnd}
 use Rattle.feed_words.specs.declared.lines.LinesEnd.TheVariants as lines_end
 use Rattle.feed_words.specs.declared.words.FeedWord.{FeedWord}

@@ -15,11 +15,11 @@ use Rattle.tile_requests.specs.declared.outcome.Outcome.{Outcome}
 use Rattle.tile_requests.specs.Requests.{answered_at}
 use Rattle.tile_requests.specs.Response.{response}
 use Rattle.tile_requests.proofs.Known.{appends_more, appends_nothing}
-use Rattle.tile_service.specs.Coming.{Wire}
-use Rattle.tile_service.specs.OneLine.{MayTell}
+use Rattle.sessions.specs.Coming.{Wire}
+use Rattle.sessions.specs.Responses.{MayTell}
 use Rattle.tile_service.specs.Run.{Answer}
 use Rattle.tile_service.specs.Session.{reply_text, replies}
-use Rattle.tile_service.specs.SessionEnds.{AreOpen}
+use Rattle.sessions.specs.SessionEnds.{AreOpen}
 use Rattle.tile_service.proofs.Replaying.{Sending, stand_none}
 use Rattle.hall_sessions.specs.Exchanges.{answer_of}
 use Rattle.hall_sessions.specs.Served.{Serves}

@@ -8,7 +8,7 @@ ghost use Rattle.hall_sessions.specs.Served.{Serves};
 ghost use Rattle.job_board.specs.Calls.{IsBoardPass};
 ghost use Rattle.tile_requests.specs.Response.{response};
 ghost use Rattle.tile_requests.specs.Sent.{AppendsFront};
-ghost use Rattle.tile_service.specs.OneLine.{MayTell};
+ghost use Rattle.sessions.specs.Responses.{MayTell};
 
 use crate::requests::serve;
 use crate::world::World;
@@ -22,8 +22,8 @@ use source_render::source::Source;
 use std::alloc::Global;
 use std::sync::Wait;
 use tile_requests::outcome::Outcome;
-use tile_service::answer::write_response;
-use tile_service::session::closes;
+use sessions::responses::write_response;
+use sessions::session::closes;
 use turnstile::pass::Pass;
 
 /// Serves the message at a place of its session, counted from 1, and writes its response. `Sent` where a write failed.

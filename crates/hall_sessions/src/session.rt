@@ -4,7 +4,7 @@ ghost use Rattle.cache_hall.specs.Turned.{IsPassOf};
 ghost use Rattle.catalog.specs.Valid.{IsValid};
 ghost use Rattle.hall_sessions.specs.Sessions.{HasHallSession, output_of};
 ghost use Rattle.job_board.specs.Calls.{IsBoardPass};
-ghost use Rattle.tile_service.specs.Outside.{counts};
+ghost use Rattle.sessions.specs.Outside.{counts};
 
 use crate::responding::respond;
 use crate::world::World;
@@ -16,8 +16,8 @@ use job_board::board::BoardPass;
 use source_render::source::Source;
 use std::alloc::Global;
 use std::sync::Wait;
-use tile_service::coming::next_message;
-use tile_service::session::{SESSION_LIMIT, SessionEnd};
+use sessions::coming::next_message;
+use sessions::session::{SESSION_LIMIT, SessionEnd};
 use turnstile::pass::Pass;
 
 /// Serves the messages of one connection (RFC 9112) over a hall and a board of jobs, in order, each before the next is looked for, at

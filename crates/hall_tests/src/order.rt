@@ -16,7 +16,8 @@ use source_render::numbered::Numbered;
 use std::alloc::{AllocError, Global};
 use std::test::Fail;
 use tile_service::counter::Counter;
-use tile_service::session::{SessionEnd, replay_session};
+use sessions::session::SessionEnd;
+use tile_service::session::replay_session;
 use wmts_rest::table::RestTable;
 
 /// A connection in memory that notes, at each take, how many bytes have been put by then.

@@ -17,7 +17,7 @@ use Rattle.kept_cache.specs.Change.{DiskChange, HasFailed, HasWritten, IsCutShor
 use Rattle.kept_cache.specs.Crash.{OpeningLeaves}
 use Rattle.kept_cache.specs.Opened.{HasOpened, IsRefused, RefusalLeaves}
 use Rattle.kept_cache.specs.Saving.{SavesAll}
-use Rattle.tile_service.specs.Outside.{FaultCounts, InputChange, Outside}
+use Rattle.sessions.specs.Outside.{FaultCounts, InputChange, Outside}
 
 -- THE TEXT of a tally
 

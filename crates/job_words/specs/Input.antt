@@ -10,7 +10,7 @@ use Rattle.jobs.specs.declared.job.Job.{Job}
 use Rattle.jobs.specs.Reading.{job_of}
 use Rattle.kept_cache.specs.declared.end.KeptEnd.{KeptEnd}
 use Rattle.kept_cache.specs.declared.end.KeptEnd.TheVariants as end
-use Rattle.tile_service.specs.Outside.{InputChange}
+use Rattle.sessions.specs.Outside.{InputChange}
 
 -- the input was read to its end, and its text, of at most 65,536 bytes, comes to this
 pub record IsRead (c : Catalogue) (i : InputChange) (Comes : Outcome Job → Type 0) : Type 0 where

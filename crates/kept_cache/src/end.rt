@@ -1,7 +1,7 @@
 //! How a word ended.
 use gate_journal::fault::OpenFault;
 use job_forms::fault::JobFault;
-use tile_service::session::SessionEnd;
+use sessions::session::SessionEnd;
 
 /// How a word on the cache of a disk ended.
 #[derive(Clone, Copy, PartialEq, Eq)]

@@ -3,7 +3,7 @@ ghost use Rattle.std.specs.Prelude.{◌≡◌, ◌≤◌, ◌++◌, decimal, len
 ghost use Rattle.arrayvec.specs.ArrayVec.{array_vec_len};
 ghost use Rattle.kept_cache.specs.Change.{OutputChange};
 ghost use Rattle.kept_cache.specs.Texts.{Sends};
-ghost use Rattle.tile_service.specs.Outside.{counts};
+ghost use Rattle.sessions.specs.Outside.{counts};
 
 use crate::end::KeptEnd;
 use arrayvec::ArrayVec;

@@ -18,7 +18,7 @@ use Rattle.kept_cache.specs.Texts.{Sends}
 use Rattle.kept_words.specs.Covers.{IsCoverIn}
 use Rattle.kept_words.specs.Ends.{CutsOnce, TellsCut, TellsUsage, Truncates}
 use Rattle.tile_requests.specs.Texts.{usage_text}
-use Rattle.tile_service.specs.Outside.{InputChange}
+use Rattle.sessions.specs.Outside.{InputChange}
 use Rattle.truncation_list.specs.declared.cover.Cover.{Cover}
 
 -- the one cut, by its reply and how that was told

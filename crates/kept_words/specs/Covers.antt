@@ -10,7 +10,7 @@ use Rattle.job_forms.specs.Outcome.{Fails, Outcome}
 use Rattle.kept_cache.specs.declared.end.KeptEnd.{KeptEnd}
 use Rattle.kept_cache.specs.declared.end.KeptEnd.TheVariants as end
 use Rattle.kept_words.specs.declared.cover_input.TheConstants.{COVER_LIMIT}
-use Rattle.tile_service.specs.Outside.{InputChange}
+use Rattle.sessions.specs.Outside.{InputChange}
 use Rattle.truncation_list.specs.declared.cover.Cover.{Cover}
 
 -- the input was read to its end, and its text comes to this

@@ -23,7 +23,7 @@ use Rattle.kept_words.specs.Covers.{IsCoverIn, IsFormedSo, IsTooLong}
 use Rattle.kept_words.specs.Texts.{cut_text, dropped_text, made_text}
 use Rattle.metatile_plan.specs.declared.metatile.MetaKey.{MetaKey}
 use Rattle.tile_requests.specs.Texts.{usage_text}
-use Rattle.tile_service.specs.Outside.{InputChange}
+use Rattle.sessions.specs.Outside.{InputChange}
 use Rattle.truncation_list.specs.declared.cover.Cover.{Cover}
 
 -- USAGE: `Stays` is that the output stays as it is

@@ -11,12 +11,12 @@ use Rattle.kept_cache.specs.Opened.{HasOpened, IsRefused, RefusalLeaves}
 use Rattle.kept_cache.specs.Saving.{SavesAll}
 use Rattle.tile_service.specs.declared.schedule.ScheduleEnd.{ScheduleEnd}
 use Rattle.tile_service.specs.declared.schedule.ScheduleEnd.TheVariants as schedule
-use Rattle.tile_service.specs.declared.session.SessionEnd.{SessionEnd}
-use Rattle.tile_service.specs.declared.session.SessionEnd.TheVariants as session
-use Rattle.tile_service.specs.Outside.{InputChange, Outside}
+use Rattle.sessions.specs.declared.session.SessionEnd.{SessionEnd}
+use Rattle.sessions.specs.declared.session.SessionEnd.TheVariants as session
+use Rattle.sessions.specs.Outside.{InputChange, Outside}
 use Rattle.tile_service.specs.Run.{World, free_seats, world_of}
 use Rattle.tile_service.specs.Schedules.{SchedulesThrough}
-use Rattle.tile_service.specs.SessionEnds.{HasSessionThrough}
+use Rattle.tile_service.specs.Replays.{HasSessionThrough}
 
 -- In what follows the faults of the disk are counted over the whole word, from before the opening until after the saving. `P` is said of the cabinet after
 -- each line of a schedule and after each message of a session.

@@ -8,7 +8,7 @@ ghost use Rattle.durable_cabinet.specs.Images.{IsOurs};
 ghost use Rattle.kept_cache.specs.Change.{DiskChange, OutputChange};
 ghost use Rattle.kept_cache.specs.Crash.{LastsThrough};
 ghost use Rattle.kept_words.specs.Ends.{Drops, DropsAll, TellsDropped};
-ghost use Rattle.tile_service.specs.Outside.{counts};
+ghost use Rattle.sessions.specs.Outside.{counts};
 
 use cabinet::keeper::Keeper;
 use cabinet::laws::laws_of_rows;

@@ -3,7 +3,7 @@ ghost use Rattle.std.specs.Prelude.{◌≡◌};
 ghost use Rattle.catalog.specs.Valid.{IsValid};
 ghost use Rattle.kept_cache.specs.Change.{DiskChange, OutputChange};
 ghost use Rattle.kept_words.specs.Ends.{Makes};
-ghost use Rattle.tile_service.specs.Outside.{counts};
+ghost use Rattle.sessions.specs.Outside.{counts};
 
 use arrayvec::ArrayVec;
 use catalog::catalogue::Catalogue;

@@ -7,10 +7,10 @@ ghost use Rattle.kept_cache.specs.Change.{DiskChange};
 ghost use Rattle.kept_cache.specs.Crash.{LastsThrough};
 ghost use Rattle.kept_cache.specs.Passing.{PassesDisk};
 ghost use Rattle.kept_words.specs.Runs.{RunsSession, ServesAndSaves, end_of_session};
-ghost use Rattle.tile_service.specs.Outside.{InputChange, Outside, counts};
+ghost use Rattle.sessions.specs.Outside.{InputChange, Outside, counts};
 ghost use Rattle.tile_service.specs.Passing.{LeadsThrough};
 ghost use Rattle.tile_service.specs.Session.{IsAtRest};
-ghost use Rattle.tile_service.specs.SessionEnds.{HasSessionThrough};
+ghost use Rattle.tile_service.specs.Replays.{HasSessionThrough};
 
 use cabinet::keeper::Keeper;
 use cache_core::laws::laws_of_lasting;
@@ -29,7 +29,8 @@ use source_render::source::Source;
 use std::alloc::Global;
 use std::marker::Brand;
 use tile_service::counter::Counter;
-use tile_service::session::{SessionEnd, replay_session};
+use sessions::session::SessionEnd;
+use tile_service::session::replay_session;
 use wmts_rest::table::RestTable;
 
 /// Opens the cache of the disk, serves the bytes of the input as those of one connection with it, writes the responses, and saves the

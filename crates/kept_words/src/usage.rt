@@ -6,7 +6,7 @@ ghost use Rattle.kept_cache.specs.Change.{DiskChange, OutputChange};
 ghost use Rattle.kept_cache.specs.Crash.{LastsThrough};
 ghost use Rattle.kept_words.specs.Ends.{TellsUsage};
 ghost use Rattle.tile_requests.specs.Texts.{usage_text};
-ghost use Rattle.tile_service.specs.Outside.{counts};
+ghost use Rattle.sessions.specs.Outside.{counts};
 
 use arrayvec::ArrayVec;
 use cabinet::keeper::Keeper;

@@ -10,7 +10,7 @@ use Rattle.kept_cache.specs.Change.{DiskChange}
 use Rattle.kept_cache.specs.declared.end.KeptEnd.{KeptEnd}
 use Rattle.tile_command.specs.Change.{Stays}
 use Rattle.tile_command.specs.Statuses.{status_of_kept, status_of_refusal}
-use Rattle.tile_service.specs.Outside.{InputChange, Outside}
+use Rattle.sessions.specs.Outside.{InputChange, Outside}
 
 -- what each status says of a job: the catalogue was refused and nothing else was touched, or it was read and the word ended
 abbrev pub JobTells : InputChange → InputChange → Outside → Stays → DiskChange → Type 0 → Readings → Status → Type 0

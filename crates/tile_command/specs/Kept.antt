@@ -17,7 +17,7 @@ use Rattle.kept_words.specs.Ends.{DropsAll, Makes, TellsUsage, Truncates}
 use Rattle.kept_words.specs.Runs.{RunsSchedule, RunsSession}
 use Rattle.tile_command.specs.Change.{CommandChange, IsUnready, Stays, WithBoth}
 use Rattle.tile_command.specs.Statuses.{status_of_kept, status_of_refusal}
-use Rattle.tile_service.specs.Outside.{InputChange, Outside}
+use Rattle.sessions.specs.Outside.{InputChange, Outside}
 
 -- RUNS, with P of the cabinet after each line of a schedule and after each message of a session
 

@@ -10,11 +10,11 @@ use Rattle.tile_command.specs.Statuses.{status_of_drill, status_of_schedule, sta
 use Rattle.tile_drill.specs.declared.drill.DrillEnd.{DrillEnd}
 use Rattle.tile_drill.specs.Drill.{Drills}
 use Rattle.tile_service.specs.declared.schedule.ScheduleEnd.{ScheduleEnd}
-use Rattle.tile_service.specs.declared.session.SessionEnd.{SessionEnd}
-use Rattle.tile_service.specs.Outside.{InputChange, Outside}
+use Rattle.sessions.specs.declared.session.SessionEnd.{SessionEnd}
+use Rattle.sessions.specs.Outside.{InputChange, Outside}
 use Rattle.tile_service.specs.Run.{World, free_seats, world_of}
 use Rattle.tile_service.specs.Schedules.{Schedules}
-use Rattle.tile_service.specs.SessionEnds.{HasSession}
+use Rattle.tile_service.specs.Replays.{HasSession}
 
 -- What a word asks for was done with a cabinet and a capabilities document, and this is the status of its end. The cabinet after it
 -- is one that commands can make. A drill reads no input.

@@ -7,7 +7,7 @@ ghost use Rattle.tile_command.specs.Causes.{HasCause, IsComplete};
 ghost use Rattle.tile_command.specs.Change.{CommandChange, Stays};
 ghost use Rattle.tile_command.specs.Command.{HasLastedBy, HasServed, IsFitFor};
 ghost use Rattle.tile_command.specs.Exact.{IsExact};
-ghost use Rattle.tile_service.specs.Outside.{InputChange, Outside, counts};
+ghost use Rattle.sessions.specs.Outside.{InputChange, Outside, counts};
 
 use crate::job::job_run;
 use crate::kept::on_disk;

@@ -7,7 +7,7 @@ use command_status::status::Status;
 use kept_cache::end::KeptEnd;
 use tile_drill::drill::DrillEnd;
 use tile_service::schedule::ScheduleEnd;
-use tile_service::session::SessionEnd;
+use sessions::session::SessionEnd;
 
 /// The status of what was refused before the work.
 pub fn status_of_refusal(refusal: Unconfigured) -> Status

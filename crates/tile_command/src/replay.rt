@@ -1,9 +1,9 @@
 //! An input served as the bytes of one connection, with the responses written to an output.
 ghost use Rattle.std.specs.Prelude.{◌≡◌};
 ghost use Rattle.catalog.specs.Valid.{IsValid};
-ghost use Rattle.tile_service.specs.Outside.{InputChange, Outside, counts};
+ghost use Rattle.sessions.specs.Outside.{InputChange, Outside, counts};
 ghost use Rattle.tile_service.specs.Session.{IsAtRest};
-ghost use Rattle.tile_service.specs.SessionEnds.{HasSession};
+ghost use Rattle.tile_service.specs.Replays.{HasSession};
 
 use cabinet::cabinet::Cabinet;
 use http_wire::duplex::{Duplex, Ends, Loans};
@@ -12,7 +12,8 @@ use source_render::source::Source;
 use std::alloc::Global;
 use std::marker::Brand;
 use tile_service::counter::Counter;
-use tile_service::session::{SessionEnd, replay_session};
+use sessions::session::SessionEnd;
+use tile_service::session::replay_session;
 
 /// Serves the bytes of the input as those of one connection, and writes the responses to the output. No render may run in the
 /// cabinet. Each end comes as `SessionEnd` says.

@@ -5,7 +5,7 @@ ghost use Rattle.kept_cache.specs.Change.{DiskChange, OutputChange};
 ghost use Rattle.tile_command.specs.Change.{Stays};
 ghost use Rattle.tile_command.specs.Command.{IsFitForUpkeep, IsFitUnder};
 ghost use Rattle.tile_command.specs.Kept.{HasKeptUp, StepLasts, UpkeepLasts, UpkeepTells};
-ghost use Rattle.tile_service.specs.Outside.{InputChange, counts};
+ghost use Rattle.sessions.specs.Outside.{InputChange, counts};
 
 use crate::ends::{status_of_kept, status_of_refusal};
 use catalog::catalogue::Catalogue;

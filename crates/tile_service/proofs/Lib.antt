@@ -13,8 +13,6 @@ pub mod Scheduling
 pub mod Leaving
 pub mod Closing
 pub mod SoFar
-pub mod Awaited
 pub mod Replaying
-pub mod Ending
 pub mod Shapes
 pub mod Faultless

@@ -1,176 +1,111 @@
--- A session that is under way: one message more, whose answer was written.
-use Rattle.std.proofs.Common.{◌≡◌, ℕ, ◌+◌, Bool, true, false, List, [], ◌∷◌, ◌++◌, length, Option, Some, None, inl, inr, refl, subst, append-nil, ◌∙◌}
-use Rattle.std.specs.Io.KnownBytes.{Appends, prepend_known}
-use Rattle.std.proofs.lemmas.Grind.{flat_map-append}
+-- A session that a counter served: what its exchanges come to.
+use Rattle.std.proofs.Common.{◌≡◌, ℕ, ◌+◌, List, [], ◌∷◌, ◌++◌, map, Option, refl, sym, ap, subst, ◌∙◌, append_assoc, append-nil}
+use Rattle.std.specs.Io.KnownBytes.{prepend_known}
+use Rattle.std.proofs.lemmas.List.{map-append}
 use Rattle.cabinet.specs.State.{State}
-use Rattle.http_wire.specs.Answers.{TakesMessage}
-use Rattle.http_wire.specs.Reader.{Reading}
-use Rattle.http_wire.specs.Streams.{StandIn}
 use Rattle.http_wire.specs.declared.message.Message.{Message}
-use Rattle.http_wire.proofs.StreamGrows.{stand_in_more}
 use Rattle.tile_requests.specs.declared.outcome.Outcome.{Outcome}
-use Rattle.tile_service.specs.Coming.{Wire}
-use Rattle.tile_service.specs.OneLine.{MayTell}
-use Rattle.tile_requests.specs.Requests.{answered_at}
-use Rattle.tile_requests.specs.Response.{response}
-use Rattle.tile_service.specs.Outside.{InputChange, Outside, counts}
+use Rattle.sessions.specs.declared.session.SessionEnd.{SessionEnd}
+use Rattle.sessions.specs.Exchanges.{AreServed, Exchange, Standing, messages_of, response_at, responses_of}
+use Rattle.sessions.specs.Outside.{FaultCounts, InputChange, Outside, OutputChange, counts}
+use Rattle.sessions.specs.SessionEnds.{Ends}
+use Rattle.sessions.specs.Sessions.{IsHeld}
+use Rattle.tile_service.specs.Passing.{LeadsThrough}
+use Rattle.tile_service.specs.Replays.{HasSessionThrough}
 use Rattle.tile_service.specs.Run.{Answer}
-use Rattle.tile_service.specs.Serving.{Serves}
-use Rattle.tile_service.specs.Session.{reply_text, replies}
-use Rattle.tile_service.specs.SessionEnds.{AreOpen, HasSessionThrough}
-use Rattle.tile_service.specs.declared.session.SessionEnd.{SessionEnd}
-use Rattle.tile_requests.proofs.Known.{appends_more, appends_nothing}
-use Rattle.tile_service.proofs.Passing.{ServedSoFar}
-use Rattle.tile_service.proofs.SoFar.{HasServed, served_start, served_next, the_answer}
+use Rattle.tile_service.specs.Serving.{Serves, ServesAndLasts}
+use Rattle.tile_service.specs.Session.{reply_text, responses}
+use Rattle.tile_service.proofs.Passing.{Lasts, leads_here, leads_on}
+use Rattle.tile_service.proofs.SoFar.{HasServedThrough, is_served, served_next, served_start, the_answer}
 
--- MOMENTS
+module _ {K Counter Jobs : Type 0} (Outlasts : K → K → Type 0) (state : K → State) (faults : K → ℕ) (keeper : Counter → K) (document : Counter → List ℕ) (told : Option ℕ) where
+  abbrev Serving : Message → Outcome → Standing Counter Jobs → Standing Counter Jobs → Type 0
+  Serving = ServesAndLasts Outlasts state faults keeper document told
 
--- how all stands at a moment of a session: what is modelled of the source, its faults and those of the disk, the document, the cabinet, the link
-pub record Moment : Type 0 where
-  pub told : Option ℕ
-  pub renders : ℕ
-  pub disk : ℕ
-  pub document : List ℕ
-  pub cabinet : State
-  pub wire : Wire
+  -- between the keepers of two standings
+  abbrev Leads : Standing Counter Jobs → Standing Counter Jobs → State → Type 0
+  Leads start now = LeadsThrough K state Outlasts (keeper start.cache) (keeper now.cache)
 
--- what is seen of the input, and of the source and the output, from one moment to another
-abbrev pub input : Moment → Moment → InputChange
-input a b = record { reads = record { before = a.wire.reads; after = b.wire.reads }; from = a.wire.left; to = b.wire.left }
+  -- from one standing to another these messages were answered by these responses
+  pub record HasReplayed (start now : Standing Counter Jobs) (messages : List Message) (texts : List (List ℕ)) : Type 0 where
+    pub answers : List Answer
+    pub many : ℕ
+    pub through : HasServedThrough (Leads start now) told start.failures now.failures (counts (faults (keeper start.cache)) (faults (keeper now.cache))) (document start.cache) (state (keeper start.cache)) (state (keeper now.cache)) messages answers many
+    pub are_texts : responses (document start.cache) answers ≡ texts
+    pub same : document now.cache ≡ document start.cache
+    pub lasts : Lasts state Outlasts (keeper start.cache) (keeper now.cache)
 
-abbrev pub outside : Moment → Moment → Outside
-outside a b = record { told = a.told; renders = record { before = a.renders; after = b.renders }; disk = counts a.disk b.disk; writes = record { before = a.wire.writes; after = b.wire.writes }; from = a.wire.taken; to = b.wire.taken }
-
--- the session was held from one moment to another, with P of the cabinet after each message
-abbrev pub IsHeld : (State → Type 0) → Moment → Moment → SessionEnd → Type 0
-IsHeld P start now end = HasSessionThrough P (input start now) (outside start now) start.document start.cabinet now.cabinet end
-
--- HOW FAR
-
--- since the start n messages were answered, none of them the last of its connection, and these bytes are held
-pub record IsUnderWay (start now : Moment) (held : List ℕ) (n : ℕ) : Type 0 where
-  pub messages : List Message
-  pub answers : List Answer
-  pub all_open : AreOpen messages
-  pub stand : StandIn start.wire.left messages (prepend_known held now.wire.left)
-  pub served : HasServed start.told start.renders now.renders (counts start.disk now.disk) start.document start.cabinet now.cabinet messages answers n
-  pub text : Appends start.wire.taken now.wire.taken (replies start.document answers)
-  pub told : now.told ≡ start.told
-  pub document : now.document ≡ start.document
-
--- before the first message
-pub stand_none : (bytes : Option (List ℕ)) → StandIn bytes [] (prepend_known [] bytes)
-stand_none None = tt
-stand_none (Some bytes) = refl
-
--- and P holds of the cabinet after each of them
-abbrev pub UnderWay : (State → Type 0) → Moment → Moment → List ℕ → ℕ → Type 0
-UnderWay P start now held n = (f : IsUnderWay start now held n) × ServedSoFar P start.document start.cabinet f.messages f.served.made
-
-pub under_way_start : {start : Moment} (P : State → Type 0) → P start.cabinet → (reading : Reading) → reading ≡ record { held = []; ended = None } → UnderWay P start start reading.held 0
-under_way_start {start} P is reading e =
-    let h = served_start P start.told start.renders start.disk start.document start.cabinet is in (
-      record {
-        messages = [];
-        answers = [];
-        all_open = tt;
-        stand = rw e (stand_none start.wire.left);
-        served = h.0;
-        text = appends_nothing start.wire.taken;
-        told = refl;
-        document = refl;
-      },
-      h.1,
-    )
-
--- ONE MESSAGE MORE
-
--- how a text is sent: the bytes that were taken before and after it, and the text
-abbrev pub Sending : Type 1
-Sending = Option (List ℕ) → Option (List ℕ) → List ℕ → Type 0
-
--- m was read, with these bytes held after it, and served, and its response was sent so
-pub record Meets (Sends : Sending) (now there : Moment) (held later : List ℕ) (n : ℕ) (m : Message) : Type 0 where
-  pub takes : TakesMessage (prepend_known held now.wire.left) m (prepend_known later there.wire.left)
-  pub outcome : Outcome
-  pub serves : Serves now.told now.renders there.renders (counts now.disk there.disk) now.document now.cabinet m outcome there.cabinet
-  pub told : there.told ≡ now.told
-  pub document : there.document ≡ now.document
-  pub sends : MayTell outcome (λ o. Sends now.wire.taken there.wire.taken (response now.document m (n + 1) o))
-
--- n messages were answered, none of them the last of its connection, and then m, whose response was sent so behind theirs
-pub record IsAnswered (Sends : Sending) (start now : Moment) (held : List ℕ) (n : ℕ) (m : Message) : Type 0 where
-  pub earlier : List Message
-  pub before_it : List Answer
-  pub answer : Answer
-  pub all_open : AreOpen earlier
-  pub many : length earlier ≡ n
-  pub stand : StandIn start.wire.left (earlier ++ m ∷ []) (prepend_known held now.wire.left)
-  pub served : HasServed start.told start.renders now.renders (counts start.disk now.disk) start.document start.cabinet now.cabinet (earlier ++ m ∷ []) (before_it ++ answer ∷ []) (n + 1)
-  pub between : Option (List ℕ)
-  pub text : Appends start.wire.taken between (replies start.document before_it)
-  pub sent : Sends between now.wire.taken (reply_text start.document answer)
-
--- and P holds of the cabinet after each message
-abbrev pub AnsweredThrough : (State → Type 0) → Sending → Moment → Moment → List ℕ → ℕ → Message → Type 0
-AnsweredThrough P Sends start now held n m = (a : IsAnswered Sends start now held n m) × ServedSoFar P start.document start.cabinet (a.earlier ++ m ∷ []) a.served.made
-
--- what is told is told of the answer's outcome
-which_told : (o : Outcome) (P : Outcome → Type 0) → MayTell o P → (left : Bool) × P (answered_at left o)
-which_told o P (inl k) = (true, k)
-which_told o P (inr k) = (false, rw k.0 k.1)
-
-module _ {Sends : Sending} {start now there : Moment} {held later : List ℕ} {n : ℕ} {m : Message} (f : IsUnderWay start now held n) (met : Meets Sends now there held later n m) where
-  serves : Serves now.told now.renders there.renders (counts now.disk there.disk) start.document now.cabinet m met.outcome there.cabinet
-  serves = subst (λ d. Serves now.told now.renders there.renders (counts now.disk there.disk) d now.cabinet m met.outcome there.cabinet) f.document met.serves
-
-  tells : MayTell met.outcome (λ o. Sends now.wire.taken there.wire.taken (response start.document m (n + 1) o))
-  tells = subst (λ d. MayTell met.outcome (λ o. Sends now.wire.taken there.wire.taken (response d m (n + 1) o))) f.document met.sends
-
-  pub answered : (P Q : State → Type 0) → ((s : State) → P s → Q s) → ServedSoFar P start.document start.cabinet f.messages f.served.made → Q there.cabinet → AnsweredThrough Q Sends start there later n m
-  answered P Q onward so is =
-      let k = which_told met.outcome (λ o. Sends now.wire.taken there.wire.taken (response start.document m (n + 1) o)) tells in
-      let h = served_next f.served f.told serves k.0 P Q onward so is in (
+  module _ (itself : (a : K) → Lasts state Outlasts a a) (on : (a b c : K) → Lasts state Outlasts a b → Lasts state Outlasts b c → Lasts state Outlasts a c) (start : Standing Counter Jobs) where
+    none_replayed : HasReplayed start start [] []
+    none_replayed =
+        let first = keeper start.cache in
         record {
-          earlier = f.messages;
-          before_it = f.answers;
-          answer = the_answer f.served f.told serves k.0;
-          all_open = f.all_open;
-          many = f.served.many;
-          stand = stand_in_more start.wire.left (prepend_known held now.wire.left) (prepend_known later there.wire.left) f.messages m f.stand met.takes;
-          served = h.0;
-          between = now.wire.taken;
-          text = f.text;
-          sent = k.1;
-        },
-        h.1,
-      )
+          answers = [];
+          many = 0;
+          through = served_start (Leads start start) told start.failures (faults first) (document start.cache) (state first) (leads_here state Outlasts first first (itself first) (itself first));
+          are_texts = refl;
+          same = refl;
+          lasts = itself first;
+        }
 
--- all of it was written
-pub whole_text : {start now : Moment} {held : List ℕ} {n : ℕ} {m : Message} (a : IsAnswered Appends start now held n m) → Appends start.wire.taken now.wire.taken (replies start.document (a.before_it ++ a.answer ∷ []))
-whole_text {start} {now} a =
-    let one : Appends a.between now.wire.taken (replies start.document (a.answer ∷ [])) = rw (append-nil (reply_text start.document a.answer)) a.sent in
-    rw (flat_map-append (reply_text start.document) a.before_it (a.answer ∷ [])) (appends_more start.wire.taken a.between now.wire.taken _ _ a.text one)
+    module _ {now : Standing Counter Jobs} {messages : List Message} {texts : List (List ℕ)} (h : HasReplayed start now messages texts) (e : Exchange Counter Jobs) (before : e.before ≡ now) (serves : Serving e.message e.outcome e.before e.after) where
+      served : Serving e.message e.outcome now e.after
+      served = subst (λ (s : Standing Counter Jobs). Serving e.message e.outcome s e.after) before serves
 
-open_more : (messages : List Message) (m : Message) → AreOpen messages → m.last ≡ false → AreOpen (messages ++ m ∷ [])
-open_more [] m all e = (e, tt)
-open_more (x ∷ messages) m all e = (all.0, open_more messages m all.1 e)
+      its_message : Serves told now.failures e.after.failures (counts (faults (keeper now.cache)) (faults (keeper e.after.cache))) (document start.cache) (state (keeper now.cache)) e.message e.outcome (state (keeper e.after.cache))
+      its_message = subst (λ (d : List ℕ). Serves told now.failures e.after.failures (counts (faults (keeper now.cache)) (faults (keeper e.after.cache))) d (state (keeper now.cache)) e.message e.outcome (state (keeper e.after.cache))) h.same served.serves
 
--- and the session goes on
-pub under_way_next : {start now there : Moment} {held later : List ℕ} {n : ℕ} {m : Message} (P Q : State → Type 0) → ((s : State) → P s → Q s) → UnderWay P start now held n → Meets Appends now there held later n m → m.last ≡ false → Q there.cabinet
-    → UnderWay Q start there later (n + 1)
-under_way_next {m = m} P Q onward (f, so) met last is =
-    let k = answered f met P Q onward so is in
-    let a = k.0 in (
-      record {
-        messages = a.earlier ++ m ∷ [];
-        answers = a.before_it ++ a.answer ∷ [];
-        all_open = open_more a.earlier m a.all_open last;
-        stand = a.stand;
-        served = a.served;
-        text = whole_text a;
-        told = met.told ∙ f.told;
-        document = met.document ∙ f.document;
-      },
-      k.1,
-    )
+      one_replayed : HasReplayed start e.after (messages ++ e.message ∷ []) (texts ++ response_at (document start.cache) (h.many + 1) e ∷ [])
+      one_replayed =
+          let first = keeper start.cache in
+          let then = keeper now.cache in
+          let later = keeper e.after.cache in
+          let lasts = on first then later h.lasts served.lasts in
+          let answer = the_answer h.through.0 refl its_message e.left in
+          record {
+            answers = h.answers ++ answer ∷ [];
+            many = h.many + 1;
+            through = served_next h.through.0 refl its_message e.left (Leads start now) (Leads start e.after) (leads_on state Outlasts on first then later served.lasts) h.through.1 (leads_here state Outlasts first later lasts (itself later));
+            are_texts = map-append (reply_text (document start.cache)) h.answers (answer ∷ []) ∙ ap (λ (them : List (List ℕ)). them ++ response_at (document start.cache) (h.many + 1) e ∷ []) h.are_texts;
+            same = served.same ∙ h.same;
+            lasts = lasts;
+          }
+
+    all_replayed : (es : List (Exchange Counter Jobs)) {last now : Standing Counter Jobs} {messages : List Message} {texts : List (List ℕ)} (h : HasReplayed start now messages texts) → AreServed Serving now es last
+        → HasReplayed start last (messages ++ messages_of es) (texts ++ responses_of (document start.cache) (h.many + 1) es)
+    unfolding one_replayed
+    all_replayed [] {messages = messages} {texts = texts} h are = rw (append-nil messages, append-nil texts) (subst (λ (s : Standing Counter Jobs). HasReplayed start s messages texts) (sym are) h)
+    all_replayed (e ∷ es) {last = last} {messages = messages} {texts = texts} h are =
+        let d = document start.cache in
+        let next = one_replayed h e are.0 are.1 in
+        subst (λ (ms : List Message). HasReplayed start last ms (texts ++ response_at d (h.many + 1) e ∷ responses_of d (h.many + 1 + 1) es)) (append_assoc messages (e.message ∷ []) (messages_of es))
+        (subst (λ (ts : List (List ℕ)). HasReplayed start last ((messages ++ e.message ∷ []) ++ messages_of es) ts) (append_assoc texts (response_at d (h.many + 1) e ∷ []) (responses_of d (h.many + 1 + 1) es)) (all_replayed es next are.2))
+
+    -- a session that was held by such a server is one that is promised of its cabinet
+    module _ {last : Standing Counter Jobs} {i : InputChange} {writes : FaultCounts} {from to : Option (List ℕ)} {end : SessionEnd} (x : IsHeld Serving i (record { writes = writes; from = from; to = to }) (document start.cache) start last end) where
+      whole : HasReplayed start last (messages_of x.exchanges) (responses_of (document start.cache) 1 x.exchanges)
+      unfolding none_replayed
+      whole = all_replayed x.exchanges none_replayed x.served
+
+      abbrev seen : Outside
+      seen = record { told = told; renders = counts start.failures last.failures; disk = counts (faults (keeper start.cache)) (faults (keeper last.cache)); writes = writes; from = from; to = to }
+
+      pub replayed : HasSessionThrough (Leads start last) i seen (document start.cache) (state (keeper start.cache)) (state (keeper last.cache)) end
+      replayed =
+          let q = is_served (Leads start last) whole.through.0 whole.through.1 in (
+            record {
+              messages = messages_of x.exchanges;
+              answers = whole.answers;
+              held = x.held;
+              stand = x.stand;
+              served = q.0;
+              ends = subst (λ (ts : List (List ℕ)). Ends i (record { writes = writes; from = from; to = to }) (messages_of x.exchanges) ts x.held (prepend_known x.held i.to) end) (sym whole.are_texts) x.ends;
+            },
+            q.1,
+          )
+
+      pub has_lasted : Lasts state Outlasts (keeper start.cache) (keeper last.cache)
+      has_lasted = whole.lasts
+
+      pub same_catalogue : (state (keeper last.cache)).catalogue ≡ (state (keeper start.cache)).catalogue
+      same_catalogue = whole.through.0.catalogue

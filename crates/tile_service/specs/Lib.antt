@@ -1,11 +1,9 @@
-pub mod Outside
 pub mod Lines
 pub mod Run
 pub mod Passing
 pub mod Schedules
 pub mod Session
-pub mod SessionEnds
-pub mod Coming
+pub mod Replays
 pub mod Alike
 pub mod CacheTally
 pub mod Shown

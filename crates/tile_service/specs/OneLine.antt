@@ -1,6 +1,6 @@
 -- What one line of a schedule came to.
 -- A tie between the code and its definitions: the promise can be read without it.
-use Rattle.std.specs.Prelude.{ℕ, ◌≡◌, ◌≤◌, ◌+◌, ◌⊎◌, Bool, true, false, List, [], ◌∷◌, map, length, Option, Some, None, ⊤}
+use Rattle.std.specs.Prelude.{ℕ, ◌≡◌, ◌≤◌, ◌+◌, Bool, false, List, [], ◌∷◌, map, length, Option, Some, None, ⊤}
 use Rattle.std.specs.List.{AllByRecursion}
 use Rattle.cabinet.specs.History.{History}
 use Rattle.cabinet.specs.State.{State, IsSound}
@@ -12,20 +12,14 @@ use Rattle.http_wire.specs.declared.message.Message.{Message}
 use Rattle.tile_service.specs.declared.action_end.ActionEnd.{ActionEnd}
 use Rattle.tile_service.specs.declared.action_end.ActionEnd.TheVariants as action_end
 use Rattle.tile_service.specs.declared.action_end.Answer as code
-use Rattle.tile_requests.specs.declared.outcome.Outcome.{Outcome}
-use Rattle.tile_requests.specs.declared.outcome.Outcome.TheVariants.{NoMemory}
 use Rattle.tile_requests.specs.declared.request.Request.{Request}
 use Rattle.tile_service.specs.declared.seats.Seat.{Seat}
 use Rattle.tile_service.specs.declared.seats.Seat.TheVariants as seat
 use Rattle.tile_requests.specs.Events.{StayCovered}
 use Rattle.tile_service.specs.Lines.{Action, action_in}
-use Rattle.tile_requests.specs.Requests.{Chance, answered_at, calm, disk_faults_in, is_made}
-use Rattle.tile_service.specs.Outside.{FaultCounts}
+use Rattle.tile_requests.specs.Requests.{Chance, answered_at, calm, disk_faults_in}
+use Rattle.sessions.specs.Outside.{FaultCounts}
 use Rattle.tile_service.specs.Run.{PendingRequest, World, Answer, line_done, failures, unanswered, IsTrue, IsFresh, world_of}
-
--- P holds of the outcome, or of that of no memory, where a text would have to be made for the answer
-abbrev pub MayTell : Outcome → (Outcome → Type 0) → Type 0
-MayTell o P = P o ⊎ ((is_made o ≡ true) × P NoMemory)
 
 -- WHAT HOLDS OF WORLDS
 

@@ -1,14 +1,14 @@
 -- The run of a session: the messages of one connection, in order, each answered before the next is looked at. No render runs
 -- between them, so that a tile is asked for, rendered and finished before the next.
-use Rattle.std.specs.Prelude.{ℕ, ◌≡◌, ◌+◌, true, List, [], ◌∷◌, ◌++◌, map, flat_map, Option, Some, None}
+use Rattle.std.specs.Prelude.{ℕ, ◌≡◌, ◌+◌, List, [], ◌∷◌, ◌++◌, map, Option, Some, None}
 use Rattle.std.specs.List.{AllByRecursion}
 use Rattle.cabinet.specs.State.{State, IsSound, now}
 use Rattle.causes.specs.Causes.{RoseBy}
 use Rattle.http_wire.specs.declared.message.Message.{Message}
 use Rattle.tile_requests.specs.declared.request.Mode.TheVariants.{Gets}
-use Rattle.tile_service.specs.Outside.{FaultCounts}
+use Rattle.sessions.specs.Outside.{FaultCounts}
 use Rattle.tile_requests.specs.Requests.{Chance}
-use Rattle.tile_requests.specs.Response.{bare, response, response_text}
+use Rattle.tile_requests.specs.Response.{response}
 use Rattle.tile_service.specs.Run.{World, Answer, disk_faults, sent, first_of, rest_of, failures, HasNumbers, IsAnsweredTile, IsTrue, IsFresh}
 
 -- no render runs
@@ -31,13 +31,9 @@ session w i (m ∷ ms) cs = and_then (sent w i (first_of cs) Gets 0 m) (λ t. se
 abbrev pub reply_text : List ℕ → Answer → List ℕ
 reply_text document a = response document a.message a.line a.outcome
 
--- what a session writes
-abbrev pub replies : List ℕ → List Answer → List ℕ
-replies document answers = flat_map (reply_text document) answers
-
--- the answer to bytes that are no message: the status alone, and the connection is closed
-abbrev pub bad_text : ℕ → List ℕ
-bad_text status = response_text true (bare status)
+-- the responses to the messages of these answers
+abbrev pub responses : List ℕ → List Answer → List (List ℕ)
+responses document answers = map (reply_text document) answers
 
 -- WHAT IS PROMISED OF IT
 

@@ -1,14 +1,13 @@
-//! How an answer is written: the answer of a line after a line of its own, that of a message as its response alone.
-ghost use Rattle.std.specs.Prelude.{◌≡◌, ◌≤◌, ◌++◌, false, true, IfOk, OnErr, OnOk};
+//! How the answer of a line is written: its response after a line of its own.
+ghost use Rattle.std.specs.Prelude.{◌≡◌, ◌≤◌, ◌++◌, false, IfOk, OnErr, OnOk};
 ghost use Rattle.std.specs.Io.KnownBytes.{Appends};
 ghost use Rattle.arrayvec.specs.ArrayVec.{array_vec_len};
 ghost use Rattle.causes.specs.Causes.{HasCause};
 ghost use Rattle.tile_service.specs.CacheTally.{result_of};
-ghost use Rattle.tile_service.specs.OneLine.{MayTell};
+ghost use Rattle.sessions.specs.Responses.{MayTell};
 ghost use Rattle.tile_requests.specs.Shown.{shown_parts};
 ghost use Rattle.tile_requests.specs.Response.{answer_line, framed, response_text, response_with};
 ghost use Rattle.tile_requests.specs.Sent.{AppendsFront};
-ghost use Rattle.tile_service.specs.Session.{bad_text};
 
 use crate::action_end::Answer;
 use crate::cache_tally::{CacheResult, result_of};
@@ -17,7 +16,6 @@ use http_wire::sending::Sent;
 use http_wire::streams::ByteSink;
 use std::alloc::Global;
 use tile_requests::head::head;
-use tile_requests::outcome::Outcome;
 use tile_requests::parts::Parts;
 use tile_requests::response::{bare, parts_of};
 use tile_requests::small_text::{add, add_number, send_behind};
@@ -60,16 +58,6 @@ fn send_answer<O: ByteSink>(
     send_behind(output, front, body)
 }
 
-/// Sends a response, which closes its connection or does not.
-fn send_response<O: ByteSink>(sink: &mut O, closes: bool, parts: &Parts<'_>) -> Result<(), Sent>
-    ensures ok { OnOk result (Appends (O.taken sink.old) (O.taken sink.new) (response_text closes (shown_parts parts.now))) }
-    ensures err { OnErr result (AppendsFront (O.taken sink.old) (O.taken sink.new) (response_text closes (shown_parts parts.now))) }
-    ensures cause { HasCause (O.faults sink.old) (O.faults sink.new) result }
-    ensures apart { O.apart sink.new ≡ O.apart sink.old }
-{
-    send_behind(sink, head(closes, parts), parts.body.bytes())
-}
-
 /// Writes an answer in line `line`, and closes no connection; `document` is the capabilities document. Where memory runs
 /// out, the answer says so. Gives what the answer tells of the cache. `Sent` where a write failed.
 pub fn write_answer<O: ByteSink>(
@@ -93,35 +81,4 @@ pub fn write_answer<O: ByteSink>(
             Err(sent) => Err(sent),
         },
     }
-}
-
-/// Writes the response to a message with this outcome; `closes` says whether it closes the connection, and `document` is the
-/// capabilities document. Where memory runs out, the response says so. `Sent` where a write failed.
-pub fn write_response<O: ByteSink>(
-    alloc: Global,
-    document: &[u8],
-    sink: &mut O,
-    closes: bool,
-    outcome: &Outcome,
-) -> Result<(), Sent>
-    ensures ok { OnOk result (MayTell outcome.now (λ o. Appends (O.taken sink.old) (O.taken sink.new) (response_with document.now closes o))) }
-    ensures err { OnErr result (MayTell outcome.now (λ o. AppendsFront (O.taken sink.old) (O.taken sink.new) (response_with document.now closes o))) }
-    ensures cause { HasCause (O.faults sink.old) (O.faults sink.new) result }
-    ensures apart { O.apart sink.new ≡ O.apart sink.old }
-{
-    match parts_of(alloc, document, outcome) {
-        Ok(parts) => send_response(sink, closes, &parts),
-        Err(_) => send_response(sink, closes, &bare(503)),
-    }
-}
-
-/// Writes the response to bytes that are no message, for the reason that the status gives. It takes no memory. `Sent` where
-/// a write failed.
-pub fn write_refusal<O: ByteSink>(sink: &mut O, status: u16) -> Result<(), Sent>
-    ensures ok { OnOk result (Appends (O.taken sink.old) (O.taken sink.new) (bad_text status)) }
-    ensures err { OnErr result (AppendsFront (O.taken sink.old) (O.taken sink.new) (bad_text status)) }
-    ensures cause { HasCause (O.faults sink.old) (O.faults sink.new) result }
-    ensures apart { O.apart sink.new ≡ O.apart sink.old }
-{
-    send_response(sink, true, &bare(status))
 }

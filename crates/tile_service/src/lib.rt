@@ -16,10 +16,10 @@
 pub mod action_end;
 pub mod answer;
 pub mod cache_tally;
-pub mod coming;
 pub mod counter;
 pub mod laws;
 pub mod lines;
+mod lone_server;
 mod perform;
 pub mod run_line;
 mod run_lines;

@@ -10,7 +10,7 @@ use Rattle.command_setup.specs.Setup.{AreRead, IsRefused}
 use Rattle.command_setup.specs.declared.configured.Unconfigured.{Unconfigured}
 use Rattle.gate_journal.specs.declared.fault.OpenFault.{OpenFault}
 use Rattle.hall_service.specs.First.{first_pass}
-use Rattle.tile_service.specs.Outside.{InputChange}
+use Rattle.sessions.specs.Outside.{InputChange}
 use Rattle.tile_serving.specs.Ends.{end_of_opening, end_of_refusal}
 use Rattle.tile_serving.specs.Opened.{IsOpened, IsUnopened, ServerDisk}
 use Rattle.tile_serving.specs.declared.ends.ServerEnd.{ServerEnd}

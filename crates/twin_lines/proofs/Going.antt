@@ -18,7 +18,7 @@ use Rattle.outbox.specs.Posts.{Outgoing}
 use Rattle.tile_requests.specs.Sent.{AppendsFront}
 use Rattle.tile_requests.proofs.Known.{appends_more, appends_nothing}
 use Rattle.tile_service.specs.Lines.{lines_of}
-use Rattle.tile_service.specs.Outside.{counts}
+use Rattle.sessions.specs.Outside.{counts}
 use Rattle.twin_events.specs.declared.got.Got.{Got}
 use Rattle.twin_events.specs.declared.got.Got.TheVariants as got
 use Rattle.twin_events.specs.Gets.{Failures, Gets}

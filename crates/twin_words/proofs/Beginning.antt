@@ -30,7 +30,7 @@ use Rattle.kept_cache.specs.Crash.{Lasts}
 use Rattle.kept_cache.specs.Opened.{end_of_refusal}
 use Rattle.outbox.specs.Files.{MayOpenTo, OpensToPosts}
 use Rattle.outbox.specs.Posts.{MayBeFound, Outgoing}
-use Rattle.tile_service.specs.Outside.{InputChange, counts}
+use Rattle.sessions.specs.Outside.{InputChange, counts}
 use Rattle.truncation_list.specs.declared.cover.Cover.{Cover}
 use Rattle.truncation_list.proofs.Answering.{answers_through}
 use Rattle.twin_events.specs.Twins.{IsAt, Standing, standing}

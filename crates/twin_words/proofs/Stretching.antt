@@ -32,7 +32,7 @@ use Rattle.outbox.specs.Files as outbox_files
 use Rattle.std.proofs.lemmas.List.{length-append}
 use Rattle.tile_requests.specs.Sent.{AppendsFront}
 use Rattle.tile_service.specs.Lines.{lines_of}
-use Rattle.tile_service.specs.Outside.{counts}
+use Rattle.sessions.specs.Outside.{counts}
 use Rattle.truncation_list.proofs.Answering.{answers_itself}
 use Rattle.twin_events.specs.Twins.{Standing}
 use Rattle.twin_lines.specs.declared.lines.Halt.TheVariants as halt

@@ -26,7 +26,7 @@ use Rattle.durable_cabinet.specs.Filed as cache_files
 use Rattle.outbox.specs.Files as outbox_files
 use Rattle.outbox.specs.Files.{IsOutboxFile, MayOpenTo, OpensToPosts}
 use Rattle.tile_service.specs.Lines.{lines_of}
-use Rattle.tile_service.specs.Outside.{FaultCounts, InputChange}
+use Rattle.sessions.specs.Outside.{FaultCounts, InputChange}
 use Rattle.twin_events.specs.Twins.{Standing}
 use Rattle.twin_lines.specs.declared.lines.Halt.{Halt}
 use Rattle.twin_lines.specs.declared.lines.Halt.TheVariants as halt

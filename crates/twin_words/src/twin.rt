@@ -6,7 +6,7 @@ ghost use Rattle.durable_cabinet.specs.Images.{IsOurs};
 ghost use Rattle.kept_cache.specs.Change.{OutputChange};
 ghost use Rattle.kept_cache.specs.Crash.{LastsThrough};
 ghost use Rattle.outbox.specs.Files.{IsOutboxFile};
-ghost use Rattle.tile_service.specs.Outside.{InputChange, counts};
+ghost use Rattle.sessions.specs.Outside.{InputChange, counts};
 ghost use Rattle.twin_words.specs.Ends.{CacheLasts, IsFitFor, IsFitUnder, SourceChange, Stays, TwinChange, TwinTells, Twins, WordEnds, WordLasts, text_of};
 ghost use Rattle.twin_words.specs.Made.{change_of};
 ghost use Rattle.twin_words.specs.Words.{twin_word};

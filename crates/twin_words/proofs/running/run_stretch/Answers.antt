@@ -4,7 +4,7 @@ use Rattle.tile_service.specs.Lines.{lines_of}
 use Rattle.std.specs.Prelude.{Some}
 use Rattle.gate_journal.specs.Sound.{IsSettled, digest_of}
 use Rattle.kept_cache.specs.declared.end.KeptEnd.TheVariants as end
-use Rattle.tile_service.specs.Outside.{counts}
+use Rattle.sessions.specs.Outside.{counts}
 use Rattle.twin_events.specs.Twins.{standing}
 use Rattle.twin_lines.specs.declared.lines.Halt.TheVariants as halt
 use Rattle.twin_lines.specs.Steps.{Moment, faults, moment}

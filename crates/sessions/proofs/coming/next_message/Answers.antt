@@ -2,8 +2,8 @@ use Rattle.std.proofs.Common.{◌≡◌, ◌∙◌, Err, Ok, ap, arith, rules, s
 use Rattle.std.specs.Io.KnownBytes.{prepend_known}
 use Rattle.http_wire.specs.Answers.{LeavesFault, stop_of}
 use Rattle.http_wire.specs.declared.message.Stop.TheVariants as stop
-use Rattle.tile_service.proofs.Awaited.{stays, takes_it}
-use Rattle.tile_service.proofs.coming.next_message.Goals as goal
+use Rattle.sessions.proofs.Awaited.{stays, takes_it}
+use Rattle.sessions.proofs.coming.next_message.Goals as goal
 
 pub returns-in-Ok-Message-clause-ok : goal.returns-in-Ok-Message-clause-ok
 returns-in-Ok-Message-clause-ok g c =

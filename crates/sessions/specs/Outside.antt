@@ -24,3 +24,12 @@ pub record InputChange : Type 0 where
   pub reads : FaultCounts
   pub from : Option (List ℕ)
   pub to : Option (List ℕ)
+
+-- what a call did to its output: the faults of its writes, and what the output has taken, where it is modelled
+pub record OutputChange : Type 0 where
+  pub writes : FaultCounts
+  pub from : Option (List ℕ)
+  pub to : Option (List ℕ)
+
+abbrev pub output_in : Outside → OutputChange
+output_in o = record { writes = o.writes; from = o.from; to = o.to }

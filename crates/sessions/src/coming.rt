@@ -1,9 +1,9 @@
 //! The next message of a session, or how the session ends where none comes.
 ghost use Rattle.std.specs.Prelude.{◌≡◌, ◌≤◌, None, IfErr, IfOk};
 ghost use Rattle.http_wire.specs.Answers.{IsPartOfTake};
-ghost use Rattle.tile_service.specs.Coming.{EndsUnmet, HasCome};
+ghost use Rattle.sessions.specs.Coming.{EndsUnmet, HasCome};
 
-use crate::answer::write_refusal;
+use crate::responses::write_refusal;
 use crate::session::SessionEnd;
 use http_wire::links::Link;
 use http_wire::message::{Message, Next, WireFault};

@@ -1,0 +1,58 @@
+//! The trait of who serves the messages of a connection.
+ghost use Rattle.std.specs.Prelude.{◌≡◌, ℕ, List};
+ghost use Rattle.std.specs.declared.option.Option.{Option};
+ghost use Rattle.http_wire.specs.declared.message.Message.{Message};
+ghost use Rattle.tile_requests.specs.declared.outcome.Outcome.{Outcome};
+ghost use Rattle.sessions.specs.Exchanges.{Standing, standing};
+
+use http_wire::message::Message;
+use source_render::source::Source;
+use std::alloc::Global;
+use tile_requests::outcome::Outcome;
+
+/// Where no job can be submitted.
+#[derive(Drop)]
+pub struct NoJobs;
+
+/// Who serves the messages of a connection, as one cabinet does by itself, or a hall with a board of jobs.
+pub trait MessageServer {
+    /// What messages are answered from.
+    type Cache;
+
+    /// Where jobs are submitted: `NoJobs` where none can be.
+    type Jobs;
+
+    /// It may serve from these, with a source that is modelled so.
+    ghost ready: { Self → Self.Cache → Self.Jobs → Option ℕ → Type 0 };
+
+    /// The document of the service's capabilities.
+    ghost document: { Self → Self.Cache → List ℕ };
+
+    /// What a message came to, with a source that is modelled so, from one standing to another.
+    ghost serves: { Self → Option ℕ → Message → Outcome → Standing Self.Cache Self.Jobs → Standing Self.Cache Self.Jobs → Type 0 };
+
+    /// Serves a message to its outcome. Where memory runs out, the outcome says so.
+    fn serve<S: Source>(
+        &self,
+        alloc: Global,
+        cache: &mut Self::Cache,
+        jobs: &mut Self::Jobs,
+        source: &mut S,
+        message: &Message,
+    ) -> Outcome
+        requires ready { ready self.now cache.old jobs.old (S.told source.old) }
+        ensures serves { serves self.now (S.told source.old) message.now result (standing cache.old jobs.old (S.faults source.old)) (standing cache.new jobs.new (S.faults source.new)) }
+        ensures ready { ready self.now cache.new jobs.new (S.told source.new) }
+        ensures document { document self.now cache.new ≡ document self.now cache.old }
+        ensures told { S.told source.new ≡ S.told source.old };
+
+    /// The bytes of the capabilities document.
+    fn capabilities<'s>(&'s self, cache: &'s Self::Cache) -> &'s [u8]
+        ensures { result.now ≡ document self.now cache.now };
+
+    /// A message has come, and is about to be served.
+    fn begun(&self);
+
+    /// A message was served, and its response was sent, as far as it went out.
+    fn answered(&self);
+}
