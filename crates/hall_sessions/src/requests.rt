@@ -31,7 +31,7 @@ use std::alloc::Global;
 use std::sync::Wait;
 use tile_requests::dropped::dropped_text;
 use tile_requests::message_ref::MessageRef;
-use tile_requests::outcome::Outcome;
+use tile_requests::outcome::{Outcome, Plain};
 use tile_requests::request::Request;
 use tile_requests::routes::read_request;
 use truncation_list::cover::Cover;
@@ -44,8 +44,8 @@ fn outcome_of_get(got: Result<Tile, GetFault>) -> Outcome
     match got {
         Ok(Tile { hit, number, bytes }) => Outcome::Tile(hit, number, bytes),
         Err(GetFault::SourceFault) => Outcome::SourceFailed,
-        Err(GetFault::Spent) => Outcome::Spent,
-        Err(GetFault::OutOfMemory) => Outcome::NoMemory,
+        Err(GetFault::Spent) => Outcome::Plain(Plain::Spent),
+        Err(GetFault::OutOfMemory) => Outcome::Plain(Plain::NoMemory),
     }
 }
 
@@ -86,10 +86,10 @@ fn truncation<R: Wait, K: Keeper>(
     let access = Shared { rt, hall };
     match access.cut(alloc, pass, cover) {
         Ok(CutReply::Done(number)) => Outcome::Cut(number),
-        Ok(CutReply::DiskFault(_, _)) => Outcome::DiskFault,
-        Ok(CutReply::Full) => Outcome::CutsFull,
-        Ok(CutReply::Spent) => Outcome::CutSpent,
-        Err(_) => Outcome::NoMemory,
+        Ok(CutReply::DiskFault(_, _)) => Outcome::Plain(Plain::DiskFault),
+        Ok(CutReply::Full) => Outcome::Plain(Plain::CutsFull),
+        Ok(CutReply::Spent) => Outcome::Plain(Plain::CutSpent),
+        Err(_) => Outcome::Plain(Plain::NoMemory),
     }
 }
 
@@ -106,11 +106,11 @@ fn expiry<R: Wait, K: Keeper>(
 {
     let access = Shared { rt, hall };
     match access.expire(pass) {
-        Expired::Within => Outcome::Within,
-        Expired::DiskFault(_, _) => Outcome::DiskFault,
+        Expired::Within => Outcome::Plain(Plain::Within),
+        Expired::DiskFault(_, _) => Outcome::Plain(Plain::DiskFault),
         Expired::Dropped(meta) => match dropped_text(alloc, &hall.catalogue, &meta) {
             Ok(text) => Outcome::Dropped(text),
-            Err(_) => Outcome::NoMemory,
+            Err(_) => Outcome::Plain(Plain::NoMemory),
         },
     }
 }
@@ -128,7 +128,7 @@ fn usage<R: Wait, K: Keeper>(
 {
     match counted_text(rt, alloc, hall, pass) {
         Ok(text) => Outcome::Usage(text),
-        Err(_) => Outcome::NoMemory,
+        Err(_) => Outcome::Plain(Plain::NoMemory),
     }
 }
 
@@ -154,8 +154,8 @@ fn served<R: Wait, K: Keeper, S: Source>(
         Request::Tile(address) => tile(rt, alloc, hall, pass, source, &address),
         Request::Capabilities => Outcome::Document,
         Request::Refused(code, locator) => Outcome::Refused(code, locator),
-        Request::NotFound => Outcome::NotFound,
-        Request::WrongMethod => Outcome::WrongMethod,
+        Request::NotFound => Outcome::Plain(Plain::NotFound),
+        Request::WrongMethod => Outcome::Plain(Plain::WrongMethod),
         Request::Usage => usage(rt, alloc, hall, pass),
         Request::Truncation(cover) => truncation(rt, alloc, hall, pass, &cover),
         Request::Unformed(fault) => Outcome::Unformed(fault),
@@ -187,10 +187,10 @@ pub fn serve<R: Wait, K: Keeper, S: Source>(
     let parts = MessageRef::of(message);
     let catalogue = &world.hall.catalogue;
     match read_job_request(alloc, catalogue, &parts) {
-        Err(_) => Outcome::NoMemory,
+        Err(_) => Outcome::Plain(Plain::NoMemory),
         Ok(Some(request)) => serve_job(rt, alloc, catalogue, &world.board, board, request),
         Ok(None) => match read_request(alloc, catalogue, &world.rest, &parts) {
-            Err(_) => Outcome::NoMemory,
+            Err(_) => Outcome::Plain(Plain::NoMemory),
             Ok(request) => served(rt, alloc, &world.hall, pass, source, request),
         },
     }

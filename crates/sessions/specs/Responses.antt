@@ -1,13 +1,14 @@
 -- What is sent for a message, and for bytes that are none.
 use Rattle.std.specs.Prelude.{ℕ, ◌≡◌, ◌⊎◌, true, List}
 use Rattle.tile_requests.specs.declared.outcome.Outcome.{Outcome}
-use Rattle.tile_requests.specs.declared.outcome.Outcome.TheVariants.{NoMemory}
+use Rattle.tile_requests.specs.declared.outcome.Outcome.TheVariants.{Plain}
+use Rattle.tile_requests.specs.declared.outcome.Plain.TheVariants.{NoMemory}
 use Rattle.tile_requests.specs.Requests.{is_made}
 use Rattle.tile_requests.specs.Response.{bare, response_text}
 
 -- P holds of the outcome, or of that of no memory, where a text would have to be made for the answer
 abbrev pub MayTell : Outcome → (Outcome → Type 0) → Type 0
-MayTell o P = P o ⊎ ((is_made o ≡ true) × P NoMemory)
+MayTell o P = P o ⊎ ((is_made o ≡ true) × P (Plain NoMemory))
 
 -- the answer to bytes that are no message: the status alone, and the connection is closed
 abbrev pub bad_text : ℕ → List ℕ

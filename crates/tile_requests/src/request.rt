@@ -3,7 +3,7 @@ ghost use Rattle.std.specs.Prelude.{◌≡◌};
 ghost use Rattle.tile_requests.specs.Events.{ended_by};
 ghost use Rattle.tile_requests.specs.Requests.{outcome_of};
 
-use crate::outcome::Outcome;
+use crate::outcome::{Outcome, Plain};
 use cache_access::fault::GetFault;
 use cache_core::outcome::{Tile, TileOutcome};
 use exception_report::code::{Code, Locator};
@@ -52,8 +52,8 @@ pub fn outcome_of(outcome: TileOutcome) -> Outcome
     match outcome {
         TileOutcome::Tile(Tile { hit, number, bytes }) => Outcome::Tile(hit, number, bytes),
         TileOutcome::SourceFailed => Outcome::SourceFailed,
-        TileOutcome::Spent => Outcome::Spent,
-        TileOutcome::NoMemory => Outcome::NoMemory,
+        TileOutcome::Spent => Outcome::Plain(Plain::Spent),
+        TileOutcome::NoMemory => Outcome::Plain(Plain::NoMemory),
     }
 }
 
@@ -64,7 +64,7 @@ pub fn outcome_of_get(got: Result<Tile, GetFault>) -> Outcome
     match got {
         Ok(Tile { hit, number, bytes }) => Outcome::Tile(hit, number, bytes),
         Err(GetFault::SourceFault) => Outcome::SourceFailed,
-        Err(GetFault::Spent) => Outcome::Spent,
-        Err(GetFault::OutOfMemory) => Outcome::NoMemory,
+        Err(GetFault::Spent) => Outcome::Plain(Plain::Spent),
+        Err(GetFault::OutOfMemory) => Outcome::Plain(Plain::NoMemory),
     }
 }

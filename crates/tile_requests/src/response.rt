@@ -7,7 +7,7 @@ ghost use Rattle.tile_requests.specs.Requests.{is_made};
 ghost use Rattle.tile_requests.specs.Response.{bare, cut_text, fault_kind, fault_text, field_of, parts_of, spelt, typed};
 
 use crate::numbers::add_number;
-use crate::outcome::Outcome;
+use crate::outcome::{Outcome, Plain};
 use crate::parts::{Body, MediaType, Parts, TileHeaders};
 use exception_report::code::{Code, Locator};
 use exception_report::report::{report, status_of};
@@ -151,20 +151,20 @@ pub fn parts_of<'a>(
         Outcome::Tile(hit, number, text) => Ok(tile(*hit, *number, text.bytes())),
         Outcome::Document => Ok(borrowed(200, MediaType::Xml, document)),
         Outcome::Refused(code, locator) => reported(alloc, *code, locator),
-        Outcome::NotFound => Ok(bare(404)),
-        Outcome::WrongMethod => Ok(bare(405)),
+        Outcome::Plain(Plain::NotFound) => Ok(bare(404)),
+        Outcome::Plain(Plain::WrongMethod) => Ok(bare(405)),
         Outcome::SourceFailed => reported(alloc, Code::NoApplicableCode, &Locator::Nowhere),
-        Outcome::Spent => Ok(borrowed(500, MediaType::Plain, b"numbers spent\n")),
+        Outcome::Plain(Plain::Spent) => Ok(borrowed(500, MediaType::Plain, b"numbers spent\n")),
         Outcome::Usage(text) => Ok(borrowed(200, MediaType::Plain, text.bytes())),
         Outcome::Cut(number) => cut(alloc, *number),
-        Outcome::CutsFull => Ok(borrowed(409, MediaType::Json, b"{\"fault\":\"cuts full\"}\n")),
-        Outcome::CutSpent => Ok(borrowed(500, MediaType::Json, b"{\"fault\":\"numbers spent\"}\n")),
+        Outcome::Plain(Plain::CutsFull) => Ok(borrowed(409, MediaType::Json, b"{\"fault\":\"cuts full\"}\n")),
+        Outcome::Plain(Plain::CutSpent) => Ok(borrowed(500, MediaType::Json, b"{\"fault\":\"numbers spent\"}\n")),
         Outcome::Unformed(fault) => unformed(alloc, *fault),
         Outcome::Dropped(text) => Ok(borrowed(200, MediaType::Json, text.bytes())),
-        Outcome::Within => Ok(borrowed(200, MediaType::Json, b"{\"within\":true}\n")),
+        Outcome::Plain(Plain::Within) => Ok(borrowed(200, MediaType::Json, b"{\"within\":true}\n")),
         Outcome::Job(text) => Ok(borrowed(200, MediaType::Json, text.bytes())),
-        Outcome::BoardFull => Ok(borrowed(409, MediaType::Json, b"{\"fault\":\"board full\"}\n")),
-        Outcome::DiskFault => Ok(borrowed(500, MediaType::Json, b"{\"fault\":\"disk\"}\n")),
-        Outcome::NoMemory => Ok(bare(503)),
+        Outcome::Plain(Plain::BoardFull) => Ok(borrowed(409, MediaType::Json, b"{\"fault\":\"board full\"}\n")),
+        Outcome::Plain(Plain::DiskFault) => Ok(borrowed(500, MediaType::Json, b"{\"fault\":\"disk\"}\n")),
+        Outcome::Plain(Plain::NoMemory) => Ok(bare(503)),
     }
 }
