@@ -35,6 +35,7 @@ use Rattle.cache_hall.specs.Gets.{HasGot, HasMetSpent, IsGot}
 use Rattle.cache_hall.specs.Turned.{AreTurns, IsOf, IsTurn}
 use Rattle.tile_requests.specs.declared.outcome.Outcome.{Outcome}
 use Rattle.tile_requests.specs.declared.outcome.Outcome.TheVariants as outcome
+use Rattle.tile_requests.specs.declared.outcome.Plain.TheVariants as plain
 use Rattle.tile_requests.specs.declared.request.Request.{Request}
 use Rattle.tile_requests.specs.declared.request.Request.TheVariants as request
 use Rattle.tile_requests.specs.Requests.{answered_at, is_made, told_at}
@@ -91,7 +92,7 @@ none_is_some r e = absurd (cc)
 
 module _ (c : Catalogue) (told : Bool) (e : Exchange) where
   -- the cause of an answer, or memory ran out for it
-  or_memory : (made : Bool) (o : Outcome) → IsCaused c told e o → IsCaused c told e (if made then outcome.NoMemory else o)
+  or_memory : (made : Bool) (o : Outcome) → IsCaused c told e o → IsCaused c told e (if made then outcome.Plain plain.NoMemory else o)
   or_memory true o h = tt
   or_memory false o h = h
 
@@ -110,41 +111,41 @@ module _ (c : Catalogue) (told : Bool) (e : Exchange) where
       → IsCaused c told e o
   got_caused a asks o rose (Ok tile) got is = caused_as o (outcome.Tile tile.hit tile.number tile.bytes) is (a, asks, got)
   got_caused a asks o rose (Err fault.SourceFault) got is = caused_as o outcome.SourceFailed is (a, asks, got, rose is)
-  got_caused a asks o rose (Err fault.Spent) got is = caused_as o outcome.Spent is (a, asks, got)
-  got_caused a asks o rose (Err fault.OutOfMemory) got is = caused_as o outcome.NoMemory is tt
+  got_caused a asks o rose (Err fault.Spent) got is = caused_as o (outcome.Plain plain.Spent) is (a, asks, got)
+  got_caused a asks o rose (Err fault.OutOfMemory) got is = caused_as o (outcome.Plain plain.NoMemory) is tt
 
   module _ (turns : AreTurns c told e.seen e.gained e.sees) where
     cut_reply_caused : (cover : Cover) → AsksFor c e.message (request.Truncation cover) → (o : Outcome) (m : Made Note) → e.gained ≡ m ∷ [] → (r : CutReply) → IsOf (command.Cut cover) (reply.Cut r) m → o ≡ outcome_of_cut r → IsCaused c told e o
     cut_reply_caused cover asks o m one (cut.Done k) of is = caused_as o (outcome.Cut k) is (record { cover = cover; asks = asks; turn = m; one = one; of = of })
-    cut_reply_caused cover asks o m one cut.Full of is = caused_as o outcome.CutsFull is (record { cover = cover; asks = asks; turn = m; one = one; of = of })
+    cut_reply_caused cover asks o m one cut.Full of is = caused_as o (outcome.Plain plain.CutsFull) is (record { cover = cover; asks = asks; turn = m; one = one; of = of })
     cut_reply_caused cover asks o m one (cut.DiskFault b a) of is =
         let turn = only_turn c told e.seen e.sees e.gained m one turns in
         let rose = cut_failed c told b a cover m.note.before m.note.after m.note.command m.note.reply of.command of.reply turn.reply in
-        caused_as o outcome.DiskFault is (inl (b, a, record { cover = cover; asks = asks; turn = m; one = one; of = of }, rose))
-    cut_reply_caused cover asks o m one cut.Spent of is = caused_as o outcome.CutSpent is (record { cover = cover; asks = asks; turn = m; one = one; of = of })
+        caused_as o (outcome.Plain plain.DiskFault) is (inl (b, a, record { cover = cover; asks = asks; turn = m; one = one; of = of }, rose))
+    cut_reply_caused cover asks o m one cut.Spent of is = caused_as o (outcome.Plain plain.CutSpent) is (record { cover = cover; asks = asks; turn = m; one = one; of = of })
 
     cut_caused : (cover : Cover) → AsksFor c e.message (request.Truncation cover) → (o : Outcome) → IsCutServed cover e.gained o → IsCaused c told e o
     cut_caused cover asks o (inl h) = cut_reply_caused cover asks o h.0 h.2 h.1 h.3 h.4
-    cut_caused cover asks o (inr h) = caused_as o outcome.NoMemory h.1 tt
+    cut_caused cover asks o (inr h) = caused_as o (outcome.Plain plain.NoMemory) h.1 tt
 
     expiry_reply_caused : AsksFor c e.message request.Expiry → (o : Outcome) (m : Made Note) (left : Bool) → e.gained ≡ m ∷ [] → (r : Expired) → IsOf command.Expire (reply.Expired r) m → o ≡ outcome_of_expiry c r left → IsCaused c told e o
     expiry_reply_caused asks o m left one (expired.Dropped k) of is = caused_as o (outcome_of_expiry c (expired.Dropped k) left) is (caused_while left _ (k, record { asks = asks; turn = m; one = one; of = of }, refl))
     expiry_reply_caused asks o m left one (expired.DiskFault b a) of is =
         let turn = only_turn c told e.seen e.sees e.gained m one turns in
         let rose = expiry_failed c told b a m.note.before m.note.after m.note.command m.note.reply of.command of.reply turn.reply in
-        caused_as o outcome.DiskFault is (inr (b, a, record { asks = asks; turn = m; one = one; of = of }, rose))
-    expiry_reply_caused asks o m left one expired.Within of is = caused_as o outcome.Within is (record { asks = asks; turn = m; one = one; of = of })
+        caused_as o (outcome.Plain plain.DiskFault) is (inr (b, a, record { asks = asks; turn = m; one = one; of = of }, rose))
+    expiry_reply_caused asks o m left one expired.Within of is = caused_as o (outcome.Plain plain.Within) is (record { asks = asks; turn = m; one = one; of = of })
 
     usage_caused : AsksFor c e.message request.Usage → (o : Outcome) → IsUsageServed c e.gained o → IsCaused c told e o
     usage_caused asks o (inl h) = caused_as o (outcome.Usage h.0) h.2 (asks, h.1)
-    usage_caused asks o (inr h) = caused_as o outcome.NoMemory h.1 tt
+    usage_caused asks o (inr h) = caused_as o (outcome.Plain plain.NoMemory) h.1 tt
 
     request_caused : (r : Request) → AsksFor c e.message r → (o : Outcome) → (o ≡ outcome.SourceFailed → Rose e.renders_before e.renders_after) → IsRequestServed c told e.seen r e.gained o → IsCaused c told e o
     request_caused (request.Tile a) asks o rose h = got_caused a asks o rose h.0 h.1 h.2
     request_caused request.Capabilities asks o rose h = caused_as o outcome.Document h.1 asks
     request_caused (request.Refused code locator) asks o rose h = caused_as o (outcome.Refused code locator) h.1 asks
-    request_caused request.NotFound asks o rose h = caused_as o outcome.NotFound h.1 (inl asks)
-    request_caused request.WrongMethod asks o rose h = caused_as o outcome.WrongMethod h.1 (inl asks)
+    request_caused request.NotFound asks o rose h = caused_as o (outcome.Plain plain.NotFound) h.1 (inl asks)
+    request_caused request.WrongMethod asks o rose h = caused_as o (outcome.Plain plain.WrongMethod) h.1 (inl asks)
     request_caused request.Usage asks o rose h = usage_caused asks o h
     request_caused (request.Truncation cover) asks o rose h = cut_caused cover asks o h
     request_caused (request.Unformed f) asks o rose h = caused_as o (outcome.Unformed f) h.1 (inl asks)
@@ -154,13 +155,13 @@ module _ (c : Catalogue) (told : Bool) (e : Exchange) where
 
   submission_caused : (job : Job) → AsksOfJobs c e.message (job_request.Submission job) → (o : Outcome) → IsSubmissionServed c job e.board_before e.board_after o → IsCaused c told e o
   submission_caused job asks o (inl (Some n, left, one, is)) = caused_as o (outcome_of_submission (Some n) left) is (caused_while left _ (inl (n, record { job = job; asks = asks; one = one }, refl)))
-  submission_caused job asks o (inl (None, left, one, is)) = caused_as o outcome.BoardFull is (record { job = job; asks = asks; one = one })
-  submission_caused job asks o (inr h) = caused_as o outcome.NoMemory h.1 tt
+  submission_caused job asks o (inl (None, left, one, is)) = caused_as o (outcome.Plain plain.BoardFull) is (record { job = job; asks = asks; one = one })
+  submission_caused job asks o (inr h) = caused_as o (outcome.Plain plain.NoMemory) h.1 tt
 
   look_caused : (n : ℕ) → AsksOfJobs c e.message (job_request.Look n) → (o : Outcome) → IsLookServed n e.board_before e.board_after o → IsCaused c told e o
   look_caused n asks o (Some p, left, one, is) =
       caused_as o (outcome_of_look n (Some p) left) is (caused_while left _ (inr (n, p, record { before = e.board_before; asks = inl (asks, refl); one = one }, refl)))
-  look_caused n asks o (None, left, one, is) = caused_as o outcome.NotFound is (inr (inr (record { number = n; found_none = inl (asks, one) })))
+  look_caused n asks o (None, left, one, is) = caused_as o (outcome.Plain plain.NotFound) is (inr (inr (record { number = n; found_none = inl (asks, one) })))
 
   stopped_caused : (n : ℕ) → AsksOfJobs c e.message (job_request.Stop n) → (o : Outcome) (between : BoardHolding) → MakesOne e.board_before between (board_command.Stop n) (board_reply.Stop true) → IsLookServed n between e.board_after o → IsCaused c told e o
   stopped_caused n asks o between stop (Some p, left, one, is) =
@@ -168,7 +169,7 @@ module _ (c : Catalogue) (told : Bool) (e : Exchange) where
   stopped_caused n asks o between stop (None, left, one, is) = absurd (found_again e.board_before between e.board_after n stop one)
 
   stop_caused : (n : ℕ) → AsksOfJobs c e.message (job_request.Stop n) → (o : Outcome) → IsStopServed n e.board_before e.board_after o → IsCaused c told e o
-  stop_caused n asks o (inl h) = caused_as o outcome.NotFound h.1 (inr (inr (record { number = n; found_none = inr (asks, h.0) })))
+  stop_caused n asks o (inl h) = caused_as o (outcome.Plain plain.NotFound) h.1 (inr (inr (record { number = n; found_none = inr (asks, h.0) })))
   stop_caused n asks o (inr h) = stopped_caused n asks o h.0 h.1 h.2
 
   job_caused : (r : JobRequest) → AsksOfJobs c e.message r → (o : Outcome) → ServesJob c r e.board_before e.board_after o → IsCaused c told e o
@@ -176,18 +177,18 @@ module _ (c : Catalogue) (told : Bool) (e : Exchange) where
   job_caused (job_request.Unformed f) asks o h = caused_as o (outcome.Unformed f) h.1 (inr asks)
   job_caused (job_request.Look n) asks o h = look_caused n asks o h
   job_caused (job_request.Stop n) asks o h = stop_caused n asks o h
-  job_caused job_request.NotFound asks o h = caused_as o outcome.NotFound h.1 (inr (inl asks))
-  job_caused job_request.WrongMethod asks o h = caused_as o outcome.WrongMethod h.1 (inr asks)
+  job_caused job_request.NotFound asks o h = caused_as o (outcome.Plain plain.NotFound) h.1 (inr (inl asks))
+  job_caused job_request.WrongMethod asks o h = caused_as o (outcome.Plain plain.WrongMethod) h.1 (inr asks)
 
   job_message_caused : (r : JobRequest) → AsksOfJobs c e.message r → (o : Outcome) → IsJobMessageServed c r e.gained e.board_before e.board_after o → IsCaused c told e o
   job_message_caused r asks o (inl h) = job_caused r asks o h.1
-  job_message_caused r asks o (inr h) = caused_as o outcome.NoMemory h.0.1 tt
+  job_message_caused r asks o (inr h) = caused_as o (outcome.Plain plain.NoMemory) h.0.1 tt
 
   -- A MESSAGE
 
   module _ (turns : AreTurns c told e.seen e.gained e.sees) (rose : e.came_to ≡ outcome.SourceFailed → Rose e.renders_before e.renders_after) where
     other_caused : (r : Option Request) → job_request_for c e.message ≡ None → IsOtherMessageServed c told e.seen e.message r e.gained e.came_to → IsCaused c told e e.came_to
-    other_caused None other h = caused_as e.came_to outcome.NoMemory h.1 tt
+    other_caused None other h = caused_as e.came_to (outcome.Plain plain.NoMemory) h.1 tt
     other_caused (Some r) other h = request_caused turns r (record { no_job = other; is = sym h.0 }) e.came_to rose h.1
 
     message_caused : (asked : Option JobRequest) → job_request_for c e.message ≡ asked
@@ -220,33 +221,33 @@ module _ (c : Catalogue) (told : Bool) (e : Exchange) where
     no_progress n before (inr h) = no_job (job_request.Stop n) h.0
 
     given_of : (o : Outcome) → outcome_told e ≡ o → IsCaused c told e o
-        → IsGiven c told a e ⊎ ((outcome_told e ≡ outcome.NoMemory) ⊎ (((outcome_told e ≡ outcome.SourceFailed) × Rose e.renders_before e.renders_after) ⊎ ((outcome_told e ≡ outcome.Spent) × HasMetSpent a e.gained)))
+        → IsGiven c told a e ⊎ ((outcome_told e ≡ outcome.Plain plain.NoMemory) ⊎ (((outcome_told e ≡ outcome.SourceFailed) × Rose e.renders_before e.renders_after) ⊎ ((outcome_told e ≡ outcome.Plain plain.Spent) × HasMetSpent a e.gained)))
     given_of (outcome.Tile hit k bytes) is h =
         let tile : Tile = record { hit = hit; number = k; bytes = bytes } in
         inl (record { tile = tile; is = is; got = subst (λ (b : Address). HasGot c told b e.seen e.gained tile) (one_address h.0 a (one_request (request.Tile h.0) h.1)) h.2 })
     given_of outcome.Document is h = let other = one_request request.Capabilities h in absurd (cc)
     given_of (outcome.Refused code locator) is h = let other = one_request (request.Refused code locator) h in absurd (cc)
-    given_of outcome.NotFound is (inl h) = let other = one_request request.NotFound h in absurd (cc)
-    given_of outcome.NotFound is (inr (inl h)) = absurd (no_job job_request.NotFound h)
-    given_of outcome.NotFound is (inr (inr h)) = absurd (no_look h.number h.found_none)
-    given_of outcome.WrongMethod is (inl h) = let other = one_request request.WrongMethod h in absurd (cc)
-    given_of outcome.WrongMethod is (inr h) = absurd (no_job job_request.WrongMethod h)
+    given_of (outcome.Plain plain.NotFound) is (inl h) = let other = one_request request.NotFound h in absurd (cc)
+    given_of (outcome.Plain plain.NotFound) is (inr (inl h)) = absurd (no_job job_request.NotFound h)
+    given_of (outcome.Plain plain.NotFound) is (inr (inr h)) = absurd (no_look h.number h.found_none)
+    given_of (outcome.Plain plain.WrongMethod) is (inl h) = let other = one_request request.WrongMethod h in absurd (cc)
+    given_of (outcome.Plain plain.WrongMethod) is (inr h) = absurd (no_job job_request.WrongMethod h)
     given_of outcome.SourceFailed is h = inr (inr (inl (is, h.3)))
-    given_of outcome.Spent is h = inr (inr (inr (is, subst (λ (b : Address). HasMetSpent b e.gained) (one_address h.0 a (one_request (request.Tile h.0) h.1)) h.2)))
+    given_of (outcome.Plain plain.Spent) is h = inr (inr (inr (is, subst (λ (b : Address). HasMetSpent b e.gained) (one_address h.0 a (one_request (request.Tile h.0) h.1)) h.2)))
     given_of (outcome.Usage text) is h = let other = one_request request.Usage h.0 in absurd (cc)
     given_of (outcome.Cut k) is h = absurd (no_cut (cut.Done k) h)
-    given_of outcome.CutsFull is h = absurd (no_cut cut.Full h)
-    given_of outcome.CutSpent is h = absurd (no_cut cut.Spent h)
+    given_of (outcome.Plain plain.CutsFull) is h = absurd (no_cut cut.Full h)
+    given_of (outcome.Plain plain.CutSpent) is h = absurd (no_cut cut.Spent h)
     given_of (outcome.Unformed f) is (inl h) = let other = one_request (request.Unformed f) h in absurd (cc)
     given_of (outcome.Unformed f) is (inr h) = absurd (no_job (job_request.Unformed f) h)
     given_of (outcome.Dropped text) is h = absurd (no_expiry (expired.Dropped h.0) h.1)
-    given_of outcome.Within is h = absurd (no_expiry expired.Within h)
+    given_of (outcome.Plain plain.Within) is h = absurd (no_expiry expired.Within h)
     given_of (outcome.Job text) is (inl h) = absurd (no_job (job_request.Submission h.1.job) h.1.asks)
     given_of (outcome.Job text) is (inr h) = absurd (no_progress h.0 h.2.before h.2.asks)
-    given_of outcome.BoardFull is h = absurd (no_job (job_request.Submission h.job) h.asks)
-    given_of outcome.DiskFault is (inl h) = absurd (no_cut (cut.DiskFault h.0 h.1) h.2)
-    given_of outcome.DiskFault is (inr h) = absurd (no_expiry (expired.DiskFault h.0 h.1) h.2)
-    given_of outcome.NoMemory is h = inr (inl is)
+    given_of (outcome.Plain plain.BoardFull) is h = absurd (no_job (job_request.Submission h.job) h.asks)
+    given_of (outcome.Plain plain.DiskFault) is (inl h) = absurd (no_cut (cut.DiskFault h.0 h.1) h.2)
+    given_of (outcome.Plain plain.DiskFault) is (inr h) = absurd (no_expiry (expired.DiskFault h.0 h.1) h.2)
+    given_of (outcome.Plain plain.NoMemory) is h = inr (inl is)
 
 -- THE WHOLE
 

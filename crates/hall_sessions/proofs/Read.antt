@@ -16,6 +16,7 @@ use Rattle.cache_hall.proofs.Turning.{gains_none}
 use Rattle.turnstile.specs.declared.view.Made.{Made}
 use Rattle.tile_requests.specs.declared.outcome.Outcome.{Outcome}
 use Rattle.tile_requests.specs.declared.outcome.Outcome.TheVariants as outcome
+use Rattle.tile_requests.specs.declared.outcome.Plain.TheVariants as plain
 use Rattle.tile_requests.specs.declared.message_ref.MessageRef.{MessageRef}
 use Rattle.tile_requests.specs.declared.request.Request.{Request}
 use Rattle.tile_requests.specs.Requests.{told_at}
@@ -59,7 +60,7 @@ abbrev IsServedAs : Catalogue → HallPass → Message → Option Request → Li
 IsServedAs c p m request gained board board_after o asked =
     MatchOption asked (IsOtherMessageServed c p.told p.book m request gained o × (board_after ≡ board)) (λ r. IsJobMessageServed c r gained board board_after o × (request ≡ None))
 
-unread_as : (c : Catalogue) (p : HallPass) (m : Message) (board : BoardHolding) (asked : Option JobRequest) → IsServedAs c p m None [] board board outcome.NoMemory asked
+unread_as : (c : Catalogue) (p : HallPass) (m : Message) (board : BoardHolding) (asked : Option JobRequest) → IsServedAs c p m None [] board board (outcome.Plain plain.NoMemory) asked
 unread_as c p m board None = ((refl, refl), refl)
 unread_as c p m board (Some r) = (inr ((refl, refl), refl), refl)
 
@@ -71,7 +72,7 @@ module _ (c : Catalogue) (before after : ℕ) (p : HallPass) where
   nothing_served r o served other = record { gained = []; gains = gains_none c p; served = served; cause = λ e. absurd (other e) }
 
   -- no memory was left to read the message
-  pub unread : (m : Message) (board : BoardHolding) → Serves c before after m p p board board outcome.NoMemory
+  pub unread : (m : Message) (board : BoardHolding) → Serves c before after m p p board board (outcome.Plain plain.NoMemory)
   unread m board = record { gained = []; gains = gains_none c p; request = None; served = unread_as c p m board (job_request_for c m); cause = λ e. absurd (cc) }
 
   -- the message asks this of jobs

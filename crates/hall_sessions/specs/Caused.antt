@@ -30,6 +30,7 @@ use Rattle.cache_hall.specs.Gets.{HasAbandoned, HasGot, HasMetSpent}
 use Rattle.cache_hall.specs.Turned.{IsOf}
 use Rattle.tile_requests.specs.declared.outcome.Outcome.{Outcome}
 use Rattle.tile_requests.specs.declared.outcome.Outcome.TheVariants as outcome
+use Rattle.tile_requests.specs.declared.outcome.Plain.TheVariants as plain
 use Rattle.tile_requests.specs.declared.request.Request.{Request}
 use Rattle.tile_requests.specs.declared.request.Request.TheVariants as request
 use Rattle.tile_requests.specs.Requests.{answered_at}
@@ -67,7 +68,7 @@ pub record IsGiven (c : Catalogue) (told : Bool) (a : Address) (e : Exchange) : 
 abbrev pub TilesAreGiven : Catalogue → Bool → Exchange → Type 0
 TilesAreGiven c told e =
     (a : Address) → AsksFor c e.message (request.Tile a)
-    → IsGiven c told a e ⊎ ((outcome_told e ≡ outcome.NoMemory) ⊎ (((outcome_told e ≡ outcome.SourceFailed) × Rose e.renders_before e.renders_after) ⊎ ((outcome_told e ≡ outcome.Spent) × HasMetSpent a e.gained)))
+    → IsGiven c told a e ⊎ ((outcome_told e ≡ outcome.Plain plain.NoMemory) ⊎ (((outcome_told e ≡ outcome.SourceFailed) × Rose e.renders_before e.renders_after) ⊎ ((outcome_told e ≡ outcome.Plain plain.Spent) × HasMetSpent a e.gained)))
 
 -- WHO CHANGES WHAT IS KEPT
 
@@ -129,21 +130,21 @@ abbrev pub IsCaused : Catalogue → Bool → Exchange → Outcome → Type 0
 IsCaused c told e (outcome.Tile hit k bytes) = (a : Address) × AsksFor c e.message (request.Tile a) × HasGot c told a e.seen e.gained (record { hit = hit; number = k; bytes = bytes })
 IsCaused c told e outcome.Document = AsksFor c e.message request.Capabilities
 IsCaused c told e (outcome.Refused code locator) = AsksFor c e.message (request.Refused code locator)
-IsCaused c told e outcome.NotFound = AsksFor c e.message request.NotFound ⊎ (AsksOfJobs c e.message job_request.NotFound ⊎ HasNoJob c e)
-IsCaused c told e outcome.WrongMethod = AsksFor c e.message request.WrongMethod ⊎ AsksOfJobs c e.message job_request.WrongMethod
+IsCaused c told e (outcome.Plain plain.NotFound) = AsksFor c e.message request.NotFound ⊎ (AsksOfJobs c e.message job_request.NotFound ⊎ HasNoJob c e)
+IsCaused c told e (outcome.Plain plain.WrongMethod) = AsksFor c e.message request.WrongMethod ⊎ AsksOfJobs c e.message job_request.WrongMethod
 IsCaused c told e outcome.SourceFailed = (a : Address) × AsksFor c e.message (request.Tile a) × HasAbandoned a e.gained × Rose e.renders_before e.renders_after
-IsCaused c told e outcome.Spent = (a : Address) × AsksFor c e.message (request.Tile a) × HasMetSpent a e.gained
+IsCaused c told e (outcome.Plain plain.Spent) = (a : Address) × AsksFor c e.message (request.Tile a) × HasMetSpent a e.gained
 IsCaused c told e (outcome.Usage text) = AsksFor c e.message request.Usage × IsCounted c e.gained text
 IsCaused c told e (outcome.Cut k) = HasCutTurn c e (cut.Done k)
-IsCaused c told e outcome.CutsFull = HasCutTurn c e cut.Full
-IsCaused c told e outcome.CutSpent = HasCutTurn c e cut.Spent
+IsCaused c told e (outcome.Plain plain.CutsFull) = HasCutTurn c e cut.Full
+IsCaused c told e (outcome.Plain plain.CutSpent) = HasCutTurn c e cut.Spent
 IsCaused c told e (outcome.Unformed fault) = AsksFor c e.message (request.Unformed fault) ⊎ AsksOfJobs c e.message (job_request.Unformed fault)
 IsCaused c told e (outcome.Dropped text) = (m : MetaKey) × HasExpiryTurn c e (expired.Dropped m) × (text ≡ dropped_text c m)
-IsCaused c told e outcome.Within = HasExpiryTurn c e expired.Within
+IsCaused c told e (outcome.Plain plain.Within) = HasExpiryTurn c e expired.Within
 IsCaused c told e (outcome.Job text) = IsJobText c e text
-IsCaused c told e outcome.BoardFull = HasSubmitTurn c e None
-IsCaused c told e outcome.DiskFault = HasFailedCut c e ⊎ HasFailedExpiry c e
-IsCaused c told e outcome.NoMemory = ⊤
+IsCaused c told e (outcome.Plain plain.BoardFull) = HasSubmitTurn c e None
+IsCaused c told e (outcome.Plain plain.DiskFault) = HasFailedCut c e ⊎ HasFailedExpiry c e
+IsCaused c told e (outcome.Plain plain.NoMemory) = ⊤
 
 -- both of a message
 pub record HasAnswer (c : Catalogue) (told : Bool) (e : Exchange) : Type 0 where

@@ -27,6 +27,7 @@ use Rattle.cache_hall.specs.Turned.{Gains, HallPass, IsOf}
 use Rattle.causes.specs.Causes.{Rose}
 use Rattle.tile_requests.specs.declared.outcome.Outcome.{Outcome}
 use Rattle.tile_requests.specs.declared.outcome.Outcome.TheVariants as outcome
+use Rattle.tile_requests.specs.declared.outcome.Plain.TheVariants as plain
 use Rattle.tile_requests.specs.declared.request.Request.{Request}
 use Rattle.tile_requests.specs.declared.request.Request.TheVariants as request
 use Rattle.tile_requests.specs.Requests.{told_at}
@@ -39,8 +40,8 @@ use Rattle.hall_sessions.specs.Counted.{AreCounts, IsCount, counted_text}
 abbrev pub outcome_of_get : Result Tile GetFault → Outcome
 outcome_of_get (Ok tile) = outcome.Tile tile.hit tile.number tile.bytes
 outcome_of_get (Err fault.SourceFault) = outcome.SourceFailed
-outcome_of_get (Err fault.Spent) = outcome.Spent
-outcome_of_get (Err fault.OutOfMemory) = outcome.NoMemory
+outcome_of_get (Err fault.Spent) = outcome.Plain plain.Spent
+outcome_of_get (Err fault.OutOfMemory) = outcome.Plain plain.NoMemory
 
 -- the turns of a get, which says what is answered
 abbrev pub IsTileServed : Catalogue → Bool → Address → FrontedBook → List (Made Note) → Outcome → Type 0
@@ -50,22 +51,22 @@ IsTileServed c told a seen gained o = (result : Result Tile GetFault) × IsGot c
 
 abbrev pub outcome_of_cut : CutReply → Outcome
 outcome_of_cut (cut.Done number) = outcome.Cut number
-outcome_of_cut cut.Full = outcome.CutsFull
-outcome_of_cut (cut.DiskFault b a) = outcome.DiskFault
-outcome_of_cut cut.Spent = outcome.CutSpent
+outcome_of_cut cut.Full = outcome.Plain plain.CutsFull
+outcome_of_cut (cut.DiskFault b a) = outcome.Plain plain.DiskFault
+outcome_of_cut cut.Spent = outcome.Plain plain.CutSpent
 
 -- one turn, which says what is answered; or memory ran out for it
 abbrev pub IsCutServed : Cover → List (Made Note) → Outcome → Type 0
 IsCutServed cover gained o =
-    ((m : Made Note) × (r : CutReply) × (gained ≡ m ∷ []) × IsOf (command.Cut cover) (reply.Cut r) m × (o ≡ outcome_of_cut r)) ⊎ ((gained ≡ []) × (o ≡ outcome.NoMemory))
+    ((m : Made Note) × (r : CutReply) × (gained ≡ m ∷ []) × IsOf (command.Cut cover) (reply.Cut r) m × (o ≡ outcome_of_cut r)) ⊎ ((gained ≡ []) × (o ≡ outcome.Plain plain.NoMemory))
 
 -- AN EXPIRY
 
 -- while memory is left for the text
 abbrev pub outcome_of_expiry : Catalogue → Expired → Bool → Outcome
 outcome_of_expiry c (expired.Dropped m) left = told_at left (outcome.Dropped (dropped_text c m))
-outcome_of_expiry c (expired.DiskFault b a) left = outcome.DiskFault
-outcome_of_expiry c expired.Within left = outcome.Within
+outcome_of_expiry c (expired.DiskFault b a) left = outcome.Plain plain.DiskFault
+outcome_of_expiry c expired.Within left = outcome.Plain plain.Within
 
 -- one turn, which says what is answered
 abbrev pub IsExpiryServed : Catalogue → List (Made Note) → Outcome → Type 0
@@ -93,15 +94,15 @@ abbrev pub AreAllCounts : List (Made Note) → Type 0
 AreAllCounts gained = AllByRecursion (λ m. (layer : ℕ) × (n : Counts) × IsCount layer n m) gained
 
 abbrev pub IsUsageServed : Catalogue → List (Made Note) → Outcome → Type 0
-IsUsageServed c gained o = ((text : List ℕ) × IsCounted c gained text × (o ≡ outcome.Usage text)) ⊎ (AreAllCounts gained × (o ≡ outcome.NoMemory))
+IsUsageServed c gained o = ((text : List ℕ) × IsCounted c gained text × (o ≡ outcome.Usage text)) ⊎ (AreAllCounts gained × (o ≡ outcome.Plain plain.NoMemory))
 
 -- ANY REQUEST, by a pass that had seen this book: the turns that it made, and the outcome
 abbrev pub IsRequestServed : Catalogue → Bool → FrontedBook → Request → List (Made Note) → Outcome → Type 0
 IsRequestServed c told seen (request.Tile a) gained o = IsTileServed c told a seen gained o
 IsRequestServed c told seen request.Capabilities gained o = (gained ≡ []) × (o ≡ outcome.Document)
 IsRequestServed c told seen (request.Refused code locator) gained o = (gained ≡ []) × (o ≡ outcome.Refused code locator)
-IsRequestServed c told seen request.NotFound gained o = (gained ≡ []) × (o ≡ outcome.NotFound)
-IsRequestServed c told seen request.WrongMethod gained o = (gained ≡ []) × (o ≡ outcome.WrongMethod)
+IsRequestServed c told seen request.NotFound gained o = (gained ≡ []) × (o ≡ outcome.Plain plain.NotFound)
+IsRequestServed c told seen request.WrongMethod gained o = (gained ≡ []) × (o ≡ outcome.Plain plain.WrongMethod)
 IsRequestServed c told seen request.Usage gained o = IsUsageServed c gained o
 IsRequestServed c told seen (request.Truncation cover) gained o = IsCutServed cover gained o
 IsRequestServed c told seen (request.Unformed fault) gained o = (gained ≡ []) × (o ≡ outcome.Unformed fault)
@@ -111,7 +112,7 @@ IsRequestServed c told seen request.Expiry gained o = IsExpiryServed c gained o
 
 -- no memory was left to read it
 abbrev pub IsUnread : List (Made Note) → Outcome → Type 0
-IsUnread gained o = (gained ≡ []) × (o ≡ outcome.NoMemory)
+IsUnread gained o = (gained ≡ []) × (o ≡ outcome.Plain plain.NoMemory)
 
 -- one for jobs, which asks for this: its turns at the board, unless no memory was left to read it
 abbrev pub IsJobMessageServed : Catalogue → JobRequest → List (Made Note) → BoardHolding → BoardHolding → Outcome → Type 0

@@ -30,7 +30,7 @@ use std::alloc::Global;
 use std::sync::Wait;
 use tile_requests::dropped::dropped_text;
 use tile_requests::message_ref::MessageRef;
-use tile_requests::outcome::Outcome;
+use tile_requests::outcome::{Outcome, Plain};
 use tile_requests::request::Request;
 use tile_requests::routes::read_request;
 use truncation_list::cover::Cover;
@@ -44,8 +44,8 @@ fn outcome_of_get(got: Result<Tile, GetFault>) -> Outcome
     match got {
         Ok(Tile { hit, number, bytes }) => Outcome::Tile(hit, number, bytes),
         Err(GetFault::SourceFault) => Outcome::SourceFailed,
-        Err(GetFault::Spent) => Outcome::Spent,
-        Err(GetFault::OutOfMemory) => Outcome::NoMemory,
+        Err(GetFault::Spent) => Outcome::Plain(Plain::Spent),
+        Err(GetFault::OutOfMemory) => Outcome::Plain(Plain::NoMemory),
     }
 }
 
@@ -85,10 +85,10 @@ fn truncation<R: Wait, K: Keeper>(
 {
     match truncate(rt, alloc, hall, pass, cover) {
         Ok(number) => Outcome::Cut(number),
-        Err(CutFault::Full) => Outcome::CutsFull,
-        Err(CutFault::DiskFault) => Outcome::DiskFault,
-        Err(CutFault::Spent) => Outcome::CutSpent,
-        Err(CutFault::OutOfMemory) => Outcome::NoMemory,
+        Err(CutFault::Full) => Outcome::Plain(Plain::CutsFull),
+        Err(CutFault::DiskFault) => Outcome::Plain(Plain::DiskFault),
+        Err(CutFault::Spent) => Outcome::Plain(Plain::CutSpent),
+        Err(CutFault::OutOfMemory) => Outcome::Plain(Plain::NoMemory),
     }
 }
 
@@ -104,11 +104,11 @@ fn expiry<R: Wait, K: Keeper>(
     ensures of { IsPassOf hall.now.turnstile.table hall.now.catalogue pass.new }
 {
     match expire_once(rt, hall, pass) {
-        Expired::Within => Outcome::Within,
-        Expired::DiskFault(_, _) => Outcome::DiskFault,
+        Expired::Within => Outcome::Plain(Plain::Within),
+        Expired::DiskFault(_, _) => Outcome::Plain(Plain::DiskFault),
         Expired::Dropped(meta) => match dropped_text(alloc, &hall.catalogue, &meta) {
             Ok(text) => Outcome::Dropped(text),
-            Err(_) => Outcome::NoMemory,
+            Err(_) => Outcome::Plain(Plain::NoMemory),
         },
     }
 }
@@ -126,7 +126,7 @@ fn usage<R: Wait, K: Keeper>(
 {
     match counted_text(rt, alloc, hall, pass) {
         Ok(text) => Outcome::Usage(text),
-        Err(_) => Outcome::NoMemory,
+        Err(_) => Outcome::Plain(Plain::NoMemory),
     }
 }
 
@@ -152,8 +152,8 @@ fn served<R: Wait, K: Keeper, S: Source>(
         Request::Tile(address) => tile(rt, alloc, hall, pass, source, &address),
         Request::Capabilities => Outcome::Document,
         Request::Refused(code, locator) => Outcome::Refused(code, locator),
-        Request::NotFound => Outcome::NotFound,
-        Request::WrongMethod => Outcome::WrongMethod,
+        Request::NotFound => Outcome::Plain(Plain::NotFound),
+        Request::WrongMethod => Outcome::Plain(Plain::WrongMethod),
         Request::Usage => usage(rt, alloc, hall, pass),
         Request::Truncation(cover) => truncation(rt, alloc, hall, pass, &cover),
         Request::Unformed(fault) => Outcome::Unformed(fault),
@@ -185,10 +185,10 @@ pub fn serve<R: Wait, K: Keeper, S: Source>(
     let parts = MessageRef::of(message);
     let catalogue = &world.hall.catalogue;
     match read_job_request(alloc, catalogue, &parts) {
-        Err(_) => Outcome::NoMemory,
+        Err(_) => Outcome::Plain(Plain::NoMemory),
         Ok(Some(request)) => serve_job(rt, alloc, catalogue, &world.board, board, request),
         Ok(None) => match read_request(alloc, catalogue, &world.rest, &parts) {
-            Err(_) => Outcome::NoMemory,
+            Err(_) => Outcome::Plain(Plain::NoMemory),
             Ok(request) => served(rt, alloc, &world.hall, pass, source, request),
         },
     }

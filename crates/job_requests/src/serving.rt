@@ -17,7 +17,7 @@ use jobs::job::Job;
 use jobs::places::count;
 use std::alloc::Global;
 use std::sync::Wait;
-use tile_requests::outcome::Outcome;
+use tile_requests::outcome::{Outcome, Plain};
 use turnstile::pass::Pass;
 
 /// A job is submitted, with as many places as it has.
@@ -37,11 +37,11 @@ fn submission<R: Wait>(
 {
     let places = count(catalogue, &job);
     match board.submit(rt, alloc, pass, job, places) {
-        Err(BoardFault::Full) => Outcome::BoardFull,
-        Err(BoardFault::OutOfMemory) => Outcome::NoMemory,
+        Err(BoardFault::Full) => Outcome::Plain(Plain::BoardFull),
+        Err(BoardFault::OutOfMemory) => Outcome::Plain(Plain::NoMemory),
         Ok(number) => match submitted_text(alloc, number) {
             Ok(text) => Outcome::Job(text),
-            Err(_) => Outcome::NoMemory,
+            Err(_) => Outcome::Plain(Plain::NoMemory),
         },
     }
 }
@@ -59,11 +59,11 @@ fn look<R: Wait>(
     ensures of { IsBoardPass board.now.turnstile.table pass.new }
 {
     let Some(progress) = board.look(rt, pass, number) else {
-        return Outcome::NotFound;
+        return Outcome::Plain(Plain::NotFound);
     };
     match progress_text(alloc, number, &progress) {
         Ok(text) => Outcome::Job(text),
-        Err(_) => Outcome::NoMemory,
+        Err(_) => Outcome::Plain(Plain::NoMemory),
     }
 }
 
@@ -82,7 +82,7 @@ fn stop<R: Wait>(
     if board.stop(rt, pass, number) {
         look(rt, alloc, board, pass, number)
     } else {
-        Outcome::NotFound
+        Outcome::Plain(Plain::NotFound)
     }
 }
 
@@ -107,7 +107,7 @@ pub fn serve_job<R: Wait>(
         JobRequest::Unformed(fault) => Outcome::Unformed(fault),
         JobRequest::Look(number) => look(rt, alloc, board, pass, number),
         JobRequest::Stop(number) => stop(rt, alloc, board, pass, number),
-        JobRequest::NotFound => Outcome::NotFound,
-        JobRequest::WrongMethod => Outcome::WrongMethod,
+        JobRequest::NotFound => Outcome::Plain(Plain::NotFound),
+        JobRequest::WrongMethod => Outcome::Plain(Plain::WrongMethod),
     }
 }

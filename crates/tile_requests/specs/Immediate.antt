@@ -6,6 +6,7 @@ use Rattle.cache_core.specs.Steps.{one_where}
 use Rattle.causes.specs.Causes.{RoseBy}
 use Rattle.tile_requests.specs.declared.outcome.Outcome.{Outcome}
 use Rattle.tile_requests.specs.declared.outcome.Outcome.TheVariants as outcome
+use Rattle.tile_requests.specs.declared.outcome.Plain.TheVariants as plain
 use Rattle.tile_requests.specs.declared.request.Request.{Request}
 use Rattle.tile_requests.specs.declared.request.Request.TheVariants as request
 use Rattle.tile_requests.specs.Requests.{told_usage, cut, expired}
@@ -23,8 +24,8 @@ abbrev pub IsImmediate : ℕ → ℕ → State → Request → Outcome → State
 IsImmediate before after s (request.Tile a) o t = ⊥
 IsImmediate before after s request.Capabilities o t = IsBoth (s, outcome.Document) o t
 IsImmediate before after s (request.Refused code locator) o t = IsBoth (s, outcome.Refused code locator) o t
-IsImmediate before after s request.NotFound o t = IsBoth (s, outcome.NotFound) o t
-IsImmediate before after s request.WrongMethod o t = IsBoth (s, outcome.WrongMethod) o t
+IsImmediate before after s request.NotFound o t = IsBoth (s, outcome.Plain plain.NotFound) o t
+IsImmediate before after s request.WrongMethod o t = IsBoth (s, outcome.Plain plain.WrongMethod) o t
 IsImmediate before after s request.Usage o t = (left : Bool) × IsBoth (s, told_usage s left) o t
 IsImmediate before after s (request.Truncation cover) o t = (left : Bool) × IsWritten before after (cut s cover left) o t
 IsImmediate before after s (request.Unformed fault) o t = IsBoth (s, outcome.Unformed fault) o t

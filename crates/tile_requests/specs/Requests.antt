@@ -23,6 +23,7 @@ use Rattle.served_covers.specs.OfCatalogue.{IsCoverOf}
 use Rattle.truncation_list.specs.declared.cover.Cover.{Cover}
 use Rattle.tile_requests.specs.declared.outcome.Outcome.{Outcome}
 use Rattle.tile_requests.specs.declared.outcome.Outcome.TheVariants as outcome
+use Rattle.tile_requests.specs.declared.outcome.Plain.TheVariants as plain
 use Rattle.tile_requests.specs.declared.request.Mode.{Mode}
 use Rattle.tile_requests.specs.declared.request.Mode.TheVariants.{Gets, Asks, Forces}
 use Rattle.tile_requests.specs.declared.request.Request.{Request}
@@ -82,38 +83,30 @@ events Forces s a c = began s a true c.ask c.moment c.unread c.bytes
 abbrev pub outcome_of : cached.TileOutcome → Outcome
 outcome_of (core.Tile tile) = outcome.Tile tile.hit tile.number tile.bytes
 outcome_of core.SourceFailed = outcome.SourceFailed
-outcome_of core.Spent = outcome.Spent
-outcome_of core.NoMemory = outcome.NoMemory
+outcome_of core.Spent = outcome.Plain plain.Spent
+outcome_of core.NoMemory = outcome.Plain plain.NoMemory
 
 -- where no memory is left, the outcome says so
 abbrev pub told_at : Bool → Outcome → Outcome
-told_at left o = if left then o else outcome.NoMemory
+told_at left o = if left then o else outcome.Plain plain.NoMemory
 
 -- the body of the response is a text that is made for it, which takes memory; a tile, the document and what was told already lie ready
 abbrev pub is_made : Outcome → Bool
 is_made (outcome.Tile hit k text) = false
 is_made outcome.Document = false
 is_made (outcome.Refused code locator) = true
-is_made outcome.NotFound = false
-is_made outcome.WrongMethod = false
+is_made (outcome.Plain p) = false
 is_made outcome.SourceFailed = true
-is_made outcome.Spent = false
 is_made (outcome.Usage text) = false
 is_made (outcome.Cut number) = true
-is_made outcome.CutsFull = false
-is_made outcome.CutSpent = false
 is_made (outcome.Unformed fault) = true
 is_made (outcome.Dropped text) = false
-is_made outcome.Within = false
 is_made (outcome.Job text) = false
-is_made outcome.BoardFull = false
-is_made outcome.DiskFault = false
-is_made outcome.NoMemory = false
 
 -- what is answered: where no memory is left for the text that is to be made, that
 abbrev pub answered_at : Bool → Outcome → Outcome
 answered_at true o = o
-answered_at false o = if is_made o then outcome.NoMemory else o
+answered_at false o = if is_made o then outcome.Plain plain.NoMemory else o
 
 -- COMMANDS
 
@@ -123,27 +116,27 @@ told_usage s left = told_at left (outcome.Usage (usage_text s))
 
 -- the truncation is written down, or goes unwritten, and then its number is spent
 abbrev pub cut_at : State → Cover → ℕ → Bool → State × Outcome
-cut_at s cover t true = (with_entry s (entry.Missed t), outcome.DiskFault)
+cut_at s cover t true = (with_entry s (entry.Missed t), outcome.Plain plain.DiskFault)
 cut_at s cover t false = (with_cut s t cover, outcome.Cut t)
 
 -- the cover is cut, unless as many cuts would stay in force as may be, or no number is left
 abbrev pub cut_by : State → Cover → Bool → Option ℕ → State × Outcome
-cut_by s cover unwritten None = (s, outcome.CutSpent)
-cut_by s cover unwritten (Some t) = if nat_lt (length (book_before s cover).cuts) s.catalogue.cut_limit then cut_at s cover t unwritten else (s, outcome.CutsFull)
+cut_by s cover unwritten None = (s, outcome.Plain plain.CutSpent)
+cut_by s cover unwritten (Some t) = if nat_lt (length (book_before s cover).cuts) s.catalogue.cut_limit then cut_at s cover t unwritten else (s, outcome.Plain plain.CutsFull)
 
 -- a truncation, while memory is left
 abbrev pub cut : State → Cover → Bool → Bool → State × Outcome
-cut s cover left unwritten = if left then cut_by s cover unwritten (next s.opening (now s)) else (s, outcome.NoMemory)
+cut s cover left unwritten = if left then cut_by s cover unwritten (next s.opening (now s)) else (s, outcome.Plain plain.NoMemory)
 
 -- a metatile is dropped, whether memory is left to tell it or not
 abbrev pub dropped : State → Bool → Option MetaKey → State × Outcome
-dropped s left None = (s, outcome.Within)
+dropped s left None = (s, outcome.Plain plain.Within)
 dropped s left (Some m) = (with_dropped s m, told_at left (outcome.Dropped (dropped_text s.catalogue m)))
 
 -- that of the scope whose quota is exceeded, unless the expiry goes unwritten
 abbrev pub expired_in : State → Bool → Option Scope → Bool → State × Outcome
-expired_in s left None unwritten = (s, outcome.Within)
-expired_in s left (Some scope) true = (s, outcome.DiskFault)
+expired_in s left None unwritten = (s, outcome.Plain plain.Within)
+expired_in s left (Some scope) true = (s, outcome.Plain plain.DiskFault)
 expired_in s left (Some scope) false = dropped s left (victim_in s scope)
 
 -- an expiry
@@ -177,21 +170,13 @@ abbrev pub tile_in : Outcome → Option (ℕ × List ℕ)
 tile_in (outcome.Tile hit k text) = Some (k, text)
 tile_in outcome.Document = None
 tile_in (outcome.Refused code locator) = None
-tile_in outcome.NotFound = None
-tile_in outcome.WrongMethod = None
+tile_in (outcome.Plain p) = None
 tile_in outcome.SourceFailed = None
-tile_in outcome.Spent = None
 tile_in (outcome.Usage text) = None
 tile_in (outcome.Cut number) = None
-tile_in outcome.CutsFull = None
-tile_in outcome.CutSpent = None
 tile_in (outcome.Unformed fault) = None
 tile_in (outcome.Dropped text) = None
-tile_in outcome.Within = None
 tile_in (outcome.Job text) = None
-tile_in outcome.BoardFull = None
-tile_in outcome.DiskFault = None
-tile_in outcome.NoMemory = None
 
 -- a tile that is asked for is of the catalogue, and the cover of a truncation
 abbrev pub IsOf : Catalogue → Request → Type 0

@@ -7,7 +7,7 @@ ghost use Rattle.tile_requests.specs.Immediate.{IsWritten};
 ghost use Rattle.tile_requests.specs.Requests.{cut, expired, told_usage};
 
 use crate::dropped::dropped_text;
-use crate::outcome::Outcome;
+use crate::outcome::{Outcome, Plain};
 use crate::usage::usage_text;
 use cabinet::keeper::Keeper;
 use cabinet::laws::laws_of_rows;
@@ -23,7 +23,7 @@ pub fn usage<C: Keeper>(alloc: Global, cabinet: &C) -> Outcome
 {
     match usage_text(alloc, cabinet) {
         Ok(text) => Outcome::Usage(text),
-        Err(_) => Outcome::NoMemory,
+        Err(_) => Outcome::Plain(Plain::NoMemory),
     }
 }
 
@@ -39,10 +39,10 @@ pub fn cut<C: Keeper>(alloc: Global, cabinet: &mut C, cover: &Cover) -> Outcome
     cabinet.known();
     match cabinet.cut(alloc, cover) {
         Ok(CutReply::Done(number)) => Outcome::Cut(number),
-        Ok(CutReply::DiskFault(_, _)) => Outcome::DiskFault,
-        Ok(CutReply::Full) => Outcome::CutsFull,
-        Ok(CutReply::Spent) => Outcome::CutSpent,
-        Err(_) => Outcome::NoMemory,
+        Ok(CutReply::DiskFault(_, _)) => Outcome::Plain(Plain::DiskFault),
+        Ok(CutReply::Full) => Outcome::Plain(Plain::CutsFull),
+        Ok(CutReply::Spent) => Outcome::Plain(Plain::CutSpent),
+        Err(_) => Outcome::Plain(Plain::NoMemory),
     }
 }
 
@@ -55,11 +55,11 @@ pub fn expire<C: Keeper>(alloc: Global, cabinet: &mut C) -> Outcome
     laws_of_rows();
     cabinet.known();
     match cabinet.expire() {
-        Expired::Within => Outcome::Within,
-        Expired::DiskFault(_, _) => Outcome::DiskFault,
+        Expired::Within => Outcome::Plain(Plain::Within),
+        Expired::DiskFault(_, _) => Outcome::Plain(Plain::DiskFault),
         Expired::Dropped(meta) => match dropped_text(alloc, cabinet.catalogue(), &meta) {
             Ok(text) => Outcome::Dropped(text),
-            Err(_) => Outcome::NoMemory,
+            Err(_) => Outcome::Plain(Plain::NoMemory),
         },
     }
 }

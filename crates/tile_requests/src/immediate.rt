@@ -6,7 +6,7 @@ ghost use Rattle.tile_requests.specs.Immediate.{IsImmediate};
 ghost use Rattle.tile_requests.specs.Requests.{IsOf, tile_of};
 
 use crate::commands::{cut, expire, usage};
-use crate::outcome::Outcome;
+use crate::outcome::{Outcome, Plain};
 use crate::request::Request;
 use cabinet::keeper::Keeper;
 use cache_core::laws::laws_of_lasting;
@@ -27,8 +27,8 @@ pub fn immediate<C: Keeper>(alloc: Global, cabinet: &mut C, request: Request) ->
         Request::Tile(_) => unreachable!(),
         Request::Capabilities => Outcome::Document,
         Request::Refused(code, locator) => Outcome::Refused(code, locator),
-        Request::NotFound => Outcome::NotFound,
-        Request::WrongMethod => Outcome::WrongMethod,
+        Request::NotFound => Outcome::Plain(Plain::NotFound),
+        Request::WrongMethod => Outcome::Plain(Plain::WrongMethod),
         Request::Usage => usage(alloc, cabinet),
         Request::Truncation(cover) => cut(alloc, cabinet, &cover),
         Request::Unformed(fault) => Outcome::Unformed(fault),

@@ -2,7 +2,7 @@
 ghost use Rattle.std.specs.Prelude.{◌≡◌};
 ghost use Rattle.tile_requests.specs.Requests.{outcome_of};
 
-use crate::outcome::Outcome;
+use crate::outcome::{Outcome, Plain};
 use cache_core::outcome::{Tile, TileOutcome};
 use exception_report::code::{Code, Locator};
 use job_forms::fault::JobFault;
@@ -50,7 +50,7 @@ pub fn outcome_of(outcome: TileOutcome) -> Outcome
     match outcome {
         TileOutcome::Tile(Tile { hit, number, bytes }) => Outcome::Tile(hit, number, bytes),
         TileOutcome::SourceFailed => Outcome::SourceFailed,
-        TileOutcome::Spent => Outcome::Spent,
-        TileOutcome::NoMemory => Outcome::NoMemory,
+        TileOutcome::Spent => Outcome::Plain(Plain::Spent),
+        TileOutcome::NoMemory => Outcome::Plain(Plain::NoMemory),
     }
 }

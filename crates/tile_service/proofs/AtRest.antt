@@ -24,6 +24,7 @@ use Rattle.metatile_plan.proofs.Same.{same_meta_self}
 use Rattle.raster_field.specs.Blocks.{block_of}
 use Rattle.tile_requests.specs.declared.outcome.Outcome.{Outcome}
 use Rattle.tile_requests.specs.declared.outcome.Outcome.TheVariants as outcome
+use Rattle.tile_requests.specs.declared.outcome.Plain.TheVariants as plain
 use Rattle.tile_requests.specs.declared.request.Mode.TheVariants.{Gets}
 use Rattle.tile_requests.specs.Requests.{Chance, further, carried_on, events, cut_at, cut_by, cut, dropped, expired_in, expired}
 use Rattle.tile_service.specs.Session.{IsAtRest}
@@ -132,7 +133,7 @@ cover_rests : (s : State) (cover : Cover) (unwritten : Bool) (n : Option ℕ) �
 cover_rests s cover unwritten None rest = rest
 cover_rests s cover unwritten (Some t) rest = chosen (nat_lt (length (book_before s cover).cuts) s.catalogue.cut_limit)
   where
-    chosen : (b : Bool) → RestsAfter (if b then cut_at s cover t unwritten else (s, outcome.CutsFull))
+    chosen : (b : Bool) → RestsAfter (if b then cut_at s cover t unwritten else (s, outcome.Plain plain.CutsFull))
     chosen true = cut_at_rests s cover t unwritten rest
     chosen false = rest
 

@@ -6,6 +6,7 @@ use Rattle.http_wire.specs.declared.message.Message.{Message}
 use Rattle.matrix_geometry.specs.declared.address.Address.{Address}
 use Rattle.tile_requests.specs.declared.outcome.Outcome.{Outcome}
 use Rattle.tile_requests.specs.declared.outcome.Outcome.TheVariants as outcome
+use Rattle.tile_requests.specs.declared.outcome.Plain.TheVariants as plain
 use Rattle.tile_requests.specs.declared.request.Mode.{Mode}
 use Rattle.tile_requests.specs.declared.request.Mode.TheVariants.{Gets, Asks, Forces}
 use Rattle.tile_requests.specs.declared.request.Request.{Request}
@@ -61,9 +62,9 @@ module _ (disk : FaultCounts) (later : disk.before ≤ disk.after) (s : State) w
       rw (k.0, k.1) (same_told request.Capabilities outcome.Document (same_stays s outcome.Document refl) refl (λ document busy n mode i m left. refl))
   immediate_told (request.Refused code locator) o t k =
       rw (k.0, k.1) (same_told (request.Refused code locator) (outcome.Refused code locator) (same_stays s (outcome.Refused code locator) refl) refl (λ document busy n mode i m left. refl))
-  immediate_told request.NotFound o t k = rw (k.0, k.1) (same_told request.NotFound outcome.NotFound (same_stays s outcome.NotFound refl) refl (λ document busy n mode i m left. refl))
+  immediate_told request.NotFound o t k = rw (k.0, k.1) (same_told request.NotFound (outcome.Plain plain.NotFound) (same_stays s (outcome.Plain plain.NotFound) refl) refl (λ document busy n mode i m left. refl))
   immediate_told request.WrongMethod o t k =
-      rw (k.0, k.1) (same_told request.WrongMethod outcome.WrongMethod (same_stays s outcome.WrongMethod refl) refl (λ document busy n mode i m left. refl))
+      rw (k.0, k.1) (same_told request.WrongMethod (outcome.Plain plain.WrongMethod) (same_stays s (outcome.Plain plain.WrongMethod) refl) refl (λ document busy n mode i m left. refl))
   immediate_told request.Usage o t k =
       rw (k.1.0, k.1.1) (record { chance = with_memory k.0 false; made = λ document busy n mode i m left. refl; faults = omega arith; other = refl; stays = usage_stays s k.0; rests = λ rest. rest })
   immediate_told (request.Truncation cover) o t k =

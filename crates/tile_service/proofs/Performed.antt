@@ -18,6 +18,7 @@ use Rattle.tile_service.specs.declared.action_end.ActionEnd.{ActionEnd}
 use Rattle.tile_service.specs.declared.action_end.ActionEnd.TheVariants.{Refused, Silent, Answers}
 use Rattle.tile_requests.specs.declared.outcome.Outcome.{Outcome}
 use Rattle.tile_requests.specs.declared.outcome.Outcome.TheVariants as outcome
+use Rattle.tile_requests.specs.declared.outcome.Plain.TheVariants as plain
 use Rattle.tile_requests.specs.declared.request.Mode.{Mode}
 use Rattle.tile_requests.specs.declared.request.Request.{Request}
 use Rattle.tile_requests.specs.declared.request.Request.TheVariants as request
@@ -175,8 +176,8 @@ module _ (told : Option ℕ) (disk : FaultCounts) (s : State) (document : List �
     },
   )
 
-  pub unread_performs : (count : ℕ) → disk.before ≤ disk.after → Performs told count count disk s document seats n action s seats (Answers (record { actor = i; start = n; outcome = outcome.NoMemory }))
-  unread_performs count later = told_performs count None (s, outcome.NoMemory) (λ left. with_ends calm false left) (λ left. omega arith) (same_stays s outcome.NoMemory refl) tt (λ busy h left. goes busy h (with_ends calm false left))
+  pub unread_performs : (count : ℕ) → disk.before ≤ disk.after → Performs told count count disk s document seats n action s seats (Answers (record { actor = i; start = n; outcome = outcome.Plain plain.NoMemory }))
+  unread_performs count later = told_performs count None (s, outcome.Plain plain.NoMemory) (λ left. with_ends calm false left) (λ left. omega arith) (same_stays s (outcome.Plain plain.NoMemory) refl) tt (λ busy h left. goes busy h (with_ends calm false left))
 
   immediate_performs : (count : ℕ) (r : Request) (o : Outcome) (t : State) → disk.before ≤ disk.after → r ≡ asks → IsImmediate disk.before disk.after s r o t → Performs told count count disk s document seats n action t seats (Answers (record { actor = i; start = n; outcome = o }))
   immediate_performs count r o t later e k =

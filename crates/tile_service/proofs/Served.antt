@@ -10,6 +10,7 @@ use Rattle.http_wire.specs.declared.message.Message.{Message}
 use Rattle.matrix_geometry.specs.declared.address.Address.{Address}
 use Rattle.tile_requests.specs.declared.outcome.Outcome.{Outcome}
 use Rattle.tile_requests.specs.declared.outcome.Outcome.TheVariants as outcome
+use Rattle.tile_requests.specs.declared.outcome.Plain.TheVariants as plain
 use Rattle.tile_requests.specs.declared.request.Mode.TheVariants.{Gets}
 use Rattle.tile_requests.specs.declared.request.Request.{Request}
 use Rattle.tile_requests.specs.declared.request.Request.TheVariants as request
@@ -38,14 +39,14 @@ module _ (told : Option ℕ) (disk : FaultCounts) (document : List ℕ) (s : Sta
   abbrev asks : Request
   asks = request_for s.catalogue m
 
-  pub unread_serves : (count : ℕ) → disk.before ≤ disk.after → Serves told count count disk document s m outcome.NoMemory s
+  pub unread_serves : (count : ℕ) → disk.before ≤ disk.after → Serves told count count disk document s m (outcome.Plain plain.NoMemory) s
   unread_serves count later =
       record {
         request = None;
         chance = λ left. with_ends calm false left;
         made = λ i left. refl;
         faults = λ left. omega arith;
-        keeps = λ i left. told_keeps told count s s document (None ∷ []) i 0 m None outcome.NoMemory left (same_stays s outcome.NoMemory refl) tt;
+        keeps = λ i left. told_keeps told count s s document (None ∷ []) i 0 m None (outcome.Plain plain.NoMemory) left (same_stays s (outcome.Plain plain.NoMemory) refl) tt;
         rests = rest;
       }
 

@@ -17,6 +17,7 @@ use Rattle.metatile_locks.proofs.Lists.{all_filter}
 use Rattle.metatile_plan.specs.declared.metatile.MetaKey.{MetaKey}
 use Rattle.tile_requests.specs.declared.outcome.Outcome.{Outcome}
 use Rattle.tile_requests.specs.declared.outcome.Outcome.TheVariants as outcome
+use Rattle.tile_requests.specs.declared.outcome.Plain.TheVariants as plain
 use Rattle.tile_requests.specs.declared.request.Request.{Request}
 use Rattle.tile_service.specs.OneLine.{Keeps}
 use Rattle.tile_requests.specs.Requests.{answered_at, is_made, told_at, told_usage, cut_at, cut_by, cut, dropped, expired_in, expired, tile_of}
@@ -43,7 +44,7 @@ answer_succeeds : (left : Bool) (o : Outcome) → is_failed o ≡ false → is_f
 answer_succeeds true o e = e
 answer_succeeds false o e = chosen (is_made o)
   where
-    chosen : (b : Bool) → is_failed (if b then outcome.NoMemory else o) ≡ false
+    chosen : (b : Bool) → is_failed (if b then outcome.Plain plain.NoMemory else o) ≡ false
     chosen true = refl
     chosen false = e
 
@@ -57,24 +58,24 @@ cut_at_stays s cover t false =
     (refl, (entry.Cut t cover ∷ [], refl), kept, refl)
 
 cover_stays : (s : State) (cover : Cover) (unwritten : Bool) (o : Option ℕ) → Stays s (cut_by s cover unwritten o)
-cover_stays s cover unwritten None = same_stays s outcome.CutSpent refl
+cover_stays s cover unwritten None = same_stays s (outcome.Plain plain.CutSpent) refl
 cover_stays s cover unwritten (Some t) = chosen (nat_lt (length (book_before s cover).cuts) s.catalogue.cut_limit)
   where
-    chosen : (b : Bool) → Stays s (if b then cut_at s cover t unwritten else (s, outcome.CutsFull))
+    chosen : (b : Bool) → Stays s (if b then cut_at s cover t unwritten else (s, outcome.Plain plain.CutsFull))
     chosen true = cut_at_stays s cover t unwritten
-    chosen false = same_stays s outcome.CutsFull refl
+    chosen false = same_stays s (outcome.Plain plain.CutsFull) refl
 
 pub cut_stays : (s : State) (cover : Cover) (left unwritten : Bool) → Stays s (cut s cover left unwritten)
 cut_stays s cover true unwritten = cover_stays s cover unwritten (next s.opening (now s))
-cut_stays s cover false unwritten = same_stays s outcome.NoMemory refl
+cut_stays s cover false unwritten = same_stays s (outcome.Plain plain.NoMemory) refl
 
 dropped_stays : (s : State) (left : Bool) (o : Option MetaKey) → Stays s (dropped s left o)
-dropped_stays s left None = same_stays s outcome.Within refl
+dropped_stays s left None = same_stays s (outcome.Plain plain.Within) refl
 dropped_stays s left (Some m) = (refl, (entry.Dropped m ∷ [], refl), λ is. some_and_made _ _ (blobs_without m) (λ bs are. all_filter (IsPictured s.catalogue) (λ b. not (is_of m b.kept)) bs are) s.blobs is, none_failed left (outcome.Dropped (dropped_text s.catalogue m)) refl)
 
 scope_stays : (s : State) (left : Bool) (o : Option Scope) (unwritten : Bool) → Stays s (expired_in s left o unwritten)
-scope_stays s left None unwritten = same_stays s outcome.Within refl
-scope_stays s left (Some scope) true = same_stays s outcome.DiskFault refl
+scope_stays s left None unwritten = same_stays s (outcome.Plain plain.Within) refl
+scope_stays s left (Some scope) true = same_stays s (outcome.Plain plain.DiskFault) refl
 scope_stays s left (Some scope) false = dropped_stays s left (victim_in s scope)
 
 pub expired_stays : (s : State) (left unwritten : Bool) → Stays s (expired s left unwritten)

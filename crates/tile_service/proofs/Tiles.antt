@@ -27,6 +27,7 @@ use Rattle.metatile_locks.specs.Tickets.{Ticketed}
 use Rattle.metatile_plan.specs.declared.metatile.MetaKey.{MetaKey}
 use Rattle.raster_field.specs.Blocks.{block_of}
 use Rattle.tile_requests.specs.declared.outcome.Outcome.TheVariants as outcome
+use Rattle.tile_requests.specs.declared.outcome.Plain.TheVariants as plain
 use Rattle.tile_requests.specs.declared.request.Mode.{Mode}
 use Rattle.tile_requests.specs.declared.request.Mode.TheVariants.{Gets, Asks, Forces}
 use Rattle.tile_requests.specs.declared.request.Request.{Request}
@@ -184,7 +185,7 @@ cut_later s cover true unwritten = by_number (next s.opening (now s))
     at t true = grows s _ _
     at t false = grows s _ _
 
-    chosen : (t : ℕ) (b : Bool) → IsLater s (if b then cut_at s cover t unwritten else (s, outcome.CutsFull)).0
+    chosen : (t : ℕ) (b : Bool) → IsLater s (if b then cut_at s cover t unwritten else (s, outcome.Plain plain.CutsFull)).0
     chosen t true = at t unwritten
     chosen t false = same s
 
@@ -238,7 +239,7 @@ message_answered : (w : World) (n : ℕ) (c : Chance) (mode : Mode) (i : ℕ) (m
 message_answered w n c mode i m = chosen c.read
   where
     chosen : (b : Bool)
-        → let d = if b then runs.asked w n c mode i m (request_for w.cabinet.catalogue m) else runs.told_in w n c i m None (w.cabinet, outcome.NoMemory) in AreAnswered w.cabinet d.0.cabinet d.1
+        → let d = if b then runs.asked w n c mode i m (request_for w.cabinet.catalogue m) else runs.told_in w n c i m None (w.cabinet, outcome.Plain plain.NoMemory) in AreAnswered w.cabinet d.0.cabinet d.1
     chosen true = request_answered w n c mode i m (request_for w.cabinet.catalogue m)
     chosen false = (same w.cabinet, λ left. (tt, tt))
 

@@ -13,7 +13,8 @@ use Rattle.tile_service.specs.declared.action_end.ActionEnd.{ActionEnd}
 use Rattle.tile_service.specs.declared.action_end.ActionEnd.TheVariants as action_end
 use Rattle.tile_service.specs.declared.action_end.Answer as code
 use Rattle.tile_requests.specs.declared.outcome.Outcome.{Outcome}
-use Rattle.tile_requests.specs.declared.outcome.Outcome.TheVariants.{NoMemory}
+use Rattle.tile_requests.specs.declared.outcome.Outcome.TheVariants.{Plain}
+use Rattle.tile_requests.specs.declared.outcome.Plain.TheVariants.{NoMemory}
 use Rattle.tile_requests.specs.declared.request.Request.{Request}
 use Rattle.tile_service.specs.declared.seats.Seat.{Seat}
 use Rattle.tile_service.specs.declared.seats.Seat.TheVariants as seat
@@ -25,7 +26,7 @@ use Rattle.tile_service.specs.Run.{PendingRequest, World, Answer, line_done, fai
 
 -- P holds of the outcome, or of that of no memory, where a text would have to be made for the answer
 abbrev pub MayTell : Outcome → (Outcome → Type 0) → Type 0
-MayTell o P = P o ⊎ ((is_made o ≡ true) × P NoMemory)
+MayTell o P = P o ⊎ ((is_made o ≡ true) × P (Plain NoMemory))
 
 -- WHAT HOLDS OF WORLDS
 

@@ -12,7 +12,8 @@ use Rattle.catalog.specs.declared.catalogue.Catalogue.{Catalogue}
 use Rattle.http_wire.specs.declared.message.Message.{Message}
 use Rattle.matrix_geometry.specs.declared.address.Address.{Address}
 use Rattle.tile_requests.specs.declared.outcome.Outcome.{Outcome}
-use Rattle.tile_requests.specs.declared.outcome.Outcome.TheVariants.{Tile, Document, Refused, NotFound, WrongMethod, SourceFailed, Spent, Usage, Cut, CutsFull, CutSpent, Unformed, Dropped, Within, Job, BoardFull, DiskFault, NoMemory}
+use Rattle.tile_requests.specs.declared.outcome.Outcome.TheVariants.{Tile, Document, Refused, SourceFailed, Usage, Cut, Unformed, Dropped, Job, Plain}
+use Rattle.tile_requests.specs.declared.outcome.Plain.TheVariants.{NotFound, WrongMethod, NoMemory}
 use Rattle.tile_requests.specs.declared.request.Mode.{Mode}
 use Rattle.tile_requests.specs.declared.request.Request.{Request}
 use Rattle.tile_requests.specs.declared.request.Request.TheVariants as request
@@ -107,8 +108,8 @@ abbrev pub asked : World → ℕ → Chance → Mode → ℕ → Message → Req
 asked w n c mode i m (request.Tile a) = settled w n c i (started w n m a) (events mode w.cabinet a c)
 asked w n c mode i m request.Capabilities = told_in w n c i m (Some request.Capabilities) (w.cabinet, Document)
 asked w n c mode i m (request.Refused code locator) = told_in w n c i m (Some (request.Refused code locator)) (w.cabinet, Refused code locator)
-asked w n c mode i m request.NotFound = told_in w n c i m (Some request.NotFound) (w.cabinet, NotFound)
-asked w n c mode i m request.WrongMethod = told_in w n c i m (Some request.WrongMethod) (w.cabinet, WrongMethod)
+asked w n c mode i m request.NotFound = told_in w n c i m (Some request.NotFound) (w.cabinet, Plain NotFound)
+asked w n c mode i m request.WrongMethod = told_in w n c i m (Some request.WrongMethod) (w.cabinet, Plain WrongMethod)
 asked w n c mode i m request.Usage = told_in w n c i m (Some request.Usage) (w.cabinet, told_usage w.cabinet c.work)
 asked w n c mode i m (request.Truncation cover) = told_in w n c i m (Some (request.Truncation cover)) (cut w.cabinet cover c.ask c.unwritten)
 asked w n c mode i m (request.Unformed fault) = told_in w n c i m (Some (request.Unformed fault)) (w.cabinet, Unformed fault)
@@ -116,7 +117,7 @@ asked w n c mode i m request.Expiry = told_in w n c i m (Some request.Expiry) (e
 
 -- a message is answered; memory may run out before it is read
 abbrev pub sent : World → ℕ → Chance → Mode → ℕ → Message → World × List Answer
-sent w n c mode i m = if c.read then asked w n c mode i m (request_for w.cabinet.catalogue m) else told_in w n c i m None (w.cabinet, NoMemory)
+sent w n c mode i m = if c.read then asked w n c mode i m (request_for w.cabinet.catalogue m) else told_in w n c i m None (w.cabinet, Plain NoMemory)
 
 -- there is the actor, and it is not busy
 abbrev pub if_free : Option (Option PendingRequest) → World × List Answer → Option (World × List Answer)
@@ -177,21 +178,13 @@ abbrev pub is_failed : Outcome → Bool
 is_failed (Tile hit number text) = false
 is_failed Document = false
 is_failed (Refused code locator) = false
-is_failed NotFound = false
-is_failed WrongMethod = false
+is_failed (Plain p) = false
 is_failed SourceFailed = true
-is_failed Spent = false
 is_failed (Usage text) = false
 is_failed (Cut number) = false
-is_failed CutsFull = false
-is_failed CutSpent = false
 is_failed (Unformed fault) = false
 is_failed (Dropped text) = false
-is_failed Within = false
 is_failed (Job text) = false
-is_failed BoardFull = false
-is_failed DiskFault = false
-is_failed NoMemory = false
 
 -- how many answers say that the source failed
 abbrev pub failures : List Answer → ℕ
@@ -233,4 +226,4 @@ HasNumbers s = (now s).front < last_number s.opening
 
 -- a request for a tile is answered with the tile, unless memory ran out or the source failed
 abbrev pub IsAnsweredTile : Answer → Type 0
-IsAnsweredTile a = IfSome a.request (λ r. IfSome (tile_of r) (λ b. IsSome (tile_in a.outcome) ⊎ (a.outcome ≡ NoMemory) ⊎ (a.outcome ≡ SourceFailed)))
+IsAnsweredTile a = IfSome a.request (λ r. IfSome (tile_of r) (λ b. IsSome (tile_in a.outcome) ⊎ (a.outcome ≡ Plain NoMemory) ⊎ (a.outcome ≡ SourceFailed)))

@@ -22,7 +22,7 @@ use std::alloc::Global;
 use tile_requests::events::events;
 use tile_requests::immediate::immediate;
 use tile_requests::message_ref::MessageRef;
-use tile_requests::outcome::Outcome;
+use tile_requests::outcome::{Outcome, Plain};
 use tile_requests::request::{Mode, Request};
 use tile_requests::routes::read_request;
 
@@ -94,7 +94,7 @@ fn sent<C: Keeper, S: Source>(
     }
     let catalogue = counter.cabinet.catalogue();
     let Ok(request) = read_request(alloc, catalogue, &counter.rest, message) else {
-        return answered(actor, n, Outcome::NoMemory);
+        return answered(actor, n, Outcome::Plain(Plain::NoMemory));
     };
     asked(alloc, counter, seats, source, n, mode, actor, request)
 }

@@ -20,7 +20,7 @@ use std::alloc::Global;
 use tile_requests::events::events;
 use tile_requests::immediate::immediate;
 use tile_requests::message_ref::MessageRef;
-use tile_requests::outcome::Outcome;
+use tile_requests::outcome::{Outcome, Plain};
 use tile_requests::request::{Mode, Request, outcome_of};
 use tile_requests::routes::read_request;
 
@@ -67,7 +67,7 @@ pub fn serve<C: Keeper, S: Source>(
     let catalogue = counter.cabinet.catalogue();
     let parts = MessageRef::of(message);
     let Ok(request) = read_request(alloc, catalogue, &counter.rest, &parts) else {
-        return Outcome::NoMemory;
+        return Outcome::Plain(Plain::NoMemory);
     };
     match request {
         Request::Tile(address) => serve_tile(alloc, &mut counter.cabinet, source, &address),
