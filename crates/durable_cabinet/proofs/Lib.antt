@@ -1,4 +1,3 @@
-pub mod DraftingFits
 pub mod DraftingLists
 pub mod OpeningWritten
 pub mod OpeningFiled

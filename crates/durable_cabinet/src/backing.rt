@@ -114,7 +114,7 @@ pub(crate) fn keep<D: Disk>(
         Err(fault) => Err(fault),
         Ok(()) => match file.put(kept.place, blob) {
             Err(fault) => Err(fault),
-            Ok(()) => enter(core, file, &stored(core, kept)),
+            Ok(()) => enter(core, file, &stored(core.catalogue(), kept)),
         },
     }
 }

@@ -163,7 +163,7 @@ impl<D: Disk> Cabinet<D> {
                 Ok(Admitted::Full) => Ok(CutReply::Full),
                 Ok(Admitted::Spent) => Ok(CutReply::Spent),
                 Ok(Admitted::Number(number)) => {
-                    let entry = truncated(&self.core, number, *cover);
+                    let entry = truncated(self.core.catalogue(), number, *cover);
                     match write(&self.core, &mut self.file, &mut self.draft, &entry) {
                         Err(_) => {
                             self.core.miss(number);

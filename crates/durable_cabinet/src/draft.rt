@@ -1,5 +1,5 @@
 //! The records of a compaction, written into room that was made before.
-ghost use Rattle.std.specs.Prelude.{◌≡◌, ◌≤◌, ◌+◌, ◌<◌, ◌^◌, ◌++◌, ◌∷◌, IfOk, OnOk, [], length, map, vec_capacity};
+ghost use Rattle.std.specs.Prelude.{◌≡◌, ◌≤◌, ◌+◌, ◌++◌, ◌∷◌, IfOk, OnOk, [], length, map, vec_capacity};
 ghost use Rattle.std.specs.List.{AllByRecursion};
 ghost use Rattle.cabinet_records.specs.Recorded.{stored_record};
 ghost use Rattle.catalog.specs.Valid.{IsValid};
@@ -10,8 +10,8 @@ ghost use Rattle.record_text.specs.declared.entries.Record.TheVariants as record
 ghost use Rattle.served_covers.specs.OfCatalogue.{IsCoverOf};
 ghost use Rattle.durable_cabinet.specs.Drafts.{HasRoom, IsCompactionOf, cut_record};
 
+use crate::entries::{stored, truncated};
 use cabinet::cabinet_core::Core;
-use cabinet::kept::Kept;
 use cabinet::ranking::Ranking;
 use catalog::catalogue::Catalogue;
 use record_text::entries::Record;
@@ -45,66 +45,6 @@ pub(crate) fn opened_body(opening: u32, floor: u64) -> [u8; 63]
     encode(&Record::Opened(opening, floor))
 }
 
-fn wide(number: u64)
-    ensures { number < 2 ^ 64 }
-{
-    let _ = number;
-}
-
-fn narrow(number: u32)
-    ensures { number < 2 ^ 32 }
-{
-    let _ = number;
-}
-
-fn four(values: [u32; 4])
-    ensures { length values ≡ 4 }
-{
-    let _ = values;
-}
-
-fn four_wanted(values: [Option<u32>; 4])
-    ensures { length values ≡ 4 }
-{
-    let _ = values;
-}
-
-/// The body of a cut.
-fn cut_body(catalogue: &Catalogue, number: u64, cover: Cover) -> [u8; 63]
-    requires valid { IsValid catalogue.now }
-    requires cover { IsCoverOf catalogue.now cover }
-    ensures fits { Fits (record_of.Cut number cover) }
-    ensures body { result ≡ spelling (record_of.Cut number cover) }
-{
-    four_wanted(cover.filter.dims);
-    encode(&Record::Cut(number, cover))
-}
-
-/// The body of what is kept.
-fn stored_body(catalogue: &Catalogue, kept: Kept) -> [u8; 63]
-    requires valid { IsValid catalogue.now }
-    requires meta { IsMeta catalogue.now kept.meta }
-    ensures fits { Fits (stored_record kept) }
-    ensures body { result ≡ spelling (stored_record kept) }
-{
-    wide(kept.number);
-    wide(kept.place);
-    narrow(kept.length);
-    wide(kept.moment);
-    wide(kept.uses);
-    narrow(kept.meta.row);
-    narrow(kept.meta.col);
-    four(kept.meta.theme.dims);
-    encode(&Record::Stored(
-        kept.number,
-        kept.meta,
-        kept.place,
-        kept.length,
-        kept.moment,
-        kept.uses,
-    ))
-}
-
 /// Puts the bodies of cuts behind others, in the order of their numbers. It takes no memory.
 fn put_cuts(bodies: &mut Vec<[u8; 63]>, catalogue: &Catalogue, cuts: &CutList)
     requires valid { IsValid catalogue.now }
@@ -116,7 +56,8 @@ fn put_cuts(bodies: &mut Vec<[u8; 63]>, catalogue: &Catalogue, cuts: &CutList)
 {
     'putting: for at in 0..cuts.count() {
         let (number, cover) = cuts.cut_at(at);
-        bodies.push_reserved(cut_body(catalogue, number, cover));
+        let entry = truncated(catalogue, number, cover);
+        bodies.push_reserved(encode(&entry));
     }
 }
 
@@ -131,7 +72,8 @@ fn put_kept(bodies: &mut Vec<[u8; 63]>, catalogue: &Catalogue, ranking: &Ranking
 {
     'putting: for at in 0..ranking.len() {
         let kept = ranking.get(at);
-        bodies.push_reserved(stored_body(catalogue, kept));
+        let entry = stored(catalogue, kept);
+        bodies.push_reserved(encode(&entry));
     }
 }
 

@@ -4,6 +4,7 @@ ghost use Rattle.std.specs.Int.{w64};
 ghost use Rattle.cabinet.specs.History.{kept_of};
 ghost use Rattle.cabinet.specs.State.{now};
 ghost use Rattle.cabinet_records.specs.Recorded.{stored_record};
+ghost use Rattle.catalog.specs.Valid.{IsValid};
 ghost use Rattle.raster_field.specs.Blocks.{IsMeta};
 ghost use Rattle.record_text.specs.Fits.{Fits, FitsBox};
 ghost use Rattle.record_text.specs.declared.entries.Record.TheVariants as record_of;
@@ -11,6 +12,7 @@ ghost use Rattle.served_covers.specs.OfCatalogue.{IsCoverOf};
 
 use cabinet::cabinet_core::Core;
 use cabinet::kept::Kept;
+use catalog::catalogue::Catalogue;
 use matrix_geometry::boxes::Box9;
 use record_text::entries::Record;
 use truncation_list::cover::Cover;
@@ -80,12 +82,12 @@ pub(crate) fn used(core: &Core, kept: Kept, uses: u64) -> Record
 }
 
 /// That a metatile is kept.
-pub(crate) fn stored(core: &Core, kept: Kept) -> Record
-    requires { IsMeta core.now.state.catalogue kept.meta }
+pub(crate) fn stored(catalogue: &Catalogue, kept: Kept) -> Record
+    requires valid { IsValid catalogue.now }
+    requires meta { IsMeta catalogue.now kept.meta }
     ensures is { result ≡ stored_record kept }
     ensures fits { Fits result }
 {
-    core.known();
     wide(kept.number);
     narrow(kept.meta.row);
     narrow(kept.meta.col);
@@ -105,12 +107,12 @@ pub(crate) fn stored(core: &Core, kept: Kept) -> Record
 }
 
 /// A truncation.
-pub(crate) fn truncated(core: &Core, number: u64, cover: Cover) -> Record
-    requires { IsCoverOf core.now.state.catalogue cover }
+pub(crate) fn truncated(catalogue: &Catalogue, number: u64, cover: Cover) -> Record
+    requires valid { IsValid catalogue.now }
+    requires cover { IsCoverOf catalogue.now cover }
     ensures is { result ≡ record_of.Cut number cover }
     ensures fits { Fits result }
 {
-    core.known();
     edges(cover.bounds);
     four_wanted(cover.filter.dims);
     Record::Cut(number, cover)

@@ -3,6 +3,7 @@ pub mod Between
 pub mod Stints
 pub mod Cancelled
 pub mod Crew
+pub mod Workers
 pub mod Runners
 pub mod First
 pub mod Served

@@ -6,9 +6,10 @@ ghost use Rattle.catalog.specs.declared.catalogue.Catalogue.{Catalogue};
 ghost use Rattle.job_board.specs.Calls.{IsFirstBoardPass};
 ghost use Rattle.job_runner.specs.Idles.{MayJoin};
 ghost use Rattle.link_queue.specs.Hands.{IsHand, all_parts, hand, table_of};
-ghost use Rattle.hall_service.specs.Crew.{AreSupplies, IsNew};
+ghost use Rattle.hall_service.specs.Crew.{AreSupplies};
 ghost use Rattle.hall_service.specs.Runners.{IsNewRunner};
 ghost use Rattle.hall_service.specs.Stints.{Service};
+ghost use Rattle.hall_service.specs.Workers.{AreNewWorkers};
 
 use cabinet::keeper::Keeper;
 use cabinet_chest::chest::CabinetChest;
@@ -76,7 +77,7 @@ fn workers_of<K: Keeper, S: Source, L: Link>(
     ensures boards { IfOk result (λ workers. length supplies.new.boards.items + WORKERS ≡ length supplies.old.boards.items) }
     ensures sources { IfOk result (λ workers. length supplies.new.sources.items + WORKERS ≡ length supplies.old.sources.items) }
     ensures new { (s : Service L) → AreSupplies s S.told supplies.old.passes.items supplies.old.boards.items supplies.old.sources.items
-        → IfOk result (λ workers. All (λ w. IsNew (table_of queue.now.links) s (S.told w.source) w.pass w.board w.hand) workers.items
+        → IfOk result (λ workers. AreNewWorkers S.told S.faults (table_of queue.now.links) s workers.items
         × AreSupplies s S.told supplies.new.passes.items supplies.new.boards.items supplies.new.sources.items) }
 {
     let mut workers = Vec::new(alloc);
@@ -138,7 +139,7 @@ pub(crate) fn crew_of<K: Keeper, S: Source, L: Link, G: JobGate>(
     ensures mine { IfOk result (λ crew. IsHand (table_of queue.now.links) (hand (all_parts - WORKERS) [] []) mine.new) }
     ensures each { IfOk result (λ crew. length crew.workers.items ≡ WORKERS) }
     ensures new { (s : Service L) → s.first.charter ≡ Some s.catalogue → AreSupplies s S.told supplies.passes.items supplies.boards.items supplies.sources.items
-        → IfOk result (λ crew. All (λ w. IsNew (table_of queue.now.links) s (S.told w.source) w.pass w.board w.hand) crew.workers.items
+        → IfOk result (λ crew. AreNewWorkers S.told S.faults (table_of queue.now.links) s crew.workers.items
         × (crew.upkeep ≡ s.first) × IsNewRunner s crew.runner × IsFirstBoardPass s.board crew.canceller) }
 {
     let mut supplies = supplies;

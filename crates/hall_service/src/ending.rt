@@ -5,8 +5,9 @@ ghost use Rattle.catalog.specs.Valid.{IsValid};
 ghost use Rattle.crossbeam_queue.specs.Passes.{view};
 ghost use Rattle.job_runner.specs.Idles as idles;
 ghost use Rattle.link_queue.specs.Hands.{IsHand, all_parts, hand, table_of};
-ghost use Rattle.hall_service.specs.Crew.{AreServedBy, HasGathered, HasWorked, IsReady};
-ghost use Rattle.hall_service.specs.Stints.{Service, serving};
+ghost use Rattle.hall_service.specs.Crew.{AreServedBy, HasGathered};
+ghost use Rattle.hall_service.specs.Stints.{Service};
+ghost use Rattle.hall_service.specs.Workers.{HasServedSince, HaveServedSince, MayAllServe, MayServe, place_of, service_of, worker_of};
 ghost use Rattle.turnstile.specs.Line.{AreInLine};
 
 use crate::crew::Worker;
@@ -34,15 +35,15 @@ fn gather<K: Keeper, S: Source, L: Link, G: JobGate>(
 )
     requires empty { passes.old.items ≡ [] }
     requires room { length others.items ≤ vec_capacity passes.old }
-    requires last { IsReady (table_of queue.now.links) world.now.hall.turnstile.table world.now.board.turnstile.table world.now.hall.catalogue (S.told last.old.source) last.old.pass last.old.board last.old.hand }
-    requires others { All (λ w. IsReady (table_of queue.now.links) world.now.hall.turnstile.table world.now.board.turnstile.table world.now.hall.catalogue (S.told w.source) w.pass w.board w.hand) others.items }
+    requires last { MayServe (place_of world.now (table_of queue.now.links)) (worker_of S.told S.faults last.old) }
+    requires others { MayAllServe S.told S.faults (place_of world.now (table_of queue.now.links)) others.items }
     requires runner { idles.IsReady world.now.board.turnstile.table world.now.hall.turnstile.table world.now.hall.catalogue runner.old }
-    ensures ready { IsReady (table_of queue.now.links) world.now.hall.turnstile.table world.now.board.turnstile.table world.now.hall.catalogue (S.told last.new.source) last.new.pass last.new.board last.new.hand }
+    ensures ready { MayServe (place_of world.now (table_of queue.now.links)) (worker_of S.told S.faults last.new) }
     ensures of { All (λ p. p.table ≡ world.now.hall.turnstile.table) passes.new.items }
     ensures count { length passes.new.items ≡ length others.items }
     ensures room { vec_capacity passes.new ≡ vec_capacity passes.old }
-    ensures gathered { (s : Service L) → HasWorked s (hand 1 [] []) last.old.pass last.old.board (S.faults last.old.source) last.old.hand
-        → All (λ w. HasWorked s (hand 1 [] []) w.pass w.board (S.faults w.source) w.hand) others.items
+    ensures gathered { (s : Service L) → HasServedSince s (hand 1 [] []) (worker_of S.told S.faults last.old)
+        → HaveServedSince S.told S.faults s (hand 1 [] []) others.items
         → HasGathered s (1 + length others.items) last.new.pass last.new.board (S.faults last.new.source) last.new.hand passes.new.items runner.old runner.new }
     ensures runner { idles.IsReady world.now.board.turnstile.table world.now.hall.turnstile.table world.now.hall.catalogue runner.new }
 {
@@ -79,14 +80,14 @@ pub(crate) fn serve_rest<R: Wait + std::time::Clock, K: Keeper, S: Source, L: Li
     requires mine { IsHand (table_of queue.now.links) (view mine) mine }
     requires none { (view mine).taken ≡ [] }
     requires parts { (view mine).parts + length workers.items ≡ all_parts }
-    requires ready { All (λ w. IsReady (table_of queue.now.links) world.now.hall.turnstile.table world.now.board.turnstile.table world.now.hall.catalogue (S.told w.source) w.pass w.board w.hand) workers.items }
+    requires ready { MayAllServe S.told S.faults (place_of world.now (table_of queue.now.links)) workers.items }
     requires runner { idles.IsReady world.now.board.turnstile.table world.now.hall.turnstile.table world.now.hall.catalogue runner.old }
     ensures of { All (λ p. p.table ≡ world.now.hall.turnstile.table) result.items }
     ensures count { length result.items ≡ length workers.items }
     ensures room { vec_capacity result ≡ vec_capacity passes }
     ensures served { (first : HallPass)
-        → All (λ w. HasWorked (serving L.left L.taken L.ByteSource.faults L.ByteSink.faults world.now.capabilities world.now.hall.catalogue world.now.board.turnstile.table first) (hand 1 [] []) w.pass w.board (S.faults w.source) w.hand) workers.items
-        → AreServedBy (serving L.left L.taken L.ByteSource.faults L.ByteSink.faults world.now.capabilities world.now.hall.catalogue world.now.board.turnstile.table first) (view mine).put result.items runner.old runner.new }
+        → HaveServedSince S.told S.faults (service_of L.left L.taken L.ByteSource.faults L.ByteSink.faults world.now first) (hand 1 [] []) workers.items
+        → AreServedBy (service_of L.left L.taken L.ByteSource.faults L.ByteSink.faults world.now first) (view mine).put result.items runner.old runner.new }
     ensures runner { idles.IsReady world.now.board.turnstile.table world.now.hall.turnstile.table world.now.hall.catalogue runner.new }
 {
     let mut workers = workers;

@@ -7,6 +7,7 @@ ghost use Rattle.hall_service.specs.Crew.{AreSupplies};
 ghost use Rattle.hall_service.specs.Served.{HasEndedOver};
 ghost use Rattle.hall_service.specs.Staged.{HasServedBy, IsSupplied};
 ghost use Rattle.hall_service.specs.Stints.{serving};
+ghost use Rattle.hall_service.specs.Workers.{service_of};
 ghost use Rattle.sessions.specs.Outside.{counts};
 
 use crate::crew::{Staff, Supplies, crew_of};
@@ -54,10 +55,10 @@ where
     requires sources { length sources.items ≡ SOURCES }
     requires count { (length stage.passes.items ≡ PASSES) × (stage.world.hall.turnstile.passes ≡ PASSES) }
     requires boards { length stage.boards.items ≡ BOARD_PASSES }
-    requires supplied { IsSupplied stage.world.hall.turnstile.table (serving N.L.left N.L.taken N.L.ByteSource.faults N.L.ByteSink.faults stage.world.capabilities stage.world.hall.catalogue stage.world.board.turnstile.table) S.told stage.passes.items stage.boards.items sources.items }
+    requires supplied { IsSupplied stage.world.hall.turnstile.table (service_of N.L.left N.L.taken N.L.ByteSource.faults N.L.ByteSink.faults stage.world) S.told stage.passes.items stage.boards.items sources.items }
     ensures { (first : HallPass)
-        → AreSupplies (serving N.L.left N.L.taken N.L.ByteSource.faults N.L.ByteSink.faults stage.world.capabilities stage.world.hall.catalogue stage.world.board.turnstile.table first) S.told stage.passes.items stage.boards.items sources.items
-        → HasEndedOver (serving N.L.left N.L.taken N.L.ByteSource.faults N.L.ByteSink.faults stage.world.capabilities stage.world.hall.catalogue stage.world.board.turnstile.table first)
+        → AreSupplies (service_of N.L.left N.L.taken N.L.ByteSource.faults N.L.ByteSink.faults stage.world first) S.told stage.passes.items stage.boards.items sources.items
+        → HasEndedOver (service_of N.L.left N.L.taken N.L.ByteSource.faults N.L.ByteSink.faults stage.world first)
         (record { connections = connections; given_before = N.given listener.old; given_after = N.given listener.new; accepts = counts (N.faults listener.old) (N.faults listener.new) })
         (listener.new ≡ listener.old) result }
 {
@@ -111,12 +112,12 @@ where
     requires passes { length supplies.passes.items ≡ PASSES }
     requires boards { length supplies.boards.items ≡ BOARD_PASSES }
     requires sources { length supplies.sources.items ≡ SOURCES }
-    requires supplied { IsSupplied world.now.hall.turnstile.table (serving N.L.left N.L.taken N.L.ByteSource.faults N.L.ByteSink.faults world.now.capabilities world.now.hall.catalogue world.now.board.turnstile.table) S.told supplies.passes.items supplies.boards.items supplies.sources.items }
+    requires supplied { IsSupplied world.now.hall.turnstile.table (service_of N.L.left N.L.taken N.L.ByteSource.faults N.L.ByteSink.faults world.now) S.told supplies.passes.items supplies.boards.items supplies.sources.items }
     ensures of { IfOk result (λ s. All (λ p. p.table ≡ world.now.hall.turnstile.table) s.passes.items) }
     ensures count { IfOk result (λ s. length s.passes.items ≡ PASSES) }
     ensures served { (first : HallPass) → first.charter ≡ Some world.now.hall.catalogue
-        → AreSupplies (serving N.L.left N.L.taken N.L.ByteSource.faults N.L.ByteSink.faults world.now.capabilities world.now.hall.catalogue world.now.board.turnstile.table first) S.told supplies.passes.items supplies.boards.items supplies.sources.items
-        → IfOk result (λ s. HasServedBy (serving N.L.left N.L.taken N.L.ByteSource.faults N.L.ByteSink.faults world.now.capabilities world.now.hall.catalogue world.now.board.turnstile.table first)
+        → AreSupplies (service_of N.L.left N.L.taken N.L.ByteSource.faults N.L.ByteSink.faults world.now first) S.told supplies.passes.items supplies.boards.items supplies.sources.items
+        → IfOk result (λ s. HasServedBy (service_of N.L.left N.L.taken N.L.ByteSource.faults N.L.ByteSink.faults world.now first)
         (record { connections = connections; given_before = N.given listener.old; given_after = N.given listener.new; accepts = counts (N.faults listener.old) (N.faults listener.new) })
         s.passes.items s.all) }
     ensures stays { IfErr result (λ fault. listener.new ≡ listener.old) }
@@ -159,12 +160,12 @@ where
     requires boards { length supplies.boards.items ≡ BOARD_PASSES }
     requires sources { length supplies.sources.items ≡ SOURCES }
     requires acceptor { IsHand (table_of queue.now.links) (hand all_parts [] []) acceptor }
-    requires supplied { IsSupplied world.now.hall.turnstile.table (serving N.L.left N.L.taken N.L.ByteSource.faults N.L.ByteSink.faults world.now.capabilities world.now.hall.catalogue world.now.board.turnstile.table) S.told supplies.passes.items supplies.boards.items supplies.sources.items }
+    requires supplied { IsSupplied world.now.hall.turnstile.table (service_of N.L.left N.L.taken N.L.ByteSource.faults N.L.ByteSink.faults world.now) S.told supplies.passes.items supplies.boards.items supplies.sources.items }
     ensures of { IfOk result (λ s. All (λ p. p.table ≡ world.now.hall.turnstile.table) s.passes.items) }
     ensures count { IfOk result (λ s. length s.passes.items ≡ PASSES) }
     ensures served { (first : HallPass) → first.charter ≡ Some world.now.hall.catalogue
-        → AreSupplies (serving N.L.left N.L.taken N.L.ByteSource.faults N.L.ByteSink.faults world.now.capabilities world.now.hall.catalogue world.now.board.turnstile.table first) S.told supplies.passes.items supplies.boards.items supplies.sources.items
-        → IfOk result (λ s. HasServedBy (serving N.L.left N.L.taken N.L.ByteSource.faults N.L.ByteSink.faults world.now.capabilities world.now.hall.catalogue world.now.board.turnstile.table first)
+        → AreSupplies (service_of N.L.left N.L.taken N.L.ByteSource.faults N.L.ByteSink.faults world.now first) S.told supplies.passes.items supplies.boards.items supplies.sources.items
+        → IfOk result (λ s. HasServedBy (service_of N.L.left N.L.taken N.L.ByteSource.faults N.L.ByteSink.faults world.now first)
         (record { connections = connections; given_before = N.given listener.old; given_after = N.given listener.new; accepts = counts (N.faults listener.old) (N.faults listener.new) })
         s.passes.items s.all) }
     ensures stays { IfErr result (λ fault. listener.new ≡ listener.old) }

@@ -12,10 +12,11 @@ ghost use Rattle.link_queue.specs.Accepted.{HasAccepted};
 ghost use Rattle.link_queue.specs.Hands.{IsHand, all_parts, hand, table_of};
 ghost use Rattle.link_queue.specs.declared.hand.Hand.{Hand};
 ghost use Rattle.hall_service.specs.Cancelled.{HasCancelledOn, HasStoppedTo};
-ghost use Rattle.hall_service.specs.Crew.{HasServedLinks, HasWorked, IsReady};
+ghost use Rattle.hall_service.specs.Crew.{HasServedLinks};
 ghost use Rattle.hall_service.specs.Runners.{HasRunOn};
 ghost use Rattle.hall_service.specs.Stints.{serving};
 ghost use Rattle.hall_service.specs.Upkept.{HasKeptUp, IsKeptUpBy};
+ghost use Rattle.hall_service.specs.Workers.{HasServedSince, HaveServedSince, MayAllServe, MayServe, place_of, service_of, worker_of};
 
 use crate::cancelling::cancel_all;
 use crate::crew::{Crew, Staff, WORKERS, Worker};
@@ -60,27 +61,26 @@ fn work_all<
     canceller: &mut BoardPass,
 )
     requires valid { IsValid world.now.hall.catalogue }
-    requires ready { All (λ w. IsReady (table_of queue.now.links) world.now.hall.turnstile.table world.now.board.turnstile.table world.now.hall.catalogue (S.told w.source) w.pass w.board w.hand) workers.old }
+    requires ready { MayAllServe S.told S.faults (place_of world.now (table_of queue.now.links)) workers.old }
     requires place { IsBoardPass world.now.board.turnstile.table canceller.old }
-    ensures ready { All (λ w. IsReady (table_of queue.now.links) world.now.hall.turnstile.table world.now.board.turnstile.table world.now.hall.catalogue (S.told w.source) w.pass w.board w.hand) workers.new }
+    ensures ready { MayAllServe S.told S.faults (place_of world.now (table_of queue.now.links)) workers.new }
     ensures worked { (first : HallPass) (before : Hand L)
-        → All (λ w. HasWorked (serving L.left L.taken L.ByteSource.faults L.ByteSink.faults world.now.capabilities world.now.hall.catalogue world.now.board.turnstile.table first) before w.pass w.board (S.faults w.source) w.hand) workers.old
-        → All (λ w. HasWorked (serving L.left L.taken L.ByteSource.faults L.ByteSink.faults world.now.capabilities world.now.hall.catalogue world.now.board.turnstile.table first) before w.pass w.board (S.faults w.source) w.hand) workers.new }
+        → HaveServedSince S.told S.faults (service_of L.left L.taken L.ByteSource.faults L.ByteSink.faults world.now first) before workers.old
+        → HaveServedSince S.told S.faults (service_of L.left L.taken L.ByteSource.faults L.ByteSink.faults world.now first) before workers.new }
     ensures place { IsBoardPass world.now.board.turnstile.table canceller.new }
     ensures stops { HasStoppedTo 1024 canceller.old canceller.new }
 {
-    // The table of routes holds a tree, of which proofs have to be told that threads may share it.
     is_shared::<RestTable>();
     for_each_mut(
         rt,
         workers,
         WORKERS,
         &|_, worker: &mut Worker<K, S, L>|
-            requires { IsValid world.now.hall.catalogue × IsReady (table_of queue.now.links) world.now.hall.turnstile.table world.now.board.turnstile.table world.now.hall.catalogue (S.told worker.now.source) worker.now.pass worker.now.board worker.now.hand }
-            ensures ready { IsReady (table_of queue.entry.now.links) world.entry.now.hall.turnstile.table world.entry.now.board.turnstile.table world.entry.now.hall.catalogue (S.told worker.exit.now.source) worker.exit.now.pass worker.exit.now.board worker.exit.now.hand }
+            requires { IsValid world.now.hall.catalogue × MayServe (place_of world.now (table_of queue.now.links)) (worker_of S.told S.faults worker.now) }
+            ensures ready { MayServe (place_of world.entry.now (table_of queue.entry.now.links)) (worker_of S.told S.faults worker.exit.now) }
             ensures worked { (first : HallPass) (before : Hand L)
-                → HasWorked (serving L.left L.taken L.ByteSource.faults L.ByteSink.faults world.entry.now.capabilities world.entry.now.hall.catalogue world.entry.now.board.turnstile.table first) before worker.entry.now.pass worker.entry.now.board (S.faults worker.entry.now.source) worker.entry.now.hand
-                → HasWorked (serving L.left L.taken L.ByteSource.faults L.ByteSink.faults world.entry.now.capabilities world.entry.now.hall.catalogue world.entry.now.board.turnstile.table first) before worker.exit.now.pass worker.exit.now.board (S.faults worker.exit.now.source) worker.exit.now.hand }
+                → HasServedSince (service_of L.left L.taken L.ByteSource.faults L.ByteSink.faults world.entry.now first) before (worker_of S.told S.faults worker.entry.now)
+                → HasServedSince (service_of L.left L.taken L.ByteSource.faults L.ByteSink.faults world.entry.now first) before (worker_of S.told S.faults worker.exit.now) }
         { work(rt, alloc, world, queue, worker) },
     );
     is_over.store(true, Ordering::SeqCst);
@@ -107,22 +107,22 @@ fn work_and_run<
     canceller: &mut BoardPass,
 )
     requires valid { IsValid world.now.hall.catalogue }
-    requires ready { All (λ w. IsReady (table_of queue.now.links) world.now.hall.turnstile.table world.now.board.turnstile.table world.now.hall.catalogue (S.told w.source) w.pass w.board w.hand) workers.old }
+    requires ready { MayAllServe S.told S.faults (place_of world.now (table_of queue.now.links)) workers.old }
     requires runner { idles.IsReady world.now.board.turnstile.table world.now.hall.turnstile.table world.now.hall.catalogue runner.old }
     requires place { IsBoardPass world.now.board.turnstile.table canceller.old }
-    ensures ready { All (λ w. IsReady (table_of queue.now.links) world.now.hall.turnstile.table world.now.board.turnstile.table world.now.hall.catalogue (S.told w.source) w.pass w.board w.hand) workers.new }
+    ensures ready { MayAllServe S.told S.faults (place_of world.now (table_of queue.now.links)) workers.new }
     ensures runner { idles.IsReady world.now.board.turnstile.table world.now.hall.turnstile.table world.now.hall.catalogue runner.new }
     ensures runs { RunsAll world.now.hall.catalogue runner.old runner.new }
     ensures worked { (first : HallPass) (before : Hand L)
-        → All (λ w. HasWorked (serving L.left L.taken L.ByteSource.faults L.ByteSink.faults world.now.capabilities world.now.hall.catalogue world.now.board.turnstile.table first) before w.pass w.board (S.faults w.source) w.hand) workers.old
-        → All (λ w. HasWorked (serving L.left L.taken L.ByteSource.faults L.ByteSink.faults world.now.capabilities world.now.hall.catalogue world.now.board.turnstile.table first) before w.pass w.board (S.faults w.source) w.hand) workers.new }
+        → HaveServedSince S.told S.faults (service_of L.left L.taken L.ByteSource.faults L.ByteSink.faults world.now first) before workers.old
+        → HaveServedSince S.told S.faults (service_of L.left L.taken L.ByteSource.faults L.ByteSink.faults world.now first) before workers.new }
     ensures place { IsBoardPass world.now.board.turnstile.table canceller.new }
     ensures stops { HasStoppedTo 1024 canceller.old canceller.new }
 {
-    // The table of routes holds a tree, of which proofs have to be told that threads may share it.
     is_shared::<RestTable>();
     let is_over = AtomicBool::new(false);
     let is_over = &is_over;
+    // Each is lent on by a call, so that what a thread borrows is a variable of its own.
     let workers = identity(workers);
     let runner = identity(runner);
     let canceller = identity(canceller);
@@ -134,11 +134,11 @@ fn work_and_run<
             ensures runs { RunsAll world.entry.now.hall.catalogue runner.entry.now runner.exit.now }
         { run_jobs(rt, alloc, &world.hall, &world.board, is_over, runner) },
         &mut ||
-            requires { IsValid world.now.hall.catalogue × All (λ w. IsReady (table_of queue.now.links) world.now.hall.turnstile.table world.now.board.turnstile.table world.now.hall.catalogue (S.told w.source) w.pass w.board w.hand) workers.now × IsBoardPass world.now.board.turnstile.table canceller.now }
-            ensures ready { All (λ w. IsReady (table_of queue.entry.now.links) world.entry.now.hall.turnstile.table world.entry.now.board.turnstile.table world.entry.now.hall.catalogue (S.told w.source) w.pass w.board w.hand) workers.exit.now }
+            requires { IsValid world.now.hall.catalogue × MayAllServe S.told S.faults (place_of world.now (table_of queue.now.links)) workers.now × IsBoardPass world.now.board.turnstile.table canceller.now }
+            ensures ready { MayAllServe S.told S.faults (place_of world.entry.now (table_of queue.entry.now.links)) workers.exit.now }
             ensures worked { (first : HallPass) (before : Hand L)
-                → All (λ w. HasWorked (serving L.left L.taken L.ByteSource.faults L.ByteSink.faults world.entry.now.capabilities world.entry.now.hall.catalogue world.entry.now.board.turnstile.table first) before w.pass w.board (S.faults w.source) w.hand) workers.entry.now
-                → All (λ w. HasWorked (serving L.left L.taken L.ByteSource.faults L.ByteSink.faults world.entry.now.capabilities world.entry.now.hall.catalogue world.entry.now.board.turnstile.table first) before w.pass w.board (S.faults w.source) w.hand) workers.exit.now }
+                → HaveServedSince S.told S.faults (service_of L.left L.taken L.ByteSource.faults L.ByteSink.faults world.entry.now first) before workers.entry.now
+                → HaveServedSince S.told S.faults (service_of L.left L.taken L.ByteSource.faults L.ByteSink.faults world.entry.now first) before workers.exit.now }
             ensures place { IsBoardPass world.entry.now.board.turnstile.table canceller.exit.now }
             ensures stops { HasStoppedTo 1024 canceller.entry.now canceller.exit.now }
         { work_all(rt, alloc, world, queue, is_over, workers, canceller) },
@@ -157,23 +157,22 @@ fn serve_all<
     G: JobGate + Send,
 >(rt: &R, alloc: Global, world: &World<K>, queue: &LinkQueue<L>, crew: &mut Crew<K, S, L, G>)
     requires valid { IsValid world.now.hall.catalogue }
-    requires ready { All (λ w. IsReady (table_of queue.now.links) world.now.hall.turnstile.table world.now.board.turnstile.table world.now.hall.catalogue (S.told w.source) w.pass w.board w.hand) crew.old.workers.items }
+    requires ready { MayAllServe S.told S.faults (place_of world.now (table_of queue.now.links)) crew.old.workers.items }
     requires upkeep { IsPassOf world.now.hall.turnstile.table world.now.hall.catalogue crew.old.upkeep }
     requires runner { idles.IsReady world.now.board.turnstile.table world.now.hall.turnstile.table world.now.hall.catalogue crew.old.runner }
     requires place { IsBoardPass world.now.board.turnstile.table crew.old.canceller }
-    ensures ready { All (λ w. IsReady (table_of queue.now.links) world.now.hall.turnstile.table world.now.board.turnstile.table world.now.hall.catalogue (S.told w.source) w.pass w.board w.hand) crew.new.workers.items }
+    ensures ready { MayAllServe S.told S.faults (place_of world.now (table_of queue.now.links)) crew.new.workers.items }
     ensures upkeep { IsPassOf world.now.hall.turnstile.table world.now.hall.catalogue crew.new.upkeep }
     ensures keeps { HasKeptUp world.now.hall.catalogue crew.old.upkeep crew.new.upkeep }
     ensures runner { idles.IsReady world.now.board.turnstile.table world.now.hall.turnstile.table world.now.hall.catalogue crew.new.runner }
     ensures runs { RunsAll world.now.hall.catalogue crew.old.runner crew.new.runner }
     ensures worked { (first : HallPass) (before : Hand L)
-        → All (λ w. HasWorked (serving L.left L.taken L.ByteSource.faults L.ByteSink.faults world.now.capabilities world.now.hall.catalogue world.now.board.turnstile.table first) before w.pass w.board (S.faults w.source) w.hand) crew.old.workers.items
-        → All (λ w. HasWorked (serving L.left L.taken L.ByteSource.faults L.ByteSink.faults world.now.capabilities world.now.hall.catalogue world.now.board.turnstile.table first) before w.pass w.board (S.faults w.source) w.hand) crew.new.workers.items }
+        → HaveServedSince S.told S.faults (service_of L.left L.taken L.ByteSource.faults L.ByteSink.faults world.now first) before crew.old.workers.items
+        → HaveServedSince S.told S.faults (service_of L.left L.taken L.ByteSource.faults L.ByteSink.faults world.now first) before crew.new.workers.items }
     ensures each { length crew.new.workers.items ≡ length crew.old.workers.items }
     ensures place { IsBoardPass world.now.board.turnstile.table crew.new.canceller }
     ensures stops { HasStoppedTo 1024 crew.old.canceller crew.new.canceller }
 {
-    // The table of routes holds a tree, of which proofs have to be told that threads may share it.
     is_shared::<RestTable>();
     let shift = Shift::new();
     let shift = &shift;
@@ -184,6 +183,7 @@ fn serve_all<
         canceller,
     } = crew;
     let workers = workers.as_mut_slice();
+    // As in `work_and_run`.
     let upkeep = identity(upkeep);
     let runner = identity(runner);
     let canceller = identity(canceller);
@@ -196,13 +196,13 @@ fn serve_all<
             ensures keeps { HasKeptUp hall.entry.now.catalogue upkeep.entry.now upkeep.exit.now }
         { keep_up(rt, hall, shift, upkeep) },
         &mut ||
-            requires { IsValid world.now.hall.catalogue × All (λ w. IsReady (table_of queue.now.links) world.now.hall.turnstile.table world.now.board.turnstile.table world.now.hall.catalogue (S.told w.source) w.pass w.board w.hand) workers.now × idles.IsReady world.now.board.turnstile.table world.now.hall.turnstile.table world.now.hall.catalogue runner.now × IsBoardPass world.now.board.turnstile.table canceller.now }
-            ensures ready { All (λ w. IsReady (table_of queue.entry.now.links) world.entry.now.hall.turnstile.table world.entry.now.board.turnstile.table world.entry.now.hall.catalogue (S.told w.source) w.pass w.board w.hand) workers.exit.now }
+            requires { IsValid world.now.hall.catalogue × MayAllServe S.told S.faults (place_of world.now (table_of queue.now.links)) workers.now × idles.IsReady world.now.board.turnstile.table world.now.hall.turnstile.table world.now.hall.catalogue runner.now × IsBoardPass world.now.board.turnstile.table canceller.now }
+            ensures ready { MayAllServe S.told S.faults (place_of world.entry.now (table_of queue.entry.now.links)) workers.exit.now }
             ensures runner { idles.IsReady world.entry.now.board.turnstile.table world.entry.now.hall.turnstile.table world.entry.now.hall.catalogue runner.exit.now }
             ensures runs { RunsAll world.entry.now.hall.catalogue runner.entry.now runner.exit.now }
             ensures worked { (first : HallPass) (before : Hand L)
-                → All (λ w. HasWorked (serving L.left L.taken L.ByteSource.faults L.ByteSink.faults world.entry.now.capabilities world.entry.now.hall.catalogue world.entry.now.board.turnstile.table first) before w.pass w.board (S.faults w.source) w.hand) workers.entry.now
-                → All (λ w. HasWorked (serving L.left L.taken L.ByteSource.faults L.ByteSink.faults world.entry.now.capabilities world.entry.now.hall.catalogue world.entry.now.board.turnstile.table first) before w.pass w.board (S.faults w.source) w.hand) workers.exit.now }
+                → HaveServedSince S.told S.faults (service_of L.left L.taken L.ByteSource.faults L.ByteSink.faults world.entry.now first) before workers.entry.now
+                → HaveServedSince S.told S.faults (service_of L.left L.taken L.ByteSource.faults L.ByteSink.faults world.entry.now first) before workers.exit.now }
             ensures place { IsBoardPass world.entry.now.board.turnstile.table canceller.exit.now }
             ensures stops { HasStoppedTo 1024 canceller.entry.now canceller.exit.now }
         { work_and_run(rt, alloc, world, queue, shift, workers, runner, canceller) },
@@ -229,14 +229,14 @@ fn accept_and_serve<
 where
     N::L: Send,
     requires valid { IsValid world.now.hall.catalogue }
-    requires ready { All (λ w. IsReady (table_of queue.now.links) world.now.hall.turnstile.table world.now.board.turnstile.table world.now.hall.catalogue (S.told w.source) w.pass w.board w.hand) staff.old.crew.workers.items }
+    requires ready { MayAllServe S.told S.faults (place_of world.now (table_of queue.now.links)) staff.old.crew.workers.items }
     requires upkeep { IsPassOf world.now.hall.turnstile.table world.now.hall.catalogue staff.old.crew.upkeep }
     requires runner { idles.IsReady world.now.board.turnstile.table world.now.hall.turnstile.table world.now.hall.catalogue staff.old.crew.runner }
     requires place { IsBoardPass world.now.board.turnstile.table staff.old.crew.canceller }
     requires acceptor { IsHand (table_of queue.now.links) (view staff.old.acceptor) staff.old.acceptor }
     requires parts { 0 < (view staff.old.acceptor).parts }
     ensures accepted { HasAccepted (table_of queue.now.links) connections (view staff.old.acceptor) staff.new.acceptor (N.given listener.old) (N.given listener.new) (N.faults listener.old) (N.faults listener.new) result }
-    ensures ready { All (λ w. IsReady (table_of queue.now.links) world.now.hall.turnstile.table world.now.board.turnstile.table world.now.hall.catalogue (S.told w.source) w.pass w.board w.hand) staff.new.crew.workers.items }
+    ensures ready { MayAllServe S.told S.faults (place_of world.now (table_of queue.now.links)) staff.new.crew.workers.items }
     ensures upkeep { IsPassOf world.now.hall.turnstile.table world.now.hall.catalogue staff.new.crew.upkeep }
     ensures keeps { HasKeptUp world.now.hall.catalogue staff.old.crew.upkeep staff.new.crew.upkeep }
     ensures runner { idles.IsReady world.now.board.turnstile.table world.now.hall.turnstile.table world.now.hall.catalogue staff.new.crew.runner }
@@ -245,22 +245,22 @@ where
     ensures place { IsBoardPass world.now.board.turnstile.table staff.new.crew.canceller }
     ensures stops { HasStoppedTo 1024 staff.old.crew.canceller staff.new.crew.canceller }
     ensures worked { (first : HallPass) (before : Hand N.L)
-        → All (λ w. HasWorked (serving N.L.left N.L.taken N.L.ByteSource.faults N.L.ByteSink.faults world.now.capabilities world.now.hall.catalogue world.now.board.turnstile.table first) before w.pass w.board (S.faults w.source) w.hand) staff.old.crew.workers.items
-        → All (λ w. HasWorked (serving N.L.left N.L.taken N.L.ByteSource.faults N.L.ByteSink.faults world.now.capabilities world.now.hall.catalogue world.now.board.turnstile.table first) before w.pass w.board (S.faults w.source) w.hand) staff.new.crew.workers.items }
+        → HaveServedSince S.told S.faults (service_of N.L.left N.L.taken N.L.ByteSource.faults N.L.ByteSink.faults world.now first) before staff.old.crew.workers.items
+        → HaveServedSince S.told S.faults (service_of N.L.left N.L.taken N.L.ByteSource.faults N.L.ByteSink.faults world.now first) before staff.new.crew.workers.items }
 {
-    // The table of routes holds a tree, of which proofs have to be told that threads may share it.
     is_shared::<RestTable>();
     let Staff { crew, acceptor } = staff;
+    // As in `work_and_run`.
     let crew = identity(crew);
     let acceptor = identity(acceptor);
     let ((), all) = join_mut(
         rt,
         &mut ||
-            requires { IsValid world.now.hall.catalogue × All (λ w. IsReady (table_of queue.now.links) world.now.hall.turnstile.table world.now.board.turnstile.table world.now.hall.catalogue (S.told w.source) w.pass w.board w.hand) crew.now.workers.items × IsPassOf world.now.hall.turnstile.table world.now.hall.catalogue crew.now.upkeep × idles.IsReady world.now.board.turnstile.table world.now.hall.turnstile.table world.now.hall.catalogue crew.now.runner × IsBoardPass world.now.board.turnstile.table crew.now.canceller }
-            ensures ready { All (λ w. IsReady (table_of queue.entry.now.links) world.entry.now.hall.turnstile.table world.entry.now.board.turnstile.table world.entry.now.hall.catalogue (S.told w.source) w.pass w.board w.hand) crew.exit.now.workers.items }
+            requires { IsValid world.now.hall.catalogue × MayAllServe S.told S.faults (place_of world.now (table_of queue.now.links)) crew.now.workers.items × IsPassOf world.now.hall.turnstile.table world.now.hall.catalogue crew.now.upkeep × idles.IsReady world.now.board.turnstile.table world.now.hall.turnstile.table world.now.hall.catalogue crew.now.runner × IsBoardPass world.now.board.turnstile.table crew.now.canceller }
+            ensures ready { MayAllServe S.told S.faults (place_of world.entry.now (table_of queue.entry.now.links)) crew.exit.now.workers.items }
             ensures worked { (first : HallPass) (before : Hand N.L)
-                → All (λ w. HasWorked (serving N.L.left N.L.taken N.L.ByteSource.faults N.L.ByteSink.faults world.entry.now.capabilities world.entry.now.hall.catalogue world.entry.now.board.turnstile.table first) before w.pass w.board (S.faults w.source) w.hand) crew.entry.now.workers.items
-                → All (λ w. HasWorked (serving N.L.left N.L.taken N.L.ByteSource.faults N.L.ByteSink.faults world.entry.now.capabilities world.entry.now.hall.catalogue world.entry.now.board.turnstile.table first) before w.pass w.board (S.faults w.source) w.hand) crew.exit.now.workers.items }
+                → HaveServedSince S.told S.faults (service_of N.L.left N.L.taken N.L.ByteSource.faults N.L.ByteSink.faults world.entry.now first) before crew.entry.now.workers.items
+                → HaveServedSince S.told S.faults (service_of N.L.left N.L.taken N.L.ByteSource.faults N.L.ByteSink.faults world.entry.now first) before crew.exit.now.workers.items }
             ensures upkeep { IsPassOf world.entry.now.hall.turnstile.table world.entry.now.hall.catalogue crew.exit.now.upkeep }
             ensures keeps { HasKeptUp world.entry.now.hall.catalogue crew.entry.now.upkeep crew.exit.now.upkeep }
             ensures runner { idles.IsReady world.entry.now.board.turnstile.table world.entry.now.hall.turnstile.table world.entry.now.hall.catalogue crew.exit.now.runner }
@@ -306,7 +306,7 @@ pub(crate) fn serve_links<
 where
     N::L: Send,
     requires valid { IsValid world.now.hall.catalogue }
-    requires ready { All (λ w. IsReady (table_of queue.now.links) world.now.hall.turnstile.table world.now.board.turnstile.table world.now.hall.catalogue (S.told w.source) w.pass w.board w.hand) staff.crew.workers.items }
+    requires ready { MayAllServe S.told S.faults (place_of world.now (table_of queue.now.links)) staff.crew.workers.items }
     requires upkeep { IsPassOf world.now.hall.turnstile.table world.now.hall.catalogue staff.crew.upkeep }
     requires runner { idles.IsReady world.now.board.turnstile.table world.now.hall.turnstile.table world.now.hall.catalogue staff.crew.runner }
     requires place { IsBoardPass world.now.board.turnstile.table staff.crew.canceller }
@@ -318,8 +318,8 @@ where
     ensures count { length result.passes.items ≡ WORKERS + 1 + MEMBERS }
     ensures upkeep { IsKeptUpBy world.now.hall.catalogue staff.crew.upkeep result.passes.items }
     ensures served { (j : HasRunOn world.now.hall.catalogue staff.crew.runner) × (k : HasCancelledOn staff.crew.canceller) × ((p : HallPass) → Contains (passes_of j.after.idle) p → Contains result.passes.items p) × ((first : HallPass)
-        → All (λ w. HasWorked (serving N.L.left N.L.taken N.L.ByteSource.faults N.L.ByteSink.faults world.now.capabilities world.now.hall.catalogue world.now.board.turnstile.table first) (hand 1 [] []) w.pass w.board (S.faults w.source) w.hand) staff.crew.workers.items
-        → HasServedLinks (serving N.L.left N.L.taken N.L.ByteSource.faults N.L.ByteSink.faults world.now.capabilities world.now.hall.catalogue world.now.board.turnstile.table first) connections (N.given listener.old) (N.given listener.new) (N.faults listener.old) (N.faults listener.new) result.passes.items j.between j.heard k.heard result.all) }
+        → HaveServedSince S.told S.faults (service_of N.L.left N.L.taken N.L.ByteSource.faults N.L.ByteSink.faults world.now first) (hand 1 [] []) staff.crew.workers.items
+        → HasServedLinks (service_of N.L.left N.L.taken N.L.ByteSource.faults N.L.ByteSink.faults world.now first) connections (N.given listener.old) (N.given listener.new) (N.faults listener.old) (N.faults listener.new) result.passes.items j.between j.heard k.heard result.all) }
 {
     let mut staff = staff;
     let all = accept_and_serve(rt, alloc, connections, world, queue, &mut staff, listener);

@@ -2,11 +2,10 @@
 ghost use Rattle.std.specs.Prelude.{◌≡◌};
 ghost use Rattle.cache_hall.specs.Turned.{HallPass};
 ghost use Rattle.catalog.specs.Valid.{IsValid};
+ghost use Rattle.hall_service.specs.Workers.{HasServedSince, MayServe, place_of, service_of, worker_of};
 ghost use Rattle.crossbeam_queue.specs.Passes.{view};
 ghost use Rattle.link_queue.specs.Hands.{IsEven, all_parts, table_of};
 ghost use Rattle.link_queue.specs.declared.hand.Hand.{Hand};
-ghost use Rattle.hall_service.specs.Crew.{HasWorked, IsReady};
-ghost use Rattle.hall_service.specs.Stints.{serving};
 
 use crate::crew::Worker;
 use cabinet::keeper::Keeper;
@@ -49,11 +48,11 @@ pub(crate) fn work<R: Wait + Clock, K: Keeper, S: Source, L: Link>(
     worker: &mut Worker<K, S, L>,
 )
     requires valid { IsValid world.now.hall.catalogue }
-    requires ready { IsReady (table_of queue.now.links) world.now.hall.turnstile.table world.now.board.turnstile.table world.now.hall.catalogue (S.told worker.old.source) worker.old.pass worker.old.board worker.old.hand }
-    ensures ready { IsReady (table_of queue.now.links) world.now.hall.turnstile.table world.now.board.turnstile.table world.now.hall.catalogue (S.told worker.new.source) worker.new.pass worker.new.board worker.new.hand }
+    requires ready { MayServe (place_of world.now (table_of queue.now.links)) (worker_of S.told S.faults worker.old) }
+    ensures ready { MayServe (place_of world.now (table_of queue.now.links)) (worker_of S.told S.faults worker.new) }
     ensures worked { (first : HallPass) (before : Hand L)
-        → HasWorked (serving L.left L.taken L.ByteSource.faults L.ByteSink.faults world.now.capabilities world.now.hall.catalogue world.now.board.turnstile.table first) before worker.old.pass worker.old.board (S.faults worker.old.source) worker.old.hand
-        → HasWorked (serving L.left L.taken L.ByteSource.faults L.ByteSink.faults world.now.capabilities world.now.hall.catalogue world.now.board.turnstile.table first) before worker.new.pass worker.new.board (S.faults worker.new.source) worker.new.hand }
+        → HasServedSince (service_of L.left L.taken L.ByteSource.faults L.ByteSink.faults world.now first) before (worker_of S.told S.faults worker.old)
+        → HasServedSince (service_of L.left L.taken L.ByteSource.faults L.ByteSink.faults world.now first) before (worker_of S.told S.faults worker.new) }
     ensures all { (view worker.new.hand).parts ≡ all_parts → IsEven (view worker.new.hand) }
 {
     'working: for _ in rt.forever() {

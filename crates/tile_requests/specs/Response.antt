@@ -11,6 +11,7 @@ use Rattle.job_forms.specs.declared.fault.JobField.{JobField}
 use Rattle.job_forms.specs.declared.fault.JobField.TheVariants as field
 use Rattle.tile_requests.specs.declared.outcome.Outcome.{Outcome}
 use Rattle.tile_requests.specs.declared.outcome.Outcome.TheVariants.{Tile, Document, Refused, SourceFailed, Usage, Cut, Unformed, Dropped, Job, Plain}
+use Rattle.tile_requests.specs.declared.outcome.Plain as constant
 use Rattle.tile_requests.specs.declared.outcome.Plain.TheVariants.{NotFound, WrongMethod, Spent, CutsFull, CutSpent, Within, BoardFull, DiskFault, NoMemory}
 use Rattle.tile_requests.specs.Texts.{within_text}
 
@@ -117,26 +118,30 @@ field_of OutOfMemory = []
 abbrev pub fault_text : List ℕ → List ℕ → List ℕ
 fault_text kind field = codes "{\"fault\":\"" ++ kind ++ codes "\",\"field\":\"" ++ field ++ codes "\"}\n"
 
+-- the parts of a response that is the same whatever was asked for
+abbrev pub plain_parts : constant.Plain → ResponseParts
+plain_parts NotFound = bare 404
+plain_parts WrongMethod = bare 405
+plain_parts Spent = typed 500 (codes "text/plain") (codes "numbers spent\n")
+plain_parts CutsFull = json 409 (codes "{\"fault\":\"cuts full\"}\n")
+plain_parts CutSpent = json 500 (codes "{\"fault\":\"numbers spent\"}\n")
+plain_parts Within = json 200 within_text
+plain_parts BoardFull = json 409 (codes "{\"fault\":\"board full\"}\n")
+plain_parts DiskFault = json 500 (codes "{\"fault\":\"disk\"}\n")
+plain_parts NoMemory = bare 503
+
 -- the parts of the response to a request with this outcome, where this is the capabilities document
 abbrev pub parts_of : List ℕ → Outcome → ResponseParts
 parts_of document (Tile hit number text) = record { status = 200; media_type = codes "image/x-portable-pixmap"; headers = tile_headers hit number; body = text }
 parts_of document Document = typed 200 (codes "text/xml") document
 parts_of document (Refused code locator) = typed (status_of code) (codes "text/xml") (report_of code locator)
-parts_of document (Plain NotFound) = bare 404
-parts_of document (Plain WrongMethod) = bare 405
 parts_of document SourceFailed = typed 500 (codes "text/xml") (report_of NoApplicableCode Nowhere)
-parts_of document (Plain Spent) = typed 500 (codes "text/plain") (codes "numbers spent\n")
 parts_of document (Usage text) = typed 200 (codes "text/plain") text
 parts_of document (Cut number) = json 200 (cut_text number)
-parts_of document (Plain CutsFull) = json 409 (codes "{\"fault\":\"cuts full\"}\n")
-parts_of document (Plain CutSpent) = json 500 (codes "{\"fault\":\"numbers spent\"}\n")
 parts_of document (Unformed fault) = json 400 (fault_text (fault_kind fault) (field_of fault))
 parts_of document (Dropped text) = json 200 text
-parts_of document (Plain Within) = json 200 within_text
 parts_of document (Job text) = json 200 text
-parts_of document (Plain BoardFull) = json 409 (codes "{\"fault\":\"board full\"}\n")
-parts_of document (Plain DiskFault) = json 500 (codes "{\"fault\":\"disk\"}\n")
-parts_of document (Plain NoMemory) = bare 503
+parts_of document (Plain p) = plain_parts p
 
 -- the bytes of that response, which closes its connection or does not
 abbrev pub response_with : List ℕ → Bool → Outcome → List ℕ

@@ -13,30 +13,37 @@ pub enum Outcome {
     Document,
     /// The request is refused.
     Refused(Code, Locator),
-    /// Nothing stands at the request's path.
-    NotFound,
-    /// The request's path takes another method.
-    WrongMethod,
     /// The source failed at the rendering.
     SourceFailed,
-    /// No number of a render is left.
-    Spent,
     /// What is kept, as text.
     Usage(Words),
     /// The truncation was done, and has this number.
     Cut(u64),
-    /// As many truncations would stay in force as may be.
-    CutsFull,
-    /// No number is left for a truncation.
-    CutSpent,
     /// The text of a truncation is no cover.
     Unformed(JobFault),
     /// The expiry dropped a metatile, which this JSON text names.
     Dropped(Words),
-    /// No quota is exceeded; nothing was dropped.
-    Within,
     /// What is told of a job of a server, as a JSON text.
     Job(Words),
+    /// What has one response, whatever was asked for.
+    Plain(Plain),
+}
+
+/// An outcome with one response, which takes no memory.
+#[derive(Clone, Copy, PartialEq, Eq)]
+pub enum Plain {
+    /// Nothing stands at the request's path.
+    NotFound,
+    /// The request's path takes another method.
+    WrongMethod,
+    /// No number of a render is left.
+    Spent,
+    /// As many truncations would stay in force as may be.
+    CutsFull,
+    /// No number is left for a truncation.
+    CutSpent,
+    /// No quota is exceeded; nothing was dropped.
+    Within,
     /// As many jobs wait at a server as may, or as many were submitted as ever may be.
     BoardFull,
     /// The disk failed at a truncation or an expiry, which was not done.

@@ -4,7 +4,7 @@ ghost use Rattle.exception_report.specs.Report.{report_of};
 ghost use Rattle.exception_report.specs.Status.{status_of};
 ghost use Rattle.tile_requests.specs.Shown.{media_type_name, shown_parts};
 ghost use Rattle.tile_requests.specs.Requests.{is_made};
-ghost use Rattle.tile_requests.specs.Response.{bare, cut_text, fault_kind, fault_text, field_of, parts_of, spelt, typed};
+ghost use Rattle.tile_requests.specs.Response.{bare, cut_text, fault_kind, fault_text, field_of, parts_of, plain_parts, spelt, typed};
 
 use crate::numbers::add_number;
 use crate::outcome::{Outcome, Plain};
@@ -137,6 +137,23 @@ fn unformed<'a>(alloc: Global, fault: JobFault) -> Result<Parts<'a>, AllocError>
     Ok(made(400, MediaType::Json, text))
 }
 
+/// A response that is the same whatever was asked for. It takes no memory.
+fn plain_parts<'a>(plain: Plain) -> Parts<'a>
+    ensures { shown_parts result ≡ plain_parts plain }
+{
+    match plain {
+        Plain::NotFound => bare(404),
+        Plain::WrongMethod => bare(405),
+        Plain::Spent => borrowed(500, MediaType::Plain, b"numbers spent\n"),
+        Plain::CutsFull => borrowed(409, MediaType::Json, b"{\"fault\":\"cuts full\"}\n"),
+        Plain::CutSpent => borrowed(500, MediaType::Json, b"{\"fault\":\"numbers spent\"}\n"),
+        Plain::Within => borrowed(200, MediaType::Json, b"{\"within\":true}\n"),
+        Plain::BoardFull => borrowed(409, MediaType::Json, b"{\"fault\":\"board full\"}\n"),
+        Plain::DiskFault => borrowed(500, MediaType::Json, b"{\"fault\":\"disk\"}\n"),
+        Plain::NoMemory => bare(503),
+    }
+}
+
 /// The parts of the response to a request with this outcome, where `document` is the capabilities document. A tile, the
 /// document and a text that was told are borrowed, and take no memory. `AllocError` where it runs out for another body.
 pub fn parts_of<'a>(
@@ -151,20 +168,12 @@ pub fn parts_of<'a>(
         Outcome::Tile(hit, number, text) => Ok(tile(*hit, *number, text.bytes())),
         Outcome::Document => Ok(borrowed(200, MediaType::Xml, document)),
         Outcome::Refused(code, locator) => reported(alloc, *code, locator),
-        Outcome::Plain(Plain::NotFound) => Ok(bare(404)),
-        Outcome::Plain(Plain::WrongMethod) => Ok(bare(405)),
         Outcome::SourceFailed => reported(alloc, Code::NoApplicableCode, &Locator::Nowhere),
-        Outcome::Plain(Plain::Spent) => Ok(borrowed(500, MediaType::Plain, b"numbers spent\n")),
         Outcome::Usage(text) => Ok(borrowed(200, MediaType::Plain, text.bytes())),
         Outcome::Cut(number) => cut(alloc, *number),
-        Outcome::Plain(Plain::CutsFull) => Ok(borrowed(409, MediaType::Json, b"{\"fault\":\"cuts full\"}\n")),
-        Outcome::Plain(Plain::CutSpent) => Ok(borrowed(500, MediaType::Json, b"{\"fault\":\"numbers spent\"}\n")),
         Outcome::Unformed(fault) => unformed(alloc, *fault),
         Outcome::Dropped(text) => Ok(borrowed(200, MediaType::Json, text.bytes())),
-        Outcome::Plain(Plain::Within) => Ok(borrowed(200, MediaType::Json, b"{\"within\":true}\n")),
         Outcome::Job(text) => Ok(borrowed(200, MediaType::Json, text.bytes())),
-        Outcome::Plain(Plain::BoardFull) => Ok(borrowed(409, MediaType::Json, b"{\"fault\":\"board full\"}\n")),
-        Outcome::Plain(Plain::DiskFault) => Ok(borrowed(500, MediaType::Json, b"{\"fault\":\"disk\"}\n")),
-        Outcome::Plain(Plain::NoMemory) => Ok(bare(503)),
+        Outcome::Plain(plain) => Ok(plain_parts(*plain)),
     }
 }

@@ -1,4 +1,4 @@
-use Rattle.std.proofs.Common.{◌++◌, ◌∷◌, [], ◌∙◌, ap, arith, List, ℕ}
+use Rattle.std.proofs.Common.{◌++◌, ◌∷◌, [], ◌∙◌, ap, arith, List, subst, ℕ}
 use Rattle.std.proofs.lemmas.Option.{slice_get_within}
 use Rattle.record_text.specs.Fits.{Fits}
 use Rattle.record_text.specs.Spelling.{spelling}
@@ -12,12 +12,12 @@ putting-preserved c =
     let xs = c.args.cuts.now.book.cuts in
     let at = c.putting.at in
     let k : Cut = record { number = c.cut_at-number.result.0; cover = c.cut_at-number.result.1 } in
-    let body = c.cut_body.result in
+    let body = c.encode.result in
     let within = slice_get_within xs at k c.cut_at-number.ensures in
     record {
       bodies = c.push_reserved.ensures.items ∙ ap (λ (l : List (List ℕ)). l ++ body ∷ []) c.putting.invariant.bodies
-          ∙ put_more cut_record spelling c.args.bodies.now.items xs at k body c.cut_at-number.ensures c.cut_body.ensures.body;
-      fits = fit_more cut_record Fits xs at k c.cut_at-number.ensures c.cut_body.ensures.fits c.putting.invariant.fits;
+          ∙ put_more cut_record spelling c.args.bodies.now.items xs at k body c.cut_at-number.ensures (c.encode.ensures ∙ ap spelling c.truncated-entry.ensures.is);
+      fits = fit_more cut_record Fits xs at k c.cut_at-number.ensures (subst Fits c.truncated-entry.ensures.is c.truncated-entry.ensures.fits) c.putting.invariant.fits;
       within = omega (arith, within);
       room = c.push_reserved.ensures.capacity ∙ c.putting.invariant.room;
     }

@@ -1,4 +1,4 @@
-use Rattle.std.proofs.Common.{◌++◌, ◌∷◌, [], ◌∙◌, ap, arith, List, ℕ}
+use Rattle.std.proofs.Common.{◌++◌, ◌∷◌, [], ◌∙◌, ap, arith, List, subst, ℕ}
 use Rattle.std.proofs.lemmas.Option.{slice_get_within}
 use Rattle.record_text.specs.Fits.{Fits}
 use Rattle.record_text.specs.Spelling.{spelling}
@@ -11,12 +11,12 @@ putting-preserved c =
     let xs = c.args.ranking.now.kept in
     let at = c.putting.at in
     let t = c.get-kept.result in
-    let body = c.stored_body.result in
+    let body = c.encode.result in
     let within = slice_get_within xs at t c.get-kept.ensures in
     record {
       bodies = c.push_reserved.ensures.items ∙ ap (λ (l : List (List ℕ)). l ++ body ∷ []) c.putting.invariant.bodies
-          ∙ put_more stored_record spelling c.args.bodies.now.items xs at t body c.get-kept.ensures c.stored_body.ensures.body;
-      fits = fit_more stored_record Fits xs at t c.get-kept.ensures c.stored_body.ensures.fits c.putting.invariant.fits;
+          ∙ put_more stored_record spelling c.args.bodies.now.items xs at t body c.get-kept.ensures (c.encode.ensures ∙ ap spelling c.stored-entry.ensures.is);
+      fits = fit_more stored_record Fits xs at t c.get-kept.ensures (subst Fits c.stored-entry.ensures.is c.stored-entry.ensures.fits) c.putting.invariant.fits;
       within = omega (arith, within);
       room = c.push_reserved.ensures.capacity ∙ c.putting.invariant.room;
     }

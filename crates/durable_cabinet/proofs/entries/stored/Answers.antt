@@ -3,6 +3,5 @@ use Rattle.durable_cabinet.proofs.entries.stored.Goals as goal
 
 pub returns-clause-fits : goal.returns-clause-fits
 returns-clause-fits c =
-    let s = c.args.core.now.state in
     let t = c.args.kept in
-    (c.wide.ensures, meta_fits s.catalogue c.known.ensures.valid t.meta c.requires c.four.ensures c.narrow.ensures c.narrow-2.ensures, c.wide-2.ensures, c.narrow-3.ensures, c.wide-3.ensures, c.wide-4.ensures)
+    (c.wide.ensures, meta_fits c.args.catalogue.now c.requires.valid t.meta c.requires.meta c.four.ensures c.narrow.ensures c.narrow-2.ensures, c.wide-2.ensures, c.narrow-3.ensures, c.wide-3.ensures, c.wide-4.ensures)

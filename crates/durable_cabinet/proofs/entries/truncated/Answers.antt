@@ -2,4 +2,4 @@ use Rattle.durable_cabinet.proofs.Fitting.{cover_fits}
 use Rattle.durable_cabinet.proofs.entries.truncated.Goals as goal
 
 pub returns-clause-fits : goal.returns-clause-fits
-returns-clause-fits c = (c.ranges.number.fits, cover_fits c.args.core.now.state.catalogue c.known.ensures.valid c.args.cover c.requires c.edges.ensures c.four_wanted.ensures)
+returns-clause-fits c = (c.ranges.number.fits, cover_fits c.args.catalogue.now c.requires.valid c.args.cover c.requires.cover c.edges.ensures c.four_wanted.ensures)
