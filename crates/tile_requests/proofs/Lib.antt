@@ -7,3 +7,5 @@ pub mod Opening
 pub mod LoneTurns
 pub mod LoneRuns
 pub mod LoneRefreshes
+pub mod Counts
+pub mod Going

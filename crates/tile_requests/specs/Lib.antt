@@ -6,3 +6,6 @@ pub mod Response
 pub mod Shown
 pub mod Events
 pub mod Immediate
+pub mod Counted
+pub mod Counting
+pub mod Served

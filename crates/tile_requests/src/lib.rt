@@ -7,7 +7,7 @@
 //! Stands on cabinet, cache_core, cache_access, source_render, job_forms, exception_report, wmts_kvp, wmts_rest and http_wire.
 #![tactic(auto)]
 
-pub mod commands;
+pub mod answering;
 pub mod dropped;
 pub mod events;
 pub mod head;

@@ -1,7 +1,7 @@
 //! What messages ask for, and the ways in which a tile is asked for.
 ghost use Rattle.std.specs.Prelude.{◌≡◌};
-ghost use Rattle.tile_requests.specs.Events.{ended_by};
 ghost use Rattle.tile_requests.specs.Requests.{outcome_of};
+ghost use Rattle.tile_requests.specs.Served.{outcome_of_get};
 
 use crate::outcome::{Outcome, Plain};
 use cache_access::fault::GetFault;
@@ -59,7 +59,7 @@ pub fn outcome_of(outcome: TileOutcome) -> Outcome
 
 /// The outcome of a request for a tile whose get came to this.
 pub fn outcome_of_get(got: Result<Tile, GetFault>) -> Outcome
-    ensures { result ≡ outcome_of (ended_by got) }
+    ensures { result ≡ outcome_of_get got }
 {
     match got {
         Ok(Tile { hit, number, bytes }) => Outcome::Tile(hit, number, bytes),

@@ -1,10 +1,14 @@
-//! The text of what is kept.
-ghost use Rattle.std.specs.Prelude.{◌≡◌, ◌++◌, ◌<◌, IfOk, OnOk, length};
+//! The text of what is kept, told by one turn for each of its lines.
+ghost use Rattle.std.specs.Prelude.{◌≡◌, ◌++◌, IfOk, OnErr, OnOk, length};
+ghost use Rattle.cache_access.specs.Turned.{Goes};
 ghost use Rattle.catalog.specs.Valid.{IsValid};
-ghost use Rattle.tile_requests.specs.Texts.{kept_counts_text, cuts_line, layer_line, layer_lines, quota_text, total_line, usage_text};
+ghost use Rattle.tile_requests.specs.Counted.{layer_line, totals_text};
+ghost use Rattle.tile_requests.specs.Counting.{HasCounted, HasCountedVainly, HasToldUsage};
+ghost use Rattle.tile_requests.specs.Texts.{kept_counts_text, quota_text};
 
 use crate::numbers::add_number;
-use cabinet::keeper::Keeper;
+use cabinet_chest::command::Counts;
+use cache_access::access::Access;
 use catalog::layer::Layer;
 use exact_ratio::words::Words;
 use std::alloc::{AllocError, Global};
@@ -18,8 +22,8 @@ fn add_quota(text: &mut Vec<u8>, quota: Option<u64>) -> Result<(), AllocError>
     }
 }
 
-/// Adds how many metatiles are kept, their bytes, and their quota, `-` where there is none. `AllocError` where memory runs out.
-pub fn add_counts(
+/// Adds how many metatiles are kept, their bytes, and their quota, `-` if there is none.
+fn add_counts(
     text: &mut Vec<u8>,
     metatiles: u32,
     bytes: u64,
@@ -37,56 +41,84 @@ pub fn add_counts(
     Ok(())
 }
 
-/// Adds the line of a layer of this number.
-fn add_layer<C: Keeper>(
-    text: &mut Vec<u8>,
-    cabinet: &C,
-    number: u32,
-    layer: &Layer,
-) -> Result<(), AllocError>
-    requires { number < length (C.state cabinet.now).catalogue.layers }
-    ensures { OnOk result (text.new.items ≡ text.old.items ++ layer_line (C.state cabinet.now) number layer.now) }
+/// Adds the line of a layer.
+fn add_layer(text: &mut Vec<u8>, layer: &Layer, counts: &Counts) -> Result<(), AllocError>
+    ensures { OnOk result (text.new.items ≡ text.old.items ++ layer_line layer.now counts.now) }
 {
     text.extend_from_slice(b"layer ")?;
     text.extend_from_slice(layer.id.bytes())?;
-    add_counts(
-        text,
-        cabinet.kept_in(number),
-        cabinet.used(number),
-        layer.quota,
-    )
+    add_counts(text, counts.metatiles, counts.bytes, layer.quota)
 }
 
-/// The lines of all layers.
-fn layer_lines<C: Keeper>(alloc: Global, cabinet: &C) -> Result<Vec<u8>, AllocError>
-    requires { IsValid (C.state cabinet.now).catalogue }
-    ensures { IfOk result (λ v. v.items ≡ layer_lines (C.state cabinet.now) 0 (C.state cabinet.now).catalogue.layers) }
+/// Adds the line of all layers and that of the truncations.
+fn add_totals(
+    text: &mut Vec<u8>,
+    quota: Option<u64>,
+    all: &Counts,
+    cuts: &Counts,
+) -> Result<(), AllocError>
+    ensures { OnOk result (text.new.items ≡ text.old.items ++ totals_text quota all.now cuts.now) }
+{
+    text.extend_from_slice(b"total")?;
+    add_counts(text, all.metatiles, all.bytes, quota)?;
+    text.extend_from_slice(b"cuts ")?;
+    add_number(text, u64::from(cuts.cuts))?;
+    text.extend_from_slice(b"\n")
+}
+
+/// The lines of all layers, each told by a turn. `AllocError` if memory runs out.
+fn layer_lines<A: Access>(
+    access: &A,
+    alloc: Global,
+    cache: &mut A::Cache,
+) -> Result<Vec<u8>, AllocError>
+    requires reaches { A.reaches access.now cache.old }
+    requires valid { IsValid (A.catalogue access.now cache.old) }
+    ensures told { IfOk result (λ text. HasCounted (A.gains access.now) (A.catalogue access.now cache.old) cache.old cache.new (length (A.catalogue access.now cache.old).layers) text.items) }
+    ensures vain { OnErr result (HasCountedVainly (A.gains access.now) cache.old cache.new) }
+    ensures goes { Goes (A.catalogue access.now) (A.reaches access.now) (A.owes access.now) (A.lasts access.now) cache.old cache.new }
+    ensures still { A.sound access.now cache.old → A.sound access.now cache.new }
+    ensures rests { A.rests access.now cache.old → A.rests access.now cache.new }
 {
     let mut text = Vec::new(alloc);
-    let mut number = 0;
-    let layers = cabinet.catalogue().layers.as_slice();
-    for layer in layers {
-        add_layer(&mut text, cabinet, number, layer)?;
-        number += 1;
+    let layers = access.catalogue(cache).layers.len() as u32;
+    'counting: for number in 0..layers {
+        let counts = access.usage(cache, number);
+        let Some(layer) = access.catalogue(cache).layers.get(number as usize) else {
+            unreachable!()
+        };
+        match add_layer(&mut text, layer, &counts) {
+            Err(fault) => return Err(fault),
+            Ok(()) => {}
+        }
     }
     Ok(text)
 }
 
-/// What is kept of each layer and of all of them, and how many truncations are in force. `AllocError` where memory runs out.
-pub fn usage_text<C: Keeper>(alloc: Global, cabinet: &C) -> Result<Words, AllocError>
-    requires { IsValid (C.state cabinet.now).catalogue }
-    ensures { IfOk result (λ text. text ≡ usage_text (C.state cabinet.now)) }
+/// What is kept of each layer and of all of them, and how many truncations are in force, each line told by a turn of its own. `AllocError`
+/// if memory runs out.
+pub fn usage_text<A: Access>(
+    access: &A,
+    alloc: Global,
+    cache: &mut A::Cache,
+) -> Result<Words, AllocError>
+    requires reaches { A.reaches access.now cache.old }
+    requires valid { IsValid (A.catalogue access.now cache.old) }
+    ensures told { IfOk result (HasToldUsage (A.gains access.now) (A.catalogue access.now cache.old) cache.old cache.new) }
+    ensures vain { OnErr result (HasCountedVainly (A.gains access.now) cache.old cache.new) }
+    ensures goes { Goes (A.catalogue access.now) (A.reaches access.now) (A.owes access.now) (A.lasts access.now) cache.old cache.new }
+    ensures still { A.sound access.now cache.old → A.sound access.now cache.new }
+    ensures rests { A.rests access.now cache.old → A.rests access.now cache.new }
 {
-    let mut text = layer_lines(alloc, cabinet)?;
-    text.extend_from_slice(b"total")?;
-    add_counts(
-        &mut text,
-        cabinet.kept(),
-        cabinet.used_all(),
-        cabinet.catalogue().quota,
-    )?;
-    text.extend_from_slice(b"cuts ")?;
-    add_number(&mut text, u64::from(cabinet.cuts()))?;
-    text.extend_from_slice(b"\n")?;
-    Ok(Words::of(text))
+    let mut text = match layer_lines(access, alloc, cache) {
+        Err(fault) => return Err(fault),
+        Ok(text) => text,
+    };
+    let layers = access.catalogue(cache).layers.len() as u32;
+    let all = access.usage(cache, layers);
+    let cuts = access.usage(cache, layers);
+    match add_totals(&mut text, access.catalogue(cache).quota, &all, &cuts) {
+        Err(fault) => Err(fault),
+        Ok(()) => Ok(Words::of(text)),
+    }
 }

@@ -1,9 +1,18 @@
-use Rattle.std.proofs.Common.{◌≡◌, ◌++◌, drop}
-use Rattle.tile_requests.specs.Texts.{layer_lines}
+use Rattle.std.proofs.Common.{◌≡◌, ◌≤◌, length}
+use Rattle.cache_access.specs.Turned.{Goes}
+use Rattle.tile_requests.specs.Counting.{HasCounted}
 use Rattle.tile_requests.proofs.usage.layer_lines.Given as goal
 
-abbrev pub invariant-loop-layer : goal.invariant-loop-layer
-invariant-loop-layer g l = record {
-  number : l.number ≡ l.layer-index;
-  rest : l.text.items ++ layer_lines (g.C.Keeper.state l.cabinet) l.number (drop l.layer-index l.layers) ≡ layer_lines (g.C.Keeper.state l.cabinet) 0 l.layers;
-}
+abbrev pub invariant-counting : goal.invariant-counting
+invariant-counting g l =
+    let A = g.A.Access in
+    let way = l.access in
+    let c = A.catalogue way l.fn.cache in
+    record {
+      told : HasCounted (A.gains way) c l.fn.cache l.cache l.number l.text.items;
+      goes : Goes (A.catalogue way) (A.reaches way) (A.owes way) (A.lasts way) l.fn.cache l.cache;
+      still : A.sound way l.fn.cache → A.sound way l.cache;
+      rests : A.rests way l.fn.cache → A.rests way l.cache;
+      layers : l.layers ≡ length c.layers;
+      within : l.number ≤ length c.layers;
+    }

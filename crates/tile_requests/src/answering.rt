@@ -1,0 +1,40 @@
+//! Any request, answered.
+ghost use Rattle.std.specs.Prelude.{◌≡◌, ◌≤◌, Some};
+ghost use Rattle.cache_access.specs.Turned.{Goes};
+ghost use Rattle.catalog.specs.Valid.{IsValid};
+ghost use Rattle.tile_requests.specs.Requests.{IsOf};
+ghost use Rattle.tile_requests.specs.Served.{ServesRequest};
+
+use crate::immediate::immediate;
+use crate::outcome::Outcome;
+use crate::request::{Request, outcome_of_get};
+use cache_access::access::Access;
+use cache_access::get::get;
+use source_render::source::Source;
+use std::alloc::Global;
+
+/// Answers a request: a tile is asked for, and rendered and handed in if it isn't kept. If memory runs out, the outcome says so.
+pub fn answer<A: Access, S: Source>(
+    access: &A,
+    alloc: Global,
+    cache: &mut A::Cache,
+    source: &mut S,
+    request: Request,
+) -> Outcome
+    requires reaches { A.reaches access.now cache.old }
+    requires rests { A.rests access.now cache.old }
+    requires valid { IsValid (A.catalogue access.now cache.old) }
+    requires of { IsOf (A.catalogue access.now cache.old) request }
+    requires source { A.owes access.now cache.old → S.told source.old ≡ Some (A.catalogue access.now cache.old).source }
+    ensures serves { ServesRequest (A.gains access.now) (A.catalogue access.now cache.old) (A.sound access.now cache.old × (S.told source.old ≡ Some (A.catalogue access.now cache.old).source)) (A.seen access.now cache.old) (S.faults source.old) (S.faults source.new) request cache.old cache.new result }
+    ensures goes { Goes (A.catalogue access.now) (A.reaches access.now) (A.owes access.now) (A.lasts access.now) cache.old cache.new }
+    ensures still { S.told source.old ≡ Some (A.catalogue access.now cache.old).source → A.sound access.now cache.old → A.sound access.now cache.new }
+    ensures rests { A.rests access.now cache.new }
+    ensures later { S.faults source.old ≤ S.faults source.new }
+    ensures told { S.told source.new ≡ S.told source.old }
+{
+    match request {
+        Request::Tile(address) => outcome_of_get(get(access, alloc, cache, source, &address)),
+        other => immediate(access, alloc, cache, other),
+    }
+}
