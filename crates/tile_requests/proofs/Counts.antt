@@ -10,7 +10,8 @@ use Rattle.catalog.specs.declared.catalogue.Catalogue.{Catalogue}
 use Rattle.catalog.specs.declared.layer.Layer.{Layer}
 use Rattle.turnstile.specs.declared.view.Made.{Made}
 use Rattle.cache_access.specs.Turned.{GainsOne}
-use Rattle.tile_requests.specs.Counted.{AreAllCounts, AreCounts, IsCount, layer_line, layer_lines, totals_text}
+use Rattle.tile_requests.specs.Counted.{AreAllCounts, AreCounts, IsCount}
+use Rattle.tile_requests.specs.Texts.{layer_line, layer_lines, totals_text}
 use Rattle.tile_requests.specs.Counting.{HasCounted, HasCountedVainly, HasToldUsage}
 
 nothing_behind : {X : Type 0} (xs : List X) → xs ++ [] ≡ xs

@@ -5,7 +5,8 @@ use Rattle.cabinet_chest.specs.declared.command.Counts.{Counts}
 use Rattle.cabinet_chest.specs.declared.shown.Note.{Note}
 use Rattle.catalog.specs.declared.catalogue.Catalogue.{Catalogue}
 use Rattle.turnstile.specs.declared.view.Made.{Made}
-use Rattle.tile_requests.specs.Counted.{AreAllCounts, AreCounts, IsCounted, layer_lines}
+use Rattle.tile_requests.specs.Counted.{AreAllCounts, AreCounts, IsCounted}
+use Rattle.tile_requests.specs.Texts.{layer_lines}
 
 module _ {C : Type 0} (leads : C → C → List (Made Note) → Type 0) where
   -- so many layers were counted, and these are their lines

@@ -3,8 +3,9 @@
 use Rattle.std.specs.Prelude.{ℕ, ◌+◌, ◌==◌, if◌then◌else◌, List, [], ◌∷◌, ◌++◌, length, Option, Some, None, slice_get, codes, decimal}
 use Rattle.std.specs.List.{join_with_byte}
 use Rattle.std.specs.Option.{option_map_or}
-use Rattle.cabinet.specs.Counted.{kept_in, used, used_all}
-use Rattle.cabinet.specs.State.{State, now}
+use Rattle.cabinet.specs.State.{State}
+use Rattle.cabinet_chest.specs.Counts.{counts_in_all, counts_in_layer}
+use Rattle.cabinet_chest.specs.declared.command.Counts.{Counts}
 use Rattle.catalog.specs.declared.catalogue.Catalogue.{Catalogue}
 use Rattle.catalog.specs.declared.layer.Dimension.{Dimension}
 use Rattle.catalog.specs.declared.layer.Layer.{Layer}
@@ -22,26 +23,32 @@ quota_text (Some bytes) = decimal bytes
 abbrev pub kept_counts_text : ℕ → ℕ → Option ℕ → List ℕ
 kept_counts_text metatiles bytes quota = codes " " ++ decimal metatiles ++ codes " " ++ decimal bytes ++ codes " " ++ quota_text quota ++ codes "\n"
 
--- the line of the layer of this number
-abbrev pub layer_line : State → ℕ → Layer → List ℕ
-layer_line s n l = codes "layer " ++ l.id ++ kept_counts_text (kept_in s n) (used s n) l.quota
+-- the line of a layer, of which this is kept
+abbrev pub layer_line : Layer → Counts → List ℕ
+layer_line l n = codes "layer " ++ l.id ++ kept_counts_text n.metatiles n.bytes l.quota
 
--- those of layers of which the first has this number
-abbrev pub layer_lines : State → ℕ → List Layer → List ℕ
-layer_lines s n [] = []
-layer_lines s n (l ∷ ls) = layer_line s n l ++ layer_lines s (n + 1) ls
+-- a line for each layer, in their order
+abbrev pub layer_lines : List Layer → List Counts → List ℕ
+layer_lines [] ns = []
+layer_lines (l ∷ ls) [] = []
+layer_lines (l ∷ ls) (n ∷ ns) = layer_line l n ++ layer_lines ls ns
 
--- the line of all layers
-abbrev pub total_line : State → List ℕ
-total_line s = codes "total" ++ kept_counts_text (length (now s).kept) (used_all s) s.catalogue.quota
+-- the line of all layers, and that of the truncations in force
+abbrev pub totals_text : Option ℕ → Counts → Counts → List ℕ
+totals_text quota all cuts = codes "total" ++ kept_counts_text all.metatiles all.bytes quota ++ codes "cuts " ++ decimal cuts.cuts ++ codes "\n"
 
--- how many truncations are in force
-abbrev pub cuts_line : State → List ℕ
-cuts_line s = codes "cuts " ++ decimal (length (now s).book.cuts) ++ codes "\n"
+-- the text of what is kept: a line for each layer, and these two
+abbrev pub counted_text : Catalogue → List Counts → Counts → Counts → List ℕ
+counted_text c ns all cuts = layer_lines c.layers ns ++ totals_text c.quota all cuts
 
--- a line for each layer, one for all of them, and one for the truncations
+-- what is kept of each of these layers, of which the first has this number
+abbrev pub layer_counts : State → ℕ → List Layer → List Counts
+layer_counts s n [] = []
+layer_counts s n (l ∷ ls) = counts_in_layer s n ∷ layer_counts s (n + 1) ls
+
+-- the text of what one cabinet keeps
 abbrev pub usage_text : State → List ℕ
-usage_text s = layer_lines s 0 s.catalogue.layers ++ total_line s ++ cuts_line s
+usage_text s = counted_text s.catalogue (layer_counts s 0 s.catalogue.layers) (counts_in_all s) (counts_in_all s)
 
 -- WHAT AN EXPIRY CAME TO
 

@@ -19,10 +19,15 @@ ghost use Rattle.metatile_plan.specs.declared.metatile.MetaKey.{MetaKey};
 ghost use Rattle.raster_field.specs.Blocks.{IsMeta, first_tile};
 ghost use Rattle.tile_requests.specs.declared.request.Mode.TheVariants.{Gets};
 ghost use Rattle.tile_requests.specs.Events.{EndsAs, Opens, RunsTo, ended_by, ended_so};
+ghost use Rattle.tile_requests.specs.declared.outcome.Outcome.{Outcome};
+ghost use Rattle.tile_requests.specs.declared.request.Request.{Request};
+ghost use Rattle.tile_requests.specs.Immediate.{IsImmediate};
+ghost use Rattle.tile_requests.specs.Served.{IsServedAtOnce};
 ghost use Rattle.turnstile.specs.declared.view.Made.{Made};
 
 /// The turns of a get, by a thread that has the cabinet for itself, are the events of the line that gets the tile, under some chance, and
-/// those of a refresh the three events of a request for the metatile's first tile: no render runs before them.
+/// those of a refresh the three events of a request for the metatile's first tile: no render runs before them. What is answered
+/// without a render is answered so in one step.
 pub fn laws_of_lone_threads()
     ensures gets { (told : Option ℕ) (x y : Shown) (a : Address) (before after : ℕ) (gained : List (Made Note)) (result : Result Tile GetFault)
         → IsTile x.state.catalogue a → IsAtRest x.state → AreSteps x.state.catalogue x gained y
@@ -34,4 +39,6 @@ pub fn laws_of_lone_threads()
         → CameTo x.state.catalogue (IsSound x.state × (told ≡ Some x.state.catalogue.source)) m force (fronted (now x.state)) gained result
         → before ≤ after → IfErr result (λ e. e ≡ SourceFault → Rose before after)
         → (o : TileOutcome) × RunsTo before after x.faults y.faults x.state (first_tile x.state.catalogue m) force o y.state × EndsAs result o }
+    ensures at_once { (x y : Shown) (gained : List (Made Note)) (r : Request) (o : Outcome)
+        → AreSteps x.state.catalogue x gained y → IsServedAtOnce x.state.catalogue r gained o → IsImmediate x.faults y.faults x.state r o y.state }
 {}

@@ -2,9 +2,8 @@
 ghost use Rattle.std.specs.Prelude.{◌≡◌, ◌++◌, IfOk, OnErr, OnOk, length};
 ghost use Rattle.cache_access.specs.Turned.{Goes};
 ghost use Rattle.catalog.specs.Valid.{IsValid};
-ghost use Rattle.tile_requests.specs.Counted.{layer_line, totals_text};
+ghost use Rattle.tile_requests.specs.Texts.{kept_counts_text, layer_line, quota_text, totals_text};
 ghost use Rattle.tile_requests.specs.Counting.{HasCounted, HasCountedVainly, HasToldUsage};
-ghost use Rattle.tile_requests.specs.Texts.{kept_counts_text, quota_text};
 
 use crate::numbers::add_number;
 use cabinet_chest::command::Counts;

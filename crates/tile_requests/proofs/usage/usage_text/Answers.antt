@@ -2,7 +2,7 @@ use Rattle.std.proofs.Common.{ℕ, ◌≡◌, ◌++◌, Option, subst, ap, lengt
 use Rattle.cabinet_chest.specs.declared.command.Command.TheVariants as command
 use Rattle.cabinet_chest.specs.declared.command.Reply.TheVariants as reply
 use Rattle.cache_access.specs.Turned.{GainsOne}
-use Rattle.tile_requests.specs.Counted.{totals_text}
+use Rattle.tile_requests.specs.Texts.{totals_text}
 use Rattle.tile_requests.proofs.Counts.{usage_told, usage_untold}
 use Rattle.tile_requests.proofs.Going.{goes_on}
 use Rattle.tile_requests.proofs.usage.usage_text.Goals as goal
