@@ -1,8 +1,8 @@
 //! Any request, answered.
-ghost use Rattle.std.specs.Prelude.{◌≡◌, ◌≤◌, Some};
+ghost use Rattle.std.specs.Prelude.{◌≡◌, ◌≤◌, None, Some};
 ghost use Rattle.cache_access.specs.Turned.{Goes};
 ghost use Rattle.catalog.specs.Valid.{IsValid};
-ghost use Rattle.tile_requests.specs.Requests.{IsOf};
+ghost use Rattle.tile_requests.specs.Requests.{IsOf, tile_of};
 ghost use Rattle.tile_requests.specs.Served.{ServesRequest};
 
 use crate::immediate::immediate;
@@ -32,6 +32,7 @@ pub fn answer<A: Access, S: Source>(
     ensures rests { A.rests access.now cache.new }
     ensures later { S.faults source.old ≤ S.faults source.new }
     ensures told { S.told source.new ≡ S.told source.old }
+    ensures other { tile_of request ≡ None → source.new ≡ source.old }
 {
     match request {
         Request::Tile(address) => outcome_of_get(get(access, alloc, cache, source, &address)),

@@ -1,5 +1,6 @@
 -- One message of a session, served to its end.
 use Rattle.std.proofs.Common.{◌≡◌, ◌≤◌, ℕ, Bool, true, false, List, [], ◌∷◌, slice_set, Option, Some, None, refl, sym, ap, ◌∙◌, subst, arith}
+use Rattle.std.specs.Prelude.{MatchOption}
 use Rattle.cabinet.specs.State.{State}
 use Rattle.cache_core.specs.declared.actor.Actor.TheVariants as actor
 use Rattle.cache_core.specs.declared.actor.Step.{Step}
@@ -15,10 +16,10 @@ use Rattle.tile_requests.specs.declared.request.Mode.TheVariants.{Gets}
 use Rattle.tile_requests.specs.declared.request.Request.{Request}
 use Rattle.tile_requests.specs.declared.request.Request.TheVariants as request
 use Rattle.tile_requests.specs.Immediate.{IsImmediate}
-use Rattle.tile_service.specs.Performing.{IsGot}
+use Rattle.tile_service.specs.Performing.{IsAnswered, IsGot}
 use Rattle.tile_requests.specs.Events.{Opens}
 use Rattle.tile_service.specs.OneLine.{Keeps}
-use Rattle.tile_requests.specs.Requests.{calm, events, outcome_of}
+use Rattle.tile_requests.specs.Requests.{calm, events, outcome_of, tile_of}
 use Rattle.tile_requests.specs.Routes.{request_for}
 use Rattle.sessions.specs.Outside.{FaultCounts}
 use Rattle.tile_service.specs.Run.{PendingRequest, World, seat_after, answers_after, settled, started, sent, world_of}
@@ -28,6 +29,9 @@ use Rattle.tile_service.proofs.Immediately.{immediate_told, read_asks, same_even
 use Rattle.tile_service.proofs.AtRest.{IsDone, get_done}
 use Rattle.tile_service.proofs.Seating.{settled_keeps}
 use Rattle.tile_service.proofs.Telling.{same_stays, told_keeps}
+
+some_same : (a b : Address) → Some a ≡ Some b → a ≡ b
+some_same a b e = cc
 
 -- A MESSAGE IS SERVED
 
@@ -94,3 +98,26 @@ module _ (told : Option ℕ) (disk : FaultCounts) (document : List ℕ) (s : Sta
 
   pub got_serves : (before after : ℕ) (a : Address) (o : Outcome) (t : State) → request.Tile a ≡ asks → IsGot told before after disk s a o t → Serves told before after disk document s m o t
   got_serves before after a o t e k = rw k.4 (tile_serves before after a e k.0 t k.2 k.1 k.3)
+
+  -- a request for this tile
+  is_tile : (r : Request) (a : Address) → tile_of r ≡ Some a → request.Tile a ≡ r
+  is_tile (request.Tile b) a e = ap request.Tile (sym (some_same b a e))
+  is_tile request.Capabilities a e = absurd (cc)
+  is_tile (request.Refused code locator) a e = absurd (cc)
+  is_tile request.NotFound a e = absurd (cc)
+  is_tile request.WrongMethod a e = absurd (cc)
+  is_tile request.Usage a e = absurd (cc)
+  is_tile (request.Truncation cover) a e = absurd (cc)
+  is_tile (request.Unformed fault) a e = absurd (cc)
+  is_tile request.Expiry a e = absurd (cc)
+
+  pub answered_serves : (before after : ℕ) (r : Request) (o : Outcome) (t : State) → r ≡ asks → IsAnswered told before after disk s r o t → Serves told before after disk document s m o t
+  answered_serves before after r o t e h = by_case (tile_of r) refl
+    where
+      by_case : (x : Option Address) → tile_of r ≡ x → Serves told before after disk document s m o t
+      by_case None is =
+          let k = subst (λ (x : Option Address). MatchOption x (IsImmediate disk.before disk.after s r o t × (after ≡ before) × (disk.before ≤ disk.after)) (λ a. IsGot told before after disk s a o t)) is h in
+          subst (λ (n : ℕ). Serves told before n disk document s m o t) (sym k.1) (immediate_serves before r o t k.2 e k.0)
+      by_case (Some a) is =
+          let k = subst (λ (x : Option Address). MatchOption x (IsImmediate disk.before disk.after s r o t × (after ≡ before) × (disk.before ≤ disk.after)) (λ a. IsGot told before after disk s a o t)) is h in
+          got_serves before after a o t (is_tile r a is ∙ e) k

@@ -1,6 +1,6 @@
 -- What a request comes to in the code: a tile goes through events, and all else has its outcome in one step.
 -- A tie between the code and its definitions: the promise can be read without it.
-use Rattle.std.specs.Prelude.{ℕ, ◌≡◌, ◌≤◌, ◌⊎◌, List, slice_set, Option, Some}
+use Rattle.std.specs.Prelude.{ℕ, ◌≡◌, ◌≤◌, ◌⊎◌, List, slice_set, MatchOption, Option, Some}
 use Rattle.cabinet.specs.State.{State}
 use Rattle.cache_core.specs.declared.actor.Step.{Step}
 use Rattle.cache_core.specs.declared.outcome.TileOutcome as cached
@@ -15,7 +15,7 @@ use Rattle.tile_requests.specs.declared.request.Request.TheVariants as request
 use Rattle.tile_service.specs.declared.seats.Seat.{Seat}
 use Rattle.tile_requests.specs.Events.{Opens}
 use Rattle.tile_requests.specs.Immediate.{IsImmediate}
-use Rattle.tile_requests.specs.Requests.{outcome_of}
+use Rattle.tile_requests.specs.Requests.{outcome_of, tile_of}
 use Rattle.sessions.specs.Outside.{FaultCounts}
 use Rattle.tile_service.specs.Seats.{action_end_of, next_seat}
 
@@ -24,6 +24,10 @@ use Rattle.tile_service.specs.Seats.{action_end_of, next_seat}
 -- the tile was asked for, rendered and finished one after the other, and this is its outcome
 abbrev pub IsGot : Option ℕ → ℕ → ℕ → FaultCounts → State → Address → Outcome → State → Type 0
 IsGot told before after disk s a o t = (step : Step) × (ended : cached.TileOutcome) × Opens told before after disk.before disk.after s a Gets step t × (step.outcome ≡ Some ended) × (o ≡ outcome_of ended)
+
+-- any request: a tile was got, and what is answered without a render was answered so, and no source asked
+abbrev pub IsAnswered : Option ℕ → ℕ → ℕ → FaultCounts → State → Request → Outcome → State → Type 0
+IsAnswered told before after disk s r o t = MatchOption (tile_of r) (IsImmediate disk.before disk.after s r o t × (after ≡ before) × (disk.before ≤ disk.after)) (λ a. IsGot told before after disk s a o t)
 
 -- WHERE THE CODE'S SEATS ARE
 

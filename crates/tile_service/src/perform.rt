@@ -1,12 +1,13 @@
 //! The action of a line is performed: its actor sends a message, or makes the next event of its pending request.
-ghost use Rattle.std.specs.Prelude.{◌≡◌, List, Option, Some, slice_get};
+ghost use Rattle.std.specs.Prelude.{◌≡◌, ◌≤◌, List, None, Option, Some, slice_get};
 ghost use Rattle.cache_core.specs.Lasting.{Lasting};
 ghost use Rattle.catalog.specs.Valid.{IsValid};
 ghost use Rattle.tile_service.specs.Performing.{IsAsked};
 ghost use Rattle.tile_service.specs.Lines.{Sends, Steps, action_in};
 ghost use Rattle.tile_service.specs.OneLine.{Performs, IsSeated};
 ghost use Rattle.sessions.specs.Outside.{counts};
-ghost use Rattle.tile_requests.specs.Requests.{IsOf};
+ghost use Rattle.tile_requests.specs.Immediate.{IsImmediate};
+ghost use Rattle.tile_requests.specs.Requests.{IsOf, tile_of};
 ghost use Rattle.tile_requests.specs.Shown.{shown_message};
 ghost use Rattle.tile_service.specs.Run.{PendingRequest};
 
@@ -15,12 +16,14 @@ use crate::counter::Counter;
 use crate::lines::{Action, action_in};
 use crate::seats::{Pending, Seat, is_free, pending_at, settle};
 use cabinet::keeper::Keeper;
+use cache_access::alone::Alone;
 use cache_core::laws::laws_of_lasting;
 use cache_core::steps::advance;
 use source_render::source::Source;
 use std::alloc::Global;
 use tile_requests::events::events;
 use tile_requests::immediate::immediate;
+use tile_requests::laws::laws_of_lone_threads;
 use tile_requests::message_ref::MessageRef;
 use tile_requests::outcome::{Outcome, Plain};
 use tile_requests::request::{Mode, Request};
@@ -35,6 +38,21 @@ fn answered(actor: u32, line: u64, outcome: Outcome) -> ActionEnd
         start: line,
         outcome,
     })
+}
+
+/// Answers a request that isn't for a tile, of a thread that has the cabinet for itself.
+fn answered_at_once<C: Keeper>(alloc: Global, cabinet: &mut C, request: Request) -> Outcome
+    requires valid { IsValid (C.state cabinet.old).catalogue }
+    requires of { IsOf (C.state cabinet.old).catalogue request }
+    requires other { tile_of request ≡ None }
+    ensures immediate { IsImmediate (C.faults cabinet.old) (C.faults cabinet.new) (C.state cabinet.old) request result (C.state cabinet.new) }
+    ensures catalogue { (C.state cabinet.new).catalogue ≡ (C.state cabinet.old).catalogue }
+    ensures later { C.faults cabinet.old ≤ C.faults cabinet.new }
+    ensures lasts { Lasting (C.outlasts cabinet.old cabinet.new) (C.state cabinet.old) (C.state cabinet.new) }
+{
+    laws_of_lone_threads();
+    let way = Alone::new();
+    immediate(&way, alloc, cabinet, request)
 }
 
 /// Serves a request that an actor starts in line `n`.
@@ -64,7 +82,7 @@ fn asked<C: Keeper, S: Source>(
             settle(&mut counter.cabinet, seats, actor, n, &address, step)
         }
         other => {
-            let outcome = immediate(alloc, &mut counter.cabinet, other);
+            let outcome = answered_at_once(alloc, &mut counter.cabinet, other);
             answered(actor, n, outcome)
         }
     }

@@ -1,46 +1,45 @@
 //! A message of a session, served to its outcome, since no render runs beside it.
 ghost use Rattle.std.specs.Prelude.{◌≡◌};
 ghost use Rattle.cache_core.specs.Lasting.{Lasting};
-ghost use Rattle.catalog.specs.LookUp.{IsTile};
 ghost use Rattle.catalog.specs.Valid.{IsValid};
 ghost use Rattle.sessions.specs.Outside.{counts};
-ghost use Rattle.tile_service.specs.Performing.{IsGot};
+ghost use Rattle.tile_requests.specs.Requests.{IsOf};
+ghost use Rattle.tile_service.specs.Performing.{IsAnswered};
 ghost use Rattle.tile_service.specs.Serving.{Serves};
 ghost use Rattle.tile_service.specs.Session.{IsAtRest};
 
 use crate::counter::Counter;
 use cabinet::keeper::Keeper;
 use cache_access::alone::Alone;
-use cache_access::get::get;
 use cache_core::laws::laws_of_lasting;
 use http_wire::message::Message;
-use matrix_geometry::address::Address;
 use source_render::source::Source;
 use std::alloc::Global;
-use tile_requests::immediate::immediate;
+use tile_requests::answering::answer;
 use tile_requests::laws::laws_of_lone_threads;
 use tile_requests::message_ref::MessageRef;
 use tile_requests::outcome::{Outcome, Plain};
-use tile_requests::request::{Request, outcome_of_get};
+use tile_requests::request::Request;
 use tile_requests::routes::read_request;
 
-/// Serves a request for a tile, in a cabinet in which no render runs: it is asked for, rendered and finished.
-fn serve_tile<C: Keeper, S: Source>(
+/// Answers a request in a cabinet in which no render runs: a tile is asked for, rendered and finished.
+fn answered<C: Keeper, S: Source>(
     alloc: Global,
     cabinet: &mut C,
     source: &mut S,
-    address: &Address,
+    request: Request,
 ) -> Outcome
     requires valid { IsValid (C.state cabinet.old).catalogue }
-    requires tile { IsTile (C.state cabinet.old).catalogue address.now }
+    requires of { IsOf (C.state cabinet.old).catalogue request }
     requires rest { IsAtRest (C.state cabinet.old) }
-    ensures got { IsGot (S.told source.old) (S.faults source.old) (S.faults source.new) (counts (C.faults cabinet.old) (C.faults cabinet.new)) (C.state cabinet.old) address.now result (C.state cabinet.new) }
+    ensures answers { IsAnswered (S.told source.old) (S.faults source.old) (S.faults source.new) (counts (C.faults cabinet.old) (C.faults cabinet.new)) (C.state cabinet.old) request result (C.state cabinet.new) }
+    ensures catalogue { (C.state cabinet.new).catalogue ≡ (C.state cabinet.old).catalogue }
     ensures told { S.told source.new ≡ S.told source.old }
     ensures lasts { Lasting (C.outlasts cabinet.old cabinet.new) (C.state cabinet.old) (C.state cabinet.new) }
 {
     laws_of_lone_threads();
     let way = Alone::new();
-    outcome_of_get(get(&way, alloc, cabinet, source, address))
+    answer(&way, alloc, cabinet, source, request)
 }
 
 /// Serves a message of a session: a tile is asked for, rendered and finished. Where memory runs out, its outcome says so.
@@ -64,8 +63,5 @@ pub fn serve<C: Keeper, S: Source>(
     let Ok(request) = read_request(alloc, catalogue, &counter.rest, &parts) else {
         return Outcome::Plain(Plain::NoMemory);
     };
-    match request {
-        Request::Tile(address) => serve_tile(alloc, &mut counter.cabinet, source, &address),
-        other => immediate(alloc, &mut counter.cabinet, other),
-    }
+    answered(alloc, &mut counter.cabinet, source, request)
 }
