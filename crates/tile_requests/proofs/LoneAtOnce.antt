@@ -137,6 +137,11 @@ module _ (c : Catalogue) (b a : Shown) (does : Command) (r : Reply) (may : MayRe
 unsure : (m : Made Note) (c : Catalogue) (x : Shown) → IsStep c x m → MayReply c false m.note.before m.note.after m.note.command m.note.reply
 unsure m c x step = step.reply false (λ e. absurd (cc))
 
+-- the disk has failed no less often behind turns
+pub steps_later : (c : Catalogue) (ms : List (Made Note)) (x y : Shown) → AreSteps c x ms y → x.faults ≤ y.faults
+steps_later c [] x y steps = steps.1
+steps_later c (m ∷ ms) x y steps = let later = steps_later c ms m.note.after y steps.1 in omega (arith, later, steps.0.later, (unsure m c x steps.0).later)
+
 -- a split of turns
 steps_split : (c : Catalogue) (ms ns : List (Made Note)) (x y : Shown) → AreSteps c x (ms ++ ns) y → (z : Shown) × AreSteps c x ms z × AreSteps c z ns y
 steps_split c [] ns x y steps = (x, (refl, omega arith), steps)

@@ -39,6 +39,7 @@ pub fn laws_of_lone_threads()
         → CameTo x.state.catalogue (IsSound x.state × (told ≡ Some x.state.catalogue.source)) m force (fronted (now x.state)) gained result
         → before ≤ after → IfErr result (λ e. e ≡ SourceFault → Rose before after)
         → (o : TileOutcome) × RunsTo before after x.faults y.faults x.state (first_tile x.state.catalogue m) force o y.state × EndsAs result o }
+    ensures later { (x y : Shown) (gained : List (Made Note)) → AreSteps x.state.catalogue x gained y → x.faults ≤ y.faults }
     ensures at_once { (x y : Shown) (gained : List (Made Note)) (r : Request) (o : Outcome)
         → AreSteps x.state.catalogue x gained y → IsServedAtOnce x.state.catalogue r gained o → IsImmediate x.faults y.faults x.state r o y.state }
 {}

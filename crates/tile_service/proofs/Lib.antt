@@ -16,3 +16,4 @@ pub mod SoFar
 pub mod Replaying
 pub mod Shapes
 pub mod Faultless
+pub mod Answering

@@ -25,13 +25,11 @@ use Rattle.sessions.specs.Outside.{FaultCounts}
 use Rattle.tile_service.specs.Run.{PendingRequest, World, seat_after, answers_after, settled, started, sent, world_of}
 use Rattle.tile_service.specs.Serving.{Serves}
 use Rattle.tile_service.specs.Session.{IsAtRest, lone}
+use Rattle.tile_service.proofs.Answering.{is_tile}
 use Rattle.tile_service.proofs.Immediately.{immediate_told, read_asks, same_events, with_ends}
 use Rattle.tile_service.proofs.AtRest.{IsDone, get_done}
 use Rattle.tile_service.proofs.Seating.{settled_keeps}
 use Rattle.tile_service.proofs.Telling.{same_stays, told_keeps}
-
-some_same : (a b : Address) → Some a ≡ Some b → a ≡ b
-some_same a b e = cc
 
 -- A MESSAGE IS SERVED
 
@@ -98,18 +96,6 @@ module _ (told : Option ℕ) (disk : FaultCounts) (document : List ℕ) (s : Sta
 
   pub got_serves : (before after : ℕ) (a : Address) (o : Outcome) (t : State) → request.Tile a ≡ asks → IsGot told before after disk s a o t → Serves told before after disk document s m o t
   got_serves before after a o t e k = rw k.4 (tile_serves before after a e k.0 t k.2 k.1 k.3)
-
-  -- a request for this tile
-  is_tile : (r : Request) (a : Address) → tile_of r ≡ Some a → request.Tile a ≡ r
-  is_tile (request.Tile b) a e = ap request.Tile (sym (some_same b a e))
-  is_tile request.Capabilities a e = absurd (cc)
-  is_tile (request.Refused code locator) a e = absurd (cc)
-  is_tile request.NotFound a e = absurd (cc)
-  is_tile request.WrongMethod a e = absurd (cc)
-  is_tile request.Usage a e = absurd (cc)
-  is_tile (request.Truncation cover) a e = absurd (cc)
-  is_tile (request.Unformed fault) a e = absurd (cc)
-  is_tile request.Expiry a e = absurd (cc)
 
   pub answered_serves : (before after : ℕ) (r : Request) (o : Outcome) (t : State) → r ≡ asks → IsAnswered told before after disk s r o t → Serves told before after disk document s m o t
   answered_serves before after r o t e h = by_case (tile_of r) refl

@@ -1,6 +1,6 @@
 use Rattle.cabinet.specs.State.{IsSound}
 use Rattle.std.proofs.Common.{◌≡◌, Some}
-use Rattle.tile_requests.proofs.LoneAtOnce.{at_once}
+use Rattle.tile_requests.proofs.LoneAtOnce.{at_once, steps_later}
 use Rattle.tile_requests.proofs.LoneRefreshes.{refresh_runs}
 use Rattle.tile_requests.proofs.LoneRuns.{get_opens}
 use Rattle.tile_requests.proofs.laws.laws_of_lone_threads.Goals as goal
@@ -14,3 +14,6 @@ returns-clause-refreshes c = λ told x y m force before after gained result vali
 
 pub returns-clause-at_once : goal.returns-clause-at_once
 returns-clause-at_once c = λ x y gained r o. at_once x y gained r o
+
+pub returns-clause-later : goal.returns-clause-later
+returns-clause-later c = λ x y gained steps. steps_later x.state.catalogue gained x y steps

@@ -8,3 +8,10 @@ returns-clause-immediate g c =
     let y = seen (K.faults c.immediate.new.cache) (K.state c.immediate.new.cache) in
     let served = c.immediate.ensures.serves in
     c.laws_of_lone_threads.ensures.at_once x y served.gained c.args.request c.immediate.result served.gains served.served
+
+pub returns-clause-later : goal.returns-clause-later
+returns-clause-later g c =
+    let K = g.C.Keeper in
+    let x = seen (K.faults c.args.cabinet.now) (K.state c.args.cabinet.now) in
+    let y = seen (K.faults c.immediate.new.cache) (K.state c.immediate.new.cache) in
+    c.laws_of_lone_threads.ensures.later x y c.immediate.ensures.serves.gained c.immediate.ensures.serves.gains
