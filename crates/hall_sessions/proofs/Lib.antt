@@ -1,4 +1,3 @@
-pub mod Turns
 pub mod Read
 pub mod Exchanging
 pub mod Unknown

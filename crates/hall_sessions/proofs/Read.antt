@@ -23,7 +23,7 @@ use Rattle.tile_requests.specs.Requests.{told_at}
 use Rattle.tile_requests.specs.Routes.{request_for}
 use Rattle.tile_requests.specs.Shown.{shown_message}
 use Rattle.hall_sessions.specs.Requested.{ServesRequest}
-use Rattle.hall_sessions.specs.Served.{IsJobMessageServed, IsOtherMessageServed, IsRequestServed, Serves}
+use Rattle.hall_sessions.specs.Served.{IsJobMessageServed, IsOtherMessageServed, Serves}
 
 -- WHERE A JOB IS ASKED FOR THE SOURCE HAS NO PART
 
@@ -67,10 +67,6 @@ unread_as c p m board (Some r) = (inr ((refl, refl), refl), refl)
 -- REQUESTS AND MESSAGES
 
 module _ (c : Catalogue) (before after : ℕ) (p : HallPass) where
-  -- a request that makes no turn
-  pub nothing_served : (r : Request) (o : Outcome) → IsRequestServed c p.told p.book r [] o → (o ≡ outcome.SourceFailed → ⊥) → ServesRequest c before after r p p o
-  nothing_served r o served other = record { gained = []; gains = gains_none c p; served = served; cause = λ e. absurd (other e) }
-
   -- no memory was left to read the message
   pub unread : (m : Message) (board : BoardHolding) → Serves c before after m p p board board (outcome.Plain plain.NoMemory)
   unread m board = record { gained = []; gains = gains_none c p; request = None; served = unread_as c p m board (job_request_for c m); cause = λ e. absurd (cc) }

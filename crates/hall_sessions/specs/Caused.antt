@@ -38,7 +38,7 @@ use Rattle.tile_requests.specs.Requests.{answered_at}
 use Rattle.tile_requests.specs.Routes.{request_for}
 use Rattle.tile_requests.specs.Texts.{dropped_text}
 use Rattle.hall_sessions.specs.Exchanges.{Exchange}
-use Rattle.hall_sessions.specs.Served.{IsCounted}
+use Rattle.tile_requests.specs.Counted.{IsCounted}
 
 -- the outcome that a message is answered by: that of its answer and of its response
 abbrev pub outcome_told : Exchange → Outcome

@@ -8,7 +8,6 @@
 //! Stands on cache_hall, tile_service and job_requests.
 #![tactic(auto)]
 
-pub mod counted;
 pub mod requests;
 pub mod responding;
 pub mod session;

@@ -1,136 +1,30 @@
 //! A message of a session over a hall and a board, served to its outcome.
-ghost use Rattle.std.specs.Prelude.{ℕ, ◌≡◌, ◌≤◌, Some, true};
+ghost use Rattle.std.specs.Prelude.{◌≡◌, ◌≤◌, Some, true};
 ghost use Rattle.cache_hall.specs.Turned.{IsPassOf};
-ghost use Rattle.catalog.specs.LookUp.{IsTile};
 ghost use Rattle.catalog.specs.Valid.{IsValid};
 ghost use Rattle.hall_sessions.specs.Requested.{ServesRequest};
-ghost use Rattle.hall_sessions.specs.Served.{Serves, outcome_of_get};
+ghost use Rattle.hall_sessions.specs.Served.{Serves};
 ghost use Rattle.job_board.specs.Calls.{IsBoardPass};
-ghost use Rattle.served_covers.specs.OfCatalogue.{IsCoverOf};
-ghost use Rattle.tile_requests.specs.declared.request.Request.TheVariants as request;
 ghost use Rattle.tile_requests.specs.Requests.{IsOf};
 
-use crate::counted::counted_text;
 use crate::world::World;
 use cabinet::keeper::Keeper;
-use cabinet::replies::{CutReply, Expired};
 use cabinet_chest::chest::CabinetChest;
-use cache_access::access::Access;
-use cache_access::fault::GetFault;
-use cache_core::outcome::Tile;
-use cache_hall::get::get;
 use cache_hall::hall::Hall;
 use cache_hall::shared::Shared;
 use http_wire::message::Message;
 use job_board::board::BoardPass;
 use job_requests::routes::read_job_request;
 use job_requests::serving::serve_job;
-use matrix_geometry::address::Address;
 use source_render::source::Source;
 use std::alloc::Global;
 use std::sync::Wait;
-use tile_requests::dropped::dropped_text;
+use tile_requests::answering::answer;
 use tile_requests::message_ref::MessageRef;
 use tile_requests::outcome::{Outcome, Plain};
 use tile_requests::request::Request;
 use tile_requests::routes::read_request;
-use truncation_list::cover::Cover;
 use turnstile::pass::Pass;
-
-/// The outcome of a get.
-fn outcome_of_get(got: Result<Tile, GetFault>) -> Outcome
-    ensures { result ≡ outcome_of_get got }
-{
-    match got {
-        Ok(Tile { hit, number, bytes }) => Outcome::Tile(hit, number, bytes),
-        Err(GetFault::SourceFault) => Outcome::SourceFailed,
-        Err(GetFault::Spent) => Outcome::Plain(Plain::Spent),
-        Err(GetFault::OutOfMemory) => Outcome::Plain(Plain::NoMemory),
-    }
-}
-
-/// A tile.
-fn tile<R: Wait, K: Keeper, S: Source>(
-    rt: &R,
-    alloc: Global,
-    hall: &Hall<K>,
-    pass: &mut Pass<CabinetChest<K>>,
-    source: &mut S,
-    address: &Address,
-) -> Outcome
-    requires of { IsPassOf hall.now.turnstile.table hall.now.catalogue pass.old }
-    requires valid { IsValid hall.now.catalogue }
-    requires tile { IsTile hall.now.catalogue address.now }
-    requires source { pass.old.told ≡ true → S.told source.old ≡ Some hall.now.catalogue.source }
-    ensures serves { ServesRequest hall.now.catalogue (S.faults source.old) (S.faults source.new) (request.Tile address.now) pass.old pass.new result }
-    ensures of { IsPassOf hall.now.turnstile.table hall.now.catalogue pass.new }
-    ensures later { S.faults source.old ≤ S.faults source.new }
-    ensures told { S.told source.new ≡ S.told source.old }
-{
-    outcome_of_get(get(rt, alloc, hall, pass, source, address))
-}
-
-/// A truncation.
-fn truncation<R: Wait, K: Keeper>(
-    rt: &R,
-    alloc: Global,
-    hall: &Hall<K>,
-    pass: &mut Pass<CabinetChest<K>>,
-    cover: &Cover,
-) -> Outcome
-    requires of { IsPassOf hall.now.turnstile.table hall.now.catalogue pass.old }
-    requires cover { IsCoverOf hall.now.catalogue cover.now }
-    ensures serves { (n : ℕ) → ServesRequest hall.now.catalogue n n (request.Truncation cover.now) pass.old pass.new result }
-    ensures of { IsPassOf hall.now.turnstile.table hall.now.catalogue pass.new }
-{
-    let access = Shared { rt, hall };
-    match access.cut(alloc, pass, cover) {
-        Ok(CutReply::Done(number)) => Outcome::Cut(number),
-        Ok(CutReply::DiskFault(_, _)) => Outcome::Plain(Plain::DiskFault),
-        Ok(CutReply::Full) => Outcome::Plain(Plain::CutsFull),
-        Ok(CutReply::Spent) => Outcome::Plain(Plain::CutSpent),
-        Err(_) => Outcome::Plain(Plain::NoMemory),
-    }
-}
-
-/// An expiry.
-fn expiry<R: Wait, K: Keeper>(
-    rt: &R,
-    alloc: Global,
-    hall: &Hall<K>,
-    pass: &mut Pass<CabinetChest<K>>,
-) -> Outcome
-    requires of { IsPassOf hall.now.turnstile.table hall.now.catalogue pass.old }
-    ensures serves { (n : ℕ) → ServesRequest hall.now.catalogue n n request.Expiry pass.old pass.new result }
-    ensures of { IsPassOf hall.now.turnstile.table hall.now.catalogue pass.new }
-{
-    let access = Shared { rt, hall };
-    match access.expire(pass) {
-        Expired::Within => Outcome::Plain(Plain::Within),
-        Expired::DiskFault(_, _) => Outcome::Plain(Plain::DiskFault),
-        Expired::Dropped(meta) => match dropped_text(alloc, &hall.catalogue, &meta) {
-            Ok(text) => Outcome::Dropped(text),
-            Err(_) => Outcome::Plain(Plain::NoMemory),
-        },
-    }
-}
-
-/// What is kept.
-fn usage<R: Wait, K: Keeper>(
-    rt: &R,
-    alloc: Global,
-    hall: &Hall<K>,
-    pass: &mut Pass<CabinetChest<K>>,
-) -> Outcome
-    requires of { IsPassOf hall.now.turnstile.table hall.now.catalogue pass.old }
-    ensures serves { (n : ℕ) → ServesRequest hall.now.catalogue n n request.Usage pass.old pass.new result }
-    ensures of { IsPassOf hall.now.turnstile.table hall.now.catalogue pass.new }
-{
-    match counted_text(rt, alloc, hall, pass) {
-        Ok(text) => Outcome::Usage(text),
-        Err(_) => Outcome::Plain(Plain::NoMemory),
-    }
-}
 
 /// A request, served to its outcome.
 fn served<R: Wait, K: Keeper, S: Source>(
@@ -150,17 +44,7 @@ fn served<R: Wait, K: Keeper, S: Source>(
     ensures later { S.faults source.old ≤ S.faults source.new }
     ensures told { S.told source.new ≡ S.told source.old }
 {
-    match request {
-        Request::Tile(address) => tile(rt, alloc, hall, pass, source, &address),
-        Request::Capabilities => Outcome::Document,
-        Request::Refused(code, locator) => Outcome::Refused(code, locator),
-        Request::NotFound => Outcome::Plain(Plain::NotFound),
-        Request::WrongMethod => Outcome::Plain(Plain::WrongMethod),
-        Request::Usage => usage(rt, alloc, hall, pass),
-        Request::Truncation(cover) => truncation(rt, alloc, hall, pass, &cover),
-        Request::Unformed(fault) => Outcome::Unformed(fault),
-        Request::Expiry => expiry(rt, alloc, hall, pass),
-    }
+    answer(&Shared { rt, hall }, alloc, pass, source, request)
 }
 
 /// Serves a message: at the board where it is for jobs, and else what it asks for by the table of paths. Where memory runs out, its

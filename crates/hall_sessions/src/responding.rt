@@ -18,12 +18,12 @@ use http_wire::links::Link;
 use http_wire::message::Message;
 use http_wire::sending::Sent;
 use job_board::board::BoardPass;
+use sessions::responses::write_response;
+use sessions::session::closes;
 use source_render::source::Source;
 use std::alloc::Global;
 use std::sync::Wait;
 use tile_requests::outcome::Outcome;
-use sessions::responses::write_response;
-use sessions::session::closes;
 use turnstile::pass::Pass;
 
 /// Serves the message at a place of its session, counted from 1, and writes its response. `Sent` where a write failed.

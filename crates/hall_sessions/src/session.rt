@@ -13,11 +13,11 @@ use cabinet_chest::chest::CabinetChest;
 use http_wire::links::Link;
 use http_wire::reader::MessageReader;
 use job_board::board::BoardPass;
+use sessions::coming::next_message;
+use sessions::session::{SESSION_LIMIT, SessionEnd};
 use source_render::source::Source;
 use std::alloc::Global;
 use std::sync::Wait;
-use sessions::coming::next_message;
-use sessions::session::{SESSION_LIMIT, SessionEnd};
 use turnstile::pass::Pass;
 
 /// Serves the messages of one connection (RFC 9112) over a hall and a board of jobs, in order, each before the next is looked for, at
