@@ -42,7 +42,8 @@ use Rattle.tile_requests.specs.declared.request.Request.TheVariants as request
 use Rattle.tile_requests.specs.Requests.{answered_at, is_made, told_at}
 use Rattle.hall_sessions.specs.Caused.{AsksFor, AsksOfJobs, HasAnswer, HasCutTurn, HasExpiryTurn, IsCaused, IsGiven, outcome_told}
 use Rattle.hall_sessions.specs.Exchanges.{AreExchanges, Exchange, IsExchange}
-use Rattle.hall_sessions.specs.Served.{IsCutServed, IsJobMessageServed, IsOtherMessageServed, IsRequestServed, IsUsageServed, outcome_of_cut, outcome_of_expiry, outcome_of_get}
+use Rattle.hall_sessions.specs.Served.{IsJobMessageServed, IsOtherMessageServed, IsRequestServed}
+use Rattle.tile_requests.specs.Served.{IsCutServed, IsUsageServed, outcome_of_cut, outcome_of_expiry, outcome_of_get}
 use Rattle.hall_sessions.proofs.Unknown.{found_again}
 
 -- A DISK THAT FAILED
