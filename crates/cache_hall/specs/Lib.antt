@@ -1,9 +1,5 @@
 pub mod Turned
+pub mod Gained
 pub mod Gets
-pub mod Waits
-pub mod Made
-pub mod Upkeep
-pub mod Opened
 pub mod Refreshes
-pub mod Requested
-pub mod Remade
+pub mod Opened

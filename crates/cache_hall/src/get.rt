@@ -6,14 +6,12 @@ ghost use Rattle.catalog.specs.LookUp.{IsTile};
 ghost use Rattle.catalog.specs.Valid.{IsValid};
 ghost use Rattle.causes.specs.Causes.{Rose};
 
-use crate::fault::GetFault;
 use crate::hall::Hall;
-use crate::making::make;
-use crate::waiting::ask_until;
+use crate::shared::Shared;
 use cabinet::keeper::Keeper;
-use cabinet::replies::Asked;
 use cabinet_chest::chest::CabinetChest;
-use cabinet_chest::laws::laws_of_numbers;
+use cache_access::fault::GetFault;
+use cache_access::get;
 use cache_core::outcome::Tile;
 use matrix_geometry::address::Address;
 use source_render::source::Source;
@@ -24,8 +22,8 @@ use turnstile::pass::Pass;
 /// Gets a tile: it asks until no render of the tile's metatile runs elsewhere, and then takes the kept tile, or renders the metatile and
 /// hands it in, between two turns.
 ///
-/// `SourceFault` only where the source's count of faults rose; `Spent` where no number of a render is left; `OutOfMemory` where memory
-/// runs out. A ticket that was given is then abandoned.
+/// `SourceFault` only if the source's count of faults rose; `Spent` if no number of a render is left; `OutOfMemory` if memory runs out.
+/// A ticket that was given is then abandoned.
 pub fn get<R: Wait, K: Keeper, S: Source>(
     rt: &R,
     alloc: Global,
@@ -44,16 +42,5 @@ pub fn get<R: Wait, K: Keeper, S: Source>(
     ensures cause { IfErr result (λ e. e ≡ GetFault.SourceFault → Rose (S.faults source.old) (S.faults source.new)) }
     ensures told { S.told source.new ≡ S.told source.old }
 {
-    laws_of_numbers();
-    match ask_until(rt, alloc, hall, pass, address) {
-        Err(_) => Err(GetFault::OutOfMemory),
-        Ok(Asked::Busy(_)) => unreachable!(),
-        Ok(Asked::Spent) => Err(GetFault::Spent),
-        Ok(Asked::Hit(number, bytes)) => Ok(Tile {
-            hit: true,
-            number,
-            bytes,
-        }),
-        Ok(Asked::Ticket(ticket)) => make(rt, alloc, hall, pass, source, address, ticket),
-    }
+    get::get(&Shared { rt, hall }, alloc, pass, source, address)
 }

@@ -6,13 +6,13 @@ ghost use Rattle.catalog.specs.Valid.{IsValid};
 ghost use Rattle.causes.specs.Causes.{Rose};
 ghost use Rattle.raster_field.specs.Blocks.{IsMeta};
 
-use crate::fault::GetFault;
 use crate::hall::Hall;
-use crate::refreshed::Refreshed;
-use crate::remaking::remake;
-use crate::requesting::{Requested, request_until};
+use crate::shared::Shared;
 use cabinet::keeper::Keeper;
 use cabinet_chest::chest::CabinetChest;
+use cache_access::fault::GetFault;
+use cache_access::refresh;
+use cache_access::refreshed::Refreshed;
 use metatile_plan::metatile::MetaKey;
 use source_render::source::Source;
 use std::alloc::Global;
@@ -22,8 +22,8 @@ use turnstile::pass::Pass;
 /// Refreshes a metatile: it asks for its first tile, or with force for a render of it, until no render of it runs elsewhere; what is kept
 /// stays, and what isn't is rendered and handed in, between two turns.
 ///
-/// `SourceFault` only where the source's count of faults rose; `Spent` where no number of a render is left; `OutOfMemory` where memory
-/// runs out. A ticket that was given is then abandoned.
+/// `SourceFault` only if the source's count of faults rose; `Spent` if no number of a render is left; `OutOfMemory` if memory runs out.
+/// A ticket that was given is then abandoned.
 pub fn refresh<R: Wait, K: Keeper, S: Source>(
     rt: &R,
     alloc: Global,
@@ -43,11 +43,5 @@ pub fn refresh<R: Wait, K: Keeper, S: Source>(
     ensures cause { IfErr result (λ e. e ≡ GetFault.SourceFault → Rose (S.faults source.old) (S.faults source.new)) }
     ensures told { S.told source.new ≡ S.told source.old }
 {
-    match request_until(rt, alloc, hall, pass, meta, is_forced) {
-        Err(_) => Err(GetFault::OutOfMemory),
-        Ok(Requested::Busy(_)) => unreachable!(),
-        Ok(Requested::Spent) => Err(GetFault::Spent),
-        Ok(Requested::Kept(number)) => Ok(Refreshed::AlreadyKept(number)),
-        Ok(Requested::Ticket(ticket)) => remake(rt, alloc, hall, pass, source, ticket),
-    }
+    refresh::refresh(&Shared { rt, hall }, alloc, pass, source, meta, is_forced)
 }

@@ -2,10 +2,12 @@
 use Rattle.std.proofs.Common.{◌≡◌, ℕ, ◌++◌, Bool, List, [], ◌∷◌, Result, inl, inr, sym, subst}
 use Rattle.cabinet_chest.specs.declared.shown.Note.{Note}
 use Rattle.cache_core.specs.declared.outcome.Tile.{Tile}
-use Rattle.cache_hall.proofs.Turning.{gains_more, gains_none, same_told}
-use Rattle.cache_hall.specs.declared.fault.GetFault.{GetFault}
-use Rattle.cache_hall.specs.Gets.{Gets, IsNewerThanBook}
-use Rattle.cache_hall.specs.Turned.{AreTurns, Gains, HallPass, IsTurn, left_by}
+use Rattle.cache_hall.specs.Gained.{gains_more, gains_none, same_told}
+use Rattle.cache_access.specs.declared.fault.GetFault.{GetFault}
+use Rattle.cache_access.specs.Gets.{IsNewerThanBook}
+use Rattle.cache_hall.specs.Gets.{Gets}
+use Rattle.cache_access.specs.Turned.{AreTurns, IsTurn, left_by}
+use Rattle.cache_hall.specs.Turned.{Gains, HallPass}
 use Rattle.catalog.specs.declared.catalogue.Catalogue.{Catalogue}
 use Rattle.layer_recipes.specs.declared.composed.ComposeFault.{ComposeFault}
 use Rattle.layer_recipes.specs.declared.place.Place.{Place}

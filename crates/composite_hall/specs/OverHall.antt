@@ -2,9 +2,10 @@
 use Rattle.std.specs.Prelude.{ℕ, ◌≡◌, ◌⊎◌, true, List, [], ◌∷◌, ◌++◌, Result, Ok, Err, IsSomeAnd, ⊤}
 use Rattle.cabinet_chest.specs.declared.shown.Note.{Note}
 use Rattle.cache_core.specs.declared.outcome.Tile.{Tile}
-use Rattle.cache_hall.specs.declared.fault.GetFault.{GetFault}
-use Rattle.cache_hall.specs.declared.fault.GetFault.TheVariants as got
-use Rattle.cache_hall.specs.Gets.{Gets, IsNewerThanBook}
+use Rattle.cache_access.specs.declared.fault.GetFault.{GetFault}
+use Rattle.cache_access.specs.declared.fault.GetFault.TheVariants as got
+use Rattle.cache_access.specs.Gets.{IsNewerThanBook}
+use Rattle.cache_hall.specs.Gets.{Gets}
 use Rattle.cache_hall.specs.Turned.{Gains, HallPass}
 use Rattle.catalog.specs.declared.catalogue.Catalogue.{Catalogue}
 use Rattle.catalog.specs.LookUp.{matrix_in}

@@ -8,7 +8,7 @@ ghost use Rattle.composite_hall.specs.OverHall.{IsLaid, Stops};
 
 use cabinet::keeper::Keeper;
 use cabinet_chest::chest::CabinetChest;
-use cache_hall::fault::GetFault;
+use cache_access::fault::GetFault;
 use cache_hall::get::get;
 use cache_hall::hall::Hall;
 use layer_recipes::composed::ComposeFault;

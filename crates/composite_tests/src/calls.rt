@@ -4,9 +4,11 @@ ghost use Rattle.layer_recipes.specs.OfCatalogue.{IsRecipeOf};
 
 use crate::rows::{Outcome, has_first, zoom_0_of};
 use cabinet::keeper::Keeper;
+use cabinet::replies::CutReply;
 use cabinet_chest::chest::CabinetChest;
+use cache_access::access::Access;
 use cache_hall::hall::Hall;
-use cache_hall::upkeep::{truncate, usage};
+use cache_hall::shared::Shared;
 use composite_hall::compose::compose;
 use layer_recipes::recipe::Recipe;
 use served_covers::of_catalogue::is_cover_of;
@@ -49,7 +51,11 @@ pub fn cut<R: Wait, K: Keeper>(
     if !is_cover_of(&hall.catalogue, &cover) {
         return None;
     }
-    truncate(rt, alloc, hall, pass, &cover).ok()
+    let access = Shared { rt, hall };
+    match access.cut(alloc, pass, &cover) {
+        Ok(CutReply::Done(number)) => Some(number),
+        _ => None,
+    }
 }
 
 /// How many metatiles of a layer are kept; none where there is no such layer.
@@ -65,5 +71,6 @@ pub fn kept<R: Wait, K: Keeper>(
     if layer as usize >= hall.catalogue.layers.len() {
         return None;
     }
-    Some(usage(rt, hall, pass, layer).metatiles)
+    let access = Shared { rt, hall };
+    Some(access.usage(pass, layer).metatiles)
 }

@@ -18,8 +18,9 @@ use Rattle.cabinet_chest.specs.declared.shown.Shown.{Shown}
 use Rattle.cabinet_chest.specs.Above.{IsAboveCovering}
 use Rattle.cabinet_chest.specs.Replies.{IsAskedAbove, IsCutAnswered, IsReplyTo, MayReply, book_in}
 use Rattle.cabinet_chest.proofs.Numbering.{all_covering, answered_below}
-use Rattle.cache_hall.specs.Turned.{AreTurns, HallPass, IsTurn, left_by}
-use Rattle.cache_hall.proofs.Asked.{answered_by}
+use Rattle.cache_access.specs.Turned.{AreTurns, IsTurn, left_by}
+use Rattle.cache_hall.specs.Turned.{HallPass}
+use Rattle.cache_access.proofs.Asked.{answered_by}
 use Rattle.catalog.specs.declared.catalogue.Catalogue.{Catalogue}
 use Rattle.catalog.specs.LookUp.{IsTile}
 use Rattle.catalog.specs.Valid.{IsValid}

@@ -4,7 +4,7 @@ use Rattle.std.proofs.lemmas.List.Elements.{All-nil, All-push, All-append, Conta
 use Rattle.std.specs.List.{Contains}
 use Rattle.cabinet_chest.specs.declared.command.Command.TheVariants as command
 use Rattle.cabinet_chest.specs.declared.command.Reply.{Reply}
-use Rattle.cache_hall.proofs.Turning.{gains_more, gains_none}
+use Rattle.cache_hall.specs.Gained.{gains_more, gains_none}
 use Rattle.cache_hall.specs.Turned.{GainsOne, HallPass}
 use Rattle.catalog.specs.declared.catalogue.Catalogue.{Catalogue}
 use Rattle.hall_service.specs.Upkept.{HasKeptUp, IsKeptUpBy, IsUpkeep, has_quota}

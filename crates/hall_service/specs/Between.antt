@@ -8,7 +8,8 @@ use Rattle.cabinet.specs.declared.replies.CutReply.TheVariants.{Done}
 use Rattle.cabinet_chest.specs.declared.command.Command.TheVariants as command
 use Rattle.cabinet_chest.specs.declared.command.Reply.TheVariants as reply
 use Rattle.cabinet_chest.specs.declared.shown.Note.{Note}
-use Rattle.cache_hall.specs.Turned.{HallPass, IsOf}
+use Rattle.cache_access.specs.Turned.{IsOf}
+use Rattle.cache_hall.specs.Turned.{HallPass}
 use Rattle.catalog.specs.declared.catalogue.Catalogue.{Catalogue}
 use Rattle.catalog.specs.LookUp.{IsTile}
 use Rattle.matrix_geometry.specs.declared.address.Address.{Address}

@@ -7,8 +7,9 @@ ghost use Rattle.hall_service.specs.Upkept.{HasKeptUp, has_quota};
 use cabinet::keeper::Keeper;
 use cabinet::replies::{Expired, Saved};
 use cabinet_chest::chest::CabinetChest;
+use cache_access::access::Access;
 use cache_hall::hall::Hall;
-use cache_hall::upkeep::{expire_once, save_uses_once};
+use cache_hall::shared::Shared;
 use catalog::catalogue::Catalogue;
 use catalog::layer::Layer;
 use std::sync::Wait;
@@ -72,8 +73,9 @@ fn expire_all<R: Wait, K: Keeper>(rt: &R, hall: &Hall<K>, pass: &mut Pass<Cabine
     ensures of { IsPassOf hall.now.turnstile.table hall.now.catalogue pass.new }
     ensures keeps { HasKeptUp hall.now.catalogue pass.old pass.new }
 {
+    let access = Shared { rt, hall };
     'expiring: for _ in rt.forever() {
-        match expire_once(rt, hall, pass) {
+        match access.expire(pass) {
             Expired::Dropped(_) => {}
             Expired::Within | Expired::DiskFault(_, _) => return,
         }
@@ -89,8 +91,9 @@ fn save_all<R: Wait, K: Keeper>(rt: &R, hall: &Hall<K>, pass: &mut Pass<CabinetC
     ensures of { IsPassOf hall.now.turnstile.table hall.now.catalogue pass.new }
     ensures keeps { HasKeptUp hall.now.catalogue pass.old pass.new }
 {
+    let access = Shared { rt, hall };
     'saving: for _ in rt.forever() {
-        match save_uses_once(rt, hall, pass) {
+        match access.save_uses(pass) {
             Saved::Done(_) => {}
             Saved::Within | Saved::DiskFault(_, _) => return,
         }
@@ -106,8 +109,9 @@ fn save_round<R: Wait, K: Keeper>(rt: &R, hall: &Hall<K>, pass: &mut Pass<Cabine
     ensures of { IsPassOf hall.now.turnstile.table hall.now.catalogue pass.new }
     ensures keeps { HasKeptUp hall.now.catalogue pass.old pass.new }
 {
+    let access = Shared { rt, hall };
     'round: for _ in 0..ROUND {
-        match save_uses_once(rt, hall, pass) {
+        match access.save_uses(pass) {
             Saved::Done(_) => {}
             Saved::Within | Saved::DiskFault(_, _) => return,
         }

@@ -29,10 +29,11 @@ use Rattle.matrix_geometry.specs.declared.address.Address.{Address}
 use Rattle.truncation_list.specs.declared.book.FrontedBook.{FrontedBook}
 use Rattle.truncation_list.specs.declared.cover.Cover.{Cover}
 use Rattle.turnstile.specs.declared.view.Made.{Made}
-use Rattle.cache_hall.specs.declared.fault.GetFault.{GetFault}
-use Rattle.cache_hall.specs.declared.fault.GetFault.TheVariants as fault
-use Rattle.cache_hall.specs.Gets.{HasGot, HasMetSpent, IsGot}
-use Rattle.cache_hall.specs.Turned.{AreTurns, IsOf, IsTurn}
+use Rattle.cache_access.specs.declared.fault.GetFault.{GetFault}
+use Rattle.cache_access.specs.declared.fault.GetFault.TheVariants as fault
+use Rattle.cache_access.specs.Gets.{HasMetSpent}
+use Rattle.cache_hall.specs.Gets.{HasGot, IsGot}
+use Rattle.cache_access.specs.Turned.{AreTurns, IsOf, IsTurn}
 use Rattle.tile_requests.specs.declared.outcome.Outcome.{Outcome}
 use Rattle.tile_requests.specs.declared.outcome.Outcome.TheVariants as outcome
 use Rattle.tile_requests.specs.declared.request.Request.{Request}

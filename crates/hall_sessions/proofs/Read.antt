@@ -12,7 +12,7 @@ use Rattle.job_requests.specs.Texts.{progress_text, submitted_text}
 use Rattle.job_sheet.specs.declared.progress.Progress.{Progress}
 use Rattle.cabinet_chest.specs.declared.shown.Note.{Note}
 use Rattle.cache_hall.specs.Turned.{HallPass}
-use Rattle.cache_hall.proofs.Turning.{gains_none}
+use Rattle.cache_hall.specs.Gained.{gains_none}
 use Rattle.turnstile.specs.declared.view.Made.{Made}
 use Rattle.tile_requests.specs.declared.outcome.Outcome.{Outcome}
 use Rattle.tile_requests.specs.declared.outcome.Outcome.TheVariants as outcome

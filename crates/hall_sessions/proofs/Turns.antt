@@ -10,7 +10,7 @@ use Rattle.catalog.specs.declared.catalogue.Catalogue.{Catalogue}
 use Rattle.catalog.specs.declared.layer.Layer.{Layer}
 use Rattle.turnstile.specs.declared.view.Made.{Made}
 use Rattle.cache_hall.specs.Turned.{Gains, GainsOne, HallPass}
-use Rattle.cache_hall.proofs.Turning.{gains_more, gains_none}
+use Rattle.cache_hall.specs.Gained.{gains_more, gains_none}
 use Rattle.hall_sessions.specs.Counted.{AreCounts, IsCount, layer_line, layer_lines, totals_text}
 use Rattle.hall_sessions.specs.Counting.{HasCounted, HasCountedVainly, HasToldUsage}
 use Rattle.hall_sessions.specs.Served.{AreAllCounts}

@@ -26,8 +26,9 @@ use Rattle.matrix_geometry.specs.declared.address.Address.{Address}
 use Rattle.metatile_plan.specs.declared.metatile.MetaKey.{MetaKey}
 use Rattle.truncation_list.specs.declared.cover.Cover.{Cover}
 use Rattle.turnstile.specs.declared.view.Made.{Made}
-use Rattle.cache_hall.specs.Gets.{HasAbandoned, HasGot, HasMetSpent}
-use Rattle.cache_hall.specs.Turned.{IsOf}
+use Rattle.cache_access.specs.Gets.{HasAbandoned, HasMetSpent}
+use Rattle.cache_hall.specs.Gets.{HasGot}
+use Rattle.cache_access.specs.Turned.{IsOf}
 use Rattle.tile_requests.specs.declared.outcome.Outcome.{Outcome}
 use Rattle.tile_requests.specs.declared.outcome.Outcome.TheVariants as outcome
 use Rattle.tile_requests.specs.declared.request.Request.{Request}

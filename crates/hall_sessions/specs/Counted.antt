@@ -7,7 +7,7 @@ use Rattle.cabinet_chest.specs.declared.shown.Note.{Note}
 use Rattle.catalog.specs.declared.catalogue.Catalogue.{Catalogue}
 use Rattle.catalog.specs.declared.layer.Layer.{Layer}
 use Rattle.turnstile.specs.declared.view.Made.{Made}
-use Rattle.cache_hall.specs.Turned.{IsOf}
+use Rattle.cache_access.specs.Turned.{IsOf}
 use Rattle.tile_requests.specs.Texts.{kept_counts_text}
 
 -- the line of a layer, of which this is kept

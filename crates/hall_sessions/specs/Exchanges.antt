@@ -7,7 +7,7 @@ use Rattle.http_wire.specs.declared.message.Message.{Message}
 use Rattle.job_board.specs.Calls.{BoardHolding}
 use Rattle.truncation_list.specs.declared.book.FrontedBook.{FrontedBook}
 use Rattle.turnstile.specs.declared.view.Made.{Made}
-use Rattle.cache_hall.specs.Turned.{AreTurns}
+use Rattle.cache_access.specs.Turned.{AreTurns}
 use Rattle.tile_requests.specs.declared.outcome.Outcome.{Outcome}
 use Rattle.tile_requests.specs.declared.outcome.Outcome.TheVariants as outcome
 use Rattle.tile_requests.specs.declared.request.Request.{Request}

@@ -20,10 +20,11 @@ use Rattle.matrix_geometry.specs.declared.address.Address.{Address}
 use Rattle.truncation_list.specs.declared.book.FrontedBook.{FrontedBook}
 use Rattle.truncation_list.specs.declared.cover.Cover.{Cover}
 use Rattle.turnstile.specs.declared.view.Made.{Made}
-use Rattle.cache_hall.specs.declared.fault.GetFault.{GetFault}
-use Rattle.cache_hall.specs.declared.fault.GetFault.TheVariants as fault
+use Rattle.cache_access.specs.declared.fault.GetFault.{GetFault}
+use Rattle.cache_access.specs.declared.fault.GetFault.TheVariants as fault
 use Rattle.cache_hall.specs.Gets.{IsGot}
-use Rattle.cache_hall.specs.Turned.{Gains, HallPass, IsOf}
+use Rattle.cache_access.specs.Turned.{IsOf}
+use Rattle.cache_hall.specs.Turned.{Gains, HallPass}
 use Rattle.causes.specs.Causes.{Rose}
 use Rattle.tile_requests.specs.declared.outcome.Outcome.{Outcome}
 use Rattle.tile_requests.specs.declared.outcome.Outcome.TheVariants as outcome

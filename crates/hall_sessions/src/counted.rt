@@ -7,8 +7,9 @@ ghost use Rattle.hall_sessions.specs.Counting.{HasCounted, HasCountedVainly, Has
 use cabinet::keeper::Keeper;
 use cabinet_chest::chest::CabinetChest;
 use cabinet_chest::command::Counts;
+use cache_access::access::Access;
 use cache_hall::hall::Hall;
-use cache_hall::upkeep::usage;
+use cache_hall::shared::Shared;
 use catalog::layer::Layer;
 use exact_ratio::words::Words;
 use std::alloc::{AllocError, Global};
@@ -40,9 +41,10 @@ fn layer_lines<R: Wait, K: Keeper>(
 {
     let mut text = Vec::new(alloc);
     let mut number = 0;
+    let access = Shared { rt, hall };
     let layers = hall.catalogue.layers.as_slice();
     for layer in layers {
-        let counts = usage(rt, hall, pass, number);
+        let counts = access.usage(pass, number);
         match add_layer(&mut text, layer, &counts) {
             Err(fault) => return Err(fault),
             Ok(()) => number += 1,
@@ -85,8 +87,9 @@ pub fn counted_text<R: Wait, K: Keeper>(
         Ok(text) => text,
     };
     let layers = hall.catalogue.layers.len() as u32;
-    let all = usage(rt, hall, pass, layers);
-    let cuts = usage(rt, hall, pass, layers);
+    let access = Shared { rt, hall };
+    let all = access.usage(pass, layers);
+    let cuts = access.usage(pass, layers);
     match add_totals(&mut text, hall.catalogue.quota, &all, &cuts) {
         Err(fault) => Err(fault),
         Ok(()) => Ok(Words::of(text)),

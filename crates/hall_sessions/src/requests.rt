@@ -13,13 +13,14 @@ ghost use Rattle.tile_requests.specs.Requests.{IsOf};
 use crate::counted::counted_text;
 use crate::world::World;
 use cabinet::keeper::Keeper;
-use cabinet::replies::Expired;
+use cabinet::replies::{CutReply, Expired};
 use cabinet_chest::chest::CabinetChest;
+use cache_access::access::Access;
+use cache_access::fault::GetFault;
 use cache_core::outcome::Tile;
-use cache_hall::fault::GetFault;
 use cache_hall::get::get;
 use cache_hall::hall::Hall;
-use cache_hall::upkeep::{expire_once, truncate};
+use cache_hall::shared::Shared;
 use http_wire::message::Message;
 use job_board::board::BoardPass;
 use job_requests::routes::read_job_request;
@@ -34,7 +35,6 @@ use tile_requests::outcome::Outcome;
 use tile_requests::request::Request;
 use tile_requests::routes::read_request;
 use truncation_list::cover::Cover;
-use truncation_list::fault::CutFault;
 use turnstile::pass::Pass;
 
 /// The outcome of a get.
@@ -83,12 +83,13 @@ fn truncation<R: Wait, K: Keeper>(
     ensures serves { (n : ℕ) → ServesRequest hall.now.catalogue n n (request.Truncation cover.now) pass.old pass.new result }
     ensures of { IsPassOf hall.now.turnstile.table hall.now.catalogue pass.new }
 {
-    match truncate(rt, alloc, hall, pass, cover) {
-        Ok(number) => Outcome::Cut(number),
-        Err(CutFault::Full) => Outcome::CutsFull,
-        Err(CutFault::DiskFault) => Outcome::DiskFault,
-        Err(CutFault::Spent) => Outcome::CutSpent,
-        Err(CutFault::OutOfMemory) => Outcome::NoMemory,
+    let access = Shared { rt, hall };
+    match access.cut(alloc, pass, cover) {
+        Ok(CutReply::Done(number)) => Outcome::Cut(number),
+        Ok(CutReply::DiskFault(_, _)) => Outcome::DiskFault,
+        Ok(CutReply::Full) => Outcome::CutsFull,
+        Ok(CutReply::Spent) => Outcome::CutSpent,
+        Err(_) => Outcome::NoMemory,
     }
 }
 
@@ -103,7 +104,8 @@ fn expiry<R: Wait, K: Keeper>(
     ensures serves { (n : ℕ) → ServesRequest hall.now.catalogue n n request.Expiry pass.old pass.new result }
     ensures of { IsPassOf hall.now.turnstile.table hall.now.catalogue pass.new }
 {
-    match expire_once(rt, hall, pass) {
+    let access = Shared { rt, hall };
+    match access.expire(pass) {
         Expired::Within => Outcome::Within,
         Expired::DiskFault(_, _) => Outcome::DiskFault,
         Expired::Dropped(meta) => match dropped_text(alloc, &hall.catalogue, &meta) {

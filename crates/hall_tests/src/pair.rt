@@ -10,15 +10,16 @@ ghost use Rattle.tile_service.specs.Session.{IsAtRest};
 
 use cabinet::cabinet::Cabinet;
 use cabinet::keeper::Keeper;
-use cabinet::replies::{Expired, Saved};
+use cabinet::replies::{CutReply, Expired, Saved};
 use cabinet_chest::chest::CabinetChest;
 use cabinet_chest::command::Counts;
+use cache_access::access::Access;
+use cache_access::refreshed::Refreshed;
 use cache_core::outcome::Tile;
 use cache_hall::get::get;
 use cache_hall::hall::{Hall, HallEntry};
 use cache_hall::refresh::refresh;
-use cache_hall::refreshed::Refreshed;
-use cache_hall::upkeep::{expire_once, save_uses_once, truncate, usage};
+use cache_hall::shared::Shared;
 use catalog::catalogue::Catalogue;
 use clock::clock::Clock;
 use fixtures::tiles::FIRST;
@@ -82,7 +83,11 @@ pub fn cut<R: Wait, K: Keeper>(
     requires fit { IsFit hall.now.turnstile hall.now.catalogue pass.old }
     ensures { IsFit hall.now.turnstile hall.now.catalogue pass.new }
 {
-    truncate(rt, alloc, hall, pass, &first_cover()).ok()
+    let access = Shared { rt, hall };
+    match access.cut(alloc, pass, &first_cover()) {
+        Ok(CutReply::Done(number)) => Some(number),
+        _ => None,
+    }
 }
 
 /// What is kept of all layers.
@@ -94,7 +99,8 @@ pub fn counted<R: Wait, K: Keeper>(
     requires fit { IsFit hall.now.turnstile hall.now.catalogue pass.old }
     ensures { IsFit hall.now.turnstile hall.now.catalogue pass.new }
 {
-    usage(rt, hall, pass, 1)
+    let access = Shared { rt, hall };
+    access.usage(pass, 1)
 }
 
 /// Whether nothing expires, and whose uses are saved then.
@@ -105,9 +111,10 @@ pub fn is_kept_up<R: Wait, K: Keeper>(
 ) -> bool
     requires fit { IsFit hall.now.turnstile hall.now.catalogue pass.old }
 {
-    expire_once(rt, hall, pass) == Expired::Within
-        && save_uses_once(rt, hall, pass) == Saved::Done(FIRST)
-        && save_uses_once(rt, hall, pass) == Saved::Within
+    let access = Shared { rt, hall };
+    access.expire(pass) == Expired::Within
+        && access.save_uses(pass) == Saved::Done(FIRST)
+        && access.save_uses(pass) == Saved::Within
 }
 
 /// The cover of the one tile at zoom 0.

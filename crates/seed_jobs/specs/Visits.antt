@@ -11,11 +11,11 @@ use Rattle.metatile_plan.specs.declared.metatile.MetaKey.{MetaKey}
 use Rattle.truncation_list.specs.declared.book.FrontedBook.{FrontedBook}
 use Rattle.truncation_list.specs.declared.cover.Cover.{Cover}
 use Rattle.turnstile.specs.declared.view.Made.{Made}
-use Rattle.cache_hall.specs.declared.fault.GetFault.{GetFault}
-use Rattle.cache_hall.specs.declared.fault.GetFault.TheVariants.{SourceFault}
-use Rattle.cache_hall.specs.declared.refreshed.Refreshed.{Refreshed}
+use Rattle.cache_access.specs.declared.fault.GetFault.{GetFault}
+use Rattle.cache_access.specs.declared.fault.GetFault.TheVariants.{SourceFault}
+use Rattle.cache_access.specs.declared.refreshed.Refreshed.{Refreshed}
 use Rattle.cache_hall.specs.Refreshes.{CameTo}
-use Rattle.cache_hall.specs.Turned.{AreTurns, IsOf}
+use Rattle.cache_access.specs.Turned.{AreTurns, IsOf}
 use Rattle.jobs.specs.declared.job.Job.{Job}
 use Rattle.jobs.specs.declared.job.JobKind.{JobKind}
 use Rattle.jobs.specs.declared.job.JobKind.TheVariants.{Reseed, Seed, Truncate}

@@ -7,10 +7,12 @@ ghost use Rattle.jobs.specs.Places.{places};
 ghost use Rattle.seed_jobs.specs.Visited.{HasCut, HasVisited};
 
 use cabinet::keeper::Keeper;
+use cabinet::replies::CutReply;
 use cabinet_chest::chest::CabinetChest;
+use cache_access::access::Access;
 use cache_hall::hall::Hall;
 use cache_hall::refresh::refresh;
-use cache_hall::upkeep::truncate;
+use cache_hall::shared::Shared;
 use jobs::job::{Job, JobKind};
 use jobs::places::nth;
 use source_render::source::Source;
@@ -59,8 +61,12 @@ fn is_cut<R: Wait, K: Keeper>(
     ensures cut { HasCut hall.now.catalogue job.now.cover pass.old pass.new result }
     ensures of { IsPassOf hall.now.turnstile.table hall.now.catalogue pass.new }
 {
-    match truncate(rt, alloc, hall, pass, &job.cover) {
-        Ok(_) => true,
+    let access = Shared { rt, hall };
+    match access.cut(alloc, pass, &job.cover) {
+        Ok(CutReply::Done(_)) => true,
+        Ok(CutReply::Full) => false,
+        Ok(CutReply::DiskFault(_, _)) => false,
+        Ok(CutReply::Spent) => false,
         Err(_) => false,
     }
 }

@@ -4,6 +4,6 @@ use Rattle.hall_service.proofs.upkeep.expire_all.Goals as goal
 
 pub returns-in-Within : goal.returns-in-Within
 returns-in-Within g c = record {
-  of = c.expire_once.ensures.of;
-  keeps = expired c.args.hall.now.catalogue c.args.pass.now c.expiring.pass c.expire_once.new.pass (reply.Expired c.expire_once.result) c.expiring.invariant.1 c.expire_once.ensures.done;
+  of = c.expire.ensures.goes.reaches;
+  keeps = expired c.args.hall.now.catalogue c.args.pass.now c.expiring.pass c.expire.new.cache (reply.Expired c.expire.result) c.expiring.invariant.1 c.expire.ensures.done;
 }

@@ -4,6 +4,6 @@ use Rattle.hall_service.proofs.upkeep.save_all.Goals as goal
 
 pub returns-in-Within : goal.returns-in-Within
 returns-in-Within g c = record {
-  of = c.save_uses_once.ensures.of;
-  keeps = saved c.args.hall.now.catalogue c.args.pass.now c.saving.pass c.save_uses_once.new.pass (reply.Saved c.save_uses_once.result) c.requires.quota c.saving.invariant.1 c.save_uses_once.ensures.done;
+  of = c.save_uses.ensures.goes.reaches;
+  keeps = saved c.args.hall.now.catalogue c.args.pass.now c.saving.pass c.save_uses.new.cache (reply.Saved c.save_uses.result) c.requires.quota c.saving.invariant.1 c.save_uses.ensures.done;
 }

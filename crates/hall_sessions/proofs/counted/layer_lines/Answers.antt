@@ -14,11 +14,11 @@ loop-layer-init g c = record { number = refl; same = c.as_slice-layers.ensures; 
 pub returns-in-Err-clause-vain : goal.returns-in-Err-clause-vain
 returns-in-Err-clause-vain g c =
     let i = c.loop-layer.invariant in
-    let one = subst (λ (n : ℕ). GainsOne c.args.hall.now.catalogue c.loop-layer.pass c.usage-counts.new.pass (command.Usage n) (reply.Usage c.usage-counts.result)) i.number c.usage-counts.ensures.done in
+    let one = subst (λ (n : ℕ). GainsOne c.args.hall.now.catalogue c.loop-layer.pass c.usage-counts.new.cache (command.Usage n) (reply.Usage c.usage-counts.result)) i.number c.usage-counts.ensures.done in
     counted_vainly _ _ _ _ _ _ _ i.told one
 
 pub loop-layer-preserved : goal.loop-layer-preserved
 loop-layer-preserved g c =
     let i = c.loop-layer.invariant in
-    let one = subst (λ (n : ℕ). GainsOne c.args.hall.now.catalogue c.loop-layer.pass c.usage-counts.new.pass (command.Usage n) (reply.Usage c.usage-counts.result)) i.number c.usage-counts.ensures.done in
-    record { number = ap (λ n. n + 1) i.number; same = i.same; of = c.usage-counts.ensures.of; told = counted_more _ _ _ _ c.loop-layer.layer-index _ _ _ _ i.told one (subst (λ (ls : List Layer). slice_get ls c.loop-layer.layer-index ≡ Some c.layer-item.result) i.same (slice_get_read _ _ _ _ refl c.loop-layer-test.true c.layer-item.is)) c.in-Ok.ensures }
+    let one = subst (λ (n : ℕ). GainsOne c.args.hall.now.catalogue c.loop-layer.pass c.usage-counts.new.cache (command.Usage n) (reply.Usage c.usage-counts.result)) i.number c.usage-counts.ensures.done in
+    record { number = ap (λ n. n + 1) i.number; same = i.same; of = c.usage-counts.ensures.goes.reaches; told = counted_more _ _ _ _ c.loop-layer.layer-index _ _ _ _ i.told one (subst (λ (ls : List Layer). slice_get ls c.loop-layer.layer-index ≡ Some c.layer-item.result) i.same (slice_get_read _ _ _ _ refl c.loop-layer-test.true c.layer-item.is)) c.in-Ok.ensures }
