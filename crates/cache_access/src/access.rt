@@ -72,7 +72,7 @@ pub trait Access {
     fn catalogue<'c>(&'c self, cache: &'c Self::Cache) -> &'c Catalogue
         ensures { result.now ≡ catalogue self.now cache.now };
 
-    /// Asks for a tile, again and again while another render of its metatile runs: it is never answered `Busy`. `AllocError` where memory
+    /// Asks for a tile, again and again while another render of its metatile runs: it is never answered `Busy`. `AllocError` if memory
     /// runs out.
     fn ask(
         &self,
@@ -90,7 +90,7 @@ pub trait Access {
         ensures runs { RunsAfterAsk (rests self.now cache.new) (holds self.now cache.new) result };
 
     /// Asks for a render of a metatile, whether it is kept or not, again and again while another one runs: it is never answered `Busy`.
-    /// `AllocError` where memory runs out.
+    /// `AllocError` if memory runs out.
     fn force(
         &self,
         alloc: Global,
@@ -124,7 +124,7 @@ pub trait Access {
         ensures still { sound self.now cache.old → sound self.now cache.new }
         ensures rests { holds self.now cache.old ticket → rests self.now cache.new };
 
-    /// Truncates. `AllocError` where memory runs out; there is then no turn.
+    /// Truncates. `AllocError` if memory runs out; there is then no turn.
     fn cut(
         &self,
         alloc: Global,

@@ -1,18 +1,30 @@
 -- Three events one after the other, each with its chance.
-use Rattle.std.proofs.Common.{◌≡◌, ◌≤◌, ◌+◌, ℕ, Bool, true, false, Option, inl, inr, refl, sym, ◌∙◌, subst, length, arith}
+use Rattle.std.proofs.Common.{◌≡◌, ◌≤◌, ◌+◌, ℕ, Bool, true, false, Option, None, inl, inr, refl, sym, ◌∙◌, length, arith}
 use Rattle.cabinet.specs.State.{State}
 use Rattle.cache_core.specs.declared.actor.Actor.TheVariants as actor
 use Rattle.cache_core.specs.declared.actor.Step.{Step}
-use Rattle.cache_core.specs.Begun.{Begins}
+use Rattle.cache_core.specs.declared.outcome.TileOutcome.{TileOutcome}
 use Rattle.cache_core.specs.Shown.{shown}
-use Rattle.cache_core.specs.Steps.{Stepped, advanced, disk_faults}
+use Rattle.cache_core.specs.Steps.{Stepped, advanced, began, disk_faults, ends}
 use Rattle.causes.specs.Causes.{RoseBy}
-use Rattle.job_words.specs.Coming.{CarriesOn}
+use Rattle.job_words.specs.Visit.{Chances}
 use Rattle.matrix_geometry.specs.declared.address.Address.{Address}
-use Rattle.tile_requests.specs.Events.{GoesFurther}
+use Rattle.tile_requests.specs.Events.{GoesFurther, Moves, RunsTo, ended_so}
 use Rattle.tile_requests.specs.Requests.{Chance, calm, disk_faults_in, further, is_at_work}
 use Rattle.tile_requests.proofs.Moving.{begun_moves, moves_further}
-use Rattle.sessions.specs.Outside.{counts}
+use Rattle.sessions.specs.Outside.{FaultCounts, counts}
+
+-- WHAT THEY CAME TO
+
+-- From s the tile was asked for, or a render of its metatile forced, and two further events followed if they had work, to t, at which the
+-- request had this outcome, while the source and the disk went from one count of faults to another. Each event has its chance, and the
+-- three name no more faults of the disk than its count rose by. What the events say of a modelled source is left out.
+pub record CarriesOn (renders disk : FaultCounts) (force : Bool) (s : State) (a : Address) (o : TileOutcome) (t : State) : Type 0 where
+  pub chances : Chances
+  pub made : ends t o ≡ further chances.ending (further chances.rendering (began s a force chances.asking.ask chances.asking.moment chances.asking.unread chances.asking.bytes))
+  pub disk_later : disk.before ≤ disk.after
+  pub faults : RoseBy (disk_faults_in chances.asking + disk_faults_in chances.rendering + disk_faults_in chances.ending) disk.before disk.after
+  pub moves : Moves None renders.before renders.after s actor.Idle a (length s.history) (ended_so o) t
 
 -- ONE EVENT
 
@@ -47,15 +59,14 @@ goes_further told before after disk_before disk_after s t old step (inr h) =
 three_rose : (a b c first second third last : ℕ) → RoseBy a first second → RoseBy b second third → RoseBy c third last → RoseBy (a + b + c) first last
 three_rose a b c first second third last f g h = omega (arith, f, g, h)
 
-pub carries : (told via : Option ℕ) (before mid after disk_before disk_asked disk_mid disk_after : ℕ) (force : Bool) (s u v t : State) (a : Address) (asked rendered step : Step)
-    → Begins disk_before disk_asked s a force asked u → GoesFurther told before mid disk_asked disk_mid u asked rendered v → via ≡ told → GoesFurther via mid after disk_mid disk_after v rendered step t
-    → CarriesOn told (counts before after) (counts disk_before disk_after) force s a step t
-carries told via before mid after disk_before disk_asked disk_mid disk_after force s u v t a asked rendered step h f same k =
-    let g : GoesFurther told mid after disk_mid disk_after v rendered step t = subst (λ x. GoesFurther x mid after disk_mid disk_after v rendered step t) same k in
-    let first = begun_moves told before disk_before disk_asked s a force asked u h in
-    let second = moves_further told before before mid disk_asked disk_mid s u v actor.Idle a (length s.history) asked rendered first first.within f in
-    let render = goes_further told before mid disk_asked disk_mid u v asked rendered f in
-    let end = goes_further told mid after disk_mid disk_after v t rendered step g in
+pub carries : (before after disk_before disk_after : ℕ) (s : State) (a : Address) (force : Bool) (o : TileOutcome) (t : State) → RunsTo before after disk_before disk_after s a force o t
+    → CarriesOn (counts before after) (counts disk_before disk_after) force s a o t
+carries before after disk_before disk_after s a force o t r =
+    let h = r.begins in
+    let first = begun_moves None before disk_before r.disk_asked s a force r.asked r.at_ask h in
+    let second = moves_further None before before r.mid r.disk_asked r.disk_mid s r.at_ask r.at_render actor.Idle a (length s.history) r.asked r.rendered first first.within r.renders in
+    let render = goes_further None before r.mid r.disk_asked r.disk_mid r.at_ask r.at_render r.asked r.rendered r.renders in
+    let end = goes_further None r.mid after r.disk_mid disk_after r.at_render t r.rendered (ended_so o) r.ends in
     let i = h.later in
     let j = render.later in
     let l = end.later in
@@ -63,6 +74,6 @@ carries told via before mid after disk_before disk_asked disk_mid disk_after for
       chances = record { asking = at_chance h.left h.moment h.unread true h.bytes false; rendering = render.chance; ending = end.chance };
       made = rw (sym h.began) (rw (sym render.made) end.made);
       disk_later = omega arith;
-      faults = three_rose (disk_faults h.unread false) (disk_faults_in render.chance) (disk_faults_in end.chance) disk_before disk_asked disk_mid disk_after h.cause render.faults end.faults;
-      moves = moves_further told before mid after disk_mid disk_after s v t actor.Idle a (length s.history) rendered step second second.within g;
+      faults = three_rose (disk_faults h.unread false) (disk_faults_in render.chance) (disk_faults_in end.chance) disk_before r.disk_asked r.disk_mid disk_after h.cause render.faults end.faults;
+      moves = moves_further None before r.mid after r.disk_mid disk_after s r.at_render t actor.Idle a (length s.history) r.rendered (ended_so o) second second.within r.ends;
     }

@@ -1,26 +1,25 @@
 -- What a visit came to: to a metatile by its three events, to a cut by its reply.
 use Rattle.std.specs.Prelude.{IfOk, OnErr, Result, Ok, Err}
 use Rattle.std.specs.declared.alloc.AllocError.{AllocError}
-use Rattle.std.proofs.Common.{◌≡◌, ◌≤◌, ◌+◌, ℕ, Bool, Option, Some, refl, sym, ap, ◌∙◌, subst, arith}
+use Rattle.std.proofs.Common.{◌≡◌, ◌≤◌, ◌+◌, ℕ, Bool, Option, Some, refl, sym, ap, subst, arith}
 use Rattle.cabinet.specs.Commands.{Cuts, IsCountedCut}
 use Rattle.cabinet.specs.declared.replies.CutReply.{CutReply}
 use Rattle.cabinet.specs.declared.replies.CutReply.TheVariants as cut
 use Rattle.cabinet.specs.State.{State, IsSound}
-use Rattle.cache_core.specs.declared.actor.Step.{Step}
 use Rattle.cache_core.specs.declared.outcome.TileOutcome as cached
 use Rattle.cache_core.specs.declared.outcome.TileOutcome.TheVariants as outcome
-use Rattle.cache_core.specs.Shown.{shown}
 use Rattle.cache_core.specs.Steps.{Stepped, ends}
 use Rattle.causes.specs.Causes.{RoseBy}
 use Rattle.jobs.specs.Places.{Metatile, Cut}
-use Rattle.job_words.specs.Coming.{CarriesOn, ComesTo}
+use Rattle.job_words.specs.Coming.{ComesTo}
 use Rattle.job_words.specs.Run.{failed_by, is_disk, is_source}
 use Rattle.job_words.specs.Visit.{CutsOnce, end_of_cut, end_of_tile}
+use Rattle.job_words.proofs.Carrying.{CarriesOn}
 use Rattle.job_words.proofs.AtRest.{cut_rests, refreshed_done}
 use Rattle.metatile_plan.specs.declared.metatile.MetaKey.{MetaKey}
 use Rattle.raster_field.specs.Blocks.{first_tile}
 use Rattle.tile_requests.specs.Events.{failing}
-use Rattle.tile_requests.specs.Requests.{calm, owed}
+use Rattle.tile_requests.specs.Requests.{calm}
 use Rattle.sessions.specs.Outside.{FaultCounts, counts}
 use Rattle.tile_service.specs.Session.{IsAtRest}
 use Rattle.tile_service.proofs.AtRest.{IsDone}
@@ -53,28 +52,26 @@ behind_none n before after rose = omega (arith, rose)
 
 -- A METATILE
 
-module _ (told : Option ℕ) (renders disk : FaultCounts) (force : Bool) (s : State) (m : MetaKey) (step : Step) (t : State) (rest : IsAtRest s) (h : CarriesOn told renders disk force s (first_tile s.catalogue m) step t) where
-  pub carried_done : IsDone (shown step t)
-  carried_done = let P : Stepped → Type 0 = IsDone in subst P (sym h.made) (refreshed_done force s m h.chances rest)
+module _ (told : Option ℕ) (renders disk : FaultCounts) (force : Bool) (s : State) (m : MetaKey) (o : cached.TileOutcome) (t : State) (rest : IsAtRest s) (h : CarriesOn renders disk force s (first_tile s.catalogue m) o t) where
+  done : IsDone (ends t o)
+  done = let P : Stepped → Type 0 = IsDone in subst P (sym h.made) (refreshed_done force s m h.chances rest)
 
-  pub refresh_comes : (o : cached.TileOutcome) → step.outcome ≡ Some o → ComesTo told renders disk force s (Metatile m) (end_of_tile o) t
-  refresh_comes o is =
-      let done = carried_done in
-      let ended : shown step t ≡ ends t o = λ i. record { cabinet = t; actor = done.idle i; outcome = is i } in
+  pub refresh_comes : (told ≡ Some s.catalogue.source → IsSound s → IsSound t) → ComesTo told renders disk force s (Metatile m) (end_of_tile o) t
+  refresh_comes still =
       record {
         chances = h.chances;
-        made = (o, sym h.made ∙ ended, refl);
+        made = (o, sym h.made, refl);
         later = h.moves.later;
         disk_later = h.disk_later;
         failed = failed_so (h.moves.failed renders.before 0 (none_rose renders.before renders.before (omega arith)));
         faults = with_none _ (failed_by is_disk (end_of_tile o)) disk.before disk.after (disk_none o) h.faults;
-        sound = λ tells is_sound. h.moves.sound tells is_sound tt;
+        sound = still;
         catalogue = h.moves.catalogue;
         rests = done.rests;
       }
     where
-      failed_so : RoseBy (0 + (failing step.outcome + owed step.actor)) renders.before renders.after → RoseBy (failed_by is_source (end_of_tile o)) renders.before renders.after
-      failed_so rose = let e : failing step.outcome ≡ failed_by is_source (end_of_tile o) = ap failing is ∙ source_same o in omega (arith, e, rose)
+      failed_so : RoseBy (0 + (failing (Some o) + 0)) renders.before renders.after → RoseBy (failed_by is_source (end_of_tile o)) renders.before renders.after
+      failed_so rose = let e : failing (Some o) ≡ failed_by is_source (end_of_tile o) = source_same o in omega (arith, e, rose)
 
 -- A CUT
 

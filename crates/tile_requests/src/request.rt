@@ -62,7 +62,7 @@ pub fn outcome_of_get(got: Result<Tile, GetFault>) -> Outcome
     ensures { result ≡ outcome_of_get got }
 {
     match got {
-        Ok(Tile { hit, number, bytes }) => Outcome::Tile(hit, number, bytes),
+        Ok(tile) => outcome_of(TileOutcome::Tile(tile)),
         Err(GetFault::SourceFault) => Outcome::SourceFailed,
         Err(GetFault::Spent) => Outcome::Plain(Plain::Spent),
         Err(GetFault::OutOfMemory) => Outcome::Plain(Plain::NoMemory),
