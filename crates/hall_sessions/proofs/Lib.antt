@@ -1,7 +1,5 @@
 pub mod Turns
 pub mod Read
-pub mod Exchanging
 pub mod Unknown
 pub mod Causing
-pub mod Wired
-pub mod Ended
+pub mod Exchanging

@@ -1,5 +1,5 @@
 -- What a message comes to over a hall and a board: the turns that are made for it, and the outcome that they are answered by.
-use Rattle.std.specs.Prelude.{ℕ, ◌≡◌, ◌⊎◌, Bool, List, [], ◌∷◌, ◌++◌, length, Option, Some, None, MatchOption, Result, Ok, Err}
+use Rattle.std.specs.Prelude.{ℕ, ◌≡◌, ◌≤◌, ◌⊎◌, Bool, List, [], ◌∷◌, ◌++◌, length, Option, Some, None, MatchOption, Result, Ok, Err}
 use Rattle.std.specs.List.{AllByRecursion}
 use Rattle.cabinet.specs.declared.replies.CutReply.{CutReply}
 use Rattle.cabinet.specs.declared.replies.CutReply.TheVariants as cut
@@ -25,6 +25,7 @@ use Rattle.cache_hall.specs.declared.fault.GetFault.TheVariants as fault
 use Rattle.cache_hall.specs.Gets.{IsGot}
 use Rattle.cache_hall.specs.Turned.{Gains, HallPass, IsOf}
 use Rattle.causes.specs.Causes.{Rose}
+use Rattle.sessions.specs.Exchanges.{Standing}
 use Rattle.tile_requests.specs.declared.outcome.Outcome.{Outcome}
 use Rattle.tile_requests.specs.declared.outcome.Outcome.TheVariants as outcome
 use Rattle.tile_requests.specs.declared.request.Request.{Request}
@@ -134,3 +135,7 @@ pub record Serves (c : Catalogue) (renders_before renders_after : ℕ) (m : Mess
   pub request : Option Request
   pub served : IsMessageServed c before.told before.book m request gained board_before board_after o
   pub cause : o ≡ outcome.SourceFailed → Rose renders_before renders_after
+
+-- the same from one standing of a hall and a board to another, while the source's count doesn't fall
+abbrev pub ServesLater : Catalogue → Message → Outcome → Standing HallPass BoardHolding → Standing HallPass BoardHolding → Type 0
+ServesLater c m o before after = Serves c before.failures after.failures m before.cache after.cache before.jobs after.jobs o × (before.failures ≤ after.failures)
