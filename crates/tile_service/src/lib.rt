@@ -27,3 +27,4 @@ pub mod schedule;
 pub mod seats;
 mod serving;
 pub mod session;
+pub mod streams;
