@@ -1,5 +1,5 @@
 -- A session that was served over a hall and a board: what its exchanges come to.
-use Rattle.std.proofs.Common.{ℕ, ◌≡◌, ◌+◌, ◌≤◌, Bool, List, [], ◌∷◌, ◌++◌, Option, refl, sym, ap, subst, ◌∙◌, append_assoc, append-nil}
+use Rattle.std.proofs.Common.{ℕ, ◌≡◌, ◌+◌, Bool, List, [], ◌∷◌, refl, sym, ap, subst, ◌∙◌, append_assoc, append-nil}
 use Rattle.std.specs.Io.KnownBytes.{prepend_known}
 use Rattle.catalog.specs.declared.catalogue.Catalogue.{Catalogue}
 use Rattle.http_wire.specs.declared.message.Message.{Message}
@@ -13,12 +13,12 @@ use Rattle.cache_hall.specs.Turned.{HallPass}
 use Rattle.sessions.specs.declared.session.SessionEnd.{SessionEnd}
 use Rattle.sessions.specs.Exchanges.{AreServed, Standing, responses_of}
 use Rattle.sessions.specs.Exchanges as sessions
-use Rattle.sessions.specs.Outside.{FaultCounts, InputChange, OutputChange, counts}
+use Rattle.sessions.specs.Outside.{InputChange, OutputChange, counts}
 use Rattle.sessions.specs.SessionEnds.{Ends}
 use Rattle.sessions.specs.Sessions.{IsHeld}
 use Rattle.tile_requests.specs.declared.outcome.Outcome.{Outcome}
 use Rattle.tile_service.specs.Session.{responses}
-use Rattle.hall_sessions.specs.Exchanges.{AreExchanges, Exchange, IsExchange, answers_of, messages_of, turns_of}
+use Rattle.hall_sessions.specs.Exchanges.{AreExchanges, Exchange, answers_of, messages_of, turns_of}
 use Rattle.hall_sessions.specs.Served.{Serves, ServesLater}
 use Rattle.hall_sessions.specs.Sessions.{HasHallSession}
 use Rattle.hall_sessions.proofs.Causing.{have_answers}

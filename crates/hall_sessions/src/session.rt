@@ -42,12 +42,5 @@ pub fn serve_session<R: Wait, K: Keeper, S: Source, L: Link>(
     ensures board { IsBoardPass world.now.board.turnstile.table board.new }
     ensures told { S.told source.new ≡ S.told source.old }
 {
-    hold_session(
-        alloc,
-        &HallServer { rt, world },
-        pass,
-        board,
-        source,
-        link,
-    )
+    hold_session(alloc, &HallServer { rt, world }, pass, board, source, link)
 }
