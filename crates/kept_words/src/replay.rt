@@ -23,11 +23,11 @@ use kept_cache::lent::Loan;
 use kept_cache::lent_cabinet::{LentCabinet, leaves_now};
 use kept_cache::opened::{closed, end_of_refusal, opened};
 use kept_cache::saving::save_all;
+use sessions::session::SessionEnd;
 use source_render::source::Source;
 use std::alloc::Global;
 use std::marker::Brand;
 use tile_service::counter::Counter;
-use sessions::session::SessionEnd;
 use tile_service::streams::replay_streams;
 use wmts_rest::table::RestTable;
 
