@@ -1,6 +1,5 @@
 -- What was run, with the faults of the disk counted over a longer time.
 use Rattle.std.proofs.Common.{ℕ, ◌≡◌, ◌≤◌, ◌+◌, ◌^◌, ◌-◌, min, List, arith}
-use Rattle.std.specs.Prelude.{Option}
 use Rattle.cabinet.specs.State.{State}
 use Rattle.causes.specs.Causes.{RoseBy}
 use Rattle.kept_cache.specs.Saving.{SavesAll}
