@@ -2,8 +2,8 @@
 use catalog::fault::{CatalogueFault, Field};
 use gate_journal::fault::OpenFault;
 use job_forms::fault::{JobFault, JobField};
-use std::fmt;
 use sessions::session::SessionEnd;
+use std::fmt;
 
 /// How a command ended. Each means the same for all words (`tile_command/specs/Statuses.antt`).
 #[derive(Clone, Copy, PartialEq, Eq)]

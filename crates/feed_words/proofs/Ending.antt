@@ -9,11 +9,11 @@ use Rattle.command_status.specs.declared.status.Status.TheVariants as status
 use Rattle.durable_cabinet.specs.Filed.{IsRefusedAs}
 use Rattle.gate_journal.specs.declared.fault.OpenFault.{OpenFault}
 use Rattle.gate_journal.specs.declared.fault.OpenFault.TheVariants as fault
-use Rattle.kept_cache.specs.Change.{DiskChange, OutputChange}
+use Rattle.kept_cache.specs.Change.{DiskChange}
+use Rattle.sessions.specs.Outside.{InputChange, OutputChange, counts}
 use Rattle.kept_cache.specs.declared.end.KeptEnd.{KeptEnd}
 use Rattle.kept_cache.specs.declared.end.KeptEnd.TheVariants as end
 use Rattle.kept_cache.specs.Opened.{HasOpened, RefusalLeaves, end_of_refusal}
-use Rattle.sessions.specs.Outside.{InputChange, counts}
 use Rattle.feed_words.specs.declared.lines.LinesEnd.{LinesEnd}
 use Rattle.feed_words.specs.declared.lines.LinesEnd.TheVariants as lines_end
 use Rattle.feed_words.specs.Ends.{Feeds, FeedsOn, HasFed, HasFedLines, HasFedNone}

@@ -1,88 +1,95 @@
--- Exchanges, one after the other.
-use Rattle.std.proofs.Common.{ℕ, ◌≡◌, ◌+◌, ◌≤◌, Bool, List, [], ◌∷◌, ◌++◌, length, refl, sym, ap, subst, ◌∙◌, append_assoc, arith}
+-- A session that was served over a hall and a board: what its exchanges come to.
+use Rattle.std.proofs.Common.{ℕ, ◌≡◌, ◌+◌, Bool, List, [], ◌∷◌, refl, sym, ap, subst, ◌∙◌, append_assoc, append-nil}
+use Rattle.std.specs.Io.KnownBytes.{prepend_known}
 use Rattle.catalog.specs.declared.catalogue.Catalogue.{Catalogue}
 use Rattle.http_wire.specs.declared.message.Message.{Message}
+use Rattle.http_wire.specs.Streams.{StandIn}
 use Rattle.job_board.specs.Calls.{BoardHolding}
 use Rattle.truncation_list.specs.declared.book.FrontedBook.{FrontedBook}
+use Rattle.cabinet_chest.specs.declared.shown.Note.{Note}
+use Rattle.turnstile.specs.declared.view.Made.{Made}
 use Rattle.turnstile.specs.Passes.{seen_by}
 use Rattle.cache_hall.specs.Turned.{HallPass}
+use Rattle.sessions.specs.declared.session.SessionEnd.{SessionEnd}
+use Rattle.sessions.specs.Exchanges.{AreServed, Standing, responses_of}
+use Rattle.sessions.specs.Exchanges as sessions
+use Rattle.sessions.specs.Outside.{InputChange, OutputChange, counts}
+use Rattle.sessions.specs.SessionEnds.{Ends}
+use Rattle.sessions.specs.Sessions.{IsHeld}
 use Rattle.tile_requests.specs.declared.outcome.Outcome.{Outcome}
-use Rattle.tile_service.specs.Run.{Answer}
-use Rattle.hall_sessions.specs.Exchanges.{AreExchanges, Exchange, IsExchange, answer_of, answers_of, messages_of, turns_of}
-use Rattle.hall_sessions.specs.Served.{Serves}
+use Rattle.tile_service.specs.Session.{responses}
+use Rattle.hall_sessions.specs.Exchanges.{AreExchanges, Exchange, answers_of, messages_of, turns_of}
+use Rattle.hall_sessions.specs.Served.{Serves, ServesLater}
+use Rattle.hall_sessions.specs.Sessions.{HasHallSession}
+use Rattle.hall_sessions.proofs.Causing.{have_answers}
 
-nothing_behind : {X : Type 0} (xs : List X) → xs ++ [] ≡ xs
-nothing_behind [] = refl
-nothing_behind (x ∷ xs) = ap (λ ys. x ∷ ys) (nothing_behind xs)
-
--- ONE MORE BEHIND
-
-messages_more : (es : List Exchange) (e : Exchange) → messages_of (es ++ e ∷ []) ≡ messages_of es ++ e.message ∷ []
-messages_more [] e = refl
-messages_more (x ∷ es) e = ap (λ ms. x.message ∷ ms) (messages_more es e)
-
-turns_more : (es : List Exchange) (e : Exchange) → turns_of (es ++ e ∷ []) ≡ turns_of es ++ e.gained
-turns_more [] e = nothing_behind e.gained
-turns_more (x ∷ es) e = ap (λ ms. x.gained ++ ms) (turns_more es e) ∙ sym (append_assoc x.gained (turns_of es) e.gained)
-
-answers_more : (i : ℕ) (es : List Exchange) (e : Exchange) → answers_of i (es ++ e ∷ []) ≡ answers_of i es ++ answer_of (i + length es) e ∷ []
-answers_more i [] e = let n : i ≡ i + length {A = Exchange} [] = omega arith in ap (λ k. answer_of k e ∷ []) n
-answers_more i (x ∷ es) e =
-    let n : i + 1 + length es ≡ i + length (x ∷ es) = omega arith in
-    ap (λ them. answer_of i x ∷ them) (answers_more (i + 1) es e ∙ ap (λ k. answers_of (i + 1) es ++ answer_of k e ∷ []) n)
-
-length_messages : (es : List Exchange) → length (messages_of es) ≡ length es
-length_messages [] = refl
-length_messages (x ∷ es) = let e = length_messages es in omega (arith, e)
-
-exchanges_more : (c : Catalogue) (told : Bool) (seen : FrontedBook) (board : BoardHolding) (renders : ℕ) (es : List Exchange) (sees : FrontedBook) (board_after : BoardHolding) (after : ℕ) (e : Exchange) → AreExchanges c told seen board renders es sees board_after after
-    → e.seen ≡ sees → e.board_before ≡ board_after → e.renders_before ≡ after → IsExchange c told e → AreExchanges c told seen board renders (es ++ e ∷ []) e.sees e.board_after e.renders_after
-exchanges_more c told seen board renders [] sees board_after after e are saw had counted is = (saw ∙ are.0, had ∙ are.1, counted ∙ are.2, is, (refl, refl, refl))
-exchanges_more c told seen board renders (x ∷ es) sees board_after after e are saw had counted is =
-    (are.0, are.1, are.2, are.3, exchanges_more c told x.sees x.board_after x.renders_after es sees board_after after e are.4 saw had counted is)
+-- how a hall and a board stand between two messages
+abbrev Hall : Type 0
+Hall = Standing HallPass BoardHolding
 
 -- the mark of being told stays
 pub marked : {c : Catalogue} {before after : ℕ} {m : Message} {p q : HallPass} {board board_after : BoardHolding} {o : Outcome} → Serves c before after m p q board board_after o → q.told ≡ p.told
 marked serves = ap (λ (x : HallPass). x.told) serves.gains.is
 
--- SO FAR: what the passes made for these exchanges
+-- the pass with these turns
+abbrev with_turns : HallPass → FrontedBook → List (Made Note) → HallPass
+with_turns p book turns = record { table = p.table; charter = p.charter; told = p.told; book = book; made = turns }
 
-pub record HasExchanged (c : Catalogue) (before now : HallPass) (board board_now : BoardHolding) (renders after : ℕ) (messages : List Message) (answers : List Answer) : Type 0 where
+-- what these exchanges of a session came to at the hall and at the board, the first of which is that at this place
+pub record HaveExchanged (c : Catalogue) (document : List ℕ) (i : ℕ) (now last : Hall) (es : List (sessions.Exchange HallPass BoardHolding)) : Type 0 where
   pub exchanges : List Exchange
-  pub made : now ≡ seen_by before now.book (turns_of exchanges)
-  pub served : AreExchanges c before.told before.book board renders exchanges now.book board_now after
-  pub are_messages : messages ≡ messages_of exchanges
-  pub are_answers : answers ≡ answers_of 1 exchanges
+  pub made : last.cache ≡ seen_by now.cache last.cache.book (turns_of exchanges)
+  pub served : AreExchanges c now.cache.told now.cache.book now.jobs now.failures exchanges last.cache.book last.jobs last.failures
+  pub are_messages : sessions.messages_of es ≡ messages_of exchanges
+  pub are_responses : responses_of document i es ≡ responses document (answers_of i exchanges)
 
-pub exchanged_none : (c : Catalogue) (pass : HallPass) (board : BoardHolding) (renders : ℕ) → HasExchanged c pass pass board board renders renders [] []
-exchanged_none c pass board renders = record {
-  exchanges = [];
-  made = ap (λ ms. record { table = pass.table; charter = pass.charter; told = pass.told; book = pass.book; made = ms }) (sym (nothing_behind pass.made));
-  served = (refl, refl, refl);
-  are_messages = refl;
-  are_answers = refl;
-}
-
-module _ {c : Catalogue} {before now there : HallPass} {board board_now board_there : BoardHolding} {renders between after : ℕ} {messages : List Message} {answers : List Answer} (h : HasExchanged c before now board board_now renders between messages answers) (m : Message) (o : Outcome) (left : Bool)
-    (serves : Serves c between after m now there board_now board_there o) (later : between ≤ after) where
-  -- the exchange of the message
-  abbrev pub the_exchange : Exchange
-  the_exchange = record { message = m; request = serves.request; gained = serves.gained; came_to = o; left = left; seen = now.book; sees = there.book; board_before = board_now; board_after = board_there; renders_before = between; renders_after = after }
-
-  told_same : now.told ≡ before.told
-  told_same = ap (λ (p : HallPass). p.told) h.made
-
-  is_exchange : IsExchange c before.told the_exchange
-  is_exchange = subst (λ (t : Bool). IsExchange c t the_exchange) told_same (record { served = serves.served; turns = serves.gains.turns; later = later; cause = serves.cause })
-
-  pub exchanged_more : HasExchanged c before there board board_there renders after (messages ++ m ∷ []) (answers ++ answer_of (1 + length h.exchanges) the_exchange ∷ [])
-  exchanged_more = record {
-    exchanges = h.exchanges ++ the_exchange ∷ [];
-    made = serves.gains.is ∙ ap (λ (p : HallPass). seen_by p there.book serves.gained) h.made ∙ ap (λ ms. record { table = before.table; charter = before.charter; told = before.told; book = there.book; made = ms }) (append_assoc before.made (turns_of h.exchanges) serves.gained ∙ ap (λ ms. before.made ++ ms) (sym (turns_more h.exchanges the_exchange)));
-    served = exchanges_more c before.told before.book board renders h.exchanges now.book board_now between the_exchange h.served refl refl refl is_exchange;
-    are_messages = ap (λ ms. ms ++ m ∷ []) h.are_messages ∙ sym (messages_more h.exchanges the_exchange);
-    are_answers = ap (λ them. them ++ answer_of (1 + length h.exchanges) the_exchange ∷ []) h.are_answers ∙ sym (answers_more 1 h.exchanges the_exchange);
+module _ (c : Catalogue) (document : List ℕ) where
+  none_exchanged : (i : ℕ) (now : Hall) → HaveExchanged c document i now now []
+  none_exchanged i now = record {
+    exchanges = [];
+    made = ap (λ turns. with_turns now.cache now.cache.book turns) (sym (append-nil now.cache.made));
+    served = (refl, refl, refl);
+    are_messages = refl;
+    are_responses = refl;
   }
 
-  pub place_is : (n : ℕ) → length messages ≡ n → 1 + length h.exchanges ≡ n + 1
-  place_is n many = let e = length_messages h.exchanges in let f = ap (λ (ms : List Message). length ms) h.are_messages in omega (arith, e, f, many)
+  pub exchanged : (i : ℕ) (now last : Hall) (es : List (sessions.Exchange HallPass BoardHolding)) → AreServed (ServesLater c) now es last → HaveExchanged c document i now last es
+  exchanged i now last [] are = subst (λ (s : Hall). HaveExchanged c document i now s []) (sym are) (none_exchanged i now)
+  exchanged i now last (e ∷ es) are =
+      let serves = subst (λ (s : Hall). ServesLater c e.message e.outcome s e.after) are.0 are.1 in
+      let first = serves.0 in
+      let others = exchanged (i + 1) e.after last es are.2 in
+      let it : Exchange = record { message = e.message; request = first.request; gained = first.gained; came_to = e.outcome; left = e.left; seen = now.cache.book; sees = e.after.cache.book; board_before = now.jobs; board_after = e.after.jobs; renders_before = now.failures; renders_after = e.after.failures } in
+      record {
+        exchanges = it ∷ others.exchanges;
+        made =
+            others.made
+            ∙ ap (λ (p : HallPass). seen_by p last.cache.book (turns_of others.exchanges)) first.gains.is
+            ∙ ap (λ turns. with_turns now.cache last.cache.book turns) (append_assoc now.cache.made first.gained (turns_of others.exchanges));
+        served = (
+          refl,
+          refl,
+          refl,
+          record { served = first.served; turns = first.gains.turns; later = serves.1; cause = first.cause },
+          subst (λ (told : Bool). AreExchanges c told e.after.cache.book e.after.jobs e.after.failures others.exchanges last.cache.book last.jobs last.failures) (marked first) others.served,
+        );
+        are_messages = ap (λ ms. e.message ∷ ms) others.are_messages;
+        are_responses = ap (λ them. sessions.response_at document i e ∷ them) others.are_responses;
+      }
+
+  -- a session that was held by such a server is one over the hall and the board
+  pub has_session : {i : InputChange} {o : OutputChange} {start last : Hall} {end : SessionEnd} → IsHeld (ServesLater c) i o document start last end
+      → HasHallSession i o (counts start.failures last.failures) document c start.cache last.cache start.jobs last.jobs end
+  has_session {i = i} {o = o} {start = start} {last = last} {end = end} x =
+      let h = exchanged 1 start last x.exchanges x.served in
+      record {
+        exchanges = h.exchanges;
+        held = x.held;
+        stand = subst (λ (ms : List Message). StandIn i.from ms (prepend_known x.held i.to)) h.are_messages x.stand;
+        made = h.made;
+        served = h.served;
+        answered = have_answers c start.cache.told start.cache.book start.jobs start.failures h.exchanges last.cache.book last.jobs last.failures h.served;
+        ends =
+            subst (λ (ms : List Message). Ends i o ms (responses document (answers_of 1 h.exchanges)) x.held (prepend_known x.held i.to) end) h.are_messages
+            (subst (λ (them : List (List ℕ)). Ends i o (sessions.messages_of x.exchanges) them x.held (prepend_known x.held i.to) end) h.are_responses x.ends);
+      }

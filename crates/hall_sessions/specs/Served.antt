@@ -11,6 +11,7 @@ use Rattle.truncation_list.specs.declared.book.FrontedBook.{FrontedBook}
 use Rattle.turnstile.specs.declared.view.Made.{Made}
 use Rattle.cache_hall.specs.Turned.{Gains, HallPass}
 use Rattle.causes.specs.Causes.{Rose}
+use Rattle.sessions.specs.Exchanges.{Standing}
 use Rattle.tile_requests.specs.declared.outcome.Outcome.{Outcome}
 use Rattle.tile_requests.specs.declared.outcome.Outcome.TheVariants as outcome
 use Rattle.tile_requests.specs.declared.outcome.Plain.TheVariants as plain
@@ -50,3 +51,7 @@ pub record Serves (c : Catalogue) (renders_before renders_after : ℕ) (m : Mess
   pub request : Option Request
   pub served : IsMessageServed c before.told before.book m request gained board_before board_after o
   pub cause : o ≡ outcome.SourceFailed → Rose renders_before renders_after
+
+-- the same from one standing of a hall and a board to another, while the source's count doesn't fall
+abbrev pub ServesLater : Catalogue → Message → Outcome → Standing HallPass BoardHolding → Standing HallPass BoardHolding → Type 0
+ServesLater c m o before after = Serves c before.failures after.failures m before.cache after.cache before.jobs after.jobs o × (before.failures ≤ after.failures)

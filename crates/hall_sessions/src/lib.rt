@@ -5,10 +5,10 @@
 //! they were answered is the outcome of its response (`specs/Served.antt`): for a tile those of a get, for a truncation and an
 //! expiry one, and for what is kept one for each line. For a message for jobs the turns are the board's, by its own pass.
 //! Who asks for a tile gets it, but for the causes that `specs/Caused.antt` lists, and each other answer has its cause there.
-//! Stands on cache_hall, tile_service and job_requests.
+//! Stands on sessions, cache_hall, tile_service and job_requests.
 #![tactic(auto)]
 
+mod hall_server;
 pub mod requests;
-pub mod responding;
 pub mod session;
 pub mod world;

@@ -1,20 +1,18 @@
 //! The messages of one connection, served over a hall and a board in order.
-ghost use Rattle.std.specs.Prelude.{◌≡◌, ◌≤◌, Some, true};
+ghost use Rattle.std.specs.Prelude.{◌≡◌, Some, true};
 ghost use Rattle.cache_hall.specs.Turned.{IsPassOf};
 ghost use Rattle.catalog.specs.Valid.{IsValid};
 ghost use Rattle.hall_sessions.specs.Sessions.{HasHallSession, output_of};
 ghost use Rattle.job_board.specs.Calls.{IsBoardPass};
 ghost use Rattle.sessions.specs.Outside.{counts};
 
-use crate::responding::respond;
+use crate::hall_server::HallServer;
 use crate::world::World;
 use cabinet::keeper::Keeper;
 use cabinet_chest::chest::CabinetChest;
 use http_wire::links::Link;
-use http_wire::reader::MessageReader;
 use job_board::board::BoardPass;
-use sessions::coming::next_message;
-use sessions::session::{SESSION_LIMIT, SessionEnd};
+use sessions::session::{SessionEnd, hold_session};
 use source_render::source::Source;
 use std::alloc::Global;
 use std::sync::Wait;
@@ -44,36 +42,5 @@ pub fn serve_session<R: Wait, K: Keeper, S: Source, L: Link>(
     ensures board { IsBoardPass world.now.board.turnstile.table board.new }
     ensures told { S.told source.new ≡ S.told source.old }
 {
-    let Ok(mut reader) = MessageReader::new(alloc) else {
-        return SessionEnd::OutOfMemory;
-    };
-    'serving: for answered in 0..SESSION_LIMIT {
-        let message = match next_message(alloc, &mut reader, link) {
-            Ok(message) => message,
-            Err(end) => return end,
-        };
-        world.traffic.begin();
-        let sent = respond(
-            rt,
-            alloc,
-            world,
-            pass,
-            board,
-            source,
-            link,
-            &message,
-            answered + 1,
-        );
-        world.traffic.end();
-        let is_last = message.last;
-        drop(message);
-        match sent {
-            Ok(()) => {}
-            Err(_) => return SessionEnd::WriteFault,
-        }
-        if is_last {
-            return SessionEnd::Closed;
-        }
-    }
-    SessionEnd::TooMany
+    hold_session(alloc, &HallServer { rt, world }, pass, board, source, link)
 }

@@ -18,11 +18,11 @@ use http_wire::memory_link::MemoryLink;
 use http_wire::memory_sink::MemorySink;
 use http_wire::memory_source::MemorySource;
 use job_board::board::BoardPass;
+use sessions::session::SessionEnd;
 use source_render::scripted::Scripted;
 use std::alloc::{AllocError, Global};
 use std::sync::Wait;
 use std::test::Fail;
-use sessions::session::SessionEnd;
 use turnstile::pass::Pass;
 
 /// More calls than an object has in such a session.

@@ -12,11 +12,11 @@ use http_wire::links::Link;
 use http_wire::memory_sink::MemorySink;
 use http_wire::memory_source::MemorySource;
 use http_wire::streams::{ByteSink, ByteSource, Failed};
+use sessions::session::SessionEnd;
 use source_render::numbered::Numbered;
 use std::alloc::{AllocError, Global};
 use std::test::Fail;
 use tile_service::counter::Counter;
-use sessions::session::SessionEnd;
 use tile_service::session::replay_session;
 use wmts_rest::table::RestTable;
 

@@ -1,10 +1,10 @@
 -- What a word sees of its disk and of its output.
-use Rattle.std.specs.Prelude.{ℕ, Bool, List, Option}
+use Rattle.std.specs.Prelude.{ℕ, Bool, List}
 use Rattle.std.specs.Io.KnownBytes.{Appends}
 use Rattle.causes.specs.Causes.{Rose}
 use Rattle.disk_model.specs.Images.{DiskState}
 use Rattle.tile_requests.specs.Sent.{AppendsFront}
-use Rattle.sessions.specs.Outside.{FaultCounts}
+use Rattle.sessions.specs.Outside.{FaultCounts, OutputChange}
 
 -- what a word saw of its disk: whether it is modelled, its faults, and what is modelled of it, before the word and after it
 pub record DiskChange : Type 1 where
@@ -16,12 +16,6 @@ pub record DiskChange : Type 1 where
 -- the disk's count of faults rose
 abbrev pub HasFailed : DiskChange → Type 0
 HasFailed d = Rose d.faults.before d.faults.after
-
--- what a word saw of its output: its faults, and the bytes that it has taken, where they are modelled
-pub record OutputChange : Type 0 where
-  pub writes : FaultCounts
-  pub from : Option (List ℕ)
-  pub to : Option (List ℕ)
 
 -- the whole text went out
 abbrev pub HasWritten : OutputChange → List ℕ → Type 0

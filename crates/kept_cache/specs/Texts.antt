@@ -2,7 +2,8 @@
 use Rattle.std.specs.Prelude.{ℕ, List}
 use Rattle.kept_cache.specs.declared.end.KeptEnd.{KeptEnd}
 use Rattle.kept_cache.specs.declared.end.KeptEnd.TheVariants as end
-use Rattle.kept_cache.specs.Change.{HasWritten, IsCutShort, OutputChange}
+use Rattle.kept_cache.specs.Change.{HasWritten, IsCutShort}
+use Rattle.sessions.specs.Outside.{OutputChange}
 
 -- how the writing of a text ends
 abbrev pub Sends : OutputChange → List ℕ → KeptEnd → Type 0

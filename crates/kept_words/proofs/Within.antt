@@ -1,9 +1,7 @@
 -- What was run, with the faults of the disk counted over a longer time.
 use Rattle.std.proofs.Common.{ℕ, ◌≡◌, ◌≤◌, ◌+◌, ◌^◌, ◌-◌, min, List, arith}
-use Rattle.std.specs.Prelude.{Option}
 use Rattle.cabinet.specs.State.{State}
 use Rattle.causes.specs.Causes.{RoseBy}
-use Rattle.http_wire.specs.declared.message.Message.{Message}
 use Rattle.kept_cache.specs.Saving.{SavesAll}
 use Rattle.kept_cache.proofs.Picturing.{saves_sound}
 use Rattle.kept_cache.proofs.Within.{rose_within, saved_so}
@@ -14,12 +12,10 @@ use Rattle.tile_service.specs.declared.run_lines.RunEnd.TheVariants as run_end
 use Rattle.tile_service.specs.declared.schedule.ScheduleEnd.{ScheduleEnd}
 use Rattle.tile_service.specs.declared.schedule.ScheduleEnd.TheVariants as schedule
 use Rattle.sessions.specs.declared.session.SessionEnd.{SessionEnd}
-use Rattle.sessions.specs.declared.session.SessionEnd.TheVariants as session
 use Rattle.tile_requests.specs.Requests.{Chance}
 use Rattle.sessions.specs.Outside.{FaultCounts, InputChange, Outside}
-use Rattle.tile_service.specs.Run.{Answer, World, free_seats, world_of}
+use Rattle.tile_service.specs.Run.{World, free_seats, world_of}
 use Rattle.tile_service.specs.Schedules.{Ends, HasRun, HasRunAll, Schedules, SchedulesThrough}
-use Rattle.sessions.specs.SessionEnds.{Ends as SessionEnds}
 use Rattle.tile_service.specs.Replays.{HasSession, HasSessionThrough}
 
 -- A SCHEDULE
@@ -94,15 +90,6 @@ runs_and_saves P Q onward document i o before after Stays U s u w e earlier late
 -- A SESSION
 
 module _ (i : InputChange) (o : Outside) (f : FaultCounts) (earlier : f.before ≤ o.disk.before) (later : o.disk.after ≤ f.after) (document : List ℕ) where
-  session_ends : (messages : List Message) (answers : List Answer) (held : List ℕ) (rest : Option (List ℕ)) (e : SessionEnd) → SessionEnds i o document messages answers held rest e → SessionEnds i (with_disk f o) document messages answers held rest e
-  session_ends messages answers held rest session.Closed h = h
-  session_ends messages answers held rest session.Truncated h = h
-  session_ends messages answers held rest (session.Bad status) h = h
-  session_ends messages answers held rest session.TooMany h = h
-  session_ends messages answers held rest session.ReadFault h = h
-  session_ends messages answers held rest session.WriteFault h = h
-  session_ends messages answers held rest session.OutOfMemory h = h
-
   pub session_within : (s t : State) (e : SessionEnd) → HasSession i o document s t e → HasSession i (with_disk f o) document s t e
   session_within s t e h = record {
     messages = h.messages;
@@ -120,7 +107,7 @@ module _ (i : InputChange) (o : Outside) (f : FaultCounts) (earlier : f.before �
       fresh = h.served.fresh;
       tiles = h.served.tiles;
     };
-    ends = session_ends h.messages h.answers h.held _ e h.ends;
+    ends = h.ends;
   }
 
 -- a session and the saving after it

@@ -10,7 +10,6 @@ ghost use Rattle.kept_words.specs.Runs.{RunsSession, ServesAndSaves, end_of_sess
 ghost use Rattle.sessions.specs.Outside.{InputChange, Outside, counts};
 ghost use Rattle.tile_service.specs.Passing.{LeadsThrough};
 ghost use Rattle.tile_service.specs.Session.{IsAtRest};
-ghost use Rattle.tile_service.specs.Replays.{HasSessionThrough};
 
 use cabinet::keeper::Keeper;
 use cache_core::laws::laws_of_lasting;
@@ -18,19 +17,18 @@ use catalog::catalogue::Catalogue;
 use clock::clock::Clock;
 use disk_model::disk::Disk;
 use exact_ratio::words::Words;
-use http_wire::duplex::{Duplex, Ends, Loans};
 use http_wire::streams::{ByteSink, ByteSource};
 use kept_cache::end::KeptEnd;
 use kept_cache::lent::Loan;
 use kept_cache::lent_cabinet::{LentCabinet, leaves_now};
 use kept_cache::opened::{closed, end_of_refusal, opened};
 use kept_cache::saving::save_all;
+use sessions::session::SessionEnd;
 use source_render::source::Source;
 use std::alloc::Global;
 use std::marker::Brand;
 use tile_service::counter::Counter;
-use sessions::session::SessionEnd;
-use tile_service::session::replay_session;
+use tile_service::streams::replay_streams;
 use wmts_rest::table::RestTable;
 
 /// Opens the cache of the disk, serves the bytes of the input as those of one connection with it, writes the responses, and saves the
@@ -90,51 +88,6 @@ fn end_of_session(end: SessionEnd) -> KeptEnd
     }
 }
 
-/// Serves the bytes of one connection over the link of these two, and gives them back.
-fn serve_over<'a, 'b, C: Keeper, S: Source, I: ByteSource, O: ByteSink, L: Loans>(
-    alloc: Global,
-    counter: &mut Counter<C>,
-    source: &mut S,
-    ends: Ends<'a, 'b, I, O>,
-) -> (Ends<'a, 'b, I, O>, SessionEnd)
-    requires valid { IsValid (C.state counter.old.cabinet).catalogue }
-    requires rest { IsAtRest (C.state counter.old.cabinet) }
-    requires input { ends.input.ghost_name ≡ L.input }
-    requires output { ends.output.ghost_name ≡ L.output }
-    ensures leads { HasSessionThrough (LeadsThrough C C.state C.outlasts counter.old.cabinet counter.new.cabinet)
-        (record { reads = counts (I.faults ends.entry.input.now) (I.faults result.0.input.now); from = I.left ends.entry.input.now; to = I.left result.0.input.now })
-        (record { told = S.told source.old; renders = counts (S.faults source.old) (S.faults source.new); disk = counts (C.faults counter.old.cabinet) (C.faults counter.new.cabinet); writes = counts (O.faults ends.entry.output.now) (O.faults result.0.output.now); from = O.taken ends.entry.output.now; to = O.taken result.0.output.now })
-        counter.old.capabilities (C.state counter.old.cabinet) (C.state counter.new.cabinet) result.1 }
-    ensures lasts { Lasting (C.outlasts counter.old.cabinet counter.new.cabinet) (C.state counter.old.cabinet) (C.state counter.new.cabinet) }
-    ensures same_input { result.0.input.ghost_name ≡ ends.entry.input.ghost_name }
-    ensures same_output { result.0.output.ghost_name ≡ ends.entry.output.ghost_name }
-{
-    let mut link = Duplex::<I, O, L>::new(ends);
-    let end = replay_session(alloc, counter, source, &mut link);
-    (link.into_ends(), end)
-}
-
-/// Serves the bytes of the input as those of one connection, and writes the responses to the output.
-fn serve<C: Keeper, S: Source, I: ByteSource, O: ByteSink>(
-    alloc: Global,
-    counter: &mut Counter<C>,
-    input: &mut I,
-    source: &mut S,
-    output: &mut O,
-) -> SessionEnd
-    requires valid { IsValid (C.state counter.old.cabinet).catalogue }
-    requires rest { IsAtRest (C.state counter.old.cabinet) }
-    ensures leads { HasSessionThrough (LeadsThrough C C.state C.outlasts counter.old.cabinet counter.new.cabinet)
-        (record { reads = counts (I.faults input.old) (I.faults input.new); from = I.left input.old; to = I.left input.new })
-        (record { told = S.told source.old; renders = counts (S.faults source.old) (S.faults source.new); disk = counts (C.faults counter.old.cabinet) (C.faults counter.new.cabinet); writes = counts (O.faults output.old) (O.faults output.new); from = O.taken output.old; to = O.taken output.new })
-        counter.old.capabilities (C.state counter.old.cabinet) (C.state counter.new.cabinet) result }
-    ensures lasts { Lasting (C.outlasts counter.old.cabinet counter.new.cabinet) (C.state counter.old.cabinet) (C.state counter.new.cabinet) }
-{
-    let ends = Ends { input, output };
-    let served = serve_over::<C, S, I, O, Brand>(alloc, counter, source, ends);
-    served.1
-}
-
 /// Serves the bytes of the input as those of one connection, and then saves the uses of what is kept.
 fn serve_and_save<C: Keeper, S: Source, I: ByteSource, O: ByteSink>(
     alloc: Global,
@@ -152,7 +105,7 @@ fn serve_and_save<C: Keeper, S: Source, I: ByteSource, O: ByteSink>(
     ensures lasts { Lasting (C.outlasts counter.old.cabinet counter.new.cabinet) (C.state counter.old.cabinet) (C.state counter.new.cabinet) }
 {
     laws_of_lasting::<C>();
-    let end = serve(alloc, counter, input, source, output);
+    let end = replay_streams(alloc, counter, source, input, output);
     save_all(&mut counter.cabinet);
     end
 }

@@ -1,6 +1,6 @@
 -- How a session over a link ends, and what it has sent by then.
 use Rattle.std.specs.Prelude.{ℕ, ◌≡◌, ◌<◌, ◌⊎◌, true, false, List, [], ◌∷◌, ◌++◌, length, flat_map, Option, IfSome}
-use Rattle.std.specs.Io.KnownBytes.{Appends, prepend_known}
+use Rattle.std.specs.Io.KnownBytes.{Appends}
 use Rattle.std.specs.List.{AllByRecursion}
 use Rattle.causes.specs.Causes.{Rose}
 use Rattle.http_wire.specs.declared.message.Message.{Message}
@@ -8,7 +8,6 @@ use Rattle.http_wire.specs.declared.message.Stop.{Stop}
 use Rattle.http_wire.specs.declared.message.Stop.TheVariants as stop
 use Rattle.http_wire.specs.Answers.{IsPartOfTake}
 use Rattle.http_wire.specs.Messages.{HoldsMessage, StopsAs}
-use Rattle.http_wire.specs.Streams.{StandIn}
 use Rattle.sessions.specs.declared.session.SessionEnd.{SessionEnd}
 use Rattle.sessions.specs.declared.session.SessionEnd.TheVariants.{Closed, Truncated, Bad, ReadFault, WriteFault, TooMany, OutOfMemory}
 use Rattle.sessions.specs.Outside.{InputChange, OutputChange}

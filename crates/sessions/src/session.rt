@@ -107,7 +107,16 @@ pub fn hold_session<M: MessageServer, S: Source, L: Link>(
             Ok(message) => message,
             Err(end) => return end,
         };
-        let sent = respond(alloc, server, cache, jobs, source, link, &message, answered + 1);
+        let sent = respond(
+            alloc,
+            server,
+            cache,
+            jobs,
+            source,
+            link,
+            &message,
+            answered + 1,
+        );
         let is_last = message.last;
         drop(message);
         match sent {

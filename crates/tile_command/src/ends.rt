@@ -5,9 +5,9 @@ ghost use Rattle.tile_command.specs.Statuses.{status_of_drill, status_of_kept, s
 use command_setup::configured::Unconfigured;
 use command_status::status::Status;
 use kept_cache::end::KeptEnd;
+use sessions::session::SessionEnd;
 use tile_drill::drill::DrillEnd;
 use tile_service::schedule::ScheduleEnd;
-use sessions::session::SessionEnd;
 
 /// The status of what was refused before the work.
 pub fn status_of_refusal(refusal: Unconfigured) -> Status

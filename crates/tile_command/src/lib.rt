@@ -12,5 +12,4 @@ mod ends;
 mod job;
 mod kept;
 mod memory;
-mod replay;
 mod upkeep;

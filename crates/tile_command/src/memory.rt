@@ -7,7 +7,6 @@ ghost use Rattle.sessions.specs.Outside.{InputChange, Outside, counts};
 ghost use Rattle.tile_service.specs.Session.{IsAtRest};
 
 use crate::ends::{status_of_drill, status_of_refusal, status_of_schedule, status_of_session};
-use crate::replay::replay;
 use cabinet::cabinet::Cabinet;
 use clock::clock::Clock;
 use command_setup::prepared::prepared;
@@ -19,6 +18,7 @@ use std::alloc::Global;
 use tile_drill::drill::run_drill;
 use tile_service::counter::Counter;
 use tile_service::schedule::run_schedule;
+use tile_service::streams::replay_streams;
 
 /// Does the work of a word with a counter at which nothing has happened: runs the lines of the input, serves its bytes as those of
 /// one connection, or makes and runs the lines of a number. Each end comes as `HasWorked` says.
@@ -45,7 +45,7 @@ fn worked<S: Source, I: ByteSource, O: ByteSink>(
             status_of_schedule(end)
         }
         MemoryWord::Replay => {
-            let end = replay(alloc, counter, source, input, output);
+            let end = replay_streams(alloc, counter, source, input, output);
             counter.cabinet.known();
             status_of_session(end)
         }

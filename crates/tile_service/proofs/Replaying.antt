@@ -1,5 +1,5 @@
 -- A session that a counter served: what its exchanges come to.
-use Rattle.std.proofs.Common.{◌≡◌, ℕ, ◌+◌, List, [], ◌∷◌, ◌++◌, map, Option, refl, sym, ap, subst, ◌∙◌, append_assoc, append-nil}
+use Rattle.std.proofs.Common.{◌≡◌, ℕ, ◌+◌, List, [], ◌∷◌, ◌++◌, Option, refl, sym, ap, subst, ◌∙◌, append_assoc, append-nil}
 use Rattle.std.specs.Io.KnownBytes.{prepend_known}
 use Rattle.std.proofs.lemmas.List.{map-append}
 use Rattle.cabinet.specs.State.{State}
@@ -7,7 +7,7 @@ use Rattle.http_wire.specs.declared.message.Message.{Message}
 use Rattle.tile_requests.specs.declared.outcome.Outcome.{Outcome}
 use Rattle.sessions.specs.declared.session.SessionEnd.{SessionEnd}
 use Rattle.sessions.specs.Exchanges.{AreServed, Exchange, Standing, messages_of, response_at, responses_of}
-use Rattle.sessions.specs.Outside.{FaultCounts, InputChange, Outside, OutputChange, counts}
+use Rattle.sessions.specs.Outside.{FaultCounts, InputChange, Outside, counts}
 use Rattle.sessions.specs.SessionEnds.{Ends}
 use Rattle.sessions.specs.Sessions.{IsHeld}
 use Rattle.tile_service.specs.Passing.{LeadsThrough}

@@ -7,10 +7,9 @@
 //! paths and answered by its response, as `tile_requests` has them; each tile is the picture of its number
 //! and fresh at its last ask or force (`specs/Schedules.antt`). No more answers of the run say that the source failed, and no
 //! more failures are yet to be answered, than the source's count of faults rose by (`failed` there); and its chances name no more
-//! faults of the cabinet's disk than that count rose by (`faults` there). A session over a link
-//! answers its messages in order (`specs/Session.antt`), and ends as its stream does, after its last message or at a fault
-//! (`specs/SessionEnds.antt`); of the bytes after the last message it takes less than one take may bring.
-//! Stands on tile_requests, cabinet, cache_core, source_render, schedule_text and http_wire.
+//! faults of the cabinet's disk than that count rose by (`faults` there). A session over a link, or over an input and an output that are
+//! lent apart, answers its messages in order (`specs/Session.antt`, `specs/Replays.antt`), and ends as `sessions` says.
+//! Stands on sessions, tile_requests, cabinet, cache_core, source_render, schedule_text and http_wire.
 #![tactic(auto)]
 
 pub mod action_end;
@@ -27,3 +26,4 @@ pub mod schedule;
 pub mod seats;
 mod serving;
 pub mod session;
+pub mod streams;

@@ -24,13 +24,13 @@ use Rattle.http_wire.specs.declared.inputs.InputEnd.{InputEnd}
 use Rattle.kept_cache.proofs.Lasting.{opening_lasts, work_lasts}
 use Rattle.kept_cache.specs.declared.end.KeptEnd.{KeptEnd}
 use Rattle.kept_cache.specs.declared.end.KeptEnd.TheVariants as end
-use Rattle.kept_cache.specs.Change.{DiskChange, OutputChange}
+use Rattle.kept_cache.specs.Change.{DiskChange}
+use Rattle.sessions.specs.Outside.{InputChange, OutputChange, counts}
 use Rattle.gate_journal.specs.declared.fault.OpenFault.{OpenFault}
 use Rattle.kept_cache.specs.Crash.{Lasts}
 use Rattle.kept_cache.specs.Opened.{end_of_refusal}
 use Rattle.outbox.specs.Files.{MayOpenTo, OpensToPosts}
 use Rattle.outbox.specs.Posts.{MayBeFound, Outgoing}
-use Rattle.sessions.specs.Outside.{InputChange, counts}
 use Rattle.truncation_list.specs.declared.cover.Cover.{Cover}
 use Rattle.truncation_list.proofs.Answering.{answers_through}
 use Rattle.twin_events.specs.Twins.{IsAt, Standing, standing}

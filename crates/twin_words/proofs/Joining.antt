@@ -14,7 +14,7 @@ use Rattle.kept_cache.specs.Opened.{end_of_refusal}
 use Rattle.tile_requests.specs.Sent.{AppendsFront}
 use Rattle.tile_requests.proofs.Known.{appends_more, appends_nothing}
 use Rattle.tile_service.specs.Lines.{lines_of}
-use Rattle.sessions.specs.Outside.{counts}
+use Rattle.sessions.specs.Outside.{InputChange, counts}
 use Rattle.twin_lines.specs.declared.lines.Halt.{Halt}
 use Rattle.twin_lines.specs.declared.lines.Halt.TheVariants as halt
 use Rattle.twin_lines.specs.declared.order.Side.{Side}
@@ -27,7 +27,6 @@ use Rattle.twin_words.proofs.Stretching.{change, left_as}
 use Rattle.causes.specs.Causes.{Rose}
 use Rattle.http_wire.specs.declared.inputs.InputEnd.{InputEnd}
 use Rattle.http_wire.specs.declared.inputs.InputEnd.TheVariants as input_end
-use Rattle.sessions.specs.Outside.{InputChange}
 use Rattle.twin_words.specs.Ends.{IsTooLong, RefusesAgain}
 use Rattle.twin_words.specs.Works.{IsEndOf, IsUnread, RunsOn, RunsText, StopsAt, Works, WorksTo, weight}
 

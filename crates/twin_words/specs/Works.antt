@@ -12,10 +12,10 @@ use Rattle.http_wire.specs.declared.inputs.InputEnd.{InputEnd}
 use Rattle.http_wire.specs.declared.inputs.InputEnd.TheVariants as input_end
 use Rattle.kept_cache.specs.declared.end.KeptEnd.{KeptEnd}
 use Rattle.kept_cache.specs.declared.end.KeptEnd.TheVariants as end
-use Rattle.kept_cache.specs.Change.{DiskChange, HasWritten, OutputChange}
+use Rattle.kept_cache.specs.Change.{DiskChange, HasWritten}
+use Rattle.sessions.specs.Outside.{InputChange, OutputChange}
 use Rattle.kept_cache.specs.Opened.{end_of_refusal}
 use Rattle.tile_service.specs.Lines.{lines_of}
-use Rattle.sessions.specs.Outside.{InputChange}
 use Rattle.twin_events.specs.Twins.{LeadsBy}
 use Rattle.twin_lines.specs.declared.lines.Halt.{Halt}
 use Rattle.twin_lines.specs.declared.lines.Halt.TheVariants as halt

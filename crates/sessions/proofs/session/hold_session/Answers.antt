@@ -1,4 +1,4 @@
-use Rattle.std.proofs.Common.{arith, refl, ap, subst, ◌∙◌}
+use Rattle.std.proofs.Common.{arith, refl, ap, ◌∙◌}
 use Rattle.sessions.proofs.UnderWay.{answered, under_way_next, under_way_start}
 use Rattle.sessions.proofs.Ending.{unbegun, ends_unmet, closed_behind, cut_off_behind, too_many}
 use Rattle.sessions.proofs.session.hold_session.Goals as goal
