@@ -10,6 +10,7 @@ ghost use Rattle.tile_requests.specs.Texts.{usage_text};
 
 use arrayvec::ArrayVec;
 use cabinet::keeper::Keeper;
+use cache_access::alone::Alone;
 use catalog::catalogue::Catalogue;
 use clock::clock::Clock;
 use disk_model::disk::Disk;
@@ -21,18 +22,18 @@ use kept_cache::opened::{closed, end_of_refusal, opened};
 use kept_cache::writing::written;
 use std::alloc::{AllocError, Global};
 use std::marker::Brand;
-use tile_requests::commands::usage as told_usage;
-use tile_requests::outcome::Outcome;
+use tile_requests::laws::laws_of_lone_threads;
+use tile_requests::usage::usage_text;
 
-/// The text of what is kept. `AllocError` where memory runs out.
-fn usage_text<C: Keeper>(alloc: Global, cabinet: &C) -> Result<Words, AllocError>
-    requires { IsValid (C.state cabinet.now).catalogue }
-    ensures { IfOk result (λ text. text ≡ usage_text (C.state cabinet.now)) }
+/// The text of what is kept, which stays as it is. `AllocError` if memory runs out.
+fn told_usage<C: Keeper>(alloc: Global, cabinet: &mut C) -> Result<Words, AllocError>
+    requires { IsValid (C.state cabinet.old).catalogue }
+    ensures text { IfOk result (λ text. text ≡ usage_text (C.state cabinet.old)) }
+    ensures same { C.state cabinet.new ≡ C.state cabinet.old }
+    ensures lasts { C.outlasts cabinet.old cabinet.new }
 {
-    match told_usage(alloc, cabinet) {
-        Outcome::Usage(text) => Ok(text),
-        _ => Err(AllocError),
-    }
+    laws_of_lone_threads();
+    usage_text(&Alone::new(), alloc, cabinet)
 }
 
 /// Opens the cache of the disk, and writes what is kept in it. Each end comes as `TellsUsage` says.
@@ -75,7 +76,7 @@ fn usage_over<'a, D: Disk, O: ByteSink, L: Loan>(
     ensures loan { result.0.ghost_name ≡ L.disk }
 {
     match opened::<D, L>(alloc, catalogue, clock, disk) {
-        Ok(cabinet) => match usage_text(alloc, &cabinet) {
+        Ok(mut cabinet) => match told_usage(alloc, &mut cabinet) {
             Ok(text) => {
                 let disk = closed(cabinet);
                 (disk, written(output, ArrayVec::new(), text.bytes()))

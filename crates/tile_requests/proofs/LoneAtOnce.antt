@@ -153,7 +153,7 @@ count_stays c x m layer n step is =
     let h = count_row c m.note.before m.note.after m.note.command m.note.reply (unsure m c x step) layer n is.command is.reply in
     (h.0 ∙ ap (λ (s : State). counts_of s layer) step.state, ap (λ (b : Shown). b.state) h.1 ∙ step.state)
 
-counts_stay : (c : Catalogue) (ms : List (Made Note)) (x y : Shown) → AreSteps c x ms y → AreAllCounts ms → y.state ≡ x.state
+pub counts_stay : (c : Catalogue) (ms : List (Made Note)) (x y : Shown) → AreSteps c x ms y → AreAllCounts ms → y.state ≡ x.state
 counts_stay c [] x y steps all = steps.0
 counts_stay c (m ∷ ms) x y steps ((layer, n, is), all) = counts_stay c ms m.note.after y steps.1 all ∙ (count_stays c x m layer n steps.0 is).1
 
@@ -186,7 +186,7 @@ module _ (x y : Shown) where
   abbrev c : Catalogue
   c = x.state.catalogue
 
-  usage_is : (gained : List (Made Note)) (text : List ℕ) → AreSteps c x gained y → IsCounted c gained text → (text ≡ usage_text x.state) × (y.state ≡ x.state)
+  pub usage_is : (gained : List (Made Note)) (text : List ℕ) → AreSteps c x gained y → IsCounted c gained text → (text ≡ usage_text x.state) × (y.state ≡ x.state)
   usage_is gained text steps k =
       let parts = steps_split c k.turns (k.all_turn ∷ k.cuts_turn ∷ []) x y (subst (λ (ms : List (Made Note)). AreSteps c x ms y) k.made steps) in
       let z = parts.0 in

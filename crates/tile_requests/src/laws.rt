@@ -21,8 +21,10 @@ ghost use Rattle.tile_requests.specs.declared.request.Mode.TheVariants.{Gets};
 ghost use Rattle.tile_requests.specs.Events.{EndsAs, Opens, RunsTo, ended_by, ended_so};
 ghost use Rattle.tile_requests.specs.declared.outcome.Outcome.{Outcome};
 ghost use Rattle.tile_requests.specs.declared.request.Request.{Request};
+ghost use Rattle.tile_requests.specs.Counted.{AreAllCounts, IsCounted};
 ghost use Rattle.tile_requests.specs.Immediate.{IsImmediate};
 ghost use Rattle.tile_requests.specs.Served.{IsServedAtOnce};
+ghost use Rattle.tile_requests.specs.Texts.{usage_text};
 ghost use Rattle.turnstile.specs.declared.view.Made.{Made};
 
 /// The turns of a get, by a thread that has the cabinet for itself, are the events of the line that gets the tile, under some chance, and
@@ -40,6 +42,8 @@ pub fn laws_of_lone_threads()
         → before ≤ after → IfErr result (λ e. e ≡ SourceFault → Rose before after)
         → (o : TileOutcome) × RunsTo before after x.faults y.faults x.state (first_tile x.state.catalogue m) force o y.state × EndsAs result o }
     ensures later { (x y : Shown) (gained : List (Made Note)) → AreSteps x.state.catalogue x gained y → x.faults ≤ y.faults }
+    ensures usage { (x y : Shown) (gained : List (Made Note)) (text : List ℕ) → AreSteps x.state.catalogue x gained y → IsCounted x.state.catalogue gained text → (text ≡ usage_text x.state) × (y.state ≡ x.state) }
+    ensures counts { (x y : Shown) (gained : List (Made Note)) → AreSteps x.state.catalogue x gained y → AreAllCounts gained → y.state ≡ x.state }
     ensures at_once { (x y : Shown) (gained : List (Made Note)) (r : Request) (o : Outcome)
         → AreSteps x.state.catalogue x gained y → IsServedAtOnce x.state.catalogue r gained o → IsImmediate x.faults y.faults x.state r o y.state }
 {}

@@ -1,6 +1,6 @@
 use Rattle.cabinet.specs.State.{IsSound}
 use Rattle.std.proofs.Common.{◌≡◌, Some}
-use Rattle.tile_requests.proofs.LoneAtOnce.{at_once, steps_later}
+use Rattle.tile_requests.proofs.LoneAtOnce.{at_once, counts_stay, steps_later, usage_is}
 use Rattle.tile_requests.proofs.LoneRefreshes.{refresh_runs}
 use Rattle.tile_requests.proofs.LoneRuns.{get_opens}
 use Rattle.tile_requests.proofs.laws.laws_of_lone_threads.Goals as goal
@@ -17,3 +17,9 @@ returns-clause-at_once c = λ x y gained r o. at_once x y gained r o
 
 pub returns-clause-later : goal.returns-clause-later
 returns-clause-later c = λ x y gained steps. steps_later x.state.catalogue gained x y steps
+
+pub returns-clause-usage : goal.returns-clause-usage
+returns-clause-usage c = λ x y gained text steps counted. usage_is x y gained text steps counted
+
+pub returns-clause-counts : goal.returns-clause-counts
+returns-clause-counts c = λ x y gained steps counts. counts_stay x.state.catalogue gained x y steps counts
