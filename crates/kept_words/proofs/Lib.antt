@@ -4,3 +4,4 @@ pub mod Picturing
 pub mod Within
 pub mod Passing
 pub mod Running
+pub mod Told
