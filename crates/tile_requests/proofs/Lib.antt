@@ -7,3 +7,4 @@ pub mod Opening
 pub mod LoneTurns
 pub mod LoneRuns
 pub mod LoneRefreshes
+pub mod LoneCommands

@@ -2,6 +2,7 @@ pub mod Sent
 pub mod Routes
 pub mod Texts
 pub mod Requests
+pub mod Turns
 pub mod Response
 pub mod Shown
 pub mod Events

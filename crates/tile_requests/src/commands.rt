@@ -1,18 +1,17 @@
 //! What is answered in one step from the cabinet.
-ghost use Rattle.std.specs.Prelude.{◌≡◌, ◌≤◌, Bool};
-ghost use Rattle.cache_core.specs.Lasting.{Lasting};
+ghost use Rattle.std.specs.Prelude.{◌≡◌, Bool};
+ghost use Rattle.cache_access.specs.Turned.{Goes};
 ghost use Rattle.catalog.specs.Valid.{IsValid};
 ghost use Rattle.served_covers.specs.OfCatalogue.{IsCoverOf};
-ghost use Rattle.tile_requests.specs.Immediate.{IsWritten};
-ghost use Rattle.tile_requests.specs.Requests.{cut, expired, told_usage};
+ghost use Rattle.tile_requests.specs.Requests.{told_usage};
+ghost use Rattle.tile_requests.specs.Turns.{IsCutServed, IsExpiryServed, Makes};
 
 use crate::dropped::dropped_text;
 use crate::outcome::Outcome;
 use crate::usage::usage_text;
 use cabinet::keeper::Keeper;
-use cabinet::laws::laws_of_rows;
 use cabinet::replies::{CutReply, Expired};
-use cache_core::laws::laws_of_lasting;
+use cache_access::access::Access;
 use std::alloc::Global;
 use truncation_list::cover::Cover;
 
@@ -27,17 +26,21 @@ pub fn usage<C: Keeper>(alloc: Global, cabinet: &C) -> Outcome
     }
 }
 
-/// A truncation.
-pub fn cut<C: Keeper>(alloc: Global, cabinet: &mut C, cover: &Cover) -> Outcome
-    requires { IsCoverOf (C.state cabinet.old).catalogue cover.now }
-    ensures done { (left : Bool) × IsWritten (C.faults cabinet.old) (C.faults cabinet.new) (cut (C.state cabinet.old) cover.now left) result (C.state cabinet.new) }
-    ensures later { C.faults cabinet.old ≤ C.faults cabinet.new }
-    ensures lasts { Lasting (C.outlasts cabinet.old cabinet.new) (C.state cabinet.old) (C.state cabinet.new) }
+/// A truncation, in one turn. If memory runs out for it, there is no turn.
+pub fn cut<A: Access>(
+    access: &A,
+    alloc: Global,
+    cache: &mut A::Cache,
+    cover: &Cover,
+) -> Outcome
+    requires reaches { A.reaches access.now cache.old }
+    requires cover { IsCoverOf (A.catalogue access.now cache.old) cover.now }
+    ensures makes { Makes (A.gains access.now) cache.old cache.new (λ gained. IsCutServed cover.now gained result) }
+    ensures goes { Goes (A.catalogue access.now) (A.reaches access.now) (A.owes access.now) (A.lasts access.now) cache.old cache.new }
+    ensures still { A.sound access.now cache.old → A.sound access.now cache.new }
+    ensures rests { A.rests access.now cache.old → A.rests access.now cache.new }
 {
-    laws_of_lasting::<C>();
-    laws_of_rows();
-    cabinet.known();
-    match cabinet.cut(alloc, cover) {
+    match access.cut(alloc, cache, cover) {
         Ok(CutReply::Done(number)) => Outcome::Cut(number),
         Ok(CutReply::DiskFault(_, _)) => Outcome::DiskFault,
         Ok(CutReply::Full) => Outcome::CutsFull,
@@ -46,18 +49,18 @@ pub fn cut<C: Keeper>(alloc: Global, cabinet: &mut C, cover: &Cover) -> Outcome
     }
 }
 
-/// An expiry.
-pub fn expire<C: Keeper>(alloc: Global, cabinet: &mut C) -> Outcome
-    ensures done { (left : Bool) × IsWritten (C.faults cabinet.old) (C.faults cabinet.new) (expired (C.state cabinet.old) left) result (C.state cabinet.new) }
-    ensures later { C.faults cabinet.old ≤ C.faults cabinet.new }
-    ensures lasts { Lasting (C.outlasts cabinet.old cabinet.new) (C.state cabinet.old) (C.state cabinet.new) }
+/// An expiry, in one turn.
+pub fn expire<A: Access>(access: &A, alloc: Global, cache: &mut A::Cache) -> Outcome
+    requires reaches { A.reaches access.now cache.old }
+    ensures makes { Makes (A.gains access.now) cache.old cache.new (λ gained. IsExpiryServed (A.catalogue access.now cache.old) gained result) }
+    ensures goes { Goes (A.catalogue access.now) (A.reaches access.now) (A.owes access.now) (A.lasts access.now) cache.old cache.new }
+    ensures still { A.sound access.now cache.old → A.sound access.now cache.new }
+    ensures rests { A.rests access.now cache.old → A.rests access.now cache.new }
 {
-    laws_of_rows();
-    cabinet.known();
-    match cabinet.expire() {
+    match access.expire(cache) {
         Expired::Within => Outcome::Within,
         Expired::DiskFault(_, _) => Outcome::DiskFault,
-        Expired::Dropped(meta) => match dropped_text(alloc, cabinet.catalogue(), &meta) {
+        Expired::Dropped(meta) => match dropped_text(alloc, access.catalogue(cache), &meta) {
             Ok(text) => Outcome::Dropped(text),
             Err(_) => Outcome::NoMemory,
         },

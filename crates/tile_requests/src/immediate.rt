@@ -6,9 +6,11 @@ ghost use Rattle.tile_requests.specs.Immediate.{IsImmediate};
 ghost use Rattle.tile_requests.specs.Requests.{IsOf, tile_of};
 
 use crate::commands::{cut, expire, usage};
+use crate::laws::laws_of_lone_threads;
 use crate::outcome::Outcome;
 use crate::request::Request;
 use cabinet::keeper::Keeper;
+use cache_access::alone::Alone;
 use cache_core::laws::laws_of_lasting;
 use std::alloc::Global;
 
@@ -23,6 +25,8 @@ pub fn immediate<C: Keeper>(alloc: Global, cabinet: &mut C, request: Request) ->
     ensures lasts { Lasting (C.outlasts cabinet.old cabinet.new) (C.state cabinet.old) (C.state cabinet.new) }
 {
     laws_of_lasting::<C>();
+    laws_of_lone_threads();
+    let way = Alone::new();
     match request {
         Request::Tile(_) => unreachable!(),
         Request::Capabilities => Outcome::Document,
@@ -30,8 +34,8 @@ pub fn immediate<C: Keeper>(alloc: Global, cabinet: &mut C, request: Request) ->
         Request::NotFound => Outcome::NotFound,
         Request::WrongMethod => Outcome::WrongMethod,
         Request::Usage => usage(alloc, cabinet),
-        Request::Truncation(cover) => cut(alloc, cabinet, &cover),
+        Request::Truncation(cover) => cut(&way, alloc, cabinet, &cover),
         Request::Unformed(fault) => Outcome::Unformed(fault),
-        Request::Expiry => expire(alloc, cabinet),
+        Request::Expiry => expire(&way, alloc, cabinet),
     }
 }

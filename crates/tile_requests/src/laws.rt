@@ -18,11 +18,17 @@ ghost use Rattle.matrix_geometry.specs.declared.address.Address.{Address};
 ghost use Rattle.metatile_plan.specs.declared.metatile.MetaKey.{MetaKey};
 ghost use Rattle.raster_field.specs.Blocks.{IsMeta, first_tile};
 ghost use Rattle.tile_requests.specs.declared.request.Mode.TheVariants.{Gets};
+ghost use Rattle.tile_requests.specs.declared.outcome.Outcome.{Outcome};
+ghost use Rattle.tile_requests.specs.Immediate.{IsWritten};
+ghost use Rattle.tile_requests.specs.Requests.{cut, expired};
+ghost use Rattle.tile_requests.specs.Turns.{IsCutServed, IsExpiryServed};
+ghost use Rattle.truncation_list.specs.declared.cover.Cover.{Cover};
 ghost use Rattle.tile_requests.specs.Events.{EndsAs, Opens, RunsTo, ended_by, ended_so};
 ghost use Rattle.turnstile.specs.declared.view.Made.{Made};
 
 /// The turns of a get, by a thread that has the cabinet for itself, are the events of the line that gets the tile, under some chance, and
-/// those of a refresh the three events of a request for the metatile's first tile: no render runs before them.
+/// those of a refresh the three events of a request for the metatile's first tile: no render runs before them. A truncation and an expiry
+/// by such a thread are those of the cabinet, whether what they were to write went unwritten or not.
 pub fn laws_of_lone_threads()
     ensures gets { (told : Option ℕ) (x y : Shown) (a : Address) (before after : ℕ) (gained : List (Made Note)) (result : Result Tile GetFault)
         → IsTile x.state.catalogue a → IsAtRest x.state → AreSteps x.state.catalogue x gained y
@@ -34,4 +40,8 @@ pub fn laws_of_lone_threads()
         → CameTo x.state.catalogue (IsSound x.state × (told ≡ Some x.state.catalogue.source)) m force (fronted (now x.state)) gained result
         → before ≤ after → IfErr result (λ e. e ≡ SourceFault → Rose before after)
         → (o : TileOutcome) × RunsTo before after x.faults y.faults x.state (first_tile x.state.catalogue m) force o y.state × EndsAs result o }
+    ensures cuts { (x y : Shown) (cover : Cover) (gained : List (Made Note)) (o : Outcome) → AreSteps x.state.catalogue x gained y → IsCutServed cover gained o
+        → (left : Bool) × IsWritten x.faults y.faults (cut x.state cover left) o y.state }
+    ensures expires { (x y : Shown) (gained : List (Made Note)) (o : Outcome) → AreSteps x.state.catalogue x gained y → IsExpiryServed x.state.catalogue gained o
+        → (left : Bool) × IsWritten x.faults y.faults (expired x.state left) o y.state }
 {}
