@@ -10,7 +10,7 @@
 //! faults of the cabinet's disk than that count rose by (`faults` there). A session over a link
 //! answers its messages in order (`specs/Session.antt`), and ends as its stream does, after its last message or at a fault
 //! (`specs/SessionEnds.antt`); of the bytes after the last message it takes less than one take may bring.
-//! Stands on tile_requests, cabinet, cache_core, source_render, schedule_text and http_wire.
+//! Stands on tile_requests, cabinet, cache_access, by which a session gets its tiles, cache_core, source_render, schedule_text and http_wire.
 #![tactic(auto)]
 
 pub mod action_end;
