@@ -15,8 +15,8 @@ use Rattle.cabinet_chest.specs.declared.command.Reply.{Reply}
 use Rattle.cabinet_chest.specs.declared.command.Reply.TheVariants as reply
 use Rattle.cabinet_chest.specs.declared.shown.Note.{Note}
 use Rattle.cabinet_chest.specs.declared.shown.Shown.{Shown}
-use Rattle.cabinet_chest.specs.Replies.{IsReplyTo, MayReply}
-use Rattle.cache_access.specs.Alone.{AreSteps, IsStep}
+use Rattle.cabinet_chest.specs.Replies.{IsReplyTo}
+use Rattle.cache_access.specs.Alone.{AreSteps}
 use Rattle.cache_access.specs.Stepping.{unsure}
 use Rattle.cache_access.specs.Turned.{IsOf}
 use Rattle.catalog.specs.declared.catalogue.Catalogue.{Catalogue}

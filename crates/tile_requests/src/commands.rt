@@ -27,12 +27,7 @@ pub fn usage<C: Keeper>(alloc: Global, cabinet: &C) -> Outcome
 }
 
 /// A truncation, in one turn. If memory runs out for it, there is no turn.
-pub fn cut<A: Access>(
-    access: &A,
-    alloc: Global,
-    cache: &mut A::Cache,
-    cover: &Cover,
-) -> Outcome
+pub fn cut<A: Access>(access: &A, alloc: Global, cache: &mut A::Cache, cover: &Cover) -> Outcome
     requires reaches { A.reaches access.now cache.old }
     requires cover { IsCoverOf (A.catalogue access.now cache.old) cover.now }
     ensures makes { Makes (A.gains access.now) cache.old cache.new (λ gained. IsCutServed cover.now gained result) }
