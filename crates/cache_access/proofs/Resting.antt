@@ -37,10 +37,10 @@ use Rattle.cache_access.specs.Waits.{IsForceSettled, IsSettled}
 -- ENTRIES
 
 -- the renders that run after one entry more
-runs_after : (s : State) (e : Entry) (blobs : Option (List KeptBlob)) → (now (grown s e blobs)).out ≡ (after s.catalogue (now s) e).out
+pub runs_after : (s : State) (e : Entry) (blobs : Option (List KeptBlob)) → (now (grown s e blobs)).out ≡ (after s.catalogue (now s) e).out
 runs_after s e blobs = ap (λ x. x.out) (now_more s e blobs)
 
-asked_rests : (s : State) (n : ℕ) → IsAtRest s → IsAtRest (asked_at n s)
+pub asked_rests : (s : State) (n : ℕ) → IsAtRest s → IsAtRest (asked_at n s)
 asked_rests s n rest = runs_after s (entry.At n) None ∙ rest
 
 entry_rests : (s t : State) (e : Entry) → (after s.catalogue (now s) e).out ≡ (now s).out → t ≡ with_entry s e → IsAtRest s → IsAtRest t

@@ -1,8 +1,8 @@
 //! Tiles and metatiles from a cache, whoever commands it: one thread that has it for itself, or one of many that take turns.
 //!
 //! `Access` is the trait of a way to a cache: settled asks and forces, the end of a render, truncation, upkeep and counts, each of which says
-//! which turns were made. `get` and `refresh` are written once, over any access: that of a thread that has a cabinet for itself, or that of
-//! one among many (`Shared` of cache_hall).
+//! which turns were made. `get` and `refresh` are written once, over any access: that of a thread that has a cabinet for itself (`Alone`), or
+//! that of one among many (`Shared` of cache_hall).
 //! Promises (`specs/Gets.antt`, `specs/Refreshes.antt`): each call says which turns were made, in order; a tile is newer than each
 //! truncation that covers it and for which the book that was seen before answers, or the one that its ask found, and so is a metatile
 //! that is refreshed, for each of its tiles; it is the encoded tile of its number, if the cache is sound and the source the catalogue's.

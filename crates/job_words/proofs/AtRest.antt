@@ -2,41 +2,26 @@
 -- running.
 use Rattle.std.specs.Prelude.{Result, Ok, Err}
 use Rattle.std.specs.declared.alloc.AllocError.{AllocError}
-use Rattle.std.proofs.Common.{◌≡◌, ℕ, Bool, true, false, [], ◌∷◌, ◌++◌, Option, Some, None, refl, sym, ap, ◌∙◌, subst}
+use Rattle.std.proofs.Common.{◌≡◌, ℕ, Bool, true, false, [], ◌∷◌, Option, Some, None, refl, sym, ap, subst}
 use Rattle.cabinet.specs.Commands.{answering}
-use Rattle.cabinet.specs.declared.entry.Entry.{Entry}
 use Rattle.cabinet.specs.declared.entry.Entry.TheVariants as entry
 use Rattle.cabinet.specs.declared.kept.Kept.{Kept}
 use Rattle.cabinet.specs.declared.replies.CutReply.{CutReply}
-use Rattle.cabinet.specs.declared.replies.CutReply.TheVariants as cut
-use Rattle.cabinet.specs.Hits.{hits_of}
-use Rattle.cabinet.specs.History.{after, next}
-use Rattle.cabinet.specs.State.{State, asked_at, now, with_cut, with_entry}
-use Rattle.cabinet.proofs.Rows.{now_more}
+use Rattle.cabinet.specs.History.{next}
+use Rattle.cabinet.specs.State.{State, asked_at, now, with_entry}
+use Rattle.cache_access.proofs.Resting.{asked_rests, cut_rests as made_rests}
 use Rattle.cache_core.specs.declared.outcome.TileOutcome as cached
 use Rattle.cache_core.specs.declared.outcome.TileOutcome.TheVariants as core
 use Rattle.cache_core.specs.Steps.{began, blob_of, ends, given, render_wanted, rendered, ticket_for, unless_busy, unless_kept, unless_unread}
 use Rattle.job_words.specs.Visit.{Chances, CutsOnce, refreshed}
 use Rattle.matrix_geometry.specs.declared.address.Address.{Address}
-use Rattle.metatile_locks.specs.Running.{overtaken, running_for, unmarked}
+use Rattle.metatile_locks.specs.Running.{running_for, unmarked}
 use Rattle.metatile_plan.specs.declared.metatile.MetaKey.{MetaKey}
 use Rattle.raster_field.specs.Blocks.{block_of, first_tile}
 use Rattle.tile_requests.specs.Requests.{Chance, further}
 use Rattle.tile_service.specs.Session.{IsAtRest}
-use Rattle.tile_service.proofs.AtRest.{IsDone, abandoned_rests, finished_rests, used_rests}
+use Rattle.tile_service.proofs.AtRest.{IsDone, abandoned_rests, finished_rests, started_runs, used_rests}
 use Rattle.truncation_list.specs.declared.cover.Cover.{Cover}
-
--- ENTRIES
-
--- the renders that run after one entry more
-runs_after : (s : State) (e : Entry) → (now (with_entry s e)).out ≡ (after s.catalogue (now s) e).out
-runs_after s e = ap (λ x. x.out) (now_more s e s.blobs)
-
-asked_rests : (s : State) (n : ℕ) → IsAtRest s → IsAtRest (asked_at n s)
-asked_rests s n rest = ap (λ x. x.out) (now_more s (entry.At n) None) ∙ rest
-
-started_runs : (s : State) (k : ℕ) (m : MetaKey) → IsAtRest s → (now (with_entry s (entry.Started k m))).out ≡ unmarked k m (now s).moment ∷ []
-started_runs s k m rest = runs_after s (entry.Started k m) ∙ ap (λ rs. rs ++ unmarked k m (now s).moment ∷ []) rest
 
 -- A METATILE
 
@@ -73,9 +58,5 @@ refreshed_done force s m c rest = began_done (first_tile s.catalogue m) c.render
 -- A CUT
 
 pub cut_rests : (s : State) (cover : Cover) (reply : Result CutReply AllocError) (u : State) → CutsOnce s cover reply u → IsAtRest s → IsAtRest u
-cut_rests s cover (Ok (cut.Done t)) u row rest =
-    subst IsAtRest (sym row.2) (ap (λ x. x.out) (now_more s (entry.Cut t cover) (with_cut s t cover).blobs) ∙ ap (overtaken (hits_of s.catalogue cover) t) rest)
-cut_rests s cover (Ok (cut.DiskFault before after)) u row rest = subst IsAtRest (sym row.4) (runs_after s (entry.Missed row.0) ∙ rest)
-cut_rests s cover (Ok cut.Full) u row rest = subst IsAtRest (sym row.2) rest
-cut_rests s cover (Ok cut.Spent) u row rest = subst IsAtRest (sym row.1) rest
+cut_rests s cover (Ok reply) u row rest = made_rests s u rest cover reply row
 cut_rests s cover (Err failed) u row rest = subst IsAtRest (sym row) rest

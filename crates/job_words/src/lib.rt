@@ -3,8 +3,8 @@
 //! Promises: each place of the job is visited once, in order, and what a visit comes to is fixed but for what happens there by chance
 //! (`specs/Run.antt`, `specs/Visit.antt`); each end of the word has its cause (`specs/Ends.antt`); at every moment of it a crash leaves a
 //! cache that answers for every truncation that was in force, and at its end for the cut that it counts as done.
-//! Stands on jobs for jobs and their places, on cache_core, whose events of a tile it makes, and on kept_cache, by which it opens the cache,
-//! saves the uses of what is kept and closes it.
+//! Stands on jobs for jobs and their places, on cache_access, by which it refreshes a metatile, on cache_core, in whose events a visit is told,
+//! and on kept_cache, by which it opens the cache, saves the uses of what is kept and closes it.
 #![tactic(auto)]
 
 mod cutting;

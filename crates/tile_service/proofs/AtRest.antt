@@ -4,13 +4,12 @@ use Rattle.std.specs.Prelude.{nat_le, nat_lt}
 use Rattle.std.proofs.lemmas.Bool.{eq-eqb}
 use Rattle.cabinet.specs.Commands.{answering, book_before, kept_at, others, place_for}
 use Rattle.cabinet.specs.Counted.{scope_exceeded, victim_in}
-use Rattle.cabinet.specs.declared.entry.Entry.{Entry}
 use Rattle.cabinet.specs.declared.entry.Entry.TheVariants as entry
 use Rattle.cabinet.specs.declared.kept.Kept.{Kept}
 use Rattle.cabinet.specs.Hits.{hits_of}
-use Rattle.cabinet.specs.History.{after, next, stored_entry}
-use Rattle.cabinet.specs.State.{State, asked_at, grown, now, with_entry}
-use Rattle.cabinet.proofs.Rows.{now_more}
+use Rattle.cabinet.specs.History.{next, stored_entry}
+use Rattle.cabinet.specs.State.{State, asked_at, now, with_entry}
+use Rattle.cache_access.proofs.Resting.{asked_rests, runs_after}
 use Rattle.cache_core.specs.declared.actor.Actor.TheVariants.{Idle}
 use Rattle.cache_core.specs.declared.outcome.TileOutcome as cached
 use Rattle.cache_core.specs.declared.outcome.TileOutcome.TheVariants as core
@@ -32,18 +31,11 @@ use Rattle.truncation_list.specs.declared.cover.Cover.{Cover}
 
 -- ENTRIES
 
--- the renders that run after one entry more
-runs_after : (s : State) (e : Entry) → (now (grown s e None)).out ≡ (after s.catalogue (now s) e).out
-runs_after s e = ap (λ x. x.out) (now_more s e None)
-
-asked_rests : (s : State) (n : ℕ) → IsAtRest s → IsAtRest (asked_at n s)
-asked_rests s n rest = runs_after s (entry.At n) ∙ rest
-
 pub used_rests : (s : State) (m : MetaKey) → IsAtRest s → IsAtRest (with_entry s (entry.Used m))
-used_rests s m rest = runs_after s (entry.Used m) ∙ rest
+used_rests s m rest = runs_after s (entry.Used m) None ∙ rest
 
-started_runs : (s : State) (k : ℕ) (m : MetaKey) → IsAtRest s → (now (with_entry s (entry.Started k m))).out ≡ unmarked k m (now s).moment ∷ []
-started_runs s k m rest = runs_after s (entry.Started k m) ∙ ap (λ rs. rs ++ unmarked k m (now s).moment ∷ []) rest
+pub started_runs : (s : State) (k : ℕ) (m : MetaKey) → IsAtRest s → (now (with_entry s (entry.Started k m))).out ≡ unmarked k m (now s).moment ∷ []
+started_runs s k m rest = runs_after s (entry.Started k m) None ∙ ap (λ rs. rs ++ unmarked k m (now s).moment ∷ []) rest
 
 -- THE END OF THE ONE RENDER
 
@@ -64,12 +56,12 @@ module _ (s : State) (k : ℕ) (m : MetaKey) (n : ℕ) (one : (now s).out ≡ un
   it_runs = ap (render_of ticket) one ∙ found k m n
 
   ended_rests : IsAtRest (with_entry s (entry.Ended k))
-  ended_rests = runs_after s (entry.Ended k) ∙ none_left
+  ended_rests = runs_after s (entry.Ended k) None ∙ none_left
 
   stored_rests : (text : List ℕ) (place : Option ℕ) (unwritten : Bool) → IsAtRest (stored s ticket n text place unwritten)
   stored_rests text None unwritten = ended_rests
   stored_rests text (Some place) true = ended_rests
-  stored_rests text (Some place) false = runs_after s (stored_entry (kept_at ticket n place (length text))) ∙ none_left
+  stored_rests text (Some place) false = runs_after s (stored_entry (kept_at ticket n place (length text))) None ∙ none_left
 
   with_room_rests : (text : List ℕ) (unwritten full : Bool) → IsAtRest (with_room s ticket n text unwritten full)
   with_room_rests text unwritten true = ended_rests
@@ -126,8 +118,8 @@ abbrev pub RestsAfter : State × Outcome → Type 0
 RestsAfter done = IsAtRest done.0
 
 cut_at_rests : (s : State) (cover : Cover) (t : ℕ) (unwritten : Bool) → IsAtRest s → RestsAfter (cut_at s cover t unwritten)
-cut_at_rests s cover t true rest = runs_after s (entry.Missed t) ∙ rest
-cut_at_rests s cover t false rest = runs_after s (entry.Cut t cover) ∙ ap (overtaken (hits_of s.catalogue cover) t) rest
+cut_at_rests s cover t true rest = runs_after s (entry.Missed t) None ∙ rest
+cut_at_rests s cover t false rest = runs_after s (entry.Cut t cover) None ∙ ap (overtaken (hits_of s.catalogue cover) t) rest
 
 cover_rests : (s : State) (cover : Cover) (unwritten : Bool) (n : Option ℕ) → IsAtRest s → RestsAfter (cut_by s cover unwritten n)
 cover_rests s cover unwritten None rest = rest
@@ -143,7 +135,7 @@ cut_rests s cover false unwritten rest = rest
 
 dropped_rests : (s : State) (left : Bool) (m : Option MetaKey) → IsAtRest s → RestsAfter (dropped s left m)
 dropped_rests s left None rest = rest
-dropped_rests s left (Some m) rest = runs_after s (entry.Dropped m) ∙ rest
+dropped_rests s left (Some m) rest = runs_after s (entry.Dropped m) None ∙ rest
 
 scope_rests : (s : State) (left : Bool) (o : Option Scope) (unwritten : Bool) → IsAtRest s → RestsAfter (expired_in s left o unwritten)
 scope_rests s left None unwritten rest = rest

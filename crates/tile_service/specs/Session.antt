@@ -2,7 +2,8 @@
 -- between them, so that a tile is asked for, rendered and finished before the next.
 use Rattle.std.specs.Prelude.{ℕ, ◌≡◌, ◌+◌, List, [], ◌∷◌, ◌++◌, map, Option, Some, None}
 use Rattle.std.specs.List.{AllByRecursion}
-use Rattle.cabinet.specs.State.{State, IsSound, now}
+use Rattle.cabinet.specs.State.{State, IsSound}
+use Rattle.cache_access.specs.Alone as alone
 use Rattle.causes.specs.Causes.{RoseBy}
 use Rattle.http_wire.specs.declared.message.Message.{Message}
 use Rattle.tile_requests.specs.declared.request.Mode.TheVariants.{Gets}
@@ -13,7 +14,7 @@ use Rattle.tile_service.specs.Run.{World, Answer, disk_faults, sent, first_of, r
 
 -- no render runs
 abbrev pub IsAtRest : State → Type 0
-IsAtRest s = (now s).out ≡ []
+IsAtRest s = alone.IsAtRest s
 
 -- a session has one actor, who is not busy between its messages
 abbrev pub lone : State → List ℕ → World

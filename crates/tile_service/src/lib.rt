@@ -9,7 +9,7 @@
 //! more failures are yet to be answered, than the source's count of faults rose by (`failed` there); and its chances name no more
 //! faults of the cabinet's disk than that count rose by (`faults` there). A session over a link, or over an input and an output that are
 //! lent apart, answers its messages in order (`specs/Session.antt`, `specs/Replays.antt`), and ends as `sessions` says.
-//! Stands on sessions, tile_requests, cabinet, cache_core, source_render, schedule_text and http_wire.
+//! Stands on sessions, tile_requests, cabinet, cache_access, by which a session gets its tiles, cache_core, source_render, schedule_text and http_wire.
 #![tactic(auto)]
 
 pub mod action_end;
