@@ -1,5 +1,5 @@
 -- Calls through an access, one after the other.
-use Rattle.std.proofs.Common.{◌≡◌, refl, ◌∙◌}
+use Rattle.std.proofs.Common.{refl, ◌∙◌}
 use Rattle.catalog.specs.declared.catalogue.Catalogue.{Catalogue}
 use Rattle.cache_access.specs.Turned.{Goes}
 

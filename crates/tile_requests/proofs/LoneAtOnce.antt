@@ -1,13 +1,12 @@
 -- Requests that are answered without a render, by a thread that has the cabinet for itself.
-use Rattle.std.proofs.Common.{ℕ, suc, ◌≡◌, ◌+◌, ◌<◌, ◌≤◌, Bool, true, false, List, [], ◌∷◌, ◌++◌, length, Option, Some, None, inl, inr, refl, sym, ap, subst, ◌∙◌, arith}
+use Rattle.std.proofs.Common.{ℕ, ◌≡◌, ◌+◌, ◌<◌, ◌≤◌, Bool, true, false, List, [], ◌∷◌, ◌++◌, length, Option, Some, None, inl, inr, refl, sym, ap, subst, ◌∙◌, arith}
 use Rattle.std.proofs.lemmas.Bool.Decides.{nat_tests}
-use Rattle.std.specs.Prelude.{IsSome, nat_lt, if◌then◌else◌, codes}
+use Rattle.std.specs.Prelude.{IsSome, nat_lt, if◌then◌else◌}
 use Rattle.cabinet.specs.declared.replies.CutReply.{CutReply}
 use Rattle.cabinet.specs.declared.replies.CutReply.TheVariants as cut
 use Rattle.cabinet.specs.declared.replies.Expired.{Expired}
 use Rattle.cabinet.specs.declared.replies.Expired.TheVariants as expired
 use Rattle.cabinet.specs.Commands.{Cuts, Expires, IsCountedCut, IsCountedExpired, book_before}
-use Rattle.cabinet.specs.Counted.{scope_exceeded, victim_in}
 use Rattle.cabinet.specs.History.{next}
 use Rattle.cabinet.specs.State.{State, now}
 use Rattle.cabinet_chest.specs.declared.command.Command.{Command}
@@ -20,7 +19,6 @@ use Rattle.cabinet_chest.specs.declared.shown.Shown.{Shown}
 use Rattle.cabinet_chest.specs.Counts.{counts_in_all, counts_in_layer, counts_of}
 use Rattle.cabinet_chest.specs.Replies.{IsReplyTo, MayReply}
 use Rattle.cache_access.specs.Alone.{AreSteps, IsStep}
-use Rattle.cache_access.specs.Turned.{IsOf}
 use Rattle.catalog.specs.declared.catalogue.Catalogue.{Catalogue}
 use Rattle.catalog.specs.declared.catalogue.Scope.{Scope}
 use Rattle.catalog.specs.declared.layer.Layer.{Layer}
@@ -39,7 +37,7 @@ use Rattle.tile_requests.specs.Immediate.{IsBoth, IsImmediate, IsWritten}
 use Rattle.tile_requests.specs.Requests.{cut_at, cut_by, dropped, expired_in, told_at, told_usage}
 use Rattle.tile_requests.specs.Requests as requests
 use Rattle.tile_requests.specs.Served.{IsCutServed, IsExpiryServed, IsServedAtOnce, IsUsageServed, outcome_of_cut, outcome_of_expiry}
-use Rattle.tile_requests.specs.Texts.{counted_text, dropped_text, layer_counts, usage_text}
+use Rattle.tile_requests.specs.Texts.{counted_text, layer_counts, usage_text}
 
 -- TESTS
 

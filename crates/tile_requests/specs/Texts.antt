@@ -1,6 +1,6 @@
 -- The texts of commands: what is kept, as lines of words, and what an expiry came to, as JSON texts (RFC 8259). Identifiers and
 -- values are letters, digits and _ - . : and need no escape.
-use Rattle.std.specs.Prelude.{ℕ, ◌+◌, ◌==◌, if◌then◌else◌, List, [], ◌∷◌, ◌++◌, length, Option, Some, None, slice_get, codes, decimal}
+use Rattle.std.specs.Prelude.{ℕ, ◌+◌, ◌==◌, if◌then◌else◌, List, [], ◌∷◌, ◌++◌, Option, Some, None, slice_get, codes, decimal}
 use Rattle.std.specs.List.{join_with_byte}
 use Rattle.std.specs.Option.{option_map_or}
 use Rattle.cabinet.specs.State.{State}

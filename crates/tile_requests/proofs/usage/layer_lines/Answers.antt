@@ -1,7 +1,5 @@
-use Rattle.std.proofs.Common.{ℕ, ◌≡◌, Option, Some, None, arith, refl, sym, ap, subst, length, ◌∙◌}
+use Rattle.std.proofs.Common.{◌≡◌, Some, None, arith, sym, ap, length, ◌∙◌}
 use Rattle.std.specs.Prelude.{option_copied, slice_get}
-use Rattle.std.proofs.lemmas.Option.{slice_get-get_or, slice_get_cases}
-use Rattle.catalog.specs.declared.layer.Layer.{Layer}
 use Rattle.tile_requests.proofs.Counts.{counted_first, counted_more, counted_vainly, is_there}
 use Rattle.tile_requests.proofs.Going.{goes_here, goes_on}
 use Rattle.tile_requests.proofs.usage.layer_lines.Goals as goal

@@ -1,4 +1,4 @@
-use Rattle.std.proofs.Common.{ℕ, ◌≡◌, ◌++◌, Option, subst, ap, length, ◌∙◌}
+use Rattle.std.proofs.Common.{ℕ, ◌++◌, Option, subst, ap, length, ◌∙◌}
 use Rattle.cabinet_chest.specs.declared.command.Command.TheVariants as command
 use Rattle.cabinet_chest.specs.declared.command.Reply.TheVariants as reply
 use Rattle.cache_access.specs.Turned.{GainsOne}
