@@ -1,5 +1,5 @@
 -- A request that a lone thread answers.
-use Rattle.std.proofs.Common.{◌≡◌, ◌≤◌, ℕ, List, Option, Some, None, Result, Ok, Err, refl, sym, ap, ◌∙◌, subst}
+use Rattle.std.proofs.Common.{◌≡◌, ◌≤◌, ℕ, List, Option, Some, None, Result, Ok, Err, refl, sym, ap, subst}
 use Rattle.std.specs.Prelude.{IfErr, MatchOption}
 use Rattle.cabinet.specs.State.{IsSound, fronted, now}
 use Rattle.cabinet_chest.specs.declared.shown.Note.{Note}
@@ -20,10 +20,10 @@ use Rattle.tile_requests.specs.declared.request.Request.{Request}
 use Rattle.tile_requests.specs.declared.request.Request.TheVariants as request
 use Rattle.tile_requests.specs.Events.{Opens, ended_by, ended_so}
 use Rattle.tile_requests.specs.Immediate.{IsImmediate}
-use Rattle.tile_requests.specs.Requests.{IsOf, outcome_of, tile_of}
-use Rattle.tile_requests.specs.Served.{IsRequestServed, IsServedAtOnce, IsTileServed, outcome_of_get}
-use Rattle.sessions.specs.Outside.{FaultCounts, counts}
-use Rattle.tile_service.specs.Performing.{IsAnswered, IsGot}
+use Rattle.tile_requests.specs.Requests.{IsOf, tile_of}
+use Rattle.tile_requests.specs.Served.{IsServedAtOnce, IsTileServed, outcome_of_get}
+use Rattle.sessions.specs.Outside.{counts}
+use Rattle.tile_service.specs.Performing.{IsGot}
 
 some_same : (a b : Address) → Some a ≡ Some b → a ≡ b
 some_same a b e = cc
