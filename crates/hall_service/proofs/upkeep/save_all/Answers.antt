@@ -7,3 +7,6 @@ returns-in-Within g c = record {
   of = c.save_uses.ensures.goes.reaches;
   keeps = saved c.args.hall.now.catalogue c.args.pass.now c.saving.pass c.save_uses.new.cache (reply.Saved c.save_uses.result) c.requires.quota c.saving.invariant.1 c.save_uses.ensures.done;
 }
+
+pub saving-preserved : goal.saving-preserved
+saving-preserved g c = (c.save_uses.ensures.goes.reaches, saved c.args.hall.now.catalogue c.args.pass.now c.saving.pass c.save_uses.new.cache (reply.Saved c.save_uses.result) c.requires.quota c.saving.invariant.1 c.save_uses.ensures.done)
