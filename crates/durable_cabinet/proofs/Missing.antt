@@ -1,14 +1,8 @@
 -- The record of a command that the disk failed at, while nothing else is written.
-use Rattle.std.proofs.Common.{◌≡◌, true, IsTrue, [], ◌++◌, refl, sym, ap, subst, ◌∙◌, inl, inr, append_assoc, append-nil}
+use Rattle.std.proofs.Common.{◌≡◌, true, [], ◌++◌, refl, sym, ap, subst, ◌∙◌, append_assoc, append-nil}
 use Rattle.disk_model.specs.Content.{Content}
-use Rattle.raster_field.specs.Blocks.{block_text}
-use Rattle.catalog.specs.declared.catalogue.Catalogue.{Catalogue}
-use Rattle.cabinet.specs.declared.replies.Expired.TheVariants as expired
-use Rattle.cabinet.specs.declared.replies.Finished.TheVariants as finished
-use Rattle.cabinet.specs.declared.replies.Saved.TheVariants as saved
-use Rattle.cabinet.specs.Fresh.{cuts_of}
 use Rattle.cabinet.specs.History.{History}
-use Rattle.cabinet.specs.State.{IsKnown, IsSound, State}
+use Rattle.cabinet.specs.State.{IsKnown, State}
 use Rattle.durable_cabinet.specs.Alike.{IsAlikeTo}
 use Rattle.durable_cabinet.specs.Filed.{blobs_on, on_disk}
 use Rattle.durable_cabinet.specs.Missed.{HasMissed, Misses}
