@@ -8,7 +8,6 @@
 #![tactic(auto)]
 
 pub mod command;
-mod ends;
 mod job;
 mod kept;
 mod memory;

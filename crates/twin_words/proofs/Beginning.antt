@@ -22,12 +22,12 @@ use Rattle.http_wire.proofs.TakesOn.{rose_before}
 use Rattle.http_wire.specs.declared.inputs.InputEnd.TheVariants as input_end
 use Rattle.http_wire.specs.declared.inputs.InputEnd.{InputEnd}
 use Rattle.kept_cache.proofs.Lasting.{opening_lasts, work_lasts}
-use Rattle.kept_cache.specs.declared.end.KeptEnd.{KeptEnd}
-use Rattle.kept_cache.specs.declared.end.KeptEnd.TheVariants as end
+use Rattle.command_status.specs.declared.status.Status.{Status}
+use Rattle.command_status.specs.declared.status.Status.TheVariants as status
 use Rattle.kept_cache.specs.Change.{DiskChange, OutputChange}
 use Rattle.gate_journal.specs.declared.fault.OpenFault.{OpenFault}
 use Rattle.kept_cache.specs.Crash.{Lasts}
-use Rattle.kept_cache.specs.Opened.{end_of_refusal}
+use Rattle.command_status.specs.Statuses.{status_of_input, status_of_opening}
 use Rattle.outbox.specs.Files.{MayOpenTo, OpensToPosts}
 use Rattle.outbox.specs.Posts.{MayBeFound, Outgoing}
 use Rattle.tile_service.specs.Outside.{InputChange, counts}
@@ -45,7 +45,7 @@ use Rattle.twin_words.proofs.Kept.{AllInStep, TilesAbove, in_step_alone, opens_a
 use Rattle.twin_words.specs.Ends.{EndsRefused, EndsRun, HasTwinned, IsText, RefusesAgain, Stays, TwinChange, Twins, all_told}
 use Rattle.twin_words.specs.Opens.{IsLeftFor, IsPairOn, LeavesTwin, OpensTwin}
 use Rattle.twin_words.specs.Promised.{KeepsPromise, without_packets}
-use Rattle.twin_words.specs.Works.{IsEndOf, IsUnread, RunsInput, RunsNone, StopsAt, Works, WorksTo, end_of_input}
+use Rattle.twin_words.specs.Works.{IsEndOf, IsUnread, RunsInput, RunsNone, StopsAt, Works, WorksTo}
 
 abbrev pub MarksEither : Type 0
 MarksEither = (digest : List ℕ) (s : Stand) (found : Option Mark) (image : Content) → MayEndIn digest s image → EndsIn digest found image → IsEither s found
@@ -190,7 +190,7 @@ module _ (all : AllInStep) (tiles : TilesAbove) (either : MarksEither) (found : 
   refused_again last side.Follower cause (inl r) = inl (record { seen = r.seen; was_left = r.was_left; refused = r.refused })
   refused_again last side.Follower cause (inr r) = inr (record { seen = r.seen; was_left = r.was_left; refused = r.refused })
 
-  ends_refused : (stays : Stays) (e : KeptEnd) (text : List ℕ) → IsText h.input text → (cause : OpenFault) → e ≡ end_of_refusal cause → StopsAt c h.source.told h.source.faults.after cache_then marks_then outbox_then settled h.output 1 text first cause → EndsRefused c clock h stays e
+  ends_refused : (stays : Stays) (e : Status) (text : List ℕ) → IsText h.input text → (cause : OpenFault) → e ≡ status_of_opening cause → StopsAt c h.source.told h.source.faults.after cache_then marks_then outbox_then settled h.output 1 text first cause → EndsRefused c clock h stays e
   ends_refused stays e text is_text cause is stops = (
     cause,
     is,
@@ -211,24 +211,24 @@ module _ (all : AllInStep) (tiles : TilesAbove) (either : MarksEither) (found : 
     }),
   )
 
-  ends_lines : (stays : Stays) (e : KeptEnd) (text : List ℕ) → IsText h.input text → (k : Halt) → IsEndOf k e → WorksTo c h.source.told h.source.faults.after cache_then marks_then outbox_then settled h.output 1 text first k → EndsRun c clock h stays e
+  ends_lines : (stays : Stays) (e : Status) (text : List ℕ) → IsText h.input text → (k : Halt) → IsEndOf k e → WorksTo c h.source.told h.source.faults.after cache_then marks_then outbox_then settled h.output 1 text first k → EndsRun c clock h stays e
   ends_lines stays e text is_text halt.Done is (steps, reached, last, lines, works, ends) = subst (EndsRun c clock h stays) (sym is) (steps, reached, last, twinned reached last lines steps works, (text, is_text, ends))
   ends_lines stays e text is_text (halt.Line k) is (steps, reached, last, lines, works, ends) = subst (EndsRun c clock h stays) (sym is) (steps, reached, last, twinned reached last lines steps works, (text, is_text, ends))
   ends_lines stays e text is_text halt.WriteFault is (steps, reached, last, lines, works, ends) = subst (EndsRun c clock h stays) (sym is) (steps, reached, last, twinned reached last lines steps works, (text, is_text, ends))
   ends_lines stays e text is_text halt.OutOfMemory is (steps, reached, last, lines, works, ends) = subst (EndsRun c clock h stays) (sym is) (inl (steps, reached, last, twinned reached last lines steps works, (text, is_text, ends)))
   ends_lines stays e text is_text (halt.Stop which k rest) is worked = absurd is
 
-  ends_unread : (stays : Stays) (why : InputEnd) → IsUnread h.input why → RunsNone c h.source.told h.source.faults.after cache_then marks_then outbox_then settled first stays.output stays.source → EndsRun c clock h stays (end_of_input why)
+  ends_unread : (stays : Stays) (why : InputEnd) → IsUnread h.input why → RunsNone c h.source.told h.source.faults.after cache_then marks_then outbox_then settled first stays.output stays.source → EndsRun c clock h stays (status_of_input why)
   ends_unread stays input_end.ReadFault unread none = ((first, twinned first first [] [] none.works), unread, none.quiet_output, none.quiet_source)
   ends_unread stays input_end.TooLong unread none = ((first, twinned first first [] [] none.works), unread, none.quiet_output, none.quiet_source)
   ends_unread stays input_end.OutOfMemory unread none = inr ((first, twinned first first [] [] none.works), none.quiet_output, none.quiet_source)
 
-  pub twins : (stays : Stays) (e : KeptEnd) → RunsInput c h.source.told h.source.faults.after cache_then marks_then outbox_then settled h.input h.output first stays.output stays.source e → Twins c clock h stays e
+  pub twins : (stays : Stays) (e : Status) → RunsInput c h.source.told h.source.faults.after cache_then marks_then outbox_then settled h.input h.output first stays.output stays.source e → Twins c clock h stays e
   twins stays e (inl (text, is_text, inl (cause, is, stops))) = inl (ends_refused stays e text is_text cause is stops)
   twins stays e (inl (text, is_text, inr (k, is, worked))) = inr (ends_lines stays e text is_text k is worked)
   twins stays e (inr r) = inr (subst (EndsRun c clock h stays) (sym r.1.1) (ends_unread stays r.1.0 r.1.2 r.0))
 
-  pub lasts : (InputStays OutputStays : Type 0) (e : KeptEnd) → RunsInput c h.source.told h.source.faults.after cache_then marks_then outbox_then settled h.input h.output first InputStays OutputStays e → IsTrue h.cache.told → Leaves h.cache.from h.cache.to (Lasts c h.cache.from)
+  pub lasts : (InputStays OutputStays : Type 0) (e : Status) → RunsInput c h.source.told h.source.faults.after cache_then marks_then outbox_then settled h.input h.output first InputStays OutputStays e → IsTrue h.cache.told → Leaves h.cache.from h.cache.to (Lasts c h.cache.from)
   lasts I O e (inl (text, is_text, inl (cause, is, stops))) told = lasts_whole stops.last stops.last stops.before stops.steps stops.works told
   lasts I O e (inl (text, is_text, inr (k, is, (steps, reached, last, lines, works, ends)))) told = lasts_whole reached last lines steps works told
   lasts I O e (inr r) told = lasts_whole first first [] [] r.0.works told

@@ -9,8 +9,8 @@ use Rattle.disk_model.specs.Images.{DiskState, Leaves}
 use Rattle.disk_model.specs.Moments.{leaves_none}
 use Rattle.gate_journal.specs.declared.fault.OpenFault.{OpenFault}
 use Rattle.http_wire.proofs.TakesOn.{rose_before}
-use Rattle.kept_cache.specs.declared.end.KeptEnd.{KeptEnd}
-use Rattle.kept_cache.specs.Opened.{end_of_refusal}
+use Rattle.command_status.specs.declared.status.Status.{Status}
+use Rattle.command_status.specs.Statuses.{status_of_opening}
 use Rattle.tile_requests.specs.Sent.{AppendsFront}
 use Rattle.tile_requests.proofs.Known.{appends_more, appends_nothing}
 use Rattle.tile_service.specs.Lines.{lines_of}
@@ -97,7 +97,7 @@ module _ (c : Catalogue) (source : Option ℕ) (dt mt ot : Bool) (d d1 d2 m m1 m
     failed = rose_before (2 ^ 64 - 1) wa wb we later cut.failed;
   }
 
-  joined_ends : (h : Halt) (kept : KeptEnd) → IsEndOf h kept → wa ≤ wb → (steps : List Step) (reached last : Moment) → Ends c line rest (record { writes = counts wb we; from = b; to = e }) steps reached last h
+  joined_ends : (h : Halt) (kept : Status) → IsEndOf h kept → wa ≤ wb → (steps : List Step) (reached last : Moment) → Ends c line rest (record { writes = counts wb we; from = b; to = e }) steps reached last h
       → Ends c 1 text (record { writes = counts wa we; from = a; to = e }) (f.steps ++ steps) reached last h
   joined_ends halt.Done kept is later steps reached last ends = (
     subst (λ (xs : List (List ℕ)). AreOrdered c xs (f.steps ++ steps)) (sym f.split) (ordered_then c f.before (lines_of rest) f.steps steps f.part.ordered ends.0),
@@ -133,7 +133,7 @@ module _ (c : Catalogue) (source : Option ℕ) (dt mt ot : Bool) (d d1 d2 m m1 m
   joined_ends (halt.Stop which n next) kept is later steps reached last ends = absurd is
 
   -- the last stretch
-  pub text_then : (kept : KeptEnd) → wa ≤ wb → RunsText c source failed (change dt nd1 nd2 d1 d2) (change mt nm1 nm2 m1 m2) (change ot po1 po2 o1 o2) Q (record { writes = counts wb we; from = b; to = e }) line rest t kept
+  pub text_then : (kept : Status) → wa ≤ wb → RunsText c source failed (change dt nd1 nd2 d1 d2) (change mt nm1 nm2 m1 m2) (change ot po1 po2 o1 o2) Q (record { writes = counts wb we; from = b; to = e }) line rest t kept
       → RunsText c source failed (change dt nd nd2 d d2) (change mt nm nm2 m m2) (change ot po po2 o o2) P (record { writes = counts wa we; from = a; to = e }) 1 text s kept
   text_then kept later (inl (cause, is, g)) = inl (
     cause,
