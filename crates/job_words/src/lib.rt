@@ -4,7 +4,7 @@
 //! (`specs/Run.antt`, `specs/Visit.antt`); each end of the word has its cause (`specs/Ends.antt`); at every moment of it a crash leaves a
 //! cache that answers for every truncation that was in force, and at its end for the cut that it counts as done.
 //! Stands on jobs for jobs and their places, on cache_core, whose events of a tile it makes, and on kept_cache, by which it opens the cache,
-//! saves the uses of what is kept and closes it.
+//! saves the uses of what is kept and closes it, and on command_status for how the word ends.
 #![tactic(auto)]
 
 mod cutting;

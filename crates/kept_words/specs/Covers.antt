@@ -1,5 +1,5 @@
 -- The cover that an input has.
-use Rattle.std.specs.Prelude.{ℕ, ◌≡◌, Result, Ok}
+use Rattle.std.specs.Prelude.{◌≡◌, Result, Ok}
 use Rattle.catalog.specs.declared.catalogue.Catalogue.{Catalogue}
 use Rattle.command_status.specs.declared.status.Status.{Status}
 use Rattle.job_forms.specs.declared.fault.JobFault.{JobFault}

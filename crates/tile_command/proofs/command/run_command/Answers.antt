@@ -1,6 +1,6 @@
 use Rattle.std.proofs.Common.{Some, ap, refl, sym, ◌∙◌}
 use Rattle.command_words.specs.declared.words.Word.TheVariants as word
-use Rattle.tile_command.proofs.Commanding.{commands, no_command, upkeep_tells}
+use Rattle.tile_command.proofs.Commanding.{commands, no_command}
 use Rattle.tile_command.proofs.command.run_command.Goals as goal
 
 pub returns-in-Some-InMemory : goal.returns-in-Some-InMemory
@@ -13,7 +13,7 @@ returns-in-Some-Kept g c =
 
 pub returns-in-Some-Upkeep : goal.returns-in-Some-Upkeep
 returns-in-Some-Upkeep g c =
-    commands _ _ _ _ _ _ (word.Upkeep c.in-Some-Upkeep.word) c.kept_up.result (upkeep_tells _ _ _ _ _ _ _ _ _ _ _ _ _ _ _ _ c.kept_up.ensures.tells, refl, refl) c.kept_up.ensures.lasts _
+    commands _ _ _ _ _ _ (word.Upkeep c.in-Some-Upkeep.word) c.kept_up.result (c.kept_up.ensures.tells, refl, refl) c.kept_up.ensures.lasts _
     (sym c.word_of.ensures ∙ c.in-Some-Upkeep.is ∙ ap (λ w. Some w) c.in-Some-Upkeep.field-0-is)
 
 pub returns-in-Some-Job : goal.returns-in-Some-Job
