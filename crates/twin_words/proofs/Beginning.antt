@@ -1,8 +1,8 @@
 -- A twin that was opened, worked and was closed, from what its files held.
-use Rattle.std.specs.Prelude.{IsTrue, ⊤, ◌&&◌, true, false}
-use Rattle.std.proofs.Common.{◌≡◌, ◌⊎◌, ◌<◌, ◌≤◌, ◌+◌, ◌-◌, ◌^◌, ℕ, Bool, List, [], ◌∷◌, Option, Some, None, refl, sym, subst, ap, ◌∙◌, arith, inl, inr}
+use Rattle.std.specs.Prelude.{IsTrue, ◌&&◌, true, false}
+use Rattle.std.proofs.Common.{◌≡◌, ◌⊎◌, ◌≤◌, ◌+◌, ◌-◌, ◌^◌, ℕ, Bool, List, [], ◌∷◌, Option, refl, sym, subst, ap, ◌∙◌, arith, inl, inr}
 use Rattle.cabinet.specs.State.{IsKnown, IsSound, State, now}
-use Rattle.cabinet_records.specs.Replay.{Replayed, book_after, opening_number}
+use Rattle.cabinet_records.specs.Replay.{book_after, opening_number}
 use Rattle.catalog.specs.declared.catalogue.Catalogue.{Catalogue}
 use Rattle.catalog.specs.Valid.{IsValid}
 use Rattle.causes.specs.Causes.{Rose}
@@ -10,37 +10,33 @@ use Rattle.change_feed.specs.declared.mark.Mark.{Mark}
 use Rattle.change_feed.specs.Files.{EndsIn, MayEndIn, Stand}
 use Rattle.change_feed.specs.Runs.{IsEither}
 use Rattle.clock.specs.Readings.{Readings}
-use Rattle.cut_follower.specs.InStep.{IsInStep}
 use Rattle.cut_follower.specs.Lossy.{Event, Lossy, cabinet_opened, marks_opened, outbox_opened}
 use Rattle.disk_model.specs.Content.{Content, Same}
-use Rattle.disk_model.specs.Images.{After, ChangesBy, DiskState, IsLawful, Leaves}
+use Rattle.disk_model.specs.Images.{After, DiskState, IsLawful, Leaves}
 use Rattle.disk_model.specs.Moments.{leaves_as, leaves_then}
 use Rattle.durable_cabinet.proofs.Pictured.{opened_sound}
-use Rattle.durable_cabinet.specs.Images.{IsOurs, IsSoundImage}
+use Rattle.durable_cabinet.specs.Images.{IsOurs}
 use Rattle.durable_cabinet.specs.Outlasting.{AnswersAs}
 use Rattle.http_wire.proofs.TakesOn.{rose_before}
 use Rattle.http_wire.specs.declared.inputs.InputEnd.TheVariants as input_end
 use Rattle.http_wire.specs.declared.inputs.InputEnd.{InputEnd}
 use Rattle.kept_cache.proofs.Lasting.{opening_lasts, work_lasts}
 use Rattle.command_status.specs.declared.status.Status.{Status}
-use Rattle.command_status.specs.declared.status.Status.TheVariants as status
-use Rattle.kept_cache.specs.Change.{DiskChange, OutputChange}
+use Rattle.kept_cache.specs.Change.{DiskChange}
 use Rattle.gate_journal.specs.declared.fault.OpenFault.{OpenFault}
 use Rattle.kept_cache.specs.Crash.{Lasts}
 use Rattle.command_status.specs.Statuses.{status_of_input, status_of_opening}
 use Rattle.outbox.specs.Files.{MayOpenTo, OpensToPosts}
 use Rattle.outbox.specs.Posts.{MayBeFound, Outgoing}
-use Rattle.tile_service.specs.Outside.{InputChange, counts}
+use Rattle.tile_service.specs.Outside.{counts}
 use Rattle.truncation_list.specs.declared.cover.Cover.{Cover}
-use Rattle.truncation_list.proofs.Answering.{answers_through}
-use Rattle.twin_events.specs.Twins.{IsAt, Standing, standing}
+use Rattle.twin_events.specs.Twins.{IsAt, Standing}
 use Rattle.twin_lines.specs.declared.lines.Halt.{Halt}
 use Rattle.twin_lines.specs.declared.lines.Halt.TheVariants as halt
 use Rattle.twin_lines.specs.declared.order.Side.{Side}
 use Rattle.twin_lines.specs.declared.order.Side.TheVariants as side
-use Rattle.twin_lines.specs.Steps.{AreTrue, Follow, IsLater, MayEndAlong, MayOpenAlong, Moment, Step}
+use Rattle.twin_lines.specs.Steps.{Follow, MayEndAlong, MayOpenAlong, Moment, Step}
 use Rattle.twin_words.proofs.Composing.{goes_on_later}
-use Rattle.twin_words.proofs.Going.{later_then}
 use Rattle.twin_words.proofs.Kept.{AllInStep, TilesAbove, in_step_alone, opens_all, steps_kept}
 use Rattle.twin_words.specs.Ends.{EndsRefused, EndsRun, HasTwinned, IsText, RefusesAgain, Stays, TwinChange, Twins, all_told}
 use Rattle.twin_words.specs.Opens.{IsLeftFor, IsPairOn, LeavesTwin, OpensTwin}

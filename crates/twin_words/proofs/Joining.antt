@@ -1,6 +1,6 @@
 -- Stretches behind stretches.
-use Rattle.std.specs.Prelude.{IsTrue, ⊤}
-use Rattle.std.proofs.Common.{◌≡◌, ◌⊎◌, ℕ, ◌+◌, ◌-◌, ◌^◌, ◌<◌, ◌≤◌, Bool, List, [], ◌∷◌, ◌++◌, length, Option, Some, None, refl, sym, subst, ap, ◌∙◌, arith, append_assoc, inl, inr}
+use Rattle.std.specs.Prelude.{⊤}
+use Rattle.std.proofs.Common.{◌≡◌, ℕ, ◌+◌, ◌-◌, ◌^◌, ◌<◌, ◌≤◌, Bool, List, [], ◌∷◌, ◌++◌, length, Option, refl, sym, subst, ap, ◌∙◌, arith, append_assoc, inl, inr}
 use Rattle.std.proofs.lemmas.List.{length-append}
 use Rattle.std.specs.Io.KnownBytes.{Appends}
 use Rattle.catalog.specs.declared.catalogue.Catalogue.{Catalogue}
@@ -10,26 +10,25 @@ use Rattle.disk_model.specs.Moments.{leaves_none}
 use Rattle.gate_journal.specs.declared.fault.OpenFault.{OpenFault}
 use Rattle.http_wire.proofs.TakesOn.{rose_before}
 use Rattle.command_status.specs.declared.status.Status.{Status}
-use Rattle.command_status.specs.Statuses.{status_of_opening}
 use Rattle.tile_requests.specs.Sent.{AppendsFront}
-use Rattle.tile_requests.proofs.Known.{appends_more, appends_nothing}
+use Rattle.tile_requests.proofs.Known.{appends_nothing}
 use Rattle.tile_service.specs.Lines.{lines_of}
 use Rattle.tile_service.specs.Outside.{counts}
 use Rattle.twin_lines.specs.declared.lines.Halt.{Halt}
 use Rattle.twin_lines.specs.declared.lines.Halt.TheVariants as halt
 use Rattle.twin_lines.specs.declared.order.Side.{Side}
 use Rattle.twin_lines.specs.declared.order.Side.TheVariants as side
-use Rattle.twin_lines.specs.Ends.{AreOrdered, Ends, IsAmong, IsCutInLast, passage}
+use Rattle.twin_lines.specs.Ends.{AreOrdered, Ends, IsAmong, IsCutInLast}
 use Rattle.twin_lines.specs.Steps.{Moment, Step}
 use Rattle.twin_lines.specs.Texts.{answer_text, answers_from}
-use Rattle.twin_words.proofs.Going.{answers_then, no_part, ordered_length, ordered_then, part_then, text_in_weight, weight_counts, weight_of_text, weight_then, written_then}
+use Rattle.twin_words.proofs.Going.{no_part, ordered_length, ordered_then, part_then, weight_counts, weight_of_text, weight_then, written_then}
 use Rattle.twin_words.proofs.Stretching.{change, left_as}
 use Rattle.causes.specs.Causes.{Rose}
 use Rattle.http_wire.specs.declared.inputs.InputEnd.{InputEnd}
 use Rattle.http_wire.specs.declared.inputs.InputEnd.TheVariants as input_end
 use Rattle.tile_service.specs.Outside.{InputChange}
 use Rattle.twin_words.specs.Ends.{IsTooLong, RefusesAgain}
-use Rattle.twin_words.specs.Works.{IsEndOf, IsUnread, RunsOn, RunsText, StopsAt, Works, WorksTo, weight}
+use Rattle.twin_words.specs.Works.{IsEndOf, IsUnread, RunsOn, RunsText, Works, weight}
 
 -- nothing was run yet
 pub nothing_on : (c : Catalogue) (source : Option ℕ) (dt mt ot : Bool) (d m o : DiskState) (nd nm po : ℕ) (P : Type 0) (a : Option (List ℕ)) (wa : ℕ) (text : List ℕ) (s : Moment)

@@ -1,8 +1,8 @@
 -- A stretch of lines, and the stop behind it.
-use Rattle.std.specs.Prelude.{IsTrue, ⊤, ◌&&◌, min}
-use Rattle.std.proofs.Common.{◌≡◌, ◌⊎◌, ℕ, ◌+◌, ◌-◌, ◌^◌, ◌<◌, ◌≤◌, Bool, List, [], ◌∷◌, ◌++◌, length, map, Option, Some, None, refl, sym, subst, ap, ◌∙◌, arith, append_assoc, append-nil, inl, inr}
+use Rattle.std.specs.Prelude.{IsTrue, ⊤, ◌&&◌}
+use Rattle.std.proofs.Common.{◌≡◌, ◌⊎◌, ℕ, ◌+◌, ◌≤◌, Bool, List, [], ◌∷◌, ◌++◌, length, Option, Some, refl, sym, subst, ap, ◌∙◌, arith, append_assoc, append-nil, inl, inr}
 use Rattle.std.specs.Io.KnownBytes.{Appends}
-use Rattle.cabinet.specs.State.{IsSound, State, now}
+use Rattle.cabinet.specs.State.{IsSound, now}
 use Rattle.cache_core.specs.Lasting.{Lasting}
 use Rattle.catalog.specs.declared.catalogue.Catalogue.{Catalogue}
 use Rattle.causes.specs.Causes.{Rose}
@@ -15,10 +15,9 @@ use Rattle.durable_cabinet.specs.Outlasting.{AnswersAs, Outlasts}
 use Rattle.gate_journal.specs.declared.journal.Journal.{Journal}
 use Rattle.gate_journal.specs.Sound.{IsSettled}
 use Rattle.kept_cache.specs.Change.{DiskChange, OutputChange}
-use Rattle.truncation_list.specs.Books.{AnswersForBook}
 use Rattle.twin_lines.specs.declared.lines.Halt.{Halt}
 use Rattle.twin_lines.specs.Ends.{AreOrdered, DiskPassage, Ends, HasRunLines, IsAmong, passage}
-use Rattle.twin_lines.specs.Steps.{AreTrue, IsLater, MayEndAlong, MayOpenAlong, Moment, Step, faults, moment, stopped}
+use Rattle.twin_lines.specs.Steps.{AreTrue, IsLater, Moment, Step, faults, moment, stopped}
 use Rattle.twin_events.specs.Twins.{IsAt, LeadsBy}
 use Rattle.cut_follower.specs.Lossy.{Event}
 use Rattle.change_feed.specs.Files as marks_files

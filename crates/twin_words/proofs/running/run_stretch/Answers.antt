@@ -1,10 +1,8 @@
 use Rattle.http_wire.proofs.TakesOn.{rose_before}
-use Rattle.std.proofs.Common.{◌∷◌, ◌-◌, ◌^◌, ap, arith, refl, sym, ◌∙◌}
+use Rattle.std.proofs.Common.{◌∷◌, ◌-◌, ◌^◌, ap, arith, refl, ◌∙◌}
 use Rattle.tile_service.specs.Lines.{lines_of}
-use Rattle.std.specs.Prelude.{Some}
-use Rattle.gate_journal.specs.Sound.{IsSettled, digest_of}
+use Rattle.gate_journal.specs.Sound.{IsSettled}
 use Rattle.command_status.specs.declared.status.Status.TheVariants as status
-use Rattle.tile_service.specs.Outside.{counts}
 use Rattle.twin_events.specs.Twins.{standing}
 use Rattle.twin_lines.specs.declared.lines.Halt.TheVariants as halt
 use Rattle.twin_lines.specs.Steps.{Moment, faults, moment}
