@@ -6,7 +6,7 @@ use Rattle.catalog.specs.declared.catalogue.Catalogue.{Catalogue}
 use Rattle.command_setup.specs.Setup.{IsRead}
 use Rattle.config_text.specs.Text.{catalogue_of}
 use Rattle.command_setup.specs.Held.{MayBe}
-use Rattle.tile_service.specs.Outside.{InputChange}
+use Rattle.sessions.specs.Outside.{InputChange}
 
 of_text : (c : Catalogue) (from to : Option (List ℕ)) (text : List ℕ) → Consumes from to text → IsAtEnd to → catalogue_of text ≡ Ok c → MayBe from c
 of_text c None to text read ended comes = tt

@@ -9,7 +9,7 @@ use Rattle.clock.specs.Readings.{Readings}
 use Rattle.config_text.specs.Text.{catalogue_of}
 use Rattle.http_wire.specs.declared.inputs.InputEnd.{InputEnd}
 use Rattle.http_wire.specs.declared.inputs.InputEnd.TheVariants as input_end
-use Rattle.tile_service.specs.Outside.{InputChange}
+use Rattle.sessions.specs.Outside.{InputChange}
 use Rattle.command_setup.specs.declared.configured.Unconfigured.{Unconfigured}
 use Rattle.command_setup.specs.declared.configured.Unconfigured.TheVariants as unconfigured
 use Rattle.command_setup.specs.declared.configured.TheConstants.{CATALOGUE_LIMIT}

@@ -2,7 +2,7 @@
 ghost use Rattle.std.specs.Prelude.{◌≡◌, IfOk};
 ghost use Rattle.catalog.specs.Valid.{IsValid};
 ghost use Rattle.config_text.specs.Text.{catalogue_of};
-ghost use Rattle.tile_service.specs.Outside.{InputChange};
+ghost use Rattle.sessions.specs.Outside.{InputChange};
 ghost use Rattle.command_setup.specs.Setup.{Configures, Comes, source_of};
 
 use catalog::catalogue::Catalogue;

@@ -1,6 +1,6 @@
 //! The capabilities document that a command serves, read as it is.
 ghost use Rattle.std.specs.Prelude.{◌≡◌};
-ghost use Rattle.tile_service.specs.Outside.{InputChange};
+ghost use Rattle.sessions.specs.Outside.{InputChange};
 ghost use Rattle.command_setup.specs.Setup.{Describes};
 
 use exact_ratio::words::Words;

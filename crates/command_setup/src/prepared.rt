@@ -2,7 +2,7 @@
 ghost use Rattle.std.specs.Prelude.{◌≡◌, IfErr, IfOk};
 ghost use Rattle.cabinet.specs.State.{fresh_state};
 ghost use Rattle.catalog.specs.Valid.{IsValid};
-ghost use Rattle.tile_service.specs.Outside.{InputChange};
+ghost use Rattle.sessions.specs.Outside.{InputChange};
 ghost use Rattle.tile_service.specs.Session.{IsAtRest};
 ghost use Rattle.command_setup.specs.Setup.{AreRead, IsPrepared, IsRefused, refusal_of};
 

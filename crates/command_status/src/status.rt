@@ -5,7 +5,7 @@ use catalog::fault::{CatalogueFault, Field};
 use gate_journal::fault::OpenFault;
 use job_forms::fault::{JobFault, JobField};
 use std::fmt;
-use tile_service::session::SessionEnd;
+use sessions::session::SessionEnd;
 
 /// How a command ended. Each means the same for all words (`specs/Statuses.antt`).
 #[derive(Clone, Copy, PartialEq, Eq)]

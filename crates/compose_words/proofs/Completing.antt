@@ -15,7 +15,7 @@ use Rattle.layer_recipes.specs.declared.fault.RecipeFault.TheVariants as fault
 use Rattle.layer_recipes.specs.declared.recipe.Part.{Part}
 use Rattle.layer_recipes.specs.Recipes.{recipe_of}
 use Rattle.tile_service.specs.Lines.{lines_of}
-use Rattle.tile_service.specs.Outside.{InputChange}
+use Rattle.sessions.specs.Outside.{InputChange}
 use Rattle.compose_words.specs.declared.end.ComposeEnd.{ComposeEnd}
 use Rattle.compose_words.specs.declared.end.ComposeEnd.TheVariants as end
 use Rattle.compose_words.specs.declared.lines.LinesEnd.TheVariants as lines_end

@@ -11,7 +11,7 @@ use Rattle.layer_recipes.specs.declared.recipe.Part.{Part}
 use Rattle.tile_requests.specs.Sent.{AppendsFront}
 use Rattle.tile_requests.proofs.Known.{appends_more, appends_nothing}
 use Rattle.tile_service.specs.Lines.{lines_of}
-use Rattle.tile_service.specs.Outside.{counts}
+use Rattle.sessions.specs.Outside.{counts}
 use Rattle.tile_service.specs.Session.{IsAtRest}
 use Rattle.compose_words.specs.declared.line.LineEnd.TheVariants as line_end
 use Rattle.compose_words.specs.declared.lines.LinesEnd.TheVariants as lines_end

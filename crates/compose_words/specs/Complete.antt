@@ -9,7 +9,7 @@ use Rattle.layer_recipes.specs.declared.recipe.Part.{Part}
 use Rattle.layer_recipes.specs.Recipes.{recipe_of}
 use Rattle.schedule_text.specs.declared.line.TheConstants.{LINE_LIMIT}
 use Rattle.tile_service.specs.Lines.{lines_of}
-use Rattle.tile_service.specs.Outside.{InputChange}
+use Rattle.sessions.specs.Outside.{InputChange}
 use Rattle.compose_words.specs.declared.end.ComposeEnd.{ComposeEnd}
 use Rattle.compose_words.specs.declared.end.ComposeEnd.TheVariants as end
 use Rattle.compose_words.specs.Ends.{ComposeChange, recipe_line, rest_of}

@@ -3,7 +3,7 @@ use Rattle.std.specs.Prelude.{ℕ, Bool, true, false, List, Option}
 use Rattle.std.specs.Io.KnownBytes.{Appends}
 use Rattle.causes.specs.Causes.{Rose}
 use Rattle.tile_requests.specs.Sent.{AppendsFront}
-use Rattle.tile_service.specs.Outside.{FaultCounts}
+use Rattle.sessions.specs.Outside.{FaultCounts}
 
 -- what was seen of an output: its faults, and the bytes that it has taken, where they are modelled
 pub record OutputChange : Type 0 where

@@ -4,7 +4,7 @@ ghost use Rattle.cabinet.specs.State.{fresh_state};
 ghost use Rattle.catalog.specs.Valid.{IsValid};
 ghost use Rattle.layer_recipes.specs.OfCatalogue.{IsRecipeOf};
 ghost use Rattle.tile_service.specs.Lines.{lines_of};
-ghost use Rattle.tile_service.specs.Outside.{InputChange, counts};
+ghost use Rattle.sessions.specs.Outside.{InputChange, counts};
 ghost use Rattle.compose_words.specs.Composing.{IsRecipe, IsUnread, LinesTell};
 ghost use Rattle.compose_words.specs.Ends.{InputEnds, Outer, TextEnds, first_of, rest_of};
 

@@ -8,7 +8,7 @@ ghost use Rattle.composite_layers.specs.Parts.{Moment, moment};
 ghost use Rattle.layer_recipes.specs.declared.recipe.Part.{Part};
 ghost use Rattle.layer_recipes.specs.OfCatalogue.{IsPlaceIn, IsRecipeOf};
 ghost use Rattle.served_covers.specs.OfCatalogue.{IsCoverOf};
-ghost use Rattle.tile_service.specs.Outside.{counts};
+ghost use Rattle.sessions.specs.Outside.{counts};
 ghost use Rattle.tile_service.specs.Session.{IsAtRest};
 ghost use Rattle.compose_words.specs.OneLine.{GoesOn, IsToldAs, RunsLine, RunsOrder};
 ghost use Rattle.compose_words.specs.Orders.{IsOrderOf};

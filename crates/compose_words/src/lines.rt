@@ -4,7 +4,7 @@ ghost use Rattle.cabinet.specs.State.{IsSound};
 ghost use Rattle.catalog.specs.Valid.{IsValid};
 ghost use Rattle.layer_recipes.specs.OfCatalogue.{IsRecipeOf};
 ghost use Rattle.tile_service.specs.Lines.{lines_of};
-ghost use Rattle.tile_service.specs.Outside.{counts};
+ghost use Rattle.sessions.specs.Outside.{counts};
 ghost use Rattle.tile_service.specs.Session.{IsAtRest};
 ghost use Rattle.compose_words.specs.Ends.{HasRunLines, Outer};
 

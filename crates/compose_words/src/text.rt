@@ -1,7 +1,7 @@
 //! The texts of answers, sent.
 ghost use Rattle.std.specs.Prelude.{◌≡◌, ◌+◌, ◌*◌, ◌≤◌, ◌++◌, codes, decimal, flat_map, length};
 ghost use Rattle.arrayvec.specs.ArrayVec.{array_vec_len};
-ghost use Rattle.tile_service.specs.Outside.{counts};
+ghost use Rattle.sessions.specs.Outside.{counts};
 ghost use Rattle.compose_words.specs.Texts.{HasFewParts, answer_text, joined, one_number, tile_head, tile_text, two_numbers};
 ghost use Rattle.compose_words.specs.Written.{IsSent, OutputChange};
 

@@ -1,6 +1,6 @@
 //! The word of a composition, done.
 ghost use Rattle.std.specs.Prelude.{◌≡◌, ◌↔◌, false, true};
-ghost use Rattle.tile_service.specs.Outside.{InputChange, counts};
+ghost use Rattle.sessions.specs.Outside.{InputChange, counts};
 ghost use Rattle.compose_words.specs.Complete.{IsComplete};
 ghost use Rattle.compose_words.specs.Ends.{ComposeChange, ComposeTells, Outer, Stays};
 ghost use Rattle.compose_words.specs.Words.{is_compose};

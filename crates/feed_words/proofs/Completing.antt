@@ -22,7 +22,7 @@ use Rattle.gate_journal.specs.Opened.{Opening, differs, no_cache, records}
 use Rattle.kept_cache.proofs.Refusing.{not_opened}
 use Rattle.kept_cache.specs.Change.{DiskChange}
 use Rattle.tile_service.specs.Lines.{lines_of}
-use Rattle.tile_service.specs.Outside.{InputChange}
+use Rattle.sessions.specs.Outside.{InputChange}
 use Rattle.feed_words.specs.declared.lines.LinesEnd.TheVariants as lines_end
 use Rattle.feed_words.specs.declared.words.FeedWord.{FeedWord}
 use Rattle.feed_words.specs.declared.words.FeedWord.TheVariants as feed

@@ -9,12 +9,12 @@ use Rattle.command_status.specs.declared.status.Status.TheVariants as status
 use Rattle.durable_cabinet.specs.Filed.{IsRefusedAs}
 use Rattle.gate_journal.specs.declared.fault.OpenFault.{OpenFault}
 use Rattle.gate_journal.specs.declared.fault.OpenFault.TheVariants as fault
-use Rattle.kept_cache.specs.Change.{DiskChange, OutputChange}
+use Rattle.kept_cache.specs.Change.{DiskChange}
+use Rattle.sessions.specs.Outside.{InputChange, OutputChange, counts}
 use Rattle.command_status.specs.declared.status.Status.{Status}
 use Rattle.command_setup.specs.Refusals.{status_of_refusal}
 use Rattle.command_status.specs.Statuses.{status_of_opening}
 use Rattle.kept_cache.specs.Opened.{HasOpened, RefusalLeaves}
-use Rattle.tile_service.specs.Outside.{InputChange, counts}
 use Rattle.feed_words.specs.declared.lines.LinesEnd.{LinesEnd}
 use Rattle.feed_words.specs.declared.lines.LinesEnd.TheVariants as lines_end
 use Rattle.feed_words.specs.declared.words.FeedWord.{FeedWord}

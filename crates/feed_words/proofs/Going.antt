@@ -15,11 +15,10 @@ use Rattle.disk_model.specs.Content.{Content}
 use Rattle.disk_model.specs.Images.{DiskState, Leaves}
 use Rattle.disk_model.specs.Moments.{leaves_as, leaves_none, leaves_then}
 use Rattle.http_wire.proofs.TakesOn.{rose_before}
-use Rattle.kept_cache.specs.Change.{OutputChange}
+use Rattle.sessions.specs.Outside.{OutputChange, counts}
 use Rattle.served_covers.specs.OfCatalogue.{IsCoverOf}
 use Rattle.tile_requests.proofs.Known.{appends_more, appends_nothing}
 use Rattle.tile_service.specs.Lines.{lines_of}
-use Rattle.tile_service.specs.Outside.{counts}
 use Rattle.feed_words.specs.declared.line.LineEnd.TheVariants as line_end
 use Rattle.feed_words.specs.declared.lines.LinesEnd.TheVariants as lines_end
 use Rattle.feed_words.specs.Fed.{HasRunLines}

@@ -11,12 +11,12 @@ use Rattle.disk_model.specs.Images.{After, ChangesBy, DiskState, Every, Leaves}
 use Rattle.disk_model.specs.Moments.{leaves_as, leaves_then}
 use Rattle.gate_journal.specs.declared.fault.OpenFault.{OpenFault}
 use Rattle.gate_journal.specs.declared.fault.OpenFault.TheVariants as fault
-use Rattle.kept_cache.specs.Change.{DiskChange, OutputChange}
+use Rattle.kept_cache.specs.Change.{DiskChange}
+use Rattle.sessions.specs.Outside.{FaultCounts, InputChange, OutputChange}
 use Rattle.command_status.specs.declared.status.Status.{Status}
 use Rattle.command_status.specs.declared.status.Status.TheVariants as status
 use Rattle.command_status.specs.Statuses.{status_of_opening}
 use Rattle.tile_service.specs.Lines.{lines_of}
-use Rattle.tile_service.specs.Outside.{FaultCounts, InputChange}
 use Rattle.feed_words.proofs.Going.{decided_in}
 use Rattle.feed_words.specs.declared.lines.LinesEnd.{LinesEnd}
 use Rattle.feed_words.specs.declared.lines.LinesEnd.TheVariants as lines_end

@@ -14,7 +14,7 @@ use Rattle.config_text.specs.Text.{catalogue_of}
 use Rattle.kept_cache.specs.Change.{DiskChange, HasFailed}
 use Rattle.kept_cache.specs.Opened.{IsOpened}
 use Rattle.tile_service.specs.Lines.{lines_of}
-use Rattle.tile_service.specs.Outside.{InputChange}
+use Rattle.sessions.specs.Outside.{InputChange}
 use Rattle.feed_words.specs.declared.words.FeedWord.{FeedWord}
 use Rattle.feed_words.specs.declared.words.FeedWord.TheVariants as feed
 use Rattle.feed_words.specs.Ends.{FeedChange}

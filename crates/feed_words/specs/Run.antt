@@ -8,7 +8,8 @@ use Rattle.change_feed.specs.Applies.{Applies, Pair, decided}
 use Rattle.change_feed.specs.Files.{MayEndIn, Stand}
 use Rattle.change_feed.specs.Runs.{Event, Stores, called}
 use Rattle.disk_model.specs.Content.{Content}
-use Rattle.kept_cache.specs.Change.{HasWritten, OutputChange}
+use Rattle.kept_cache.specs.Change.{HasWritten}
+use Rattle.sessions.specs.Outside.{OutputChange}
 use Rattle.served_covers.specs.OfCatalogue.{IsCoverOf}
 use Rattle.tile_requests.specs.Sent.{AppendsPart}
 use Rattle.feed_words.specs.declared.lines.LinesEnd.{LinesEnd}

@@ -3,9 +3,9 @@ ghost use Rattle.std.specs.Prelude.{◌≡◌, IsTrue};
 ghost use Rattle.catalog.specs.Valid.{IsValid};
 ghost use Rattle.change_feed.specs.Files.{IsMarksFile};
 ghost use Rattle.durable_cabinet.specs.Images.{IsOurs};
-ghost use Rattle.kept_cache.specs.Change.{DiskChange, OutputChange};
+ghost use Rattle.kept_cache.specs.Change.{DiskChange};
+ghost use Rattle.sessions.specs.Outside.{InputChange, OutputChange, counts};
 ghost use Rattle.kept_cache.specs.Crash.{LastsThrough};
-ghost use Rattle.tile_service.specs.Outside.{InputChange, counts};
 ghost use Rattle.feed_words.specs.Ends.{Feeds};
 
 use crate::feeding::feed_on;

@@ -4,8 +4,8 @@ ghost use Rattle.cache_core.specs.Lasting.{Lasting};
 ghost use Rattle.catalog.specs.Valid.{IsValid};
 ghost use Rattle.change_feed.specs.Files.{IsMarksFile};
 ghost use Rattle.gate_journal.specs.Sound.{digest_of};
-ghost use Rattle.kept_cache.specs.Change.{DiskChange, OutputChange};
-ghost use Rattle.tile_service.specs.Outside.{InputChange, counts};
+ghost use Rattle.kept_cache.specs.Change.{DiskChange};
+ghost use Rattle.sessions.specs.Outside.{InputChange, OutputChange, counts};
 ghost use Rattle.feed_words.specs.Ends.{FeedsOn};
 ghost use Rattle.feed_words.specs.Fed.{RunsInput, end_of_lines};
 

@@ -2,9 +2,8 @@
 ghost use Rattle.std.specs.Prelude.{◌≡◌, ◌≤◌};
 ghost use Rattle.catalog.specs.Valid.{IsValid};
 ghost use Rattle.gate_journal.specs.Sound.{digest_of};
-ghost use Rattle.kept_cache.specs.Change.{OutputChange};
+ghost use Rattle.sessions.specs.Outside.{OutputChange, counts};
 ghost use Rattle.served_covers.specs.OfCatalogue.{IsCoverOf};
-ghost use Rattle.tile_service.specs.Outside.{counts};
 ghost use Rattle.feed_words.specs.OneLine.{GoesTo, IsToldAs, MakesChange, RunsLine};
 
 use crate::orders::{Unread, read_change};

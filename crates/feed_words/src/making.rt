@@ -1,7 +1,7 @@
 //! The word that makes an empty file of marks.
 ghost use Rattle.std.specs.Prelude.{◌≡◌};
-ghost use Rattle.kept_cache.specs.Change.{DiskChange, OutputChange};
-ghost use Rattle.tile_service.specs.Outside.{counts};
+ghost use Rattle.kept_cache.specs.Change.{DiskChange};
+ghost use Rattle.sessions.specs.Outside.{OutputChange, counts};
 ghost use Rattle.feed_words.specs.Ends.{MakesMarks};
 
 use arrayvec::ArrayVec;

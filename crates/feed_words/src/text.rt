@@ -1,8 +1,7 @@
 //! The texts of answers, sent.
 ghost use Rattle.std.specs.Prelude.{◌≡◌, ◌≤◌, ◌++◌, decimal, length};
 ghost use Rattle.arrayvec.specs.ArrayVec.{array_vec_len};
-ghost use Rattle.kept_cache.specs.Change.{OutputChange};
-ghost use Rattle.tile_service.specs.Outside.{counts};
+ghost use Rattle.sessions.specs.Outside.{OutputChange, counts};
 ghost use Rattle.feed_words.specs.OneLine.{IsSent};
 ghost use Rattle.feed_words.specs.Texts.{answer_text, no_number, one_number, two_numbers};
 

@@ -1,8 +1,8 @@
 //! The words of a feed, done.
 ghost use Rattle.std.specs.Prelude.{◌≡◌, ◌↔◌, None, Some, IsTrue};
 ghost use Rattle.catalog.specs.Valid.{IsValid};
-ghost use Rattle.kept_cache.specs.Change.{DiskChange, OutputChange};
-ghost use Rattle.tile_service.specs.Outside.{InputChange, counts};
+ghost use Rattle.kept_cache.specs.Change.{DiskChange};
+ghost use Rattle.sessions.specs.Outside.{InputChange, OutputChange, counts};
 ghost use Rattle.feed_words.specs.Complete.{IsComplete};
 ghost use Rattle.feed_words.specs.Ends.{CacheLasts, FeedChange, FeedTells, IsFitFor, IsFitUnder, Stays, WordEnds, WordLasts};
 ghost use Rattle.feed_words.specs.Words.{feed_word};

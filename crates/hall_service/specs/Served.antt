@@ -10,7 +10,7 @@ use Rattle.hall_service.specs.Upkept.{HasKeptUp}
 use Rattle.hall_service.specs.declared.ends.ServiceEnd.{ServiceEnd}
 use Rattle.hall_service.specs.declared.ends.ServiceEnd.TheVariants as end
 use Rattle.job_runner.specs.Idles as idles
-use Rattle.tile_service.specs.Outside.{FaultCounts}
+use Rattle.sessions.specs.Outside.{FaultCounts}
 use Rattle.turnstile.specs.Line.{AreInLine}
 
 -- how many links a listener is asked for, those that it had given before and after, and how often its accepts had failed

@@ -7,8 +7,8 @@ use Rattle.cache_hall.specs.Turned.{HallPass}
 use Rattle.hall_sessions.specs.Sessions.{HasHallSession, output_of}
 use Rattle.job_board.specs.Calls.{BoardHolding, IsFirstBoardPass}
 use Rattle.link_queue.specs.Weights.{WeighAlike}
-use Rattle.tile_service.specs.Outside.{FaultCounts, counts}
-use Rattle.tile_service.specs.declared.session.SessionEnd.{SessionEnd}
+use Rattle.sessions.specs.Outside.{FaultCounts, counts}
+use Rattle.sessions.specs.declared.session.SessionEnd.{SessionEnd}
 
 -- how contracts read a link: the bytes that are left to take of it and those that it has taken, where these are modelled, and how often a
 -- take and a put have failed

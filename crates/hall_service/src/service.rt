@@ -7,7 +7,7 @@ ghost use Rattle.hall_service.specs.Crew.{AreSupplies};
 ghost use Rattle.hall_service.specs.Served.{HasEndedOver};
 ghost use Rattle.hall_service.specs.Staged.{HasServedBy, IsSupplied};
 ghost use Rattle.hall_service.specs.Stints.{serving};
-ghost use Rattle.tile_service.specs.Outside.{counts};
+ghost use Rattle.sessions.specs.Outside.{counts};
 
 use crate::crew::{Staff, Supplies, crew_of};
 use crate::ending::close;

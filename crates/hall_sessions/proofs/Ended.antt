@@ -9,10 +9,10 @@ use Rattle.http_wire.specs.Streams.{Stand, StandIn}
 use Rattle.http_wire.specs.declared.message.Message.{Message}
 use Rattle.tile_requests.specs.Sent.{AppendsFront}
 use Rattle.tile_requests.proofs.Known.{appends_more, appends_nothing}
-use Rattle.tile_service.specs.declared.session.SessionEnd.{SessionEnd}
-use Rattle.tile_service.specs.declared.session.SessionEnd.TheVariants.{Closed, Truncated, Bad, ReadFault, WriteFault, TooMany, OutOfMemory}
+use Rattle.sessions.specs.declared.session.SessionEnd.{SessionEnd}
+use Rattle.sessions.specs.declared.session.SessionEnd.TheVariants.{Closed, Truncated, Bad, ReadFault, WriteFault, TooMany, OutOfMemory}
 use Rattle.tile_service.specs.Coming.{EndsUnmet, Wire}
-use Rattle.tile_service.specs.Outside.{InputChange, Outside, counts}
+use Rattle.sessions.specs.Outside.{InputChange, Outside, counts}
 use Rattle.tile_service.specs.Run.{Answer}
 use Rattle.tile_service.specs.Session.{reply_text, replies, bad_text}
 use Rattle.tile_service.specs.SessionEnds.{AreOpen, Ends, GoBefore, GoOn}

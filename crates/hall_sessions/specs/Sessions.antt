@@ -7,8 +7,8 @@ use Rattle.http_wire.specs.Streams.{StandIn}
 use Rattle.job_board.specs.Calls.{BoardHolding}
 use Rattle.turnstile.specs.Passes.{seen_by}
 use Rattle.cache_hall.specs.Turned.{HallPass}
-use Rattle.tile_service.specs.declared.session.SessionEnd.{SessionEnd}
-use Rattle.tile_service.specs.Outside.{FaultCounts, InputChange, Outside, counts}
+use Rattle.sessions.specs.declared.session.SessionEnd.{SessionEnd}
+use Rattle.sessions.specs.Outside.{FaultCounts, InputChange, Outside, counts}
 use Rattle.tile_service.specs.SessionEnds.{Ends}
 use Rattle.hall_sessions.specs.Caused.{HasAnswer}
 use Rattle.hall_sessions.specs.Exchanges.{AreExchanges, Exchange, answers_of, messages_of, turns_of}

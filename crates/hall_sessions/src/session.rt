@@ -4,7 +4,7 @@ ghost use Rattle.cache_hall.specs.Turned.{IsPassOf};
 ghost use Rattle.catalog.specs.Valid.{IsValid};
 ghost use Rattle.hall_sessions.specs.Sessions.{HasHallSession, output_of};
 ghost use Rattle.job_board.specs.Calls.{IsBoardPass};
-ghost use Rattle.tile_service.specs.Outside.{counts};
+ghost use Rattle.sessions.specs.Outside.{counts};
 
 use crate::responding::respond;
 use crate::world::World;

@@ -22,7 +22,7 @@ use source_render::scripted::Scripted;
 use std::alloc::{AllocError, Global};
 use std::sync::Wait;
 use std::test::Fail;
-use tile_service::session::SessionEnd;
+use sessions::session::SessionEnd;
 use turnstile::pass::Pass;
 
 /// More calls than an object has in such a session.

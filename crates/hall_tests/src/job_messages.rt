@@ -12,7 +12,7 @@ use source_render::scripted::Scripted;
 use std::alloc::{AllocError, Global};
 use std::sync::Wait;
 use std::test::Fail;
-use tile_service::session::SessionEnd;
+use sessions::session::SessionEnd;
 
 /// A job is submitted, looked at and cancelled, and then one is looked at that isn't there.
 const MESSAGES: &[u8] = b"POST /jobs HTTP/1.1\r\nContent-Length: 71\r\n\r\n\

@@ -14,7 +14,7 @@ use job_board::board::{Board, BoardEntry, BoardPass};
 use source_render::scripted::Scripted;
 use std::alloc::{AllocError, Global};
 use std::sync::Wait;
-use tile_service::session::SessionEnd;
+use sessions::session::SessionEnd;
 use traffic::traffic::Traffic;
 use turnstile::pass::Pass;
 use wmts_rest::table::RestTable;

@@ -12,7 +12,7 @@ use Rattle.matrix_geometry.specs.declared.address.Address.{Address}
 use Rattle.tile_requests.specs.Events.{GoesFurther}
 use Rattle.tile_requests.specs.Requests.{Chance, calm, disk_faults_in, further, is_at_work}
 use Rattle.tile_requests.proofs.Moving.{begun_moves, moves_further}
-use Rattle.tile_service.specs.Outside.{counts}
+use Rattle.sessions.specs.Outside.{counts}
 
 -- ONE EVENT
 

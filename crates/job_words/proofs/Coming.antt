@@ -21,7 +21,7 @@ use Rattle.metatile_plan.specs.declared.metatile.MetaKey.{MetaKey}
 use Rattle.raster_field.specs.Blocks.{first_tile}
 use Rattle.tile_requests.specs.Events.{failing}
 use Rattle.tile_requests.specs.Requests.{calm, owed}
-use Rattle.tile_service.specs.Outside.{FaultCounts, counts}
+use Rattle.sessions.specs.Outside.{FaultCounts, counts}
 use Rattle.tile_service.specs.Session.{IsAtRest}
 use Rattle.tile_service.proofs.AtRest.{IsDone}
 use Rattle.truncation_list.specs.declared.cover.Cover.{Cover}

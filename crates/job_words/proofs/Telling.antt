@@ -16,7 +16,7 @@ use Rattle.kept_cache.specs.Saving.{SavesAll}
 use Rattle.kept_cache.specs.Texts.{Sends}
 use Rattle.kept_cache.proofs.Picturing.{saves_sound}
 use Rattle.kept_cache.proofs.Within.{rose_within, saved_so}
-use Rattle.tile_service.specs.Outside.{FaultCounts, Outside, counts}
+use Rattle.sessions.specs.Outside.{FaultCounts, Outside, counts}
 
 -- a run and the saving after it, with the faults of the disk counted over the whole word
 pub runs_and_saves : (told : Option ℕ) (renders : FaultCounts) (before start mid after : ℕ) (job : Job) (visits : List Visit) (s t u : State) → before ≤ start → mid ≤ after

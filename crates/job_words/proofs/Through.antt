@@ -17,7 +17,7 @@ use Rattle.job_words.specs.declared.place.PlaceEnd.TheVariants.{Done, Failed}
 use Rattle.job_words.specs.declared.tally.Tally.{Tally}
 use Rattle.job_words.specs.Run.{GoesThrough, IsRun, disk_faults, forces, is_done, source_faults, tally_of}
 use Rattle.job_words.specs.Visit.{IsVisited, Visit}
-use Rattle.tile_service.specs.Outside.{FaultCounts, counts}
+use Rattle.sessions.specs.Outside.{FaultCounts, counts}
 
 -- one visit more
 goes_on : (force : Bool) (s t u : State) (vs : List Visit) (v : Visit) → GoesThrough force s vs t → IsVisited force t v u → GoesThrough force s (vs ++ v ∷ []) u

@@ -14,7 +14,7 @@ use Rattle.job_words.specs.Visit.{Chances, IsVisitedAt}
 use Rattle.matrix_geometry.specs.declared.address.Address.{Address}
 use Rattle.tile_requests.specs.Events.{Moves}
 use Rattle.tile_requests.specs.Requests.{disk_faults_in, further}
-use Rattle.tile_service.specs.Outside.{FaultCounts}
+use Rattle.sessions.specs.Outside.{FaultCounts}
 use Rattle.tile_service.specs.Session.{IsAtRest}
 
 -- From s the tile was asked for, or a render of its metatile forced, and two further events followed where they had work, to t, while

@@ -13,11 +13,11 @@ use Rattle.job_words.specs.Run.{IsRun, tally_of}
 use Rattle.job_words.specs.Visit.{Visit}
 use Rattle.command_status.specs.declared.status.Status.{Status}
 use Rattle.command_status.specs.declared.status.Status.TheVariants as status
-use Rattle.kept_cache.specs.Change.{DiskChange, HasFailed, HasWritten, IsCutShort, OutputChange}
+use Rattle.kept_cache.specs.Change.{DiskChange, HasFailed, HasWritten, IsCutShort}
+use Rattle.sessions.specs.Outside.{FaultCounts, InputChange, OutputChange, Outside}
 use Rattle.kept_cache.specs.Crash.{OpeningLeaves}
 use Rattle.kept_cache.specs.Opened.{HasOpened, IsRefused, RefusalLeaves}
 use Rattle.kept_cache.specs.Saving.{SavesAll}
-use Rattle.tile_service.specs.Outside.{FaultCounts, InputChange, Outside}
 
 -- THE TEXT of a tally
 

@@ -6,7 +6,7 @@ use Rattle.job_forms.specs.declared.fault.JobFault.{JobFault}
 use Rattle.jobs.specs.declared.job.Job.{Job}
 use Rattle.jobs.specs.Reading.{job_of}
 use Rattle.kept_cache.specs.Inputs.{HasFault, HasMore, IsRead, Reads}
-use Rattle.tile_service.specs.Outside.{InputChange}
+use Rattle.sessions.specs.Outside.{InputChange}
 
 -- it is the job of its text, of at most 65,536 bytes
 abbrev pub IsJobIn : Catalogue → InputChange → Job → Type 0

@@ -14,7 +14,7 @@ use Rattle.job_words.specs.declared.place.PlaceFault.TheVariants as fault
 use Rattle.job_words.specs.declared.tally.Tally.{Tally}
 use Rattle.job_words.specs.Visit.{Visit, IsVisited}
 use Rattle.tile_requests.specs.Requests.{disk_faults_in}
-use Rattle.tile_service.specs.Outside.{FaultCounts}
+use Rattle.sessions.specs.Outside.{FaultCounts}
 
 -- a reseed renders each metatile, kept or not; a seed those alone that aren't kept
 abbrev pub forces : JobKind → Bool

@@ -5,7 +5,7 @@ ghost use Rattle.job_words.specs.Coming.{ComesTo};
 ghost use Rattle.job_words.specs.Visit.{end_of_cut};
 ghost use Rattle.jobs.specs.Places.{Cut};
 ghost use Rattle.served_covers.specs.OfCatalogue.{IsCoverOf};
-ghost use Rattle.tile_service.specs.Outside.{counts};
+ghost use Rattle.sessions.specs.Outside.{counts};
 ghost use Rattle.tile_service.specs.Session.{IsAtRest};
 
 use crate::place::{PlaceEnd, PlaceFault};

@@ -3,7 +3,7 @@ ghost use Rattle.std.specs.Prelude.{◌≡◌, IfOk};
 ghost use Rattle.catalog.specs.Valid.{IsValid};
 ghost use Rattle.job_words.specs.Input.{ReadsJob};
 ghost use Rattle.jobs.specs.Job.{Fits};
-ghost use Rattle.tile_service.specs.Outside.{InputChange};
+ghost use Rattle.sessions.specs.Outside.{InputChange};
 
 use catalog::catalogue::Catalogue;
 use command_status::status::Status;

@@ -12,7 +12,7 @@ ghost use Rattle.matrix_geometry.specs.declared.address.Address.{Address};
 ghost use Rattle.raster_field.specs.Blocks.{IsMeta};
 ghost use Rattle.tile_requests.specs.Events.{GoesFurther};
 ghost use Rattle.tile_requests.specs.Requests.{is_at_work};
-ghost use Rattle.tile_service.specs.Outside.{counts};
+ghost use Rattle.sessions.specs.Outside.{counts};
 ghost use Rattle.tile_service.specs.Session.{IsAtRest};
 
 use crate::place::{PlaceEnd, PlaceFault};

@@ -7,7 +7,7 @@ ghost use Rattle.job_words.specs.Run.{IsRun, forces, tally_of};
 ghost use Rattle.job_words.specs.Visit.{Visit};
 ghost use Rattle.jobs.specs.Job.{Fits};
 ghost use Rattle.jobs.specs.Places.{Place, places};
-ghost use Rattle.tile_service.specs.Outside.{counts};
+ghost use Rattle.sessions.specs.Outside.{counts};
 ghost use Rattle.tile_service.specs.Session.{IsAtRest};
 
 use crate::cutting::cut;

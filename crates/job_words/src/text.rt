@@ -2,9 +2,8 @@
 ghost use Rattle.std.specs.Prelude.{◌≡◌, ◌+◌, ◌≤◌, ◌++◌, codes, decimal, length};
 ghost use Rattle.arrayvec.specs.ArrayVec.{array_vec_len};
 ghost use Rattle.job_words.specs.Ends.{job_text, kind_text};
-ghost use Rattle.kept_cache.specs.Change.{OutputChange};
+ghost use Rattle.sessions.specs.Outside.{OutputChange, counts};
 ghost use Rattle.kept_cache.specs.Texts.{Sends};
-ghost use Rattle.tile_service.specs.Outside.{counts};
 
 use crate::tally::Tally;
 use arrayvec::ArrayVec;

@@ -9,7 +9,7 @@ ghost use Rattle.job_words.specs.Visit.{Visit};
 ghost use Rattle.jobs.specs.Job.{Fits};
 ghost use Rattle.kept_cache.specs.Change.{DiskChange};
 ghost use Rattle.kept_cache.specs.Crash.{LastsThrough};
-ghost use Rattle.tile_service.specs.Outside.{InputChange, Outside, counts};
+ghost use Rattle.sessions.specs.Outside.{InputChange, Outside, counts};
 ghost use Rattle.tile_service.specs.Session.{IsAtRest};
 
 use crate::input::job_in;

@@ -15,7 +15,7 @@ use Rattle.gate_journal.specs.Sound.{IsSettled}
 use Rattle.http_wire.proofs.TakesOn.{rose_before}
 use Rattle.kept_cache.specs.Crash.{IsClosed, IsLeftBy}
 use Rattle.kept_cache.specs.Opened.{HasOpened, IsOpened}
-use Rattle.tile_service.specs.Outside.{FaultCounts, counts}
+use Rattle.sessions.specs.Outside.{FaultCounts, counts}
 
 -- what holds of the images where the journal is settled, of a cabinet whose journal was so when it was opened, and stayed so unless the disk
 -- failed

@@ -17,7 +17,7 @@ use Rattle.kept_cache.specs.Opened.{IsOpened}
 use Rattle.durable_cabinet.proofs.Imaging.{known_sound, missed_image}
 use Rattle.durable_cabinet.proofs.Lasting.{left_answers}
 use Rattle.durable_cabinet.proofs.Once.{opens_once}
-use Rattle.tile_service.specs.Outside.{FaultCounts}
+use Rattle.sessions.specs.Outside.{FaultCounts}
 use Rattle.truncation_list.specs.declared.book.Cut.{Cut}
 use Rattle.truncation_list.specs.Books.{AnswersFor}
 use Rattle.truncation_list.proofs.Answering.{answers_for_cut}

@@ -14,7 +14,7 @@ use Rattle.kept_cache.specs.Crash.{Lasts}
 use Rattle.kept_cache.specs.Opened.{IsOpened}
 use Rattle.kept_cache.specs.Passing.{LeavesNow, OutlastsLeft, PassesDisk}
 use Rattle.kept_cache.proofs.Lasting.{worked}
-use Rattle.tile_service.specs.Outside.{FaultCounts}
+use Rattle.sessions.specs.Outside.{FaultCounts}
 use Rattle.tile_service.specs.Passing.{LeadsThrough}
 
 -- what a crash leaves at a moment and after it, it leaves since that moment

@@ -4,7 +4,7 @@ use Rattle.std.specs.Io.KnownBytes.{Appends}
 use Rattle.causes.specs.Causes.{Rose}
 use Rattle.disk_model.specs.Images.{DiskState}
 use Rattle.tile_requests.specs.Sent.{AppendsFront}
-use Rattle.tile_service.specs.Outside.{FaultCounts}
+use Rattle.sessions.specs.Outside.{FaultCounts}
 
 -- what a word saw of its disk: whether it is modelled, its faults, and what is modelled of it, before the word and after it
 pub record DiskChange : Type 1 where

@@ -7,7 +7,7 @@ use Rattle.command_status.specs.declared.status.Status.TheVariants as status
 use Rattle.job_forms.specs.declared.fault.JobFault.{JobFault}
 use Rattle.job_forms.specs.declared.fault.JobFault.TheVariants as fault
 use Rattle.job_forms.specs.Outcome.{Fails, Outcome}
-use Rattle.tile_service.specs.Outside.{InputChange}
+use Rattle.sessions.specs.Outside.{InputChange}
 
 -- the input was read to its end, and this holds of what is read of its text, of at most so many bytes
 pub record IsRead {A : Type 0} (limit : ℕ) (reading : List ℕ → Outcome A) (i : InputChange) (Comes : Outcome A → Type 0) : Type 0 where

@@ -6,7 +6,7 @@ use Rattle.cabinet.specs.declared.replies.Saved.TheVariants as saved
 use Rattle.cabinet.specs.State.{State}
 use Rattle.causes.specs.Causes.{Rose}
 use Rattle.metatile_plan.specs.declared.metatile.MetaKey.{MetaKey}
-use Rattle.tile_service.specs.Outside.{FaultCounts}
+use Rattle.sessions.specs.Outside.{FaultCounts}
 
 -- from s the uses of so many metatiles were saved, one after the other
 abbrev pub SavesMany : ℕ → State → State → Type 0

@@ -2,7 +2,8 @@
 use Rattle.std.specs.Prelude.{ℕ, List}
 use Rattle.command_status.specs.declared.status.Status.{Status}
 use Rattle.command_status.specs.declared.status.Status.TheVariants as status
-use Rattle.kept_cache.specs.Change.{HasWritten, IsCutShort, OutputChange}
+use Rattle.kept_cache.specs.Change.{HasWritten, IsCutShort}
+use Rattle.sessions.specs.Outside.{OutputChange}
 
 -- how the writing of a text ends
 abbrev pub Sends : OutputChange → List ℕ → Status → Type 0

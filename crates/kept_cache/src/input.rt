@@ -2,7 +2,7 @@
 ghost use Rattle.std.specs.Prelude.{◌≤◌, IfErr, IfOk, length};
 ghost use Rattle.std.specs.Io.KnownBytes.{Consumes, IsAtEnd};
 ghost use Rattle.kept_cache.specs.Inputs.{HasNoText};
-ghost use Rattle.tile_service.specs.Outside.{InputChange};
+ghost use Rattle.sessions.specs.Outside.{InputChange};
 
 use command_status::status::Status;
 use command_status::statuses::status_of_input;

@@ -6,7 +6,7 @@ ghost use Rattle.gate_journal.specs.Sound.{IsSettled};
 ghost use Rattle.kept_cache.specs.Change.{DiskChange};
 ghost use Rattle.kept_cache.specs.Crash.{IsClosed, LastsThrough};
 ghost use Rattle.kept_cache.specs.Opened.{IsOpened, RefusalLeaves};
-ghost use Rattle.tile_service.specs.Outside.{counts};
+ghost use Rattle.sessions.specs.Outside.{counts};
 ghost use Rattle.durable_cabinet.specs.Filed.{IsRefusedAs};
 
 use crate::lent::{LentDisk, Loan};

@@ -3,7 +3,7 @@ ghost use Rattle.std.specs.Prelude.{◌≤◌};
 ghost use Rattle.cabinet.specs.State.{IsKnown};
 ghost use Rattle.cache_core.specs.Lasting.{Lasting};
 ghost use Rattle.kept_cache.specs.Saving.{SavesAll};
-ghost use Rattle.tile_service.specs.Outside.{counts};
+ghost use Rattle.sessions.specs.Outside.{counts};
 
 use cabinet::keeper::Keeper;
 use cabinet::laws::laws_of_rows;

@@ -1,9 +1,8 @@
 //! The text of a word, written to its output.
 ghost use Rattle.std.specs.Prelude.{◌≡◌, ◌≤◌, ◌++◌, decimal, length};
 ghost use Rattle.arrayvec.specs.ArrayVec.{array_vec_len};
-ghost use Rattle.kept_cache.specs.Change.{OutputChange};
+ghost use Rattle.sessions.specs.Outside.{OutputChange, counts};
 ghost use Rattle.kept_cache.specs.Texts.{Sends};
-ghost use Rattle.tile_service.specs.Outside.{counts};
 
 use arrayvec::ArrayVec;
 use command_status::status::Status;

@@ -14,7 +14,8 @@ use Rattle.clock.specs.Readings.{Readings}
 use Rattle.http_wire.proofs.TakesOn.{rose_before}
 use Rattle.command_status.specs.declared.status.Status.{Status}
 use Rattle.command_status.specs.declared.status.Status.TheVariants as status
-use Rattle.kept_cache.specs.Change.{DiskChange, OutputChange}
+use Rattle.kept_cache.specs.Change.{DiskChange}
+use Rattle.sessions.specs.Outside.{OutputChange}
 use Rattle.kept_cache.specs.Opened.{HasOpened}
 use Rattle.kept_words.specs.Ends.{Drops, DropsAll, TellsDropped}
 use Rattle.metatile_plan.specs.declared.metatile.MetaKey.{MetaKey}

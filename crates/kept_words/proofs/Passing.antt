@@ -4,8 +4,8 @@ use Rattle.cabinet.specs.State.{State}
 use Rattle.kept_words.specs.Runs.{RunsAndSaves, ServesAndSaves}
 use Rattle.tile_service.specs.declared.schedule.ScheduleEnd.{ScheduleEnd}
 use Rattle.tile_service.specs.declared.schedule.ScheduleEnd.TheVariants as schedule
-use Rattle.tile_service.specs.declared.session.SessionEnd.{SessionEnd}
-use Rattle.tile_service.specs.Outside.{InputChange, Outside}
+use Rattle.sessions.specs.declared.session.SessionEnd.{SessionEnd}
+use Rattle.sessions.specs.Outside.{InputChange, Outside}
 use Rattle.tile_service.specs.Run.{World}
 use Rattle.tile_service.specs.Schedules.{SchedulesThrough}
 

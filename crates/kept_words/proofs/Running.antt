@@ -12,9 +12,9 @@ use Rattle.kept_cache.specs.Opened.{RefusalLeaves}
 use Rattle.kept_words.specs.Runs.{HasReplayed, HasScheduled, RunsSchedule, RunsSession}
 use Rattle.tile_service.specs.declared.schedule.ScheduleEnd.{ScheduleEnd}
 use Rattle.tile_service.specs.declared.schedule.ScheduleEnd.TheVariants as schedule
-use Rattle.tile_service.specs.declared.session.SessionEnd.{SessionEnd}
-use Rattle.tile_service.specs.declared.session.SessionEnd.TheVariants as session
-use Rattle.tile_service.specs.Outside.{InputChange, Outside}
+use Rattle.sessions.specs.declared.session.SessionEnd.{SessionEnd}
+use Rattle.sessions.specs.declared.session.SessionEnd.TheVariants as session
+use Rattle.sessions.specs.Outside.{InputChange, Outside}
 
 module _ (P : State → Type 0) (c : Catalogue) (clock : Readings) (document : List ℕ) (i : InputChange) (o : Outside) (d : DiskChange) (InputStays Stays : Type 0) where
   pub schedule_tells : (e : ScheduleEnd) → HasScheduled P c clock document i o d Stays e → RunsSchedule P c clock document i o d InputStays Stays (status_of_schedule e)

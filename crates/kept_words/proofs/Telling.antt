@@ -12,13 +12,13 @@ use Rattle.clock.specs.Readings.{Readings}
 use Rattle.http_wire.proofs.TakesOn.{rose_before}
 use Rattle.command_status.specs.declared.status.Status.{Status}
 use Rattle.command_status.specs.declared.status.Status.TheVariants as status
-use Rattle.kept_cache.specs.Change.{DiskChange, OutputChange}
+use Rattle.kept_cache.specs.Change.{DiskChange}
+use Rattle.sessions.specs.Outside.{InputChange, OutputChange}
 use Rattle.kept_cache.specs.Opened.{HasOpened}
 use Rattle.kept_cache.specs.Texts.{Sends}
 use Rattle.kept_words.specs.Covers.{IsCoverIn}
 use Rattle.kept_words.specs.Ends.{CutsOnce, TellsCut, TellsUsage, Truncates}
 use Rattle.tile_requests.specs.Texts.{usage_text}
-use Rattle.tile_service.specs.Outside.{InputChange}
 use Rattle.truncation_list.specs.declared.cover.Cover.{Cover}
 
 -- the one cut, by its reply and how that was told

@@ -13,10 +13,10 @@ use Rattle.tile_service.specs.declared.run_lines.RunEnd.{RunEnd}
 use Rattle.tile_service.specs.declared.run_lines.RunEnd.TheVariants as run_end
 use Rattle.tile_service.specs.declared.schedule.ScheduleEnd.{ScheduleEnd}
 use Rattle.tile_service.specs.declared.schedule.ScheduleEnd.TheVariants as schedule
-use Rattle.tile_service.specs.declared.session.SessionEnd.{SessionEnd}
-use Rattle.tile_service.specs.declared.session.SessionEnd.TheVariants as session
+use Rattle.sessions.specs.declared.session.SessionEnd.{SessionEnd}
+use Rattle.sessions.specs.declared.session.SessionEnd.TheVariants as session
 use Rattle.tile_requests.specs.Requests.{Chance}
-use Rattle.tile_service.specs.Outside.{FaultCounts, InputChange, Outside}
+use Rattle.sessions.specs.Outside.{FaultCounts, InputChange, Outside}
 use Rattle.tile_service.specs.Run.{Answer, World, free_seats, world_of}
 use Rattle.tile_service.specs.Schedules.{Ends, HasRun, HasRunAll, Schedules, SchedulesThrough}
 use Rattle.tile_service.specs.SessionEnds.{Ends as SessionEnds, HasSession, HasSessionThrough}

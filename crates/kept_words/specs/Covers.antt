@@ -6,7 +6,7 @@ use Rattle.job_forms.specs.declared.fault.JobFault.{JobFault}
 use Rattle.job_forms.specs.Cover.{cover_of}
 use Rattle.kept_cache.specs.Inputs.{HasFault, HasMore, IsRead, Reads}
 use Rattle.kept_words.specs.declared.cover_input.TheConstants.{COVER_LIMIT}
-use Rattle.tile_service.specs.Outside.{InputChange}
+use Rattle.sessions.specs.Outside.{InputChange}
 use Rattle.truncation_list.specs.declared.cover.Cover.{Cover}
 
 -- it is the cover of its text

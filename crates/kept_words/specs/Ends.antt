@@ -15,7 +15,8 @@ use Rattle.durable_cabinet.specs.Images.{IsOurs, OpensTo, blobs_start}
 use Rattle.gate_journal.specs.declared.fault.OpenFault.TheVariants as fault
 use Rattle.command_status.specs.declared.status.Status.{Status}
 use Rattle.command_status.specs.declared.status.Status.TheVariants as status
-use Rattle.kept_cache.specs.Change.{DiskChange, HasFailed, HasWritten, IsCutShort, OutputChange}
+use Rattle.kept_cache.specs.Change.{DiskChange, HasFailed, HasWritten, IsCutShort}
+use Rattle.sessions.specs.Outside.{InputChange, OutputChange}
 use Rattle.kept_cache.specs.Crash.{OpeningLeaves}
 use Rattle.kept_cache.specs.Opened.{HasOpened, IsRefused, RefusalLeaves}
 use Rattle.kept_cache.specs.Texts.{Sends}
@@ -23,7 +24,6 @@ use Rattle.kept_words.specs.Covers.{IsCoverIn, IsFormedSo, IsTooLong}
 use Rattle.kept_words.specs.Texts.{cut_text, dropped_text, made_text}
 use Rattle.metatile_plan.specs.declared.metatile.MetaKey.{MetaKey}
 use Rattle.tile_requests.specs.Texts.{usage_text}
-use Rattle.tile_service.specs.Outside.{InputChange}
 use Rattle.truncation_list.specs.declared.cover.Cover.{Cover}
 
 -- USAGE: `Stays` is that the output stays as it is

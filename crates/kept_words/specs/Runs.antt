@@ -11,9 +11,9 @@ use Rattle.kept_cache.specs.Opened.{HasOpened, IsRefused, RefusalLeaves}
 use Rattle.kept_cache.specs.Saving.{SavesAll}
 use Rattle.tile_service.specs.declared.schedule.ScheduleEnd.{ScheduleEnd}
 use Rattle.tile_service.specs.declared.schedule.ScheduleEnd.TheVariants as schedule
-use Rattle.tile_service.specs.declared.session.SessionEnd.{SessionEnd}
-use Rattle.tile_service.specs.declared.session.SessionEnd.TheVariants as session
-use Rattle.tile_service.specs.Outside.{InputChange, Outside}
+use Rattle.sessions.specs.declared.session.SessionEnd.{SessionEnd}
+use Rattle.sessions.specs.declared.session.SessionEnd.TheVariants as session
+use Rattle.sessions.specs.Outside.{InputChange, Outside}
 use Rattle.tile_service.specs.Run.{World, free_seats, world_of}
 use Rattle.tile_service.specs.Schedules.{SchedulesThrough}
 use Rattle.tile_service.specs.SessionEnds.{HasSessionThrough}

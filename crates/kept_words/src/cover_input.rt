@@ -3,7 +3,7 @@ ghost use Rattle.std.specs.Prelude.{IfOk};
 ghost use Rattle.catalog.specs.Valid.{IsValid};
 ghost use Rattle.kept_words.specs.Covers.{ReadsCover};
 ghost use Rattle.served_covers.specs.OfCatalogue.{IsCoverOf};
-ghost use Rattle.tile_service.specs.Outside.{InputChange};
+ghost use Rattle.sessions.specs.Outside.{InputChange};
 
 use catalog::catalogue::Catalogue;
 use command_status::status::Status;

@@ -5,10 +5,10 @@ ghost use Rattle.cabinet.specs.declared.replies.Expired.TheVariants as expired;
 ghost use Rattle.catalog.specs.Valid.{IsValid};
 ghost use Rattle.causes.specs.Causes.{Rose};
 ghost use Rattle.durable_cabinet.specs.Images.{IsOurs};
-ghost use Rattle.kept_cache.specs.Change.{DiskChange, OutputChange};
+ghost use Rattle.kept_cache.specs.Change.{DiskChange};
+ghost use Rattle.sessions.specs.Outside.{OutputChange, counts};
 ghost use Rattle.kept_cache.specs.Crash.{LastsThrough};
 ghost use Rattle.kept_words.specs.Ends.{Drops, DropsAll, TellsDropped};
-ghost use Rattle.tile_service.specs.Outside.{counts};
 
 use cabinet::keeper::Keeper;
 use cabinet::laws::laws_of_rows;

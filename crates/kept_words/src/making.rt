@@ -1,9 +1,9 @@
 //! The word that makes an empty cache.
 ghost use Rattle.std.specs.Prelude.{◌≡◌};
 ghost use Rattle.catalog.specs.Valid.{IsValid};
-ghost use Rattle.kept_cache.specs.Change.{DiskChange, OutputChange};
+ghost use Rattle.kept_cache.specs.Change.{DiskChange};
+ghost use Rattle.sessions.specs.Outside.{OutputChange, counts};
 ghost use Rattle.kept_words.specs.Ends.{Makes};
-ghost use Rattle.tile_service.specs.Outside.{counts};
 
 use arrayvec::ArrayVec;
 use catalog::catalogue::Catalogue;

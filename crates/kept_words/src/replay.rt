@@ -7,7 +7,7 @@ ghost use Rattle.kept_cache.specs.Change.{DiskChange};
 ghost use Rattle.kept_cache.specs.Crash.{LastsThrough};
 ghost use Rattle.kept_cache.specs.Passing.{PassesDisk};
 ghost use Rattle.kept_words.specs.Runs.{RunsSession, ServesAndSaves};
-ghost use Rattle.tile_service.specs.Outside.{InputChange, Outside, counts};
+ghost use Rattle.sessions.specs.Outside.{InputChange, Outside, counts};
 ghost use Rattle.tile_service.specs.Passing.{LeadsThrough};
 ghost use Rattle.tile_service.specs.Session.{IsAtRest};
 ghost use Rattle.tile_service.specs.SessionEnds.{HasSessionThrough};

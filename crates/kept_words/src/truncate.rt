@@ -3,11 +3,11 @@ ghost use Rattle.std.specs.Prelude.{◌≡◌, ◌≤◌, ◌++◌, IsTrue, code
 ghost use Rattle.arrayvec.specs.ArrayVec.{array_vec_len};
 ghost use Rattle.catalog.specs.Valid.{IsValid};
 ghost use Rattle.durable_cabinet.specs.Images.{IsOurs};
-ghost use Rattle.kept_cache.specs.Change.{DiskChange, OutputChange};
+ghost use Rattle.kept_cache.specs.Change.{DiskChange};
+ghost use Rattle.sessions.specs.Outside.{InputChange, OutputChange, counts};
 ghost use Rattle.kept_cache.specs.Crash.{LastsThrough};
 ghost use Rattle.kept_words.specs.Ends.{CutsOnce, TellsCut, Truncates};
 ghost use Rattle.served_covers.specs.OfCatalogue.{IsCoverOf};
-ghost use Rattle.tile_service.specs.Outside.{InputChange, counts};
 
 use crate::cover_input::cover_in;
 use cabinet::keeper::Keeper;

@@ -2,11 +2,11 @@
 ghost use Rattle.std.specs.Prelude.{◌≡◌, IfOk, IsTrue};
 ghost use Rattle.catalog.specs.Valid.{IsValid};
 ghost use Rattle.durable_cabinet.specs.Images.{IsOurs};
-ghost use Rattle.kept_cache.specs.Change.{DiskChange, OutputChange};
+ghost use Rattle.kept_cache.specs.Change.{DiskChange};
+ghost use Rattle.sessions.specs.Outside.{OutputChange, counts};
 ghost use Rattle.kept_cache.specs.Crash.{LastsThrough};
 ghost use Rattle.kept_words.specs.Ends.{TellsUsage};
 ghost use Rattle.tile_requests.specs.Texts.{usage_text};
-ghost use Rattle.tile_service.specs.Outside.{counts};
 
 use arrayvec::ArrayVec;
 use cabinet::keeper::Keeper;

@@ -14,7 +14,7 @@ use Rattle.gate_journal.specs.declared.fault.OpenFault.{OpenFault}
 use Rattle.gate_journal.specs.declared.fault.OpenFault.TheVariants as fault
 use Rattle.kept_cache.specs.Change.{DiskChange}
 use Rattle.kept_cache.specs.Opened.{HasOpened}
-use Rattle.tile_service.specs.Outside.{counts}
+use Rattle.sessions.specs.Outside.{counts}
 use Rattle.link_words.proofs.Following.{wider}
 use Rattle.link_words.specs.declared.ends.LinkingEnd.TheVariants as linking
 use Rattle.link_words.specs.Endings.{ending_of}

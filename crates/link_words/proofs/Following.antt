@@ -12,7 +12,7 @@ use Rattle.disk_model.specs.Content.{Content, Same}
 use Rattle.disk_model.specs.Images.{After, ChangesBy, DiskState, Every, Leaves}
 use Rattle.disk_model.specs.Moments.{leaves_as, leaves_then}
 use Rattle.kept_cache.specs.Change.{DiskChange}
-use Rattle.tile_service.specs.Outside.{FaultCounts, counts}
+use Rattle.sessions.specs.Outside.{FaultCounts, counts}
 use Rattle.link_words.specs.Ends.{HasFollowed}
 
 module _ (c : Catalogue) (m : DiskChange) (mid : DiskState) (s : Pair) (told' : Bool) (digest' : List ℕ) (quiet : IsTrue m.told → ChangesBy Same m.from mid) (same_told : told' ≡ m.told) (same_digest : digest' ≡ c.digest) where

@@ -25,7 +25,7 @@ use Rattle.kept_cache.specs.Opened.{HasOpened, RefusalLeaves}
 use Rattle.outbox.specs.Files.{IsOutboxFile, MayOpenTo, OpensToPosts}
 use Rattle.outbox.specs.Files as outbox_file
 use Rattle.outbox.specs.Posts.{Outgoing}
-use Rattle.tile_service.specs.Outside.{FaultCounts, InputChange}
+use Rattle.sessions.specs.Outside.{FaultCounts, InputChange}
 use Rattle.link_words.specs.declared.ends.LinkingEnd.{LinkingEnd}
 use Rattle.link_words.specs.declared.ends.LinkingEnd.TheVariants as linking
 use Rattle.link_words.specs.declared.words.LinkWord.{LinkWord}

@@ -6,7 +6,7 @@ ghost use Rattle.cut_follower.specs.Links.{LinkAt};
 ghost use Rattle.durable_cabinet.specs.Images.{IsOurs};
 ghost use Rattle.kept_cache.specs.Change.{DiskChange};
 ghost use Rattle.kept_cache.specs.Crash.{LastsThrough};
-ghost use Rattle.tile_service.specs.Outside.{counts};
+ghost use Rattle.sessions.specs.Outside.{counts};
 ghost use Rattle.link_words.specs.Ends.{Follows};
 
 use crate::follow::follow_on;

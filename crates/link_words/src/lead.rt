@@ -4,7 +4,7 @@ ghost use Rattle.catalog.specs.Valid.{IsValid};
 ghost use Rattle.cut_follower.specs.Links.{LinkAt};
 ghost use Rattle.kept_cache.specs.Change.{DiskChange};
 ghost use Rattle.outbox.specs.Files.{IsOutboxFile};
-ghost use Rattle.tile_service.specs.Outside.{counts};
+ghost use Rattle.sessions.specs.Outside.{counts};
 ghost use Rattle.link_words.specs.Ends.{LeadsOver};
 
 use catalog::catalogue::Catalogue;

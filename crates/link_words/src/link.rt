@@ -4,7 +4,7 @@ ghost use Rattle.catalog.specs.Valid.{IsValid};
 ghost use Rattle.command_status.specs.declared.status.Status.TheVariants as status;
 ghost use Rattle.cut_follower.specs.Links.{LinkAt};
 ghost use Rattle.kept_cache.specs.Change.{DiskChange};
-ghost use Rattle.tile_service.specs.Outside.{InputChange, counts};
+ghost use Rattle.sessions.specs.Outside.{InputChange, counts};
 ghost use Rattle.link_words.specs.declared.ends.LinkingEnd.TheVariants as linking;
 ghost use Rattle.link_words.specs.Ends.{CacheLasts, Handed, IsFitFor, IsFitUnder, LinkChange, LinkTells, Stays, WordLasts, WordLinks};
 ghost use Rattle.link_words.specs.Words.{link_word};

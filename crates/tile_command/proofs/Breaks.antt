@@ -10,8 +10,8 @@ use Rattle.http_wire.specs.Streams.{Messages, Stand, StandIn}
 use Rattle.http_wire.proofs.OneReading.{message_or_stop, messages_same, streams_agree}
 use Rattle.tile_command.specs.Causes.{BreaksOff, ComesToEnd, HaveLast}
 use Rattle.tile_command.specs.Exact.{AreAsGood, end_of_stop}
-use Rattle.tile_service.specs.declared.session.SessionEnd.{SessionEnd}
-use Rattle.tile_service.specs.declared.session.SessionEnd.TheVariants as session
+use Rattle.sessions.specs.declared.session.SessionEnd.{SessionEnd}
+use Rattle.sessions.specs.declared.session.SessionEnd.TheVariants as session
 use Rattle.tile_service.specs.SessionEnds.{AreOpen, GoOn, StopsThere}
 
 -- MESSAGES at the front of bytes

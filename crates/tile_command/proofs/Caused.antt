@@ -43,9 +43,9 @@ use Rattle.tile_drill.specs.declared.drill.DrillEnd.TheVariants as drill_end
 use Rattle.tile_drill.specs.Drill.{Drills}
 use Rattle.tile_service.specs.declared.schedule.ScheduleEnd.{ScheduleEnd}
 use Rattle.tile_service.specs.declared.schedule.ScheduleEnd.TheVariants as schedule_end
-use Rattle.tile_service.specs.declared.session.SessionEnd.{SessionEnd}
-use Rattle.tile_service.specs.declared.session.SessionEnd.TheVariants as session_end
-use Rattle.tile_service.specs.Outside.{Outside}
+use Rattle.sessions.specs.declared.session.SessionEnd.{SessionEnd}
+use Rattle.sessions.specs.declared.session.SessionEnd.TheVariants as session_end
+use Rattle.sessions.specs.Outside.{Outside}
 use Rattle.tile_service.specs.Run.{World}
 use Rattle.truncation_list.specs.declared.cover.Cover.{Cover}
 use Rattle.tile_command.proofs.Causes.{IsOf, Tells, by_both, by_catalogue, by_schedule, by_session, document_of, over, read_in, whole_text}

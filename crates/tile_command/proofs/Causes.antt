@@ -25,11 +25,11 @@ use Rattle.tile_service.specs.declared.run_lines.RunEnd.{RunEnd}
 use Rattle.tile_service.specs.declared.run_lines.RunEnd.TheVariants as run_end
 use Rattle.tile_service.specs.declared.schedule.ScheduleEnd.{ScheduleEnd}
 use Rattle.tile_service.specs.declared.schedule.ScheduleEnd.TheVariants as schedule_end
-use Rattle.tile_service.specs.declared.session.SessionEnd.{SessionEnd}
-use Rattle.tile_service.specs.declared.session.SessionEnd.TheVariants as session_end
+use Rattle.sessions.specs.declared.session.SessionEnd.{SessionEnd}
+use Rattle.sessions.specs.declared.session.SessionEnd.TheVariants as session_end
 use Rattle.tile_requests.specs.Requests.{Chance}
 use Rattle.tile_service.specs.Lines.{lines_of}
-use Rattle.tile_service.specs.Outside.{InputChange, Outside}
+use Rattle.sessions.specs.Outside.{InputChange, Outside}
 use Rattle.tile_service.specs.Run.{World, free_seats, run, world_of}
 use Rattle.tile_service.specs.Schedules.{Ends, GoesThrough, HasRunAll, Schedules}
 use Rattle.tile_service.specs.SessionEnds.{AreOpen, GoBefore, GoOn, HasSession, IsClosed, StopsThere}

@@ -18,7 +18,7 @@ use Rattle.tile_command.specs.Causes.{AreCutsFull, BreaksStream, IsCacheRefused,
 use Rattle.tile_command.specs.Change.{CommandChange}
 use Rattle.tile_command.specs.Exact.{AreModelled, IsTold}
 use Rattle.tile_command.proofs.Caused.{no_disk, no_read}
-use Rattle.tile_service.specs.declared.session.SessionEnd.{SessionEnd}
+use Rattle.sessions.specs.declared.session.SessionEnd.{SessionEnd}
 use Rattle.cabinet.specs.Commands.{Cuts}
 use Rattle.durable_cabinet.specs.Filed.{opened_as}
 use Rattle.durable_cabinet.proofs.Once.{opens_once}

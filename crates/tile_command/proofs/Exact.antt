@@ -24,7 +24,7 @@ use Rattle.tile_command.specs.Causes.{AreCutsFull, BreaksStream, IsCacheRefused,
 use Rattle.tile_command.specs.Change.{CommandChange}
 use Rattle.tile_command.specs.Exact.{AreModelled, IsTold}
 use Rattle.tile_command.proofs.Caused.{no_disk, no_read}
-use Rattle.tile_service.specs.declared.session.SessionEnd.{SessionEnd}
+use Rattle.sessions.specs.declared.session.SessionEnd.{SessionEnd}
 
 -- ONE TEXT of a file
 

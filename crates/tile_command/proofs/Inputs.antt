@@ -23,9 +23,9 @@ use Rattle.tile_command.proofs.Caused.{no_disk, no_read}
 use Rattle.tile_command.proofs.Disks.{opened_once}
 use Rattle.tile_command.proofs.Exact as files
 use Rattle.tile_requests.specs.Requests.{Chance}
-use Rattle.tile_service.specs.declared.session.SessionEnd.{SessionEnd}
+use Rattle.sessions.specs.declared.session.SessionEnd.{SessionEnd}
 use Rattle.tile_service.specs.Lines.{action_in, lines_of}
-use Rattle.tile_service.specs.Outside.{Outside}
+use Rattle.sessions.specs.Outside.{Outside}
 use Rattle.tile_service.specs.Run.{Answer, Run, World, first_of, free_seats, goes_on, line_done, rest_of, run, world_of}
 
 -- A LINE THAT IS NONE

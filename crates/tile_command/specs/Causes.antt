@@ -31,10 +31,10 @@ use Rattle.kept_cache.specs.Change.{DiskChange, HasFailed}
 use Rattle.kept_cache.specs.Opened.{IsOpened, IsRefused}
 use Rattle.tile_command.specs.Change.{CommandChange, without_disk}
 use Rattle.tile_requests.specs.Requests.{Chance}
-use Rattle.tile_service.specs.declared.session.SessionEnd.{SessionEnd}
-use Rattle.tile_service.specs.declared.session.SessionEnd.TheVariants as session
+use Rattle.sessions.specs.declared.session.SessionEnd.{SessionEnd}
+use Rattle.sessions.specs.declared.session.SessionEnd.TheVariants as session
 use Rattle.tile_service.specs.Lines.{lines_of}
-use Rattle.tile_service.specs.Outside.{InputChange, Outside}
+use Rattle.sessions.specs.Outside.{InputChange, Outside}
 use Rattle.tile_service.specs.Run.{Run, World, disk_faults, free_seats, run, world_of}
 use Rattle.tile_service.specs.Schedules.{IsUpheld}
 use Rattle.tile_service.specs.SessionEnds.{AreOpen, GoOn, StopsThere}

@@ -20,10 +20,10 @@ use Rattle.kept_cache.specs.Change.{DiskChange}
 use Rattle.tile_command.specs.Causes.{AreCutsFull, BreaksStream, IsCacheRefused, IsFaulty, IsInputOver, IsMalformed, IsOver, NothingFails, OfDocument, Opening, UnderBoth, UnderCatalogue}
 use Rattle.tile_command.specs.Change.{CommandChange, without_disk}
 use Rattle.tile_requests.specs.Requests.{Chance}
-use Rattle.tile_service.specs.declared.session.SessionEnd.{SessionEnd}
-use Rattle.tile_service.specs.declared.session.SessionEnd.TheVariants as session
+use Rattle.sessions.specs.declared.session.SessionEnd.{SessionEnd}
+use Rattle.sessions.specs.declared.session.SessionEnd.TheVariants as session
 use Rattle.tile_service.specs.Lines.{action_in, lines_of}
-use Rattle.tile_service.specs.Outside.{Outside}
+use Rattle.sessions.specs.Outside.{Outside}
 use Rattle.tile_service.specs.Run.{World, disk_faults, free_seats, run, world_of}
 use Rattle.tile_service.specs.Schedules.{IsUpheld}
 

@@ -9,7 +9,7 @@ use Rattle.job_words.specs.Ends.{RunsJob}
 use Rattle.kept_cache.specs.Change.{DiskChange}
 use Rattle.tile_command.specs.Change.{Stays}
 use Rattle.command_setup.specs.Refusals.{status_of_refusal}
-use Rattle.tile_service.specs.Outside.{InputChange, Outside}
+use Rattle.sessions.specs.Outside.{InputChange, Outside}
 
 -- what each status says of a job: the catalogue was refused and nothing else was touched, or it was read and the word ended
 abbrev pub JobTells : InputChange → InputChange → Outside → Stays → DiskChange → Type 0 → Readings → Status → Type 0

@@ -10,13 +10,13 @@ use Rattle.command_words.specs.declared.words.KeptWord.{KeptWord}
 use Rattle.command_words.specs.declared.words.KeptWord.TheVariants as kept
 use Rattle.command_words.specs.declared.words.UpkeepWord.{UpkeepWord}
 use Rattle.command_words.specs.declared.words.UpkeepWord.TheVariants as upkeep
-use Rattle.kept_cache.specs.Change.{DiskChange, OutputChange}
+use Rattle.kept_cache.specs.Change.{DiskChange}
+use Rattle.sessions.specs.Outside.{InputChange, OutputChange, Outside}
 use Rattle.kept_cache.specs.Crash.{LastsThrough}
 use Rattle.kept_words.specs.Ends.{DropsAll, Makes, TellsUsage, Truncates}
 use Rattle.kept_words.specs.Runs.{RunsSchedule, RunsSession}
 use Rattle.tile_command.specs.Change.{CommandChange, IsUnready, Stays, WithBoth}
 use Rattle.command_setup.specs.Refusals.{status_of_refusal}
-use Rattle.tile_service.specs.Outside.{InputChange, Outside}
 
 -- RUNS, with P of the cabinet after each line of a schedule and after each message of a session
 

@@ -12,8 +12,8 @@ use Rattle.tile_drill.specs.declared.drill.DrillEnd.{DrillEnd}
 use Rattle.tile_drill.specs.declared.drill.DrillEnd.TheVariants as drill_end
 use Rattle.tile_drill.specs.Drill.{Drills}
 use Rattle.tile_service.specs.declared.schedule.ScheduleEnd.{ScheduleEnd}
-use Rattle.tile_service.specs.declared.session.SessionEnd.{SessionEnd}
-use Rattle.tile_service.specs.Outside.{InputChange, Outside}
+use Rattle.sessions.specs.declared.session.SessionEnd.{SessionEnd}
+use Rattle.sessions.specs.Outside.{InputChange, Outside}
 use Rattle.tile_service.specs.Run.{World, free_seats, world_of}
 use Rattle.tile_service.specs.Schedules.{Schedules}
 use Rattle.tile_service.specs.SessionEnds.{HasSession}

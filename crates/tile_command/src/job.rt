@@ -5,7 +5,7 @@ ghost use Rattle.kept_cache.specs.Change.{DiskChange};
 ghost use Rattle.tile_command.specs.Change.{Stays};
 ghost use Rattle.tile_command.specs.Job.{JobTells};
 ghost use Rattle.tile_command.specs.Kept.{HasLasted};
-ghost use Rattle.tile_service.specs.Outside.{InputChange, Outside, counts};
+ghost use Rattle.sessions.specs.Outside.{InputChange, Outside, counts};
 
 use clock::clock::Clock;
 use command_setup::configured::configured;

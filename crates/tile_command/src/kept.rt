@@ -8,7 +8,7 @@ ghost use Rattle.kept_cache.specs.Crash.{LastsThrough};
 ghost use Rattle.kept_cache.specs.Passing.{PassesDisk};
 ghost use Rattle.tile_command.specs.Change.{CommandChange, Stays};
 ghost use Rattle.tile_command.specs.Kept.{HasLasted, HasRun, RunTells};
-ghost use Rattle.tile_service.specs.Outside.{InputChange, Outside, counts};
+ghost use Rattle.sessions.specs.Outside.{InputChange, Outside, counts};
 
 use catalog::catalogue::Catalogue;
 use clock::clock::Clock;

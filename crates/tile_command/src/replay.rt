@@ -1,7 +1,7 @@
 //! An input served as the bytes of one connection, with the responses written to an output.
 ghost use Rattle.std.specs.Prelude.{◌≡◌};
 ghost use Rattle.catalog.specs.Valid.{IsValid};
-ghost use Rattle.tile_service.specs.Outside.{InputChange, Outside, counts};
+ghost use Rattle.sessions.specs.Outside.{InputChange, Outside, counts};
 ghost use Rattle.tile_service.specs.Session.{IsAtRest};
 ghost use Rattle.tile_service.specs.SessionEnds.{HasSession};
 

@@ -1,11 +1,11 @@
 //! A step of upkeep on the cache of the disk.
 ghost use Rattle.std.specs.Prelude.{◌≡◌, IsTrue, ⊤};
 ghost use Rattle.catalog.specs.Valid.{IsValid};
-ghost use Rattle.kept_cache.specs.Change.{DiskChange, OutputChange};
+ghost use Rattle.kept_cache.specs.Change.{DiskChange};
+ghost use Rattle.sessions.specs.Outside.{InputChange, OutputChange, counts};
 ghost use Rattle.tile_command.specs.Change.{Stays};
 ghost use Rattle.tile_command.specs.Command.{IsFitForUpkeep, IsFitUnder};
 ghost use Rattle.tile_command.specs.Kept.{HasKeptUp, StepLasts, UpkeepLasts, UpkeepTells};
-ghost use Rattle.tile_service.specs.Outside.{InputChange, counts};
 
 use catalog::catalogue::Catalogue;
 use clock::clock::Clock;

@@ -22,7 +22,7 @@ use Rattle.tile_drill.specs.Drilling.{HasMade, HasMadeAll, Makes}
 use Rattle.tile_service.specs.Lines.{action_in}
 use Rattle.tile_drill.specs.Made.{Made as Line, drawn, made_line}
 use Rattle.tile_service.specs.OneLine.{seat_of}
-use Rattle.tile_service.specs.Outside.{Outside, counts}
+use Rattle.sessions.specs.Outside.{Outside, counts}
 use Rattle.tile_requests.specs.Requests.{Chance, calm}
 use Rattle.tile_service.specs.Run.{Answer, PendingRequest, World, answer_text, free_seats, line_done, output_of, run, world_of}
 use Rattle.tile_service.specs.Seats.{pending_at}

@@ -15,7 +15,7 @@ use Rattle.tile_service.specs.declared.cache_tally.CacheResult.TheVariants.{Hit,
 use Rattle.tile_service.specs.declared.cache_tally.CacheTally.{CacheTally}
 use Rattle.tile_drill.specs.Drill.{Drills, counts_text, digest_text, drill_run, line_count, summary}
 use Rattle.tile_drill.specs.Drilling.{HasMade}
-use Rattle.tile_service.specs.Outside.{FaultCounts, Outside, counts}
+use Rattle.sessions.specs.Outside.{FaultCounts, Outside, counts}
 use Rattle.tile_service.specs.Run.{Answer, Run, World, closed, free_seats, left_by, output_of, world_of}
 use Rattle.tile_requests.specs.Sent.{AppendsFront}
 use Rattle.tile_service.specs.CacheTally.{is_hit, is_miss, is_other, result_of, tally_of, total}

@@ -10,7 +10,7 @@ use Rattle.tile_drill.specs.declared.drill.DrillEnd.TheVariants.{Done, WriteFaul
 use Rattle.tile_service.specs.declared.cache_tally.CacheTally.{CacheTally}
 use Rattle.tile_service.specs.Lines.{action_in}
 use Rattle.tile_drill.specs.Made.{Made, drawn, made_line}
-use Rattle.tile_service.specs.Outside.{FaultCounts, Outside}
+use Rattle.sessions.specs.Outside.{FaultCounts, Outside}
 use Rattle.tile_requests.specs.Requests.{Chance}
 use Rattle.tile_service.specs.Run.{Answer, IsFaultless, PendingRequest, Run, World, closed, first_of, line_done, output_of, rest_of, run}
 use Rattle.tile_service.specs.Schedules.{IsUpheld}

@@ -12,7 +12,7 @@ use Rattle.tile_service.specs.declared.cache_tally.CacheTally.{CacheTally}
 use Rattle.tile_drill.specs.Drill.{IsDrilled, drill_lines, drill_run, line_count, made}
 use Rattle.tile_drill.specs.Made.{Aimed}
 use Rattle.tile_service.specs.OneLine.{IsSeated, seat_of}
-use Rattle.tile_service.specs.Outside.{FaultCounts, Outside}
+use Rattle.sessions.specs.Outside.{FaultCounts, Outside}
 use Rattle.tile_requests.specs.Requests.{Chance}
 use Rattle.tile_service.specs.Run.{PendingRequest, World, output_of, world_of}
 use Rattle.tile_service.specs.CacheTally.{tally_of, total}

@@ -2,7 +2,7 @@
 ghost use Rattle.std.specs.Prelude.{◌≡◌};
 ghost use Rattle.catalog.specs.Valid.{IsValid};
 ghost use Rattle.tile_drill.specs.Drill.{Drills};
-ghost use Rattle.tile_service.specs.Outside.{counts};
+ghost use Rattle.sessions.specs.Outside.{counts};
 ghost use Rattle.tile_service.specs.Run.{free_seats, world_of};
 
 use crate::drill_run::{MadeEnd, run_made_lines};

@@ -3,7 +3,7 @@ ghost use Rattle.std.specs.Prelude.{◌≡◌, List, Option, Some, IfOk, OnErr, 
 ghost use Rattle.catalog.specs.Valid.{IsValid};
 ghost use Rattle.tile_drill.specs.Drilling.{HasMade, Makes};
 ghost use Rattle.tile_service.specs.OneLine.{IsSeated, seat_of};
-ghost use Rattle.tile_service.specs.Outside.{counts};
+ghost use Rattle.sessions.specs.Outside.{counts};
 ghost use Rattle.tile_service.specs.Run.{PendingRequest, free_seats, world_of};
 
 use crate::digest_sink::DigestSink;

@@ -8,7 +8,7 @@ use Rattle.tile_service.specs.declared.run_lines.RunEnd.TheVariants.{Done, Line,
 use Rattle.tile_service.specs.declared.schedule.TheConstants.{SCHEDULE_LIMIT}
 use Rattle.tile_service.specs.declared.seats.Seat.{Seat}
 use Rattle.tile_service.specs.OneLine.{seat_of}
-use Rattle.tile_service.specs.Outside.{InputChange, Outside}
+use Rattle.sessions.specs.Outside.{InputChange, Outside}
 use Rattle.tile_service.specs.Run.{PendingRequest, World, left_by, closed, free_seats, world_of}
 use Rattle.tile_service.specs.Schedules.{HasRunThrough, SchedulesThrough, end_of}
 use Rattle.tile_service.specs.Seats.{left_at, all_left}

@@ -6,8 +6,8 @@ use Rattle.causes.specs.Causes.{Rose}
 use Rattle.http_wire.specs.Answers.{IsPartOfTake}
 use Rattle.http_wire.specs.Streams.{Stand, StandIn}
 use Rattle.http_wire.specs.declared.message.Message.{Message}
-use Rattle.tile_service.specs.declared.session.SessionEnd.{SessionEnd}
-use Rattle.tile_service.specs.declared.session.SessionEnd.TheVariants.{Closed, Truncated, Bad, ReadFault, WriteFault, TooMany, OutOfMemory}
+use Rattle.sessions.specs.declared.session.SessionEnd.{SessionEnd}
+use Rattle.sessions.specs.declared.session.SessionEnd.TheVariants.{Closed, Truncated, Bad, ReadFault, WriteFault, TooMany, OutOfMemory}
 use Rattle.tile_requests.specs.Sent.{AppendsFront}
 use Rattle.tile_service.specs.Session.{reply_text, replies, bad_text}
 use Rattle.tile_service.specs.Coming.{EndsUnmet, Wire}

@@ -19,7 +19,7 @@ use Rattle.tile_service.specs.declared.seats.TheConstants.{ACTORS}
 use Rattle.tile_service.specs.Lines.{action_in}
 use Rattle.tile_service.specs.OneLine.{IsLine, IsSeat, IsWorld, IsTrueSeat, IsTrueWorld, seat_of}
 use Rattle.tile_requests.specs.Requests.{Chance, calm, tile_of, tile_in, IsFreshTile}
-use Rattle.tile_service.specs.Outside.{FaultCounts, counts}
+use Rattle.sessions.specs.Outside.{FaultCounts, counts}
 use Rattle.tile_service.specs.Run.{PendingRequest, free_seats, owed_at, World, Answer, Run, run, behind, disk_faults, line_done, failures, unanswered, IsTrue, IsFresh, IsFreshFor, world_of}
 use Rattle.tile_service.specs.Schedules.{IsUpheld}
 use Rattle.tile_requests.proofs.Moving.{within_longer}

@@ -13,7 +13,7 @@ use Rattle.tile_requests.specs.declared.request.Request.TheVariants as request
 use Rattle.tile_requests.specs.Immediate.{IsImmediate}
 use Rattle.tile_requests.specs.Requests.{Chance, calm, disk_faults_in, events, tile_of}
 use Rattle.tile_requests.specs.Routes.{request_for}
-use Rattle.tile_service.specs.Outside.{FaultCounts}
+use Rattle.sessions.specs.Outside.{FaultCounts}
 use Rattle.tile_service.specs.Run.{PendingRequest, World, asked, sent, world_of}
 use Rattle.tile_service.specs.Session.{IsAtRest}
 use Rattle.tile_service.proofs.AtRest.{cut_rests, expired_rests}

@@ -31,7 +31,7 @@ use Rattle.tile_service.specs.Lines.{Action, Nothing, Sends, Steps}
 use Rattle.tile_service.specs.OneLine.{IsPending, IsSeat, IsTrueSeat, IsSeated, Keeps, ActionEnds, Performs, seat_of}
 use Rattle.tile_requests.specs.Requests.{owed, Chance, calm, disk_faults_in}
 use Rattle.tile_requests.specs.Routes.{request_for}
-use Rattle.tile_service.specs.Outside.{FaultCounts}
+use Rattle.sessions.specs.Outside.{FaultCounts}
 use Rattle.tile_service.specs.Run.{PendingRequest, World, Answer, seat_after, answers_after, owed_at, settled, started, resumed, asked, sent, if_free, stepped, line_done, failures, unanswered, world_of}
 use Rattle.tile_service.specs.Seats.{is_free, pending_at, next_seat, action_end_of}
 use Rattle.tile_service.proofs.Immediately.{immediate_told, read_asks, same_events, with_ends}

@@ -13,12 +13,12 @@ use Rattle.tile_service.specs.Coming.{Wire}
 use Rattle.tile_service.specs.OneLine.{MayTell}
 use Rattle.tile_requests.specs.Requests.{answered_at}
 use Rattle.tile_requests.specs.Response.{response}
-use Rattle.tile_service.specs.Outside.{InputChange, Outside, counts}
+use Rattle.sessions.specs.Outside.{InputChange, Outside, counts}
 use Rattle.tile_service.specs.Run.{Answer}
 use Rattle.tile_service.specs.Serving.{Serves}
 use Rattle.tile_service.specs.Session.{reply_text, replies}
 use Rattle.tile_service.specs.SessionEnds.{AreOpen, HasSessionThrough}
-use Rattle.tile_service.specs.declared.session.SessionEnd.{SessionEnd}
+use Rattle.sessions.specs.declared.session.SessionEnd.{SessionEnd}
 use Rattle.tile_requests.proofs.Known.{appends_more, appends_nothing}
 use Rattle.tile_service.proofs.Passing.{ServedSoFar}
 use Rattle.tile_service.proofs.SoFar.{HasServed, served_start, served_next, the_answer}

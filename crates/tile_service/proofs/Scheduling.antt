@@ -14,7 +14,7 @@ use Rattle.tile_service.specs.declared.cache_tally.CacheResult.{CacheResult}
 use Rattle.tile_service.specs.Written.{LineEnds, Writes}
 use Rattle.tile_service.specs.Lines.{lines_of}
 use Rattle.tile_service.specs.OneLine.{seat_of}
-use Rattle.tile_service.specs.Outside.{Outside, counts}
+use Rattle.sessions.specs.Outside.{Outside, counts}
 use Rattle.tile_requests.specs.Requests.{Chance}
 use Rattle.tile_service.specs.Run.{PendingRequest, free_seats, World, Answer, Run, answer_text, world_of}
 use Rattle.tile_service.specs.Schedules.{HasRunThrough}

@@ -19,7 +19,7 @@ use Rattle.tile_requests.specs.Events.{Opens}
 use Rattle.tile_service.specs.OneLine.{Keeps}
 use Rattle.tile_requests.specs.Requests.{calm, events, outcome_of}
 use Rattle.tile_requests.specs.Routes.{request_for}
-use Rattle.tile_service.specs.Outside.{FaultCounts}
+use Rattle.sessions.specs.Outside.{FaultCounts}
 use Rattle.tile_service.specs.Run.{PendingRequest, World, seat_after, answers_after, settled, started, sent, world_of}
 use Rattle.tile_service.specs.Serving.{Serves}
 use Rattle.tile_service.specs.Session.{IsAtRest, lone}

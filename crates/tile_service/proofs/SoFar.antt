@@ -10,7 +10,7 @@ use Rattle.tile_requests.specs.declared.outcome.Outcome.{Outcome}
 use Rattle.tile_requests.specs.declared.request.Mode.TheVariants.{Gets}
 use Rattle.tile_service.specs.OneLine.{IsWorld}
 use Rattle.tile_requests.specs.Requests.{Chance, answered_at}
-use Rattle.tile_service.specs.Outside.{FaultCounts, counts}
+use Rattle.sessions.specs.Outside.{FaultCounts, counts}
 use Rattle.tile_service.specs.Passing.{AfterMessages}
 use Rattle.tile_service.specs.Run.{World, Answer, disk_faults, sent, failures, IsTrue}
 use Rattle.tile_service.specs.Serving.{answer_to, Serves}

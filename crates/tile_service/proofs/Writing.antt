@@ -12,7 +12,7 @@ use Rattle.tile_service.specs.declared.cache_tally.CacheResult.{CacheResult}
 use Rattle.tile_service.specs.declared.cache_tally.CacheResult.TheVariants.{Hit, Miss, Other}
 use Rattle.tile_service.specs.Lines.{action_in}
 use Rattle.tile_service.specs.OneLine.{MayTell, IsLine, AnswersWith, Performs, answer_with}
-use Rattle.tile_service.specs.Outside.{FaultCounts, Outside}
+use Rattle.sessions.specs.Outside.{FaultCounts, Outside}
 use Rattle.tile_requests.specs.Response.{framed, response_with}
 use Rattle.tile_requests.specs.Requests.{answered_at}
 use Rattle.tile_service.specs.Run.{World, Answer, answer_text}

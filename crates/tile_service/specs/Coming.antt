@@ -8,8 +8,8 @@ use Rattle.http_wire.specs.Reader.{Reading}
 use Rattle.http_wire.specs.declared.message.Message.{Message}
 use Rattle.http_wire.specs.declared.message.Stop.TheVariants as stop
 use Rattle.tile_requests.specs.Sent.{AppendsFront}
-use Rattle.tile_service.specs.declared.session.SessionEnd.{SessionEnd}
-use Rattle.tile_service.specs.declared.session.SessionEnd.TheVariants.{Closed, Truncated, Bad, ReadFault, WriteFault, TooMany, OutOfMemory}
+use Rattle.sessions.specs.declared.session.SessionEnd.{SessionEnd}
+use Rattle.sessions.specs.declared.session.SessionEnd.TheVariants.{Closed, Truncated, Bad, ReadFault, WriteFault, TooMany, OutOfMemory}
 use Rattle.tile_service.specs.Session.{bad_text}
 
 -- how a link stands: the faults of its reads and of its writes, the bytes that are left, and those that it has taken, where they

@@ -20,7 +20,7 @@ use Rattle.tile_service.specs.declared.seats.Seat.TheVariants as seat
 use Rattle.tile_requests.specs.Events.{StayCovered}
 use Rattle.tile_service.specs.Lines.{Action, action_in}
 use Rattle.tile_requests.specs.Requests.{Chance, answered_at, calm, disk_faults_in, is_made}
-use Rattle.tile_service.specs.Outside.{FaultCounts}
+use Rattle.sessions.specs.Outside.{FaultCounts}
 use Rattle.tile_service.specs.Run.{PendingRequest, World, Answer, line_done, failures, unanswered, IsTrue, IsFresh, world_of}
 
 -- P holds of the outcome, or of that of no memory, where a text would have to be made for the answer

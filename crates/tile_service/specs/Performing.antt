@@ -16,7 +16,7 @@ use Rattle.tile_service.specs.declared.seats.Seat.{Seat}
 use Rattle.tile_requests.specs.Events.{Opens}
 use Rattle.tile_requests.specs.Immediate.{IsImmediate}
 use Rattle.tile_requests.specs.Requests.{outcome_of}
-use Rattle.tile_service.specs.Outside.{FaultCounts}
+use Rattle.sessions.specs.Outside.{FaultCounts}
 use Rattle.tile_service.specs.Seats.{action_end_of, next_seat}
 
 -- WHERE ONE MESSAGE IS SERVED AT A TIME

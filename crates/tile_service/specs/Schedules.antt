@@ -10,7 +10,7 @@ use Rattle.tile_service.specs.declared.schedule.ScheduleEnd.{ScheduleEnd}
 use Rattle.tile_service.specs.declared.schedule.ScheduleEnd.TheVariants.{Done, Line, ReadFault, WriteFault, TooLong, OutOfMemory}
 use Rattle.tile_service.specs.declared.schedule.TheConstants.{SCHEDULE_LIMIT}
 use Rattle.tile_service.specs.Lines.{lines_of}
-use Rattle.tile_service.specs.Outside.{FaultCounts, Outside, InputChange}
+use Rattle.sessions.specs.Outside.{FaultCounts, Outside, InputChange}
 use Rattle.tile_service.specs.Passing.{AfterLines}
 use Rattle.tile_requests.specs.Requests.{Chance}
 use Rattle.tile_service.specs.Run.{World, Answer, Run, run, answer_text, disk_faults, output_of, failures, unanswered, closed, HasNumbers, IsAnsweredTile, IsTrue, IsFresh}

@@ -9,7 +9,7 @@ use Rattle.tile_requests.specs.declared.request.Mode.TheVariants.{Gets}
 use Rattle.tile_requests.specs.declared.request.Request.{Request}
 use Rattle.tile_service.specs.OneLine.{Keeps}
 use Rattle.tile_requests.specs.Requests.{Chance, answered_at, disk_faults_in}
-use Rattle.tile_service.specs.Outside.{FaultCounts}
+use Rattle.sessions.specs.Outside.{FaultCounts}
 use Rattle.tile_service.specs.Run.{Answer, sent}
 use Rattle.tile_service.specs.Session.{IsAtRest, lone}
 

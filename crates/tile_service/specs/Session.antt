@@ -6,7 +6,7 @@ use Rattle.cabinet.specs.State.{State, IsSound, now}
 use Rattle.causes.specs.Causes.{RoseBy}
 use Rattle.http_wire.specs.declared.message.Message.{Message}
 use Rattle.tile_requests.specs.declared.request.Mode.TheVariants.{Gets}
-use Rattle.tile_service.specs.Outside.{FaultCounts}
+use Rattle.sessions.specs.Outside.{FaultCounts}
 use Rattle.tile_requests.specs.Requests.{Chance}
 use Rattle.tile_requests.specs.Response.{bare, response, response_text}
 use Rattle.tile_service.specs.Run.{World, Answer, disk_faults, sent, first_of, rest_of, failures, HasNumbers, IsAnsweredTile, IsTrue, IsFresh}

@@ -10,9 +10,9 @@ use Rattle.http_wire.specs.declared.message.Stop.TheVariants as stop
 use Rattle.http_wire.specs.Answers.{IsPartOfTake}
 use Rattle.http_wire.specs.Messages.{HoldsMessage, StopsAs}
 use Rattle.http_wire.specs.Streams.{StandIn}
-use Rattle.tile_service.specs.declared.session.SessionEnd.{SessionEnd}
-use Rattle.tile_service.specs.declared.session.SessionEnd.TheVariants.{Closed, Truncated, Bad, ReadFault, WriteFault, TooMany, OutOfMemory}
-use Rattle.tile_service.specs.Outside.{InputChange, Outside}
+use Rattle.sessions.specs.declared.session.SessionEnd.{SessionEnd}
+use Rattle.sessions.specs.declared.session.SessionEnd.TheVariants.{Closed, Truncated, Bad, ReadFault, WriteFault, TooMany, OutOfMemory}
+use Rattle.sessions.specs.Outside.{InputChange, Outside}
 use Rattle.tile_service.specs.Passing.{AfterMessages}
 use Rattle.tile_service.specs.Run.{Answer}
 use Rattle.tile_requests.specs.Sent.{AppendsPart}

@@ -9,7 +9,7 @@ use Rattle.tile_service.specs.declared.run_line.LineEnd.TheVariants as line_end
 use Rattle.tile_service.specs.declared.seats.Seat.{Seat}
 use Rattle.tile_service.specs.Lines.{action_in}
 use Rattle.tile_service.specs.OneLine.{IsLine, IsSeated, seat_of}
-use Rattle.tile_service.specs.Outside.{Outside}
+use Rattle.sessions.specs.Outside.{Outside}
 use Rattle.tile_requests.specs.Requests.{calm}
 use Rattle.tile_service.specs.Run.{PendingRequest, World, Answer, line_done, answer_text, world_of}
 use Rattle.tile_requests.specs.Sent.{AppendsFront}

@@ -5,7 +5,7 @@ ghost use Rattle.catalog.specs.Valid.{IsValid};
 ghost use Rattle.tile_service.specs.Performing.{IsAsked};
 ghost use Rattle.tile_service.specs.Lines.{Sends, Steps, action_in};
 ghost use Rattle.tile_service.specs.OneLine.{Performs, IsSeated};
-ghost use Rattle.tile_service.specs.Outside.{counts};
+ghost use Rattle.sessions.specs.Outside.{counts};
 ghost use Rattle.tile_requests.specs.Requests.{IsOf};
 ghost use Rattle.tile_requests.specs.Shown.{shown_message};
 ghost use Rattle.tile_service.specs.Run.{PendingRequest};

@@ -3,7 +3,7 @@ ghost use Rattle.std.specs.Prelude.{◌≡◌, ◌<◌, ◌^◌, List, Option, l
 ghost use Rattle.cache_core.specs.Lasting.{Lasting};
 ghost use Rattle.catalog.specs.Valid.{IsValid};
 ghost use Rattle.tile_service.specs.OneLine.{seat_of};
-ghost use Rattle.tile_service.specs.Outside.{counts};
+ghost use Rattle.sessions.specs.Outside.{counts};
 ghost use Rattle.tile_service.specs.Passing.{LeadsThrough};
 ghost use Rattle.tile_service.specs.Run.{PendingRequest, free_seats, world_of};
 ghost use Rattle.tile_service.specs.Schedules.{HasRunThrough};

@@ -5,7 +5,7 @@ ghost use Rattle.cache_core.specs.Lasting.{Lasting};
 ghost use Rattle.catalog.specs.Valid.{IsValid};
 ghost use Rattle.causes.specs.Causes.{HasCause};
 ghost use Rattle.tile_service.specs.OneLine.{MayTell};
-ghost use Rattle.tile_service.specs.Outside.{InputChange, Outside, counts};
+ghost use Rattle.sessions.specs.Outside.{InputChange, Outside, counts};
 ghost use Rattle.tile_service.specs.Passing.{LeadsThrough};
 ghost use Rattle.tile_requests.specs.Response.{closes, response};
 ghost use Rattle.tile_requests.specs.Sent.{AppendsFront};

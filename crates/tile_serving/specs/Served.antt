@@ -14,7 +14,7 @@ use Rattle.gate_journal.specs.declared.fault.OpenFault.TheVariants as fault
 use Rattle.hall_service.specs.First.{first_pass}
 use Rattle.hall_service.specs.Served.{HasServedOver, Listened}
 use Rattle.hall_service.specs.Stints.{LinkReading, Service}
-use Rattle.tile_service.specs.Outside.{FaultCounts, InputChange}
+use Rattle.sessions.specs.Outside.{FaultCounts, InputChange}
 use Rattle.tile_serving.specs.Opened.{IsOpened, IsUnopened, ServerDisk}
 
 -- WHAT A SERVER IS HANDED

@@ -14,7 +14,7 @@ use Rattle.command_setup.specs.Refusals.{status_of_refusal}
 use Rattle.command_status.specs.Statuses.{status_of_opening}
 use Rattle.gate_journal.specs.declared.fault.OpenFault.{OpenFault}
 use Rattle.hall_service.specs.First.{first_pass}
-use Rattle.tile_service.specs.Outside.{InputChange}
+use Rattle.sessions.specs.Outside.{InputChange}
 use Rattle.tile_serving.specs.Opened.{IsOpened, IsUnopened, ServerDisk}
 
 -- each pass is a first one of this table, at the cabinet that the disk opens to

@@ -1,7 +1,7 @@
 //! A server, from its files to its last link.
 ghost use Rattle.std.specs.Prelude.{IsTrue, length, true, ◌≡◌, ◌≤◌};
 ghost use Rattle.command_setup.specs.Held.{HoldsFile};
-ghost use Rattle.tile_service.specs.Outside.{counts};
+ghost use Rattle.sessions.specs.Outside.{counts};
 ghost use Rattle.tile_serving.specs.Opened.{HoldsPictures, TellAll};
 ghost use Rattle.tile_serving.specs.Served.{HasEnded};
 

@@ -4,7 +4,7 @@ ghost use Rattle.catalog.specs.Valid.{IsValid};
 ghost use Rattle.command_setup.specs.Held.{HoldsFile};
 ghost use Rattle.durable_cabinet.specs.Images.{IsOurs, IsSoundImage};
 ghost use Rattle.hall_service.specs.First.{AreFirstAtBoard};
-ghost use Rattle.tile_service.specs.Outside.{InputChange, counts};
+ghost use Rattle.sessions.specs.Outside.{InputChange, counts};
 ghost use Rattle.tile_serving.specs.Opened.{HoldsPictures, IsOpened};
 ghost use Rattle.tile_serving.specs.Setup.{AreFirst, IsStaged, IsUnready, Refuses};
 

@@ -11,14 +11,13 @@ use Rattle.disk_model.specs.Content.{Content}
 use Rattle.disk_model.specs.Images.{DiskState, Leaves}
 use Rattle.disk_model.specs.Moments.{leaves_as, leaves_none, leaves_then}
 use Rattle.http_wire.proofs.TakesOn.{rose_before}
-use Rattle.kept_cache.specs.Change.{OutputChange}
+use Rattle.sessions.specs.Outside.{OutputChange, counts}
 use Rattle.matrix_geometry.specs.declared.address.Address.{Address}
 use Rattle.outbox.specs.Files.{MayOpenTo}
 use Rattle.outbox.specs.Posts.{Outgoing}
 use Rattle.tile_requests.specs.Sent.{AppendsFront}
 use Rattle.tile_requests.proofs.Known.{appends_more, appends_nothing}
 use Rattle.tile_service.specs.Lines.{lines_of}
-use Rattle.tile_service.specs.Outside.{counts}
 use Rattle.twin_events.specs.declared.got.Got.{Got}
 use Rattle.twin_events.specs.declared.got.Got.TheVariants as got
 use Rattle.twin_events.specs.Gets.{Failures, Gets}

@@ -9,7 +9,7 @@ use Rattle.cut_follower.specs.Lossy.{Event, Lossy}
 use Rattle.disk_model.specs.Content.{Content}
 use Rattle.disk_model.specs.Images.{DiskState, Leaves}
 use Rattle.disk_model.specs.Moments.{leaves_none}
-use Rattle.kept_cache.specs.Change.{OutputChange}
+use Rattle.sessions.specs.Outside.{OutputChange}
 use Rattle.matrix_geometry.specs.declared.address.Address.{Address}
 use Rattle.outbox.specs.Posts as outboxes
 use Rattle.twin_events.specs.declared.carried.Carried.{Carried}

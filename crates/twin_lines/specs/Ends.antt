@@ -5,7 +5,8 @@ use Rattle.catalog.specs.declared.catalogue.Catalogue.{Catalogue}
 use Rattle.causes.specs.Causes.{Rose}
 use Rattle.change_feed.specs.Files.{MayEndIn}
 use Rattle.disk_model.specs.Images.{DiskState, Leaves}
-use Rattle.kept_cache.specs.Change.{HasWritten, OutputChange}
+use Rattle.kept_cache.specs.Change.{HasWritten}
+use Rattle.sessions.specs.Outside.{OutputChange}
 use Rattle.tile_requests.specs.Sent.{AppendsPart}
 use Rattle.tile_service.specs.Lines.{lines_of}
 use Rattle.twin_events.specs.Carries.{IsOutside}

@@ -3,9 +3,8 @@ ghost use Rattle.std.specs.Prelude.{◌≡◌, ◌≤◌, ℕ, IfOk, Option, Som
 ghost use Rattle.cache_core.specs.Lasting.{Lasting};
 ghost use Rattle.catalog.specs.LookUp.{IsTile};
 ghost use Rattle.gate_journal.specs.Sound.{digest_of};
-ghost use Rattle.kept_cache.specs.Change.{OutputChange};
+ghost use Rattle.sessions.specs.Outside.{OutputChange, counts};
 ghost use Rattle.served_covers.specs.OfCatalogue.{IsCoverOf};
-ghost use Rattle.tile_service.specs.Outside.{counts};
 ghost use Rattle.twin_events.specs.Twins.{IsReady, standing};
 ghost use Rattle.twin_lines.specs.declared.order.Order.TheVariants as order;
 ghost use Rattle.twin_lines.specs.Ends.{passage};

@@ -2,8 +2,7 @@
 ghost use Rattle.std.specs.Prelude.{◌≡◌, ◌≤◌, ◌<◌, ◌+◌, ◌^◌, length};
 ghost use Rattle.cache_core.specs.Lasting.{Lasting};
 ghost use Rattle.gate_journal.specs.Sound.{digest_of};
-ghost use Rattle.kept_cache.specs.Change.{OutputChange};
-ghost use Rattle.tile_service.specs.Outside.{counts};
+ghost use Rattle.sessions.specs.Outside.{OutputChange, counts};
 ghost use Rattle.twin_events.specs.Twins.{IsReady, standing};
 ghost use Rattle.twin_lines.specs.Ends.{CanGoOn, HasRunLines, passage};
 ghost use Rattle.twin_lines.specs.Steps.{faults, moment};

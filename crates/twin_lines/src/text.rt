@@ -1,8 +1,7 @@
 //! The texts of answers, sent.
 ghost use Rattle.std.specs.Prelude.{◌≡◌, ◌≤◌, ◌+◌, ◌++◌, codes, decimal, length};
 ghost use Rattle.arrayvec.specs.ArrayVec.{array_vec_len};
-ghost use Rattle.kept_cache.specs.Change.{OutputChange};
-ghost use Rattle.tile_service.specs.Outside.{counts};
+ghost use Rattle.sessions.specs.Outside.{OutputChange, counts};
 ghost use Rattle.twin_lines.specs.OneLine.{IsToldAs};
 ghost use Rattle.twin_lines.specs.Steps.{sent};
 ghost use Rattle.twin_lines.specs.Texts.{answer_text, applied_text, carried_text, got_text, line_with, no_number, one_number, posted_text, taken_text, tile_lines, two_numbers};

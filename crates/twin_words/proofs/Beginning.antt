@@ -28,7 +28,7 @@ use Rattle.kept_cache.specs.Crash.{Lasts}
 use Rattle.command_status.specs.Statuses.{status_of_input, status_of_opening}
 use Rattle.outbox.specs.Files.{MayOpenTo, OpensToPosts}
 use Rattle.outbox.specs.Posts.{MayBeFound, Outgoing}
-use Rattle.tile_service.specs.Outside.{counts}
+use Rattle.sessions.specs.Outside.{counts}
 use Rattle.truncation_list.specs.declared.cover.Cover.{Cover}
 use Rattle.twin_events.specs.Twins.{IsAt, Standing}
 use Rattle.twin_lines.specs.declared.lines.Halt.{Halt}

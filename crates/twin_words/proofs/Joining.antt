@@ -13,7 +13,7 @@ use Rattle.command_status.specs.declared.status.Status.{Status}
 use Rattle.tile_requests.specs.Sent.{AppendsFront}
 use Rattle.tile_requests.proofs.Known.{appends_nothing}
 use Rattle.tile_service.specs.Lines.{lines_of}
-use Rattle.tile_service.specs.Outside.{counts}
+use Rattle.sessions.specs.Outside.{counts}
 use Rattle.twin_lines.specs.declared.lines.Halt.{Halt}
 use Rattle.twin_lines.specs.declared.lines.Halt.TheVariants as halt
 use Rattle.twin_lines.specs.declared.order.Side.{Side}
@@ -26,7 +26,7 @@ use Rattle.twin_words.proofs.Stretching.{change, left_as}
 use Rattle.causes.specs.Causes.{Rose}
 use Rattle.http_wire.specs.declared.inputs.InputEnd.{InputEnd}
 use Rattle.http_wire.specs.declared.inputs.InputEnd.TheVariants as input_end
-use Rattle.tile_service.specs.Outside.{InputChange}
+use Rattle.sessions.specs.Outside.{InputChange}
 use Rattle.twin_words.specs.Ends.{IsTooLong, RefusesAgain}
 use Rattle.twin_words.specs.Works.{IsEndOf, IsUnread, RunsOn, RunsText, Works, weight}
 

@@ -14,7 +14,7 @@ use Rattle.kept_cache.specs.Change.{DiskChange}
 use Rattle.kept_cache.specs.Crash.{IsClosed}
 use Rattle.kept_cache.specs.Opened.{IsOpened}
 use Rattle.outbox.specs.Files as outbox_files
-use Rattle.tile_service.specs.Outside.{counts}
+use Rattle.sessions.specs.Outside.{counts}
 use Rattle.twin_words.specs.Opens.{IsQuiet, OpensAlone, RefusesMarks, RefusesOutbox}
 
 -- a cabinet was opened and closed again

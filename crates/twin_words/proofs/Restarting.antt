@@ -19,7 +19,7 @@ use Rattle.kept_cache.specs.Change.{DiskChange}
 use Rattle.kept_cache.specs.Crash.{IsClosed, IsLeftBy, LeftByOpening, OpeningLeaves}
 use Rattle.outbox.specs.Files.{MayOpenTo, OpensToPosts}
 use Rattle.truncation_list.proofs.Answering.{answers_itself}
-use Rattle.tile_service.specs.Outside.{counts}
+use Rattle.sessions.specs.Outside.{counts}
 use Rattle.twin_events.specs.Twins.{Standing}
 use Rattle.twin_lines.specs.declared.order.Side.TheVariants as side
 use Rattle.twin_lines.specs.Steps.{faults, moment}

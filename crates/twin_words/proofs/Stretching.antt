@@ -14,7 +14,8 @@ use Rattle.durable_cabinet.specs.Images.{IsOurs}
 use Rattle.durable_cabinet.specs.Outlasting.{AnswersAs, Outlasts}
 use Rattle.gate_journal.specs.declared.journal.Journal.{Journal}
 use Rattle.gate_journal.specs.Sound.{IsSettled}
-use Rattle.kept_cache.specs.Change.{DiskChange, OutputChange}
+use Rattle.kept_cache.specs.Change.{DiskChange}
+use Rattle.sessions.specs.Outside.{OutputChange, counts}
 use Rattle.twin_lines.specs.declared.lines.Halt.{Halt}
 use Rattle.twin_lines.specs.Ends.{AreOrdered, DiskPassage, Ends, HasRunLines, IsAmong, passage}
 use Rattle.twin_lines.specs.Steps.{AreTrue, IsLater, Moment, Step, faults, moment, stopped}
@@ -31,7 +32,6 @@ use Rattle.outbox.specs.Files as outbox_files
 use Rattle.std.proofs.lemmas.List.{length-append}
 use Rattle.tile_requests.specs.Sent.{AppendsFront}
 use Rattle.tile_service.specs.Lines.{lines_of}
-use Rattle.tile_service.specs.Outside.{counts}
 use Rattle.truncation_list.proofs.Answering.{answers_itself}
 use Rattle.twin_events.specs.Twins.{Standing}
 use Rattle.twin_lines.specs.declared.lines.Halt.TheVariants as halt

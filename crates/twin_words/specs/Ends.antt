@@ -17,7 +17,8 @@ use Rattle.command_setup.specs.Refusals.{status_of_refusal}
 use Rattle.command_status.specs.Statuses.{status_of_opening}
 use Rattle.gate_journal.specs.declared.fault.OpenFault.{OpenFault}
 use Rattle.command_status.specs.declared.status.Status.TheVariants as status
-use Rattle.kept_cache.specs.Change.{DiskChange, HasFailed, HasWritten, OutputChange}
+use Rattle.kept_cache.specs.Change.{DiskChange, HasFailed, HasWritten}
+use Rattle.sessions.specs.Outside.{FaultCounts, InputChange, OutputChange}
 use Rattle.kept_cache.specs.Crash.{LastsThrough}
 use Rattle.kept_cache.specs.Opened.{IsOpened}
 use Rattle.change_feed.specs.Files as marks_files
@@ -25,7 +26,6 @@ use Rattle.durable_cabinet.specs.Filed as cache_files
 use Rattle.outbox.specs.Files as outbox_files
 use Rattle.outbox.specs.Files.{IsOutboxFile, MayOpenTo, OpensToPosts}
 use Rattle.tile_service.specs.Lines.{lines_of}
-use Rattle.tile_service.specs.Outside.{FaultCounts, InputChange}
 use Rattle.twin_events.specs.Twins.{Standing}
 use Rattle.twin_lines.specs.declared.lines.Halt.{Halt}
 use Rattle.twin_lines.specs.declared.lines.Halt.TheVariants as halt

@@ -7,9 +7,9 @@ use Rattle.disk_model.specs.Images.{DiskState, Every}
 use Rattle.durable_cabinet.specs.Images.{IsOurs, OpensTo}
 use Rattle.command_status.specs.declared.status.Status.{Status}
 use Rattle.command_status.specs.declared.status.Status.TheVariants as status
-use Rattle.kept_cache.specs.Change.{DiskChange, HasFailed, HasWritten, IsCutShort, OutputChange}
+use Rattle.kept_cache.specs.Change.{DiskChange, HasFailed, HasWritten, IsCutShort}
+use Rattle.sessions.specs.Outside.{OutputChange, counts}
 use Rattle.outbox.specs.Files.{OpensToPosts}
-use Rattle.tile_service.specs.Outside.{counts}
 
 -- what a word saw of a disk, of which these are the members that are modelled, from one moment to another
 abbrev pub change_of : {D : Type 0} → (D → Bool) → (D → DiskState) → (D → ℕ) → D → D → DiskChange

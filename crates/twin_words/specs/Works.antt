@@ -12,10 +12,10 @@ use Rattle.http_wire.specs.declared.inputs.InputEnd.{InputEnd}
 use Rattle.http_wire.specs.declared.inputs.InputEnd.TheVariants as input_end
 use Rattle.command_status.specs.declared.status.Status.{Status}
 use Rattle.command_status.specs.declared.status.Status.TheVariants as status
-use Rattle.kept_cache.specs.Change.{DiskChange, HasWritten, OutputChange}
+use Rattle.kept_cache.specs.Change.{DiskChange, HasWritten}
+use Rattle.sessions.specs.Outside.{InputChange, OutputChange}
 use Rattle.command_status.specs.Statuses.{status_of_input, status_of_opening}
 use Rattle.tile_service.specs.Lines.{lines_of}
-use Rattle.tile_service.specs.Outside.{InputChange}
 use Rattle.twin_events.specs.Twins.{LeadsBy}
 use Rattle.twin_lines.specs.declared.lines.Halt.{Halt}
 use Rattle.twin_lines.specs.declared.lines.Halt.TheVariants as halt

@@ -1,8 +1,7 @@
 //! The word that makes the three empty files of a twin.
 ghost use Rattle.std.specs.Prelude.{◌≡◌};
 ghost use Rattle.catalog.specs.Valid.{IsValid};
-ghost use Rattle.kept_cache.specs.Change.{OutputChange};
-ghost use Rattle.tile_service.specs.Outside.{counts};
+ghost use Rattle.sessions.specs.Outside.{OutputChange, counts};
 ghost use Rattle.twin_words.specs.Made.{MakesTwin, change_of};
 
 use arrayvec::ArrayVec;

@@ -2,8 +2,7 @@
 ghost use Rattle.std.specs.Prelude.{◌≡◌, ◌≤◌, ◌<◌, ◌+◌, ◌^◌, IfErr, IfOk, length};
 ghost use Rattle.feed_words.specs.OneLine.{IsSent};
 ghost use Rattle.gate_journal.specs.Sound.{IsSettled, digest_of};
-ghost use Rattle.kept_cache.specs.Change.{OutputChange};
-ghost use Rattle.tile_service.specs.Outside.{InputChange, counts};
+ghost use Rattle.sessions.specs.Outside.{InputChange, OutputChange, counts};
 ghost use Rattle.twin_events.specs.Twins.{IsReady, standing};
 ghost use Rattle.tile_service.specs.Lines.{lines_of};
 ghost use Rattle.twin_lines.specs.declared.order.Side.{Side};

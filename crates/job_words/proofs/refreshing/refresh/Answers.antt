@@ -3,7 +3,7 @@ use Rattle.cache_core.specs.Steps.{given_up}
 use Rattle.job_words.specs.Coming.{CarriesOn}
 use Rattle.job_words.proofs.Coming.{carried_done, refresh_comes}
 use Rattle.raster_field.specs.Blocks.{first_tile}
-use Rattle.tile_service.specs.Outside.{counts}
+use Rattle.sessions.specs.Outside.{counts}
 use Rattle.job_words.proofs.refreshing.refresh.Goals as goal
 
 pub returns-clause-comes : goal.returns-clause-comes

@@ -1,6 +1,6 @@
 use Rattle.std.proofs.Common.{◌≡◌, ◌≤◌}
 use Rattle.cache_core.specs.Lasting.{Lasting}
-use Rattle.tile_service.specs.Outside.{counts}
+use Rattle.sessions.specs.Outside.{counts}
 use Rattle.tile_service.specs.Session.{IsAtRest}
 use Rattle.job_words.proofs.Through.{IsPart}
 use Rattle.job_words.proofs.running.run_places.Given as goal

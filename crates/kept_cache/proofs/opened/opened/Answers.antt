@@ -2,7 +2,7 @@ use Rattle.std.proofs.Common.{sym}
 use Rattle.kept_cache.proofs.Lasting.{opening_lasts}
 use Rattle.kept_cache.proofs.Refused.{refusal_leaves}
 use Rattle.kept_cache.proofs.opened.opened.Goals as goal
-use Rattle.tile_service.specs.Outside.{counts}
+use Rattle.sessions.specs.Outside.{counts}
 
 pub open-requires-clause-ours : goal.open-requires-clause-ours
 open-requires-clause-ours g c = rw c.new.ensures c.requires.ours

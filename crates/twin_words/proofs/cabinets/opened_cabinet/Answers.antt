@@ -1,6 +1,6 @@
 use Rattle.std.proofs.Common.{sym}
 use Rattle.kept_cache.proofs.Refused.{refusal_leaves}
-use Rattle.tile_service.specs.Outside.{counts}
+use Rattle.sessions.specs.Outside.{counts}
 use Rattle.twin_words.proofs.cabinets.opened_cabinet.Goals as goal
 
 pub open-requires-clause-ours : goal.open-requires-clause-ours

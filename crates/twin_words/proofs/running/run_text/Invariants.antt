@@ -1,7 +1,7 @@
 use Rattle.std.proofs.Common.{◌≡◌, ◌≤◌, length}
 use Rattle.gate_journal.specs.Sound.{IsSettled, digest_of}
 use Rattle.tile_service.specs.Lines.{lines_of}
-use Rattle.tile_service.specs.Outside.{counts}
+use Rattle.sessions.specs.Outside.{counts}
 use Rattle.twin_events.specs.Twins.{IsReady, standing}
 use Rattle.twin_lines.specs.Steps.{Moment, faults, moment}
 use Rattle.twin_words.specs.Works.{RunsOn}
