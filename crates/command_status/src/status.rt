@@ -1,15 +1,17 @@
 //! How a command ended, and how that is told to the operator: the code that the process ends with, and a line.
+//!
+//! A composition and a link have further ends: those are told by 15 (`compose_words::end`) and 16 (`link_words::ends`).
 use catalog::fault::{CatalogueFault, Field};
 use gate_journal::fault::OpenFault;
 use job_forms::fault::{JobFault, JobField};
 use sessions::session::SessionEnd;
 use std::fmt;
 
-/// How a command ended. Each means the same for all words (`tile_command/specs/Statuses.antt`).
+/// How a command ended. Each means the same for all words (`specs/Statuses.antt`).
 #[derive(Clone, Copy, PartialEq, Eq)]
 pub enum Status {
     /// The input, where the words take one, was read to its end, or to the last message of its connection, and all was
-    /// written.
+    /// written. A server served as many links as it was asked for, each to its end.
     Done,
     /// The words are no command.
     Usage,
@@ -39,6 +41,10 @@ pub enum Status {
     TooLong,
     /// The cover or the job has this fault.
     Form(JobFault),
+    /// No connection is had: the port can't be had, nobody waits at it, or the listener failed to give a further one.
+    ListenFault,
+    /// The threads that serve can't be made. No connection was taken.
+    ThreadFault,
 }
 
 impl Status {
@@ -58,6 +64,8 @@ impl Status {
             Status::Stream(_) => 11,
             Status::TooLong => 12,
             Status::Form(_) => 13,
+            Status::ListenFault => 14,
+            Status::ThreadFault => 18,
         }
     }
 }
@@ -86,6 +94,8 @@ fn line_of(status: &Status) -> &'static str {
         Status::CutsFull => "cuts full",
         Status::OutOfMemory => "out of memory",
         Status::TooLong => "too long",
+        Status::ListenFault => "listen fault",
+        Status::ThreadFault => "thread fault",
         Status::Done
         | Status::Catalogue(_)
         | Status::Line(_)

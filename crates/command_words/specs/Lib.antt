@@ -1,3 +1,4 @@
 pub mod Words
 pub mod ServeOptions
 pub mod ServeWords
+pub mod TopCalls

@@ -1,9 +1,11 @@
 //! The words of the command line: what they ask for.
 //!
-//! Promises: `word_of` reads the words of a command that runs once, in memory or on the cache of a disk (`specs/Words.antt`);
-//! `serve_words` reads those of a server (`specs/ServeWords.antt`). It does nothing with them.
+//! Promises: `top_call` tells which top call words are for, by the first of them (`specs/TopCalls.antt`); `word_of` reads the words of a
+//! command that runs once, in memory or on the cache of a disk (`specs/Words.antt`); `serve_words` reads those of a server
+//! (`specs/ServeWords.antt`). It does nothing with them.
 //! Stands on wmts_kvp for numbers, and on `clap` for the words of a server.
 #![tactic(auto)]
 
 pub mod serve_words;
+pub mod top_calls;
 pub mod words;

@@ -20,8 +20,6 @@ use Rattle.gate_journal.specs.declared.fault.OpenFault.{OpenFault}
 use Rattle.gate_journal.specs.declared.fault.OpenFault.TheVariants as fault
 use Rattle.gate_journal.specs.Opened.{Opening, differs, no_cache, records}
 use Rattle.kept_cache.proofs.Refusing.{not_opened}
-use Rattle.kept_cache.specs.declared.end.KeptEnd.{KeptEnd}
-use Rattle.kept_cache.specs.declared.end.KeptEnd.TheVariants as end
 use Rattle.kept_cache.specs.Change.{DiskChange}
 use Rattle.tile_service.specs.Lines.{lines_of}
 use Rattle.sessions.specs.Outside.{InputChange}
@@ -31,7 +29,7 @@ use Rattle.feed_words.specs.declared.words.FeedWord.TheVariants as feed
 use Rattle.feed_words.specs.Complete.{DoOpen, HasCatalogue, HasChanges, IsComplete, IsInOrder, NothingFails}
 use Rattle.feed_words.specs.Ends.{AreRefused, FeedChange, FeedTells, Feeds, FeedsOn, HasFedLines, HasOpenedAndFed, IsText, MakesMarks, Stays, WordEnds}
 use Rattle.feed_words.specs.Orders.{change_in}
-use Rattle.feed_words.specs.Statuses.{status_of_end, status_of_refusal}
+use Rattle.command_setup.specs.Refusals.{status_of_refusal}
 
 abbrev IsDone : Status → Type 0
 IsDone s = (s ≡ status.Done) ⊎ (s ≡ status.OutOfMemory)
@@ -114,18 +112,22 @@ none_is_no_some (Some a) is some = cc
 
 -- THE WORDS
 
-made : (h : FeedChange) → NothingFails h → (c : Catalogue) (OutputStays : Type 0) (e : KeptEnd) → MakesMarks c h.marks h.output OutputStays e → IsDone (status_of_end e)
-made h quiet c S end.Done ends = inl refl
-made h quiet c S end.WriteFault ends = absurd (quiet.output ends.1.1)
-made h quiet c S end.DiskFault ends = absurd (quiet.marks ends.0)
-made h quiet c S end.ReadFault ends = absurd ends
-made h quiet c S end.TooLong ends = absurd ends
-made h quiet c S (end.Form cause) ends = absurd ends
-made h quiet c S (end.Refused cause) ends = absurd ends
-made h quiet c S end.CutsFull ends = absurd ends
-made h quiet c S (end.Line n) ends = absurd ends
-made h quiet c S (end.Stream session) ends = absurd ends
-made h quiet c S end.OutOfMemory ends = absurd ends
+made : (h : FeedChange) → NothingFails h → (c : Catalogue) (OutputStays : Type 0) (e : Status) → MakesMarks c h.marks h.output OutputStays e → IsDone e
+made h quiet c S status.Done ends = inl refl
+made h quiet c S status.WriteFault ends = absurd (quiet.output ends.1.1)
+made h quiet c S status.DiskFault ends = absurd (quiet.marks ends.0)
+made h quiet c S status.ReadFault ends = absurd ends
+made h quiet c S status.TooLong ends = absurd ends
+made h quiet c S (status.Form cause) ends = absurd ends
+made h quiet c S (status.Cache cause) ends = absurd ends
+made h quiet c S status.CutsFull ends = absurd ends
+made h quiet c S (status.Line n) ends = absurd ends
+made h quiet c S (status.Stream session) ends = absurd ends
+made h quiet c S status.OutOfMemory ends = absurd ends
+made h quiet c S status.Usage ends = absurd ends
+made h quiet c S (status.Catalogue fault) ends = absurd ends
+made h quiet c S status.ListenFault ends = absurd ends
+made h quiet c S status.ThreadFault ends = absurd ends
 
 module _ (h : FeedChange) (quiet : NothingFails h) (clock : Readings) (c : Catalogue) (open_both : DoOpen c clock h.cache h.marks) (has : HasChanges c h.input) where
   -- the text that was read orders a change in each line
@@ -139,36 +141,44 @@ module _ (h : FeedChange) (quiet : NothingFails h) (clock : Readings) (c : Catal
       let all : AllByRecursion (λ line. IsSome (change_in c line)) (e.0 ++ e.1 ∷ e.2.0) = subst (λ (ls : List (List ℕ)). AllByRecursion (λ line. IsSome (change_in c line)) ls) e.2.1 (changes_read text f.2.1) in
       none_is_no_some (change_in c e.1) e.5 (ordered_at c e.0 e.1 e.2.0 all)
 
-  fed_on : (InputStays OutputStays : Type 0) (s u : State) (e : KeptEnd) → FeedsOn c h.cache.faults h.input h.output h.marks InputStays OutputStays s u e → IsDone (status_of_end e)
-  fed_on I O s u end.Done f = inl refl
-  fed_on I O s u (end.Line n) f = absurd (no_line s u n f)
-  fed_on I O s u end.WriteFault f = absurd (quiet.output f.2.2.4.failed)
-  fed_on I O s u end.ReadFault f = absurd (quiet.input f.1)
-  fed_on I O s u end.TooLong f = absurd (not_over 16777216 h.input.from _ f.1.0 has.text has.from f.1.1 f.1.2 has.short)
-  fed_on I O s u (end.Refused cause) f = absurd (marks_open c h.marks open_both.marks_told open_both.marks.0 open_both.marks.1 cause f.0)
-  fed_on I O s u end.DiskFault f = absurd (quiet.marks f.0)
-  fed_on I O s u end.OutOfMemory f = inr refl
-  fed_on I O s u (end.Form cause) f = absurd f
-  fed_on I O s u end.CutsFull f = absurd f
-  fed_on I O s u (end.Stream session) f = absurd f
+  fed_on : (InputStays OutputStays : Type 0) (s u : State) (e : Status) → FeedsOn c h.cache.faults h.input h.output h.marks InputStays OutputStays s u e → IsDone e
+  fed_on I O s u status.Done f = inl refl
+  fed_on I O s u (status.Line n) f = absurd (no_line s u n f)
+  fed_on I O s u status.WriteFault f = absurd (quiet.output f.2.2.4.failed)
+  fed_on I O s u status.ReadFault f = absurd (quiet.input f.1)
+  fed_on I O s u status.TooLong f = absurd (not_over 16777216 h.input.from _ f.1.0 has.text has.from f.1.1 f.1.2 has.short)
+  fed_on I O s u (status.Cache cause) f = absurd (marks_open c h.marks open_both.marks_told open_both.marks.0 open_both.marks.1 cause f.0)
+  fed_on I O s u status.DiskFault f = absurd (quiet.marks f.0)
+  fed_on I O s u status.OutOfMemory f = inr refl
+  fed_on I O s u (status.Form cause) f = absurd f
+  fed_on I O s u status.CutsFull f = absurd f
+  fed_on I O s u (status.Stream session) f = absurd f
+  fed_on I O s u status.Usage f = absurd f
+  fed_on I O s u (status.Catalogue fault) f = absurd f
+  fed_on I O s u status.ListenFault f = absurd f
+  fed_on I O s u status.ThreadFault f = absurd f
 
-  opened_and_fed : (InputStays OutputStays : Type 0) (e : KeptEnd) → HasOpenedAndFed c clock h.input h.output h.cache h.marks InputStays OutputStays e → IsDone (status_of_end e)
+  opened_and_fed : (InputStays OutputStays : Type 0) (e : Status) → HasOpenedAndFed c clock h.input h.output h.cache h.marks InputStays OutputStays e → IsDone e
   opened_and_fed I O e f = fed_on I O f.0 f.1 e f.3
 
-  fed : (InputStays OutputStays MarksStay : Type 0) (e : KeptEnd) → Feeds c clock h.input h.output h.cache h.marks InputStays OutputStays MarksStay e → IsDone (status_of_end e)
-  fed I O M end.Done f = inl refl
-  fed I O M (end.Line n) f = opened_and_fed I O (end.Line n) f
-  fed I O M end.WriteFault f = opened_and_fed I O end.WriteFault f
-  fed I O M end.ReadFault f = opened_and_fed I O end.ReadFault f
-  fed I O M end.TooLong f = opened_and_fed I O end.TooLong f
-  fed I O M (end.Refused cause) (inl f) = absurd (not_opened c h.cache open_both.told clock open_both.cabinet.0 cause f.0 open_both.cabinet.1)
-  fed I O M (end.Refused cause) (inr f) = opened_and_fed I O (end.Refused cause) f
-  fed I O M end.DiskFault (inl f) = absurd (quiet.cache f.0)
-  fed I O M end.DiskFault (inr f) = opened_and_fed I O end.DiskFault f
-  fed I O M end.OutOfMemory f = inr refl
-  fed I O M (end.Form cause) f = absurd f
-  fed I O M end.CutsFull f = absurd f
-  fed I O M (end.Stream session) f = absurd f
+  fed : (InputStays OutputStays MarksStay : Type 0) (e : Status) → Feeds c clock h.input h.output h.cache h.marks InputStays OutputStays MarksStay e → IsDone e
+  fed I O M status.Done f = inl refl
+  fed I O M (status.Line n) f = opened_and_fed I O (status.Line n) f
+  fed I O M status.WriteFault f = opened_and_fed I O status.WriteFault f
+  fed I O M status.ReadFault f = opened_and_fed I O status.ReadFault f
+  fed I O M status.TooLong f = opened_and_fed I O status.TooLong f
+  fed I O M (status.Cache cause) (inl f) = absurd (not_opened c h.cache open_both.told clock open_both.cabinet.0 cause f.0 open_both.cabinet.1)
+  fed I O M (status.Cache cause) (inr f) = opened_and_fed I O (status.Cache cause) f
+  fed I O M status.DiskFault (inl f) = absurd (quiet.cache f.0)
+  fed I O M status.DiskFault (inr f) = opened_and_fed I O status.DiskFault f
+  fed I O M status.OutOfMemory f = inr refl
+  fed I O M (status.Form cause) f = absurd f
+  fed I O M status.CutsFull f = absurd f
+  fed I O M (status.Stream session) f = absurd f
+  fed I O M status.Usage f = absurd f
+  fed I O M (status.Catalogue fault) f = absurd f
+  fed I O M status.ListenFault f = absurd f
+  fed I O M status.ThreadFault f = absurd f
 
 -- EACH WORD
 
@@ -178,7 +188,7 @@ catalogue_in h clock feed.Make order = (order.0, order.1)
 catalogue_in h clock feed.Run order = (order.0, order.1)
 
 -- a word under it
-under : (h : FeedChange) (stays : Stays) (clock : Readings) (w : FeedWord) (order : IsInOrder h clock w) → NothingFails h → (e : KeptEnd) → WordEnds h.input h.output h.cache h.marks stays clock w (catalogue_in h clock w order).0 e → IsDone (status_of_end e)
+under : (h : FeedChange) (stays : Stays) (clock : Readings) (w : FeedWord) (order : IsInOrder h clock w) → NothingFails h → (e : Status) → WordEnds h.input h.output h.cache h.marks stays clock w (catalogue_in h clock w order).0 e → IsDone e
 under h stays clock feed.Make order quiet e ends = made h quiet order.0 stays.output e ends.0
 under h stays clock feed.Run order quiet e ends = fed h quiet clock order.0 order.2 order.3 stays.input stays.output stays.marks e ends
 
@@ -189,8 +199,7 @@ of_word h C stays clock w s (inl refusal) order quiet =
 of_word h C stays clock w s (inr read) order quiet =
     let has = catalogue_in h clock w order in
     let same : read.0 ≡ has.0 = same_catalogue h.catalogue has.0 read.0 has.1 read.1 in
-    let e = read.2.0 in
-    subst IsDone (sym read.2.1) (under h stays clock w order quiet e (subst (λ (x : Catalogue). WordEnds h.input h.output h.cache h.marks stays clock w x e) same read.2.2))
+    under h stays clock w order quiet s (subst (λ (x : Catalogue). WordEnds h.input h.output h.cache h.marks stays clock w x s) same read.2)
 
 -- of what words ask for, where they ask for something
 pub completed : (h : FeedChange) (stays : Stays) (clock : Readings) (asked : Option FeedWord) (w : FeedWord) (s : Status) → asked ≡ Some w → FeedTells h ⊤ stays clock (Some w) s → IsComplete h clock asked s

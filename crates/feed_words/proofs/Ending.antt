@@ -11,14 +11,16 @@ use Rattle.gate_journal.specs.declared.fault.OpenFault.{OpenFault}
 use Rattle.gate_journal.specs.declared.fault.OpenFault.TheVariants as fault
 use Rattle.kept_cache.specs.Change.{DiskChange}
 use Rattle.sessions.specs.Outside.{InputChange, OutputChange, counts}
-use Rattle.kept_cache.specs.declared.end.KeptEnd.{KeptEnd}
-use Rattle.kept_cache.specs.declared.end.KeptEnd.TheVariants as end
-use Rattle.kept_cache.specs.Opened.{HasOpened, RefusalLeaves, end_of_refusal}
+use Rattle.command_status.specs.declared.status.Status.{Status}
+use Rattle.command_setup.specs.Refusals.{status_of_refusal}
+use Rattle.command_status.specs.Statuses.{status_of_opening}
+use Rattle.kept_cache.specs.Opened.{HasOpened, RefusalLeaves}
 use Rattle.feed_words.specs.declared.lines.LinesEnd.{LinesEnd}
 use Rattle.feed_words.specs.declared.lines.LinesEnd.TheVariants as lines_end
-use Rattle.feed_words.specs.Ends.{Feeds, FeedsOn, HasFed, HasFedLines, HasFedNone}
+use Rattle.feed_words.specs.declared.words.FeedWord.{FeedWord}
+use Rattle.feed_words.specs.declared.words.FeedWord.TheVariants as feed
+use Rattle.feed_words.specs.Ends.{Feeds, FeedsOn, HasFed, HasFedLines, HasFedNone, Stays, WordEnds}
 use Rattle.feed_words.specs.Run.{Step}
-use Rattle.feed_words.specs.Statuses.{status_of_end, status_of_refusal}
 
 -- FAULTS COUNTED FROM BEFORE THE OPENING
 
@@ -48,44 +50,52 @@ module _ (c : Catalogue) (before mid after : ℕ) (i : InputChange) (o : OutputC
   none_wider : HasFedNone c (counts mid after) m s u → HasFedNone c (counts before after) m s u
   none_wider fed = fed_wider c before mid after m s u [] later fed
 
-  feeds_wider : (e : KeptEnd) → FeedsOn c (counts mid after) i o m InputStays OutputStays s u e → FeedsOn c (counts before after) i o m InputStays OutputStays s u e
-  feeds_wider end.Done fed = lines_wider lines_end.Done fed
-  feeds_wider (end.Line n) fed = lines_wider (lines_end.Line n) fed
-  feeds_wider end.WriteFault fed = lines_wider lines_end.WriteFault fed
-  feeds_wider end.ReadFault fed = (none_wider fed.0, fed.1, fed.2)
-  feeds_wider end.TooLong fed = (none_wider fed.0, fed.1, fed.2)
-  feeds_wider (end.Refused cause) fed = fed
-  feeds_wider end.DiskFault fed = fed
-  feeds_wider end.OutOfMemory (inl quiet) = inl quiet
-  feeds_wider end.OutOfMemory (inr (inl fed)) = inr (inl (none_wider fed.0, fed.1))
-  feeds_wider end.OutOfMemory (inr (inr fed)) = inr (inr (lines_wider lines_end.OutOfMemory fed))
-  feeds_wider (end.Form cause) fed = absurd fed
-  feeds_wider end.CutsFull fed = absurd fed
-  feeds_wider (end.Stream session) fed = absurd fed
+  feeds_wider : (e : Status) → FeedsOn c (counts mid after) i o m InputStays OutputStays s u e → FeedsOn c (counts before after) i o m InputStays OutputStays s u e
+  feeds_wider status.Done fed = lines_wider lines_end.Done fed
+  feeds_wider (status.Line n) fed = lines_wider (lines_end.Line n) fed
+  feeds_wider status.WriteFault fed = lines_wider lines_end.WriteFault fed
+  feeds_wider status.ReadFault fed = (none_wider fed.0, fed.1, fed.2)
+  feeds_wider status.TooLong fed = (none_wider fed.0, fed.1, fed.2)
+  feeds_wider (status.Cache cause) fed = fed
+  feeds_wider status.DiskFault fed = fed
+  feeds_wider status.OutOfMemory (inl quiet) = inl quiet
+  feeds_wider status.OutOfMemory (inr (inl fed)) = inr (inl (none_wider fed.0, fed.1))
+  feeds_wider status.OutOfMemory (inr (inr fed)) = inr (inr (lines_wider lines_end.OutOfMemory fed))
+  feeds_wider (status.Form cause) fed = absurd fed
+  feeds_wider status.CutsFull fed = absurd fed
+  feeds_wider (status.Stream session) fed = absurd fed
+  feeds_wider status.Usage fed = absurd fed
+  feeds_wider (status.Catalogue fault) fed = absurd fed
+  feeds_wider status.ListenFault fed = absurd fed
+  feeds_wider status.ThreadFault fed = absurd fed
 
 -- THE ENDS
 
 module _ (c : Catalogue) (clock : Readings) (i : InputChange) (o : OutputChange) (d m : DiskChange) (InputStays OutputStays MarksStay : Type 0) where
-  told_by : (s u : State) → HasOpened c clock d s u → (e : KeptEnd) → FeedsOn c d.faults i o m InputStays OutputStays s u e → Feeds c clock i o d m InputStays OutputStays MarksStay e
-  told_by s u h end.Done fed = (s, u, h, fed)
-  told_by s u h (end.Line n) fed = (s, u, h, fed)
-  told_by s u h end.WriteFault fed = (s, u, h, fed)
-  told_by s u h end.ReadFault fed = (s, u, h, fed)
-  told_by s u h end.TooLong fed = (s, u, h, fed)
-  told_by s u h (end.Refused cause) fed = inr (s, u, h, fed)
-  told_by s u h end.DiskFault fed = inr (s, u, h, fed)
-  told_by s u h end.OutOfMemory fed = inr (s, u, h, fed)
-  told_by s u h (end.Form cause) fed = absurd fed
-  told_by s u h end.CutsFull fed = absurd fed
-  told_by s u h (end.Stream session) fed = absurd fed
+  told_by : (s u : State) → HasOpened c clock d s u → (e : Status) → FeedsOn c d.faults i o m InputStays OutputStays s u e → Feeds c clock i o d m InputStays OutputStays MarksStay e
+  told_by s u h status.Done fed = (s, u, h, fed)
+  told_by s u h (status.Line n) fed = (s, u, h, fed)
+  told_by s u h status.WriteFault fed = (s, u, h, fed)
+  told_by s u h status.ReadFault fed = (s, u, h, fed)
+  told_by s u h status.TooLong fed = (s, u, h, fed)
+  told_by s u h (status.Cache cause) fed = inr (s, u, h, fed)
+  told_by s u h status.DiskFault fed = inr (s, u, h, fed)
+  told_by s u h status.OutOfMemory fed = inr (s, u, h, fed)
+  told_by s u h (status.Form cause) fed = absurd fed
+  told_by s u h status.CutsFull fed = absurd fed
+  told_by s u h (status.Stream session) fed = absurd fed
+  told_by s u h status.Usage fed = absurd fed
+  told_by s u h (status.Catalogue fault) fed = absurd fed
+  told_by s u h status.ListenFault fed = absurd fed
+  told_by s u h status.ThreadFault fed = absurd fed
 
   -- the cache was opened, and a feed ran on its cabinet
-  pub fed_tells : (s u : State) (mid : ℕ) → HasOpened c clock d s u → s.catalogue ≡ c → d.faults.before ≤ mid → (e : KeptEnd) → FeedsOn s.catalogue (counts mid d.faults.after) i o m InputStays OutputStays s u e → Feeds c clock i o d m InputStays OutputStays MarksStay e
+  pub fed_tells : (s u : State) (mid : ℕ) → HasOpened c clock d s u → s.catalogue ≡ c → d.faults.before ≤ mid → (e : Status) → FeedsOn s.catalogue (counts mid d.faults.after) i o m InputStays OutputStays s u e → Feeds c clock i o d m InputStays OutputStays MarksStay e
   fed_tells s u mid h same later e fed =
       told_by s u h e (subst (λ (x : Catalogue). FeedsOn x d.faults i o m InputStays OutputStays s u e) same (feeds_wider s.catalogue d.faults.before mid d.faults.after i o m InputStays OutputStays s u later e fed))
 
   -- the cache wasn't opened
-  pub unopened : (f : OpenFault) → IsRefusedAs d.told c d.from.seen d.faults.before d.faults.after f → RefusalLeaves c d f → InputStays → OutputStays → MarksStay → Feeds c clock i o d m InputStays OutputStays MarksStay (end_of_refusal f)
+  pub unopened : (f : OpenFault) → IsRefusedAs d.told c d.from.seen d.faults.before d.faults.after f → RefusalLeaves c d f → InputStays → OutputStays → MarksStay → Feeds c clock i o d m InputStays OutputStays MarksStay (status_of_opening f)
   unopened fault.NotACache refused leaves input output marks = inl (refused, leaves, input, output, marks)
   unopened (fault.CatalogueDiffers found asked) refused leaves input output marks = inl (refused, leaves, input, output, marks)
   unopened (fault.BadRecord slot) refused leaves input output marks = inl (refused, leaves, input, output, marks)
@@ -94,18 +104,12 @@ module _ (c : Catalogue) (clock : Readings) (i : InputChange) (o : OutputChange)
   unopened fault.OutOfMemory refused leaves input output marks = inl (leaves, input, output, marks)
 
 -- no end of the words is that other words are none
-pub never_usage : (e : KeptEnd) → status_of_end e ≡ status.Usage → ⊥
-never_usage end.Done is = absurd (cc)
-never_usage end.ReadFault is = absurd (cc)
-never_usage end.TooLong is = absurd (cc)
-never_usage (end.Form cause) is = absurd (cc)
-never_usage (end.Refused cause) is = absurd (cc)
-never_usage end.DiskFault is = absurd (cc)
-never_usage end.CutsFull is = absurd (cc)
-never_usage (end.Line n) is = absurd (cc)
-never_usage (end.Stream session) is = absurd (cc)
-never_usage end.WriteFault is = absurd (cc)
-never_usage end.OutOfMemory is = absurd (cc)
+pub never_usage : (i : InputChange) (o : OutputChange) (d m : DiskChange) (stays : Stays) (clock : Readings) (w : FeedWord) (c : Catalogue) (s : Status) → WordEnds i o d m stays clock w c s → s ≡ status.Usage → ⊥
+never_usage i o d m stays clock w c s ends is = of_word w (subst (WordEnds i o d m stays clock w c) is ends)
+  where
+    of_word : (w : FeedWord) → WordEnds i o d m stays clock w c status.Usage → ⊥
+    of_word feed.Make ends = ends.0
+    of_word feed.Run ends = ends
 
 pub never_refused : (e : Unconfigured) → status_of_refusal e ≡ status.Usage → ⊥
 never_refused unconfigured.ReadFault is = absurd (cc)

@@ -13,9 +13,9 @@ use Rattle.gate_journal.specs.declared.fault.OpenFault.{OpenFault}
 use Rattle.gate_journal.specs.declared.fault.OpenFault.TheVariants as fault
 use Rattle.kept_cache.specs.Change.{DiskChange}
 use Rattle.sessions.specs.Outside.{FaultCounts, InputChange, OutputChange}
-use Rattle.kept_cache.specs.declared.end.KeptEnd.{KeptEnd}
-use Rattle.kept_cache.specs.declared.end.KeptEnd.TheVariants as end
-use Rattle.kept_cache.specs.Opened.{end_of_refusal}
+use Rattle.command_status.specs.declared.status.Status.{Status}
+use Rattle.command_status.specs.declared.status.Status.TheVariants as status
+use Rattle.command_status.specs.Statuses.{status_of_opening}
 use Rattle.tile_service.specs.Lines.{lines_of}
 use Rattle.feed_words.proofs.Going.{decided_in}
 use Rattle.feed_words.specs.declared.lines.LinesEnd.{LinesEnd}
@@ -99,22 +99,26 @@ module _ (c : Catalogue) (cabinet : FaultCounts) (i : InputChange) (o : OutputCh
     fed_text : (e : LinesEnd) → HasRunText i o told' digest' mid m.to s t e → c ≡ s.cabinet.catalogue → HasFedLines c cabinet i o m s.cabinet t.cabinet e
     fed_text e ran same = (ran.2.steps, fed_lines ran.0 e ran.2, (ran.0, ran.1, subst (λ (x : Catalogue). Ends x (lines_of ran.0) o ran.2.steps e) (sym same) ran.2.ends))
 
-    pub feeds_on : (e : KeptEnd) → RunsInput i o OutputStays told' digest' mid m.to s t e → c ≡ s.cabinet.catalogue → FeedsOn c cabinet i o m InputStays OutputStays s.cabinet t.cabinet e
-    feeds_on end.Done ran same = fed_text lines_end.Done ran same
-    feeds_on (end.Line n) ran same = fed_text (lines_end.Line n) ran same
-    feeds_on end.WriteFault ran same = fed_text lines_end.WriteFault ran same
-    feeds_on end.ReadFault ran same = (fed_none ran.1, ran.0, ran.1.stays)
-    feeds_on end.TooLong ran same = (fed_none ran.1, ran.0, ran.1.stays)
-    feeds_on end.OutOfMemory (inl none) same = inr (inl (fed_none none, none.stays))
-    feeds_on end.OutOfMemory (inr ran) same = inr (inr (fed_text lines_end.OutOfMemory ran same))
-    feeds_on (end.Refused cause) ran same = absurd ran
-    feeds_on end.DiskFault ran same = absurd ran
-    feeds_on (end.Form cause) ran same = absurd ran
-    feeds_on end.CutsFull ran same = absurd ran
-    feeds_on (end.Stream session) ran same = absurd ran
+    pub feeds_on : (e : Status) → RunsInput i o OutputStays told' digest' mid m.to s t e → c ≡ s.cabinet.catalogue → FeedsOn c cabinet i o m InputStays OutputStays s.cabinet t.cabinet e
+    feeds_on status.Done ran same = fed_text lines_end.Done ran same
+    feeds_on (status.Line n) ran same = fed_text (lines_end.Line n) ran same
+    feeds_on status.WriteFault ran same = fed_text lines_end.WriteFault ran same
+    feeds_on status.ReadFault ran same = (fed_none ran.1, ran.0, ran.1.stays)
+    feeds_on status.TooLong ran same = (fed_none ran.1, ran.0, ran.1.stays)
+    feeds_on status.OutOfMemory (inl none) same = inr (inl (fed_none none, none.stays))
+    feeds_on status.OutOfMemory (inr ran) same = inr (inr (fed_text lines_end.OutOfMemory ran same))
+    feeds_on (status.Cache cause) ran same = absurd ran
+    feeds_on status.DiskFault ran same = absurd ran
+    feeds_on (status.Form cause) ran same = absurd ran
+    feeds_on status.CutsFull ran same = absurd ran
+    feeds_on (status.Stream session) ran same = absurd ran
+    feeds_on status.Usage ran same = absurd ran
+    feeds_on (status.Catalogue fault) ran same = absurd ran
+    feeds_on status.ListenFault ran same = absurd ran
+    feeds_on status.ThreadFault ran same = absurd ran
 
   -- the marks weren't opened
-  pub unfed : (s : State) (f : OpenFault) → IsRefusedAs m.told c.digest m.from.seen m.faults.before m.faults.after f → AreQuiet m → InputStays → OutputStays → FeedsOn c cabinet i o m InputStays OutputStays s s (end_of_refusal f)
+  pub unfed : (s : State) (f : OpenFault) → IsRefusedAs m.told c.digest m.from.seen m.faults.before m.faults.after f → AreQuiet m → InputStays → OutputStays → FeedsOn c cabinet i o m InputStays OutputStays s s (status_of_opening f)
   unfed s fault.NotACache refused quiet input output = (refused, quiet, refl, input, output)
   unfed s (fault.CatalogueDiffers found asked) refused quiet input output = (refused, quiet, refl, input, output)
   unfed s (fault.BadRecord slot) refused quiet input output = (refused, quiet, refl, input, output)

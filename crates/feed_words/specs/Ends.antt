@@ -17,8 +17,7 @@ use Rattle.disk_model.specs.Images.{ChangesBy, Every, Leaves}
 use Rattle.durable_cabinet.specs.Images.{IsOurs}
 use Rattle.gate_journal.specs.declared.fault.OpenFault.{OpenFault}
 use Rattle.gate_journal.specs.declared.fault.OpenFault.TheVariants as fault
-use Rattle.kept_cache.specs.declared.end.KeptEnd.{KeptEnd}
-use Rattle.kept_cache.specs.declared.end.KeptEnd.TheVariants as end
+use Rattle.command_status.specs.declared.status.Status.TheVariants as status
 use Rattle.kept_cache.specs.Change.{DiskChange, HasFailed, HasWritten, IsCutShort}
 use Rattle.sessions.specs.Outside.{FaultCounts, InputChange, OutputChange}
 use Rattle.kept_cache.specs.Crash.{LastsThrough, OpeningLeaves}
@@ -29,7 +28,7 @@ use Rattle.feed_words.specs.declared.lines.LinesEnd.TheVariants as lines_end
 use Rattle.feed_words.specs.declared.words.FeedWord.{FeedWord}
 use Rattle.feed_words.specs.declared.words.FeedWord.TheVariants as feed
 use Rattle.feed_words.specs.Run.{Ends, Follow, MayEndAlong, Step, events_of, stores_of}
-use Rattle.feed_words.specs.Statuses.{status_of_end, status_of_refusal}
+use Rattle.command_setup.specs.Refusals.{status_of_refusal}
 use Rattle.feed_words.specs.Texts.{made_text}
 
 -- MAKE
@@ -38,18 +37,22 @@ use Rattle.feed_words.specs.Texts.{made_text}
 abbrev pub AreMade : Catalogue → DiskChange → Type 0
 AreMade c m = IsTrue m.told → Every m.to.may_leave (EndsIn c.digest None)
 
-abbrev pub MakesMarks : Catalogue → DiskChange → OutputChange → Type 0 → KeptEnd → Type 0
-MakesMarks c m o Stays end.Done = AreMade c m × HasWritten o made_text
-MakesMarks c m o Stays end.WriteFault = AreMade c m × IsCutShort o made_text
-MakesMarks c m o Stays end.DiskFault = HasFailed m × Stays
-MakesMarks c m o Stays end.ReadFault = ⊥
-MakesMarks c m o Stays end.TooLong = ⊥
-MakesMarks c m o Stays (end.Form cause) = ⊥
-MakesMarks c m o Stays (end.Refused cause) = ⊥
-MakesMarks c m o Stays end.CutsFull = ⊥
-MakesMarks c m o Stays (end.Line n) = ⊥
-MakesMarks c m o Stays (end.Stream session) = ⊥
-MakesMarks c m o Stays end.OutOfMemory = ⊥
+abbrev pub MakesMarks : Catalogue → DiskChange → OutputChange → Type 0 → Status → Type 0
+MakesMarks c m o Stays status.Done = AreMade c m × HasWritten o made_text
+MakesMarks c m o Stays status.WriteFault = AreMade c m × IsCutShort o made_text
+MakesMarks c m o Stays status.DiskFault = HasFailed m × Stays
+MakesMarks c m o Stays status.ReadFault = ⊥
+MakesMarks c m o Stays status.TooLong = ⊥
+MakesMarks c m o Stays (status.Form cause) = ⊥
+MakesMarks c m o Stays (status.Cache cause) = ⊥
+MakesMarks c m o Stays status.CutsFull = ⊥
+MakesMarks c m o Stays (status.Line n) = ⊥
+MakesMarks c m o Stays (status.Stream session) = ⊥
+MakesMarks c m o Stays status.OutOfMemory = ⊥
+MakesMarks c m o Stays status.Usage = ⊥
+MakesMarks c m o Stays (status.Catalogue fault) = ⊥
+MakesMarks c m o Stays status.ListenFault = ⊥
+MakesMarks c m o Stays status.ThreadFault = ⊥
 
 -- THE MARKS
 
@@ -107,40 +110,48 @@ abbrev pub HasFedNone : Catalogue → FaultCounts → DiskChange → State → S
 HasFedNone c cabinet m s u = HasFed c cabinet m s u []
 
 -- what each end says of a cabinet that was opened, and then came from s to u; `Stays` is that the input and the output stay as they are
-abbrev pub FeedsOn : Catalogue → FaultCounts → InputChange → OutputChange → DiskChange → Type 0 → Type 0 → State → State → KeptEnd → Type 0
-FeedsOn c cabinet i o m InputStays OutputStays s u end.Done = HasFedLines c cabinet i o m s u lines_end.Done
-FeedsOn c cabinet i o m InputStays OutputStays s u (end.Line n) = HasFedLines c cabinet i o m s u (lines_end.Line n)
-FeedsOn c cabinet i o m InputStays OutputStays s u end.WriteFault = HasFedLines c cabinet i o m s u lines_end.WriteFault
-FeedsOn c cabinet i o m InputStays OutputStays s u end.ReadFault = HasFedNone c cabinet m s u × Rose i.reads.before i.reads.after × OutputStays
-FeedsOn c cabinet i o m InputStays OutputStays s u end.TooLong = HasFedNone c cabinet m s u × IsTooLong i × OutputStays
-FeedsOn c cabinet i o m InputStays OutputStays s u (end.Refused cause) = AreRefused c m cause × AreQuiet m × (u ≡ s) × InputStays × OutputStays
-FeedsOn c cabinet i o m InputStays OutputStays s u end.DiskFault = HasFailed m × AreQuiet m × (u ≡ s) × InputStays × OutputStays
-FeedsOn c cabinet i o m InputStays OutputStays s u end.OutOfMemory =
+abbrev pub FeedsOn : Catalogue → FaultCounts → InputChange → OutputChange → DiskChange → Type 0 → Type 0 → State → State → Status → Type 0
+FeedsOn c cabinet i o m InputStays OutputStays s u status.Done = HasFedLines c cabinet i o m s u lines_end.Done
+FeedsOn c cabinet i o m InputStays OutputStays s u (status.Line n) = HasFedLines c cabinet i o m s u (lines_end.Line n)
+FeedsOn c cabinet i o m InputStays OutputStays s u status.WriteFault = HasFedLines c cabinet i o m s u lines_end.WriteFault
+FeedsOn c cabinet i o m InputStays OutputStays s u status.ReadFault = HasFedNone c cabinet m s u × Rose i.reads.before i.reads.after × OutputStays
+FeedsOn c cabinet i o m InputStays OutputStays s u status.TooLong = HasFedNone c cabinet m s u × IsTooLong i × OutputStays
+FeedsOn c cabinet i o m InputStays OutputStays s u (status.Cache cause) = AreRefused c m cause × AreQuiet m × (u ≡ s) × InputStays × OutputStays
+FeedsOn c cabinet i o m InputStays OutputStays s u status.DiskFault = HasFailed m × AreQuiet m × (u ≡ s) × InputStays × OutputStays
+FeedsOn c cabinet i o m InputStays OutputStays s u status.OutOfMemory =
     (AreQuiet m × (u ≡ s) × InputStays × OutputStays) ⊎ (HasFedNone c cabinet m s u × OutputStays) ⊎ HasFedLines c cabinet i o m s u lines_end.OutOfMemory
-FeedsOn c cabinet i o m InputStays OutputStays s u (end.Form cause) = ⊥
-FeedsOn c cabinet i o m InputStays OutputStays s u end.CutsFull = ⊥
-FeedsOn c cabinet i o m InputStays OutputStays s u (end.Stream session) = ⊥
+FeedsOn c cabinet i o m InputStays OutputStays s u (status.Form cause) = ⊥
+FeedsOn c cabinet i o m InputStays OutputStays s u status.CutsFull = ⊥
+FeedsOn c cabinet i o m InputStays OutputStays s u (status.Stream session) = ⊥
+FeedsOn c cabinet i o m InputStays OutputStays s u status.Usage = ⊥
+FeedsOn c cabinet i o m InputStays OutputStays s u (status.Catalogue fault) = ⊥
+FeedsOn c cabinet i o m InputStays OutputStays s u status.ListenFault = ⊥
+FeedsOn c cabinet i o m InputStays OutputStays s u status.ThreadFault = ⊥
 
 -- the cache was opened, it went on so, and the cache was closed
-abbrev pub HasOpenedAndFed : Catalogue → Readings → InputChange → OutputChange → DiskChange → DiskChange → Type 0 → Type 0 → KeptEnd → Type 0
+abbrev pub HasOpenedAndFed : Catalogue → Readings → InputChange → OutputChange → DiskChange → DiskChange → Type 0 → Type 0 → Status → Type 0
 HasOpenedAndFed c clock i o d m InputStays OutputStays e = (s : State) × (u : State) × HasOpened c clock d s u × FeedsOn c d.faults i o m InputStays OutputStays s u e
 
 -- what each end says; where the cache wasn't opened all else stays as it is
-abbrev pub Feeds : Catalogue → Readings → InputChange → OutputChange → DiskChange → DiskChange → Type 0 → Type 0 → Type 0 → KeptEnd → Type 0
-Feeds c clock i o d m InputStays OutputStays MarksStay end.Done = HasOpenedAndFed c clock i o d m InputStays OutputStays end.Done
-Feeds c clock i o d m InputStays OutputStays MarksStay (end.Line n) = HasOpenedAndFed c clock i o d m InputStays OutputStays (end.Line n)
-Feeds c clock i o d m InputStays OutputStays MarksStay end.WriteFault = HasOpenedAndFed c clock i o d m InputStays OutputStays end.WriteFault
-Feeds c clock i o d m InputStays OutputStays MarksStay end.ReadFault = HasOpenedAndFed c clock i o d m InputStays OutputStays end.ReadFault
-Feeds c clock i o d m InputStays OutputStays MarksStay end.TooLong = HasOpenedAndFed c clock i o d m InputStays OutputStays end.TooLong
-Feeds c clock i o d m InputStays OutputStays MarksStay (end.Refused cause) =
-    (IsRefused c d cause × RefusalLeaves c d cause × InputStays × OutputStays × MarksStay) ⊎ HasOpenedAndFed c clock i o d m InputStays OutputStays (end.Refused cause)
-Feeds c clock i o d m InputStays OutputStays MarksStay end.DiskFault =
-    (HasFailed d × OpeningLeaves c d × InputStays × OutputStays × MarksStay) ⊎ HasOpenedAndFed c clock i o d m InputStays OutputStays end.DiskFault
-Feeds c clock i o d m InputStays OutputStays MarksStay end.OutOfMemory =
-    (OpeningLeaves c d × InputStays × OutputStays × MarksStay) ⊎ HasOpenedAndFed c clock i o d m InputStays OutputStays end.OutOfMemory
-Feeds c clock i o d m InputStays OutputStays MarksStay (end.Form cause) = ⊥
-Feeds c clock i o d m InputStays OutputStays MarksStay end.CutsFull = ⊥
-Feeds c clock i o d m InputStays OutputStays MarksStay (end.Stream session) = ⊥
+abbrev pub Feeds : Catalogue → Readings → InputChange → OutputChange → DiskChange → DiskChange → Type 0 → Type 0 → Type 0 → Status → Type 0
+Feeds c clock i o d m InputStays OutputStays MarksStay status.Done = HasOpenedAndFed c clock i o d m InputStays OutputStays status.Done
+Feeds c clock i o d m InputStays OutputStays MarksStay (status.Line n) = HasOpenedAndFed c clock i o d m InputStays OutputStays (status.Line n)
+Feeds c clock i o d m InputStays OutputStays MarksStay status.WriteFault = HasOpenedAndFed c clock i o d m InputStays OutputStays status.WriteFault
+Feeds c clock i o d m InputStays OutputStays MarksStay status.ReadFault = HasOpenedAndFed c clock i o d m InputStays OutputStays status.ReadFault
+Feeds c clock i o d m InputStays OutputStays MarksStay status.TooLong = HasOpenedAndFed c clock i o d m InputStays OutputStays status.TooLong
+Feeds c clock i o d m InputStays OutputStays MarksStay (status.Cache cause) =
+    (IsRefused c d cause × RefusalLeaves c d cause × InputStays × OutputStays × MarksStay) ⊎ HasOpenedAndFed c clock i o d m InputStays OutputStays (status.Cache cause)
+Feeds c clock i o d m InputStays OutputStays MarksStay status.DiskFault =
+    (HasFailed d × OpeningLeaves c d × InputStays × OutputStays × MarksStay) ⊎ HasOpenedAndFed c clock i o d m InputStays OutputStays status.DiskFault
+Feeds c clock i o d m InputStays OutputStays MarksStay status.OutOfMemory =
+    (OpeningLeaves c d × InputStays × OutputStays × MarksStay) ⊎ HasOpenedAndFed c clock i o d m InputStays OutputStays status.OutOfMemory
+Feeds c clock i o d m InputStays OutputStays MarksStay (status.Form cause) = ⊥
+Feeds c clock i o d m InputStays OutputStays MarksStay status.CutsFull = ⊥
+Feeds c clock i o d m InputStays OutputStays MarksStay (status.Stream session) = ⊥
+Feeds c clock i o d m InputStays OutputStays MarksStay status.Usage = ⊥
+Feeds c clock i o d m InputStays OutputStays MarksStay (status.Catalogue fault) = ⊥
+Feeds c clock i o d m InputStays OutputStays MarksStay status.ListenFault = ⊥
+Feeds c clock i o d m InputStays OutputStays MarksStay status.ThreadFault = ⊥
 
 -- THE WORDS
 
@@ -160,7 +171,7 @@ pub record Stays : Type 1 where
   pub marks : Type 0
 
 -- a word under a catalogue ended so; `feed make` works on the marks alone
-abbrev pub WordEnds : InputChange → OutputChange → DiskChange → DiskChange → Stays → Readings → FeedWord → Catalogue → KeptEnd → Type 0
+abbrev pub WordEnds : InputChange → OutputChange → DiskChange → DiskChange → Stays → Readings → FeedWord → Catalogue → Status → Type 0
 WordEnds i o d m stays clock feed.Make c e = MakesMarks c m o stays.output e × stays.input × stays.cache
 WordEnds i o d m stays clock feed.Run c e = Feeds c clock i o d m stays.input stays.output stays.marks e
 
@@ -170,7 +181,7 @@ abbrev pub FeedTells : FeedChange → Type 0 → Stays → Readings → Option F
 FeedTells h CatalogueStays stays clock None s = CatalogueStays × stays.input × stays.output × stays.cache × stays.marks
 FeedTells h CatalogueStays stays clock (Some w) s =
     ((e : Unconfigured) × (s ≡ status_of_refusal e) × Configures h.catalogue (Err e) × stays.input × stays.output × stays.cache × stays.marks)
-    ⊎ ((c : Catalogue) × IsRead h.catalogue (Ok c) × ((e : KeptEnd) × (s ≡ status_of_end e) × WordEnds h.input h.output h.cache h.marks stays clock w c e))
+    ⊎ ((c : Catalogue) × IsRead h.catalogue (Ok c) × WordEnds h.input h.output h.cache h.marks stays clock w c s)
 
 -- A CRASH
 

@@ -6,9 +6,8 @@ use Rattle.causes.specs.Causes.{Rose}
 use Rattle.change_feed.specs.Applies.{Pair}
 use Rattle.change_feed.specs.Files.{MayEndIn}
 use Rattle.disk_model.specs.Images.{DiskState, Leaves}
-use Rattle.sessions.specs.Outside.{InputChange, OutputChange}
-use Rattle.kept_cache.specs.declared.end.KeptEnd.{KeptEnd}
-use Rattle.kept_cache.specs.declared.end.KeptEnd.TheVariants as end
+use Rattle.command_status.specs.declared.status.Status.{Status}
+use Rattle.command_status.specs.declared.status.Status.TheVariants as status
 use Rattle.tile_service.specs.Lines.{lines_of}
 use Rattle.feed_words.specs.declared.lines.LinesEnd.{LinesEnd}
 use Rattle.feed_words.specs.declared.lines.LinesEnd.TheVariants as lines_end
@@ -35,22 +34,26 @@ pub record HasRunNone (Stays : Type 0) (told : Bool) (digest : List ℕ) (from t
   pub images : IsTrue told → Leaves from to (MayEndIn digest s.stand)
   pub stays : Stays
 
-abbrev pub RunsInput : InputChange → OutputChange → Type 0 → Bool → List ℕ → DiskState → DiskState → Pair → Pair → KeptEnd → Type 0
-RunsInput i o Stays told digest from to s t end.Done = HasRunText i o told digest from to s t lines_end.Done
-RunsInput i o Stays told digest from to s t (end.Line n) = HasRunText i o told digest from to s t (lines_end.Line n)
-RunsInput i o Stays told digest from to s t end.WriteFault = HasRunText i o told digest from to s t lines_end.WriteFault
-RunsInput i o Stays told digest from to s t end.ReadFault = Rose i.reads.before i.reads.after × HasRunNone Stays told digest from to s t
-RunsInput i o Stays told digest from to s t end.TooLong = IsTooLong i × HasRunNone Stays told digest from to s t
-RunsInput i o Stays told digest from to s t end.OutOfMemory = HasRunNone Stays told digest from to s t ⊎ HasRunText i o told digest from to s t lines_end.OutOfMemory
-RunsInput i o Stays told digest from to s t (end.Refused cause) = ⊥
-RunsInput i o Stays told digest from to s t end.DiskFault = ⊥
-RunsInput i o Stays told digest from to s t (end.Form cause) = ⊥
-RunsInput i o Stays told digest from to s t end.CutsFull = ⊥
-RunsInput i o Stays told digest from to s t (end.Stream session) = ⊥
+abbrev pub RunsInput : InputChange → OutputChange → Type 0 → Bool → List ℕ → DiskState → DiskState → Pair → Pair → Status → Type 0
+RunsInput i o Stays told digest from to s t status.Done = HasRunText i o told digest from to s t lines_end.Done
+RunsInput i o Stays told digest from to s t (status.Line n) = HasRunText i o told digest from to s t (lines_end.Line n)
+RunsInput i o Stays told digest from to s t status.WriteFault = HasRunText i o told digest from to s t lines_end.WriteFault
+RunsInput i o Stays told digest from to s t status.ReadFault = Rose i.reads.before i.reads.after × HasRunNone Stays told digest from to s t
+RunsInput i o Stays told digest from to s t status.TooLong = IsTooLong i × HasRunNone Stays told digest from to s t
+RunsInput i o Stays told digest from to s t status.OutOfMemory = HasRunNone Stays told digest from to s t ⊎ HasRunText i o told digest from to s t lines_end.OutOfMemory
+RunsInput i o Stays told digest from to s t (status.Cache cause) = ⊥
+RunsInput i o Stays told digest from to s t status.DiskFault = ⊥
+RunsInput i o Stays told digest from to s t (status.Form cause) = ⊥
+RunsInput i o Stays told digest from to s t status.CutsFull = ⊥
+RunsInput i o Stays told digest from to s t (status.Stream session) = ⊥
+RunsInput i o Stays told digest from to s t status.Usage = ⊥
+RunsInput i o Stays told digest from to s t (status.Catalogue fault) = ⊥
+RunsInput i o Stays told digest from to s t status.ListenFault = ⊥
+RunsInput i o Stays told digest from to s t status.ThreadFault = ⊥
 
 -- the end of a feed whose lines ended so
-abbrev pub end_of_lines : LinesEnd → KeptEnd
-end_of_lines lines_end.Done = end.Done
-end_of_lines (lines_end.Line n) = end.Line n
-end_of_lines lines_end.WriteFault = end.WriteFault
-end_of_lines lines_end.OutOfMemory = end.OutOfMemory
+abbrev pub end_of_lines : LinesEnd → Status
+end_of_lines lines_end.Done = status.Done
+end_of_lines (lines_end.Line n) = status.Line n
+end_of_lines lines_end.WriteFault = status.WriteFault
+end_of_lines lines_end.OutOfMemory = status.OutOfMemory

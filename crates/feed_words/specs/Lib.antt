@@ -4,6 +4,5 @@ pub mod Fed
 pub mod OneLine
 pub mod Orders
 pub mod Run
-pub mod Statuses
 pub mod Texts
 pub mod Words

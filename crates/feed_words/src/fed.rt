@@ -11,11 +11,12 @@ ghost use Rattle.feed_words.specs.Ends.{Feeds};
 use crate::feeding::feed_on;
 use catalog::catalogue::Catalogue;
 use clock::clock::Clock;
+use command_status::status::Status;
+use command_status::statuses::status_of_opening;
 use disk_model::disk::Disk;
 use http_wire::streams::{ByteSink, ByteSource};
-use kept_cache::end::KeptEnd;
 use kept_cache::lent::Loan;
-use kept_cache::opened::{closed, end_of_refusal, opened};
+use kept_cache::opened::{closed, opened};
 use std::alloc::Global;
 use std::marker::Brand;
 
@@ -28,7 +29,7 @@ fn fed_over<'a, D: Disk, I: ByteSource, O: ByteSink, L: Loan>(
     marks: &mut D,
     input: &mut I,
     output: &mut O,
-) -> (&'a mut D, KeptEnd)
+) -> (&'a mut D, Status)
     requires valid { IsValid catalogue }
     requires loan { disk.ghost_name ≡ L.disk }
     requires ours { IsTrue (D.told disk.now) → IsOurs catalogue (D.state disk.now).seen }
@@ -51,7 +52,7 @@ fn fed_over<'a, D: Disk, I: ByteSource, O: ByteSink, L: Loan>(
         }
         Err(refusal) => {
             let (fault, disk) = refusal;
-            (disk, end_of_refusal(fault))
+            (disk, status_of_opening(fault))
         }
     }
 }
@@ -66,7 +67,7 @@ pub(crate) fn feed<D: Disk, I: ByteSource, O: ByteSink>(
     marks: &mut D,
     input: &mut I,
     output: &mut O,
-) -> KeptEnd
+) -> Status
     requires valid { IsValid catalogue }
     requires ours { IsTrue (D.told disk.old) → IsOurs catalogue (D.state disk.old).seen }
     requires marks { IsTrue (D.told marks.old) → IsMarksFile catalogue.digest (D.state marks.old).seen }

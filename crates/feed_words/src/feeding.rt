@@ -14,12 +14,12 @@ use crate::marks::{closed_marks, opened_marks};
 use cabinet::keeper::Keeper;
 use cache_core::laws::laws_of_lasting;
 use change_feed::feed::Feed;
+use command_status::status::Status;
+use command_status::statuses::status_of_opening;
 use disk_model::disk::Disk;
 use http_wire::inputs::{InputEnd, read_all};
 use http_wire::streams::{ByteSink, ByteSource};
-use kept_cache::end::KeptEnd;
 use kept_cache::lent::Loan;
-use kept_cache::opened::end_of_refusal;
 use std::alloc::Global;
 use std::marker::Brand;
 
@@ -27,14 +27,14 @@ use std::marker::Brand;
 const FEED_LIMIT: usize = 16_777_216;
 
 /// The end of a feed whose lines ended so.
-fn end_of_lines(end: LinesEnd) -> KeptEnd
+fn end_of_lines(end: LinesEnd) -> Status
     ensures { result ≡ end_of_lines end }
 {
     match end {
-        LinesEnd::Done => KeptEnd::Done,
-        LinesEnd::Line(n) => KeptEnd::Line(n),
-        LinesEnd::WriteFault => KeptEnd::WriteFault,
-        LinesEnd::OutOfMemory => KeptEnd::OutOfMemory,
+        LinesEnd::Done => Status::Done,
+        LinesEnd::Line(n) => Status::Line(n),
+        LinesEnd::WriteFault => Status::WriteFault,
+        LinesEnd::OutOfMemory => Status::OutOfMemory,
     }
 }
 
@@ -45,7 +45,7 @@ fn run_input<C: Keeper, D: Disk, I: ByteSource, O: ByteSink>(
     cabinet: &mut C,
     input: &mut I,
     output: &mut O,
-) -> KeptEnd
+) -> Status
     requires { IsValid (C.state cabinet.old).catalogue }
     ensures runs { RunsInput
         (record { reads = counts (I.faults input.old) (I.faults input.new); from = I.left input.old; to = I.left input.new })
@@ -60,9 +60,9 @@ fn run_input<C: Keeper, D: Disk, I: ByteSource, O: ByteSink>(
     laws_of_lasting::<C>();
     match read_all(alloc, input, FEED_LIMIT) {
         Ok(text) => end_of_lines(run_lines(alloc, feed, cabinet, output, text.as_slice())),
-        Err(InputEnd::ReadFault) => KeptEnd::ReadFault,
-        Err(InputEnd::TooLong) => KeptEnd::TooLong,
-        Err(InputEnd::OutOfMemory) => KeptEnd::OutOfMemory,
+        Err(InputEnd::ReadFault) => Status::ReadFault,
+        Err(InputEnd::TooLong) => Status::TooLong,
+        Err(InputEnd::OutOfMemory) => Status::OutOfMemory,
     }
 }
 
@@ -73,7 +73,7 @@ fn feed_over<'m, C: Keeper, D: Disk, I: ByteSource, O: ByteSink, L: Loan>(
     marks: &'m mut D,
     input: &mut I,
     output: &mut O,
-) -> (&'m mut D, KeptEnd)
+) -> (&'m mut D, Status)
     requires valid { IsValid (C.state cabinet.old).catalogue }
     requires loan { marks.ghost_name ≡ L.disk }
     requires ours { IsTrue (D.told marks.now) → IsMarksFile (C.state cabinet.old).catalogue.digest (D.state marks.now).seen }
@@ -94,7 +94,7 @@ fn feed_over<'m, C: Keeper, D: Disk, I: ByteSource, O: ByteSink, L: Loan>(
         }
         Err(refusal) => {
             let (fault, marks) = refusal;
-            (marks, end_of_refusal(fault))
+            (marks, status_of_opening(fault))
         }
     }
 }
@@ -106,7 +106,7 @@ pub(crate) fn feed_on<C: Keeper, D: Disk, I: ByteSource, O: ByteSink>(
     marks: &mut D,
     input: &mut I,
     output: &mut O,
-) -> KeptEnd
+) -> Status
     requires valid { IsValid (C.state cabinet.old).catalogue }
     requires ours { IsTrue (D.told marks.old) → IsMarksFile (C.state cabinet.old).catalogue.digest (D.state marks.old).seen }
     ensures feeds { FeedsOn (C.state cabinet.old).catalogue (counts (C.faults cabinet.old) (C.faults cabinet.new))

@@ -7,9 +7,9 @@ ghost use Rattle.feed_words.specs.Ends.{MakesMarks};
 use arrayvec::ArrayVec;
 use catalog::catalogue::Catalogue;
 use change_feed::feed::Feed;
+use command_status::status::Status;
 use disk_model::disk::Disk;
 use http_wire::streams::ByteSink;
-use kept_cache::end::KeptEnd;
 use kept_cache::writing::written;
 
 /// Makes an empty file of marks, whatever stood there, and writes that it is made. Each end comes as `MakesMarks` says. It takes no
@@ -18,7 +18,7 @@ pub(crate) fn make_marks<D: Disk, O: ByteSink>(
     catalogue: &Catalogue,
     marks: &mut D,
     output: &mut O,
-) -> KeptEnd
+) -> Status
     ensures makes { MakesMarks catalogue.now
         (record { told = D.told marks.old; faults = counts (D.faults marks.old) (D.faults marks.new); from = D.state marks.old; to = D.state marks.new })
         (record { writes = counts (O.faults output.old) (O.faults output.new); from = O.taken output.old; to = O.taken output.new })
@@ -27,6 +27,6 @@ pub(crate) fn make_marks<D: Disk, O: ByteSink>(
 {
     match Feed::make(catalogue, marks) {
         Ok(()) => written(output, ArrayVec::new(), b"made\n"),
-        Err(_) => KeptEnd::DiskFault,
+        Err(_) => Status::DiskFault,
     }
 }

@@ -9,16 +9,15 @@ ghost use Rattle.feed_words.specs.Words.{feed_word};
 
 use crate::fed::feed;
 use crate::making::make_marks;
-use crate::statuses::{status_of_end, status_of_refusal};
 use crate::words::{FeedWord, feed_word};
 use catalog::catalogue::Catalogue;
 use clock::clock::Clock;
 use command_setup::configured::configured;
+use command_setup::refusals::status_of_refusal;
 use command_status::status::Status;
 use disk_model::disk::Disk;
 use exact_ratio::words::Words;
 use http_wire::streams::{ByteSink, ByteSource};
-use kept_cache::end::KeptEnd;
 use std::alloc::Global;
 
 /// Does a word under a catalogue.
@@ -31,7 +30,7 @@ fn done_under<D: Disk, I: ByteSource, O: ByteSink>(
     clock: Clock,
     disk: &mut D,
     marks: &mut D,
-) -> KeptEnd
+) -> Status
     requires valid { IsValid catalogue }
     requires fit { IsFitUnder catalogue word (D.told disk.old) (D.state disk.old).seen (D.told marks.old) (D.state marks.old).seen }
     ensures ends { WordEnds
@@ -83,7 +82,7 @@ fn done<D: Disk, I: ByteSource, O: ByteSink>(
     ensures marks_told { D.told marks.new ≡ D.told marks.old }
 {
     match configured(alloc, catalogue) {
-        Ok(read) => status_of_end(done_under(alloc, word, read, input, output, clock, disk, marks)),
+        Ok(read) => done_under(alloc, word, read, input, output, clock, disk, marks),
         Err(refusal) => status_of_refusal(refusal),
     }
 }

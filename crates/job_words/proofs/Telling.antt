@@ -8,8 +8,8 @@ use Rattle.job_words.specs.declared.tally.Tally.{Tally}
 use Rattle.job_words.specs.Ends.{IsDoneSo, RunsAndSaves, job_text, output_of}
 use Rattle.job_words.specs.Run.{IsRun, tally_of}
 use Rattle.job_words.specs.Visit.{Visit}
-use Rattle.kept_cache.specs.declared.end.KeptEnd.{KeptEnd}
-use Rattle.kept_cache.specs.declared.end.KeptEnd.TheVariants as end
+use Rattle.command_status.specs.declared.status.Status.{Status}
+use Rattle.command_status.specs.declared.status.Status.TheVariants as status
 use Rattle.kept_cache.specs.Change.{DiskChange}
 use Rattle.kept_cache.specs.Opened.{HasOpened}
 use Rattle.kept_cache.specs.Saving.{SavesAll}
@@ -37,23 +37,27 @@ runs_and_saves told renders before start mid after job visits s t u earlier late
 -- THE TEXT, by how its writing ended
 
 told_so : (c : Catalogue) (clock : Readings) (job : Job) (o : Outside) (d : DiskChange) (Stays : Type 0) (s u : State) (visits : List Visit)
-    → HasOpened c clock d s u → RunsAndSaves o.told o.renders o.disk job visits s u → (e : KeptEnd) → Sends (output_of o) (job_text job.kind (tally_of visits)) e
+    → HasOpened c clock d s u → RunsAndSaves o.told o.renders o.disk job visits s u → (e : Status) → Sends (output_of o) (job_text job.kind (tally_of visits)) e
     → IsDoneSo c clock job o d Stays e
-told_so c clock job o d Stays s u visits h runs end.Done sends = (s, u, h, visits, runs, sends)
-told_so c clock job o d Stays s u visits h runs end.WriteFault sends = (s, u, h, visits, runs, sends)
-told_so c clock job o d Stays s u visits h runs end.ReadFault sends = absurd sends
-told_so c clock job o d Stays s u visits h runs end.TooLong sends = absurd sends
-told_so c clock job o d Stays s u visits h runs (end.Form cause) sends = absurd sends
-told_so c clock job o d Stays s u visits h runs (end.Refused cause) sends = absurd sends
-told_so c clock job o d Stays s u visits h runs end.DiskFault sends = absurd sends
-told_so c clock job o d Stays s u visits h runs end.CutsFull sends = absurd sends
-told_so c clock job o d Stays s u visits h runs (end.Line n) sends = absurd sends
-told_so c clock job o d Stays s u visits h runs (end.Stream session) sends = absurd sends
-told_so c clock job o d Stays s u visits h runs end.OutOfMemory sends = absurd sends
+told_so c clock job o d Stays s u visits h runs status.Done sends = (s, u, h, visits, runs, sends)
+told_so c clock job o d Stays s u visits h runs status.WriteFault sends = (s, u, h, visits, runs, sends)
+told_so c clock job o d Stays s u visits h runs status.ReadFault sends = absurd sends
+told_so c clock job o d Stays s u visits h runs status.TooLong sends = absurd sends
+told_so c clock job o d Stays s u visits h runs (status.Form cause) sends = absurd sends
+told_so c clock job o d Stays s u visits h runs (status.Cache cause) sends = absurd sends
+told_so c clock job o d Stays s u visits h runs status.DiskFault sends = absurd sends
+told_so c clock job o d Stays s u visits h runs status.CutsFull sends = absurd sends
+told_so c clock job o d Stays s u visits h runs (status.Line n) sends = absurd sends
+told_so c clock job o d Stays s u visits h runs (status.Stream session) sends = absurd sends
+told_so c clock job o d Stays s u visits h runs status.OutOfMemory sends = absurd sends
+told_so c clock job o d Stays s u visits h runs status.Usage sends = absurd sends
+told_so c clock job o d Stays s u visits h runs (status.Catalogue fault) sends = absurd sends
+told_so c clock job o d Stays s u visits h runs status.ListenFault sends = absurd sends
+told_so c clock job o d Stays s u visits h runs status.ThreadFault sends = absurd sends
 
 -- the tally that was written is that of the visits
 pub job_tells : (c : Catalogue) (clock : Readings) (job : Job) (o : Outside) (d : DiskChange) (Stays : Type 0) (s u : State) (visits : List Visit)
-    → HasOpened c clock d s u → RunsAndSaves o.told o.renders o.disk job visits s u → (tally : Tally) → tally ≡ tally_of visits → (e : KeptEnd) → Sends (output_of o) (job_text job.kind tally) e
+    → HasOpened c clock d s u → RunsAndSaves o.told o.renders o.disk job visits s u → (tally : Tally) → tally ≡ tally_of visits → (e : Status) → Sends (output_of o) (job_text job.kind tally) e
     → IsDoneSo c clock job o d Stays e
 job_tells c clock job o d Stays s u visits h runs tally same e sends =
     told_so c clock job o d Stays s u visits h runs e (subst (λ t. Sends (output_of o) (job_text job.kind t) e) same sends)

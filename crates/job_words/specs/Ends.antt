@@ -11,8 +11,8 @@ use Rattle.job_words.specs.declared.tally.Tally.{Tally}
 use Rattle.job_words.specs.Input.{IsFormedSo, IsJobIn, IsTooLong}
 use Rattle.job_words.specs.Run.{IsRun, tally_of}
 use Rattle.job_words.specs.Visit.{Visit}
-use Rattle.kept_cache.specs.declared.end.KeptEnd.{KeptEnd}
-use Rattle.kept_cache.specs.declared.end.KeptEnd.TheVariants as end
+use Rattle.command_status.specs.declared.status.Status.{Status}
+use Rattle.command_status.specs.declared.status.Status.TheVariants as status
 use Rattle.kept_cache.specs.Change.{DiskChange, HasFailed, HasWritten, IsCutShort}
 use Rattle.sessions.specs.Outside.{FaultCounts, InputChange, OutputChange, Outside}
 use Rattle.kept_cache.specs.Crash.{OpeningLeaves}
@@ -54,33 +54,41 @@ HasRun c clock job o d Written =
 
 -- What each end says of a job that was read. `Stays` is that the output and the source stay as they are. No fault of the disk ends the run
 -- of a job.
-abbrev pub IsDoneSo : Catalogue → Readings → Job → Outside → DiskChange → Type 0 → KeptEnd → Type 0
-IsDoneSo c clock job o d Stays end.Done = HasRun c clock job o d (HasWritten (output_of o))
-IsDoneSo c clock job o d Stays end.WriteFault = HasRun c clock job o d (IsCutShort (output_of o))
-IsDoneSo c clock job o d Stays (end.Refused cause) = IsRefused c d cause × Stays × RefusalLeaves c d cause
-IsDoneSo c clock job o d Stays end.DiskFault = HasFailed d × Stays × OpeningLeaves c d
-IsDoneSo c clock job o d Stays end.OutOfMemory = Stays × OpeningLeaves c d
-IsDoneSo c clock job o d Stays end.ReadFault = ⊥
-IsDoneSo c clock job o d Stays end.TooLong = ⊥
-IsDoneSo c clock job o d Stays (end.Form cause) = ⊥
-IsDoneSo c clock job o d Stays end.CutsFull = ⊥
-IsDoneSo c clock job o d Stays (end.Line n) = ⊥
-IsDoneSo c clock job o d Stays (end.Stream session) = ⊥
+abbrev pub IsDoneSo : Catalogue → Readings → Job → Outside → DiskChange → Type 0 → Status → Type 0
+IsDoneSo c clock job o d Stays status.Done = HasRun c clock job o d (HasWritten (output_of o))
+IsDoneSo c clock job o d Stays status.WriteFault = HasRun c clock job o d (IsCutShort (output_of o))
+IsDoneSo c clock job o d Stays (status.Cache cause) = IsRefused c d cause × Stays × RefusalLeaves c d cause
+IsDoneSo c clock job o d Stays status.DiskFault = HasFailed d × Stays × OpeningLeaves c d
+IsDoneSo c clock job o d Stays status.OutOfMemory = Stays × OpeningLeaves c d
+IsDoneSo c clock job o d Stays status.ReadFault = ⊥
+IsDoneSo c clock job o d Stays status.TooLong = ⊥
+IsDoneSo c clock job o d Stays (status.Form cause) = ⊥
+IsDoneSo c clock job o d Stays status.CutsFull = ⊥
+IsDoneSo c clock job o d Stays (status.Line n) = ⊥
+IsDoneSo c clock job o d Stays (status.Stream session) = ⊥
+IsDoneSo c clock job o d Stays status.Usage = ⊥
+IsDoneSo c clock job o d Stays (status.Catalogue fault) = ⊥
+IsDoneSo c clock job o d Stays status.ListenFault = ⊥
+IsDoneSo c clock job o d Stays status.ThreadFault = ⊥
 
 -- the input had a job, and its run ended so
-abbrev pub RunsRead : Catalogue → Readings → InputChange → Outside → DiskChange → Type 0 → KeptEnd → Type 0
+abbrev pub RunsRead : Catalogue → Readings → InputChange → Outside → DiskChange → Type 0 → Status → Type 0
 RunsRead c clock i o d Stays e = (job : Job) × IsJobIn c i job × IsDoneSo c clock job o d Stays e
 
 -- before the job is read to its end the disk stays as it is
-abbrev pub RunsJob : Catalogue → Readings → InputChange → Outside → DiskChange → Type 0 → Type 0 → KeptEnd → Type 0
-RunsJob c clock i o d DiskStays Stays end.ReadFault = Rose i.reads.before i.reads.after × DiskStays × Stays
-RunsJob c clock i o d DiskStays Stays end.TooLong = IsTooLong i × DiskStays × Stays
-RunsJob c clock i o d DiskStays Stays (end.Form cause) = IsFormedSo c i cause × DiskStays × Stays
-RunsJob c clock i o d DiskStays Stays end.OutOfMemory = (DiskStays × Stays) ⊎ RunsRead c clock i o d Stays end.OutOfMemory
-RunsJob c clock i o d DiskStays Stays end.Done = RunsRead c clock i o d Stays end.Done
-RunsJob c clock i o d DiskStays Stays end.WriteFault = RunsRead c clock i o d Stays end.WriteFault
-RunsJob c clock i o d DiskStays Stays (end.Refused cause) = RunsRead c clock i o d Stays (end.Refused cause)
-RunsJob c clock i o d DiskStays Stays end.DiskFault = RunsRead c clock i o d Stays end.DiskFault
-RunsJob c clock i o d DiskStays Stays end.CutsFull = ⊥
-RunsJob c clock i o d DiskStays Stays (end.Line n) = ⊥
-RunsJob c clock i o d DiskStays Stays (end.Stream session) = ⊥
+abbrev pub RunsJob : Catalogue → Readings → InputChange → Outside → DiskChange → Type 0 → Type 0 → Status → Type 0
+RunsJob c clock i o d DiskStays Stays status.ReadFault = Rose i.reads.before i.reads.after × DiskStays × Stays
+RunsJob c clock i o d DiskStays Stays status.TooLong = IsTooLong i × DiskStays × Stays
+RunsJob c clock i o d DiskStays Stays (status.Form cause) = IsFormedSo c i cause × DiskStays × Stays
+RunsJob c clock i o d DiskStays Stays status.OutOfMemory = (DiskStays × Stays) ⊎ RunsRead c clock i o d Stays status.OutOfMemory
+RunsJob c clock i o d DiskStays Stays status.Done = RunsRead c clock i o d Stays status.Done
+RunsJob c clock i o d DiskStays Stays status.WriteFault = RunsRead c clock i o d Stays status.WriteFault
+RunsJob c clock i o d DiskStays Stays (status.Cache cause) = RunsRead c clock i o d Stays (status.Cache cause)
+RunsJob c clock i o d DiskStays Stays status.DiskFault = RunsRead c clock i o d Stays status.DiskFault
+RunsJob c clock i o d DiskStays Stays status.CutsFull = ⊥
+RunsJob c clock i o d DiskStays Stays (status.Line n) = ⊥
+RunsJob c clock i o d DiskStays Stays (status.Stream session) = ⊥
+RunsJob c clock i o d DiskStays Stays status.Usage = ⊥
+RunsJob c clock i o d DiskStays Stays (status.Catalogue fault) = ⊥
+RunsJob c clock i o d DiskStays Stays status.ListenFault = ⊥
+RunsJob c clock i o d DiskStays Stays status.ThreadFault = ⊥

@@ -6,12 +6,12 @@ ghost use Rattle.jobs.specs.Job.{Fits};
 ghost use Rattle.sessions.specs.Outside.{InputChange};
 
 use catalog::catalogue::Catalogue;
-use http_wire::inputs::{InputEnd, read_all};
+use command_status::status::Status;
+use command_status::statuses::status_of_form;
 use http_wire::streams::ByteSource;
 use jobs::job::Job;
 use jobs::reading::read_job;
-use kept_cache::end::KeptEnd;
-use kept_cache::formed::end_of_fault;
+use kept_cache::input::text_in;
 use std::alloc::Global;
 
 /// The most bytes of a job.
@@ -22,18 +22,16 @@ pub fn job_in<I: ByteSource>(
     alloc: Global,
     catalogue: &Catalogue,
     input: &mut I,
-) -> Result<Job, KeptEnd>
+) -> Result<Job, Status>
     requires { IsValid catalogue.now }
     ensures reads { ReadsJob catalogue.now (record { reads = record { before = I.faults input.old; after = I.faults input.new }; from = I.left input.old; to = I.left input.new }) result }
     ensures fits { IfOk result (λ job. Fits catalogue.now job) }
 {
-    match read_all(alloc, input, JOB_LIMIT) {
+    match text_in(alloc, input, JOB_LIMIT) {
         Ok(text) => match read_job(alloc, catalogue, text.as_slice()) {
             Ok(job) => Ok(job),
-            Err(fault) => Err(end_of_fault(fault)),
+            Err(fault) => Err(status_of_form(fault)),
         },
-        Err(InputEnd::ReadFault) => Err(KeptEnd::ReadFault),
-        Err(InputEnd::TooLong) => Err(KeptEnd::TooLong),
-        Err(InputEnd::OutOfMemory) => Err(KeptEnd::OutOfMemory),
+        Err(status) => Err(status),
     }
 }

@@ -4,7 +4,7 @@
 //! (`specs/Run.antt`, `specs/Visit.antt`); each end of the word has its cause (`specs/Ends.antt`); at every moment of it a crash leaves a
 //! cache that answers for every truncation that was in force, and at its end for the cut that it counts as done.
 //! Stands on jobs for jobs and their places, on cache_access, by which it refreshes a metatile, on cache_core, in whose events a visit is told,
-//! and on kept_cache, by which it opens the cache, saves the uses of what is kept and closes it.
+//! on kept_cache, by which it opens the cache, saves the uses of what is kept and closes it, and on command_status for how the word ends.
 #![tactic(auto)]
 
 mod cutting;

@@ -7,9 +7,9 @@ ghost use Rattle.kept_cache.specs.Texts.{Sends};
 
 use crate::tally::Tally;
 use arrayvec::ArrayVec;
+use command_status::status::Status;
 use http_wire::streams::ByteSink;
 use jobs::job::JobKind;
-use kept_cache::end::KeptEnd;
 use kept_cache::writing::written;
 use tile_requests::small_text::{add, add_number};
 
@@ -37,7 +37,7 @@ fn add_numbered(text: &mut ArrayVec<u8, 1024>, label: &[u8], number: u64)
 }
 
 /// Writes how the places of a job ended: `Done` where the text went out, `WriteFault` where a write failed.
-pub fn told_tally<O: ByteSink>(output: &mut O, kind: JobKind, tally: &Tally) -> KeptEnd
+pub fn told_tally<O: ByteSink>(output: &mut O, kind: JobKind, tally: &Tally) -> Status
     ensures { Sends (record { writes = counts (O.faults output.old) (O.faults output.new); from = O.taken output.old; to = O.taken output.new }) (job_text kind tally.now) result }
 {
     let mut text = ArrayVec::new();

@@ -20,12 +20,13 @@ use cabinet::keeper::Keeper;
 use cache_core::laws::laws_of_lasting;
 use catalog::catalogue::Catalogue;
 use clock::clock::Clock;
+use command_status::status::Status;
+use command_status::statuses::status_of_opening;
 use disk_model::disk::Disk;
 use http_wire::streams::{ByteSink, ByteSource};
 use jobs::job::Job;
-use kept_cache::end::KeptEnd;
 use kept_cache::lent::Loan;
-use kept_cache::opened::{closed, end_of_refusal, opened};
+use kept_cache::opened::{closed, opened};
 use kept_cache::saving::save_all;
 use source_render::source::Source;
 use std::alloc::Global;
@@ -41,7 +42,7 @@ pub fn run_job<D: Disk, S: Source, I: ByteSource, O: ByteSink>(
     disk: &mut D,
     source: &mut S,
     output: &mut O,
-) -> KeptEnd
+) -> Status
     requires valid { IsValid catalogue }
     requires ours { IsTrue (D.told disk.old) → IsOurs catalogue (D.state disk.old).seen }
     ensures runs { RunsJob catalogue clock
@@ -89,7 +90,7 @@ fn run_over<'a, D: Disk, S: Source, O: ByteSink, L: Loan>(
     disk: &'a mut D,
     source: &mut S,
     output: &mut O,
-) -> (&'a mut D, KeptEnd)
+) -> (&'a mut D, Status)
     requires valid { IsValid catalogue }
     requires fits { Fits catalogue job.now }
     requires loan { disk.ghost_name ≡ L.disk }
@@ -110,7 +111,7 @@ fn run_over<'a, D: Disk, S: Source, O: ByteSink, L: Loan>(
         }
         Err(refusal) => {
             let (fault, disk) = refusal;
-            (disk, end_of_refusal(fault))
+            (disk, status_of_opening(fault))
         }
     }
 }

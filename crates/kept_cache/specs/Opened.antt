@@ -9,8 +9,6 @@ use Rattle.disk_model.specs.Images.{Every}
 use Rattle.durable_cabinet.specs.Images.{IsSoundImage, OpensTo}
 use Rattle.gate_journal.specs.declared.fault.OpenFault.{OpenFault}
 use Rattle.gate_journal.specs.declared.fault.OpenFault.TheVariants as fault
-use Rattle.kept_cache.specs.declared.end.KeptEnd.{KeptEnd}
-use Rattle.kept_cache.specs.declared.end.KeptEnd.TheVariants as end
 use Rattle.kept_cache.specs.Change.{DiskChange, HasFailed}
 use Rattle.kept_cache.specs.Crash.{IsLeft, IsRestored, LeavesAsItWas, OpeningLeaves}
 
@@ -30,15 +28,6 @@ pub record HasOpened (c : Catalogue) (clock : Readings) (d : DiskChange) (first 
   pub restored : IsRestored d last
   pub begins_sound : IsTrue d.told → IsSoundImage c d.from.seen → IsSound first
   pub leaves_sound : IsSound last → HasFailed d ⊎ (IsTrue d.told → Every d.to.may_leave (IsSoundImage c))
-
--- the end of a word whose cabinet wasn't opened
-abbrev pub end_of_refusal : OpenFault → KeptEnd
-end_of_refusal fault.NotACache = end.Refused fault.NotACache
-end_of_refusal (fault.CatalogueDiffers found asked) = end.Refused (fault.CatalogueDiffers found asked)
-end_of_refusal (fault.BadRecord slot) = end.Refused (fault.BadRecord slot)
-end_of_refusal fault.Spent = end.Refused fault.Spent
-end_of_refusal fault.DiskFault = end.DiskFault
-end_of_refusal fault.OutOfMemory = end.OutOfMemory
 
 -- the content of the disk was refused for this cause; a fault of the disk and want of memory are ends of their own
 abbrev pub IsRefused : Catalogue → DiskChange → OpenFault → Type 0

@@ -5,11 +5,10 @@ ghost use Rattle.durable_cabinet.specs.Images.{IsOurs};
 ghost use Rattle.gate_journal.specs.Sound.{IsSettled};
 ghost use Rattle.kept_cache.specs.Change.{DiskChange};
 ghost use Rattle.kept_cache.specs.Crash.{IsClosed, LastsThrough};
-ghost use Rattle.kept_cache.specs.Opened.{IsOpened, RefusalLeaves, end_of_refusal};
+ghost use Rattle.kept_cache.specs.Opened.{IsOpened, RefusalLeaves};
 ghost use Rattle.sessions.specs.Outside.{counts};
 ghost use Rattle.durable_cabinet.specs.Filed.{IsRefusedAs};
 
-use crate::end::KeptEnd;
 use crate::lent::{LentDisk, Loan};
 use catalog::catalogue::Catalogue;
 use clock::clock::Clock;
@@ -17,22 +16,6 @@ use disk_model::disk::Disk;
 use durable_cabinet::durable::Cabinet;
 use gate_journal::fault::OpenFault;
 use std::alloc::Global;
-
-/// The end of a word whose cabinet wasn't opened.
-pub fn end_of_refusal(fault: OpenFault) -> KeptEnd
-    ensures { result ≡ end_of_refusal fault }
-{
-    match fault {
-        OpenFault::NotACache => KeptEnd::Refused(OpenFault::NotACache),
-        OpenFault::CatalogueDiffers(found, asked) => {
-            KeptEnd::Refused(OpenFault::CatalogueDiffers(found, asked))
-        }
-        OpenFault::BadRecord(slot) => KeptEnd::Refused(OpenFault::BadRecord(slot)),
-        OpenFault::Spent => KeptEnd::Refused(OpenFault::Spent),
-        OpenFault::DiskFault => KeptEnd::DiskFault,
-        OpenFault::OutOfMemory => KeptEnd::OutOfMemory,
-    }
-}
 
 /// Opens the cabinet of a disk that is lent. A refusal hands the loan back.
 pub fn opened<'a, D: Disk, L: Loan>(

@@ -4,19 +4,19 @@ ghost use Rattle.arrayvec.specs.ArrayVec.{array_vec_len};
 ghost use Rattle.sessions.specs.Outside.{OutputChange, counts};
 ghost use Rattle.kept_cache.specs.Texts.{Sends};
 
-use crate::end::KeptEnd;
 use arrayvec::ArrayVec;
+use command_status::status::Status;
 use http_wire::streams::ByteSink;
 use tile_requests::small_text::{add, add_number, send_behind};
 
 /// Writes the text of a word, in two parts: `Done` where all of it went out, `WriteFault` where a write failed.
-pub fn written<O: ByteSink>(output: &mut O, front: ArrayVec<u8, 1024>, rest: &[u8]) -> KeptEnd
+pub fn written<O: ByteSink>(output: &mut O, front: ArrayVec<u8, 1024>, rest: &[u8]) -> Status
     requires { array_vec_len front ≤ 512 }
     ensures { Sends (record { writes = counts (O.faults output.old) (O.faults output.new); from = O.taken output.old; to = O.taken output.new }) (front.items ++ rest.now) result }
 {
     match send_behind(output, front, rest) {
-        Ok(()) => KeptEnd::Done,
-        Err(_) => KeptEnd::WriteFault,
+        Ok(()) => Status::Done,
+        Err(_) => Status::WriteFault,
     }
 }
 

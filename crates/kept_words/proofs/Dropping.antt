@@ -12,8 +12,8 @@ use Rattle.catalog.specs.declared.catalogue.Catalogue.{Catalogue}
 use Rattle.causes.specs.Causes.{Rose}
 use Rattle.clock.specs.Readings.{Readings}
 use Rattle.http_wire.proofs.TakesOn.{rose_before}
-use Rattle.kept_cache.specs.declared.end.KeptEnd.{KeptEnd}
-use Rattle.kept_cache.specs.declared.end.KeptEnd.TheVariants as end
+use Rattle.command_status.specs.declared.status.Status.{Status}
+use Rattle.command_status.specs.declared.status.Status.TheVariants as status
 use Rattle.kept_cache.specs.Change.{DiskChange}
 use Rattle.sessions.specs.Outside.{OutputChange}
 use Rattle.kept_cache.specs.Opened.{HasOpened}
@@ -46,18 +46,22 @@ fewer s u m row = rw (row.3, now_more s (entry.Dropped m)) (one_less (is_of m) (
 
 pub drop_tells : (c : Catalogue) (clock : Readings) (d : DiskChange) (o : OutputChange) (Stays : Type 0) (s u : State) (mid : ℕ)
     → HasOpened c clock d s u → d.faults.before ≤ mid → (r : Option ℕ) → IfSome r (λ n. Drops n s u × Expires u expired.Within u) → (r ≡ None → Rose mid d.faults.after) → (r ≡ None → (n : ℕ) × Drops n s u)
-    → (e : KeptEnd) → TellsDropped o Stays r e → DropsAll c clock d o Stays e
-drop_tells c clock d o Stays s u mid h le (Some n) all failed dropped end.Done tells = (n, (s, u, h, all.0, all.1), tells)
-drop_tells c clock d o Stays s u mid h le (Some n) all failed dropped end.WriteFault tells = (n, (s, u, h, all.0, all.1), tells)
-drop_tells c clock d o Stays s u mid h le (Some n) all failed dropped end.ReadFault tells = absurd tells
-drop_tells c clock d o Stays s u mid h le (Some n) all failed dropped end.TooLong tells = absurd tells
-drop_tells c clock d o Stays s u mid h le (Some n) all failed dropped (end.Form cause) tells = absurd tells
-drop_tells c clock d o Stays s u mid h le (Some n) all failed dropped (end.Refused cause) tells = absurd tells
-drop_tells c clock d o Stays s u mid h le (Some n) all failed dropped end.DiskFault tells = absurd tells
-drop_tells c clock d o Stays s u mid h le (Some n) all failed dropped end.CutsFull tells = absurd tells
-drop_tells c clock d o Stays s u mid h le (Some n) all failed dropped (end.Line n') tells = absurd tells
-drop_tells c clock d o Stays s u mid h le (Some n) all failed dropped (end.Stream session) tells = absurd tells
-drop_tells c clock d o Stays s u mid h le (Some n) all failed dropped end.OutOfMemory tells = absurd tells
+    → (e : Status) → TellsDropped o Stays r e → DropsAll c clock d o Stays e
+drop_tells c clock d o Stays s u mid h le (Some n) all failed dropped status.Done tells = (n, (s, u, h, all.0, all.1), tells)
+drop_tells c clock d o Stays s u mid h le (Some n) all failed dropped status.WriteFault tells = (n, (s, u, h, all.0, all.1), tells)
+drop_tells c clock d o Stays s u mid h le (Some n) all failed dropped status.ReadFault tells = absurd tells
+drop_tells c clock d o Stays s u mid h le (Some n) all failed dropped status.TooLong tells = absurd tells
+drop_tells c clock d o Stays s u mid h le (Some n) all failed dropped (status.Form cause) tells = absurd tells
+drop_tells c clock d o Stays s u mid h le (Some n) all failed dropped (status.Cache cause) tells = absurd tells
+drop_tells c clock d o Stays s u mid h le (Some n) all failed dropped status.DiskFault tells = absurd tells
+drop_tells c clock d o Stays s u mid h le (Some n) all failed dropped status.CutsFull tells = absurd tells
+drop_tells c clock d o Stays s u mid h le (Some n) all failed dropped (status.Line n') tells = absurd tells
+drop_tells c clock d o Stays s u mid h le (Some n) all failed dropped (status.Stream session) tells = absurd tells
+drop_tells c clock d o Stays s u mid h le (Some n) all failed dropped status.OutOfMemory tells = absurd tells
+drop_tells c clock d o Stays s u mid h le (Some n) all failed dropped status.Usage tells = absurd tells
+drop_tells c clock d o Stays s u mid h le (Some n) all failed dropped (status.Catalogue fault) tells = absurd tells
+drop_tells c clock d o Stays s u mid h le (Some n) all failed dropped status.ListenFault tells = absurd tells
+drop_tells c clock d o Stays s u mid h le (Some n) all failed dropped status.ThreadFault tells = absurd tells
 drop_tells c clock d o Stays s u mid h le None all failed dropped e tells = rw tells.0 (rose_before (2 ^ 64 - 1) d.faults.before mid d.faults.after le (failed refl), tells.1, inr (let d = dropped refl in (d.0, s, u, h, d.1)))
 
 -- one drop more

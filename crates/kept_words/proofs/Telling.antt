@@ -10,8 +10,8 @@ use Rattle.catalog.specs.declared.catalogue.Catalogue.{Catalogue}
 use Rattle.causes.specs.Causes.{Rose}
 use Rattle.clock.specs.Readings.{Readings}
 use Rattle.http_wire.proofs.TakesOn.{rose_before}
-use Rattle.kept_cache.specs.declared.end.KeptEnd.{KeptEnd}
-use Rattle.kept_cache.specs.declared.end.KeptEnd.TheVariants as end
+use Rattle.command_status.specs.declared.status.Status.{Status}
+use Rattle.command_status.specs.declared.status.Status.TheVariants as status
 use Rattle.kept_cache.specs.Change.{DiskChange}
 use Rattle.sessions.specs.Outside.{InputChange, OutputChange}
 use Rattle.kept_cache.specs.Opened.{HasOpened}
@@ -24,18 +24,22 @@ use Rattle.truncation_list.specs.declared.cover.Cover.{Cover}
 -- the one cut, by its reply and how that was told
 pub cut_tells : (c : Catalogue) (clock : Readings) (cover : Cover) (d : DiskChange) (o : OutputChange) (Stays : Type 0) (s u : State) (mid : ℕ)
     → HasOpened c clock d s u → d.faults.before ≤ mid → (reply : Result CutReply AllocError) → IfOk reply (λ r. Cuts s cover r u) → OnErr reply (u ≡ s) → IfOk reply (IsCountedCut mid d.faults.after)
-    → (e : KeptEnd) → TellsCut o Stays reply e → CutsOnce c clock cover d o Stays e
-cut_tells c clock cover d o Stays s u mid h le (Ok (cut.Done t)) cuts same counted end.Done tells = (s, u, t, h, cuts, tells)
-cut_tells c clock cover d o Stays s u mid h le (Ok (cut.Done t)) cuts same counted end.WriteFault tells = (s, u, t, h, cuts, tells)
-cut_tells c clock cover d o Stays s u mid h le (Ok (cut.Done t)) cuts same counted end.ReadFault tells = absurd tells
-cut_tells c clock cover d o Stays s u mid h le (Ok (cut.Done t)) cuts same counted end.TooLong tells = absurd tells
-cut_tells c clock cover d o Stays s u mid h le (Ok (cut.Done t)) cuts same counted (end.Form cause) tells = absurd tells
-cut_tells c clock cover d o Stays s u mid h le (Ok (cut.Done t)) cuts same counted (end.Refused cause) tells = absurd tells
-cut_tells c clock cover d o Stays s u mid h le (Ok (cut.Done t)) cuts same counted end.DiskFault tells = absurd tells
-cut_tells c clock cover d o Stays s u mid h le (Ok (cut.Done t)) cuts same counted end.CutsFull tells = absurd tells
-cut_tells c clock cover d o Stays s u mid h le (Ok (cut.Done t)) cuts same counted (end.Line n) tells = absurd tells
-cut_tells c clock cover d o Stays s u mid h le (Ok (cut.Done t)) cuts same counted (end.Stream session) tells = absurd tells
-cut_tells c clock cover d o Stays s u mid h le (Ok (cut.Done t)) cuts same counted end.OutOfMemory tells = absurd tells
+    → (e : Status) → TellsCut o Stays reply e → CutsOnce c clock cover d o Stays e
+cut_tells c clock cover d o Stays s u mid h le (Ok (cut.Done t)) cuts same counted status.Done tells = (s, u, t, h, cuts, tells)
+cut_tells c clock cover d o Stays s u mid h le (Ok (cut.Done t)) cuts same counted status.WriteFault tells = (s, u, t, h, cuts, tells)
+cut_tells c clock cover d o Stays s u mid h le (Ok (cut.Done t)) cuts same counted status.ReadFault tells = absurd tells
+cut_tells c clock cover d o Stays s u mid h le (Ok (cut.Done t)) cuts same counted status.TooLong tells = absurd tells
+cut_tells c clock cover d o Stays s u mid h le (Ok (cut.Done t)) cuts same counted (status.Form cause) tells = absurd tells
+cut_tells c clock cover d o Stays s u mid h le (Ok (cut.Done t)) cuts same counted (status.Cache cause) tells = absurd tells
+cut_tells c clock cover d o Stays s u mid h le (Ok (cut.Done t)) cuts same counted status.DiskFault tells = absurd tells
+cut_tells c clock cover d o Stays s u mid h le (Ok (cut.Done t)) cuts same counted status.CutsFull tells = absurd tells
+cut_tells c clock cover d o Stays s u mid h le (Ok (cut.Done t)) cuts same counted (status.Line n) tells = absurd tells
+cut_tells c clock cover d o Stays s u mid h le (Ok (cut.Done t)) cuts same counted (status.Stream session) tells = absurd tells
+cut_tells c clock cover d o Stays s u mid h le (Ok (cut.Done t)) cuts same counted status.OutOfMemory tells = absurd tells
+cut_tells c clock cover d o Stays s u mid h le (Ok (cut.Done t)) cuts same counted status.Usage tells = absurd tells
+cut_tells c clock cover d o Stays s u mid h le (Ok (cut.Done t)) cuts same counted (status.Catalogue fault) tells = absurd tells
+cut_tells c clock cover d o Stays s u mid h le (Ok (cut.Done t)) cuts same counted status.ListenFault tells = absurd tells
+cut_tells c clock cover d o Stays s u mid h le (Ok (cut.Done t)) cuts same counted status.ThreadFault tells = absurd tells
 cut_tells c clock cover d o Stays s u mid h le (Ok cut.Full) cuts same counted e tells = rw tells.0 (s, u, h, cuts, tells.1)
 cut_tells c clock cover d o Stays s u mid h le (Ok cut.Spent) cuts same counted e tells = rw tells.0 (inr (refl, (s, u, h, cuts)), tells.1)
 cut_tells c clock cover d o Stays s u mid h le (Ok (cut.DiskFault b a)) cuts same counted e tells =
@@ -45,35 +49,43 @@ cut_tells c clock cover d o Stays s u mid h le (Err failed) cuts same counted e 
 
 -- the cut of a cover that was read
 pub cuts_read : (c : Catalogue) (clock : Readings) (i : InputChange) (d : DiskChange) (o : OutputChange) (DiskStays Stays : Type 0) (cover : Cover)
-    → IsCoverIn c i cover → (e : KeptEnd) → CutsOnce c clock cover d o Stays e → Truncates c clock i d o DiskStays Stays e
-cuts_read c clock i d o DiskStays Stays cover read end.Done cuts = (cover, read, cuts)
-cuts_read c clock i d o DiskStays Stays cover read end.WriteFault cuts = (cover, read, cuts)
-cuts_read c clock i d o DiskStays Stays cover read end.ReadFault cuts = absurd cuts
-cuts_read c clock i d o DiskStays Stays cover read end.TooLong cuts = absurd cuts
-cuts_read c clock i d o DiskStays Stays cover read (end.Form cause) cuts = absurd cuts
-cuts_read c clock i d o DiskStays Stays cover read (end.Refused cause) cuts = (cover, read, cuts)
-cuts_read c clock i d o DiskStays Stays cover read end.DiskFault cuts = (cover, read, cuts)
-cuts_read c clock i d o DiskStays Stays cover read end.CutsFull cuts = (cover, read, cuts)
-cuts_read c clock i d o DiskStays Stays cover read (end.Line n) cuts = absurd cuts
-cuts_read c clock i d o DiskStays Stays cover read (end.Stream session) cuts = absurd cuts
-cuts_read c clock i d o DiskStays Stays cover read end.OutOfMemory cuts = inr (cover, read, cuts)
+    → IsCoverIn c i cover → (e : Status) → CutsOnce c clock cover d o Stays e → Truncates c clock i d o DiskStays Stays e
+cuts_read c clock i d o DiskStays Stays cover read status.Done cuts = (cover, read, cuts)
+cuts_read c clock i d o DiskStays Stays cover read status.WriteFault cuts = (cover, read, cuts)
+cuts_read c clock i d o DiskStays Stays cover read status.ReadFault cuts = absurd cuts
+cuts_read c clock i d o DiskStays Stays cover read status.TooLong cuts = absurd cuts
+cuts_read c clock i d o DiskStays Stays cover read (status.Form cause) cuts = absurd cuts
+cuts_read c clock i d o DiskStays Stays cover read (status.Cache cause) cuts = (cover, read, cuts)
+cuts_read c clock i d o DiskStays Stays cover read status.DiskFault cuts = (cover, read, cuts)
+cuts_read c clock i d o DiskStays Stays cover read status.CutsFull cuts = (cover, read, cuts)
+cuts_read c clock i d o DiskStays Stays cover read (status.Line n) cuts = absurd cuts
+cuts_read c clock i d o DiskStays Stays cover read (status.Stream session) cuts = absurd cuts
+cuts_read c clock i d o DiskStays Stays cover read status.Usage cuts = absurd cuts
+cuts_read c clock i d o DiskStays Stays cover read (status.Catalogue fault) cuts = absurd cuts
+cuts_read c clock i d o DiskStays Stays cover read status.ListenFault cuts = absurd cuts
+cuts_read c clock i d o DiskStays Stays cover read status.ThreadFault cuts = absurd cuts
+cuts_read c clock i d o DiskStays Stays cover read status.OutOfMemory cuts = inr (cover, read, cuts)
 
 -- the usage of a cabinet that was opened, by how its writing ended
 usage_told : (c : Catalogue) (clock : Readings) (d : DiskChange) (o : OutputChange) (Stays : Type 0) (s : State)
-    → HasOpened c clock d s s → (e : KeptEnd) → Sends o (usage_text s) e → TellsUsage c clock d o Stays e
-usage_told c clock d o Stays s h end.Done sends = (s, h, sends)
-usage_told c clock d o Stays s h end.WriteFault sends = (s, h, sends)
-usage_told c clock d o Stays s h end.ReadFault sends = absurd sends
-usage_told c clock d o Stays s h end.TooLong sends = absurd sends
-usage_told c clock d o Stays s h (end.Form cause) sends = absurd sends
-usage_told c clock d o Stays s h (end.Refused cause) sends = absurd sends
-usage_told c clock d o Stays s h end.DiskFault sends = absurd sends
-usage_told c clock d o Stays s h end.CutsFull sends = absurd sends
-usage_told c clock d o Stays s h (end.Line n) sends = absurd sends
-usage_told c clock d o Stays s h (end.Stream session) sends = absurd sends
-usage_told c clock d o Stays s h end.OutOfMemory sends = absurd sends
+    → HasOpened c clock d s s → (e : Status) → Sends o (usage_text s) e → TellsUsage c clock d o Stays e
+usage_told c clock d o Stays s h status.Done sends = (s, h, sends)
+usage_told c clock d o Stays s h status.WriteFault sends = (s, h, sends)
+usage_told c clock d o Stays s h status.ReadFault sends = absurd sends
+usage_told c clock d o Stays s h status.TooLong sends = absurd sends
+usage_told c clock d o Stays s h (status.Form cause) sends = absurd sends
+usage_told c clock d o Stays s h (status.Cache cause) sends = absurd sends
+usage_told c clock d o Stays s h status.DiskFault sends = absurd sends
+usage_told c clock d o Stays s h status.CutsFull sends = absurd sends
+usage_told c clock d o Stays s h (status.Line n) sends = absurd sends
+usage_told c clock d o Stays s h (status.Stream session) sends = absurd sends
+usage_told c clock d o Stays s h status.OutOfMemory sends = absurd sends
+usage_told c clock d o Stays s h status.Usage sends = absurd sends
+usage_told c clock d o Stays s h (status.Catalogue fault) sends = absurd sends
+usage_told c clock d o Stays s h status.ListenFault sends = absurd sends
+usage_told c clock d o Stays s h status.ThreadFault sends = absurd sends
 
 -- the text that was written is that of the usage
 pub usage_tells : (c : Catalogue) (clock : Readings) (d : DiskChange) (o : OutputChange) (Stays : Type 0) (s : State)
-    → HasOpened c clock d s s → (text : List ℕ) → text ≡ usage_text s → (e : KeptEnd) → Sends o text e → TellsUsage c clock d o Stays e
+    → HasOpened c clock d s s → (text : List ℕ) → text ≡ usage_text s → (e : Status) → Sends o text e → TellsUsage c clock d o Stays e
 usage_tells c clock d o Stays s h text same e sends = usage_told c clock d o Stays s h e (subst (λ x. Sends o x e) same sends)

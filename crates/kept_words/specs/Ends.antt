@@ -13,8 +13,8 @@ use Rattle.clock.specs.Readings.{Readings}
 use Rattle.disk_model.specs.Images.{Every}
 use Rattle.durable_cabinet.specs.Images.{IsOurs, OpensTo, blobs_start}
 use Rattle.gate_journal.specs.declared.fault.OpenFault.TheVariants as fault
-use Rattle.kept_cache.specs.declared.end.KeptEnd.{KeptEnd}
-use Rattle.kept_cache.specs.declared.end.KeptEnd.TheVariants as end
+use Rattle.command_status.specs.declared.status.Status.{Status}
+use Rattle.command_status.specs.declared.status.Status.TheVariants as status
 use Rattle.kept_cache.specs.Change.{DiskChange, HasFailed, HasWritten, IsCutShort}
 use Rattle.sessions.specs.Outside.{InputChange, OutputChange}
 use Rattle.kept_cache.specs.Crash.{OpeningLeaves}
@@ -27,18 +27,22 @@ use Rattle.tile_requests.specs.Texts.{usage_text}
 use Rattle.truncation_list.specs.declared.cover.Cover.{Cover}
 
 -- USAGE: `Stays` is that the output stays as it is
-abbrev pub TellsUsage : Catalogue → Readings → DiskChange → OutputChange → Type 0 → KeptEnd → Type 0
-TellsUsage c clock d o Stays end.Done = (s : State) × HasOpened c clock d s s × HasWritten o (usage_text s)
-TellsUsage c clock d o Stays end.WriteFault = (s : State) × HasOpened c clock d s s × IsCutShort o (usage_text s)
-TellsUsage c clock d o Stays (end.Refused cause) = IsRefused c d cause × Stays × RefusalLeaves c d cause
-TellsUsage c clock d o Stays end.DiskFault = HasFailed d × Stays × OpeningLeaves c d
-TellsUsage c clock d o Stays end.OutOfMemory = Stays × (OpeningLeaves c d ⊎ ((s : State) × HasOpened c clock d s s))
-TellsUsage c clock d o Stays end.ReadFault = ⊥
-TellsUsage c clock d o Stays end.TooLong = ⊥
-TellsUsage c clock d o Stays (end.Form cause) = ⊥
-TellsUsage c clock d o Stays end.CutsFull = ⊥
-TellsUsage c clock d o Stays (end.Line n) = ⊥
-TellsUsage c clock d o Stays (end.Stream session) = ⊥
+abbrev pub TellsUsage : Catalogue → Readings → DiskChange → OutputChange → Type 0 → Status → Type 0
+TellsUsage c clock d o Stays status.Done = (s : State) × HasOpened c clock d s s × HasWritten o (usage_text s)
+TellsUsage c clock d o Stays status.WriteFault = (s : State) × HasOpened c clock d s s × IsCutShort o (usage_text s)
+TellsUsage c clock d o Stays (status.Cache cause) = IsRefused c d cause × Stays × RefusalLeaves c d cause
+TellsUsage c clock d o Stays status.DiskFault = HasFailed d × Stays × OpeningLeaves c d
+TellsUsage c clock d o Stays status.OutOfMemory = Stays × (OpeningLeaves c d ⊎ ((s : State) × HasOpened c clock d s s))
+TellsUsage c clock d o Stays status.ReadFault = ⊥
+TellsUsage c clock d o Stays status.TooLong = ⊥
+TellsUsage c clock d o Stays (status.Form cause) = ⊥
+TellsUsage c clock d o Stays status.CutsFull = ⊥
+TellsUsage c clock d o Stays (status.Line n) = ⊥
+TellsUsage c clock d o Stays (status.Stream session) = ⊥
+TellsUsage c clock d o Stays status.Usage = ⊥
+TellsUsage c clock d o Stays (status.Catalogue fault) = ⊥
+TellsUsage c clock d o Stays status.ListenFault = ⊥
+TellsUsage c clock d o Stays status.ThreadFault = ⊥
 
 -- TRUNCATE
 
@@ -46,44 +50,52 @@ TellsUsage c clock d o Stays (end.Stream session) = ⊥
 abbrev pub HasFailedAtCut : Catalogue → Readings → Cover → DiskChange → Type 0
 HasFailedAtCut c clock cover d = (s : State) × (u : State) × (b : ℕ) × (a : ℕ) × HasOpened c clock d s u × Cuts s cover (cut.DiskFault b a) u
 
-abbrev pub CutsOnce : Catalogue → Readings → Cover → DiskChange → OutputChange → Type 0 → KeptEnd → Type 0
-CutsOnce c clock cover d o Stays end.Done = (s : State) × (u : State) × (t : ℕ) × HasOpened c clock d s u × Cuts s cover (cut.Done t) u × HasWritten o (cut_text t)
-CutsOnce c clock cover d o Stays end.WriteFault = (s : State) × (u : State) × (t : ℕ) × HasOpened c clock d s u × Cuts s cover (cut.Done t) u × IsCutShort o (cut_text t)
-CutsOnce c clock cover d o Stays end.CutsFull = (s : State) × (u : State) × HasOpened c clock d s u × Cuts s cover cut.Full u × Stays
-CutsOnce c clock cover d o Stays (end.Refused cause) = ((IsRefused c d cause × RefusalLeaves c d cause) ⊎ ((cause ≡ fault.Spent) × ((s : State) × (u : State) × HasOpened c clock d s u × Cuts s cover cut.Spent u))) × Stays
-CutsOnce c clock cover d o Stays end.DiskFault = HasFailed d × Stays × (OpeningLeaves c d ⊎ HasFailedAtCut c clock cover d)
-CutsOnce c clock cover d o Stays end.OutOfMemory = Stays × (OpeningLeaves c d ⊎ ((s : State) × HasOpened c clock d s s))
-CutsOnce c clock cover d o Stays end.ReadFault = ⊥
-CutsOnce c clock cover d o Stays end.TooLong = ⊥
-CutsOnce c clock cover d o Stays (end.Form cause) = ⊥
-CutsOnce c clock cover d o Stays (end.Line n) = ⊥
-CutsOnce c clock cover d o Stays (end.Stream session) = ⊥
+abbrev pub CutsOnce : Catalogue → Readings → Cover → DiskChange → OutputChange → Type 0 → Status → Type 0
+CutsOnce c clock cover d o Stays status.Done = (s : State) × (u : State) × (t : ℕ) × HasOpened c clock d s u × Cuts s cover (cut.Done t) u × HasWritten o (cut_text t)
+CutsOnce c clock cover d o Stays status.WriteFault = (s : State) × (u : State) × (t : ℕ) × HasOpened c clock d s u × Cuts s cover (cut.Done t) u × IsCutShort o (cut_text t)
+CutsOnce c clock cover d o Stays status.CutsFull = (s : State) × (u : State) × HasOpened c clock d s u × Cuts s cover cut.Full u × Stays
+CutsOnce c clock cover d o Stays (status.Cache cause) = ((IsRefused c d cause × RefusalLeaves c d cause) ⊎ ((cause ≡ fault.Spent) × ((s : State) × (u : State) × HasOpened c clock d s u × Cuts s cover cut.Spent u))) × Stays
+CutsOnce c clock cover d o Stays status.DiskFault = HasFailed d × Stays × (OpeningLeaves c d ⊎ HasFailedAtCut c clock cover d)
+CutsOnce c clock cover d o Stays status.OutOfMemory = Stays × (OpeningLeaves c d ⊎ ((s : State) × HasOpened c clock d s s))
+CutsOnce c clock cover d o Stays status.ReadFault = ⊥
+CutsOnce c clock cover d o Stays status.TooLong = ⊥
+CutsOnce c clock cover d o Stays (status.Form cause) = ⊥
+CutsOnce c clock cover d o Stays (status.Line n) = ⊥
+CutsOnce c clock cover d o Stays (status.Stream session) = ⊥
+CutsOnce c clock cover d o Stays status.Usage = ⊥
+CutsOnce c clock cover d o Stays (status.Catalogue fault) = ⊥
+CutsOnce c clock cover d o Stays status.ListenFault = ⊥
+CutsOnce c clock cover d o Stays status.ThreadFault = ⊥
 
 -- the input had a cover, and the cut of it ended so
-abbrev pub CutsRead : Catalogue → Readings → InputChange → DiskChange → OutputChange → Type 0 → KeptEnd → Type 0
+abbrev pub CutsRead : Catalogue → Readings → InputChange → DiskChange → OutputChange → Type 0 → Status → Type 0
 CutsRead c clock i d o Stays e = (cover : Cover) × IsCoverIn c i cover × CutsOnce c clock cover d o Stays e
 
 -- before the cover is read to its end the disk stays as it is
-abbrev pub Truncates : Catalogue → Readings → InputChange → DiskChange → OutputChange → Type 0 → Type 0 → KeptEnd → Type 0
-Truncates c clock i d o DiskStays Stays end.ReadFault = Rose i.reads.before i.reads.after × DiskStays × Stays
-Truncates c clock i d o DiskStays Stays end.TooLong = IsTooLong i × DiskStays × Stays
-Truncates c clock i d o DiskStays Stays (end.Form cause) = IsFormedSo c i cause × DiskStays × Stays
-Truncates c clock i d o DiskStays Stays end.OutOfMemory = (DiskStays × Stays) ⊎ CutsRead c clock i d o Stays end.OutOfMemory
-Truncates c clock i d o DiskStays Stays end.Done = CutsRead c clock i d o Stays end.Done
-Truncates c clock i d o DiskStays Stays end.WriteFault = CutsRead c clock i d o Stays end.WriteFault
-Truncates c clock i d o DiskStays Stays end.CutsFull = CutsRead c clock i d o Stays end.CutsFull
-Truncates c clock i d o DiskStays Stays (end.Refused cause) = CutsRead c clock i d o Stays (end.Refused cause)
-Truncates c clock i d o DiskStays Stays end.DiskFault = CutsRead c clock i d o Stays end.DiskFault
-Truncates c clock i d o DiskStays Stays (end.Line n) = ⊥
-Truncates c clock i d o DiskStays Stays (end.Stream session) = ⊥
+abbrev pub Truncates : Catalogue → Readings → InputChange → DiskChange → OutputChange → Type 0 → Type 0 → Status → Type 0
+Truncates c clock i d o DiskStays Stays status.ReadFault = Rose i.reads.before i.reads.after × DiskStays × Stays
+Truncates c clock i d o DiskStays Stays status.TooLong = IsTooLong i × DiskStays × Stays
+Truncates c clock i d o DiskStays Stays (status.Form cause) = IsFormedSo c i cause × DiskStays × Stays
+Truncates c clock i d o DiskStays Stays status.OutOfMemory = (DiskStays × Stays) ⊎ CutsRead c clock i d o Stays status.OutOfMemory
+Truncates c clock i d o DiskStays Stays status.Done = CutsRead c clock i d o Stays status.Done
+Truncates c clock i d o DiskStays Stays status.WriteFault = CutsRead c clock i d o Stays status.WriteFault
+Truncates c clock i d o DiskStays Stays status.CutsFull = CutsRead c clock i d o Stays status.CutsFull
+Truncates c clock i d o DiskStays Stays (status.Cache cause) = CutsRead c clock i d o Stays (status.Cache cause)
+Truncates c clock i d o DiskStays Stays status.DiskFault = CutsRead c clock i d o Stays status.DiskFault
+Truncates c clock i d o DiskStays Stays (status.Line n) = ⊥
+Truncates c clock i d o DiskStays Stays (status.Stream session) = ⊥
+Truncates c clock i d o DiskStays Stays status.Usage = ⊥
+Truncates c clock i d o DiskStays Stays (status.Catalogue fault) = ⊥
+Truncates c clock i d o DiskStays Stays status.ListenFault = ⊥
+Truncates c clock i d o DiskStays Stays status.ThreadFault = ⊥
 
 -- how the reply of the one cut is told
-abbrev pub TellsCut : OutputChange → Type 0 → Result CutReply AllocError → KeptEnd → Type 0
+abbrev pub TellsCut : OutputChange → Type 0 → Result CutReply AllocError → Status → Type 0
 TellsCut o Stays (Ok (cut.Done t)) e = Sends o (cut_text t) e
-TellsCut o Stays (Ok cut.Full) e = (e ≡ end.CutsFull) × Stays
-TellsCut o Stays (Ok (cut.DiskFault b a)) e = (e ≡ end.DiskFault) × Stays
-TellsCut o Stays (Ok cut.Spent) e = (e ≡ end.Refused fault.Spent) × Stays
-TellsCut o Stays (Err failed) e = (e ≡ end.OutOfMemory) × Stays
+TellsCut o Stays (Ok cut.Full) e = (e ≡ status.CutsFull) × Stays
+TellsCut o Stays (Ok (cut.DiskFault b a)) e = (e ≡ status.DiskFault) × Stays
+TellsCut o Stays (Ok cut.Spent) e = (e ≡ status.Cache fault.Spent) × Stays
+TellsCut o Stays (Err failed) e = (e ≡ status.OutOfMemory) × Stays
 
 -- EXPIRE
 
@@ -100,23 +112,27 @@ HasDropped c clock d n = (s : State) × (u : State) × HasOpened c clock d s u �
 abbrev pub HasDroppedSome : Catalogue → Readings → DiskChange → Type 0
 HasDroppedSome c clock d = (n : ℕ) × (s : State) × (u : State) × HasOpened c clock d s u × Drops n s u
 
-abbrev pub DropsAll : Catalogue → Readings → DiskChange → OutputChange → Type 0 → KeptEnd → Type 0
-DropsAll c clock d o Stays end.Done = (n : ℕ) × HasDropped c clock d n × HasWritten o (dropped_text n)
-DropsAll c clock d o Stays end.WriteFault = (n : ℕ) × HasDropped c clock d n × IsCutShort o (dropped_text n)
-DropsAll c clock d o Stays (end.Refused cause) = IsRefused c d cause × Stays × RefusalLeaves c d cause
-DropsAll c clock d o Stays end.DiskFault = HasFailed d × Stays × (OpeningLeaves c d ⊎ HasDroppedSome c clock d)
-DropsAll c clock d o Stays end.OutOfMemory = Stays × OpeningLeaves c d
-DropsAll c clock d o Stays end.ReadFault = ⊥
-DropsAll c clock d o Stays end.TooLong = ⊥
-DropsAll c clock d o Stays (end.Form cause) = ⊥
-DropsAll c clock d o Stays end.CutsFull = ⊥
-DropsAll c clock d o Stays (end.Line n) = ⊥
-DropsAll c clock d o Stays (end.Stream session) = ⊥
+abbrev pub DropsAll : Catalogue → Readings → DiskChange → OutputChange → Type 0 → Status → Type 0
+DropsAll c clock d o Stays status.Done = (n : ℕ) × HasDropped c clock d n × HasWritten o (dropped_text n)
+DropsAll c clock d o Stays status.WriteFault = (n : ℕ) × HasDropped c clock d n × IsCutShort o (dropped_text n)
+DropsAll c clock d o Stays (status.Cache cause) = IsRefused c d cause × Stays × RefusalLeaves c d cause
+DropsAll c clock d o Stays status.DiskFault = HasFailed d × Stays × (OpeningLeaves c d ⊎ HasDroppedSome c clock d)
+DropsAll c clock d o Stays status.OutOfMemory = Stays × OpeningLeaves c d
+DropsAll c clock d o Stays status.ReadFault = ⊥
+DropsAll c clock d o Stays status.TooLong = ⊥
+DropsAll c clock d o Stays (status.Form cause) = ⊥
+DropsAll c clock d o Stays status.CutsFull = ⊥
+DropsAll c clock d o Stays (status.Line n) = ⊥
+DropsAll c clock d o Stays (status.Stream session) = ⊥
+DropsAll c clock d o Stays status.Usage = ⊥
+DropsAll c clock d o Stays (status.Catalogue fault) = ⊥
+DropsAll c clock d o Stays status.ListenFault = ⊥
+DropsAll c clock d o Stays status.ThreadFault = ⊥
 
 -- how the count of the dropped metatiles is told, or that the disk failed
-abbrev pub TellsDropped : OutputChange → Type 0 → Option ℕ → KeptEnd → Type 0
+abbrev pub TellsDropped : OutputChange → Type 0 → Option ℕ → Status → Type 0
 TellsDropped o Stays (Some n) e = Sends o (dropped_text n) e
-TellsDropped o Stays None e = (e ≡ end.DiskFault) × Stays
+TellsDropped o Stays None e = (e ≡ status.DiskFault) × Stays
 
 -- MAKE
 -- each image opens to nothing kept, no cut and no opening, and is the file of a cabinet; the disk has a journal, and no blobs
@@ -125,15 +141,19 @@ pub record IsMade (c : Catalogue) (d : DiskChange) : Type 0 where
   pub bare : IsTrue d.told → length d.to.seen ≡ blobs_start c
 
 -- it takes no memory
-abbrev pub Makes : Catalogue → DiskChange → OutputChange → Type 0 → KeptEnd → Type 0
-Makes c d o Stays end.Done = IsMade c d × HasWritten o made_text
-Makes c d o Stays end.WriteFault = IsMade c d × IsCutShort o made_text
-Makes c d o Stays end.DiskFault = HasFailed d × Stays
-Makes c d o Stays end.ReadFault = ⊥
-Makes c d o Stays end.TooLong = ⊥
-Makes c d o Stays (end.Form cause) = ⊥
-Makes c d o Stays (end.Refused cause) = ⊥
-Makes c d o Stays end.CutsFull = ⊥
-Makes c d o Stays (end.Line n) = ⊥
-Makes c d o Stays (end.Stream session) = ⊥
-Makes c d o Stays end.OutOfMemory = ⊥
+abbrev pub Makes : Catalogue → DiskChange → OutputChange → Type 0 → Status → Type 0
+Makes c d o Stays status.Done = IsMade c d × HasWritten o made_text
+Makes c d o Stays status.WriteFault = IsMade c d × IsCutShort o made_text
+Makes c d o Stays status.DiskFault = HasFailed d × Stays
+Makes c d o Stays status.ReadFault = ⊥
+Makes c d o Stays status.TooLong = ⊥
+Makes c d o Stays (status.Form cause) = ⊥
+Makes c d o Stays (status.Cache cause) = ⊥
+Makes c d o Stays status.CutsFull = ⊥
+Makes c d o Stays (status.Line n) = ⊥
+Makes c d o Stays (status.Stream session) = ⊥
+Makes c d o Stays status.OutOfMemory = ⊥
+Makes c d o Stays status.Usage = ⊥
+Makes c d o Stays (status.Catalogue fault) = ⊥
+Makes c d o Stays status.ListenFault = ⊥
+Makes c d o Stays status.ThreadFault = ⊥

@@ -3,8 +3,8 @@ use Rattle.std.specs.Prelude.{ℕ, ◌≡◌, ◌⊎◌, List, Some}
 use Rattle.cabinet.specs.State.{IsSound, State}
 use Rattle.catalog.specs.declared.catalogue.Catalogue.{Catalogue}
 use Rattle.clock.specs.Readings.{Readings}
-use Rattle.kept_cache.specs.declared.end.KeptEnd.{KeptEnd}
-use Rattle.kept_cache.specs.declared.end.KeptEnd.TheVariants as end
+use Rattle.command_status.specs.declared.status.Status.{Status}
+use Rattle.command_status.specs.declared.status.Status.TheVariants as status
 use Rattle.kept_cache.specs.Change.{DiskChange, HasFailed}
 use Rattle.kept_cache.specs.Crash.{OpeningLeaves}
 use Rattle.kept_cache.specs.Opened.{HasOpened, IsRefused, RefusalLeaves}
@@ -32,32 +32,27 @@ pub record RunsAndSaves (P : State → Type 0) (document : List ℕ) (i : InputC
   pub saves : SavesAll o.disk world.cabinet u
   pub sound : o.told ≡ Some s.catalogue.source → IsSound s → IsSound u
 
--- the end of a word, by that of its schedule
-abbrev pub end_of_schedule : ScheduleEnd → KeptEnd
-end_of_schedule schedule.Done = end.Done
-end_of_schedule (schedule.Line n) = end.Line n
-end_of_schedule schedule.ReadFault = end.ReadFault
-end_of_schedule schedule.WriteFault = end.WriteFault
-end_of_schedule schedule.TooLong = end.TooLong
-end_of_schedule schedule.OutOfMemory = end.OutOfMemory
-
 -- the cache was opened, a schedule ended so, and the cache was closed
 abbrev pub HasScheduled : (State → Type 0) → Catalogue → Readings → List ℕ → InputChange → Outside → DiskChange → Type 0 → ScheduleEnd → Type 0
 HasScheduled P c clock document i o d Stays e = (s : State) × (u : State) × HasOpened c clock d s u × RunsAndSaves P document i o Stays s u e
 
 -- what each end says; no fault of the disk ends what is run
-abbrev pub RunsSchedule : (State → Type 0) → Catalogue → Readings → List ℕ → InputChange → Outside → DiskChange → Type 0 → Type 0 → KeptEnd → Type 0
-RunsSchedule P c clock document i o d InputStays Stays end.Done = HasScheduled P c clock document i o d Stays schedule.Done
-RunsSchedule P c clock document i o d InputStays Stays (end.Line n) = HasScheduled P c clock document i o d Stays (schedule.Line n)
-RunsSchedule P c clock document i o d InputStays Stays end.ReadFault = HasScheduled P c clock document i o d Stays schedule.ReadFault
-RunsSchedule P c clock document i o d InputStays Stays end.WriteFault = HasScheduled P c clock document i o d Stays schedule.WriteFault
-RunsSchedule P c clock document i o d InputStays Stays end.TooLong = HasScheduled P c clock document i o d Stays schedule.TooLong
-RunsSchedule P c clock document i o d InputStays Stays end.OutOfMemory = (InputStays × Stays × OpeningLeaves c d) ⊎ HasScheduled P c clock document i o d Stays schedule.OutOfMemory
-RunsSchedule P c clock document i o d InputStays Stays (end.Refused cause) = IsRefused c d cause × InputStays × Stays × RefusalLeaves c d cause
-RunsSchedule P c clock document i o d InputStays Stays end.DiskFault = HasFailed d × InputStays × Stays × OpeningLeaves c d
-RunsSchedule P c clock document i o d InputStays Stays (end.Form cause) = ⊥
-RunsSchedule P c clock document i o d InputStays Stays end.CutsFull = ⊥
-RunsSchedule P c clock document i o d InputStays Stays (end.Stream how) = ⊥
+abbrev pub RunsSchedule : (State → Type 0) → Catalogue → Readings → List ℕ → InputChange → Outside → DiskChange → Type 0 → Type 0 → Status → Type 0
+RunsSchedule P c clock document i o d InputStays Stays status.Done = HasScheduled P c clock document i o d Stays schedule.Done
+RunsSchedule P c clock document i o d InputStays Stays (status.Line n) = HasScheduled P c clock document i o d Stays (schedule.Line n)
+RunsSchedule P c clock document i o d InputStays Stays status.ReadFault = HasScheduled P c clock document i o d Stays schedule.ReadFault
+RunsSchedule P c clock document i o d InputStays Stays status.WriteFault = HasScheduled P c clock document i o d Stays schedule.WriteFault
+RunsSchedule P c clock document i o d InputStays Stays status.TooLong = HasScheduled P c clock document i o d Stays schedule.TooLong
+RunsSchedule P c clock document i o d InputStays Stays status.OutOfMemory = (InputStays × Stays × OpeningLeaves c d) ⊎ HasScheduled P c clock document i o d Stays schedule.OutOfMemory
+RunsSchedule P c clock document i o d InputStays Stays (status.Cache cause) = IsRefused c d cause × InputStays × Stays × RefusalLeaves c d cause
+RunsSchedule P c clock document i o d InputStays Stays status.DiskFault = HasFailed d × InputStays × Stays × OpeningLeaves c d
+RunsSchedule P c clock document i o d InputStays Stays (status.Form cause) = ⊥
+RunsSchedule P c clock document i o d InputStays Stays status.CutsFull = ⊥
+RunsSchedule P c clock document i o d InputStays Stays (status.Stream how) = ⊥
+RunsSchedule P c clock document i o d InputStays Stays status.Usage = ⊥
+RunsSchedule P c clock document i o d InputStays Stays (status.Catalogue fault) = ⊥
+RunsSchedule P c clock document i o d InputStays Stays status.ListenFault = ⊥
+RunsSchedule P c clock document i o d InputStays Stays status.ThreadFault = ⊥
 
 -- REPLAY
 
@@ -68,16 +63,6 @@ pub record ServesAndSaves (P : State → Type 0) (document : List ℕ) (i : Inpu
   pub session : HasSessionThrough P i o document s served e
   pub saves : SavesAll o.disk served u
   pub sound : o.told ≡ Some s.catalogue.source → IsSound s → IsSound u
-
--- the end of a word, by that of its session
-abbrev pub end_of_session : SessionEnd → KeptEnd
-end_of_session session.Closed = end.Done
-end_of_session session.Truncated = end.Stream session.Truncated
-end_of_session (session.Bad code) = end.Stream (session.Bad code)
-end_of_session session.TooMany = end.Stream session.TooMany
-end_of_session session.ReadFault = end.ReadFault
-end_of_session session.WriteFault = end.WriteFault
-end_of_session session.OutOfMemory = end.OutOfMemory
 
 -- the cache was opened, the session of the input's bytes ended so, and the cache was closed
 abbrev pub HasReplayed : (State → Type 0) → Catalogue → Readings → List ℕ → InputChange → Outside → DiskChange → SessionEnd → Type 0
@@ -93,15 +78,19 @@ HasBrokenOff P c clock document i o d session.ReadFault = ⊥
 HasBrokenOff P c clock document i o d session.WriteFault = ⊥
 HasBrokenOff P c clock document i o d session.OutOfMemory = ⊥
 
-abbrev pub RunsSession : (State → Type 0) → Catalogue → Readings → List ℕ → InputChange → Outside → DiskChange → Type 0 → Type 0 → KeptEnd → Type 0
-RunsSession P c clock document i o d InputStays Stays end.Done = HasReplayed P c clock document i o d session.Closed
-RunsSession P c clock document i o d InputStays Stays (end.Stream how) = HasBrokenOff P c clock document i o d how
-RunsSession P c clock document i o d InputStays Stays end.ReadFault = HasReplayed P c clock document i o d session.ReadFault
-RunsSession P c clock document i o d InputStays Stays end.WriteFault = HasReplayed P c clock document i o d session.WriteFault
-RunsSession P c clock document i o d InputStays Stays end.OutOfMemory = (InputStays × Stays × OpeningLeaves c d) ⊎ HasReplayed P c clock document i o d session.OutOfMemory
-RunsSession P c clock document i o d InputStays Stays (end.Refused cause) = IsRefused c d cause × InputStays × Stays × RefusalLeaves c d cause
-RunsSession P c clock document i o d InputStays Stays end.DiskFault = HasFailed d × InputStays × Stays × OpeningLeaves c d
-RunsSession P c clock document i o d InputStays Stays (end.Line n) = ⊥
-RunsSession P c clock document i o d InputStays Stays end.TooLong = ⊥
-RunsSession P c clock document i o d InputStays Stays (end.Form cause) = ⊥
-RunsSession P c clock document i o d InputStays Stays end.CutsFull = ⊥
+abbrev pub RunsSession : (State → Type 0) → Catalogue → Readings → List ℕ → InputChange → Outside → DiskChange → Type 0 → Type 0 → Status → Type 0
+RunsSession P c clock document i o d InputStays Stays status.Done = HasReplayed P c clock document i o d session.Closed
+RunsSession P c clock document i o d InputStays Stays (status.Stream how) = HasBrokenOff P c clock document i o d how
+RunsSession P c clock document i o d InputStays Stays status.ReadFault = HasReplayed P c clock document i o d session.ReadFault
+RunsSession P c clock document i o d InputStays Stays status.WriteFault = HasReplayed P c clock document i o d session.WriteFault
+RunsSession P c clock document i o d InputStays Stays status.OutOfMemory = (InputStays × Stays × OpeningLeaves c d) ⊎ HasReplayed P c clock document i o d session.OutOfMemory
+RunsSession P c clock document i o d InputStays Stays (status.Cache cause) = IsRefused c d cause × InputStays × Stays × RefusalLeaves c d cause
+RunsSession P c clock document i o d InputStays Stays status.DiskFault = HasFailed d × InputStays × Stays × OpeningLeaves c d
+RunsSession P c clock document i o d InputStays Stays (status.Line n) = ⊥
+RunsSession P c clock document i o d InputStays Stays status.TooLong = ⊥
+RunsSession P c clock document i o d InputStays Stays (status.Form cause) = ⊥
+RunsSession P c clock document i o d InputStays Stays status.CutsFull = ⊥
+RunsSession P c clock document i o d InputStays Stays status.Usage = ⊥
+RunsSession P c clock document i o d InputStays Stays (status.Catalogue fault) = ⊥
+RunsSession P c clock document i o d InputStays Stays status.ListenFault = ⊥
+RunsSession P c clock document i o d InputStays Stays status.ThreadFault = ⊥

@@ -6,11 +6,11 @@ ghost use Rattle.served_covers.specs.OfCatalogue.{IsCoverOf};
 ghost use Rattle.sessions.specs.Outside.{InputChange};
 
 use catalog::catalogue::Catalogue;
-use http_wire::inputs::{InputEnd, read_all};
+use command_status::status::Status;
+use command_status::statuses::status_of_form;
 use http_wire::streams::ByteSource;
 use job_forms::cover::read_cover;
-use kept_cache::end::KeptEnd;
-use kept_cache::formed::end_of_fault;
+use kept_cache::input::text_in;
 use std::alloc::Global;
 use truncation_list::cover::Cover;
 
@@ -22,18 +22,16 @@ pub fn cover_in<I: ByteSource>(
     alloc: Global,
     catalogue: &Catalogue,
     input: &mut I,
-) -> Result<Cover, KeptEnd>
+) -> Result<Cover, Status>
     requires { IsValid catalogue.now }
     ensures reads { ReadsCover catalogue.now (record { reads = record { before = I.faults input.old; after = I.faults input.new }; from = I.left input.old; to = I.left input.new }) result }
     ensures of { IfOk result (λ cover. IsCoverOf catalogue.now cover) }
 {
-    match read_all(alloc, input, COVER_LIMIT) {
+    match text_in(alloc, input, COVER_LIMIT) {
         Ok(text) => match read_cover(alloc, catalogue, text.as_slice()) {
             Ok(cover) => Ok(cover),
-            Err(fault) => Err(end_of_fault(fault)),
+            Err(fault) => Err(status_of_form(fault)),
         },
-        Err(InputEnd::ReadFault) => Err(KeptEnd::ReadFault),
-        Err(InputEnd::TooLong) => Err(KeptEnd::TooLong),
-        Err(InputEnd::OutOfMemory) => Err(KeptEnd::OutOfMemory),
+        Err(status) => Err(status),
     }
 }

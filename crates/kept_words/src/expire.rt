@@ -15,11 +15,12 @@ use cabinet::laws::laws_of_rows;
 use cabinet::replies::Expired;
 use catalog::catalogue::Catalogue;
 use clock::clock::Clock;
+use command_status::status::Status;
+use command_status::statuses::status_of_opening;
 use disk_model::disk::Disk;
 use http_wire::streams::ByteSink;
-use kept_cache::end::KeptEnd;
 use kept_cache::lent::Loan;
-use kept_cache::opened::{closed, end_of_refusal, opened};
+use kept_cache::opened::{closed, opened};
 use kept_cache::writing::{numbered, written};
 use std::alloc::Global;
 use std::marker::Brand;
@@ -31,7 +32,7 @@ pub fn expire<D: Disk, O: ByteSink>(
     clock: Clock,
     disk: &mut D,
     output: &mut O,
-) -> KeptEnd
+) -> Status
     requires valid { IsValid catalogue }
     requires ours { IsTrue (D.told disk.old) → IsOurs catalogue (D.state disk.old).seen }
     ensures drops { DropsAll catalogue clock
@@ -66,12 +67,12 @@ fn drop_all<C: Keeper>(cabinet: &mut C) -> Option<u32>
 }
 
 /// Tells how many were dropped.
-fn told_dropped<O: ByteSink>(output: &mut O, dropped: Option<u32>) -> KeptEnd
+fn told_dropped<O: ByteSink>(output: &mut O, dropped: Option<u32>) -> Status
     ensures { TellsDropped (record { writes = counts (O.faults output.old) (O.faults output.new); from = O.taken output.old; to = O.taken output.new }) (output.new ≡ output.old) dropped result }
 {
     match dropped {
         Some(count) => written(output, numbered(b"dropped ", u64::from(count)), b"\n"),
-        None => KeptEnd::DiskFault,
+        None => Status::DiskFault,
     }
 }
 
@@ -82,7 +83,7 @@ fn expire_over<'a, D: Disk, O: ByteSink, L: Loan>(
     clock: Clock,
     disk: &'a mut D,
     output: &mut O,
-) -> (&'a mut D, KeptEnd)
+) -> (&'a mut D, Status)
     requires valid { IsValid catalogue }
     requires loan { disk.ghost_name ≡ L.disk }
     requires ours { IsTrue (D.told disk.now) → IsOurs catalogue (D.state disk.now).seen }
@@ -102,7 +103,7 @@ fn expire_over<'a, D: Disk, O: ByteSink, L: Loan>(
         }
         Err(refusal) => {
             let (fault, disk) = refusal;
-            (disk, end_of_refusal(fault))
+            (disk, status_of_opening(fault))
         }
     }
 }

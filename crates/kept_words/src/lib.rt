@@ -5,7 +5,8 @@
 //! leaves a cache that answers for every truncation that was in force, and at its end for all that the cabinet answers for
 //! (kept_cache, `specs/Crash.antt`).
 //! Stands on kept_cache, by which it opens the cache, saves the uses of what is kept and closes it, on durable_cabinet, by which it makes
-//! one, on tile_service, whose schedules and sessions it runs, on job_forms for covers, and on the crates whose types its calls name.
+//! one, on tile_service, whose schedules and sessions it runs, on job_forms for covers, on command_status for how a word ends, and on the
+//! crates whose types its calls name.
 #![tactic(auto)]
 
 pub mod cover_input;

@@ -7,14 +7,14 @@ ghost use Rattle.kept_words.specs.Ends.{Makes};
 
 use arrayvec::ArrayVec;
 use catalog::catalogue::Catalogue;
+use command_status::status::Status;
 use disk_model::disk::Disk;
 use http_wire::streams::ByteSink;
-use kept_cache::end::KeptEnd;
 use kept_cache::writing::written;
 
 /// Makes an empty cache on the disk, whatever stood there, and writes that it is made. Each end comes as `Makes` says. It takes no
 /// memory.
-pub fn make<D: Disk, O: ByteSink>(catalogue: &Catalogue, disk: &mut D, output: &mut O) -> KeptEnd
+pub fn make<D: Disk, O: ByteSink>(catalogue: &Catalogue, disk: &mut D, output: &mut O) -> Status
     requires { IsValid catalogue.now }
     ensures makes { Makes catalogue.now
         (record { told = D.told disk.old; faults = counts (D.faults disk.old) (D.faults disk.new); from = D.state disk.old; to = D.state disk.new })
@@ -24,6 +24,6 @@ pub fn make<D: Disk, O: ByteSink>(catalogue: &Catalogue, disk: &mut D, output: &
 {
     match durable_cabinet::opening::make(catalogue, disk) {
         Ok(()) => written(output, ArrayVec::new(), b"made\n"),
-        Err(_) => KeptEnd::DiskFault,
+        Err(_) => Status::DiskFault,
     }
 }

@@ -6,7 +6,7 @@ ghost use Rattle.durable_cabinet.specs.Images.{IsOurs};
 ghost use Rattle.kept_cache.specs.Change.{DiskChange};
 ghost use Rattle.kept_cache.specs.Crash.{LastsThrough};
 ghost use Rattle.kept_cache.specs.Passing.{PassesDisk};
-ghost use Rattle.kept_words.specs.Runs.{RunsSession, ServesAndSaves, end_of_session};
+ghost use Rattle.kept_words.specs.Runs.{RunsSession, ServesAndSaves};
 ghost use Rattle.sessions.specs.Outside.{InputChange, Outside, counts};
 ghost use Rattle.tile_service.specs.Passing.{LeadsThrough};
 ghost use Rattle.tile_service.specs.Session.{IsAtRest};
@@ -15,13 +15,14 @@ use cabinet::keeper::Keeper;
 use cache_core::laws::laws_of_lasting;
 use catalog::catalogue::Catalogue;
 use clock::clock::Clock;
+use command_status::status::Status;
+use command_status::statuses::{status_of_opening, status_of_session};
 use disk_model::disk::Disk;
 use exact_ratio::words::Words;
 use http_wire::streams::{ByteSink, ByteSource};
-use kept_cache::end::KeptEnd;
 use kept_cache::lent::Loan;
 use kept_cache::lent_cabinet::{LentCabinet, leaves_now};
-use kept_cache::opened::{closed, end_of_refusal, opened};
+use kept_cache::opened::{closed, opened};
 use kept_cache::saving::save_all;
 use sessions::session::SessionEnd;
 use source_render::source::Source;
@@ -43,7 +44,7 @@ pub fn replay<D: Disk, S: Source, I: ByteSource, O: ByteSink>(
     disk: &mut D,
     source: &mut S,
     output: &mut O,
-) -> KeptEnd
+) -> Status
     requires valid { IsValid catalogue }
     requires ours { IsTrue (D.told disk.old) → IsOurs catalogue (D.state disk.old).seen }
     ensures serves { RunsSession (PassesDisk D D.state (D.told disk.old) (D.state disk.old) (D.state disk.new)) catalogue clock capabilities
@@ -69,22 +70,7 @@ pub fn replay<D: Disk, S: Source, I: ByteSource, O: ByteSink>(
             )
             .1
         }
-        Err(_) => KeptEnd::OutOfMemory,
-    }
-}
-
-/// The end of a word whose session ended so.
-fn end_of_session(end: SessionEnd) -> KeptEnd
-    ensures { result ≡ end_of_session end }
-{
-    match end {
-        SessionEnd::Closed => KeptEnd::Done,
-        SessionEnd::Truncated => KeptEnd::Stream(SessionEnd::Truncated),
-        SessionEnd::Bad(code) => KeptEnd::Stream(SessionEnd::Bad(code)),
-        SessionEnd::TooMany => KeptEnd::Stream(SessionEnd::TooMany),
-        SessionEnd::ReadFault => KeptEnd::ReadFault,
-        SessionEnd::WriteFault => KeptEnd::WriteFault,
-        SessionEnd::OutOfMemory => KeptEnd::OutOfMemory,
+        Err(_) => Status::OutOfMemory,
     }
 }
 
@@ -121,7 +107,7 @@ fn replay_over<'a, D: Disk, S: Source, I: ByteSource, O: ByteSink, L: Loan>(
     disk: &'a mut D,
     source: &mut S,
     output: &mut O,
-) -> (&'a mut D, KeptEnd)
+) -> (&'a mut D, Status)
     requires valid { IsValid catalogue }
     requires loan { disk.ghost_name ≡ L.disk }
     requires ours { IsTrue (D.told disk.now) → IsOurs catalogue (D.state disk.now).seen }
@@ -150,13 +136,13 @@ fn replay_over<'a, D: Disk, S: Source, I: ByteSource, O: ByteSink, L: Loan>(
             } = counter;
             drop(rest);
             drop(capabilities);
-            (closed(cabinet.cabinet), end_of_session(end))
+            (closed(cabinet.cabinet), status_of_session(end))
         }
         Err(refusal) => {
             drop(rest);
             drop(capabilities);
             let (fault, disk) = refusal;
-            (disk, end_of_refusal(fault))
+            (disk, status_of_opening(fault))
         }
     }
 }

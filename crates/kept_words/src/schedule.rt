@@ -6,7 +6,7 @@ ghost use Rattle.durable_cabinet.specs.Images.{IsOurs};
 ghost use Rattle.kept_cache.specs.Change.{DiskChange};
 ghost use Rattle.kept_cache.specs.Crash.{LastsThrough};
 ghost use Rattle.kept_cache.specs.Passing.{PassesDisk};
-ghost use Rattle.kept_words.specs.Runs.{RunsAndSaves, RunsSchedule, end_of_schedule};
+ghost use Rattle.kept_words.specs.Runs.{RunsAndSaves, RunsSchedule};
 ghost use Rattle.sessions.specs.Outside.{InputChange, Outside, counts};
 ghost use Rattle.tile_service.specs.Passing.{LeadsThrough};
 
@@ -14,13 +14,14 @@ use cabinet::keeper::Keeper;
 use cache_core::laws::laws_of_lasting;
 use catalog::catalogue::Catalogue;
 use clock::clock::Clock;
+use command_status::status::Status;
+use command_status::statuses::{status_of_opening, status_of_schedule};
 use disk_model::disk::Disk;
 use exact_ratio::words::Words;
 use http_wire::streams::{ByteSink, ByteSource};
-use kept_cache::end::KeptEnd;
 use kept_cache::lent::Loan;
 use kept_cache::lent_cabinet::{LentCabinet, leaves_now};
-use kept_cache::opened::{closed, end_of_refusal, opened};
+use kept_cache::opened::{closed, opened};
 use kept_cache::saving::save_all;
 use source_render::source::Source;
 use std::alloc::Global;
@@ -41,7 +42,7 @@ pub fn schedule<D: Disk, S: Source, I: ByteSource, O: ByteSink>(
     disk: &mut D,
     source: &mut S,
     output: &mut O,
-) -> KeptEnd
+) -> Status
     requires valid { IsValid catalogue }
     requires ours { IsTrue (D.told disk.old) → IsOurs catalogue (D.state disk.old).seen }
     ensures runs { RunsSchedule (PassesDisk D D.state (D.told disk.old) (D.state disk.old) (D.state disk.new)) catalogue clock capabilities
@@ -67,21 +68,7 @@ pub fn schedule<D: Disk, S: Source, I: ByteSource, O: ByteSink>(
             )
             .1
         }
-        Err(_) => KeptEnd::OutOfMemory,
-    }
-}
-
-/// The end of a word whose schedule ended so.
-fn end_of_schedule(end: ScheduleEnd) -> KeptEnd
-    ensures { result ≡ end_of_schedule end }
-{
-    match end {
-        ScheduleEnd::Done => KeptEnd::Done,
-        ScheduleEnd::Line(n) => KeptEnd::Line(n),
-        ScheduleEnd::ReadFault => KeptEnd::ReadFault,
-        ScheduleEnd::WriteFault => KeptEnd::WriteFault,
-        ScheduleEnd::TooLong => KeptEnd::TooLong,
-        ScheduleEnd::OutOfMemory => KeptEnd::OutOfMemory,
+        Err(_) => Status::OutOfMemory,
     }
 }
 
@@ -117,7 +104,7 @@ fn schedule_over<'a, D: Disk, S: Source, I: ByteSource, O: ByteSink, L: Loan>(
     disk: &'a mut D,
     source: &mut S,
     output: &mut O,
-) -> (&'a mut D, KeptEnd)
+) -> (&'a mut D, Status)
     requires valid { IsValid catalogue }
     requires loan { disk.ghost_name ≡ L.disk }
     requires ours { IsTrue (D.told disk.now) → IsOurs catalogue (D.state disk.now).seen }
@@ -146,13 +133,13 @@ fn schedule_over<'a, D: Disk, S: Source, I: ByteSource, O: ByteSink, L: Loan>(
             } = counter;
             drop(rest);
             drop(capabilities);
-            (closed(cabinet.cabinet), end_of_schedule(end))
+            (closed(cabinet.cabinet), status_of_schedule(end))
         }
         Err(refusal) => {
             drop(rest);
             drop(capabilities);
             let (fault, disk) = refusal;
-            (disk, end_of_refusal(fault))
+            (disk, status_of_opening(fault))
         }
     }
 }

@@ -14,12 +14,13 @@ use cabinet::keeper::Keeper;
 use cabinet::replies::CutReply;
 use catalog::catalogue::Catalogue;
 use clock::clock::Clock;
+use command_status::status::Status;
+use command_status::statuses::status_of_opening;
 use disk_model::disk::Disk;
 use gate_journal::fault::OpenFault;
 use http_wire::streams::{ByteSink, ByteSource};
-use kept_cache::end::KeptEnd;
 use kept_cache::lent::Loan;
-use kept_cache::opened::{closed, end_of_refusal, opened};
+use kept_cache::opened::{closed, opened};
 use kept_cache::writing::{numbered, written};
 use std::alloc::{AllocError, Global};
 use std::marker::Brand;
@@ -34,7 +35,7 @@ pub fn truncate<D: Disk, I: ByteSource, O: ByteSink>(
     clock: Clock,
     disk: &mut D,
     output: &mut O,
-) -> KeptEnd
+) -> Status
     requires valid { IsValid catalogue }
     requires ours { IsTrue (D.told disk.old) → IsOurs catalogue (D.state disk.old).seen }
     ensures truncates { Truncates catalogue clock
@@ -59,7 +60,7 @@ fn cut_once<D: Disk, O: ByteSink>(
     clock: Clock,
     disk: &mut D,
     output: &mut O,
-) -> KeptEnd
+) -> Status
     requires valid { IsValid catalogue }
     requires cover { IsCoverOf catalogue cover.now }
     requires ours { IsTrue (D.told disk.old) → IsOurs catalogue (D.state disk.old).seen }
@@ -74,15 +75,15 @@ fn cut_once<D: Disk, O: ByteSink>(
 }
 
 /// Tells the reply of the one cut.
-fn told_cut<O: ByteSink>(output: &mut O, reply: Result<CutReply, AllocError>) -> KeptEnd
+fn told_cut<O: ByteSink>(output: &mut O, reply: Result<CutReply, AllocError>) -> Status
     ensures { TellsCut (record { writes = counts (O.faults output.old) (O.faults output.new); from = O.taken output.old; to = O.taken output.new }) (output.new ≡ output.old) reply result }
 {
     match reply {
         Ok(CutReply::Done(number)) => written(output, numbered(b"cut ", number), b"\n"),
-        Ok(CutReply::Full) => KeptEnd::CutsFull,
-        Ok(CutReply::DiskFault(_, _)) => KeptEnd::DiskFault,
-        Ok(CutReply::Spent) => KeptEnd::Refused(OpenFault::Spent),
-        Err(_) => KeptEnd::OutOfMemory,
+        Ok(CutReply::Full) => Status::CutsFull,
+        Ok(CutReply::DiskFault(_, _)) => Status::DiskFault,
+        Ok(CutReply::Spent) => Status::Cache(OpenFault::Spent),
+        Err(_) => Status::OutOfMemory,
     }
 }
 
@@ -94,7 +95,7 @@ fn truncate_over<'a, D: Disk, O: ByteSink, L: Loan>(
     clock: Clock,
     disk: &'a mut D,
     output: &mut O,
-) -> (&'a mut D, KeptEnd)
+) -> (&'a mut D, Status)
     requires valid { IsValid catalogue }
     requires cover { IsCoverOf catalogue cover.now }
     requires loan { disk.ghost_name ≡ L.disk }
@@ -115,7 +116,7 @@ fn truncate_over<'a, D: Disk, O: ByteSink, L: Loan>(
         }
         Err(refusal) => {
             let (fault, disk) = refusal;
-            (disk, end_of_refusal(fault))
+            (disk, status_of_opening(fault))
         }
     }
 }

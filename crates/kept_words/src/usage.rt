@@ -13,12 +13,13 @@ use cabinet::keeper::Keeper;
 use cache_access::alone::Alone;
 use catalog::catalogue::Catalogue;
 use clock::clock::Clock;
+use command_status::status::Status;
+use command_status::statuses::status_of_opening;
 use disk_model::disk::Disk;
 use exact_ratio::words::Words;
 use http_wire::streams::ByteSink;
-use kept_cache::end::KeptEnd;
 use kept_cache::lent::Loan;
-use kept_cache::opened::{closed, end_of_refusal, opened};
+use kept_cache::opened::{closed, opened};
 use kept_cache::writing::written;
 use std::alloc::{AllocError, Global};
 use std::marker::Brand;
@@ -43,7 +44,7 @@ pub fn usage<D: Disk, O: ByteSink>(
     clock: Clock,
     disk: &mut D,
     output: &mut O,
-) -> KeptEnd
+) -> Status
     requires valid { IsValid catalogue }
     requires ours { IsTrue (D.told disk.old) → IsOurs catalogue (D.state disk.old).seen }
     ensures tells { TellsUsage catalogue clock
@@ -63,7 +64,7 @@ fn usage_over<'a, D: Disk, O: ByteSink, L: Loan>(
     clock: Clock,
     disk: &'a mut D,
     output: &mut O,
-) -> (&'a mut D, KeptEnd)
+) -> (&'a mut D, Status)
     requires valid { IsValid catalogue }
     requires loan { disk.ghost_name ≡ L.disk }
     requires ours { IsTrue (D.told disk.now) → IsOurs catalogue (D.state disk.now).seen }
@@ -81,11 +82,11 @@ fn usage_over<'a, D: Disk, O: ByteSink, L: Loan>(
                 let disk = closed(cabinet);
                 (disk, written(output, ArrayVec::new(), text.bytes()))
             }
-            Err(_) => (closed(cabinet), KeptEnd::OutOfMemory),
+            Err(_) => (closed(cabinet), Status::OutOfMemory),
         },
         Err(refusal) => {
             let (fault, disk) = refusal;
-            (disk, end_of_refusal(fault))
+            (disk, status_of_opening(fault))
         }
     }
 }

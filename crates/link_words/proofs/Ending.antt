@@ -9,7 +9,7 @@ use Rattle.command_status.specs.declared.status.Status.TheVariants as status
 use Rattle.cut_follower.specs.declared.ends.LinkEnd.{LinkEnd}
 use Rattle.cut_follower.specs.declared.ends.LinkEnd.TheVariants as link_end
 use Rattle.cut_follower.specs.Links.{LinkAt}
-use Rattle.feed_words.specs.Statuses.{status_of_refusal}
+use Rattle.command_setup.specs.Refusals.{status_of_refusal}
 use Rattle.gate_journal.specs.declared.fault.OpenFault.{OpenFault}
 use Rattle.gate_journal.specs.declared.fault.OpenFault.TheVariants as fault
 use Rattle.kept_cache.specs.Change.{DiskChange}

@@ -3,9 +3,8 @@ use Rattle.std.specs.Prelude.{Result, Ok, Err}
 use Rattle.command_status.specs.declared.status.Status.TheVariants as status
 use Rattle.cut_follower.specs.declared.ends.LinkEnd.{LinkEnd}
 use Rattle.cut_follower.specs.declared.ends.LinkEnd.TheVariants as link_end
-use Rattle.feed_words.specs.Statuses.{status_of_end}
 use Rattle.gate_journal.specs.declared.fault.OpenFault.{OpenFault}
-use Rattle.kept_cache.specs.Opened.{end_of_refusal}
+use Rattle.command_status.specs.Statuses.{status_of_opening}
 use Rattle.link_words.specs.declared.ends.LinkingEnd.{LinkingEnd}
 use Rattle.link_words.specs.declared.ends.LinkingEnd.TheVariants as linking
 
@@ -22,4 +21,4 @@ ending_of_link link_end.OutOfMemory = linking.Status status.OutOfMemory
 -- the link ended so, or a file wasn't opened for this cause
 abbrev pub ending_of : Result LinkEnd OpenFault → LinkingEnd
 ending_of (Ok e) = ending_of_link e
-ending_of (Err fault) = linking.Status (status_of_end (end_of_refusal fault))
+ending_of (Err fault) = linking.Status (status_of_opening fault)

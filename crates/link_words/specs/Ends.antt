@@ -17,7 +17,7 @@ use Rattle.disk_model.specs.Content.{Content, Same}
 use Rattle.disk_model.specs.Images.{ChangesBy, Every, Leaves}
 use Rattle.durable_cabinet.specs.Filed as cache_file
 use Rattle.durable_cabinet.specs.Images.{IsOurs}
-use Rattle.feed_words.specs.Statuses.{status_of_refusal}
+use Rattle.command_setup.specs.Refusals.{status_of_refusal}
 use Rattle.gate_journal.specs.declared.fault.OpenFault.{OpenFault}
 use Rattle.kept_cache.specs.Change.{DiskChange}
 use Rattle.kept_cache.specs.Crash.{LastsThrough}

@@ -3,10 +3,9 @@ ghost use Rattle.std.specs.Prelude.{◌≡◌};
 ghost use Rattle.link_words.specs.Endings.{ending_of, ending_of_link};
 
 use command_status::status::Status;
+use command_status::statuses::status_of_opening;
 use cut_follower::ends::LinkEnd;
-use feed_words::statuses::status_of_end;
 use gate_journal::fault::OpenFault;
-use kept_cache::opened::end_of_refusal;
 use std::fmt;
 
 /// How the words of a link ended (`specs/Ends.antt`).
@@ -74,6 +73,6 @@ pub(crate) fn ending_of(end: Result<LinkEnd, OpenFault>) -> LinkingEnd
 {
     match end {
         Ok(end) => ending_of_link(end),
-        Err(fault) => LinkingEnd::Status(status_of_end(end_of_refusal(fault))),
+        Err(fault) => LinkingEnd::Status(status_of_opening(fault)),
     }
 }

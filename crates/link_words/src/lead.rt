@@ -7,11 +7,11 @@ ghost use Rattle.outbox.specs.Files.{IsOutboxFile};
 ghost use Rattle.sessions.specs.Outside.{counts};
 ghost use Rattle.link_words.specs.Ends.{LeadsOver};
 
-use crate::outboxes::{closed_outbox, opened_outbox};
 use catalog::catalogue::Catalogue;
 use cut_follower::ends::LinkEnd;
 use cut_follower::leading::lead_link;
 use disk_model::disk::Disk;
+use feed_words::outboxes::{closed_outbox, opened_outbox};
 use gate_journal::fault::OpenFault;
 use http_wire::links::Link;
 use kept_cache::lent::Loan;

@@ -5,6 +5,7 @@ use crate::answers::{JOB, JOB_SUBMITTED};
 use crate::door::{Door, HeardLink};
 use crate::slow::SlowSource;
 use crate::stage::{Stage, served, supply};
+use command_status::status::Status;
 use hall_service::stage::SOURCES;
 use source_render::numbered::Numbered;
 use std::alloc::Global;
@@ -13,7 +14,6 @@ use std::sync::{Mutex, Wait};
 use std::test::Fail;
 use std::thread::Threads;
 use std::time::Clock;
-use tile_serving::ends::ServerEnd;
 use trace::Trace;
 
 /// How many places the job has.
@@ -44,7 +44,7 @@ fn serve_job<R: Threads + Wait + Clock + Sync>(
     alloc: Global,
     heard: &Mutex<Vec<u8>>,
     renders: &AtomicU64,
-) -> Result<ServerEnd, Fail> {
+) -> Result<Status, Fail> {
     let link = HeardLink {
         rt,
         source: supply(alloc, JOB)?,
@@ -66,7 +66,7 @@ fn a_job_is_cancelled_when_the_last_connection_was_served(rt: HostRuntime) -> Re
     let heard = Mutex::new(Vec::new(alloc));
     let renders = AtomicU64::new(0);
     let end = serve_job(&rt, alloc, &heard, &renders)?;
-    assert!(rt; end == ServerEnd::Done);
+    assert!(rt; end == Status::Done);
     assert!(rt; heard.lock(&rt).as_slice() == JOB_SUBMITTED);
     assert!(rt; renders.load(Ordering::SeqCst) < PLACES);
     Ok(())

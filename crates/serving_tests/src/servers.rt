@@ -2,6 +2,7 @@
 use crate::door::{Door, HeardLink};
 use crate::stage::{Stage, served, sources, supply};
 use crate::texts::{are_of_one_render, has};
+use command_status::status::Status;
 use http_wire::memory_link::MemoryLink;
 use http_wire::memory_sink::MemorySink;
 use listeners::list_of_links::ListOfLinks;
@@ -9,7 +10,6 @@ use std::alloc::Global;
 use std::sync::{Mutex, Wait};
 use std::test::Fail;
 use std::thread::Threads;
-use tile_serving::ends::ServerEnd;
 use trace::Trace;
 
 /// The one message of a connection: a tile of the built-in catalogue.
@@ -50,7 +50,7 @@ fn a_listener_that_gives_too_few(rt: HostRuntime) -> Result<(), Fail> {
         &mut listener,
         sources(alloc)?,
     );
-    assert!(rt; end == ServerEnd::ListenFault);
+    assert!(rt; end == Status::ListenFault);
     assert!(rt; end.code() == 14);
     Ok(())
 }
@@ -61,7 +61,7 @@ fn serve_two<R: Threads + Wait + std::time::Clock + Sync>(
     alloc: Global,
     first: &Mutex<Vec<u8>>,
     second: &Mutex<Vec<u8>>,
-) -> Result<ServerEnd, Fail> {
+) -> Result<Status, Fail> {
     let links = vec![in alloc; link(rt, alloc, first)?, link(rt, alloc, second)?]?;
     let mut door = Door {
         links,
@@ -78,7 +78,7 @@ fn one_renders_and_the_other_hits(rt: HostRuntime) -> Result<(), Fail> {
     let first = Mutex::new(Vec::new(alloc));
     let second = Mutex::new(Vec::new(alloc));
     let end = serve_two(&rt, alloc, &first, &second)?;
-    assert!(rt; end == ServerEnd::Done);
+    assert!(rt; end == Status::Done);
     let first = first.lock(&rt);
     let second = second.lock(&rt);
     let (first, second) = (first.as_slice(), second.as_slice());

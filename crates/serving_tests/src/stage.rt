@@ -3,6 +3,7 @@ ghost use Rattle.std.specs.Prelude.{IfOk, length, ◌≡◌, ◌≤◌};
 
 use crate::held::{HeldSource, Hold};
 use clock::clock::Clock;
+use command_status::status::Status;
 use exact_ratio::words::Words;
 use hall_service::stage::SOURCES;
 use http_wire::memory_sink::MemorySink;
@@ -17,7 +18,6 @@ use std::sync::Wait;
 use std::test::Fail;
 use std::thread::Threads;
 use tile_command::command::run_command;
-use tile_serving::ends::ServerEnd;
 use tile_serving::server::run_server;
 
 /// A source of these bytes.
@@ -91,7 +91,7 @@ pub fn served<R: Threads + Wait + std::time::Clock + Sync, S: Source + Send, N: 
     stage: Stage,
     listener: &mut N,
     sources: Vec<S>,
-) -> ServerEnd
+) -> Status
 where
     N::L: Send,
     requires sources { length sources.items ≡ SOURCES }

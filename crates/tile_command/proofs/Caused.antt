@@ -27,8 +27,6 @@ use Rattle.job_words.specs.Input as jobs
 use Rattle.jobs.specs.declared.job.Job.{Job}
 use Rattle.jobs.specs.Reading.{job_of}
 use Rattle.kept_cache.specs.Change.{DiskChange, HasFailed}
-use Rattle.kept_cache.specs.declared.end.KeptEnd.{KeptEnd}
-use Rattle.kept_cache.specs.declared.end.KeptEnd.TheVariants as end
 use Rattle.kept_cache.specs.Opened as opened
 use Rattle.kept_cache.specs.Opened.{HasOpened}
 use Rattle.kept_words.specs.Covers as covers
@@ -38,8 +36,8 @@ use Rattle.tile_command.specs.Causes.{CutReplies, HasCause, HasReadFault, IsCaus
 use Rattle.tile_command.specs.Change.{CommandChange, Stays, output_of, without_disk}
 use Rattle.tile_command.specs.Command.{HasServed}
 use Rattle.tile_command.specs.Kept.{HasKeptUp, HasRun}
-use Rattle.tile_command.specs.Memory.{HasWorked, MemoryTells}
-use Rattle.tile_command.specs.Statuses.{status_of_drill, status_of_kept, status_of_schedule, status_of_session}
+use Rattle.tile_command.specs.Memory.{HasWorked, MemoryTells, status_of_drill}
+use Rattle.command_status.specs.Statuses.{status_of_schedule, status_of_session}
 use Rattle.tile_drill.specs.declared.drill.DrillEnd.{DrillEnd}
 use Rattle.tile_drill.specs.declared.drill.DrillEnd.TheVariants as drill_end
 use Rattle.tile_drill.specs.Drill.{Drills}
@@ -87,35 +85,43 @@ module _ (h : CommandChange) (stays : Stays) (d : DiskChange) (DiskStays : Type 
     replayed : (e : SessionEnd) → HasReplayed P c clock document h.input h.outside d e → IsCaused h d clock (word.Kept kept.Replay) (status_of_session e)
     replayed e x = by_session h d clock (word.Kept kept.Replay) (λ P p. p) h.outside document x.0 x.3.served (λ rose. rose) (λ r. (c, be, (document, has, (x.0, x.2.opened, r)))) (λ e b. (c, be, (document, has, (x.0, x.2.opened, b)))) e x.3.session.0
 
-    by_run : (w : KeptWord) (e : KeptEnd) → HasRun P h.input h.outside stays d clock w c document e → IsCaused h d clock (word.Kept w) (status_of_kept e)
-    by_run kept.Schedule end.Done x = scheduled schedule_end.Done x
-    by_run kept.Schedule (end.Line n) x = scheduled (schedule_end.Line n) x
-    by_run kept.Schedule end.ReadFault x = scheduled schedule_end.ReadFault x
-    by_run kept.Schedule end.WriteFault x = scheduled schedule_end.WriteFault x
-    by_run kept.Schedule end.TooLong x = scheduled schedule_end.TooLong x
-    by_run kept.Schedule end.OutOfMemory x = tt
-    by_run kept.Schedule (end.Refused cause) x = (c, be, (document, has, x.0))
-    by_run kept.Schedule end.DiskFault x = x.0
-    by_run kept.Schedule (end.Form fault) x = absurd x
-    by_run kept.Schedule end.CutsFull x = absurd x
-    by_run kept.Schedule (end.Stream how) x = absurd x
-    by_run kept.Replay end.Done x = replayed session_end.Closed x
-    by_run kept.Replay (end.Stream session_end.Truncated) x = replayed session_end.Truncated x
-    by_run kept.Replay (end.Stream (session_end.Bad code)) x = replayed (session_end.Bad code) x
-    by_run kept.Replay (end.Stream session_end.TooMany) x = replayed session_end.TooMany x
-    by_run kept.Replay (end.Stream session_end.Closed) x = absurd x
-    by_run kept.Replay (end.Stream session_end.ReadFault) x = absurd x
-    by_run kept.Replay (end.Stream session_end.WriteFault) x = absurd x
-    by_run kept.Replay (end.Stream session_end.OutOfMemory) x = absurd x
-    by_run kept.Replay end.ReadFault x = replayed session_end.ReadFault x
-    by_run kept.Replay end.WriteFault x = replayed session_end.WriteFault x
-    by_run kept.Replay end.OutOfMemory x = tt
-    by_run kept.Replay (end.Refused cause) x = (c, be, (document, has, x.0))
-    by_run kept.Replay end.DiskFault x = x.0
-    by_run kept.Replay (end.Line n) x = absurd x
-    by_run kept.Replay end.TooLong x = absurd x
-    by_run kept.Replay (end.Form fault) x = absurd x
-    by_run kept.Replay end.CutsFull x = absurd x
+    by_run : (w : KeptWord) (e : Status) → HasRun P h.input h.outside stays d clock w c document e → IsCaused h d clock (word.Kept w) e
+    by_run kept.Schedule status.Done x = scheduled schedule_end.Done x
+    by_run kept.Schedule (status.Line n) x = scheduled (schedule_end.Line n) x
+    by_run kept.Schedule status.ReadFault x = scheduled schedule_end.ReadFault x
+    by_run kept.Schedule status.WriteFault x = scheduled schedule_end.WriteFault x
+    by_run kept.Schedule status.TooLong x = scheduled schedule_end.TooLong x
+    by_run kept.Schedule status.OutOfMemory x = tt
+    by_run kept.Schedule (status.Cache cause) x = (c, be, (document, has, x.0))
+    by_run kept.Schedule status.DiskFault x = x.0
+    by_run kept.Schedule (status.Form fault) x = absurd x
+    by_run kept.Schedule status.CutsFull x = absurd x
+    by_run kept.Schedule (status.Stream how) x = absurd x
+    by_run kept.Schedule status.Usage x = absurd x
+    by_run kept.Schedule (status.Catalogue fault) x = absurd x
+    by_run kept.Schedule status.ListenFault x = absurd x
+    by_run kept.Schedule status.ThreadFault x = absurd x
+    by_run kept.Replay status.Done x = replayed session_end.Closed x
+    by_run kept.Replay (status.Stream session_end.Truncated) x = replayed session_end.Truncated x
+    by_run kept.Replay (status.Stream (session_end.Bad code)) x = replayed (session_end.Bad code) x
+    by_run kept.Replay (status.Stream session_end.TooMany) x = replayed session_end.TooMany x
+    by_run kept.Replay (status.Stream session_end.Closed) x = absurd x
+    by_run kept.Replay (status.Stream session_end.ReadFault) x = absurd x
+    by_run kept.Replay (status.Stream session_end.WriteFault) x = absurd x
+    by_run kept.Replay (status.Stream session_end.OutOfMemory) x = absurd x
+    by_run kept.Replay status.ReadFault x = replayed session_end.ReadFault x
+    by_run kept.Replay status.WriteFault x = replayed session_end.WriteFault x
+    by_run kept.Replay status.OutOfMemory x = tt
+    by_run kept.Replay (status.Cache cause) x = (c, be, (document, has, x.0))
+    by_run kept.Replay status.DiskFault x = x.0
+    by_run kept.Replay (status.Line n) x = absurd x
+    by_run kept.Replay status.TooLong x = absurd x
+    by_run kept.Replay (status.Form fault) x = absurd x
+    by_run kept.Replay status.CutsFull x = absurd x
+    by_run kept.Replay status.Usage x = absurd x
+    by_run kept.Replay (status.Catalogue fault) x = absurd x
+    by_run kept.Replay status.ListenFault x = absurd x
+    by_run kept.Replay status.ThreadFault x = absurd x
 
   -- UPKEEP
 
@@ -129,63 +135,79 @@ module _ (h : CommandChange) (stays : Stays) (d : DiskChange) (DiskStays : Type 
   cover_in : (cover : Cover) → covers.IsCoverIn c h.input cover → IfSome h.input.from (λ text. (length text ≤ 65536) × (cover_of c text ≡ Ok cover))
   cover_in cover r = whole_text _ _ _ r.text r.read r.at_end (r.short, r.comes)
 
-  truncated : (e : KeptEnd) → Truncates c clock h.input d (output_of h.outside) DiskStays stays.output e → IsCaused h d clock (word.Upkeep upkeep.Truncate) (status_of_kept e)
-  truncated end.Done x = (c, be, (x.0, cover_in x.0 x.1, (x.2.2, (x.2.0, x.2.3.opened, (x.2.1, x.2.4)))))
-  truncated end.OutOfMemory x = tt
-  truncated end.ReadFault x = inr (inr x.0)
-  truncated end.TooLong x = inr (inr (c, be, over 65536 _ _ x.0.0 x.0.1 x.0.2))
-  truncated (end.Form fault) x = (c, be, cover_formed fault x.0)
-  truncated end.WriteFault x = x.2.5.1
-  truncated end.CutsFull x = (c, be, (x.0, cover_in x.0 x.1, (x.2.0, x.2.2.opened, (x.2.1, x.2.3))))
-  truncated (end.Refused cause) x = (c, be, (x.0, cover_in x.0 x.1, refused x.2.0))
+  truncated : (e : Status) → Truncates c clock h.input d (output_of h.outside) DiskStays stays.output e → IsCaused h d clock (word.Upkeep upkeep.Truncate) e
+  truncated status.Done x = (c, be, (x.0, cover_in x.0 x.1, (x.2.2, (x.2.0, x.2.3.opened, (x.2.1, x.2.4)))))
+  truncated status.OutOfMemory x = tt
+  truncated status.ReadFault x = inr (inr x.0)
+  truncated status.TooLong x = inr (inr (c, be, over 65536 _ _ x.0.0 x.0.1 x.0.2))
+  truncated (status.Form fault) x = (c, be, cover_formed fault x.0)
+  truncated status.WriteFault x = x.2.5.1
+  truncated status.CutsFull x = (c, be, (x.0, cover_in x.0 x.1, (x.2.0, x.2.2.opened, (x.2.1, x.2.3))))
+  truncated (status.Cache cause) x = (c, be, (x.0, cover_in x.0 x.1, refused x.2.0))
     where
       refused : (opened.IsRefused c d cause × opened.RefusalLeaves c d cause) ⊎ ((cause ≡ open_fault.Spent) × ((s : State) × (u : State) × HasOpened c clock d s u × Cuts s x.0 cut.Spent u)) → opened.IsRefused c d cause ⊎ ((cause ≡ open_fault.Spent) × CutReplies d clock c x.0 cut.Spent)
       refused (inl r) = inl r.0
       refused (inr r) = inr (r.0, (r.1.0, r.1.2.opened, (r.1.1, r.1.3)))
-  truncated end.DiskFault x = x.2.0
-  truncated (end.Line n) x = absurd x
-  truncated (end.Stream how) x = absurd x
+  truncated status.DiskFault x = x.2.0
+  truncated (status.Line n) x = absurd x
+  truncated (status.Stream how) x = absurd x
+  truncated status.Usage x = absurd x
+  truncated (status.Catalogue fault) x = absurd x
+  truncated status.ListenFault x = absurd x
+  truncated status.ThreadFault x = absurd x
 
-  dropped : (e : KeptEnd) → DropsAll c clock d (output_of h.outside) stays.output e → IsCaused h d clock (word.Upkeep upkeep.Expire) (status_of_kept e)
-  dropped end.Done x = (c, be, (x.1.0, x.1.2.opened, tt))
-  dropped end.WriteFault x = x.2.1
-  dropped (end.Refused cause) x = (c, be, x.0)
-  dropped end.DiskFault x = x.0
-  dropped end.OutOfMemory x = tt
-  dropped end.ReadFault x = absurd x
-  dropped end.TooLong x = absurd x
-  dropped (end.Form fault) x = absurd x
-  dropped end.CutsFull x = absurd x
-  dropped (end.Line n) x = absurd x
-  dropped (end.Stream how) x = absurd x
+  dropped : (e : Status) → DropsAll c clock d (output_of h.outside) stays.output e → IsCaused h d clock (word.Upkeep upkeep.Expire) e
+  dropped status.Done x = (c, be, (x.1.0, x.1.2.opened, tt))
+  dropped status.WriteFault x = x.2.1
+  dropped (status.Cache cause) x = (c, be, x.0)
+  dropped status.DiskFault x = x.0
+  dropped status.OutOfMemory x = tt
+  dropped status.ReadFault x = absurd x
+  dropped status.TooLong x = absurd x
+  dropped (status.Form fault) x = absurd x
+  dropped status.CutsFull x = absurd x
+  dropped (status.Line n) x = absurd x
+  dropped (status.Stream how) x = absurd x
+  dropped status.Usage x = absurd x
+  dropped (status.Catalogue fault) x = absurd x
+  dropped status.ListenFault x = absurd x
+  dropped status.ThreadFault x = absurd x
 
-  told : (e : KeptEnd) → TellsUsage c clock d (output_of h.outside) stays.output e → IsCaused h d clock (word.Upkeep upkeep.Usage) (status_of_kept e)
-  told end.Done x = (c, be, (x.0, x.1.opened, tt))
-  told end.WriteFault x = x.2.1
-  told (end.Refused cause) x = (c, be, x.0)
-  told end.DiskFault x = x.0
-  told end.OutOfMemory x = tt
-  told end.ReadFault x = absurd x
-  told end.TooLong x = absurd x
-  told (end.Form fault) x = absurd x
-  told end.CutsFull x = absurd x
-  told (end.Line n) x = absurd x
-  told (end.Stream how) x = absurd x
+  told : (e : Status) → TellsUsage c clock d (output_of h.outside) stays.output e → IsCaused h d clock (word.Upkeep upkeep.Usage) e
+  told status.Done x = (c, be, (x.0, x.1.opened, tt))
+  told status.WriteFault x = x.2.1
+  told (status.Cache cause) x = (c, be, x.0)
+  told status.DiskFault x = x.0
+  told status.OutOfMemory x = tt
+  told status.ReadFault x = absurd x
+  told status.TooLong x = absurd x
+  told (status.Form fault) x = absurd x
+  told status.CutsFull x = absurd x
+  told (status.Line n) x = absurd x
+  told (status.Stream how) x = absurd x
+  told status.Usage x = absurd x
+  told (status.Catalogue fault) x = absurd x
+  told status.ListenFault x = absurd x
+  told status.ThreadFault x = absurd x
 
-  made : (e : KeptEnd) → Makes c d (output_of h.outside) stays.output e → IsCaused h d clock (word.Upkeep upkeep.Make) (status_of_kept e)
-  made end.Done x = (c, be, tt)
-  made end.WriteFault x = x.1.1
-  made end.DiskFault x = x.0
-  made end.ReadFault x = absurd x
-  made end.TooLong x = absurd x
-  made (end.Form fault) x = absurd x
-  made (end.Refused cause) x = absurd x
-  made end.CutsFull x = absurd x
-  made (end.Line n) x = absurd x
-  made (end.Stream how) x = absurd x
-  made end.OutOfMemory x = absurd x
+  made : (e : Status) → Makes c d (output_of h.outside) stays.output e → IsCaused h d clock (word.Upkeep upkeep.Make) e
+  made status.Done x = (c, be, tt)
+  made status.WriteFault x = x.1.1
+  made status.DiskFault x = x.0
+  made status.ReadFault x = absurd x
+  made status.TooLong x = absurd x
+  made (status.Form fault) x = absurd x
+  made (status.Cache cause) x = absurd x
+  made status.CutsFull x = absurd x
+  made (status.Line n) x = absurd x
+  made (status.Stream how) x = absurd x
+  made status.OutOfMemory x = absurd x
+  made status.Usage x = absurd x
+  made (status.Catalogue fault) x = absurd x
+  made status.ListenFault x = absurd x
+  made status.ThreadFault x = absurd x
 
-  by_upkeep : (w : UpkeepWord) (e : KeptEnd) → HasKeptUp h.input (output_of h.outside) stays d DiskStays clock w c e → IsCaused h d clock (word.Upkeep w) (status_of_kept e)
+  by_upkeep : (w : UpkeepWord) (e : Status) → HasKeptUp h.input (output_of h.outside) stays d DiskStays clock w c e → IsCaused h d clock (word.Upkeep w) e
   by_upkeep upkeep.Make e x = made e x.0
   by_upkeep upkeep.Truncate e x = truncated e x
   by_upkeep upkeep.Expire e x = dropped e x.0
@@ -203,18 +225,22 @@ module _ (h : CommandChange) (stays : Stays) (d : DiskChange) (DiskStays : Type 
   job_in : (job : Job) → jobs.IsJobIn c h.input job → IfSome h.input.from (λ text. (length text ≤ 65536) × (job_of c text ≡ Ok job))
   job_in job r = whole_text _ _ _ r.text r.read r.at_end (r.short, r.comes)
 
-  by_job : (e : KeptEnd) → RunsJob c clock h.input h.outside d DiskStays (stays.output × stays.source) e → IsCaused h d clock word.Job (status_of_kept e)
-  by_job end.Done x = (c, be, (x.0, job_in x.0 x.1, (x.2.0, x.2.2.opened, tt)))
-  by_job end.OutOfMemory x = tt
-  by_job end.ReadFault x = inr (inr x.0)
-  by_job end.TooLong x = inr (inr (c, be, over 65536 _ _ x.0.0 x.0.1 x.0.2))
-  by_job (end.Form fault) x = (c, be, job_formed fault x.0)
-  by_job end.WriteFault x = x.2.5.1
-  by_job (end.Refused cause) x = (c, be, (x.0, job_in x.0 x.1, x.2.0))
-  by_job end.DiskFault x = x.2.0
-  by_job end.CutsFull x = absurd x
-  by_job (end.Line n) x = absurd x
-  by_job (end.Stream how) x = absurd x
+  by_job : (e : Status) → RunsJob c clock h.input h.outside d DiskStays (stays.output × stays.source) e → IsCaused h d clock word.Job e
+  by_job status.Done x = (c, be, (x.0, job_in x.0 x.1, (x.2.0, x.2.2.opened, tt)))
+  by_job status.OutOfMemory x = tt
+  by_job status.ReadFault x = inr (inr x.0)
+  by_job status.TooLong x = inr (inr (c, be, over 65536 _ _ x.0.0 x.0.1 x.0.2))
+  by_job (status.Form fault) x = (c, be, job_formed fault x.0)
+  by_job status.WriteFault x = x.2.5.1
+  by_job (status.Cache cause) x = (c, be, (x.0, job_in x.0 x.1, x.2.0))
+  by_job status.DiskFault x = x.2.0
+  by_job status.CutsFull x = absurd x
+  by_job (status.Line n) x = absurd x
+  by_job (status.Stream how) x = absurd x
+  by_job status.Usage x = absurd x
+  by_job (status.Catalogue fault) x = absurd x
+  by_job status.ListenFault x = absurd x
+  by_job status.ThreadFault x = absurd x
 
 -- ALL WORDS
 
@@ -223,11 +249,11 @@ module _ (P : State → Type 0) (h : CommandChange) (stays : Stays) (d : DiskCha
   by_word (word.InMemory w) s x = by_memory h stays d clock w s x.0
   by_word (word.Kept w) s (inl x) = subst (IsCaused h d clock (word.Kept w)) (sym x.0.1) (by_both h d clock (word.Kept w) (λ P p. p) stays.capabilities x.0.0 x.0.2)
   by_word (word.Kept w) s (inr x) =
-      subst (IsCaused h d clock (word.Kept w)) (sym x.3.1) (by_run h stays d DiskStays clock x.0 (read_in h.catalogue x.0 x.2.read) P x.1 (document_of h.capabilities x.1 x.2.describes) w x.3.0 x.3.2)
+      by_run h stays d DiskStays clock x.0 (read_in h.catalogue x.0 x.2.read) P x.1 (document_of h.capabilities x.1 x.2.describes) w s x.3
   by_word (word.Upkeep w) s (inl x, first, second) = subst (IsCaused h d clock (word.Upkeep w)) (sym x.1) (by_catalogue h d clock (word.Upkeep w) x.0 x.2)
-  by_word (word.Upkeep w) s (inr x, first, second) = subst (IsCaused h d clock (word.Upkeep w)) (sym x.2.1) (by_upkeep h stays d DiskStays clock x.0 (read_in h.catalogue x.0 x.1) w x.2.0 x.2.2)
+  by_word (word.Upkeep w) s (inr x, first, second) = by_upkeep h stays d DiskStays clock x.0 (read_in h.catalogue x.0 x.1) w s x.2
   by_word word.Job s (inl x, same) = subst (IsCaused h d clock word.Job) (sym x.1) (by_catalogue h d clock word.Job x.0 x.2)
-  by_word word.Job s (inr x, same) = subst (IsCaused h d clock word.Job) (sym x.2.1) (by_job h stays d DiskStays clock x.0 (read_in h.catalogue x.0 x.1) x.2.0 x.2.2)
+  by_word word.Job s (inr x, same) = by_job h stays d DiskStays clock x.0 (read_in h.catalogue x.0 x.1) s x.2
 
 -- WHAT IS VALID IS DONE
 
@@ -275,6 +301,8 @@ module _ (h : CommandChange) (d : DiskChange) (clock : Readings) (w : Word) (val
   done (status.Stream how) x = absurd (valid.stream how x)
   done status.TooLong x = absurd (valid.short x)
   done (status.Form fault) x = absurd (valid.form fault x)
+  done status.ListenFault x = absurd x
+  done status.ThreadFault x = absurd x
 
 -- ALL WORDS
 

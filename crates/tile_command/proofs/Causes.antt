@@ -19,7 +19,8 @@ use Rattle.config_text.specs.Text.{catalogue_of}
 use Rattle.kept_cache.specs.Change.{DiskChange}
 use Rattle.tile_command.specs.Causes.{BreaksOff, ComesToEnd, HaveLast, IsCaused, IsOver, OfDocument, OfInput, RefusesSo, RunRefuses}
 use Rattle.tile_command.specs.Change.{CommandChange}
-use Rattle.tile_command.specs.Statuses.{status_of_refusal, status_of_schedule, status_of_session}
+use Rattle.command_setup.specs.Refusals.{status_of_refusal}
+use Rattle.command_status.specs.Statuses.{status_of_schedule, status_of_session}
 use Rattle.tile_service.specs.declared.run_lines.RunEnd.{RunEnd}
 use Rattle.tile_service.specs.declared.run_lines.RunEnd.TheVariants as run_end
 use Rattle.tile_service.specs.declared.schedule.ScheduleEnd.{ScheduleEnd}

@@ -94,6 +94,8 @@ module _ (h : CommandChange) (d : DiskChange) (clock : Readings) (m : AreModelle
   cache_told w status.OutOfMemory past through line stream cuts long document form same x = inr refl
   cache_told w status.Done past through line stream cuts long document form same x = absurd (through x)
   cache_told w status.Usage past through line stream cuts long document form same x = absurd x
+  cache_told w status.ListenFault past through line stream cuts long document form same x = absurd x
+  cache_told w status.ThreadFault past through line stream cuts long document form same x = absurd x
   cache_told w (status.Catalogue f) past through line stream cuts long document form same x = absurd (files.faulty_not_past h d clock m quiet f x past)
   cache_told w status.ReadFault past through line stream cuts long document form same x = absurd (no_read h d w quiet x)
   cache_told w status.WriteFault past through line stream cuts long document form same x = absurd (quiet.output x)
@@ -173,6 +175,8 @@ module _ (h : CommandChange) (d : DiskChange) (clock : Readings) (m : AreModelle
   cut_told status.OutOfMemory full x = inr refl
   cut_told status.Done full x = absurd (one_reply h d clock m quiet told cut.Full (cut.Done x.2.2.0) (λ s cover u v. full_or_done s cover u v x.2.2.0) full (done_of h d clock m quiet told x))
   cut_told status.Usage full x = absurd x
+  cut_told status.ListenFault full x = absurd x
+  cut_told status.ThreadFault full x = absurd x
   cut_told (status.Catalogue f) full x = absurd (files.faulty_not_past h d clock m quiet f x (full.0, full.1, tt))
   cut_told status.ReadFault full x = absurd (no_read h d (word.Upkeep upkeep.Truncate) quiet x)
   cut_told status.WriteFault full x = absurd (quiet.output x)

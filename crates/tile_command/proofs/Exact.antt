@@ -129,6 +129,8 @@ module _ (h : CommandChange) (d : DiskChange) (clock : Readings) (m : AreModelle
   of_catalogue w status.Done x = inr (inr (inr (through_past w x)))
   of_catalogue w status.OutOfMemory x = inl refl
   of_catalogue w status.Usage x = absurd x
+  of_catalogue w status.ListenFault x = absurd x
+  of_catalogue w status.ThreadFault x = absurd x
   of_catalogue w (status.Catalogue fault) x = inr (inl (fault, refl, x))
   of_catalogue w status.ReadFault x = absurd (no_read h d w quiet x)
   of_catalogue w status.WriteFault x = absurd (quiet.output x)
@@ -187,6 +189,8 @@ module _ (h : CommandChange) (d : DiskChange) (clock : Readings) (m : AreModelle
   memory_told w status.TooLong past long x = inl refl
   memory_told w status.OutOfMemory past long x = inr refl
   memory_told w status.Usage past long x = absurd x
+  memory_told w status.ListenFault past long x = absurd x
+  memory_told w status.ThreadFault past long x = absurd x
   memory_told w (status.Catalogue fault) past long x = absurd (faulty_not_past fault x past)
   memory_told w status.ReadFault past long x = absurd (no_read h d (word.InMemory w) quiet x)
   memory_told w status.WriteFault past long x = absurd (quiet.output x)
@@ -208,6 +212,8 @@ module _ (h : CommandChange) (d : DiskChange) (clock : Readings) (m : AreModelle
   kept_told w status.TooLong past long x = inl refl
   kept_told w status.OutOfMemory past long x = inr refl
   kept_told w status.Usage past long x = absurd x
+  kept_told w status.ListenFault past long x = absurd x
+  kept_told w status.ThreadFault past long x = absurd x
   kept_told w (status.Catalogue fault) past long x = absurd (faulty_not_past fault x past)
   kept_told w status.ReadFault past long x = absurd (no_read h d (word.Kept w) quiet x)
   kept_told w status.WriteFault past long x = absurd (quiet.output x)
@@ -244,6 +250,8 @@ module _ (h : CommandChange) (d : DiskChange) (clock : Readings) (m : AreModelle
   long_input w status.OutOfMemory past refused through line stream cuts form x = inr refl
   long_input w status.Done past refused through line stream cuts form x = absurd (through x)
   long_input w status.Usage past refused through line stream cuts form x = absurd x
+  long_input w status.ListenFault past refused through line stream cuts form x = absurd x
+  long_input w status.ThreadFault past refused through line stream cuts form x = absurd x
   long_input w (status.Catalogue fault) past refused through line stream cuts form x = absurd (faulty_not_past fault x past)
   long_input w status.ReadFault past refused through line stream cuts form x = absurd (no_read h d w quiet x)
   long_input w status.WriteFault past refused through line stream cuts form x = absurd (quiet.output x)
@@ -293,6 +301,8 @@ module _ (h : CommandChange) (d : DiskChange) (clock : Readings) (m : AreModelle
   ill_told reading fault bad w status.OutOfMemory through line stream cache cuts long document same x = inr refl
   ill_told reading fault bad w status.Done through line stream cache cuts long document same x = absurd (through x)
   ill_told reading fault bad w status.Usage through line stream cache cuts long document same x = absurd x
+  ill_told reading fault bad w status.ListenFault through line stream cache cuts long document same x = absurd x
+  ill_told reading fault bad w status.ThreadFault through line stream cache cuts long document same x = absurd x
   ill_told reading fault bad w (status.Catalogue f) through line stream cache cuts long document same x = absurd (faulty_not_past f x (bad.0, bad.1, tt))
   ill_told reading fault bad w status.ReadFault through line stream cache cuts long document same x = absurd (no_read h d w quiet x)
   ill_told reading fault bad w status.WriteFault through line stream cache cuts long document same x = absurd (quiet.output x)

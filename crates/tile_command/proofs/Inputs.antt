@@ -86,6 +86,8 @@ module _ (h : CommandChange) (d : DiskChange) (clock : Readings) (m : AreModelle
   by_work w T past document cache long cuts form out through line stream (status.Line n) x = line n x
   by_work w T past document cache long cuts form out through line stream (status.Stream end) x = stream end x
   by_work w T past document cache long cuts form out through line stream status.Usage x = absurd x
+  by_work w T past document cache long cuts form out through line stream status.ListenFault x = absurd x
+  by_work w T past document cache long cuts form out through line stream status.ThreadFault x = absurd x
   by_work w T past document cache long cuts form out through line stream (status.Catalogue fault) x = absurd (files.faulty_not_past h d clock m quiet fault x past)
   by_work w T past document cache long cuts form out through line stream status.ReadFault x = absurd (no_read h d w quiet x)
   by_work w T past document cache long cuts form out through line stream status.WriteFault x = absurd (quiet.output x)

@@ -6,3 +6,4 @@ pub mod Disks
 pub mod Breaks
 pub mod Inputs
 pub mod Tests
+pub mod Commanding

@@ -1,22 +1,28 @@
 -- What the ends of the work and the refusals before it tell.
-use Rattle.std.proofs.Common.{◌≡◌, ◌↔◌, Option, Some, None, inl, inr, sym, ◌∙◌}
+use Rattle.std.proofs.Common.{ℕ, ◌≡◌, ◌↔◌, List, Option, Some, None, inl, inr, subst, sym, ◌∙◌}
 use Rattle.cabinet.specs.State.{State}
+use Rattle.catalog.specs.declared.catalogue.Catalogue.{Catalogue}
 use Rattle.command_status.specs.declared.status.Status.TheVariants as status
 use Rattle.command_status.specs.declared.status.Status.{Status}
+use Rattle.command_words.specs.declared.words.KeptWord.{KeptWord}
+use Rattle.command_words.specs.declared.words.KeptWord.TheVariants as kept
 use Rattle.command_words.specs.declared.words.MemoryWord.{MemoryWord}
 use Rattle.command_words.specs.declared.words.MemoryWord.TheVariants as memory
+use Rattle.command_words.specs.declared.words.UpkeepWord.{UpkeepWord}
+use Rattle.command_words.specs.declared.words.UpkeepWord.TheVariants as upkeep
 use Rattle.command_words.specs.declared.words.Word.{Word}
 use Rattle.command_words.specs.declared.words.Word.TheVariants as word
 use Rattle.clock.specs.Readings.{Readings}
 use Rattle.command_setup.specs.declared.configured.Unconfigured.{Unconfigured}
 use Rattle.command_setup.specs.declared.configured.Unconfigured.TheVariants as unconfigured
+use Rattle.job_words.specs.Ends.{RunsJob}
 use Rattle.kept_cache.specs.Change.{DiskChange}
-use Rattle.kept_cache.specs.declared.end.KeptEnd.{KeptEnd}
-use Rattle.kept_cache.specs.declared.end.KeptEnd.TheVariants as kept_end
-use Rattle.tile_command.specs.Change.{CommandChange, Stays, without_disk}
+use Rattle.tile_command.specs.Change.{CommandChange, Stays, output_of, without_disk}
 use Rattle.tile_command.specs.Command.{HasServed}
-use Rattle.tile_command.specs.Memory.{MemoryTells}
-use Rattle.tile_command.specs.Statuses.{status_of_drill, status_of_kept, status_of_refusal, status_of_schedule, status_of_session}
+use Rattle.tile_command.specs.Kept.{HasKeptUp, HasRun}
+use Rattle.tile_command.specs.Memory.{MemoryTells, status_of_drill}
+use Rattle.command_setup.specs.Refusals.{status_of_refusal}
+use Rattle.command_status.specs.Statuses.{status_of_schedule, status_of_session}
 use Rattle.tile_drill.specs.declared.drill.DrillEnd.{DrillEnd}
 use Rattle.tile_drill.specs.declared.drill.DrillEnd.TheVariants as drill_end
 use Rattle.tile_service.specs.declared.schedule.ScheduleEnd.{ScheduleEnd}
@@ -66,19 +72,6 @@ other_of_drill drill_end.Done is = cc
 other_of_drill drill_end.WriteFault is = cc
 other_of_drill drill_end.OutOfMemory is = cc
 
-other_of_kept : (e : KeptEnd) → status_of_kept e ≡ status.Usage → ⊥
-other_of_kept kept_end.Done is = cc
-other_of_kept kept_end.ReadFault is = cc
-other_of_kept kept_end.TooLong is = cc
-other_of_kept (kept_end.Form fault) is = cc
-other_of_kept (kept_end.Refused fault) is = cc
-other_of_kept kept_end.DiskFault is = cc
-other_of_kept kept_end.CutsFull is = cc
-other_of_kept (kept_end.Line n) is = cc
-other_of_kept (kept_end.Stream how) is = cc
-other_of_kept kept_end.WriteFault is = cc
-other_of_kept kept_end.OutOfMemory is = cc
-
 module _ (P : State → Type 0) (h : CommandChange) (stays : Stays) (d : DiskChange) (DiskStays : Type 0) (clock : Readings) where
   other_in_memory : (w : MemoryWord) (s : Status) → MemoryTells (without_disk h) stays clock w s → s ≡ status.Usage → ⊥
   other_in_memory w s (inl refused) is = other_of_refusal refused.0 (sym refused.1 ∙ is)
@@ -86,14 +79,24 @@ module _ (P : State → Type 0) (h : CommandChange) (stays : Stays) (d : DiskCha
   other_in_memory memory.Replay s (inr done) is = other_of_session done.3.0 (sym done.3.1 ∙ is)
   other_in_memory (memory.Drill number) s (inr done) is = other_of_drill done.3.0 (sym done.3.1 ∙ is)
 
+  other_of_run : (w : KeptWord) (c : Catalogue) (document : List ℕ) → HasRun P h.input h.outside stays d clock w c document status.Usage → ⊥
+  other_of_run kept.Schedule c document run = run
+  other_of_run kept.Replay c document run = run
+
+  other_of_upkeep : (w : UpkeepWord) (c : Catalogue) → HasKeptUp h.input (output_of h.outside) stays d DiskStays clock w c status.Usage → ⊥
+  other_of_upkeep upkeep.Make c done = done.0
+  other_of_upkeep upkeep.Truncate c done = done
+  other_of_upkeep upkeep.Expire c done = done.0
+  other_of_upkeep upkeep.Usage c done = done.0
+
   other_of_word : (w : Word) (s : Status) → HasServed P h stays d DiskStays clock (Some w) s → s ≡ status.Usage → ⊥
   other_of_word (word.InMemory w) s told is = other_in_memory w s told.0 is
   other_of_word (word.Kept w) s (inl refused) is = other_of_refusal refused.0.0 (sym refused.0.1 ∙ is)
-  other_of_word (word.Kept w) s (inr done) is = other_of_kept done.3.0 (sym done.3.1 ∙ is)
+  other_of_word (word.Kept w) s (inr done) is = other_of_run w done.0 done.1 (subst (HasRun P h.input h.outside stays d clock w done.0 done.1) is done.3)
   other_of_word (word.Upkeep w) s (inl refused, first, second) is = other_of_refusal refused.0 (sym refused.1 ∙ is)
-  other_of_word (word.Upkeep w) s (inr done, first, second) is = other_of_kept done.2.0 (sym done.2.1 ∙ is)
+  other_of_word (word.Upkeep w) s (inr done, first, second) is = other_of_upkeep w done.0 (subst (HasKeptUp h.input (output_of h.outside) stays d DiskStays clock w done.0) is done.2)
   other_of_word word.Job s (inl refused, same) is = other_of_refusal refused.0 (sym refused.1 ∙ is)
-  other_of_word word.Job s (inr done, same) is = other_of_kept done.2.0 (sym done.2.1 ∙ is)
+  other_of_word word.Job s (inr done, same) is = subst (RunsJob done.0 clock h.input h.outside d DiskStays (stays.output × stays.source)) is done.2
 
   -- so `Usage` is told exactly where words are no command
   pub exactly_usage : (w : Word) (s : Status) → HasServed P h stays d DiskStays clock (Some w) s → (read : Option Word) → read ≡ Some w → (s ≡ status.Usage) ↔ (read ≡ None)

@@ -232,6 +232,8 @@ abbrev pub IsCaused : CommandChange → DiskChange → Readings → Word → Sta
 IsCaused h d clock w status.Done = IsThrough h d clock w
 IsCaused h d clock w status.OutOfMemory = ⊤
 IsCaused h d clock w status.Usage = ⊥
+IsCaused h d clock w status.ListenFault = ⊥
+IsCaused h d clock w status.ThreadFault = ⊥
 IsCaused h d clock w (status.Catalogue fault) = IsFaulty h fault
 IsCaused h d clock w status.ReadFault = HasReadFault h w
 IsCaused h d clock w status.WriteFault = Rose h.outside.writes.before h.outside.writes.after

@@ -5,7 +5,7 @@ use Rattle.command_setup.specs.Setup.{AreRead, IsRefused}
 use Rattle.command_setup.specs.declared.configured.Unconfigured.{Unconfigured}
 use Rattle.command_status.specs.declared.status.Status.{Status}
 use Rattle.sessions.specs.Outside.{InputChange, OutputChange, Outside, counts}
-use Rattle.tile_command.specs.Statuses.{status_of_refusal}
+use Rattle.command_setup.specs.Refusals.{status_of_refusal}
 
 -- what a command saw of its inputs, of its source and of its output, and how often its disk failed; `input` is what the words speak
 -- of: the lines of a schedule, the bytes of a connection, a cover or a job

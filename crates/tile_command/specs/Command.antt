@@ -1,10 +1,11 @@
 -- What a command came to.
-use Rattle.std.specs.Prelude.{ℕ, Bool, IsTrue, List, Option, Some, None, ⊤}
+use Rattle.std.specs.Prelude.{ℕ, ◌≡◌, ◌↔◌, Bool, IsTrue, List, Option, Some, None, ⊤}
 use Rattle.cabinet.specs.State.{State}
 use Rattle.catalog.specs.declared.catalogue.Catalogue.{Catalogue}
 use Rattle.clock.specs.Readings.{Readings}
 use Rattle.command_setup.specs.Held.{HoldsFile, MayBe}
 use Rattle.command_status.specs.declared.status.Status.{Status}
+use Rattle.command_status.specs.declared.status.Status.TheVariants as status
 use Rattle.command_words.specs.declared.words.UpkeepWord.{UpkeepWord}
 use Rattle.command_words.specs.declared.words.UpkeepWord.TheVariants as upkeep
 use Rattle.command_words.specs.declared.words.Word.{Word}
@@ -12,7 +13,9 @@ use Rattle.command_words.specs.declared.words.Word.TheVariants as word
 use Rattle.disk_model.specs.Content.{Content}
 use Rattle.durable_cabinet.specs.Images.{IsOurs}
 use Rattle.kept_cache.specs.Change.{DiskChange}
+use Rattle.tile_command.specs.Causes.{HasCause, IsComplete}
 use Rattle.tile_command.specs.Change.{CommandChange, Stays, output_of, without_disk}
+use Rattle.tile_command.specs.Exact.{IsExact}
 use Rattle.tile_command.specs.Job.{JobTells}
 use Rattle.tile_command.specs.Kept.{HasLasted, RunTells, UpkeepLasts, UpkeepTells}
 use Rattle.tile_command.specs.Memory.{MemoryTells}
@@ -55,3 +58,26 @@ HasLastedBy h d DiskStays (Some (word.InMemory w)) = DiskStays
 HasLastedBy h d DiskStays (Some (word.Kept w)) = HasLasted h.catalogue d DiskStays
 HasLastedBy h d DiskStays (Some (word.Upkeep w)) = UpkeepLasts h.catalogue d DiskStays w
 HasLastedBy h d DiskStays (Some word.Job) = HasLasted h.catalogue d DiskStays
+
+-- THE CONTRACT
+
+-- what was seen of a command: of what it was handed, and that each of it stays as it is; of its disk, and that it stays so; the clock that it was
+-- handed, what its words ask for, and how it ended
+pub record CommandRun : Type 1 where
+  pub change : CommandChange
+  pub stays : Stays
+  pub disk : DiskChange
+  pub disk_stays : Type 0
+  pub clock : Readings
+  pub word : Option Word
+  pub status : Status
+
+-- A command is told as no command exactly where its words are none. Each status says what it came to, and comes for no other cause than its
+-- own: so what is in order is done, and what is refused of the files is told. At every moment a crash leaves of the disk what the word lets it.
+pub record Commands (P : State → Type 0) (r : CommandRun) : Type 0 where
+  pub usage : (r.status ≡ status.Usage) ↔ (r.word ≡ None)
+  pub served : HasServed P r.change r.stays r.disk r.disk_stays r.clock r.word r.status
+  pub cause : HasCause r.change r.disk r.clock r.word r.status
+  pub complete : IsComplete r.change r.disk r.clock r.word r.status
+  pub exact : IsExact r.change r.disk r.clock r.word r.status
+  pub lasts : HasLastedBy r.change r.disk r.disk_stays r.word

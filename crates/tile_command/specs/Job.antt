@@ -7,13 +7,12 @@ use Rattle.command_setup.specs.declared.configured.Unconfigured.{Unconfigured}
 use Rattle.command_status.specs.declared.status.Status.{Status}
 use Rattle.job_words.specs.Ends.{RunsJob}
 use Rattle.kept_cache.specs.Change.{DiskChange}
-use Rattle.kept_cache.specs.declared.end.KeptEnd.{KeptEnd}
 use Rattle.tile_command.specs.Change.{Stays}
-use Rattle.tile_command.specs.Statuses.{status_of_kept, status_of_refusal}
+use Rattle.command_setup.specs.Refusals.{status_of_refusal}
 use Rattle.sessions.specs.Outside.{InputChange, Outside}
 
 -- what each status says of a job: the catalogue was refused and nothing else was touched, or it was read and the word ended
 abbrev pub JobTells : InputChange → InputChange → Outside → Stays → DiskChange → Type 0 → Readings → Status → Type 0
 JobTells catalogue i o stays d DiskStays clock s =
     ((e : Unconfigured) × (s ≡ status_of_refusal e) × Configures catalogue (Err e) × stays.input × stays.output × stays.source × DiskStays)
-    ⊎ ((c : Catalogue) × IsRead catalogue (Ok c) × ((e : KeptEnd) × (s ≡ status_of_kept e) × RunsJob c clock i o d DiskStays (stays.output × stays.source) e))
+    ⊎ ((c : Catalogue) × IsRead catalogue (Ok c) × RunsJob c clock i o d DiskStays (stays.output × stays.source) s)

@@ -13,16 +13,15 @@ use Rattle.command_words.specs.declared.words.UpkeepWord.TheVariants as upkeep
 use Rattle.kept_cache.specs.Change.{DiskChange}
 use Rattle.sessions.specs.Outside.{InputChange, OutputChange, Outside}
 use Rattle.kept_cache.specs.Crash.{LastsThrough}
-use Rattle.kept_cache.specs.declared.end.KeptEnd.{KeptEnd}
 use Rattle.kept_words.specs.Ends.{DropsAll, Makes, TellsUsage, Truncates}
 use Rattle.kept_words.specs.Runs.{RunsSchedule, RunsSession}
 use Rattle.tile_command.specs.Change.{CommandChange, IsUnready, Stays, WithBoth}
-use Rattle.tile_command.specs.Statuses.{status_of_kept, status_of_refusal}
+use Rattle.command_setup.specs.Refusals.{status_of_refusal}
 
 -- RUNS, with P of the cabinet after each line of a schedule and after each message of a session
 
 -- a run ended so
-abbrev pub HasRun : (State → Type 0) → InputChange → Outside → Stays → DiskChange → Readings → KeptWord → Catalogue → List ℕ → KeptEnd → Type 0
+abbrev pub HasRun : (State → Type 0) → InputChange → Outside → Stays → DiskChange → Readings → KeptWord → Catalogue → List ℕ → Status → Type 0
 HasRun P i o stays d clock kept.Schedule c document e = RunsSchedule P c clock document i o d stays.input (stays.output × stays.source) e
 HasRun P i o stays d clock kept.Replay c document e = RunsSession P c clock document i o d stays.input (stays.output × stays.source) e
 
@@ -30,12 +29,12 @@ HasRun P i o stays d clock kept.Replay c document e = RunsSession P c clock docu
 abbrev pub RunTells : (State → Type 0) → CommandChange → Stays → DiskChange → Type 0 → Readings → KeptWord → Status → Type 0
 RunTells P h stays d DiskStays clock w s =
     (IsUnready h stays s × DiskStays)
-    ⊎ WithBoth h (λ c document. (e : KeptEnd) × (s ≡ status_of_kept e) × HasRun P h.input h.outside stays d clock w c document e)
+    ⊎ WithBoth h (λ c document. HasRun P h.input h.outside stays d clock w c document s)
 
 -- UPKEEP
 
 -- a step of upkeep ended so; a cover is the only input of one
-abbrev pub HasKeptUp : InputChange → OutputChange → Stays → DiskChange → Type 0 → Readings → UpkeepWord → Catalogue → KeptEnd → Type 0
+abbrev pub HasKeptUp : InputChange → OutputChange → Stays → DiskChange → Type 0 → Readings → UpkeepWord → Catalogue → Status → Type 0
 HasKeptUp i o stays d DiskStays clock upkeep.Make c e = Makes c d o stays.output e × stays.input
 HasKeptUp i o stays d DiskStays clock upkeep.Truncate c e = Truncates c clock i d o DiskStays stays.output e
 HasKeptUp i o stays d DiskStays clock upkeep.Expire c e = DropsAll c clock d o stays.output e × stays.input
@@ -45,7 +44,7 @@ HasKeptUp i o stays d DiskStays clock upkeep.Usage c e = TellsUsage c clock d o 
 abbrev pub UpkeepTells : InputChange → InputChange → OutputChange → Stays → DiskChange → Type 0 → Readings → UpkeepWord → Status → Type 0
 UpkeepTells catalogue i o stays d DiskStays clock w s =
     ((e : Unconfigured) × (s ≡ status_of_refusal e) × Configures catalogue (Err e) × stays.input × stays.output × DiskStays)
-    ⊎ ((c : Catalogue) × IsRead catalogue (Ok c) × ((e : KeptEnd) × (s ≡ status_of_kept e) × HasKeptUp i o stays d DiskStays clock w c e))
+    ⊎ ((c : Catalogue) × IsRead catalogue (Ok c) × HasKeptUp i o stays d DiskStays clock w c s)
 
 -- A CRASH
 

@@ -1,4 +1,3 @@
-pub mod Statuses
 pub mod Change
 pub mod Memory
 pub mod Kept

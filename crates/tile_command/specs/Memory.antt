@@ -2,12 +2,14 @@
 use Rattle.std.specs.Prelude.{ℕ, ◌≡◌, ◌⊎◌, List}
 use Rattle.cabinet.specs.State.{State, IsKnown, fresh_state}
 use Rattle.clock.specs.Readings.{Readings}
+use Rattle.command_status.specs.declared.status.Status.TheVariants as status
 use Rattle.command_status.specs.declared.status.Status.{Status}
 use Rattle.command_words.specs.declared.words.MemoryWord.{MemoryWord}
 use Rattle.command_words.specs.declared.words.MemoryWord.TheVariants as memory
 use Rattle.tile_command.specs.Change.{CommandChange, IsUnready, Stays, WithBoth}
-use Rattle.tile_command.specs.Statuses.{status_of_drill, status_of_schedule, status_of_session}
+use Rattle.command_status.specs.Statuses.{status_of_schedule, status_of_session}
 use Rattle.tile_drill.specs.declared.drill.DrillEnd.{DrillEnd}
+use Rattle.tile_drill.specs.declared.drill.DrillEnd.TheVariants as drill_end
 use Rattle.tile_drill.specs.Drill.{Drills}
 use Rattle.tile_service.specs.declared.schedule.ScheduleEnd.{ScheduleEnd}
 use Rattle.sessions.specs.declared.session.SessionEnd.{SessionEnd}
@@ -15,6 +17,12 @@ use Rattle.sessions.specs.Outside.{InputChange, Outside}
 use Rattle.tile_service.specs.Run.{World, free_seats, world_of}
 use Rattle.tile_service.specs.Schedules.{Schedules}
 use Rattle.tile_service.specs.Replays.{HasSession}
+
+-- the status of a drill's end
+abbrev pub status_of_drill : DrillEnd → Status
+status_of_drill drill_end.Done = status.Done
+status_of_drill drill_end.WriteFault = status.WriteFault
+status_of_drill drill_end.OutOfMemory = status.OutOfMemory
 
 -- What a word asks for was done with a cabinet and a capabilities document, and this is the status of its end. The cabinet after it
 -- is one that commands can make. A drill reads no input.

@@ -1,12 +1,10 @@
 //! The top call: what the words ask for, done.
-ghost use Rattle.std.specs.Prelude.{◌≡◌, ◌↔◌, None};
+ghost use Rattle.std.specs.Prelude.{◌≡◌};
 ghost use Rattle.command_words.specs.Words.{word_of};
 ghost use Rattle.kept_cache.specs.Change.{DiskChange};
 ghost use Rattle.kept_cache.specs.Passing.{PassesDisk};
-ghost use Rattle.tile_command.specs.Causes.{HasCause, IsComplete};
 ghost use Rattle.tile_command.specs.Change.{CommandChange, Stays};
-ghost use Rattle.tile_command.specs.Command.{HasLastedBy, HasServed, IsFitFor};
-ghost use Rattle.tile_command.specs.Exact.{IsExact};
+ghost use Rattle.tile_command.specs.Command.{CommandRun, Commands, IsFitFor};
 ghost use Rattle.sessions.specs.Outside.{InputChange, Outside, counts};
 
 use crate::job::job_run;
@@ -28,12 +26,12 @@ use std::alloc::Global;
 /// on the cache of the disk. `make` makes that cache, `truncate` cuts the cover that the input has, `expire` drops metatiles until no
 /// quota is exceeded, `usage` tells what is kept, and `job` runs the job that the input has, place by place. Each ask and force takes its moment from the clock.
 ///
-/// `Usage` exactly where the words are none of these; each other status comes as `HasServed` says, and for no other cause than
-/// `HasCause` says, so that what is in order is done, and what is refused of the files is told, unless something failed or memory ran out
-/// (`IsComplete`, `IsExact`). At every moment of every word but `make` a crash leaves what `HasLastedBy` says; and after each line of a
-/// schedule, and each message of a connection, on the cache of the disk there is a moment from which on a crash leaves what answers for each
-/// truncation that was done by then (`PassesDisk`). A modelled disk has to hold a file of this program, by the catalogue that is read, where
-/// a word opens it.
+/// What it comes to stands in `Commands`: `Usage` exactly where the words are none of these (`usage`); each other status comes as `HasServed`
+/// says (`served`), and for no other cause than `HasCause` says (`cause`), so that what is in order is done, and what is refused of the files
+/// is told, unless something failed or memory ran out (`complete`, `exact`). At every moment of every word but `make` a crash leaves what
+/// `HasLastedBy` says (`lasts`); and after each line of a schedule, and each message of a connection, on the cache of the disk there is a
+/// moment from which on a crash leaves what answers for each truncation that was done by then (`PassesDisk`). A modelled disk has to hold a
+/// file of this program, by the catalogue that is read, where a word opens it.
 pub fn run_command<S: Source, D: Disk, I: ByteSource, O: ByteSink>(
     alloc: Global,
     words: &[Words],
@@ -46,53 +44,21 @@ pub fn run_command<S: Source, D: Disk, I: ByteSource, O: ByteSink>(
     clock: Clock,
 ) -> Status
     requires { IsFitFor (word_of words.now) (I.left catalogue.old) (D.told disk.old) (D.state disk.old).seen }
-    ensures usage { (result ≡ Status.Usage) ↔ (word_of words.now ≡ None) }
-    ensures served { HasServed (PassesDisk D D.state (D.told disk.old) (D.state disk.old) (D.state disk.new))
+    ensures { Commands (PassesDisk D D.state (D.told disk.old) (D.state disk.old) (D.state disk.new))
         (record {
-          catalogue = record { reads = counts (I.faults catalogue.old) (I.faults catalogue.new); from = I.left catalogue.old; to = I.left catalogue.new };
-          capabilities = record { reads = counts (I.faults capabilities.old) (I.faults capabilities.new); from = I.left capabilities.old; to = I.left capabilities.new };
-          input = record { reads = counts (I.faults input.old) (I.faults input.new); from = I.left input.old; to = I.left input.new };
-          outside = record { told = S.told source.old; renders = counts (S.faults source.old) (S.faults source.new); disk = counts (D.faults disk.old) (D.faults disk.new); writes = counts (O.faults output.old) (O.faults output.new); from = O.taken output.old; to = O.taken output.new };
-        })
-        (record { catalogue = (catalogue.new ≡ catalogue.old); capabilities = (capabilities.new ≡ capabilities.old); input = (input.new ≡ input.old); output = (output.new ≡ output.old); source = (source.new ≡ source.old) })
-        (record { told = D.told disk.old; faults = counts (D.faults disk.old) (D.faults disk.new); from = D.state disk.old; to = D.state disk.new })
-        (disk.new ≡ disk.old) clock (word_of words.now) result }
-    ensures cause { HasCause
-        (record {
-          catalogue = record { reads = counts (I.faults catalogue.old) (I.faults catalogue.new); from = I.left catalogue.old; to = I.left catalogue.new };
-          capabilities = record { reads = counts (I.faults capabilities.old) (I.faults capabilities.new); from = I.left capabilities.old; to = I.left capabilities.new };
-          input = record { reads = counts (I.faults input.old) (I.faults input.new); from = I.left input.old; to = I.left input.new };
-          outside = record { told = S.told source.old; renders = counts (S.faults source.old) (S.faults source.new); disk = counts (D.faults disk.old) (D.faults disk.new); writes = counts (O.faults output.old) (O.faults output.new); from = O.taken output.old; to = O.taken output.new };
-        })
-        (record { told = D.told disk.old; faults = counts (D.faults disk.old) (D.faults disk.new); from = D.state disk.old; to = D.state disk.new })
-        clock (word_of words.now) result }
-    ensures complete { IsComplete
-        (record {
-          catalogue = record { reads = counts (I.faults catalogue.old) (I.faults catalogue.new); from = I.left catalogue.old; to = I.left catalogue.new };
-          capabilities = record { reads = counts (I.faults capabilities.old) (I.faults capabilities.new); from = I.left capabilities.old; to = I.left capabilities.new };
-          input = record { reads = counts (I.faults input.old) (I.faults input.new); from = I.left input.old; to = I.left input.new };
-          outside = record { told = S.told source.old; renders = counts (S.faults source.old) (S.faults source.new); disk = counts (D.faults disk.old) (D.faults disk.new); writes = counts (O.faults output.old) (O.faults output.new); from = O.taken output.old; to = O.taken output.new };
-        })
-        (record { told = D.told disk.old; faults = counts (D.faults disk.old) (D.faults disk.new); from = D.state disk.old; to = D.state disk.new })
-        clock (word_of words.now) result }
-    ensures exact { IsExact
-        (record {
-          catalogue = record { reads = counts (I.faults catalogue.old) (I.faults catalogue.new); from = I.left catalogue.old; to = I.left catalogue.new };
-          capabilities = record { reads = counts (I.faults capabilities.old) (I.faults capabilities.new); from = I.left capabilities.old; to = I.left capabilities.new };
-          input = record { reads = counts (I.faults input.old) (I.faults input.new); from = I.left input.old; to = I.left input.new };
-          outside = record { told = S.told source.old; renders = counts (S.faults source.old) (S.faults source.new); disk = counts (D.faults disk.old) (D.faults disk.new); writes = counts (O.faults output.old) (O.faults output.new); from = O.taken output.old; to = O.taken output.new };
-        })
-        (record { told = D.told disk.old; faults = counts (D.faults disk.old) (D.faults disk.new); from = D.state disk.old; to = D.state disk.new })
-        clock (word_of words.now) result }
-    ensures lasts { HasLastedBy
-        (record {
-          catalogue = record { reads = counts (I.faults catalogue.old) (I.faults catalogue.new); from = I.left catalogue.old; to = I.left catalogue.new };
-          capabilities = record { reads = counts (I.faults capabilities.old) (I.faults capabilities.new); from = I.left capabilities.old; to = I.left capabilities.new };
-          input = record { reads = counts (I.faults input.old) (I.faults input.new); from = I.left input.old; to = I.left input.new };
-          outside = record { told = S.told source.old; renders = counts (S.faults source.old) (S.faults source.new); disk = counts (D.faults disk.old) (D.faults disk.new); writes = counts (O.faults output.old) (O.faults output.new); from = O.taken output.old; to = O.taken output.new };
-        })
-        (record { told = D.told disk.old; faults = counts (D.faults disk.old) (D.faults disk.new); from = D.state disk.old; to = D.state disk.new })
-        (disk.new ≡ disk.old) (word_of words.now) }
+          change = record {
+            catalogue = record { reads = counts (I.faults catalogue.old) (I.faults catalogue.new); from = I.left catalogue.old; to = I.left catalogue.new };
+            capabilities = record { reads = counts (I.faults capabilities.old) (I.faults capabilities.new); from = I.left capabilities.old; to = I.left capabilities.new };
+            input = record { reads = counts (I.faults input.old) (I.faults input.new); from = I.left input.old; to = I.left input.new };
+            outside = record { told = S.told source.old; renders = counts (S.faults source.old) (S.faults source.new); disk = counts (D.faults disk.old) (D.faults disk.new); writes = counts (O.faults output.old) (O.faults output.new); from = O.taken output.old; to = O.taken output.new };
+          };
+          stays = record { catalogue = (catalogue.new ≡ catalogue.old); capabilities = (capabilities.new ≡ capabilities.old); input = (input.new ≡ input.old); output = (output.new ≡ output.old); source = (source.new ≡ source.old) };
+          disk = record { told = D.told disk.old; faults = counts (D.faults disk.old) (D.faults disk.new); from = D.state disk.old; to = D.state disk.new };
+          disk_stays = (disk.new ≡ disk.old);
+          clock = clock;
+          word = word_of words.now;
+          status = result;
+        }) }
 {
     match word_of(words) {
         Some(Word::InMemory(word)) => in_memory(

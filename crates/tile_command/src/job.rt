@@ -7,9 +7,9 @@ ghost use Rattle.tile_command.specs.Job.{JobTells};
 ghost use Rattle.tile_command.specs.Kept.{HasLasted};
 ghost use Rattle.sessions.specs.Outside.{InputChange, Outside, counts};
 
-use crate::ends::{status_of_kept, status_of_refusal};
 use clock::clock::Clock;
 use command_setup::configured::configured;
+use command_setup::refusals::status_of_refusal;
 use command_status::status::Status;
 use disk_model::disk::Disk;
 use http_wire::streams::{ByteSink, ByteSource};
@@ -42,7 +42,7 @@ pub fn job_run<S: Source, D: Disk, I: ByteSource, O: ByteSink>(
         (disk.new ≡ disk.old) }
 {
     match configured(alloc, catalogue) {
-        Ok(read) => status_of_kept(run_job(alloc, read, input, clock, disk, source, output)),
+        Ok(read) => run_job(alloc, read, input, clock, disk, source, output),
         Err(refusal) => status_of_refusal(refusal),
     }
 }

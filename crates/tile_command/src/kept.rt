@@ -10,16 +10,15 @@ ghost use Rattle.tile_command.specs.Change.{CommandChange, Stays};
 ghost use Rattle.tile_command.specs.Kept.{HasLasted, HasRun, RunTells};
 ghost use Rattle.sessions.specs.Outside.{InputChange, Outside, counts};
 
-use crate::ends::{status_of_kept, status_of_refusal};
 use catalog::catalogue::Catalogue;
 use clock::clock::Clock;
 use command_setup::prepared::both_read;
+use command_setup::refusals::status_of_refusal;
 use command_status::status::Status;
 use command_words::words::KeptWord;
 use disk_model::disk::Disk;
 use exact_ratio::words::Words;
 use http_wire::streams::{ByteSink, ByteSource};
-use kept_cache::end::KeptEnd;
 use kept_words::replay::replay;
 use kept_words::schedule::schedule;
 use source_render::source::Source;
@@ -36,7 +35,7 @@ fn run<S: Source, D: Disk, I: ByteSource, O: ByteSink>(
     source: &mut S,
     disk: &mut D,
     clock: Clock,
-) -> KeptEnd
+) -> Status
     requires valid { IsValid catalogue }
     requires ours { IsTrue (D.told disk.old) → IsOurs catalogue (D.state disk.old).seen }
     ensures runs { HasRun (PassesDisk D D.state (D.told disk.old) (D.state disk.old) (D.state disk.new))
@@ -87,9 +86,9 @@ pub fn on_disk<S: Source, D: Disk, I: ByteSource, O: ByteSink>(
         (disk.new ≡ disk.old) }
 {
     match both_read(alloc, catalogue, capabilities) {
-        Ok((read, document)) => status_of_kept(run(
+        Ok((read, document)) => run(
             alloc, word, read, document, input, output, source, disk, clock,
-        )),
+        ),
         Err(refusal) => status_of_refusal(refusal),
     }
 }

@@ -1,14 +1,13 @@
 //! The commands of `tile_server`: what its words ask for, done over streams, a source and a disk that are handed in.
 //!
-//! Promises: `run_command` does what its words say, and each of its statuses has its cause (`specs/Command.antt`); at every moment of
-//! every word but `make` a crash leaves all truncations that were in force, and after it those that were acknowledged too. It stands
-//! in a library, so that the program, the worked cases and tests call the same function.
-//! Stands on command_setup, command_status, command_words, tile_service, tile_drill, kept_words and job_words, on kept_cache, whose ends it
-//! tells, and on the crates whose types its calls name.
+//! Promises: `run_command` does what its words say, and each of its statuses has its cause (`Commands`, `specs/Command.antt`); at every
+//! moment of every word but `make` a crash leaves all truncations that were in force, and after it those that were acknowledged too. It
+//! stands in a library, so that the program, the worked cases and tests call the same function.
+//! Stands on command_setup, command_status, command_words, tile_service, tile_drill, kept_words and job_words, and on the crates whose types
+//! its calls name.
 #![tactic(auto)]
 
 pub mod command;
-mod ends;
 mod job;
 mod kept;
 mod memory;

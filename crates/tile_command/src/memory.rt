@@ -2,23 +2,35 @@
 ghost use Rattle.std.specs.Prelude.{◌≡◌, ⊤};
 ghost use Rattle.catalog.specs.Valid.{IsValid};
 ghost use Rattle.tile_command.specs.Change.{CommandChange, Stays};
-ghost use Rattle.tile_command.specs.Memory.{HasWorked, MemoryTells};
+ghost use Rattle.tile_command.specs.Memory.{HasWorked, MemoryTells, status_of_drill};
 ghost use Rattle.sessions.specs.Outside.{InputChange, Outside, counts};
 ghost use Rattle.tile_service.specs.Session.{IsAtRest};
 
-use crate::ends::{status_of_drill, status_of_refusal, status_of_schedule, status_of_session};
 use cabinet::cabinet::Cabinet;
 use clock::clock::Clock;
 use command_setup::prepared::prepared;
+use command_setup::refusals::status_of_refusal;
 use command_status::status::Status;
+use command_status::statuses::{status_of_schedule, status_of_session};
 use command_words::words::MemoryWord;
 use http_wire::streams::{ByteSink, ByteSource};
 use source_render::source::Source;
 use std::alloc::Global;
-use tile_drill::drill::run_drill;
+use tile_drill::drill::{DrillEnd, run_drill};
 use tile_service::counter::Counter;
 use tile_service::schedule::run_schedule;
 use tile_service::streams::replay_streams;
+
+/// The status of a drill's end.
+fn status_of_drill(end: DrillEnd) -> Status
+    ensures { result ≡ status_of_drill end }
+{
+    match end {
+        DrillEnd::Done => Status::Done,
+        DrillEnd::WriteFault => Status::WriteFault,
+        DrillEnd::OutOfMemory => Status::OutOfMemory,
+    }
+}
 
 /// Does the work of a word with a counter at which nothing has happened: runs the lines of the input, serves its bytes as those of
 /// one connection, or makes and runs the lines of a number. Each end comes as `HasWorked` says.

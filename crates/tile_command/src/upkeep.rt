@@ -7,15 +7,14 @@ ghost use Rattle.tile_command.specs.Change.{Stays};
 ghost use Rattle.tile_command.specs.Command.{IsFitForUpkeep, IsFitUnder};
 ghost use Rattle.tile_command.specs.Kept.{HasKeptUp, StepLasts, UpkeepLasts, UpkeepTells};
 
-use crate::ends::{status_of_kept, status_of_refusal};
 use catalog::catalogue::Catalogue;
 use clock::clock::Clock;
 use command_setup::configured::configured;
+use command_setup::refusals::status_of_refusal;
 use command_status::status::Status;
 use command_words::words::UpkeepWord;
 use disk_model::disk::Disk;
 use http_wire::streams::{ByteSink, ByteSource};
-use kept_cache::end::KeptEnd;
 use kept_words::expire::expire;
 use kept_words::making::make;
 use kept_words::truncate::truncate;
@@ -31,7 +30,7 @@ fn step<D: Disk, I: ByteSource, O: ByteSink>(
     output: &mut O,
     disk: &mut D,
     clock: Clock,
-) -> KeptEnd
+) -> Status
     requires valid { IsValid catalogue }
     requires fit { IsFitUnder catalogue word (D.told disk.old) (D.state disk.old).seen }
     ensures keeps { HasKeptUp
@@ -75,7 +74,7 @@ pub fn kept_up<D: Disk, I: ByteSource, O: ByteSink>(
         (disk.new ≡ disk.old) word }
 {
     match configured(alloc, catalogue) {
-        Ok(read) => status_of_kept(step(alloc, word, read, input, output, disk, clock)),
+        Ok(read) => step(alloc, word, read, input, output, disk, clock),
         Err(refusal) => status_of_refusal(refusal),
     }
 }

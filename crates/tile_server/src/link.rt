@@ -1,6 +1,5 @@
 //! The words of a link: a leader's posts go over a connection, or the changes that come over one are made on the cache.
-use crate::serve::server_ended;
-use crate::{CACHE, CATALOGUE, MARKS, OUTBOX};
+use crate::{CACHE, CATALOGUE, MARKS, OUTBOX, ended, unconnected};
 use clock::clock::Clock;
 use exact_ratio::words::Words;
 use http_wire::file_source::FileSource;
@@ -16,7 +15,6 @@ use std::io::Eprint;
 use std::net::{Net, TcpListener, TcpStream};
 use std::process::ExitCode;
 use std::rt::Files;
-use tile_serving::ends::ServerEnd;
 
 /// The connection that the words ask for: a leader waits for a follower's, and a follower makes one. Words that are none ask for none.
 fn link_for<R: Net<Listener = TcpListener, Stream = TcpStream>>(
@@ -56,20 +54,12 @@ fn link_ended(rt: &impl Eprint, end: LinkingEnd) -> ExitCode {
     ExitCode::from(code)
 }
 
-/// The end where no connection is had.
-fn end_of_connection(error: &io::Error) -> ServerEnd {
-    if error.kind() == io::ErrorKind::OutOfMemory {
-        return ServerEnd::OutOfMemory;
-    }
-    ServerEnd::ListenFault
-}
-
 /// Does what the words of a link say. The connection is made first, so that a leader that waits for a follower has no file open.
 pub fn link(rt: HostRuntime, words: &[Words]) -> ExitCode {
     let word = link_word(words);
     let mut link = match link_for(&rt, word) {
         Ok(link) => link,
-        Err(error) => return server_ended(&rt, end_of_connection(&error)),
+        Err(error) => return ended(&rt, unconnected(&error)),
     };
     let mut catalogue = Input::File(FileSource::open(&rt, CATALOGUE));
     let mut disk = followers_file(&rt, word, CACHE);

@@ -1,13 +1,14 @@
-//! The program `tile_server`, a cache of map tiles: it hands the words, files and streams of the process to `run_command`
-//! of tile_command, and tells how that ended; at `serve` it hands them to `run_server` of tile_serving, with a listening socket, at
-//! `feed` to `run_feed` of feed_words, at `compose` to `run_compose` of compose_words, at `twin` to `run_twin` of twin_words, and at `lead`
-//! and `follow` to `run_link` of link_words, with a connection.
+//! The program `tile_server`, a cache of map tiles: it hands the words, files and streams of the process to the top call that the words are
+//! for (`top_call` of command_words), and tells how that ended. `command` hands them to `run_command` of tile_command, `serve` to `run_server`
+//! of tile_serving, with a listening socket, `feed` to `run_feed` of feed_words, `compose` to `run_compose` of compose_words, `twin` to
+//! `run_twin` of twin_words, and `link` to `run_link` of link_words, with a connection.
 //!
 //! Promises: none that a clause says; this is the trusted edge. What the command does is promised there.
 //! Stands on tile_command, tile_serving, feed_words, compose_words, twin_words and link_words, and on the crates whose files, streams and
 //! sockets it opens.
 #![tactic(auto)]
 
+mod command;
 mod compose;
 mod feed;
 mod link;
@@ -17,22 +18,18 @@ mod twin;
 use clock::clock::Clock;
 use command_setup::configured::{CATALOGUE_LIMIT, source_number};
 use command_status::status::Status;
-use command_words::words::{UpkeepWord, Word, word_of};
+use command_words::top_calls::{TopCall, top_call};
 use exact_ratio::words::Words;
 use http_wire::file_source::FileSource;
 use http_wire::inputs::{InputEnd, read_all};
 use http_wire::memory_source::MemorySource;
-use http_wire::std_streams::{StdinSource, StdoutSink};
-use program_files::cache_disk::CacheDisk;
 use program_files::input::Input;
-use source_render::any::AnySource;
 use std::alloc::AllocError;
 use std::fs::File;
 use std::io::{Eprint, Print};
 use std::process::ExitCode;
 use std::rt::{Env, Files};
 use std::{env, io};
-use tile_command::command::run_command;
 
 const HELP: &str = "tile_server: a cache of map tiles (the tile part of OGC WMTS 1.0.0)
 
@@ -139,15 +136,6 @@ fn words_of(rt: &(impl Env + AllocGlobal)) -> io::Result<Vec<Words>> {
     Ok(words)
 }
 
-/// The cache's file, opened for the words that work on it, and made by those that make it.
-fn cache_for(rt: &impl Files<File = File>, words: &[Words]) -> CacheDisk {
-    match word_of(words) {
-        Some(Word::Kept(_)) | Some(Word::Job) => CacheDisk::open(rt, CACHE, false),
-        Some(Word::Upkeep(word)) => CacheDisk::open(rt, CACHE, word == UpkeepWord::Make),
-        Some(Word::InMemory(_)) | None => CacheDisk::Absent(0),
-    }
-}
-
 fn main(rt: HostRuntime) -> ExitCode {
     let words = match words_of(&rt) {
         Ok(words) => words,
@@ -156,57 +144,24 @@ fn main(rt: HostRuntime) -> ExitCode {
         }
         Err(_) => return ended(&rt, Status::Usage),
     };
-    if let [word] = words.as_slice() {
-        if word.bytes() == b"--help".as_slice() {
-            return printed(&rt, HELP);
-        }
-        if word.bytes() == b"--version".as_slice() {
-            return printed(&rt, VERSION);
-        }
+    match top_call(words.as_slice()) {
+        TopCall::Help => printed(&rt, HELP),
+        TopCall::Version => printed(&rt, VERSION),
+        TopCall::Command => command::command(rt, words.as_slice()),
+        TopCall::Serve => serve::serve(&rt, words.as_slice(), Clock::system(rt)),
+        TopCall::Feed => feed::feed(rt, words.as_slice()),
+        TopCall::Compose => compose::compose(rt, words.as_slice()),
+        TopCall::Twin => twin::twin(rt, words.as_slice()),
+        TopCall::Link => link::link(rt, words.as_slice()),
     }
-    if let [word, rest @ ..] = words.as_slice() {
-        if word.bytes() == b"serve".as_slice() {
-            return serve::serve(&rt, rest, Clock::system(rt));
-        }
-        if word.bytes() == b"feed".as_slice() {
-            return feed::feed(rt, words.as_slice());
-        }
-        if word.bytes() == b"compose".as_slice() {
-            return compose::compose(rt, words.as_slice());
-        }
-        if word.bytes() == b"twin".as_slice() {
-            return twin::twin(rt, words.as_slice());
-        }
-        if word.bytes() == b"lead".as_slice() || word.bytes() == b"follow".as_slice() {
-            return link::link(rt, words.as_slice());
-        }
+}
+
+/// The status of words for which no connection is had, by the system's error.
+fn unconnected(error: &io::Error) -> Status {
+    if error.kind() == io::ErrorKind::OutOfMemory {
+        return Status::OutOfMemory;
     }
-    let Ok(
-        Catalogue {
-            input: mut catalogue,
-            source,
-        },
-    ) = catalogue_of(&rt)
-    else {
-        return ended(&rt, Status::OutOfMemory);
-    };
-    let mut capabilities = Input::File(FileSource::open(&rt, CAPABILITIES));
-    let mut input = Input::Stdin(StdinSource::new(rt.stdin()));
-    let mut output = StdoutSink::new(rt.stdout());
-    let mut source = AnySource::of_a_run(rt, CELLS, source);
-    let mut disk = cache_for(&rt, words.as_slice());
-    let status = run_command(
-        rt.alloc(),
-        words.as_slice(),
-        &mut catalogue,
-        &mut capabilities,
-        &mut input,
-        &mut output,
-        &mut source,
-        &mut disk,
-        Clock::system(rt),
-    );
-    ended(&rt, status)
+    Status::ListenFault
 }
 
 /// Tells a status on standard error, `Done` apart, and gives its code. A standard error that takes nothing changes nothing.

@@ -1,7 +1,7 @@
 //! The word `serve`: a server on a port.
 ghost use Rattle.std.specs.Prelude.{IfOk, length, ◌≡◌, ◌≤◌};
 
-use crate::{CACHE, CAPABILITIES, CELLS, Catalogue, catalogue_of, ended};
+use crate::{CACHE, CAPABILITIES, CELLS, Catalogue, catalogue_of, ended, unconnected};
 use clock::clock::Clock;
 use command_status::status::Status;
 use command_words::serve_words::{ServeFault, ServeWords, serve_words};
@@ -13,7 +13,6 @@ use program_files::input::Input;
 use source_render::any::AnySource;
 use std::alloc::AllocError;
 use std::fs::File;
-use std::io;
 use std::io::Eprint;
 use std::net::Net;
 use std::process::ExitCode;
@@ -22,7 +21,6 @@ use std::snapshot::Snapshot;
 use std::sync::Wait;
 use std::thread::Threads;
 use tcp_lanes::accept::TcpAccept;
-use tile_serving::ends::ServerEnd;
 use tile_serving::server::run_server;
 
 /// The sources that a server takes.
@@ -39,17 +37,9 @@ fn sources_of<R: Files<File = File> + AllocGlobal + Copy + Drop>(
     Ok(sources)
 }
 
-/// The end of a server whose port isn't had.
-fn end_of_port(error: &io::Error) -> ServerEnd {
-    if error.kind() == io::ErrorKind::OutOfMemory {
-        return ServerEnd::OutOfMemory;
-    }
-    ServerEnd::ListenFault
-}
-
 /// Serves so many connections at a port. The sources are sent to threads and open their files there, so all that the runtime opens may go
 /// there, folders among it.
-fn served<R>(rt: &R, words: ServeWords, clock: Clock) -> ServerEnd
+fn served<R>(rt: &R, words: ServeWords, clock: Clock) -> Status
 where
     R: Threads
         + Wait
@@ -71,15 +61,15 @@ where
         },
     ) = catalogue_of(rt)
     else {
-        return ServerEnd::OutOfMemory;
+        return Status::OutOfMemory;
     };
     let Ok(sources) = sources_of(*rt, source) else {
-        return ServerEnd::OutOfMemory;
+        return Status::OutOfMemory;
     };
     let mut capabilities = Input::File(FileSource::open(rt, CAPABILITIES));
     let mut listener = match TcpAccept::bind(*rt, rt.alloc(), words.port) {
         Ok(listener) => listener,
-        Err(error) => return end_of_port(&error),
+        Err(error) => return unconnected(&error),
     };
     run_server(
         rt,
@@ -95,15 +85,7 @@ where
     )
 }
 
-/// Tells the end of a server on standard error, `Done` apart, and gives its code. A standard error that takes nothing changes nothing.
-pub(crate) fn server_ended(rt: &impl Eprint, end: ServerEnd) -> ExitCode {
-    if end != ServerEnd::Done {
-        let _ = eprintln!(rt; "{end}");
-    }
-    ExitCode::from(end.code())
-}
-
-/// Does what the words after `serve` say.
+/// Does what the words of a server say: `serve`, and those after it.
 pub fn serve<R>(rt: &R, words: &[Words], clock: Clock) -> ExitCode
 where
     R: Threads
@@ -119,9 +101,14 @@ where
         + Sync,
     R::Dir: Send + Sync,
 {
-    match serve_words(rt.alloc(), words) {
-        Ok(words) => server_ended(rt, served(rt, words, clock)),
-        Err(ServeFault::Usage) => ended(rt, Status::Usage),
-        Err(ServeFault::OutOfMemory) => ended(rt, Status::OutOfMemory),
-    }
+    let after = match words {
+        [_, after @ ..] => after,
+        [] => words,
+    };
+    let status = match serve_words(rt.alloc(), after) {
+        Ok(words) => served(rt, words, clock),
+        Err(ServeFault::Usage) => Status::Usage,
+        Err(ServeFault::OutOfMemory) => Status::OutOfMemory,
+    };
+    ended(rt, status)
 }

@@ -1,4 +1,4 @@
--- What each end of a server says.
+-- What each status of a server says.
 use Rattle.std.specs.Prelude.{ℕ, ◌≡◌, Bool, List, length}
 use Rattle.atomic_table.specs.Seated.{TableId}
 use Rattle.cabinet.specs.State.{State}
@@ -7,6 +7,8 @@ use Rattle.causes.specs.Causes.{Rose}
 use Rattle.clock.specs.Readings.{Readings}
 use Rattle.command_setup.specs.Setup.{AreRead, IsRefused}
 use Rattle.command_setup.specs.declared.configured.Unconfigured.TheVariants as unconfigured
+use Rattle.command_status.specs.declared.status.Status.TheVariants as status
+use Rattle.command_status.specs.declared.status.Status.{Status}
 use Rattle.gate_journal.specs.declared.fault.OpenFault.{OpenFault}
 use Rattle.gate_journal.specs.declared.fault.OpenFault.TheVariants as fault
 use Rattle.hall_service.specs.First.{first_pass}
@@ -14,8 +16,6 @@ use Rattle.hall_service.specs.Served.{HasServedOver, Listened}
 use Rattle.hall_service.specs.Stints.{LinkReading, Service}
 use Rattle.sessions.specs.Outside.{FaultCounts, InputChange}
 use Rattle.tile_serving.specs.Opened.{IsOpened, IsUnopened, ServerDisk}
-use Rattle.tile_serving.specs.declared.ends.ServerEnd.{ServerEnd}
-use Rattle.tile_serving.specs.declared.ends.ServerEnd.TheVariants as end
 
 -- WHAT A SERVER IS HANDED
 
@@ -59,7 +59,7 @@ pub record HasServed {L D : Type 0} (h : ServerChange L) (d : ServerDisk D) (c :
 abbrev pub HasServedAll : {L D : Type 0} → ServerChange L → ServerDisk D → Catalogue → List ℕ → Type 0
 HasServedAll h d c document = (s : HasServed h d c document) × (length s.over.links ≡ h.connections)
 
--- A cache is refused by neither a fault of the disk nor want of memory, which are ends of their own.
+-- A cache is refused by neither a fault of the disk nor want of memory, which have statuses of their own.
 abbrev pub IsCacheRefused : {L D : Type 0} → ServerChange L → ServerDisk D → OpenFault → Type 0
 IsCacheRefused h d fault.DiskFault = ⊥
 IsCacheRefused h d fault.OutOfMemory = ⊥
@@ -68,14 +68,20 @@ IsCacheRefused h d (fault.CatalogueDiffers found asked) = WithBoth h (λ c _. Is
 IsCacheRefused h d (fault.BadRecord slot) = WithBoth h (λ c _. IsUnopened d (fault.BadRecord slot) c)
 IsCacheRefused h d fault.Spent = WithBoth h (λ c _. IsUnopened d fault.Spent c)
 
--- What each end says. Every end but `Done` and `ListenFault` comes before the first link is asked for: the listener stays as it was.
-abbrev pub HasEnded : {L D : Type 0} → ServerChange L → ServerDisk D → Type 0 → Type 0 → ServerEnd → Type 0
-HasEnded h d CapabilitiesStay ListenerStays end.Done = WithBoth h (HasServedAll h d)
-HasEnded h d CapabilitiesStay ListenerStays end.ListenFault = WithBoth h (HasServed h d) × Rose h.accepts.before h.accepts.after
-HasEnded h d CapabilitiesStay ListenerStays (end.Catalogue f) = IsRefused h.catalogue h.capabilities CapabilitiesStay (unconfigured.Fault f) × ListenerStays
-HasEnded h d CapabilitiesStay ListenerStays end.ReadFault = IsRefused h.catalogue h.capabilities CapabilitiesStay unconfigured.ReadFault × ListenerStays
-HasEnded h d CapabilitiesStay ListenerStays end.TooLong = IsRefused h.catalogue h.capabilities CapabilitiesStay unconfigured.TooLong × ListenerStays
-HasEnded h d CapabilitiesStay ListenerStays (end.Cache f) = IsCacheRefused h d f × ListenerStays
-HasEnded h d CapabilitiesStay ListenerStays end.DiskFault = WithBoth h (λ c _. IsUnopened d fault.DiskFault c) × ListenerStays
-HasEnded h d CapabilitiesStay ListenerStays end.OutOfMemory = ListenerStays
-HasEnded h d CapabilitiesStay ListenerStays end.NoThreads = ListenerStays
+-- What each status says. Every one but `Done` and `ListenFault` comes before the first link is asked for: the listener stays as it was.
+abbrev pub HasEnded : {L D : Type 0} → ServerChange L → ServerDisk D → Type 0 → Type 0 → Status → Type 0
+HasEnded h d CapabilitiesStay ListenerStays status.Done = WithBoth h (HasServedAll h d)
+HasEnded h d CapabilitiesStay ListenerStays status.ListenFault = WithBoth h (HasServed h d) × Rose h.accepts.before h.accepts.after
+HasEnded h d CapabilitiesStay ListenerStays (status.Catalogue f) = IsRefused h.catalogue h.capabilities CapabilitiesStay (unconfigured.Fault f) × ListenerStays
+HasEnded h d CapabilitiesStay ListenerStays status.ReadFault = IsRefused h.catalogue h.capabilities CapabilitiesStay unconfigured.ReadFault × ListenerStays
+HasEnded h d CapabilitiesStay ListenerStays status.TooLong = IsRefused h.catalogue h.capabilities CapabilitiesStay unconfigured.TooLong × ListenerStays
+HasEnded h d CapabilitiesStay ListenerStays (status.Cache f) = IsCacheRefused h d f × ListenerStays
+HasEnded h d CapabilitiesStay ListenerStays status.DiskFault = WithBoth h (λ c _. IsUnopened d fault.DiskFault c) × ListenerStays
+HasEnded h d CapabilitiesStay ListenerStays status.OutOfMemory = ListenerStays
+HasEnded h d CapabilitiesStay ListenerStays status.ThreadFault = ListenerStays
+HasEnded h d CapabilitiesStay ListenerStays status.Usage = ⊥
+HasEnded h d CapabilitiesStay ListenerStays status.WriteFault = ⊥
+HasEnded h d CapabilitiesStay ListenerStays (status.Line n) = ⊥
+HasEnded h d CapabilitiesStay ListenerStays status.CutsFull = ⊥
+HasEnded h d CapabilitiesStay ListenerStays (status.Stream session) = ⊥
+HasEnded h d CapabilitiesStay ListenerStays (status.Form cause) = ⊥

@@ -8,13 +8,14 @@ use Rattle.catalog.specs.declared.catalogue.Catalogue.{Catalogue}
 use Rattle.clock.specs.Readings.{Readings}
 use Rattle.command_setup.specs.Setup.{AreRead, IsRefused}
 use Rattle.command_setup.specs.declared.configured.Unconfigured.{Unconfigured}
+use Rattle.command_status.specs.declared.status.Status.TheVariants as status
+use Rattle.command_status.specs.declared.status.Status.{Status}
+use Rattle.command_setup.specs.Refusals.{status_of_refusal}
+use Rattle.command_status.specs.Statuses.{status_of_opening}
 use Rattle.gate_journal.specs.declared.fault.OpenFault.{OpenFault}
 use Rattle.hall_service.specs.First.{first_pass}
 use Rattle.sessions.specs.Outside.{InputChange}
-use Rattle.tile_serving.specs.Ends.{end_of_opening, end_of_refusal}
 use Rattle.tile_serving.specs.Opened.{IsOpened, IsUnopened, ServerDisk}
-use Rattle.tile_serving.specs.declared.ends.ServerEnd.{ServerEnd}
-use Rattle.tile_serving.specs.declared.ends.ServerEnd.TheVariants as end
 
 -- each pass is a first one of this table, at the cabinet that the disk opens to
 pub record AreFirst {D : Type 0} (d : ServerDisk D) (c : Catalogue) (clock : Readings) (told : Bool) (table : TableId) (passes : List HallPass) : Type 0 where
@@ -27,12 +28,12 @@ pub record IsStaged {D : Type 0} (catalogue capabilities : InputChange) (d : Ser
   pub read : AreRead catalogue capabilities c document
   pub first : AreFirst d c clock told table passes
 
--- memory ran out, or the cache isn't opened and the end tells why
-abbrev pub Refuses : {D : Type 0} → ServerDisk D → Catalogue → ServerEnd → Type 0
-Refuses d c e = (e ≡ end.OutOfMemory) ⊎ ((f : OpenFault) × (e ≡ end_of_opening f) × IsUnopened d f c)
+-- memory ran out, or the cache isn't opened and the status tells why
+abbrev pub Refuses : {D : Type 0} → ServerDisk D → Catalogue → Status → Type 0
+Refuses d c e = (e ≡ status.OutOfMemory) ⊎ ((f : OpenFault) × (e ≡ status_of_opening f) × IsUnopened d f c)
 
--- a file was refused and the end tells why, or both were read and the rest was refused
-abbrev pub IsUnready : {D : Type 0} → InputChange → InputChange → ServerDisk D → Type 0 → ServerEnd → Type 0
+-- a file was refused and the status tells why, or both were read and the rest was refused
+abbrev pub IsUnready : {D : Type 0} → InputChange → InputChange → ServerDisk D → Type 0 → Status → Type 0
 IsUnready catalogue capabilities d CapabilitiesStay e =
-    ((r : Unconfigured) × (e ≡ end_of_refusal r) × IsRefused catalogue capabilities CapabilitiesStay r)
+    ((r : Unconfigured) × (e ≡ status_of_refusal r) × IsRefused catalogue capabilities CapabilitiesStay r)
     ⊎ ((c : Catalogue) × (document : List ℕ) × AreRead catalogue capabilities c document × Refuses d c e)

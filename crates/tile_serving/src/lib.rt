@@ -2,10 +2,10 @@
 //!
 //! Promises: `run_server` opens the cache of its disk under the catalogue that it read, and serves the links of its listener over it, as
 //! hall_service says; each other end has its cause (`specs/Served.antt`).
-//! Stands on hall_service, durable_cabinet and command_setup, on command_status for the lines that tell an end, and on the crates whose
-//! types its calls name.
+//! Stands on hall_service, durable_cabinet and command_setup, on command_status for how it ends, and on the crates whose types its calls
+//! name.
 #![tactic(auto)]
 
-pub mod ends;
+mod ends;
 pub mod server;
 mod setup;

@@ -5,9 +5,10 @@ ghost use Rattle.sessions.specs.Outside.{counts};
 ghost use Rattle.tile_serving.specs.Opened.{HoldsPictures, TellAll};
 ghost use Rattle.tile_serving.specs.Served.{HasEnded};
 
-use crate::ends::{ServerEnd, end_of_service};
+use crate::ends::status_of_service;
 use crate::setup::made_ready;
 use clock::clock::Clock;
+use command_status::status::Status;
 use disk_model::disk::Disk;
 use hall_service::service::serve_hall;
 use hall_service::stage::SOURCES;
@@ -27,7 +28,7 @@ use std::thread::Threads;
 ///
 /// A modelled disk has to hold a file of this program, by the catalogue that is read. Where its caller sets the mark `told`, the disk is
 /// modelled and keeps blobs of the catalogue's pictures alone, and the sources make these pictures; each tile that is served is then the
-/// encoded tile of its number. The mark has no bytes. Where not all threads can be made before the first link it ends with `NoThreads`; one
+/// encoded tile of its number. The mark has no bytes. Where not all threads can be made before the first link it ends with `ThreadFault`; one
 /// that can't be made after that may leave it waiting for ever.
 pub fn run_server<
     R: Threads + Wait + std::time::Clock + Sync,
@@ -46,7 +47,7 @@ pub fn run_server<
     disk: D,
     clock: Clock,
     told: Snapshot<bool>,
-) -> ServerEnd
+) -> Status
 where
     N::L: Send,
     requires sources { length sources.items ≡ SOURCES }
@@ -72,5 +73,5 @@ where
         Ok(stage) => stage,
         Err(end) => return end,
     };
-    end_of_service(serve_hall(rt, alloc, connections, stage, sources, listener))
+    status_of_service(serve_hall(rt, alloc, connections, stage, sources, listener))
 }

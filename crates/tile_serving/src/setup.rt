@@ -8,10 +8,12 @@ ghost use Rattle.sessions.specs.Outside.{InputChange, counts};
 ghost use Rattle.tile_serving.specs.Opened.{HoldsPictures, IsOpened};
 ghost use Rattle.tile_serving.specs.Setup.{AreFirst, IsStaged, IsUnready, Refuses};
 
-use crate::ends::{ServerEnd, end_of_opening, end_of_refusal};
 use catalog::catalogue::Catalogue;
 use clock::clock::Clock;
 use command_setup::prepared::both_read;
+use command_setup::refusals::status_of_refusal;
+use command_status::status::Status;
+use command_status::statuses::status_of_opening;
 use disk_model::disk::Disk;
 use durable_cabinet::durable::Cabinet;
 use exact_ratio::words::Words;
@@ -27,7 +29,7 @@ fn cabinet_of<D: Disk>(
     catalogue: Catalogue,
     clock: Clock,
     disk: D,
-) -> Result<Cabinet<D>, ServerEnd>
+) -> Result<Cabinet<D>, Status>
     requires valid { IsValid catalogue }
     requires ours { IsTrue (D.told disk) → IsOurs catalogue (D.state disk).seen }
     ensures opened { IfOk result (λ k. IsOpened (record { disk = disk; told = D.told disk; seen = (D.state disk).seen; faults = D.faults }) catalogue clock k.state) }
@@ -38,7 +40,7 @@ fn cabinet_of<D: Disk>(
         Err(refusal) => {
             let (fault, left) = refusal;
             drop(left);
-            Err(end_of_opening(fault))
+            Err(status_of_opening(fault))
         }
     }
 }
@@ -50,7 +52,7 @@ fn world_on<D: Disk>(
     capabilities: Words,
     clock: Clock,
     disk: D,
-) -> Result<Stage<Cabinet<D>>, ServerEnd>
+) -> Result<Stage<Cabinet<D>>, Status>
     ghost told: { Bool }
     requires valid { IsValid catalogue }
     requires ours { IsTrue (D.told disk) → IsOurs catalogue (D.state disk).seen }
@@ -64,7 +66,7 @@ fn world_on<D: Disk>(
 {
     let Ok(rest) = RestTable::new(alloc) else {
         drop(catalogue);
-        return Err(ServerEnd::OutOfMemory);
+        return Err(Status::OutOfMemory);
     };
     let cabinet = match cabinet_of(alloc, catalogue, clock, disk) {
         Ok(cabinet) => cabinet,
@@ -75,7 +77,7 @@ fn world_on<D: Disk>(
     };
     match stage_of(alloc, rest, capabilities, cabinet) {
         Ok(stage) => Ok(stage),
-        Err(_) => Err(ServerEnd::OutOfMemory),
+        Err(_) => Err(Status::OutOfMemory),
     }
 }
 
@@ -88,7 +90,7 @@ pub(crate) fn made_ready<D: Disk, I: ByteSource>(
     clock: Clock,
     disk: D,
     _mark: &Snapshot<bool>,
-) -> Result<Stage<Cabinet<D>>, ServerEnd>
+) -> Result<Stage<Cabinet<D>>, Status>
     ghost told: { Bool }
     requires holds { HoldsFile (I.left catalogue.old) (D.told disk) (D.state disk).seen }
     requires sound { told ≡ true → IsTrue (D.told disk) × HoldsPictures (I.left catalogue.old) (D.state disk).seen }
@@ -108,6 +110,6 @@ pub(crate) fn made_ready<D: Disk, I: ByteSource>(
 {
     match both_read(alloc, catalogue, capabilities) {
         Ok((read, document)) => world_on(alloc, read, document, clock, disk),
-        Err(refusal) => Err(end_of_refusal(refusal)),
+        Err(refusal) => Err(status_of_refusal(refusal)),
     }
 }

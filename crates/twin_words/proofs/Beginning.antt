@@ -1,8 +1,8 @@
 -- A twin that was opened, worked and was closed, from what its files held.
-use Rattle.std.specs.Prelude.{IsTrue, ⊤, ◌&&◌, true, false}
-use Rattle.std.proofs.Common.{◌≡◌, ◌⊎◌, ◌<◌, ◌≤◌, ◌+◌, ◌-◌, ◌^◌, ℕ, Bool, List, [], ◌∷◌, Option, Some, None, refl, sym, subst, ap, ◌∙◌, arith, inl, inr}
+use Rattle.std.specs.Prelude.{IsTrue, ◌&&◌, true, false}
+use Rattle.std.proofs.Common.{◌≡◌, ◌⊎◌, ◌≤◌, ◌+◌, ◌-◌, ◌^◌, ℕ, Bool, List, [], ◌∷◌, Option, refl, sym, subst, ap, ◌∙◌, arith, inl, inr}
 use Rattle.cabinet.specs.State.{IsKnown, IsSound, State, now}
-use Rattle.cabinet_records.specs.Replay.{Replayed, book_after, opening_number}
+use Rattle.cabinet_records.specs.Replay.{book_after, opening_number}
 use Rattle.catalog.specs.declared.catalogue.Catalogue.{Catalogue}
 use Rattle.catalog.specs.Valid.{IsValid}
 use Rattle.causes.specs.Causes.{Rose}
@@ -10,42 +10,38 @@ use Rattle.change_feed.specs.declared.mark.Mark.{Mark}
 use Rattle.change_feed.specs.Files.{EndsIn, MayEndIn, Stand}
 use Rattle.change_feed.specs.Runs.{IsEither}
 use Rattle.clock.specs.Readings.{Readings}
-use Rattle.cut_follower.specs.InStep.{IsInStep}
 use Rattle.cut_follower.specs.Lossy.{Event, Lossy, cabinet_opened, marks_opened, outbox_opened}
 use Rattle.disk_model.specs.Content.{Content, Same}
-use Rattle.disk_model.specs.Images.{After, ChangesBy, DiskState, IsLawful, Leaves}
+use Rattle.disk_model.specs.Images.{After, DiskState, IsLawful, Leaves}
 use Rattle.disk_model.specs.Moments.{leaves_as, leaves_then}
 use Rattle.durable_cabinet.proofs.Pictured.{opened_sound}
-use Rattle.durable_cabinet.specs.Images.{IsOurs, IsSoundImage}
+use Rattle.durable_cabinet.specs.Images.{IsOurs}
 use Rattle.durable_cabinet.specs.Outlasting.{AnswersAs}
 use Rattle.http_wire.proofs.TakesOn.{rose_before}
 use Rattle.http_wire.specs.declared.inputs.InputEnd.TheVariants as input_end
 use Rattle.http_wire.specs.declared.inputs.InputEnd.{InputEnd}
 use Rattle.kept_cache.proofs.Lasting.{opening_lasts, work_lasts}
-use Rattle.kept_cache.specs.declared.end.KeptEnd.{KeptEnd}
-use Rattle.kept_cache.specs.declared.end.KeptEnd.TheVariants as end
+use Rattle.command_status.specs.declared.status.Status.{Status}
 use Rattle.kept_cache.specs.Change.{DiskChange}
-use Rattle.sessions.specs.Outside.{InputChange, OutputChange, counts}
 use Rattle.gate_journal.specs.declared.fault.OpenFault.{OpenFault}
 use Rattle.kept_cache.specs.Crash.{Lasts}
-use Rattle.kept_cache.specs.Opened.{end_of_refusal}
+use Rattle.command_status.specs.Statuses.{status_of_input, status_of_opening}
 use Rattle.outbox.specs.Files.{MayOpenTo, OpensToPosts}
 use Rattle.outbox.specs.Posts.{MayBeFound, Outgoing}
+use Rattle.sessions.specs.Outside.{counts}
 use Rattle.truncation_list.specs.declared.cover.Cover.{Cover}
-use Rattle.truncation_list.proofs.Answering.{answers_through}
-use Rattle.twin_events.specs.Twins.{IsAt, Standing, standing}
+use Rattle.twin_events.specs.Twins.{IsAt, Standing}
 use Rattle.twin_lines.specs.declared.lines.Halt.{Halt}
 use Rattle.twin_lines.specs.declared.lines.Halt.TheVariants as halt
 use Rattle.twin_lines.specs.declared.order.Side.{Side}
 use Rattle.twin_lines.specs.declared.order.Side.TheVariants as side
-use Rattle.twin_lines.specs.Steps.{AreTrue, Follow, IsLater, MayEndAlong, MayOpenAlong, Moment, Step}
+use Rattle.twin_lines.specs.Steps.{Follow, MayEndAlong, MayOpenAlong, Moment, Step}
 use Rattle.twin_words.proofs.Composing.{goes_on_later}
-use Rattle.twin_words.proofs.Going.{later_then}
 use Rattle.twin_words.proofs.Kept.{AllInStep, TilesAbove, in_step_alone, opens_all, steps_kept}
 use Rattle.twin_words.specs.Ends.{EndsRefused, EndsRun, HasTwinned, IsText, RefusesAgain, Stays, TwinChange, Twins, all_told}
 use Rattle.twin_words.specs.Opens.{IsLeftFor, IsPairOn, LeavesTwin, OpensTwin}
 use Rattle.twin_words.specs.Promised.{KeepsPromise, without_packets}
-use Rattle.twin_words.specs.Works.{IsEndOf, IsUnread, RunsInput, RunsNone, StopsAt, Works, WorksTo, end_of_input}
+use Rattle.twin_words.specs.Works.{IsEndOf, IsUnread, RunsInput, RunsNone, StopsAt, Works, WorksTo}
 
 abbrev pub MarksEither : Type 0
 MarksEither = (digest : List ℕ) (s : Stand) (found : Option Mark) (image : Content) → MayEndIn digest s image → EndsIn digest found image → IsEither s found
@@ -190,7 +186,7 @@ module _ (all : AllInStep) (tiles : TilesAbove) (either : MarksEither) (found : 
   refused_again last side.Follower cause (inl r) = inl (record { seen = r.seen; was_left = r.was_left; refused = r.refused })
   refused_again last side.Follower cause (inr r) = inr (record { seen = r.seen; was_left = r.was_left; refused = r.refused })
 
-  ends_refused : (stays : Stays) (e : KeptEnd) (text : List ℕ) → IsText h.input text → (cause : OpenFault) → e ≡ end_of_refusal cause → StopsAt c h.source.told h.source.faults.after cache_then marks_then outbox_then settled h.output 1 text first cause → EndsRefused c clock h stays e
+  ends_refused : (stays : Stays) (e : Status) (text : List ℕ) → IsText h.input text → (cause : OpenFault) → e ≡ status_of_opening cause → StopsAt c h.source.told h.source.faults.after cache_then marks_then outbox_then settled h.output 1 text first cause → EndsRefused c clock h stays e
   ends_refused stays e text is_text cause is stops = (
     cause,
     is,
@@ -211,24 +207,24 @@ module _ (all : AllInStep) (tiles : TilesAbove) (either : MarksEither) (found : 
     }),
   )
 
-  ends_lines : (stays : Stays) (e : KeptEnd) (text : List ℕ) → IsText h.input text → (k : Halt) → IsEndOf k e → WorksTo c h.source.told h.source.faults.after cache_then marks_then outbox_then settled h.output 1 text first k → EndsRun c clock h stays e
+  ends_lines : (stays : Stays) (e : Status) (text : List ℕ) → IsText h.input text → (k : Halt) → IsEndOf k e → WorksTo c h.source.told h.source.faults.after cache_then marks_then outbox_then settled h.output 1 text first k → EndsRun c clock h stays e
   ends_lines stays e text is_text halt.Done is (steps, reached, last, lines, works, ends) = subst (EndsRun c clock h stays) (sym is) (steps, reached, last, twinned reached last lines steps works, (text, is_text, ends))
   ends_lines stays e text is_text (halt.Line k) is (steps, reached, last, lines, works, ends) = subst (EndsRun c clock h stays) (sym is) (steps, reached, last, twinned reached last lines steps works, (text, is_text, ends))
   ends_lines stays e text is_text halt.WriteFault is (steps, reached, last, lines, works, ends) = subst (EndsRun c clock h stays) (sym is) (steps, reached, last, twinned reached last lines steps works, (text, is_text, ends))
   ends_lines stays e text is_text halt.OutOfMemory is (steps, reached, last, lines, works, ends) = subst (EndsRun c clock h stays) (sym is) (inl (steps, reached, last, twinned reached last lines steps works, (text, is_text, ends)))
   ends_lines stays e text is_text (halt.Stop which k rest) is worked = absurd is
 
-  ends_unread : (stays : Stays) (why : InputEnd) → IsUnread h.input why → RunsNone c h.source.told h.source.faults.after cache_then marks_then outbox_then settled first stays.output stays.source → EndsRun c clock h stays (end_of_input why)
+  ends_unread : (stays : Stays) (why : InputEnd) → IsUnread h.input why → RunsNone c h.source.told h.source.faults.after cache_then marks_then outbox_then settled first stays.output stays.source → EndsRun c clock h stays (status_of_input why)
   ends_unread stays input_end.ReadFault unread none = ((first, twinned first first [] [] none.works), unread, none.quiet_output, none.quiet_source)
   ends_unread stays input_end.TooLong unread none = ((first, twinned first first [] [] none.works), unread, none.quiet_output, none.quiet_source)
   ends_unread stays input_end.OutOfMemory unread none = inr ((first, twinned first first [] [] none.works), none.quiet_output, none.quiet_source)
 
-  pub twins : (stays : Stays) (e : KeptEnd) → RunsInput c h.source.told h.source.faults.after cache_then marks_then outbox_then settled h.input h.output first stays.output stays.source e → Twins c clock h stays e
+  pub twins : (stays : Stays) (e : Status) → RunsInput c h.source.told h.source.faults.after cache_then marks_then outbox_then settled h.input h.output first stays.output stays.source e → Twins c clock h stays e
   twins stays e (inl (text, is_text, inl (cause, is, stops))) = inl (ends_refused stays e text is_text cause is stops)
   twins stays e (inl (text, is_text, inr (k, is, worked))) = inr (ends_lines stays e text is_text k is worked)
   twins stays e (inr r) = inr (subst (EndsRun c clock h stays) (sym r.1.1) (ends_unread stays r.1.0 r.1.2 r.0))
 
-  pub lasts : (InputStays OutputStays : Type 0) (e : KeptEnd) → RunsInput c h.source.told h.source.faults.after cache_then marks_then outbox_then settled h.input h.output first InputStays OutputStays e → IsTrue h.cache.told → Leaves h.cache.from h.cache.to (Lasts c h.cache.from)
+  pub lasts : (InputStays OutputStays : Type 0) (e : Status) → RunsInput c h.source.told h.source.faults.after cache_then marks_then outbox_then settled h.input h.output first InputStays OutputStays e → IsTrue h.cache.told → Leaves h.cache.from h.cache.to (Lasts c h.cache.from)
   lasts I O e (inl (text, is_text, inl (cause, is, stops))) told = lasts_whole stops.last stops.last stops.before stops.steps stops.works told
   lasts I O e (inl (text, is_text, inr (k, is, (steps, reached, last, lines, works, ends)))) told = lasts_whole reached last lines steps works told
   lasts I O e (inr r) told = lasts_whole first first [] [] r.0.works told

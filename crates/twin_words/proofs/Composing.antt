@@ -1,7 +1,7 @@
 -- What a crash leaves of a cache that is opened and closed several times within a word.
 use Rattle.std.specs.Prelude.{IsTrue}
 use Rattle.std.specs.Option.{option_map_or}
-use Rattle.std.proofs.Common.{ℕ, ◌≡◌, ◌<◌, ◌≤◌, ◌+◌, ◌⊎◌, Bool, Option, Some, inl, inr, refl, sym, ap, subst, arith, ◌∙◌}
+use Rattle.std.proofs.Common.{ℕ, ◌≡◌, ◌<◌, ◌≤◌, ◌+◌, ◌⊎◌, Bool, Option, Some, inl, inr, sym, ap, subst, arith, ◌∙◌}
 use Rattle.cabinet.specs.State.{IsKnown, State, now}
 use Rattle.cabinet_records.specs.Replay.{Replayed, book_after, opening_number}
 use Rattle.catalog.specs.declared.catalogue.Catalogue.{Catalogue}

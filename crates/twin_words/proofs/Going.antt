@@ -1,15 +1,14 @@
 -- Steps behind steps: how far a twin has come, a stretch of lines or a stop more, and the ends.
-use Rattle.std.specs.Prelude.{IsTrue, ⊤, ◌&&◌, ◌==◌, cond, true, false, min}
-use Rattle.std.proofs.Common.{◌≡◌, ◌⊎◌, ℕ, ◌+◌, ◌-◌, ◌^◌, ◌<◌, ◌≤◌, Bool, List, [], ◌∷◌, ◌++◌, length, map, Option, Some, None, refl, sym, subst, ap, ◌∙◌, arith, append_assoc, append-nil, inl, inr}
+use Rattle.std.specs.Prelude.{IsTrue, ◌&&◌, ◌==◌, cond, true, false, min}
+use Rattle.std.proofs.Common.{◌≡◌, ◌⊎◌, ℕ, ◌+◌, ◌-◌, ◌^◌, ◌≤◌, Bool, List, [], ◌∷◌, ◌++◌, length, map, Option, Some, refl, sym, subst, ap, ◌∙◌, arith, append_assoc, inl, inr}
 use Rattle.std.specs.Io.KnownBytes.{Appends}
-use Rattle.std.specs.List.{AllByRecursion}
-use Rattle.std.proofs.lemmas.List.{length-append, length-map, map-append}
+use Rattle.std.proofs.lemmas.List.{length-map, map-append}
 use Rattle.cabinet.specs.State.{IsSound, State, now}
 use Rattle.catalog.specs.declared.catalogue.Catalogue.{Catalogue}
 use Rattle.causes.specs.Causes.{Rose}
 use Rattle.change_feed.specs.Files.{MayEndIn, Stand}
 use Rattle.disk_model.specs.Content.{Content}
-use Rattle.disk_model.specs.Images.{DiskState, Leaves}
+use Rattle.disk_model.specs.Images.{DiskState}
 use Rattle.disk_model.specs.Moments.{leaves_as, leaves_none, leaves_then}
 use Rattle.http_wire.proofs.TakesOn.{rose_before}
 use Rattle.kept_cache.specs.Change.{DiskChange}

@@ -1,6 +1,6 @@
 -- Stretches behind stretches.
-use Rattle.std.specs.Prelude.{IsTrue, ⊤}
-use Rattle.std.proofs.Common.{◌≡◌, ◌⊎◌, ℕ, ◌+◌, ◌-◌, ◌^◌, ◌<◌, ◌≤◌, Bool, List, [], ◌∷◌, ◌++◌, length, Option, Some, None, refl, sym, subst, ap, ◌∙◌, arith, append_assoc, inl, inr}
+use Rattle.std.specs.Prelude.{⊤}
+use Rattle.std.proofs.Common.{◌≡◌, ℕ, ◌+◌, ◌-◌, ◌^◌, ◌<◌, ◌≤◌, Bool, List, [], ◌∷◌, ◌++◌, length, Option, refl, sym, subst, ap, ◌∙◌, arith, append_assoc, inl, inr}
 use Rattle.std.proofs.lemmas.List.{length-append}
 use Rattle.std.specs.Io.KnownBytes.{Appends}
 use Rattle.catalog.specs.declared.catalogue.Catalogue.{Catalogue}
@@ -9,26 +9,25 @@ use Rattle.disk_model.specs.Images.{DiskState, Leaves}
 use Rattle.disk_model.specs.Moments.{leaves_none}
 use Rattle.gate_journal.specs.declared.fault.OpenFault.{OpenFault}
 use Rattle.http_wire.proofs.TakesOn.{rose_before}
-use Rattle.kept_cache.specs.declared.end.KeptEnd.{KeptEnd}
-use Rattle.kept_cache.specs.Opened.{end_of_refusal}
+use Rattle.command_status.specs.declared.status.Status.{Status}
 use Rattle.tile_requests.specs.Sent.{AppendsFront}
-use Rattle.tile_requests.proofs.Known.{appends_more, appends_nothing}
+use Rattle.tile_requests.proofs.Known.{appends_nothing}
 use Rattle.tile_service.specs.Lines.{lines_of}
 use Rattle.sessions.specs.Outside.{InputChange, counts}
 use Rattle.twin_lines.specs.declared.lines.Halt.{Halt}
 use Rattle.twin_lines.specs.declared.lines.Halt.TheVariants as halt
 use Rattle.twin_lines.specs.declared.order.Side.{Side}
 use Rattle.twin_lines.specs.declared.order.Side.TheVariants as side
-use Rattle.twin_lines.specs.Ends.{AreOrdered, Ends, IsAmong, IsCutInLast, passage}
+use Rattle.twin_lines.specs.Ends.{AreOrdered, Ends, IsAmong, IsCutInLast}
 use Rattle.twin_lines.specs.Steps.{Moment, Step}
 use Rattle.twin_lines.specs.Texts.{answer_text, answers_from}
-use Rattle.twin_words.proofs.Going.{answers_then, no_part, ordered_length, ordered_then, part_then, text_in_weight, weight_counts, weight_of_text, weight_then, written_then}
+use Rattle.twin_words.proofs.Going.{no_part, ordered_length, ordered_then, part_then, weight_counts, weight_of_text, weight_then, written_then}
 use Rattle.twin_words.proofs.Stretching.{change, left_as}
 use Rattle.causes.specs.Causes.{Rose}
 use Rattle.http_wire.specs.declared.inputs.InputEnd.{InputEnd}
 use Rattle.http_wire.specs.declared.inputs.InputEnd.TheVariants as input_end
 use Rattle.twin_words.specs.Ends.{IsTooLong, RefusesAgain}
-use Rattle.twin_words.specs.Works.{IsEndOf, IsUnread, RunsOn, RunsText, StopsAt, Works, WorksTo, weight}
+use Rattle.twin_words.specs.Works.{IsEndOf, IsUnread, RunsOn, RunsText, Works, weight}
 
 -- nothing was run yet
 pub nothing_on : (c : Catalogue) (source : Option ℕ) (dt mt ot : Bool) (d m o : DiskState) (nd nm po : ℕ) (P : Type 0) (a : Option (List ℕ)) (wa : ℕ) (text : List ℕ) (s : Moment)
@@ -96,7 +95,7 @@ module _ (c : Catalogue) (source : Option ℕ) (dt mt ot : Bool) (d d1 d2 m m1 m
     failed = rose_before (2 ^ 64 - 1) wa wb we later cut.failed;
   }
 
-  joined_ends : (h : Halt) (kept : KeptEnd) → IsEndOf h kept → wa ≤ wb → (steps : List Step) (reached last : Moment) → Ends c line rest (record { writes = counts wb we; from = b; to = e }) steps reached last h
+  joined_ends : (h : Halt) (kept : Status) → IsEndOf h kept → wa ≤ wb → (steps : List Step) (reached last : Moment) → Ends c line rest (record { writes = counts wb we; from = b; to = e }) steps reached last h
       → Ends c 1 text (record { writes = counts wa we; from = a; to = e }) (f.steps ++ steps) reached last h
   joined_ends halt.Done kept is later steps reached last ends = (
     subst (λ (xs : List (List ℕ)). AreOrdered c xs (f.steps ++ steps)) (sym f.split) (ordered_then c f.before (lines_of rest) f.steps steps f.part.ordered ends.0),
@@ -132,7 +131,7 @@ module _ (c : Catalogue) (source : Option ℕ) (dt mt ot : Bool) (d d1 d2 m m1 m
   joined_ends (halt.Stop which n next) kept is later steps reached last ends = absurd is
 
   -- the last stretch
-  pub text_then : (kept : KeptEnd) → wa ≤ wb → RunsText c source failed (change dt nd1 nd2 d1 d2) (change mt nm1 nm2 m1 m2) (change ot po1 po2 o1 o2) Q (record { writes = counts wb we; from = b; to = e }) line rest t kept
+  pub text_then : (kept : Status) → wa ≤ wb → RunsText c source failed (change dt nd1 nd2 d1 d2) (change mt nm1 nm2 m1 m2) (change ot po1 po2 o1 o2) Q (record { writes = counts wb we; from = b; to = e }) line rest t kept
       → RunsText c source failed (change dt nd nd2 d d2) (change mt nm nm2 m m2) (change ot po po2 o o2) P (record { writes = counts wa we; from = a; to = e }) 1 text s kept
   text_then kept later (inl (cause, is, g)) = inl (
     cause,

@@ -1,5 +1,6 @@
 pub mod Beginning
 pub mod Composing
+pub mod Ending
 pub mod Going
 pub mod Joining
 pub mod Kept

@@ -1,5 +1,4 @@
 -- Files that are opened one after the other, of which one is refused.
-use Rattle.std.specs.Prelude.{IsTrue}
 use Rattle.std.proofs.Common.{◌≡◌, ℕ, ◌≤◌, Bool, refl, subst, inr}
 use Rattle.cabinet.specs.State.{State}
 use Rattle.catalog.specs.declared.catalogue.Catalogue.{Catalogue}

@@ -1,11 +1,10 @@
 -- A side that is closed and opened again, or refused.
-use Rattle.std.specs.Prelude.{IsTrue, ⊤, ◌&&◌, true, false}
-use Rattle.std.proofs.Common.{◌≡◌, ◌⊎◌, ℕ, ◌+◌, ◌<◌, ◌≤◌, Bool, List, [], ◌∷◌, Option, Some, None, refl, sym, subst, ap, ◌∙◌, arith, inl, inr}
+use Rattle.std.specs.Prelude.{IsTrue, ⊤, ◌&&◌}
+use Rattle.std.proofs.Common.{◌≡◌, ◌⊎◌, ℕ, ◌≤◌, Bool, List, Option, None, refl, sym, subst, ap, ◌∙◌, arith, inl, inr}
 use Rattle.cabinet.specs.State.{IsKnown, IsSound, State, now}
 use Rattle.catalog.specs.declared.catalogue.Catalogue.{Catalogue}
 use Rattle.catalog.specs.Valid.{IsValid}
-use Rattle.change_feed.specs.Files.{EndsIn, MayEndIn, Stand}
-use Rattle.change_feed.specs.Runs.{IsEither}
+use Rattle.change_feed.specs.Files.{MayEndIn, Stand}
 use Rattle.clock.specs.Readings.{Readings}
 use Rattle.disk_model.specs.Content.{Content, Same}
 use Rattle.disk_model.specs.Images.{After, ChangesBy, DiskState, Every, IsLawful, Leaves}
@@ -23,7 +22,7 @@ use Rattle.truncation_list.proofs.Answering.{answers_itself}
 use Rattle.sessions.specs.Outside.{counts}
 use Rattle.twin_events.specs.Twins.{Standing}
 use Rattle.twin_lines.specs.declared.order.Side.TheVariants as side
-use Rattle.twin_lines.specs.Steps.{Moment, faults, moment}
+use Rattle.twin_lines.specs.Steps.{faults, moment}
 use Rattle.twin_words.proofs.Beginning.{MarksEither, PostsFound, both_true}
 use Rattle.twin_words.proofs.Composing.{GoesOnLater, goes_on_later, left_for, left_opening, now_left}
 use Rattle.twin_words.proofs.Kept.{opens_follower, opens_leader}

@@ -1,8 +1,8 @@
 -- A stretch of lines, and the stop behind it.
-use Rattle.std.specs.Prelude.{IsTrue, ⊤, ◌&&◌, min}
-use Rattle.std.proofs.Common.{◌≡◌, ◌⊎◌, ℕ, ◌+◌, ◌-◌, ◌^◌, ◌<◌, ◌≤◌, Bool, List, [], ◌∷◌, ◌++◌, length, map, Option, Some, None, refl, sym, subst, ap, ◌∙◌, arith, append_assoc, append-nil, inl, inr}
+use Rattle.std.specs.Prelude.{IsTrue, ⊤, ◌&&◌}
+use Rattle.std.proofs.Common.{◌≡◌, ◌⊎◌, ℕ, ◌+◌, ◌≤◌, Bool, List, [], ◌∷◌, ◌++◌, length, Option, Some, refl, sym, subst, ap, ◌∙◌, arith, append_assoc, append-nil, inl, inr}
 use Rattle.std.specs.Io.KnownBytes.{Appends}
-use Rattle.cabinet.specs.State.{IsSound, State, now}
+use Rattle.cabinet.specs.State.{IsSound, now}
 use Rattle.cache_core.specs.Lasting.{Lasting}
 use Rattle.catalog.specs.declared.catalogue.Catalogue.{Catalogue}
 use Rattle.causes.specs.Causes.{Rose}
@@ -16,18 +16,17 @@ use Rattle.gate_journal.specs.declared.journal.Journal.{Journal}
 use Rattle.gate_journal.specs.Sound.{IsSettled}
 use Rattle.kept_cache.specs.Change.{DiskChange}
 use Rattle.sessions.specs.Outside.{OutputChange, counts}
-use Rattle.truncation_list.specs.Books.{AnswersForBook}
 use Rattle.twin_lines.specs.declared.lines.Halt.{Halt}
 use Rattle.twin_lines.specs.Ends.{AreOrdered, DiskPassage, Ends, HasRunLines, IsAmong, passage}
-use Rattle.twin_lines.specs.Steps.{AreTrue, IsLater, MayEndAlong, MayOpenAlong, Moment, Step, faults, moment, stopped}
+use Rattle.twin_lines.specs.Steps.{AreTrue, IsLater, Moment, Step, faults, moment, stopped}
 use Rattle.twin_events.specs.Twins.{IsAt, LeadsBy}
 use Rattle.cut_follower.specs.Lossy.{Event}
 use Rattle.change_feed.specs.Files as marks_files
 use Rattle.durable_cabinet.specs.Filed as cache_files
 use Rattle.gate_journal.specs.declared.fault.OpenFault.{OpenFault}
-use Rattle.kept_cache.specs.declared.end.KeptEnd.{KeptEnd}
-use Rattle.kept_cache.specs.declared.end.KeptEnd.TheVariants as end
-use Rattle.kept_cache.specs.Opened.{end_of_refusal}
+use Rattle.command_status.specs.declared.status.Status.{Status}
+use Rattle.command_status.specs.declared.status.Status.TheVariants as status
+use Rattle.command_status.specs.Statuses.{status_of_opening}
 use Rattle.outbox.specs.Files.{MayOpenTo}
 use Rattle.outbox.specs.Files as outbox_files
 use Rattle.std.proofs.lemmas.List.{length-append}
@@ -140,7 +139,7 @@ module _ (c : Catalogue) (source : Option ℕ) (dt mt ot : Bool) (d d1 d2 m m1 m
 
   -- the side was refused
   pub stop_refused : (cause : OpenFault) → StaysClosed c (change dt nd1 nd2 d1 d2) (change mt nm1 nm2 m1 m2) (change ot po1 po2 o1 o2) which t cause → nd1 ≤ nd2 → nm1 ≤ nm2 → po1 ≤ po2 → failed ≤ last_failed
-      → RunsText c source last_failed (change dt nd nd2 d d2) (change mt nm nm2 m m2) (change ot po po2 o o2) P (record { writes = counts wa wb; from = a; to = b }) n text s (end_of_refusal cause)
+      → RunsText c source last_failed (change dt nd nd2 d d2) (change mt nm nm2 m m2) (change ot po po2 o o2) P (record { writes = counts wa wb; from = a; to = b }) n text s (status_of_opening cause)
   stop_refused cause stays later marks_later posts_later source_later =
       let fo = ap (λ x. x.outbox) fs in
       let fm = ap (λ x. x.marks) fs in
@@ -188,7 +187,7 @@ module _ (c : Catalogue) (source : Option ℕ) (dt mt ot : Bool) (d d1 d2 m m1 m
     }
 
     pub stop_cut : AppendsFront b e (answer_text k (stopped which)) → Rose wa we → LeavesTwin c u.stands (change dt nd2 nd2 d2 d2) (change mt nm2 nm2 m2 m2) (change ot po2 po2 o2 o2) → u.faults ≡ record { source = last_failed; outbox = po2; marks = nm2; cabinet = nd2 }
-        → RunsText c source last_failed (change dt nd nd2 d d2) (change mt nm nm2 m m2) (change ot po po2 o o2) P (record { writes = counts wa we; from = a; to = e }) n text s end.WriteFault
+        → RunsText c source last_failed (change dt nd nd2 d d2) (change mt nm nm2 m m2) (change ot po po2 o o2) P (record { writes = counts wa we; from = a; to = e }) n text s status.WriteFault
     stop_cut front rose left fu =
         let fo = ap (λ x. x.outbox) fu in
         let fm = ap (λ x. x.marks) fu in
@@ -249,7 +248,7 @@ later_in c n text w steps s t halt.OutOfMemory ends = ends.5.later
 later_in c n text w steps s t (halt.Stop which k rest) ends = no_later s t ends.7
 
 -- the lines ended without a stop, and the twin was closed
-pub run_ended : (c : Catalogue) (source : Option ℕ) (dt dt_then mt ot : Bool) (j j' : Journal) (d d' m m' o o' : DiskState) (nd nd' nm nm' po po' failed failed' : ℕ) (w : OutputChange) (n : ℕ) (text : List ℕ) (s t : Standing) (h : Halt) (kept : KeptEnd) → IsEndOf h kept
+pub run_ended : (c : Catalogue) (source : Option ℕ) (dt dt_then mt ot : Bool) (j j' : Journal) (d d' m m' o o' : DiskState) (nd nd' nm nm' po po' failed failed' : ℕ) (w : OutputChange) (n : ℕ) (text : List ℕ) (s t : Standing) (h : Halt) (kept : Status) → IsEndOf h kept
     → HasRunLines c source c.digest (passage mt m m') (passage ot o o') w n text (moment s (faults failed po nm nd)) (moment t (faults failed' po' nm' nd')) h → Lasting (Outlasts dt dt_then nd nd' s.cabinet t.cabinet j j' d d') s.cabinet t.cabinet → s.cabinet.catalogue ≡ c
     → LeavesTwin c t (change dt nd' nd' d' d') (change mt nm' nm' m' m') (change ot po' po' o' o') → RunsText c source failed' (change dt nd nd' d d') (change mt nm nm' m m') (change ot po po' o o') (IsSettled j) w n text (moment s (faults failed po nm nd)) kept
 run_ended c source dt dt_then mt ot j j' d d' m m' o o' nd nd' nm nm' po po' failed failed' w n text s t h kept is run lasting same left =

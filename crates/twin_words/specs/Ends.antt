@@ -1,7 +1,6 @@
 -- What each end of a twin's words says.
-use Rattle.std.specs.Prelude.{ℕ, ◌≡◌, ◌⊎◌, ◌+◌, ◌≤◌, ◌&&◌, Bool, IsTrue, List, [], ◌∷◌, ◌++◌, length, Option, Some, None, Ok, Err, ⊤}
+use Rattle.std.specs.Prelude.{ℕ, ◌≡◌, ◌⊎◌, ◌+◌, ◌≤◌, ◌&&◌, Bool, IsTrue, List, [], length, Option, Some, None, Ok, Err, ⊤}
 use Rattle.std.specs.Io.KnownBytes.{Consumes, IsAtEnd}
-use Rattle.cabinet.specs.State.{IsSound}
 use Rattle.catalog.specs.declared.catalogue.Catalogue.{Catalogue}
 use Rattle.causes.specs.Causes.{Rose}
 use Rattle.change_feed.specs.Files.{EndsIn, IsMarksFile, MayEndIn}
@@ -14,14 +13,14 @@ use Rattle.cut_follower.specs.Lossy.{Lossy}
 use Rattle.disk_model.specs.Content.{Content}
 use Rattle.disk_model.specs.Images.{DiskState, Leaves}
 use Rattle.durable_cabinet.specs.Images.{IsOurs, IsSoundImage}
-use Rattle.feed_words.specs.Statuses.{status_of_end, status_of_refusal}
+use Rattle.command_setup.specs.Refusals.{status_of_refusal}
+use Rattle.command_status.specs.Statuses.{status_of_opening}
 use Rattle.gate_journal.specs.declared.fault.OpenFault.{OpenFault}
-use Rattle.kept_cache.specs.declared.end.KeptEnd.{KeptEnd}
-use Rattle.kept_cache.specs.declared.end.KeptEnd.TheVariants as end
+use Rattle.command_status.specs.declared.status.Status.TheVariants as status
 use Rattle.kept_cache.specs.Change.{DiskChange, HasFailed, HasWritten}
 use Rattle.sessions.specs.Outside.{FaultCounts, InputChange, OutputChange}
 use Rattle.kept_cache.specs.Crash.{LastsThrough}
-use Rattle.kept_cache.specs.Opened.{IsOpened, end_of_refusal}
+use Rattle.kept_cache.specs.Opened.{IsOpened}
 use Rattle.change_feed.specs.Files as marks_files
 use Rattle.durable_cabinet.specs.Filed as cache_files
 use Rattle.outbox.specs.Files as outbox_files
@@ -178,30 +177,34 @@ pub record IsUnopened (c : Catalogue) (clock : Readings) (h : TwinChange) (stays
 -- THE ENDS OF `twin`
 
 -- a refusal ended the word so
-abbrev pub EndsRefused : Catalogue → Readings → TwinChange → Stays → KeptEnd → Type 0
-EndsRefused c clock h stays e = (cause : OpenFault) × (e ≡ end_of_refusal cause) × (IsUnopened c clock h stays cause ⊎ HasRunToStop c clock h cause)
+abbrev pub EndsRefused : Catalogue → Readings → TwinChange → Stays → Status → Type 0
+EndsRefused c clock h stays e = (cause : OpenFault) × (e ≡ status_of_opening cause) × (IsUnopened c clock h stays cause ⊎ HasRunToStop c clock h cause)
 
 -- the input was not read, or the lines ended so
-abbrev pub EndsRun : Catalogue → Readings → TwinChange → Stays → KeptEnd → Type 0
-EndsRun c clock h stays end.Done = HasRun c clock h halt.Done
-EndsRun c clock h stays (end.Line n) = HasRun c clock h (halt.Line n)
-EndsRun c clock h stays end.WriteFault = HasRun c clock h halt.WriteFault
-EndsRun c clock h stays end.OutOfMemory = HasRun c clock h halt.OutOfMemory ⊎ (HasRunNone c clock h × stays.output × stays.source)
-EndsRun c clock h stays end.ReadFault = HasRunNone c clock h × Rose h.input.reads.before h.input.reads.after × stays.output × stays.source
-EndsRun c clock h stays end.TooLong = HasRunNone c clock h × IsTooLong h.input × stays.output × stays.source
-EndsRun c clock h stays (end.Refused cause) = ⊥
-EndsRun c clock h stays end.DiskFault = ⊥
-EndsRun c clock h stays (end.Form cause) = ⊥
-EndsRun c clock h stays end.CutsFull = ⊥
-EndsRun c clock h stays (end.Stream session) = ⊥
+abbrev pub EndsRun : Catalogue → Readings → TwinChange → Stays → Status → Type 0
+EndsRun c clock h stays status.Done = HasRun c clock h halt.Done
+EndsRun c clock h stays (status.Line n) = HasRun c clock h (halt.Line n)
+EndsRun c clock h stays status.WriteFault = HasRun c clock h halt.WriteFault
+EndsRun c clock h stays status.OutOfMemory = HasRun c clock h halt.OutOfMemory ⊎ (HasRunNone c clock h × stays.output × stays.source)
+EndsRun c clock h stays status.ReadFault = HasRunNone c clock h × Rose h.input.reads.before h.input.reads.after × stays.output × stays.source
+EndsRun c clock h stays status.TooLong = HasRunNone c clock h × IsTooLong h.input × stays.output × stays.source
+EndsRun c clock h stays (status.Cache cause) = ⊥
+EndsRun c clock h stays status.DiskFault = ⊥
+EndsRun c clock h stays (status.Form cause) = ⊥
+EndsRun c clock h stays status.CutsFull = ⊥
+EndsRun c clock h stays (status.Stream session) = ⊥
+EndsRun c clock h stays status.Usage = ⊥
+EndsRun c clock h stays (status.Catalogue fault) = ⊥
+EndsRun c clock h stays status.ListenFault = ⊥
+EndsRun c clock h stays status.ThreadFault = ⊥
 
-abbrev pub Twins : Catalogue → Readings → TwinChange → Stays → KeptEnd → Type 0
+abbrev pub Twins : Catalogue → Readings → TwinChange → Stays → Status → Type 0
 Twins c clock h stays e = EndsRefused c clock h stays e ⊎ EndsRun c clock h stays e
 
 -- THE WORDS
 
 -- a word under a catalogue ended so; `twin make` works on the three disks and on the output alone
-abbrev pub WordEnds : TwinChange → Stays → Readings → TwinWord → Catalogue → KeptEnd → Type 0
+abbrev pub WordEnds : TwinChange → Stays → Readings → TwinWord → Catalogue → Status → Type 0
 WordEnds h stays clock twin.Make c e = MakesTwin c h.cache h.marks h.outbox h.output stays.marks stays.outbox stays.output e × stays.input × stays.source
 WordEnds h stays clock twin.Run c e = Twins c clock h stays e
 
@@ -215,7 +218,7 @@ abbrev pub TwinTells : InputChange → TwinChange → Type 0 → Stays → Readi
 TwinTells catalogue h CatalogueStays stays clock None s = CatalogueStays × AllStay stays
 TwinTells catalogue h CatalogueStays stays clock (Some w) s =
     ((e : Unconfigured) × (s ≡ status_of_refusal e) × Configures catalogue (Err e) × AllStay stays)
-    ⊎ ((c : Catalogue) × IsRead catalogue (Ok c) × ((e : KeptEnd) × (s ≡ status_of_end e) × WordEnds h stays clock w c e))
+    ⊎ ((c : Catalogue) × IsRead catalogue (Ok c) × WordEnds h stays clock w c s)
 
 -- A CRASH
 

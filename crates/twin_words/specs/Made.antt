@@ -5,8 +5,8 @@ use Rattle.catalog.specs.declared.catalogue.Catalogue.{Catalogue}
 use Rattle.change_feed.specs.Files.{EndsIn}
 use Rattle.disk_model.specs.Images.{DiskState, Every}
 use Rattle.durable_cabinet.specs.Images.{IsOurs, OpensTo}
-use Rattle.kept_cache.specs.declared.end.KeptEnd.{KeptEnd}
-use Rattle.kept_cache.specs.declared.end.KeptEnd.TheVariants as end
+use Rattle.command_status.specs.declared.status.Status.{Status}
+use Rattle.command_status.specs.declared.status.Status.TheVariants as status
 use Rattle.kept_cache.specs.Change.{DiskChange, HasFailed, HasWritten, IsCutShort}
 use Rattle.sessions.specs.Outside.{OutputChange, counts}
 use Rattle.outbox.specs.Files.{OpensToPosts}
@@ -41,15 +41,19 @@ abbrev pub MakingFails : Catalogue → DiskChange → DiskChange → DiskChange 
 MakingFails c d m o MarksStay OutboxStays =
     (HasFailed d × MarksStay × OutboxStays) ⊎ (CacheIsMade c d × HasFailed m × OutboxStays) ⊎ (CacheIsMade c d × MarksAreMade c m × HasFailed o)
 
-abbrev pub MakesTwin : Catalogue → DiskChange → DiskChange → DiskChange → OutputChange → Type 0 → Type 0 → Type 0 → KeptEnd → Type 0
-MakesTwin c d m o w MarksStay OutboxStays OutputStays end.Done = AreMade c d m o × HasWritten w made_text
-MakesTwin c d m o w MarksStay OutboxStays OutputStays end.WriteFault = AreMade c d m o × IsCutShort w made_text
-MakesTwin c d m o w MarksStay OutboxStays OutputStays end.DiskFault = MakingFails c d m o MarksStay OutboxStays × OutputStays
-MakesTwin c d m o w MarksStay OutboxStays OutputStays end.ReadFault = ⊥
-MakesTwin c d m o w MarksStay OutboxStays OutputStays end.TooLong = ⊥
-MakesTwin c d m o w MarksStay OutboxStays OutputStays (end.Form cause) = ⊥
-MakesTwin c d m o w MarksStay OutboxStays OutputStays (end.Refused cause) = ⊥
-MakesTwin c d m o w MarksStay OutboxStays OutputStays end.CutsFull = ⊥
-MakesTwin c d m o w MarksStay OutboxStays OutputStays (end.Line n) = ⊥
-MakesTwin c d m o w MarksStay OutboxStays OutputStays (end.Stream session) = ⊥
-MakesTwin c d m o w MarksStay OutboxStays OutputStays end.OutOfMemory = ⊥
+abbrev pub MakesTwin : Catalogue → DiskChange → DiskChange → DiskChange → OutputChange → Type 0 → Type 0 → Type 0 → Status → Type 0
+MakesTwin c d m o w MarksStay OutboxStays OutputStays status.Done = AreMade c d m o × HasWritten w made_text
+MakesTwin c d m o w MarksStay OutboxStays OutputStays status.WriteFault = AreMade c d m o × IsCutShort w made_text
+MakesTwin c d m o w MarksStay OutboxStays OutputStays status.DiskFault = MakingFails c d m o MarksStay OutboxStays × OutputStays
+MakesTwin c d m o w MarksStay OutboxStays OutputStays status.ReadFault = ⊥
+MakesTwin c d m o w MarksStay OutboxStays OutputStays status.TooLong = ⊥
+MakesTwin c d m o w MarksStay OutboxStays OutputStays (status.Form cause) = ⊥
+MakesTwin c d m o w MarksStay OutboxStays OutputStays (status.Cache cause) = ⊥
+MakesTwin c d m o w MarksStay OutboxStays OutputStays status.CutsFull = ⊥
+MakesTwin c d m o w MarksStay OutboxStays OutputStays (status.Line n) = ⊥
+MakesTwin c d m o w MarksStay OutboxStays OutputStays (status.Stream session) = ⊥
+MakesTwin c d m o w MarksStay OutboxStays OutputStays status.OutOfMemory = ⊥
+MakesTwin c d m o w MarksStay OutboxStays OutputStays status.Usage = ⊥
+MakesTwin c d m o w MarksStay OutboxStays OutputStays (status.Catalogue fault) = ⊥
+MakesTwin c d m o w MarksStay OutboxStays OutputStays status.ListenFault = ⊥
+MakesTwin c d m o w MarksStay OutboxStays OutputStays status.ThreadFault = ⊥

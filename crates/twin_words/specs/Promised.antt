@@ -1,5 +1,5 @@
 -- What a twin promises of the lossy link that its files stand for.
-use Rattle.std.specs.Prelude.{ℕ, ◌≡◌, ◌<◌, ◌&&◌, Bool, IsTrue, List, [], ◌∷◌, slice_get, Some, ⊤}
+use Rattle.std.specs.Prelude.{ℕ, ◌≡◌, ◌<◌, IsTrue, List, [], ◌∷◌, slice_get, Some, ⊤}
 use Rattle.cabinet.specs.Hits.{covers_in}
 use Rattle.catalog.specs.declared.catalogue.Catalogue.{Catalogue}
 use Rattle.cut_follower.specs.InStep.{IsInStep}

@@ -10,11 +10,11 @@ use Rattle.disk_model.specs.Images.{Leaves}
 use Rattle.gate_journal.specs.declared.fault.OpenFault.{OpenFault}
 use Rattle.http_wire.specs.declared.inputs.InputEnd.{InputEnd}
 use Rattle.http_wire.specs.declared.inputs.InputEnd.TheVariants as input_end
-use Rattle.kept_cache.specs.declared.end.KeptEnd.{KeptEnd}
-use Rattle.kept_cache.specs.declared.end.KeptEnd.TheVariants as end
+use Rattle.command_status.specs.declared.status.Status.{Status}
+use Rattle.command_status.specs.declared.status.Status.TheVariants as status
 use Rattle.kept_cache.specs.Change.{DiskChange, HasWritten}
 use Rattle.sessions.specs.Outside.{InputChange, OutputChange}
-use Rattle.kept_cache.specs.Opened.{end_of_refusal}
+use Rattle.command_status.specs.Statuses.{status_of_input, status_of_opening}
 use Rattle.tile_service.specs.Lines.{lines_of}
 use Rattle.twin_events.specs.Twins.{LeadsBy}
 use Rattle.twin_lines.specs.declared.lines.Halt.{Halt}
@@ -74,22 +74,22 @@ pub record StopsAt (c : Catalogue) (source : Option ℕ) (faults : ℕ) (d m o :
   pub written : HasWritten w (answers_from n steps)
   pub refused : RefusesAgain c d m o last which cause
 
-abbrev pub RunsRefused : Catalogue → Option ℕ → ℕ → DiskChange → DiskChange → DiskChange → Type 0 → OutputChange → ℕ → List ℕ → Moment → KeptEnd → Type 0
-RunsRefused c source faults d m o settled w n text s e = (cause : OpenFault) × (e ≡ end_of_refusal cause) × StopsAt c source faults d m o settled w n text s cause
+abbrev pub RunsRefused : Catalogue → Option ℕ → ℕ → DiskChange → DiskChange → DiskChange → Type 0 → OutputChange → ℕ → List ℕ → Moment → Status → Type 0
+RunsRefused c source faults d m o settled w n text s e = (cause : OpenFault) × (e ≡ status_of_opening cause) × StopsAt c source faults d m o settled w n text s cause
 
 -- the end of lines that ended so; a stop ends none
-abbrev pub IsEndOf : Halt → KeptEnd → Type 0
-IsEndOf halt.Done e = e ≡ end.Done
-IsEndOf (halt.Line k) e = e ≡ end.Line k
-IsEndOf halt.WriteFault e = e ≡ end.WriteFault
-IsEndOf halt.OutOfMemory e = e ≡ end.OutOfMemory
+abbrev pub IsEndOf : Halt → Status → Type 0
+IsEndOf halt.Done e = e ≡ status.Done
+IsEndOf (halt.Line k) e = e ≡ status.Line k
+IsEndOf halt.WriteFault e = e ≡ status.WriteFault
+IsEndOf halt.OutOfMemory e = e ≡ status.OutOfMemory
 IsEndOf (halt.Stop which k rest) e = ⊥
 
-abbrev pub RunsLines : Catalogue → Option ℕ → ℕ → DiskChange → DiskChange → DiskChange → Type 0 → OutputChange → ℕ → List ℕ → Moment → KeptEnd → Type 0
+abbrev pub RunsLines : Catalogue → Option ℕ → ℕ → DiskChange → DiskChange → DiskChange → Type 0 → OutputChange → ℕ → List ℕ → Moment → Status → Type 0
 RunsLines c source faults d m o settled w n text s e = (h : Halt) × IsEndOf h e × WorksTo c source faults d m o settled w n text s h
 
 -- a text was run, and ended so
-abbrev pub RunsText : Catalogue → Option ℕ → ℕ → DiskChange → DiskChange → DiskChange → Type 0 → OutputChange → ℕ → List ℕ → Moment → KeptEnd → Type 0
+abbrev pub RunsText : Catalogue → Option ℕ → ℕ → DiskChange → DiskChange → DiskChange → Type 0 → OutputChange → ℕ → List ℕ → Moment → Status → Type 0
 RunsText c source faults d m o settled w n text s e = RunsRefused c source faults d m o settled w n text s e ⊎ RunsLines c source faults d m o settled w n text s e
 
 -- the lines of a text, of which the first has the number n, were run to a stop, and that too: what is left of the text stands behind it
@@ -107,23 +107,17 @@ pub record RunsNone (c : Catalogue) (source : Option ℕ) (faults : ℕ) (d m o 
   pub quiet_output : OutputStays
   pub quiet_source : SourceStays
 
--- the end of a twin whose input wasn't read
-abbrev pub end_of_input : InputEnd → KeptEnd
-end_of_input input_end.ReadFault = end.ReadFault
-end_of_input input_end.TooLong = end.TooLong
-end_of_input input_end.OutOfMemory = end.OutOfMemory
-
--- why it wasn't
+-- why an input wasn't read to its end
 abbrev pub IsUnread : InputChange → InputEnd → Type 0
 IsUnread i input_end.ReadFault = Rose i.reads.before i.reads.after
 IsUnread i input_end.TooLong = IsTooLong i
 IsUnread i input_end.OutOfMemory = ⊤
 
 -- the input was read and its text was run, or it wasn't read
-abbrev pub RunsInput : Catalogue → Option ℕ → ℕ → DiskChange → DiskChange → DiskChange → Type 0 → InputChange → OutputChange → Moment → Type 0 → Type 0 → KeptEnd → Type 0
+abbrev pub RunsInput : Catalogue → Option ℕ → ℕ → DiskChange → DiskChange → DiskChange → Type 0 → InputChange → OutputChange → Moment → Type 0 → Type 0 → Status → Type 0
 RunsInput c source faults d m o settled i w s OutputStays SourceStays e =
     ((text : List ℕ) × IsText i text × RunsText c source faults d m o settled w 1 text s e)
-    ⊎ (RunsNone c source faults d m o settled s OutputStays SourceStays × ((why : InputEnd) × (e ≡ end_of_input why) × IsUnread i why))
+    ⊎ (RunsNone c source faults d m o settled s OutputStays SourceStays × ((why : InputEnd) × (e ≡ status_of_input why) × IsUnread i why))
 
 -- how many bytes lines have, with the end of each
 abbrev pub weight : List (List ℕ) → ℕ

@@ -8,8 +8,8 @@
 //! that the next run goes on from there. A stop opens its side again: the cabinet under a greater number, and the outbox with nothing
 //! heard (`specs/Opens.antt`). At every moment a crash leaves a cache that answers for every truncation that was in force, marks of a
 //! stand along the steps, and posts along them.
-//! Stands on twin_lines, by which it runs lines, on twin_events for the twin, on kept_cache and feed_words for caches and marks that are
-//! lent, on cut_follower for what a lossy link promises, on command_setup for the catalogue, on command_status for how it ends, and on the
+//! Stands on twin_lines, by which it runs lines, on twin_events for the twin, on kept_cache and feed_words for caches, marks and
+//! outboxes that are lent, on cut_follower for what a lossy link promises, on command_setup for the catalogue, on command_status for how it ends, and on the
 //! crates whose types its calls name.
 #![tactic(auto)]
 
@@ -18,7 +18,6 @@ pub mod disks;
 pub mod feeds;
 mod making;
 mod opening;
-pub mod outboxes;
 mod running;
 mod stopping;
 pub mod twin;

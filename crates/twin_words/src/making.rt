@@ -7,9 +7,9 @@ ghost use Rattle.twin_words.specs.Made.{MakesTwin, change_of};
 use arrayvec::ArrayVec;
 use catalog::catalogue::Catalogue;
 use change_feed::feed::Feed;
+use command_status::status::Status;
 use disk_model::disk::Disk;
 use http_wire::streams::ByteSink;
-use kept_cache::end::KeptEnd;
 use kept_cache::writing::written;
 use outbox::outbox::Outbox;
 
@@ -21,7 +21,7 @@ pub(crate) fn make_twin<D: Disk, O: ByteSink>(
     marks: &mut D,
     outbox: &mut D,
     output: &mut O,
-) -> KeptEnd
+) -> Status
     requires { IsValid catalogue.now }
     ensures makes { MakesTwin catalogue.now (change_of D.told D.state D.faults disk.old disk.new) (change_of D.told D.state D.faults marks.old marks.new) (change_of D.told D.state D.faults outbox.old outbox.new)
         (record { writes = counts (O.faults output.old) (O.faults output.new); from = O.taken output.old; to = O.taken output.new })
@@ -31,13 +31,13 @@ pub(crate) fn make_twin<D: Disk, O: ByteSink>(
     ensures outbox_told { D.told outbox.new ≡ D.told outbox.old }
 {
     if durable_cabinet::opening::make(catalogue, disk).is_err() {
-        return KeptEnd::DiskFault;
+        return Status::DiskFault;
     }
     if Feed::make(catalogue, marks).is_err() {
-        return KeptEnd::DiskFault;
+        return Status::DiskFault;
     }
     if Outbox::make(catalogue, outbox).is_err() {
-        return KeptEnd::DiskFault;
+        return Status::DiskFault;
     }
     written(output, ArrayVec::new(), b"made\n")
 }

@@ -15,7 +15,6 @@ ghost use Rattle.twin_words.specs.Opens.{IsQuiet, OpensFollower, OpensTwin, Refu
 use crate::cabinets::opened_cabinet;
 use crate::disks::{Disks, Unfollowed, Unopened};
 use crate::feeds::opened_feed;
-use crate::outboxes::{closed_outbox, opened_outbox};
 use cabinet::keeper::Keeper;
 use catalog::catalogue::Catalogue;
 use change_feed::feed::Feed;
@@ -23,6 +22,7 @@ use clock::clock::Clock;
 use disk_model::disk::Disk;
 use durable_cabinet::durable::Cabinet;
 use feed_words::marks::closed_marks;
+use feed_words::outboxes::{closed_outbox, opened_outbox};
 use kept_cache::lent::{LentDisk, Loan};
 use kept_cache::opened::closed;
 use std::alloc::Global;

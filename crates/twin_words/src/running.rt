@@ -10,18 +10,18 @@ ghost use Rattle.twin_lines.specs.Steps.{faults, moment, stopped};
 ghost use Rattle.twin_lines.specs.Texts.{answer_text};
 ghost use Rattle.twin_words.specs.Made.{change_of};
 ghost use Rattle.twin_words.specs.Opens.{LeavesTwin};
-ghost use Rattle.twin_words.specs.Works.{RunsInput, RunsOn, RunsText, end_of_input, weight};
+ghost use Rattle.twin_words.specs.Works.{RunsInput, RunsOn, RunsText, weight};
 
 use crate::disks::Disks;
 use crate::opening::closed_twin;
 use crate::stopping::restarted;
+use command_status::status::Status;
+use command_status::statuses::{status_of_input, status_of_opening};
 use disk_model::disk::Disk;
 use durable_cabinet::durable::Cabinet;
-use http_wire::inputs::{InputEnd, read_all};
+use http_wire::inputs::read_all;
 use http_wire::streams::{ByteSink, ByteSource};
-use kept_cache::end::KeptEnd;
 use kept_cache::lent::{LentDisk, Loan};
-use kept_cache::opened::end_of_refusal;
 use source_render::source::Source;
 use std::alloc::Global;
 use twin_events::twin::Twin;
@@ -36,7 +36,7 @@ const TWIN_LIMIT: usize = 16_777_216;
 #[derive(Drop)]
 pub struct Finished<'d, 'm, 'o, D, M, N> {
     /// How the run ended.
-    pub end: KeptEnd,
+    pub end: Status,
     /// All three disks, closed.
     pub disks: Disks<'d, 'm, 'o, D, M, N>,
 }
@@ -50,17 +50,6 @@ pub struct Next<'d, 'm, 'o, 't, D: Disk, M: Disk, N: Disk, A: Loan, B: Loan, C: 
     pub line: u64,
     /// The lines that are left.
     pub rest: &'t [u8],
-}
-
-/// The end of a twin whose input wasn't read.
-fn end_of_input(end: InputEnd) -> KeptEnd
-    ensures { result ≡ end_of_input end }
-{
-    match end {
-        InputEnd::ReadFault => KeptEnd::ReadFault,
-        InputEnd::TooLong => KeptEnd::TooLong,
-        InputEnd::OutOfMemory => KeptEnd::OutOfMemory,
-    }
 }
 
 /// Tells that a side was closed and opened again: whether all of it went out.
@@ -78,7 +67,7 @@ fn told_stopped<O: ByteSink>(output: &mut O, line: u64) -> bool
 /// Closes a twin whose run ended so.
 fn end_run<'d, 'm, 'o, D: Disk, M: Disk, N: Disk, A: Loan, B: Loan, C: Loan>(
     twin: Twin<Cabinet<LentDisk<'d, D, A>>, LentDisk<'m, M, B>, LentDisk<'o, N, C>>,
-    end: KeptEnd,
+    end: Status,
 ) -> Finished<'d, 'm, 'o, D, M, N>
     requires digest { digest_of twin.feed.file.journal ≡ twin.outbox.catalogue.digest }
     requires same { twin.cabinet.state.catalogue ≡ twin.outbox.catalogue }
@@ -148,13 +137,13 @@ fn run_stretch<
 {
     let mut twin = twin;
     match run_lines(alloc, &mut twin, source, output, line, text) {
-        Halt::Done => Err(end_run(twin, KeptEnd::Done)),
-        Halt::Line(number) => Err(end_run(twin, KeptEnd::Line(number))),
-        Halt::WriteFault => Err(end_run(twin, KeptEnd::WriteFault)),
-        Halt::OutOfMemory => Err(end_run(twin, KeptEnd::OutOfMemory)),
+        Halt::Done => Err(end_run(twin, Status::Done)),
+        Halt::Line(number) => Err(end_run(twin, Status::Line(number))),
+        Halt::WriteFault => Err(end_run(twin, Status::WriteFault)),
+        Halt::OutOfMemory => Err(end_run(twin, Status::OutOfMemory)),
         Halt::Stop(side, number, rest) => match restarted(alloc, twin, side) {
             Err(refusal) => Err(Finished {
-                end: end_of_refusal(refusal.cause),
+                end: status_of_opening(refusal.cause),
                 disks: refusal.disks,
             }),
             Ok(twin) => {
@@ -165,7 +154,7 @@ fn run_stretch<
                         rest,
                     })
                 } else {
-                    Err(end_run(twin, KeptEnd::WriteFault))
+                    Err(end_run(twin, Status::WriteFault))
                 }
             }
         },
@@ -256,6 +245,6 @@ pub(crate) fn run_input<
 {
     match read_all(alloc, input, TWIN_LIMIT) {
         Ok(text) => run_text(alloc, twin, source, output, text.as_slice()),
-        Err(why) => end_run(twin, end_of_input(why)),
+        Err(why) => end_run(twin, status_of_input(why)),
     }
 }

@@ -19,15 +19,14 @@ use catalog::catalogue::Catalogue;
 use change_feed::laws::laws_of_marks;
 use clock::clock::Clock;
 use command_setup::configured::configured;
+use command_setup::refusals::status_of_refusal;
 use command_status::status::Status;
+use command_status::statuses::status_of_opening;
 use cut_follower::laws::laws_of_lossy_links;
 use disk_model::disk::Disk;
 use exact_ratio::words::Words;
-use feed_words::statuses::{status_of_end, status_of_refusal};
 use http_wire::streams::{ByteSink, ByteSource};
-use kept_cache::end::KeptEnd;
 use kept_cache::lent::Loan;
-use kept_cache::opened::end_of_refusal;
 use outbox::laws::laws_of_outboxes;
 use source_render::source::Source;
 use std::alloc::Global;
@@ -57,7 +56,7 @@ fn twin_over<
     disk: &'d mut D,
     marks: &'m mut M,
     outbox: &'o mut N,
-) -> (&'d mut D, &'m mut M, &'o mut N, KeptEnd)
+) -> (&'d mut D, &'m mut M, &'o mut N, Status)
     requires valid { IsValid catalogue }
     requires loan { disk.ghost_name ≡ A.disk }
     requires marks_loan { marks.ghost_name ≡ B.disk }
@@ -105,7 +104,7 @@ fn twin_over<
                 marks,
                 outbox,
             } = disks;
-            (cache, marks, outbox, end_of_refusal(cause))
+            (cache, marks, outbox, status_of_opening(cause))
         }
     }
 }
@@ -122,7 +121,7 @@ fn run_files<D: Disk, M: Disk, N: Disk, S: Source, I: ByteSource, O: ByteSink>(
     disk: &mut D,
     marks: &mut M,
     outbox: &mut N,
-) -> KeptEnd
+) -> Status
     requires valid { IsValid catalogue }
     requires ours { IsTrue (D.told disk.old) → IsOurs catalogue (D.state disk.old).seen }
     requires marks_ours { IsTrue (M.told marks.old) → IsMarksFile catalogue.digest (M.state marks.old).seen }
@@ -162,7 +161,7 @@ fn done_under<D: Disk, S: Source, I: ByteSource, O: ByteSink>(
     disk: &mut D,
     marks: &mut D,
     outbox: &mut D,
-) -> KeptEnd
+) -> Status
     requires valid { IsValid catalogue }
     requires fit { IsFitUnder catalogue word (text_of D.told D.state disk.old) (text_of D.told D.state marks.old) (text_of D.told D.state outbox.old) }
     ensures ends { WordEnds
@@ -224,9 +223,9 @@ fn done<D: Disk, S: Source, I: ByteSource, O: ByteSink>(
     ensures source_told { S.told source.new ≡ S.told source.old }
 {
     match configured(alloc, catalogue) {
-        Ok(read) => status_of_end(done_under(
+        Ok(read) => done_under(
             alloc, word, read, input, output, source, clock, disk, marks, outbox,
-        )),
+        ),
         Err(refusal) => status_of_refusal(refusal),
     }
 }

@@ -10,6 +10,7 @@ use crate::source_fake::SourceFake;
 use crate::twinning::twin_status;
 use clock::clock::Clock;
 use command_status::status::Status;
+use command_words::top_calls::{TopCall, top_call};
 use disk_model::disk::Disk;
 use exact_ratio::words::Words;
 use http_wire::memory_sink::MemorySink;
@@ -26,30 +27,6 @@ pub struct Streams {
     pub catalogue: MemorySource,
     pub capabilities: MemorySource,
     pub input: MemorySource,
-}
-
-/// Which top call the first word of a command names.
-#[derive(Clone, Copy)]
-enum TopCall {
-    Feed,
-    Compose,
-    Twin,
-    Link,
-    Command,
-}
-
-/// The top call of these words.
-fn top_call_of(words: &[Words]) -> TopCall {
-    let Some(word) = words.first() else {
-        return TopCall::Command;
-    };
-    match word.bytes() {
-        b"feed" => TopCall::Feed,
-        b"compose" => TopCall::Compose,
-        b"twin" => TopCall::Twin,
-        b"lead" | b"follow" => TopCall::Link,
-        _ => TopCall::Command,
-    }
 }
 
 /// The code and the line of an end.
@@ -175,7 +152,7 @@ fn linked(
     line_of(alloc, end.code(), &end)
 }
 
-/// Runs any other words over these objects.
+/// Runs any other words over these objects, those too that the program serves connections or prints a text at: they are no command.
 fn commanded(
     alloc: Global,
     words: &[Words],
@@ -209,11 +186,13 @@ pub fn status_by(
     disks: &mut Disks,
     clock: Clock,
 ) -> Result<String, AllocError> {
-    match top_call_of(words) {
+    match top_call(words) {
         TopCall::Feed => fed(alloc, words, streams, output, disks, clock),
         TopCall::Compose => composed(alloc, words, streams, output, source, clock),
         TopCall::Twin => twinned(alloc, words, streams, output, source, disks, clock),
         TopCall::Link => linked(alloc, words, streams, output, disks, clock),
-        TopCall::Command => commanded(alloc, words, streams, output, source, disks, clock),
+        TopCall::Command | TopCall::Serve | TopCall::Help | TopCall::Version => {
+            commanded(alloc, words, streams, output, source, disks, clock)
+        }
     }
 }

@@ -4,7 +4,7 @@ use Rattle.kept_cache.proofs.Closing.{has_opened}
 use Rattle.kept_cache.proofs.Lasting.{worked}
 use Rattle.kept_cache.proofs.Passing.{leads_passes}
 use Rattle.kept_words.proofs.Passing.{serves_weaker}
-use Rattle.kept_words.proofs.Running.{session_tells}
+use Rattle.kept_words.proofs.Running.{session_refused, session_tells}
 use Rattle.kept_words.proofs.replay.replay_over.Goals as goal
 
 pub serve_and_save-end-requires-clause-rest : goal.serve_and_save-end-requires-clause-rest
@@ -20,7 +20,7 @@ returns-in-Ok-clause-serves g c =
     let last = work.new.counter.cabinet.cabinet in
     let outlasts = work.ensures.lasts.outlasts.outlasts in
     let told = outlasts.same_told ∙ o.told in
-    rw (same, c.end_of_session.ensures)
+    rw (same, c.status_of_session.ensures)
     (session_tells _ _ _ _ _ _ _ _ _ work.result (
       first.state,
       last.state,
@@ -36,3 +36,8 @@ returns-in-Ok-clause-lasts g c =
     let o = c.in-Ok.ensures in
     rw c.closed.ensures.same
     (worked _ _ _ _ _ _ _ _ _ _ _ _ _ _ _ (λ told. g.met.D.Disk.lawful c.args.disk.now told) o.opened o.lasts o.told c.serve_and_save-end.ensures.lasts.outlasts.outlasts)
+
+pub returns-in-Err-clause-serves : goal.returns-in-Err-clause-serves
+returns-in-Err-clause-serves g c =
+    let e = c.in-Err.ensures in
+    rw c.status_of_opening.ensures (session_refused _ _ _ _ _ _ _ _ _ c.in-Err.refusal.0 e.refused e.refused_leaves refl (refl, refl))

@@ -1,9 +1,9 @@
-use Rattle.std.proofs.Common.{sym, ◌∙◌}
+use Rattle.std.proofs.Common.{refl, sym, ◌∙◌}
 use Rattle.kept_cache.proofs.Closing.{has_opened}
 use Rattle.kept_cache.proofs.Lasting.{worked}
 use Rattle.kept_cache.proofs.Passing.{leads_passes}
 use Rattle.kept_words.proofs.Passing.{runs_weaker}
-use Rattle.kept_words.proofs.Running.{schedule_tells}
+use Rattle.kept_words.proofs.Running.{schedule_refused, schedule_tells}
 use Rattle.kept_words.proofs.schedule.schedule_over.Goals as goal
 
 pub returns-in-Ok-clause-runs : goal.returns-in-Ok-clause-runs
@@ -16,7 +16,7 @@ returns-in-Ok-clause-runs g c =
     let last = work.new.counter.cabinet.cabinet in
     let outlasts = work.ensures.lasts.outlasts.outlasts in
     let told = outlasts.same_told ∙ o.told in
-    rw (same, c.end_of_schedule.ensures)
+    rw (same, c.status_of_schedule.ensures)
     (schedule_tells _ _ _ _ _ _ _ _ _ work.result (
       first.state,
       last.state,
@@ -32,3 +32,8 @@ returns-in-Ok-clause-lasts g c =
     let o = c.in-Ok.ensures in
     rw c.closed.ensures.same
     (worked _ _ _ _ _ _ _ _ _ _ _ _ _ _ _ (λ told. g.met.D.Disk.lawful c.args.disk.now told) o.opened o.lasts o.told c.run_and_save-end.ensures.lasts.outlasts.outlasts)
+
+pub returns-in-Err-clause-runs : goal.returns-in-Err-clause-runs
+returns-in-Err-clause-runs g c =
+    let e = c.in-Err.ensures in
+    rw c.status_of_opening.ensures (schedule_refused _ _ _ _ _ _ _ _ _ c.in-Err.refusal.0 e.refused e.refused_leaves refl (refl, refl))

@@ -46,5 +46,5 @@ returns-in-Err-clause-runs g c =
         quiet_output = refl;
         quiet_source = refl;
       },
-      (c.in-Err.why, e.end ∙ c.end_of_input.ensures, unread_by _ c.in-Err.why (λ is. c.in-Err.ensures.fault (ap Err is)) (λ is. c.in-Err.ensures.long (ap Err is))),
+      (c.in-Err.why, e.end ∙ c.status_of_input.ensures, unread_by _ c.in-Err.why (λ is. c.in-Err.ensures.fault (ap Err is)) (λ is. c.in-Err.ensures.long (ap Err is))),
     )

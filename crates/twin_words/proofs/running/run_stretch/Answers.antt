@@ -1,10 +1,8 @@
 use Rattle.http_wire.proofs.TakesOn.{rose_before}
-use Rattle.std.proofs.Common.{◌∷◌, ◌-◌, ◌^◌, ap, arith, refl, sym, ◌∙◌}
+use Rattle.std.proofs.Common.{◌∷◌, ◌-◌, ◌^◌, ap, arith, refl, ◌∙◌}
 use Rattle.tile_service.specs.Lines.{lines_of}
-use Rattle.std.specs.Prelude.{Some}
-use Rattle.gate_journal.specs.Sound.{IsSettled, digest_of}
-use Rattle.kept_cache.specs.declared.end.KeptEnd.TheVariants as end
-use Rattle.sessions.specs.Outside.{counts}
+use Rattle.gate_journal.specs.Sound.{IsSettled}
+use Rattle.command_status.specs.declared.status.Status.TheVariants as status
 use Rattle.twin_events.specs.Twins.{standing}
 use Rattle.twin_lines.specs.declared.lines.Halt.TheVariants as halt
 use Rattle.twin_lines.specs.Steps.{Moment, faults, moment}
@@ -39,7 +37,7 @@ returns-in-Done-clause-ended g c =
     let source_then = g.S.Source.faults c.run_lines.new.source in
     let e = c.end_run.ensures in
     rw (e.end, e.same, e.marks_same, e.outbox_same)
-    (run_ended old.outbox.catalogue (g.S.Source.told c.args.source.now) (told d) (told d1) (m_told m) (o_told o) old.cabinet.file.journal new.cabinet.file.journal (state d) (state d1) (m_state m) (m_state m1) (o_state o) (o_state o1) (failed d) (failed d1) (m_failed m) (m_failed m1) (o_failed o) (o_failed o1) source_failed source_then _ c.args.line c.args.text.now s t halt.Done end.Done refl
+    (run_ended old.outbox.catalogue (g.S.Source.told c.args.source.now) (told d) (told d1) (m_told m) (o_told o) old.cabinet.file.journal new.cabinet.file.journal (state d) (state d1) (m_state m) (m_state m1) (o_state o) (o_state o1) (failed d) (failed d1) (m_failed m) (m_failed m1) (o_failed o) (o_failed o1) source_failed source_then _ c.args.line c.args.text.now s t halt.Done status.Done refl
     (rw c.requires.digest at c.in-Done.ensures.runs) r.lasts c.requires.ready.same (rw (r.catalogue, r.lasts.outlasts.same_told, r.marks_told, r.posts_told, e.same, e.marks_same, e.outbox_same) at e.left))
 
 pub returns-in-Line-clause-ended : goal.returns-in-Line-clause-ended
@@ -68,7 +66,7 @@ returns-in-Line-clause-ended g c =
     let source_then = g.S.Source.faults c.run_lines.new.source in
     let e = c.end_run-in-Line.ensures in
     rw (e.end, e.same, e.marks_same, e.outbox_same)
-    (run_ended old.outbox.catalogue (g.S.Source.told c.args.source.now) (told d) (told d1) (m_told m) (o_told o) old.cabinet.file.journal new.cabinet.file.journal (state d) (state d1) (m_state m) (m_state m1) (o_state o) (o_state o1) (failed d) (failed d1) (m_failed m) (m_failed m1) (o_failed o) (o_failed o1) source_failed source_then _ c.args.line c.args.text.now s t (halt.Line c.in-Line.number) (end.Line c.in-Line.number) refl
+    (run_ended old.outbox.catalogue (g.S.Source.told c.args.source.now) (told d) (told d1) (m_told m) (o_told o) old.cabinet.file.journal new.cabinet.file.journal (state d) (state d1) (m_state m) (m_state m1) (o_state o) (o_state o1) (failed d) (failed d1) (m_failed m) (m_failed m1) (o_failed o) (o_failed o1) source_failed source_then _ c.args.line c.args.text.now s t (halt.Line c.in-Line.number) (status.Line c.in-Line.number) refl
     (rw c.requires.digest at c.in-Line.ensures.runs) r.lasts c.requires.ready.same (rw (r.catalogue, r.lasts.outlasts.same_told, r.marks_told, r.posts_told, e.same, e.marks_same, e.outbox_same) at e.left))
 
 pub returns-in-WriteFault-clause-ended : goal.returns-in-WriteFault-clause-ended
@@ -97,7 +95,7 @@ returns-in-WriteFault-clause-ended g c =
     let source_then = g.S.Source.faults c.run_lines.new.source in
     let e = c.end_run-in-WriteFault.ensures in
     rw (e.end, e.same, e.marks_same, e.outbox_same)
-    (run_ended old.outbox.catalogue (g.S.Source.told c.args.source.now) (told d) (told d1) (m_told m) (o_told o) old.cabinet.file.journal new.cabinet.file.journal (state d) (state d1) (m_state m) (m_state m1) (o_state o) (o_state o1) (failed d) (failed d1) (m_failed m) (m_failed m1) (o_failed o) (o_failed o1) source_failed source_then _ c.args.line c.args.text.now s t halt.WriteFault end.WriteFault refl
+    (run_ended old.outbox.catalogue (g.S.Source.told c.args.source.now) (told d) (told d1) (m_told m) (o_told o) old.cabinet.file.journal new.cabinet.file.journal (state d) (state d1) (m_state m) (m_state m1) (o_state o) (o_state o1) (failed d) (failed d1) (m_failed m) (m_failed m1) (o_failed o) (o_failed o1) source_failed source_then _ c.args.line c.args.text.now s t halt.WriteFault status.WriteFault refl
     (rw c.requires.digest at c.in-WriteFault.ensures.runs) r.lasts c.requires.ready.same (rw (r.catalogue, r.lasts.outlasts.same_told, r.marks_told, r.posts_told, e.same, e.marks_same, e.outbox_same) at e.left))
 
 pub returns-in-OutOfMemory-clause-ended : goal.returns-in-OutOfMemory-clause-ended
@@ -126,7 +124,7 @@ returns-in-OutOfMemory-clause-ended g c =
     let source_then = g.S.Source.faults c.run_lines.new.source in
     let e = c.end_run-in-OutOfMemory.ensures in
     rw (e.end, e.same, e.marks_same, e.outbox_same)
-    (run_ended old.outbox.catalogue (g.S.Source.told c.args.source.now) (told d) (told d1) (m_told m) (o_told o) old.cabinet.file.journal new.cabinet.file.journal (state d) (state d1) (m_state m) (m_state m1) (o_state o) (o_state o1) (failed d) (failed d1) (m_failed m) (m_failed m1) (o_failed o) (o_failed o1) source_failed source_then _ c.args.line c.args.text.now s t halt.OutOfMemory end.OutOfMemory refl
+    (run_ended old.outbox.catalogue (g.S.Source.told c.args.source.now) (told d) (told d1) (m_told m) (o_told o) old.cabinet.file.journal new.cabinet.file.journal (state d) (state d1) (m_state m) (m_state m1) (o_state o) (o_state o1) (failed d) (failed d1) (m_failed m) (m_failed m1) (o_failed o) (o_failed o1) source_failed source_then _ c.args.line c.args.text.now s t halt.OutOfMemory status.OutOfMemory refl
     (rw c.requires.digest at c.in-OutOfMemory.ensures.runs) r.lasts c.requires.ready.same (rw (r.catalogue, r.lasts.outlasts.same_told, r.marks_told, r.posts_told, e.same, e.marks_same, e.outbox_same) at e.left))
 
 pub returns-in-Err-clause-ended : goal.returns-in-Err-clause-ended
@@ -164,7 +162,7 @@ returns-in-Err-clause-ended g c =
     let d2 = refusal.disks.cache.now in
     let m2 = refusal.disks.marks.now in
     let o2 = refusal.disks.outbox.now in
-    rw c.end_of_refusal.ensures
+    rw c.status_of_opening.ensures
     (stop_refused old.outbox.catalogue source (told d) (m_told m) (o_told o) (state d) (state d1) (state d2) (m_state m) (m_state m1) (m_state m2) (o_state o) (o_state o1) (o_state o2) (failed d) (failed d1) (failed d2) (m_failed m) (m_failed m1) (m_failed m2) (o_failed o) (o_failed o1) (o_failed o2) source_then source_then
     (IsSettled old.cabinet.file.journal) (IsSettled new.cabinet.file.journal) (g.O.ByteSink.taken c.args.output.now) (g.O.ByteSink.taken c.run_lines.new.output) (g.O.ByteSink.faults c.args.output.now) (g.O.ByteSink.faults c.run_lines.new.output) c.args.line c.args.text.now before after ends.0 run.steps c.in-Stop.number ends.1 c.in-Stop.rest.now c.in-Stop.side part ends.2 ends.4 ends.5 ends.6 refl
     refusal.cause (rw (r.catalogue, r.lasts.outlasts.same_told, r.marks_told, r.posts_told) at (e.closed source_then)) e.refused_later e.refused_marks_later e.refused_outbox_later (omega arith))

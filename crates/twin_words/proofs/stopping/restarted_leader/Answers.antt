@@ -1,5 +1,4 @@
-use Rattle.std.proofs.Common.{ap, refl, sym, ◌∙◌}
-use Rattle.cabinet.specs.State.{State}
+use Rattle.std.proofs.Common.{refl, ◌∙◌}
 use Rattle.gate_journal.specs.Sound.{IsSettled, digest_of}
 use Rattle.twin_events.specs.Twins.{standing}
 use Rattle.twin_words.proofs.Refusing.{refuses_outbox}

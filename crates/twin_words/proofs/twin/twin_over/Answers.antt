@@ -77,7 +77,7 @@ returns-in-Ok-clause-lasts g c =
     c.requires.valid o.known o.settled (λ is. g.met.D.Disk.lawful c.args.disk.now is) (λ is. g.met.M.Disk.lawful c.args.marks.now is) (λ is. g.met.N.Disk.lawful c.args.outbox.now is) o.later o.marks_later o.outbox_later o.opens (c.run_input-end.new.output ≡ c.args.output.now) (c.run_input-end.new.source ≡ c.args.source.now) c.run_input-end.result.end runs
 
 pub returns-in-Err-clause-twins : goal.returns-in-Err-clause-twins
-returns-in-Err-clause-twins g c = inl (c.in-Err.refusal.cause, c.end_of_refusal.ensures, inl (record { refused = c.in-Err.ensures.refuses; input = refl; output = refl; source = refl }))
+returns-in-Err-clause-twins g c = inl (c.in-Err.refusal.cause, c.status_of_opening.ensures, inl (record { refused = c.in-Err.ensures.refuses; input = refl; output = refl; source = refl }))
 
 pub returns-in-Err-clause-lasts : goal.returns-in-Err-clause-lasts
 returns-in-Err-clause-lasts g c = λ told. opening_lasts c.args.catalogue (g.D.Disk.state c.args.disk.now) (g.D.Disk.state c.in-Err.refusal.disks.cache.now) (g.met.D.Disk.lawful c.args.disk.now told) (c.in-Err.ensures.refused_leaves told)
