@@ -6,8 +6,8 @@ use crate::status::Status;
 use gate_journal::fault::OpenFault;
 use http_wire::inputs::InputEnd;
 use job_forms::fault::JobFault;
-use tile_service::schedule::ScheduleEnd;
 use sessions::session::SessionEnd;
+use tile_service::schedule::ScheduleEnd;
 
 /// The status of words one of whose files isn't opened. A fault of its disk and want of memory have statuses of their own.
 pub fn status_of_opening(fault: OpenFault) -> Status
