@@ -6,6 +6,7 @@ use Rattle.causes.specs.Causes.{Rose}
 use Rattle.change_feed.specs.Applies.{Pair}
 use Rattle.change_feed.specs.Files.{MayEndIn}
 use Rattle.disk_model.specs.Images.{DiskState, Leaves}
+use Rattle.sessions.specs.Outside.{InputChange, OutputChange}
 use Rattle.command_status.specs.declared.status.Status.{Status}
 use Rattle.command_status.specs.declared.status.Status.TheVariants as status
 use Rattle.tile_service.specs.Lines.{lines_of}
