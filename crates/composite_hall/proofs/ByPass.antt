@@ -1,9 +1,9 @@
 -- A composition over any access, by a pass of a hall.
-use Rattle.std.proofs.Common.{◌≡◌, ◌⊎◌, ℕ, true, List, [], ◌∷◌, Option, Some, Result, Ok, Err, refl, sym, ap, ◌∙◌, subst, inl, inr}
+use Rattle.std.proofs.Common.{◌≡◌, ℕ, true, List, [], ◌∷◌, Option, Some, Result, Ok, Err, sym, ap, ◌∙◌, subst, inl, inr}
 use Rattle.cabinet_chest.specs.declared.shown.Note.{Note}
 use Rattle.cache_access.specs.declared.fault.GetFault.{GetFault}
 use Rattle.cache_access.specs.declared.fault.GetFault.TheVariants as got
-use Rattle.cache_access.specs.Gets.{HasGot, IsGot}
+use Rattle.cache_access.specs.Gets.{IsGot}
 use Rattle.cache_core.specs.declared.outcome.Tile.{Tile}
 use Rattle.cache_hall.specs.Gained.{same_told}
 use Rattle.cache_hall.specs.Gets.{Gets}
@@ -11,14 +11,13 @@ use Rattle.cache_hall.specs.Turned.{Gains, HallPass}
 use Rattle.catalog.specs.declared.catalogue.Catalogue.{Catalogue}
 use Rattle.layer_recipes.specs.declared.composed.Composed.{Composed}
 use Rattle.layer_recipes.specs.declared.composed.ComposeFault.{ComposeFault}
-use Rattle.layer_recipes.specs.declared.composed.ComposeFault.TheVariants as fault
 use Rattle.layer_recipes.specs.declared.place.Place.{Place}
 use Rattle.layer_recipes.specs.declared.recipe.Part.{Part}
 use Rattle.layer_recipes.specs.OfCatalogue.{tile_at}
 use Rattle.matrix_geometry.specs.declared.address.Address.{Address}
 use Rattle.truncation_list.specs.declared.book.FrontedBook.{FrontedBook}
 use Rattle.turnstile.specs.declared.view.Made.{Made}
-use Rattle.composite_layers.specs.OverAccess.{AreGot, CameTo, ComposesAt, GetsAt, HasComposed, HasStopped, MomentOf, Stops}
+use Rattle.composite_layers.specs.OverAccess.{AreGot, CameTo, ComposesAt, GetsAt, HasStopped, MomentOf, Stops}
 use Rattle.composite_hall.specs.OverHall.{ComposesOver}
 
 -- what makes the bytes true may be known by less

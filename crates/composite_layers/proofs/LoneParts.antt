@@ -1,5 +1,5 @@
 -- A composition by a thread that has the cabinet for itself: the turns of its gets are the events of its parts.
-use Rattle.std.proofs.Common.{◌≡◌, ◌≤◌, ℕ, ◌+◌, ◌⊎◌, List, [], ◌∷◌, length, Option, Some, Result, Ok, Err, refl, sym, ap, ◌∙◌, subst, arith, inl, inr}
+use Rattle.std.proofs.Common.{◌≡◌, ◌≤◌, ℕ, ◌+◌, ◌⊎◌, List, [], ◌∷◌, Option, Some, Result, Ok, Err, refl, sym, ap, ◌∙◌, subst, arith, inl, inr}
 use Rattle.std.specs.Prelude.{IfErr, IsSomeAnd}
 use Rattle.cabinet.specs.State.{State, IsSound, fronted, now}
 use Rattle.cabinet_chest.specs.declared.shown.Note.{Note}

@@ -6,7 +6,7 @@ use Rattle.catalog.specs.Valid.{IsValid}
 use Rattle.tile_requests.proofs.Going.{goes_here, goes_on}
 use Rattle.layer_recipes.specs.declared.recipe.Part.{Part}
 use Rattle.layer_recipes.specs.OfCatalogue.{IsPartOf, IsPlaceIn}
-use Rattle.composite_layers.specs.OverAccess.{GetsAt, IsLaid, MomentOf, Stops, moment_of}
+use Rattle.composite_layers.specs.OverAccess.{GetsAt, IsLaid, Stops, moment_of}
 use Rattle.composite_layers.proofs.Chaining.{more_laid, none_laid, part_at, parted_at, stopped_at}
 use Rattle.composite_layers.proofs.compose.lay_parts.Goals as goal
 
