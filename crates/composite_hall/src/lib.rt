@@ -4,9 +4,8 @@
 //! (`specs/OverHall.antt`). The text that it gives is the composite of the parts' texts; where the cabinet and the source are modelled, it is
 //! the composite of the pictures of the parts' numbers. Each number is above every truncation that covers its part's tile and that the
 //! pass had seen at the call.
-//! Stands on layer_recipes, cache_hall, cabinet_chest, turnstile, cabinet, source_render, shared_text, cache_core, raster_field, catalog,
-//! matrix_geometry, truncation_list and causes.
+//! Stands on composite_layers, layer_recipes, cache_hall, cache_access, cabinet_chest, turnstile, cabinet, source_render, cache_core,
+//! truncation_list, catalog, matrix_geometry and causes.
 #![tactic(auto)]
 
 pub mod compose;
-mod part;

@@ -1,2 +1,3 @@
 pub mod Chaining
-pub mod Getting
+pub mod Composing
+pub mod LoneParts

@@ -1,11 +1,10 @@
 -- What a composition comes to.
-use Rattle.std.specs.Prelude.{ℕ, ◌≡◌, ◌⊎◌, List, [], ◌∷◌, ◌++◌, Option, Some, None, Result, Ok, Err, IsSomeAnd}
+use Rattle.std.specs.Prelude.{ℕ, ◌≡◌, ◌⊎◌, List, ◌∷◌, ◌++◌, Option, Some, None, Result, Ok, Err, IsSomeAnd}
 use Rattle.cabinet.specs.State.{IsSound}
 use Rattle.cache_core.specs.declared.outcome.Tile.{Tile}
 use Rattle.cache_core.specs.declared.outcome.TileOutcome.{TileOutcome}
 use Rattle.cache_core.specs.declared.outcome.TileOutcome.TheVariants as core
 use Rattle.catalog.specs.LookUp.{matrix_in}
-use Rattle.raster_field.specs.declared.colour.Colour.{Colour}
 use Rattle.tile_service.specs.Session.{IsAtRest}
 use Rattle.layer_recipes.specs.declared.composed.Composed.{Composed}
 use Rattle.layer_recipes.specs.declared.composed.ComposeFault.{ComposeFault}
@@ -14,7 +13,6 @@ use Rattle.layer_recipes.specs.declared.place.Place.{Place}
 use Rattle.layer_recipes.specs.declared.recipe.Part.{Part}
 use Rattle.layer_recipes.specs.Composite.{composite, laid_over}
 use Rattle.layer_recipes.specs.OfCatalogue.{tile_at}
-use Rattle.layer_recipes.specs.Overlaid.{Lays, Sheet}
 use Rattle.composite_layers.specs.Parts.{AreGot, IsGot, Moment, keyed, numbers_of}
 
 -- which fault of the whole an outcome of a part is
@@ -62,21 +60,3 @@ pub record HasStopped (told : Option ℕ) (place : Place) (m : Moment) (parts : 
 abbrev pub Composes : Option ℕ → Place → Moment → List Part → Result Composed ComposeFault → Moment → Type 0
 Composes told place m parts (Ok composed) n = HasComposed told place m parts composed.numbers.items composed.bytes.items n
 Composes told place m parts (Err stop) n = HasStopped told place m parts stop n ⊎ ((stop ≡ fault.OutOfMemory) × (n ≡ m))
-
--- A TIE between the code and these definitions: the promise can be read without it.
-
--- one more part was got, and its tile laid under those before it
-pub record IsLaid (told : Option ℕ) (place : Place) (m : Moment) (part : Part) (sheet sheet' : Sheet) (numbers numbers' : List ℕ) (n : Moment) : Type 0 where
-  pub tile : Tile
-  pub got : IsGot told m (tile_at place part) (core.Tile tile) n
-  pub matrix : sheet'.matrix ≡ sheet.matrix
-  pub lays : (parts : List (Colour × List ℕ)) → Lays sheet parts → Lays sheet' (parts ++ (part.key, tile.bytes) ∷ [])
-  pub numbered : numbers' ≡ numbers ++ tile.number ∷ []
-
--- the parts so far were got and laid
-pub record AreLaidSoFar (told : Option ℕ) (place : Place) (m : Moment) (parts : List Part) (sheet sheet' : Sheet) (numbers : List ℕ) (n : Moment) : Type 0 where
-  pub tiles : List Tile
-  pub got : AreGot told place m parts tiles n
-  pub matrix : sheet'.matrix ≡ sheet.matrix
-  pub lays : Lays sheet' (keyed parts tiles)
-  pub numbered : numbers ≡ numbers_of tiles

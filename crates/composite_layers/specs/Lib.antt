@@ -1,2 +1,3 @@
 pub mod Composes
+pub mod OverAccess
 pub mod Parts

@@ -1,11 +1,13 @@
-//! Composite layers over a cabinet in which no render runs: the parts of a recipe are got one after the other, and laid over each other.
+//! Composite layers: the parts of a recipe are got one after the other, and laid over each other.
 //!
-//! Promises: `compose_plain` asks for the parts from the top down, each by the events of a GET, and the first fault ends it
-//! (`specs/Parts.antt`, `specs/Composes.antt`). The text that it gives is the composite of the parts' texts, of which each is fresh at
-//! its own ask; where the source is modelled, it is the composite of the pictures of the parts' numbers.
-//! Stands on layer_recipes, tile_service, tile_requests, cache_core, cabinet, source_render, shared_text, catalog,
-//! matrix_geometry, raster_field and causes.
+//! Promises: `compose` gets the parts from the top down over any access, each by the turns of one get, and the first fault ends it
+//! (`specs/OverAccess.antt`). The text that it gives is the composite of the parts' texts; if the cache is sound and the source the
+//! catalogue's, it is the composite of the pictures of the parts' numbers. `compose_plain` does so in a cabinet in which no render runs: each
+//! part is asked for by the events of a GET, and each is fresh at its own ask (`specs/Parts.antt`, `specs/Composes.antt`).
+//! Stands on layer_recipes, tile_service, tile_requests, cache_access, cabinet_chest, turnstile, cache_core, cabinet, source_render,
+//! shared_text, truncation_list, catalog, matrix_geometry, raster_field and causes.
 #![tactic(auto)]
 
+pub mod compose;
 mod part;
 pub mod plain;

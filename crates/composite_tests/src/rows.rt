@@ -1,7 +1,7 @@
 //! A catalogue of three layers on one grid, a recipe of two of them, and their composites at zoom 0.
 ghost use Rattle.std.specs.Prelude.{IfSome, true, ◌≡◌};
 ghost use Rattle.catalog.specs.Valid.{IsValid};
-ghost use Rattle.composite_hall.specs.OverHall.{place_of};
+ghost use Rattle.composite_layers.specs.Parts.{place_of};
 ghost use Rattle.layer_recipes.specs.OfCatalogue.{IsPlaceIn, IsRecipeOf};
 
 use catalog::catalogue::Catalogue;

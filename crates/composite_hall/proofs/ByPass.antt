@@ -1,0 +1,90 @@
+-- A composition over any access, by a pass of a hall.
+use Rattle.std.proofs.Common.{◌≡◌, ℕ, true, List, [], ◌∷◌, Option, Some, Result, Ok, Err, sym, ap, ◌∙◌, subst, inl, inr}
+use Rattle.cabinet_chest.specs.declared.shown.Note.{Note}
+use Rattle.cache_access.specs.declared.fault.GetFault.{GetFault}
+use Rattle.cache_access.specs.declared.fault.GetFault.TheVariants as got
+use Rattle.cache_access.specs.Gets.{IsGot}
+use Rattle.cache_core.specs.declared.outcome.Tile.{Tile}
+use Rattle.cache_hall.specs.Gained.{same_told}
+use Rattle.cache_hall.specs.Gets.{Gets}
+use Rattle.cache_hall.specs.Turned.{Gains, HallPass}
+use Rattle.catalog.specs.declared.catalogue.Catalogue.{Catalogue}
+use Rattle.layer_recipes.specs.declared.composed.Composed.{Composed}
+use Rattle.layer_recipes.specs.declared.composed.ComposeFault.{ComposeFault}
+use Rattle.layer_recipes.specs.declared.place.Place.{Place}
+use Rattle.layer_recipes.specs.declared.recipe.Part.{Part}
+use Rattle.layer_recipes.specs.OfCatalogue.{tile_at}
+use Rattle.matrix_geometry.specs.declared.address.Address.{Address}
+use Rattle.truncation_list.specs.declared.book.FrontedBook.{FrontedBook}
+use Rattle.turnstile.specs.declared.view.Made.{Made}
+use Rattle.composite_layers.specs.OverAccess.{AreGot, CameTo, ComposesAt, GetsAt, HasStopped, MomentOf, Stops}
+use Rattle.composite_hall.specs.OverHall.{ComposesOver}
+
+-- what makes the bytes true may be known by less
+got_if : (c : Catalogue) (P Q : Type 0) (a : Address) (seen : FrontedBook) (gained : List (Made Note)) (r : Result Tile GetFault) → (Q → P) → IsGot c P a seen gained r → IsGot c Q a seen gained r
+got_if c P Q a seen gained (Ok tile) less h = record {
+  busy = h.busy;
+  ask = h.ask;
+  ends = h.ends;
+  all = h.all;
+  waited = h.waited;
+  from = h.from;
+  newer_than_seen = h.newer_than_seen;
+  newer_than_found = h.newer_than_found;
+  fresh = h.fresh;
+  truth = λ q. h.truth (less q);
+}
+got_if c P Q a seen gained (Err got.SourceFault) less h = h
+got_if c P Q a seen gained (Err got.Spent) less h = h
+got_if c P Q a seen gained (Err got.OutOfMemory) less h = h
+
+module _ (told : Option ℕ) (c : Catalogue) (place : Place) where
+  abbrev gets : Address → MomentOf HallPass → MomentOf HallPass → Result Tile GetFault → Type 0
+  gets = GetsAt {C = HallPass} (λ p q gained. Gains c p q gained) (λ p. p.told ≡ true) (λ p. p.book) told c
+
+  -- if the pass tells a sound cabinet, the source is the catalogue's
+  abbrev Owes : MomentOf HallPass → Type 0
+  Owes m = m.cache.told ≡ true → told ≡ Some c.source
+
+  part_got : (a : Address) (m n : MomentOf HallPass) (r : Result Tile GetFault) → Owes m → gets a m n r → Gets c a m.cache n.cache r
+  part_got a m n r owes h = record {
+    gained = h.gets.gained;
+    gains = h.gets.gains;
+    got = got_if c ((m.cache.told ≡ true) × (told ≡ Some c.source)) (m.cache.told ≡ true) a m.cache.book h.gets.gained r (λ tells. (tells, owes tells)) h.gets.got;
+  }
+
+  owes_on : (a : Address) (m n : MomentOf HallPass) (r : Result Tile GetFault) → Owes m → gets a m n r → Owes n
+  owes_on a m n r owes h = λ tells. owes (sym (same_told c m.cache n.cache h.gets.gained h.gets.gains) ∙ tells)
+
+  are_got : (m : MomentOf HallPass) (ps : List Part) (tiles : List Tile) (n : MomentOf HallPass) → Owes m → AreGot gets place m ps tiles n → AreGot (Gets c) place m.cache ps tiles n.cache × Owes n
+  are_got m [] [] n owes h = (ap (λ (x : MomentOf HallPass). x.cache) h, subst (λ (x : MomentOf HallPass). Owes x) (sym h) owes)
+  are_got m [] (t ∷ ts) n owes h = absurd h
+  are_got m (p ∷ ps) [] n owes h = absurd h
+  are_got m (p ∷ ps) (t ∷ ts) n owes h =
+      let more = are_got h.0 ps ts n (owes_on (tile_at place p) m h.0 (Ok t) owes h.1) h.2 in ((h.0.cache, part_got (tile_at place p) m h.0 (Ok t) owes h.1, more.0), more.1)
+
+  stops_so : (m : MomentOf HallPass) (p : Part) (stop : ComposeFault) (n : MomentOf HallPass) → Owes m → Stops gets place m p stop n → Stops (Gets c) place m.cache p stop n.cache
+  stops_so m p stop n owes (inl s) = inl (s.0, part_got (tile_at place p) m n (Err s.0) owes s.1, s.2)
+  stops_so m p stop n owes (inr s) = inr (s.0, part_got (tile_at place p) m n (Ok s.0) owes s.1, s.2)
+
+  stopped_so : (m : MomentOf HallPass) (ps : List Part) (stop : ComposeFault) (n : MomentOf HallPass) → Owes m → HasStopped gets place m ps stop n → HasStopped (Gets c) place m.cache ps stop n.cache
+  stopped_so m ps stop n owes h =
+      let above = are_got m h.above h.tiles h.mid owes h.got in
+      record { above = h.above; part = h.part; below = h.below; all = h.all; tiles = h.tiles; mid = h.mid.cache; got = above.0; stops = stops_so h.mid h.part stop n above.1 h.stops }
+
+  came_so : (m : MomentOf HallPass) (ps : List Part) (r : Result Composed ComposeFault) (n : MomentOf HallPass) → Owes m → CameTo gets c ((m.cache.told ≡ true) × (told ≡ Some c.source)) m.cache.book place m ps r n
+      → CameTo (Gets c) c (m.cache.told ≡ true) m.cache.book place m.cache ps r n.cache
+  came_so m ps (Ok composed) n owes h = record {
+    tiles = h.tiles;
+    got = (are_got m ps h.tiles n owes h.got).0;
+    numbered = h.numbered;
+    laid = h.laid;
+    truth = λ tells. h.truth (tells, owes tells);
+    newer = h.newer;
+  }
+  came_so m ps (Err stop) n owes (inl h) = inl (stopped_so m ps stop n owes h)
+  came_so m ps (Err stop) n owes (inr h) = inr (h.0, ap (λ (x : MomentOf HallPass). x.cache) h.1)
+
+  pub composes_so : (m : MomentOf HallPass) (ps : List Part) (r : Result Composed ComposeFault) (n : MomentOf HallPass) → Owes m
+      → ComposesAt {C = HallPass} (λ p q gained. Gains c p q gained) (λ p. p.told ≡ true) (λ p. p.book) told c place m ps r n → ComposesOver c place m.cache ps r n.cache
+  composes_so m ps r n owes h = record { gained = h.gained; gains = h.gains; came_to = came_so m ps r n owes h.came_to }
