@@ -2,8 +2,11 @@
 //!
 //! Promises: after `Ok` of `put` each image of the disk has the blob at its place, and nothing else is other than before;
 //! while it runs no byte below the old end changes outside of the blob's range. `read_tile` gives a part of what was put.
-//! Stands on disk_model, metatile_plan and causes.
+//! Stands on disk_model, metatile_plan and base.
 #![tactic(auto)]
 
-pub mod putting;
-pub mod reading;
+mod putting;
+mod reading;
+
+pub use putting::put;
+pub use reading::read_tile;

@@ -1,12 +1,11 @@
 //! How a blob is put on a disk: written at its place, then synced.
 ghost use Rattle.std.specs.Prelude.{◌≡◌, ◌<◌, ◌+◌, ◌^◌, IsTrue, length, OnOk};
-ghost use Rattle.causes.specs.Causes.{HasCause};
+ghost use Rattle.base.specs.Causes.{HasCause};
+ghost use Rattle.blob_store.specs.Blob.{HasBlob};
 ghost use Rattle.disk_model.specs.Content.{TornWrite};
 ghost use Rattle.disk_model.specs.Images.{ChangesBy, Every, Only};
-ghost use Rattle.blob_store.specs.Blob.{HasBlob};
 
-use disk_model::disk::{Disk, Failed};
-use disk_model::through::write_through;
+use disk_model::{Disk, Failed, write_through};
 
 /// Writes a blob at a place, and syncs. It may lie past the disk's end, which then grows. Its end is below 2^62. `Failed`
 /// only where the disk's count of faults rose; the range, and what is past the old end, may then hold any bytes.

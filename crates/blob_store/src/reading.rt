@@ -1,11 +1,11 @@
 //! How a part of a blob, as an encoded tile, is read from a disk.
 ghost use Rattle.std.specs.Prelude.{◌≡◌, ◌≤◌, ◌<◌, ◌+◌, ◌^◌, ℕ, List, IsTrue, length, take, drop, OnOk};
-ghost use Rattle.causes.specs.Causes.{HasCause};
+ghost use Rattle.base.specs.Causes.{HasCause};
 ghost use Rattle.disk_model.specs.Content.{bytes_at, Same};
 ghost use Rattle.disk_model.specs.Images.{Steps};
 
-use disk_model::disk::{Disk, Failed};
-use metatile_plan::span::Span;
+use disk_model::{Disk, Failed};
+use metatile_plan::Span;
 
 /// Reads a part of the blob at a place, which is of the length of `into`. Its end is below 2^62. `Failed` only where the
 /// disk's count of faults rose. The disk is only read.

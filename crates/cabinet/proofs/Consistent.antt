@@ -5,7 +5,7 @@ use Rattle.std.specs.List.{AllByRecursion}
 use Rattle.std.specs.Option.{option_map}
 use Rattle.std.proofs.lemmas.List.{length-map}
 use Rattle.catalog.specs.declared.catalogue.Catalogue.{Catalogue}
-use Rattle.clock.specs.Readings.{Readings, read}
+use Rattle.base.specs.Readings.{Readings, read}
 use Rattle.expiry_policy.specs.declared.uses.Use.{Use}
 use Rattle.expiry_policy.specs.Victims.{all_saved, one_more, used_at}
 use Rattle.metatile_plan.specs.declared.metatile.MetaKey.{MetaKey}

@@ -1,7 +1,7 @@
 -- The end of a render is kept, unless a test of another reply is met, or the disk failed.
 use Rattle.std.specs.Prelude.{ℕ, List}
 use Rattle.std.proofs.Common.{inl, inr, refl, subst}
-use Rattle.causes.specs.Causes.{Rose}
+use Rattle.base.specs.Causes.{Rose}
 use Rattle.metatile_locks.specs.Tickets.{Ticketed}
 use Rattle.cabinet.specs.declared.replies.Finished.{Finished}
 use Rattle.cabinet.specs.declared.replies.Finished.TheVariants as finished

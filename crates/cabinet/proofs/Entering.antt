@@ -7,7 +7,7 @@ use Rattle.std.proofs.lemmas.List.{append-nil, length-map, length-replicate, map
 use Rattle.std.proofs.lemmas.List.Folds.{find-append}
 use Rattle.catalog.specs.declared.catalogue.Catalogue.{Catalogue}
 use Rattle.catalog.specs.Valid.{IsValid}
-use Rattle.clock.specs.Readings.{Readings}
+use Rattle.base.specs.Readings.{Readings}
 use Rattle.expiry_policy.specs.declared.uses.Use.{Use}
 use Rattle.expiry_policy.specs.Victims.{Counts, one_more}
 use Rattle.expiry_policy.specs.Victims as victims

@@ -20,7 +20,7 @@ pub mod Consistent
 pub mod Entering
 pub mod Writing
 pub mod Answered
-pub mod Found
+pub mod FoundKept
 pub mod UsesAfter
 pub mod Once
 pub mod Bytes

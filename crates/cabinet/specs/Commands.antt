@@ -4,7 +4,7 @@ use Rattle.std.specs.Prelude.{ℕ, ◌≡◌, ◌≤◌, ◌<◌, ◌+◌, ◌�
 use Rattle.std.specs.Option.{option_and_then}
 use Rattle.catalog.specs.declared.catalogue.Catalogue.{Catalogue}
 use Rattle.catalog.specs.declared.catalogue.Scope.{Scope}
-use Rattle.causes.specs.Causes.{Rose}
+use Rattle.base.specs.Causes.{Rose}
 use Rattle.matrix_geometry.specs.declared.address.Address.{Address}
 use Rattle.metatile_locks.specs.Running.{running_for, render_of}
 use Rattle.metatile_locks.specs.Tickets.{Ticketed}

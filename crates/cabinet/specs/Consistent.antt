@@ -1,7 +1,7 @@
 -- How the parts of a cabinet are tied to its history.
 use Rattle.std.specs.Prelude.{ℕ, ◌≡◌, ◌≤◌, List, Some, length}
 use Rattle.std.specs.Option.{option_map}
-use Rattle.clock.specs.Readings.{Readings}
+use Rattle.base.specs.Readings.{Readings}
 use Rattle.metatile_locks.specs.declared.render.Render.{Render}
 use Rattle.metatile_plan.specs.declared.metatile.MetaKey.{MetaKey}
 use Rattle.truncation_list.specs.declared.book.Book.{Book}

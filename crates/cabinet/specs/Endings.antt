@@ -1,6 +1,6 @@
 -- Completeness of the end of a render: it is kept, unless a test of another reply is met, or the disk failed.
 use Rattle.std.specs.Prelude.{ℕ, ◌≡◌, ◌≤◌, ◌⊎◌, List, length, Some, None}
-use Rattle.causes.specs.Causes.{Rose}
+use Rattle.base.specs.Causes.{Rose}
 use Rattle.metatile_locks.specs.Running.{render_of}
 use Rattle.metatile_locks.specs.Tickets.{Ticketed}
 use Rattle.cabinet.specs.declared.replies.Finished.{Finished}

@@ -1,7 +1,7 @@
 -- What a cabinet is opened with.
 use Rattle.std.specs.Prelude.{ℕ, List, [], map, replicate, Some}
 use Rattle.catalog.specs.declared.catalogue.Catalogue.{Catalogue}
-use Rattle.clock.specs.Readings.{Readings}
+use Rattle.base.specs.Readings.{Readings}
 use Rattle.cabinet.specs.declared.kept.Kept.{Kept}
 use Rattle.cabinet.specs.declared.kept.KeptBlob.{KeptBlob}
 use Rattle.cabinet.specs.declared.ranking.Ranked.{Ranked}

@@ -4,7 +4,7 @@ use Rattle.std.specs.List.{AllByRecursion}
 use Rattle.std.specs.Option.{option_and_then, option_map}
 use Rattle.catalog.specs.declared.catalogue.Catalogue.{Catalogue}
 use Rattle.catalog.specs.Valid.{IsValid}
-use Rattle.clock.specs.Readings.{Readings, read}
+use Rattle.base.specs.Readings.{Readings, read}
 use Rattle.metatile_plan.specs.declared.metatile.MetaKey.{MetaKey}
 use Rattle.raster_field.specs.Blocks.{block_text, blob_size}
 use Rattle.truncation_list.specs.declared.book.FrontedBook.{FrontedBook}

@@ -1,12 +1,12 @@
 //! How old a kept metatile may be that answers for a tile.
 ghost use Rattle.std.specs.Prelude.{◌≡◌};
-ghost use Rattle.catalog.specs.LookUp.{IsTile};
-ghost use Rattle.catalog.specs.Valid.{IsValid};
 ghost use Rattle.cabinet.specs.Commands.{is_within};
 ghost use Rattle.cabinet.specs.Fresh.{limit_for};
+ghost use Rattle.catalog.specs.LookUp.{IsTile};
+ghost use Rattle.catalog.specs.Valid.{IsValid};
 
-use catalog::catalogue::Catalogue;
-use matrix_geometry::address::Address;
+use catalog::Catalogue;
+use matrix_geometry::Address;
 
 /// The age limit of the tile's layer at its zoom, in seconds; `None` where there is none.
 pub fn limit_for(catalogue: &Catalogue, address: &Address) -> Option<u32>

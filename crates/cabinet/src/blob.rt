@@ -5,15 +5,11 @@ ghost use Rattle.catalog.specs.Valid.{IsValid};
 ghost use Rattle.raster_field.specs.Blocks.{IsMeta, blob_size, block_of, block_text, part_of, tile_part};
 ghost use Rattle.raster_field.specs.TileText.{tile_text};
 
-use catalog::catalogue::Catalogue;
-use matrix_geometry::address::Address;
-use metatile_plan::laws::laws_of_blocks;
-use metatile_plan::metatile::MetaKey;
-use metatile_plan::span::Span;
-use metatile_plan::spans::tile_span_in_blob;
-use raster_field::laws::laws_of_metatiles;
-use raster_field::layout::{block_of, layout_of};
-use shared_text::shared::SharedText;
+use base::SharedText;
+use catalog::Catalogue;
+use matrix_geometry::Address;
+use metatile_plan::{MetaKey, Span, laws_of_blocks, tile_span_in_blob};
+use raster_field::{block_of, laws_of_metatiles, layout_of};
 use std::alloc::AllocError;
 
 /// The bytes of a blob of a metatile.
@@ -23,7 +19,7 @@ pub fn blob_bytes(catalogue: &Catalogue, meta: &MetaKey) -> u32
     ensures size { result ≡ blob_size catalogue.now meta.now }
     ensures some { 1 ≤ result }
 {
-    raster_field::layout::blob_size(catalogue, meta)
+    raster_field::blob_size(catalogue, meta)
 }
 
 /// Where a tile stands in a blob of its metatile.

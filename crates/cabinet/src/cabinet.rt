@@ -10,16 +10,15 @@ use crate::replies::{Asked, CutReply, Expired, Finished, Forced, Saved};
 use crate::shelving::Found;
 use crate::text::Text;
 use crate::turns::as_asked;
-use catalog::catalogue::Catalogue;
-use clock::clock::Clock;
-use matrix_geometry::address::Address;
-use metatile_locks::ticket::Ticket;
-use metatile_plan::metatile::MetaKey;
-use raster_field::layout::block_of;
-use shared_text::shared::SharedText;
+use base::{Clock, SharedText};
+use catalog::Catalogue;
+use matrix_geometry::Address;
+use metatile_locks::Ticket;
+use metatile_plan::MetaKey;
+use raster_field::block_of;
 use std::alloc::{AllocError, Global};
 use std::marker::Model;
-use truncation_list::cover::Cover;
+use truncation_list::Cover;
 
 /// Keeps metatiles, gives the numbers of renders, and drops what truncations hit. Contracts see its catalogue, its opening
 /// number, its history and the blobs that it keeps, which are modelled in a cabinet in memory.

@@ -2,10 +2,10 @@
 //! command is in two steps: what is to come of it is told first, and then it is done, in steps that can't fail. So a cabinet on a
 //! disk writes it down in between.
 ghost use Rattle.std.specs.Prelude.{IfOk, IsSome, None, OnErr, Some, find, length, ℕ, ◌<◌, ◌^◌, ◌≡◌, ◌≤◌};
+ghost use Rattle.cabinet.specs.History.{bare_opening, last_number};
 ghost use Rattle.catalog.specs.LookUp.{IsTile};
 ghost use Rattle.catalog.specs.Valid.{IsValid};
 ghost use Rattle.raster_field.specs.Blocks.{IsMeta, block_of};
-ghost use Rattle.cabinet.specs.History.{bare_opening, last_number};
 
 use crate::ages::{is_within, limit_for};
 use crate::entry::Entry;
@@ -18,19 +18,15 @@ use crate::shelving::Found;
 use crate::start::Start;
 use crate::text::Text;
 use crate::turns::{taken, turn_for, turn_where};
-use catalog::catalogue::Catalogue;
-use clock::clock::Clock;
-use matrix_geometry::address::Address;
-use metatile_locks::locks::Locks;
-use metatile_locks::replies::End;
-use metatile_locks::ticket::Ticket;
-use metatile_plan::metatile::MetaKey;
-use raster_field::layout::block_of;
+use base::{Clock, Trace};
+use catalog::Catalogue;
+use matrix_geometry::Address;
+use metatile_locks::{End, Locks, Ticket};
+use metatile_plan::MetaKey;
+use raster_field::block_of;
 use std::alloc::{AllocError, Global};
 use std::marker::Model;
-use trace::Trace;
-use truncation_list::cover::Cover;
-use truncation_list::list::CutList;
+use truncation_list::{Cover, CutList};
 
 /// The numbers of the opening e are e * 2^40 + c, with c from 1 to this.
 const LAST: u64 = (1 << 40) - 1;

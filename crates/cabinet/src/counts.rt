@@ -1,10 +1,10 @@
 //! The counts of a cabinet's core, and the list of what it keeps.
-ghost use Rattle.std.specs.Prelude.{length, ◌<◌, ◌≡◌, ◌≤◌};
 ghost use Rattle.std.specs.List.Sorted.{IsPermutation};
+ghost use Rattle.std.specs.Prelude.{length, ◌<◌, ◌≡◌, ◌≤◌};
 
 use crate::cabinet_core::Core;
 use crate::ranking::Ranking;
-use truncation_list::list::CutList;
+use truncation_list::CutList;
 
 impl Core {
     ghost use Rattle.cabinet.specs.Counted.{kept_in, used, used_all};

@@ -1,6 +1,6 @@
 //! The entries of a cabinet's history: what may have happened in it.
-use metatile_plan::metatile::MetaKey;
-use truncation_list::cover::Cover;
+use metatile_plan::MetaKey;
+use truncation_list::Cover;
 
 /// What happened in a cabinet.
 #[derive(Clone, Copy, PartialEq, Eq)]

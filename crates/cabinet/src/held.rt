@@ -1,18 +1,18 @@
 //! The entries of a map of what is kept, a metatile each. A metatile is found by its hash, and taken out by putting the last
 //! entry in its place.
-ghost use Rattle.std.specs.Prelude.{None, Some, if◌then◌else◌, is_some, length, option_copied, slice_get, ◌+◌, ◌<◌, ◌≡◌, ◌≤◌};
 ghost use Rattle.std.specs.Option.{option_map};
-ghost use Rattle.indexmap.specs.IndexMap.{spare};
-ghost use Rattle.metatile_plan.specs.declared.metatile.MetaKey.{MetaKey};
-ghost use Rattle.metatile_plan.specs.Keys.{same_meta};
-ghost use Rattle.cabinet.specs.declared.kept.KeptBlob.{KeptBlob};
+ghost use Rattle.std.specs.Prelude.{None, Some, if◌then◌else◌, is_some, length, option_copied, slice_get, ◌+◌, ◌<◌, ◌≡◌, ◌≤◌};
 ghost use Rattle.cabinet.specs.Fresh.{ApartBy};
 ghost use Rattle.cabinet.specs.Ordered.{as_kept, held_at, held_of, recounted};
+ghost use Rattle.cabinet.specs.declared.kept.KeptBlob.{KeptBlob};
+ghost use Rattle.indexmap.specs.IndexMap.{spare};
+ghost use Rattle.metatile_plan.specs.Keys.{same_meta};
+ghost use Rattle.metatile_plan.specs.declared.metatile.MetaKey.{MetaKey};
 
 use crate::kept::{Blob, Kept};
 use crate::text::Text;
 use indexmap::IndexMap;
-use metatile_plan::metatile::MetaKey;
+use metatile_plan::MetaKey;
 
 /// What is held of each metatile that is kept.
 pub type Held = IndexMap<MetaKey, Blob>;

@@ -1,18 +1,16 @@
 //! Which metatiles a cover of the catalogue hits.
 ghost use Rattle.std.specs.Prelude.{Some, slice_get, ◌≡◌};
-ghost use Rattle.catalog.specs.Valid.{IsGrid, IsValid};
-ghost use Rattle.metatile_plan.specs.declared.metatile.MetaKey.{MetaKey};
-ghost use Rattle.metatile_locks.specs.Running.{IsPlanOn, hits_in, overtaken};
-ghost use Rattle.raster_field.specs.Blocks.{factors_of};
 ghost use Rattle.cabinet.specs.Hits.{hits_of};
+ghost use Rattle.catalog.specs.Valid.{IsGrid, IsValid};
+ghost use Rattle.metatile_locks.specs.Running.{IsPlanOn, hits_in, overtaken};
+ghost use Rattle.metatile_plan.specs.declared.metatile.MetaKey.{MetaKey};
+ghost use Rattle.raster_field.specs.Blocks.{factors_of};
 ghost use Rattle.served_covers.specs.OfCatalogue.{IsCoverOf};
 
-use catalog::catalogue::Catalogue;
-use catalog::grid::Grid;
-use metatile_locks::locks::Locks;
-use metatile_plan::metatile::Factors;
-use raster_field::layout;
-use truncation_list::cover::Cover;
+use catalog::{Catalogue, Grid};
+use metatile_locks::Locks;
+use metatile_plan::Factors;
+use truncation_list::Cover;
 
 /// The grid of a cover.
 #[tactic(auto, using(catalog::proofs::Found::some_told, catalog::proofs::Found::some_before))]
@@ -34,7 +32,7 @@ pub fn factors_of(catalogue: &Catalogue, cover: &Cover, grid: &Grid) -> Factors
     ensures plan { IsPlanOn result grid.now }
     ensures hits { (m : MetaKey) → hits_in result grid.now cover.now m ≡ hits_of catalogue.now cover.now m }
 {
-    layout::factors_of(catalogue.layer(cover.layer))
+    raster_field::factors_of(catalogue.layer(cover.layer))
 }
 
 /// Marks with a truncation's number each running render of which the cover is for a tile.

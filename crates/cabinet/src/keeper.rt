@@ -1,22 +1,22 @@
 //! The trait of a cabinet, in memory or on a disk: its commands, by their rows, and the counts that it tells.
 ghost use Rattle.std.specs.Prelude.{ℕ, ◌≡◌, ◌<◌, ◌≤◌, IfOk, OnErr, length};
-ghost use Rattle.catalog.specs.LookUp.{IsTile};
-ghost use Rattle.raster_field.specs.Blocks.{IsMeta, blob_size, block_text};
-ghost use Rattle.served_covers.specs.OfCatalogue.{IsCoverOf};
-ghost use Rattle.truncation_list.specs.Books.{AnswersForBook, last_seen};
 ghost use Rattle.cabinet.specs.Commands.{Abandons, Asks, Cuts, Expires, Finishes, Forces, IsCountedCut, IsCountedExpired, IsCountedFinished, IsCountedSaved, IsFreshReply, IsTrueHit, Saves};
 ghost use Rattle.cabinet.specs.Counted.{kept_in, used, used_all};
 ghost use Rattle.cabinet.specs.Endings.{IsKeptUnlessFailed};
 ghost use Rattle.cabinet.specs.State.{IsKnown, IsSound, State, now};
+ghost use Rattle.catalog.specs.LookUp.{IsTile};
+ghost use Rattle.raster_field.specs.Blocks.{IsMeta, blob_size, block_text};
+ghost use Rattle.served_covers.specs.OfCatalogue.{IsCoverOf};
+ghost use Rattle.truncation_list.specs.Books.{AnswersForBook, last_seen};
 
 use crate::replies::{Asked, CutReply, Expired, Finished, Forced, Saved};
-use catalog::catalogue::Catalogue;
-use matrix_geometry::address::Address;
-use metatile_locks::ticket::Ticket;
-use metatile_plan::metatile::MetaKey;
-use shared_text::shared::SharedText;
+use base::SharedText;
+use catalog::Catalogue;
+use matrix_geometry::Address;
+use metatile_locks::Ticket;
+use metatile_plan::MetaKey;
 use std::alloc::{AllocError, Global};
-use truncation_list::cover::Cover;
+use truncation_list::Cover;
 
 /// Keeps metatiles, gives the numbers of renders, and drops what truncations hit.
 pub trait Keeper: Drop {

@@ -1,7 +1,7 @@
 //! A kept metatile: the number of its render and its region, alone and with its blob.
 use crate::text::Text;
-use exact_ratio::words::Words;
-use metatile_plan::metatile::MetaKey;
+use exact_ratio::Words;
+use metatile_plan::MetaKey;
 
 /// A metatile that is kept: the number of its render and when that was begun, where its blob lies, and its uses.
 #[derive(Clone, Copy, PartialEq, Eq)]

@@ -1,16 +1,11 @@
 //! What holds of each history that a cabinet can have, and what each row of a command leaves.
+ghost use Rattle.std.specs.List.{AllByRecursion};
 ghost use Rattle.std.specs.Prelude.{Contains, List, Some, find, length, ℕ, ◌++◌, ◌≡◌, ◌≤◌};
-ghost use Rattle.catalog.specs.declared.catalogue.Catalogue.{Catalogue};
-ghost use Rattle.catalog.specs.LookUp.{IsTile};
-ghost use Rattle.catalog.specs.Valid.{IsValid};
-ghost use Rattle.matrix_geometry.specs.declared.address.Address.{Address};
-ghost use Rattle.metatile_locks.specs.Running.{has_number, render_of, running_for, unmarked};
-ghost use Rattle.metatile_locks.specs.Tickets.{Ticketed};
-ghost use Rattle.metatile_plan.specs.declared.metatile.MetaKey.{MetaKey};
-ghost use Rattle.raster_field.specs.Blocks.{IsMeta, blob_size, block_of};
-ghost use Rattle.truncation_list.specs.declared.book.Cut.{Cut};
-ghost use Rattle.truncation_list.specs.declared.cover.Cover.{Cover};
-ghost use Rattle.truncation_list.specs.Books.{AnswersFor};
+ghost use Rattle.cabinet.specs.Commands.{Abandons, Asks, Cuts, Expires, Finishes, Forces, IsBusy, IsFreshForced, IsFreshReply, Saves};
+ghost use Rattle.cabinet.specs.Fresh.{ApartBy, Differ, Holds, IsCurrent, IsFresh, IsOfLength, Opens, Possible, cuts_of, moment};
+ghost use Rattle.cabinet.specs.Gaps.{HaveRegions};
+ghost use Rattle.cabinet.specs.History.{History, Opening, bare_opening, first, kept, kept_of, render, standing, ticket_render, whole};
+ghost use Rattle.cabinet.specs.State.{IsKnown, IsKnownAs, State};
 ghost use Rattle.cabinet.specs.declared.kept.Kept.{Kept};
 ghost use Rattle.cabinet.specs.declared.replies.Asked.{Asked};
 ghost use Rattle.cabinet.specs.declared.replies.CutReply.{CutReply};
@@ -18,13 +13,18 @@ ghost use Rattle.cabinet.specs.declared.replies.Expired.{Expired};
 ghost use Rattle.cabinet.specs.declared.replies.Finished.{Finished};
 ghost use Rattle.cabinet.specs.declared.replies.Forced.{Forced};
 ghost use Rattle.cabinet.specs.declared.replies.Saved.{Saved};
-ghost use Rattle.cabinet.specs.Commands.{Abandons, Asks, Cuts, Expires, Finishes, Forces, IsBusy, IsFreshForced, IsFreshReply, Saves};
-ghost use Rattle.std.specs.List.{AllByRecursion};
-ghost use Rattle.cabinet.specs.Fresh.{ApartBy, Differ, Holds, IsCurrent, IsFresh, IsOfLength, Opens, Possible, cuts_of, moment};
-ghost use Rattle.cabinet.specs.Gaps.{HaveRegions};
+ghost use Rattle.catalog.specs.LookUp.{IsTile};
+ghost use Rattle.catalog.specs.Valid.{IsValid};
+ghost use Rattle.catalog.specs.declared.catalogue.Catalogue.{Catalogue};
+ghost use Rattle.matrix_geometry.specs.declared.address.Address.{Address};
+ghost use Rattle.metatile_locks.specs.Running.{has_number, render_of, running_for, unmarked};
+ghost use Rattle.metatile_locks.specs.Tickets.{Ticketed};
+ghost use Rattle.metatile_plan.specs.declared.metatile.MetaKey.{MetaKey};
+ghost use Rattle.raster_field.specs.Blocks.{IsMeta, blob_size, block_of};
 ghost use Rattle.served_covers.specs.OfCatalogue.{IsCoverOf};
-ghost use Rattle.cabinet.specs.History.{History, Opening, bare_opening, first, kept, kept_of, render, standing, ticket_render, whole};
-ghost use Rattle.cabinet.specs.State.{IsKnown, IsKnownAs, State};
+ghost use Rattle.truncation_list.specs.Books.{AnswersFor};
+ghost use Rattle.truncation_list.specs.declared.book.Cut.{Cut};
+ghost use Rattle.truncation_list.specs.declared.cover.Cover.{Cover};
 
 /// In what follows `o` is an opening, `h` what happened since, and `whole o h` the history that they make. An opening with
 /// nothing in it is one. What stands after a history agrees with the sentence on each metatile, each number and each ticket. What is kept for a

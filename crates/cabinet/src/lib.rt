@@ -6,30 +6,47 @@
 //! limit (`specs/Fresh.antt`). What is used counts the metatiles that are kept, and an expiry drops the victim by the
 //! layer's policy, exactly where a quota is exceeded (`specs/Counted.antt`).
 //! Stands on metatile_locks, quota_ledger, expiry_policy, served_covers, truncation_list, extent_map, raster_field,
-//! metatile_plan, catalog, matrix_geometry, clock, causes and trace, and indexmap for what is kept.
+//! metatile_plan, catalog, matrix_geometry, base, and indexmap for what is kept.
 #![tactic(auto)]
 
 mod ages;
-pub mod blob;
-pub mod cabinet;
-pub mod cabinet_core;
+mod blob;
+mod cabinet;
+mod cabinet_core;
 mod counts;
-pub mod entry;
+mod entry;
 mod held;
-pub mod hitting;
-pub mod judged;
-pub mod keeper;
-pub mod kept;
-pub mod laws;
+mod hitting;
+mod judged;
+mod keeper;
+mod kept;
+mod laws;
 mod memory;
-pub mod ranking;
-pub mod replies;
-mod restoring;
+mod ranking;
+mod replies;
 mod shelf;
-pub mod shelving;
+mod shelving;
 mod sifting;
-pub mod start;
-pub mod store;
-pub mod tally;
-pub mod text;
-pub mod turns;
+mod start;
+mod store;
+mod tally;
+mod text;
+mod turns;
+
+pub use blob::{blob_bytes, tile_in, tile_span};
+pub use cabinet::Cabinet;
+pub use cabinet_core::Core;
+pub use entry::Entry;
+pub use hitting::{factors_of, grid_of, overtake};
+pub use judged::{Admitted, Judged, Unsaved};
+pub use keeper::Keeper;
+pub use kept::{Blob, Kept, KeptBlob};
+pub use laws::{laws_of_histories, laws_of_rows};
+pub use ranking::{Ranked, Ranking, rank};
+pub use replies::{Asked, CutReply, Expired, Finished, Forced, Saved};
+pub use shelving::{Found, KeptHit};
+pub use start::Start;
+pub use store::Store;
+pub use tally::{Tally, give_back, law_of_extents};
+pub use text::Text;
+pub use turns::{Turn, as_asked, taken, turn_for, turn_where};

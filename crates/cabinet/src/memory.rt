@@ -4,13 +4,13 @@ ghost use Rattle.std.specs.Prelude.{⊤};
 use crate::cabinet::Cabinet;
 use crate::keeper::Keeper;
 use crate::replies::{Asked, CutReply, Expired, Finished, Forced, Saved};
-use catalog::catalogue::Catalogue;
-use matrix_geometry::address::Address;
-use metatile_locks::ticket::Ticket;
-use metatile_plan::metatile::MetaKey;
-use shared_text::shared::SharedText;
+use base::SharedText;
+use catalog::Catalogue;
+use matrix_geometry::Address;
+use metatile_locks::Ticket;
+use metatile_plan::MetaKey;
 use std::alloc::{AllocError, Global};
-use truncation_list::cover::Cover;
+use truncation_list::Cover;
 
 impl Keeper for Cabinet {
     ghost state = { λ c. c };

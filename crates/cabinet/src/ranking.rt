@@ -1,16 +1,16 @@
 //! What is kept, in the order in which a compaction writes it.
-ghost use Rattle.std.specs.Prelude.{[], OnOk, Some, length, map, slice_get, ◌++◌, ◌<◌, ◌≡◌, ◌≤◌, ◌∷◌};
 ghost use Rattle.std.specs.Cmp.Lexicographic.{slice_cmp};
 ghost use Rattle.std.specs.List.Sorted.{IsPermutation};
 ghost use Rattle.std.specs.Ordering.{nat_cmp};
-ghost use Rattle.expiry_policy.specs.Victims.{fields, use_of};
+ghost use Rattle.std.specs.Prelude.{[], OnOk, Some, length, map, slice_get, ◌++◌, ◌<◌, ◌≡◌, ◌≤◌, ◌∷◌};
 ghost use Rattle.cabinet.specs.Shelved.{listed};
 ghost use Rattle.cabinet.specs.Writing.{IsInOrderBy, last_of, rank_of, ranked_by};
+ghost use Rattle.expiry_policy.specs.Victims.{fields, use_of};
 
 use crate::kept::Kept;
 use crate::store::Store;
-use expiry_policy::uses::Uses;
-use metatile_plan::metatile::MetaKey;
+use expiry_policy::Uses;
+use metatile_plan::MetaKey;
 use std::alloc::{AllocError, Global};
 use std::cmp::Ordering;
 use std::marker::Model;

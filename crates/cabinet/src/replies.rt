@@ -1,7 +1,7 @@
 //! What the commands of a cabinet can answer.
-use metatile_locks::ticket::Ticket;
-use metatile_plan::metatile::MetaKey;
-use shared_text::shared::SharedText;
+use base::SharedText;
+use metatile_locks::Ticket;
+use metatile_plan::MetaKey;
 
 /// What an ask is answered.
 pub enum Asked {

@@ -1,13 +1,14 @@
-//! The shelf of a cabinet: what is kept, and all that this takes up, which change together.
-ghost use Rattle.std.specs.Prelude.{IfOk, OnErr, OnOk, filter, find, fold, length, map, not, ◌+◌, ◌<◌, ◌==◌, ◌≡◌, ◌≤◌};
-ghost use Rattle.std.specs.Prelude.{IsSome, Some};
-ghost use Rattle.std.specs.Option.{option_map};
+//! What is kept, with its sums: the shelf of a cabinet, also as the records of a disk give it.
 ghost use Rattle.std.specs.List.Sorted.{IsPermutation};
+ghost use Rattle.std.specs.Option.{option_map};
+ghost use Rattle.std.specs.Prelude.{IfOk, OnErr, OnOk, filter, find, fold, length, map, not, ◌+◌, ◌<◌, ◌==◌, ◌≡◌, ◌≤◌, IsSome, Some};
+ghost use Rattle.cabinet.specs.Entered.{AreEntered, CanBeEntered, CanEnter, Enters};
+ghost use Rattle.cabinet.specs.History.{is_of, lesser};
+ghost use Rattle.cabinet.specs.Shelved.{IsBare};
 ghost use Rattle.catalog.specs.LookUp.{IsTile};
 ghost use Rattle.catalog.specs.Valid.{IsValid};
 ghost use Rattle.raster_field.specs.Blocks.{IsMeta};
 ghost use Rattle.served_covers.specs.OfCatalogue.{IsCoverOf};
-ghost use Rattle.cabinet.specs.History.{is_of, lesser};
 
 use crate::blob::blob_bytes;
 use crate::judged::{Judged, Unsaved};
@@ -18,12 +19,12 @@ use crate::sifting::sift;
 use crate::store::Store;
 use crate::tally::Tally;
 use crate::text::Text;
-use catalog::catalogue::Catalogue;
-use matrix_geometry::address::Address;
-use metatile_plan::metatile::MetaKey;
+use catalog::Catalogue;
+use matrix_geometry::Address;
+use metatile_plan::MetaKey;
 use std::alloc::{AllocError, Global};
 use std::marker::Model;
-use truncation_list::cover::Cover;
+use truncation_list::Cover;
 
 /// Keeps metatiles of a catalogue, each once, within its limits, and counts what they take up. Contracts see the catalogue,
 /// what is kept with its blobs, the uses, the count of entries that kept or used, and for how many more there is room.
@@ -282,5 +283,49 @@ impl Shelf {
         ensures { result ≡ length self.now.blobs }
     {
         self.store.count() as u32
+    }
+}
+
+/// Makes room for one metatile, and enters it. `AllocError` where memory runs out.
+fn enter_one(alloc: Global, shelf: &mut Shelf, kept: Kept) -> Result<(), AllocError>
+    requires { CanEnter shelf.old.catalogue shelf.old.blobs kept }
+    ensures { OnOk result (Enters kept shelf.old shelf.new) }
+{
+    match shelf.reserve(alloc, 1) {
+        Err(fault) => return Err(fault),
+        Ok(()) => {}
+    }
+    shelf.enter(kept);
+    Ok(())
+}
+
+/// Enters all of a list on a shelf on which nothing is kept. `AllocError` where memory runs out.
+fn restore(alloc: Global, shelf: &mut Shelf, kept: &[Kept]) -> Result<(), AllocError>
+    requires bare { IsBare shelf.old.catalogue shelf.old }
+    requires fit { CanBeEntered shelf.old.catalogue kept.now }
+    ensures { OnOk result (AreEntered shelf.old.catalogue kept.now shelf.new) }
+{
+    'restoring: for at in 0..kept.len() {
+        match enter_one(alloc, shelf, kept[at]) {
+            Err(fault) => return Err(fault),
+            Ok(()) => {}
+        }
+    }
+    Ok(())
+}
+
+impl Shelf {
+    /// A shelf on which all of a list is kept, with blobs that lie elsewhere. `AllocError` where memory runs out.
+    pub fn restored(alloc: Global, catalogue: Catalogue, kept: &[Kept]) -> Result<Shelf, AllocError>
+        requires valid { IsValid catalogue }
+        requires fit { CanBeEntered catalogue kept.now }
+        ensures { IfOk result (λ shelf. AreEntered catalogue kept.now shelf) }
+    {
+        let mut shelf = Shelf::new(alloc, catalogue)?;
+        match restore(alloc, &mut shelf, kept) {
+            Err(fault) => return Err(fault),
+            Ok(()) => {}
+        }
+        Ok(shelf)
     }
 }

@@ -1,6 +1,6 @@
 //! What a shelf reads and finds.
 use crate::kept::Kept;
-use shared_text::shared::SharedText;
+use base::SharedText;
 
 /// What is read of a kept metatile.
 #[derive(Drop)]

@@ -1,15 +1,15 @@
 //! What a truncation hits of what is kept is forgotten and dropped, one after the other as it is found by area.
 ghost use Rattle.std.specs.Prelude.{filter, not, ◌≡◌, ◌≤◌};
-ghost use Rattle.catalog.specs.Valid.{IsValid};
-ghost use Rattle.served_covers.specs.OfCatalogue.{IsCoverOf};
 ghost use Rattle.cabinet.specs.Hits.{hits_of};
 ghost use Rattle.cabinet.specs.Shelved.{IsShelved, LeavesUses, with_spared};
+ghost use Rattle.catalog.specs.Valid.{IsValid};
 ghost use Rattle.expiry_policy.specs.Victims.{use_of};
+ghost use Rattle.served_covers.specs.OfCatalogue.{IsCoverOf};
 
 use crate::store::Store;
 use crate::tally::Tally;
-use catalog::catalogue::Catalogue;
-use truncation_list::cover::Cover;
+use catalog::Catalogue;
+use truncation_list::Cover;
 
 /// Drops each kept metatile of which the cover is for a tile. Each is dropped before the next one is looked for, from the chunk on in
 /// which it was found.

@@ -2,9 +2,8 @@
 ghost use Rattle.std.specs.Prelude.{[], Some, length, slice_get, ◌<◌, ◌≡◌};
 
 use crate::kept::Kept;
-use trace::Trace;
-use truncation_list::book::Cut;
-use truncation_list::list::CutList;
+use base::Trace;
+use truncation_list::{Cut, CutList};
 
 /// The opening of a cabinet: its number and its floor, and what was kept and which cuts were in force then, which contracts alone
 /// read.

@@ -1,18 +1,18 @@
 //! The kept metatiles with their blobs, in a map by metatile, and their keys by area. The blobs lie in memory, beside the entries, or
 //! elsewhere.
 //! Contracts see what is kept in the order in which it was kept, though the map's order is another.
-ghost use Rattle.std.specs.Prelude.{[], Bool, IfNone, IfOk, IfSome, None, OnOk, Some, false, filter, find, fold, if◌then◌else◌, length, map, not, option_copied, slice_get, true, ℕ, ◌+◌, ◌++◌, ◌<◌, ◌^◌, ◌≡◌, ◌≤◌, ◌∷◌};
 ghost use Rattle.std.specs.List.{AllByRecursion};
 ghost use Rattle.std.specs.Option.{option_map};
-ghost use Rattle.catalog.specs.LookUp.{IsTile};
-ghost use Rattle.catalog.specs.Valid.{IsValid};
-ghost use Rattle.cabinet.specs.declared.kept.KeptBlob.{KeptBlob};
+ghost use Rattle.std.specs.Prelude.{[], Bool, IfNone, IfOk, IfSome, None, OnOk, Some, false, filter, find, fold, if◌then◌else◌, length, map, not, option_copied, slice_get, true, ℕ, ◌+◌, ◌++◌, ◌<◌, ◌^◌, ◌≡◌, ◌≤◌, ◌∷◌};
 ghost use Rattle.cabinet.specs.Fresh.{ApartBy};
 ghost use Rattle.cabinet.specs.History.{is_of, lesser, with_uses};
 ghost use Rattle.cabinet.specs.Hits.{hits_of};
+ghost use Rattle.cabinet.specs.declared.kept.KeptBlob.{KeptBlob};
+ghost use Rattle.catalog.specs.LookUp.{IsTile};
+ghost use Rattle.catalog.specs.Valid.{IsValid};
 ghost use Rattle.kept_areas.specs.Areas.{IsClear, number_at};
-ghost use Rattle.metatile_plan.specs.declared.metatile.MetaKey.{MetaKey};
 ghost use Rattle.metatile_plan.specs.Keys.{same_meta};
+ghost use Rattle.metatile_plan.specs.declared.metatile.MetaKey.{MetaKey};
 ghost use Rattle.served_covers.specs.OfCatalogue.{IsCoverOf};
 
 use crate::held::{Held, blob_of, drop_of, kept_at, kept_in, put, recount};
@@ -20,16 +20,16 @@ use crate::hitting::{factors_of, grid_of};
 use crate::kept::{Blob, Kept};
 use crate::shelving::{Found, KeptHit};
 use crate::text::Text;
-use catalog::catalogue::Catalogue;
+use base::Trace;
+use catalog::Catalogue;
 use indexmap::IndexMap;
-use kept_areas::areas::KeptAreas;
-use matrix_geometry::address::Address;
-use metatile_plan::metatile::MetaKey;
-use raster_field::layout::block_of;
+use kept_areas::KeptAreas;
+use matrix_geometry::Address;
+use metatile_plan::MetaKey;
+use raster_field::block_of;
 use std::alloc::{AllocError, Global};
 use std::marker::Model;
-use trace::Trace;
-use truncation_list::cover::Cover;
+use truncation_list::Cover;
 
 /// Keeps metatiles with their blobs. Contracts see both, in the order in which they were kept and in an order of which nothing
 /// is said, and for how many more there is room.

@@ -1,19 +1,19 @@
 //! What kept metatiles take up: their regions, the bytes of their layers, and their uses. What keeps or forgets a metatile
 //! changes all three.
 ghost use Rattle.std.specs.Prelude.{[], Contains, IfNone, IfOk, IfSome, IsSome, None, length, ◌+◌, ◌<◌, ◌^◌, ◌≡◌, ◌≤◌};
-ghost use Rattle.extent_map.specs.Spaces.{IsSound, IsTaken};
-ghost use Rattle.catalog.specs.Valid.{IsValid};
-ghost use Rattle.expiry_policy.specs.Victims.{one_more, use_of};
-ghost use Rattle.metatile_plan.specs.declared.metatile.MetaKey.{MetaKey};
-ghost use Rattle.quota_ledger.specs.Accounts.{added, removed};
 ghost use Rattle.cabinet.specs.Gaps.{region};
 ghost use Rattle.cabinet.specs.Shelved.{IsCountedIn, IsShelved, LeavesUses, with_forgotten, with_kept, without};
+ghost use Rattle.catalog.specs.Valid.{IsValid};
+ghost use Rattle.expiry_policy.specs.Victims.{one_more, use_of};
+ghost use Rattle.extent_map.specs.Spaces.{IsSound, IsTaken};
+ghost use Rattle.metatile_plan.specs.declared.metatile.MetaKey.{MetaKey};
+ghost use Rattle.quota_ledger.specs.Accounts.{added, removed};
 
 use crate::kept::Kept;
-use catalog::catalogue::Catalogue;
-use expiry_policy::uses::Uses;
-use extent_map::extents::Extents;
-use quota_ledger::ledger::Ledger;
+use catalog::Catalogue;
+use expiry_policy::Uses;
+use extent_map::Extents;
+use quota_ledger::Ledger;
 use std::alloc::{AllocError, Global};
 
 /// What is taken up by what is kept.

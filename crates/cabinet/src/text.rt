@@ -6,9 +6,9 @@ ghost use Rattle.raster_field.specs.Blocks.{blob_size, block_of, block_text, til
 ghost use Rattle.raster_field.specs.TileText.{tile_text};
 
 use crate::blob::tile_in;
-use catalog::catalogue::Catalogue;
-use matrix_geometry::address::Address;
-use shared_text::shared::SharedText;
+use base::SharedText;
+use catalog::Catalogue;
+use matrix_geometry::Address;
 use std::alloc::{AllocError, Global};
 use std::marker::Model;
 

@@ -1,21 +1,20 @@
 //! What an ask comes to where nothing that is kept answers it, and what a force comes to.
 ghost use Rattle.std.specs.Prelude.{IfOk, IfSome, None, OnOk, length, ℕ, ◌+◌, ◌<◌, ◌≡◌, ◌≤◌};
-ghost use Rattle.catalog.specs.declared.catalogue.Catalogue.{Catalogue};
-ghost use Rattle.matrix_geometry.specs.declared.address.Address.{Address};
-ghost use Rattle.raster_field.specs.Blocks.{block_of};
 ghost use Rattle.cabinet.specs.Commands.{IsAskedOf, IsForcedOf, IsTrueHit, IsUnread};
 ghost use Rattle.cabinet.specs.Shelved.{IsAlike};
 ghost use Rattle.cabinet.specs.State.{State};
 ghost use Rattle.cabinet.specs.Turns.{IsReady, IsTaken, IsTurn};
+ghost use Rattle.catalog.specs.declared.catalogue.Catalogue.{Catalogue};
+ghost use Rattle.matrix_geometry.specs.declared.address.Address.{Address};
+ghost use Rattle.raster_field.specs.Blocks.{block_of};
 
 use crate::entry::Entry;
 use crate::replies::{Asked, Forced};
 use crate::shelf::Shelf;
-use metatile_locks::locks::Locks;
-use metatile_locks::replies::Begin;
-use metatile_plan::metatile::MetaKey;
+use base::Trace;
+use metatile_locks::{Begin, Locks};
+use metatile_plan::MetaKey;
 use std::alloc::{AllocError, Global};
-use trace::Trace;
 
 /// What is to come of an ask or a force, before its clock is read.
 #[derive(Clone, Copy, PartialEq, Eq)]

@@ -1,10 +1,10 @@
 //! What a turn does to a cabinet, and what it is answered.
-use cabinet::replies::{Asked, CutReply, Expired, Finished, Forced, Saved};
-use matrix_geometry::address::Address;
-use metatile_locks::ticket::Ticket;
-use metatile_plan::metatile::MetaKey;
-use shared_text::shared::SharedText;
-use truncation_list::cover::Cover;
+use base::SharedText;
+use cabinet::{Asked, CutReply, Expired, Finished, Forced, Saved};
+use matrix_geometry::Address;
+use metatile_locks::Ticket;
+use metatile_plan::MetaKey;
+use truncation_list::Cover;
 
 /// What a turn does.
 pub enum Command {

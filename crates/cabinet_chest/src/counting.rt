@@ -3,7 +3,7 @@ ghost use Rattle.std.specs.Prelude.{◌≡◌, ◌≤◌, length};
 ghost use Rattle.cabinet_chest.specs.Counts.{counts_of};
 
 use crate::command::Counts;
-use cabinet::keeper::Keeper;
+use cabinet::Keeper;
 
 /// What is kept of the layer with this number, or of all layers where the number is how many there are.
 pub fn counts_of<K: Keeper>(keeper: &K, layer: u32) -> Counts

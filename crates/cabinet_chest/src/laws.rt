@@ -2,13 +2,13 @@
 ghost use Rattle.std.specs.Prelude.{IsTrue, ℕ, ◌<◌, ◌≡◌};
 ghost use Rattle.cabinet.specs.Hits.{covers_in};
 ghost use Rattle.cabinet_chest.specs.Above.{IsAboveAll, IsAboveCovering};
-ghost use Rattle.catalog.specs.declared.catalogue.Catalogue.{Catalogue};
 ghost use Rattle.catalog.specs.LookUp.{IsTile};
 ghost use Rattle.catalog.specs.Valid.{IsValid};
+ghost use Rattle.catalog.specs.declared.catalogue.Catalogue.{Catalogue};
 ghost use Rattle.matrix_geometry.specs.declared.address.Address.{Address};
+ghost use Rattle.truncation_list.specs.Books.{AnswersFor, AnswersForBook};
 ghost use Rattle.truncation_list.specs.declared.book.Book.{Book};
 ghost use Rattle.truncation_list.specs.declared.book.Cut.{Cut};
-ghost use Rattle.truncation_list.specs.Books.{AnswersFor, AnswersForBook};
 
 /// A number that is above the truncations of a book that cover a tile is above each one that covers the tile and for which the book
 /// answers, or a book for which it answers. One that is above all is above those.

@@ -7,10 +7,13 @@
 //! Stands on cabinet and turnstile, and on the crates of their types.
 #![tactic(auto)]
 
-mod acts;
-pub mod chest;
-pub mod command;
+mod chest;
+mod command;
 mod counting;
-pub mod laws;
-pub mod shown;
-mod turning;
+mod laws;
+mod shown;
+
+pub use chest::CabinetChest;
+pub use command::{Command, Counts, Reply};
+pub use laws::laws_of_numbers;
+pub use shown::{Note, Shown};

@@ -24,10 +24,9 @@ use Rattle.truncation_list.proofs.Remaining.{in_order_with}
 use Rattle.cabinet.specs.declared.kept.Kept.{Kept}
 use Rattle.cabinet.specs.Fresh.{ApartBy, IsNewer, IsOfLength}
 use Rattle.cabinet.specs.Gaps.{AreDisjoint, region}
-use Rattle.cabinet.specs.History.{but, is_of}
+use Rattle.cabinet.specs.History.{but, is_of, with_uses}
 use Rattle.cabinet.specs.Hits.{hits_of}
 use Rattle.cabinet_records.specs.Replay.{MayCut, MayFollow, MayOpen, MayStore, Replayed, Replays, opening_number, opening_of, replayed, unplayed}
-use Rattle.cabinet.specs.History.{with_uses}
 use Rattle.cabinet.proofs.Disjoint.{blob_some}
 use Rattle.cabinet.proofs.Lists.{all_both, all_push}
 use Rattle.cabinet.proofs.Numbers.{apart_filter, apart_push}

@@ -6,7 +6,12 @@
 //! Stands on cabinet, gate_journal, record_text and the crates of their types.
 #![tactic(auto)]
 
-pub mod openings;
-pub mod recorded;
-pub mod replay;
-pub mod restored;
+mod openings;
+mod recorded;
+mod replay;
+mod restored;
+
+pub use openings::laws_of_replays;
+pub use recorded::laws_of_records;
+pub use replay::Replay;
+pub use restored::Restored;

@@ -1,27 +1,27 @@
 //! What each command adds to the records of a journal, so that they still say what is kept.
-ghost use Rattle.std.specs.Prelude.{[], ◌∷◌, ◌++◌, ◌+◌, ◌<◌, ◌^◌, ◌≡◌, ◌≤◌, List, Option, Some, length, map, ℕ};
-ghost use Rattle.std.specs.List.{AllByRecursion};
 ghost use Rattle.std.specs.List.Sorted.{IsPermutation};
-ghost use Rattle.metatile_locks.specs.Tickets.{Ticketed};
-ghost use Rattle.metatile_plan.specs.declared.metatile.MetaKey.{MetaKey};
-ghost use Rattle.raster_field.specs.Blocks.{blob_size};
-ghost use Rattle.record_text.specs.declared.entries.Record.{Record};
-ghost use Rattle.record_text.specs.declared.entries.Record.TheVariants as record_of;
-ghost use Rattle.served_covers.specs.OfCatalogue.{IsCoverOf};
-ghost use Rattle.truncation_list.specs.declared.cover.Cover.{Cover};
-ghost use Rattle.truncation_list.specs.Books.{AnswersForBook};
+ghost use Rattle.std.specs.List.{AllByRecursion};
+ghost use Rattle.std.specs.Prelude.{[], ◌∷◌, ◌++◌, ◌+◌, ◌<◌, ◌^◌, ◌≡◌, ◌≤◌, List, Option, Some, length, map, ℕ};
+ghost use Rattle.cabinet.specs.Commands.{Cuts, Expires, Finishes, Saves, kept_at};
+ghost use Rattle.cabinet.specs.Counted.{uses};
+ghost use Rattle.cabinet.specs.Fresh.{cuts_of};
+ghost use Rattle.cabinet.specs.History.{kept_of};
+ghost use Rattle.cabinet.specs.State.{IsKnown, State, now};
 ghost use Rattle.cabinet.specs.declared.kept.Kept.{Kept};
 ghost use Rattle.cabinet.specs.declared.replies.CutReply.TheVariants as cut;
 ghost use Rattle.cabinet.specs.declared.replies.Expired.TheVariants as expired;
 ghost use Rattle.cabinet.specs.declared.replies.Finished.TheVariants as finished;
 ghost use Rattle.cabinet.specs.declared.replies.Saved.TheVariants as saved;
-ghost use Rattle.cabinet.specs.Commands.{Cuts, Expires, Finishes, Saves, kept_at};
-ghost use Rattle.cabinet.specs.Counted.{uses};
-ghost use Rattle.cabinet.specs.Fresh.{cuts_of};
-ghost use Rattle.cabinet.specs.History.{kept_of};
 ghost use Rattle.cabinet_records.specs.Recorded.{IsRecordedIn, compacted, stored_record};
 ghost use Rattle.cabinet_records.specs.Replay.{Replayed, Replays, book_after, opening_after, unplayed};
-ghost use Rattle.cabinet.specs.State.{IsKnown, State, now};
+ghost use Rattle.metatile_locks.specs.Tickets.{Ticketed};
+ghost use Rattle.metatile_plan.specs.declared.metatile.MetaKey.{MetaKey};
+ghost use Rattle.raster_field.specs.Blocks.{blob_size};
+ghost use Rattle.record_text.specs.declared.entries.Record.TheVariants as record_of;
+ghost use Rattle.record_text.specs.declared.entries.Record.{Record};
+ghost use Rattle.served_covers.specs.OfCatalogue.{IsCoverOf};
+ghost use Rattle.truncation_list.specs.Books.{AnswersForBook};
+ghost use Rattle.truncation_list.specs.declared.cover.Cover.{Cover};
 
 /// What the records of a cabinet's journal come to at the next opening: all that it keeps, with no more cuts than may be, and a
 /// book that answers for its own. So it is after an opening, after each command that adds its record, and after a compaction.

@@ -1,8 +1,8 @@
 //! The records of a journal replayed, one body after the other, as an opening is shown them.
 ghost use Rattle.std.specs.Prelude.{[], ◌∷◌, ◌++◌, ◌≡◌, IfErr, IfOk, List, Option};
+ghost use Rattle.cabinet_records.specs.Replay.{AreRecordsOf, IsRefusedAt, IsRestored};
 ghost use Rattle.catalog.specs.Valid.{IsValid};
 ghost use Rattle.record_text.specs.declared.entries.Record.{Record as Entry};
-ghost use Rattle.cabinet_records.specs.Replay.{AreRecordsOf, IsRefusedAt, IsRestored};
 
 mod aimed;
 mod aiming;
@@ -25,13 +25,12 @@ use crate::replay::finishing::finish;
 use crate::replay::judging::{cut_after, first_bad, judge, late_after};
 use crate::replay::progress::Progress;
 use crate::restored::Restored;
-use catalog::catalogue::Catalogue;
-use gate_journal::visit::Visit;
-use record_text::entries::Record;
-use record_text::reading::decode;
+use base::Trace;
+use catalog::Catalogue;
+use gate_journal::Visit;
+use record_text::{Record, decode};
 use std::alloc::{AllocError, Global};
 use std::marker::Model;
-use trace::Trace;
 
 /// Replays records. Contracts see the catalogue, and the bodies that it was shown.
 #[derive(Drop)]

@@ -1,6 +1,6 @@
 //! What the records of a journal are restored to.
-use cabinet::kept::Kept;
-use truncation_list::list::CutList;
+use cabinet::Kept;
+use truncation_list::CutList;
 
 /// What a cache holds after its records were replayed.
 #[derive(Drop)]

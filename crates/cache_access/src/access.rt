@@ -6,23 +6,23 @@ ghost use Rattle.cabinet_chest.specs.declared.command.Reply.TheVariants as reply
 ghost use Rattle.cabinet_chest.specs.declared.shown.Note.{Note};
 ghost use Rattle.cache_access.specs.Turned.{AreTurns, GainsOne, Goes, RunsAfterAsk, RunsAfterForce};
 ghost use Rattle.cache_access.specs.Waits.{Waits, WaitsForced};
-ghost use Rattle.catalog.specs.declared.catalogue.Catalogue as declared;
 ghost use Rattle.catalog.specs.LookUp.{IsTile};
+ghost use Rattle.catalog.specs.declared.catalogue.Catalogue as declared;
 ghost use Rattle.metatile_locks.specs.Tickets.{Ticketed};
 ghost use Rattle.raster_field.specs.Blocks.{IsMeta, blob_size, block_text};
 ghost use Rattle.served_covers.specs.OfCatalogue.{IsCoverOf};
 ghost use Rattle.truncation_list.specs.declared.book.FrontedBook.{FrontedBook};
 ghost use Rattle.turnstile.specs.declared.view.Made.{Made};
 
-use cabinet::replies::{Asked, CutReply, Expired, Finished, Forced, Saved};
-use cabinet_chest::command::Counts;
-use catalog::catalogue::Catalogue;
-use matrix_geometry::address::Address;
-use metatile_locks::ticket::Ticket;
-use metatile_plan::metatile::MetaKey;
-use shared_text::shared::SharedText;
+use base::SharedText;
+use cabinet::{Asked, CutReply, Expired, Finished, Forced, Saved};
+use cabinet_chest::Counts;
+use catalog::Catalogue;
+use matrix_geometry::Address;
+use metatile_locks::Ticket;
+use metatile_plan::MetaKey;
 use std::alloc::{AllocError, Global};
-use truncation_list::cover::Cover;
+use truncation_list::Cover;
 
 /// A way to a cache, by which tiles are asked for and all else is commanded: of a thread that has the cache for itself, or of one among many.
 ///

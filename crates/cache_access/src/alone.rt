@@ -3,17 +3,16 @@ ghost use Rattle.std.specs.Prelude.{length, ◌≡◌, ◌≤◌};
 ghost use Rattle.cabinet_chest.specs.Counts.{counts_of};
 
 use crate::access::Access;
-use cabinet::keeper::Keeper;
-use cabinet::replies::{Asked, CutReply, Expired, Finished, Forced, Saved};
-use cabinet_chest::command::Counts;
-use catalog::catalogue::Catalogue;
-use matrix_geometry::address::Address;
-use metatile_locks::ticket::Ticket;
-use metatile_plan::metatile::MetaKey;
-use shared_text::shared::SharedText;
+use base::SharedText;
+use cabinet::{Asked, CutReply, Expired, Finished, Forced, Keeper, Saved};
+use cabinet_chest::Counts;
+use catalog::Catalogue;
+use matrix_geometry::Address;
+use metatile_locks::Ticket;
+use metatile_plan::MetaKey;
 use std::alloc::{AllocError, Global};
 use std::marker::PhantomData;
-use truncation_list::cover::Cover;
+use truncation_list::Cover;
 
 /// The way to a cabinet of a thread that has it for itself: each call is one command of the cabinet, and each render of it ends before
 /// the next ask or force.

@@ -9,12 +9,19 @@
 //! Stands on cabinet_chest, turnstile and cache_core.
 #![tactic(auto)]
 
-pub mod access;
-pub mod alone;
-pub mod fault;
-pub mod get;
+mod access;
+mod alone;
+mod fault;
+mod getting;
 mod making;
-pub mod refresh;
-pub mod refreshed;
+mod refreshed;
+mod refreshing;
 mod remaking;
 mod requesting;
+
+pub use access::Access;
+pub use alone::Alone;
+pub use fault::GetFault;
+pub use getting::get;
+pub use refreshed::Refreshed;
+pub use refreshing::refresh;

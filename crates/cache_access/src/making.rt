@@ -1,20 +1,19 @@
 //! How a get renders the tile of its ticket, between two turns.
 ghost use Rattle.std.specs.Prelude.{IfErr, Some, ◌≡◌, ◌≤◌};
+ghost use Rattle.base.specs.Causes.{Rose};
 ghost use Rattle.cache_access.specs.Made.{Makes};
 ghost use Rattle.cache_access.specs.Turned.{Goes};
 ghost use Rattle.cache_core.specs.Fits.{IsTicketFor};
 ghost use Rattle.catalog.specs.LookUp.{IsTile};
 ghost use Rattle.catalog.specs.Valid.{IsValid};
-ghost use Rattle.causes.specs.Causes.{Rose};
 
 use crate::access::Access;
 use crate::fault::GetFault;
-use cache_core::outcome::Tile;
-use cache_core::render::{RenderFault, Sliced, painted};
-use matrix_geometry::address::Address;
-use metatile_locks::ticket::Ticket;
-use raster_field::laws::laws_of_metatiles;
-use source_render::source::Source;
+use cache_core::{RenderFault, Sliced, Tile, painted};
+use matrix_geometry::Address;
+use metatile_locks::Ticket;
+use raster_field::laws_of_metatiles;
+use source_render::Source;
 use std::alloc::Global;
 
 /// Renders the metatile of a ticket, cuts out the tile, and hands the blob in; the ticket is given back if the source failed or memory

@@ -1,18 +1,18 @@
 //! How a refresh renders the metatile of its ticket, between two turns.
 ghost use Rattle.std.specs.Prelude.{IfErr, Some, ◌≡◌, ◌≤◌};
+ghost use Rattle.base.specs.Causes.{Rose};
 ghost use Rattle.cache_access.specs.Made.{Remakes};
 ghost use Rattle.cache_access.specs.Turned.{Goes};
 ghost use Rattle.catalog.specs.Valid.{IsValid};
-ghost use Rattle.causes.specs.Causes.{Rose};
 ghost use Rattle.raster_field.specs.Blocks.{IsMeta};
 
 use crate::access::Access;
 use crate::fault::GetFault;
 use crate::refreshed::Refreshed;
-use cabinet::replies::Finished;
-use cache_core::render::{RenderFault, blob_of};
-use metatile_locks::ticket::Ticket;
-use source_render::source::Source;
+use cabinet::Finished;
+use cache_core::{RenderFault, blob_of};
+use metatile_locks::Ticket;
+use source_render::Source;
 use std::alloc::Global;
 
 /// Renders the metatile of a ticket, and hands the blob in; the ticket is given back if the source failed or memory ran out.

@@ -6,10 +6,10 @@ ghost use Rattle.catalog.specs.Valid.{IsValid};
 ghost use Rattle.raster_field.specs.Blocks.{IsMeta};
 
 use crate::access::Access;
-use cabinet::replies::{Asked, Forced};
-use metatile_locks::ticket::Ticket;
-use metatile_plan::metatile::MetaKey;
-use raster_field::layout::first_tile;
+use cabinet::{Asked, Forced};
+use metatile_locks::Ticket;
+use metatile_plan::MetaKey;
+use raster_field::first_tile;
 use std::alloc::{AllocError, Global};
 
 /// What a request for a metatile comes to, when no other render of it runs.

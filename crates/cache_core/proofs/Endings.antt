@@ -12,7 +12,7 @@ use Rattle.cabinet.specs.Fresh.{IsFresh}
 use Rattle.cabinet.specs.History.{History, stored_entry}
 use Rattle.cabinet.specs.State.{State, IsSound, with_entry}
 use Rattle.cabinet.proofs.Fresher.{still_fresh}
-use Rattle.causes.specs.Causes.{Rose, RoseBy}
+use Rattle.base.specs.Causes.{Rose, RoseBy}
 use Rattle.catalog.specs.declared.catalogue.Catalogue.{Catalogue}
 use Rattle.matrix_geometry.specs.declared.address.Address.{Address}
 use Rattle.metatile_locks.specs.Tickets.{Ticketed}

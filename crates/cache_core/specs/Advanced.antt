@@ -1,7 +1,7 @@
 -- What a further event of a request came to.
 use Rattle.std.specs.Prelude.{ℕ, ◌≡◌, ◌≤◌, Bool, length, Option, Some}
 use Rattle.cabinet.specs.State.{State, IsSound}
-use Rattle.causes.specs.Causes.{Rose, RoseBy}
+use Rattle.base.specs.Causes.{Rose, RoseBy}
 use Rattle.matrix_geometry.specs.declared.address.Address.{Address}
 use Rattle.cache_core.specs.declared.actor.Actor.{Actor}
 use Rattle.cache_core.specs.declared.actor.Step.{Step}

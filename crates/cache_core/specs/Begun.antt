@@ -1,7 +1,7 @@
 -- What the first event of a request came to.
 use Rattle.std.specs.Prelude.{ℕ, ◌≡◌, ◌≤◌, Bool, false, length, Option}
 use Rattle.cabinet.specs.State.{State, IsSound}
-use Rattle.causes.specs.Causes.{RoseBy}
+use Rattle.base.specs.Causes.{RoseBy}
 use Rattle.matrix_geometry.specs.declared.address.Address.{Address}
 use Rattle.cache_core.specs.declared.actor.Step.{Step}
 use Rattle.cache_core.specs.Fits.{IsFit, IsTrueActor, IsTrueOutcome, IsFreshActor, IsFreshOutcome, Extends}

@@ -1,8 +1,8 @@
 //! The state of a request for a tile between two of its events, and what an event comes to.
 use crate::outcome::{Tile, TileOutcome};
-use matrix_geometry::address::Address;
-use metatile_locks::ticket::Ticket;
-use shared_text::shared::SharedText;
+use base::SharedText;
+use matrix_geometry::Address;
+use metatile_locks::Ticket;
 
 /// Who makes a request for a tile, between two of its events. It holds a ticket or none, and a ticket must be spent.
 pub enum Actor {

@@ -1,14 +1,14 @@
 //! What the bytes of a rendering have no part in.
 ghost use Rattle.std.specs.Prelude.{Bool, length, ℕ, ◌≡◌};
 ghost use Rattle.cabinet.specs.State.{State};
+ghost use Rattle.cache_core.specs.Lasting.{Lasting};
+ghost use Rattle.cache_core.specs.Steps.{blob_of, finished};
 ghost use Rattle.catalog.specs.declared.catalogue.Catalogue.{Catalogue};
 ghost use Rattle.metatile_locks.specs.Tickets.{Ticketed};
 ghost use Rattle.metatile_plan.specs.declared.metatile.MetaKey.{MetaKey};
 ghost use Rattle.raster_field.specs.Blocks.{blob_size};
-ghost use Rattle.cache_core.specs.Lasting.{Lasting};
-ghost use Rattle.cache_core.specs.Steps.{blob_of, finished};
 
-use cabinet::keeper::Keeper;
+use cabinet::Keeper;
 
 /// A blob has its metatile's length, and what the finish of a render adds to the history is the same, whatever bytes were
 /// rendered.

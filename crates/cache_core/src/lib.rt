@@ -5,8 +5,14 @@
 //! rose. Stands on cabinet, source_render and ppm_slice.
 #![tactic(auto)]
 
-pub mod actor;
-pub mod laws;
-pub mod outcome;
-pub mod render;
-pub mod steps;
+mod actor;
+mod laws;
+mod outcome;
+mod render;
+mod steps;
+
+pub use actor::{Actor, Step};
+pub use laws::{laws_of_finishes, laws_of_lasting};
+pub use outcome::{Tile, TileOutcome};
+pub use render::{RenderFault, Sliced, blob_of, painted};
+pub use steps::{advance, begin, give_up};

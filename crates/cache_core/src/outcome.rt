@@ -1,5 +1,5 @@
 //! The outcomes of a request for a tile.
-use shared_text::shared::SharedText;
+use base::SharedText;
 
 /// A tile that is answered: whether a kept metatile gave it, the number of its render, and the encoded tile, which shares the bytes
 /// of its metatile's blob or of what is kept in memory.

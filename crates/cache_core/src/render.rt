@@ -1,22 +1,19 @@
 //! The render of a blob, and its tile.
 ghost use Rattle.std.specs.Prelude.{ℕ, ◌≡◌, ◌≤◌, IfErr, IfOk, Some, length};
-ghost use Rattle.catalog.specs.Valid.{IsValid};
-ghost use Rattle.causes.specs.Causes.{Rose};
+ghost use Rattle.base.specs.Causes.{Rose};
 ghost use Rattle.cache_core.specs.Fits.{IsTicketFor};
 ghost use Rattle.catalog.specs.LookUp.{IsTile};
+ghost use Rattle.catalog.specs.Valid.{IsValid};
 ghost use Rattle.raster_field.specs.Blocks.{IsMeta, blob_size, block_text, tile_part};
 ghost use Rattle.raster_field.specs.Rasters.{HasSize, picture_on, window_in};
 
-use cabinet::blob::tile_in;
-use catalog::catalogue::Catalogue;
-use matrix_geometry::address::Address;
-use metatile_locks::ticket::Ticket;
-use ppm_slice::of_catalogue;
-use raster_field::laws::laws_of_metatiles;
-use raster_field::layout::window_at;
-use raster_field::raster::Raster;
-use shared_text::shared::SharedText;
-use source_render::source::Source;
+use base::SharedText;
+use cabinet::tile_in;
+use catalog::Catalogue;
+use matrix_geometry::Address;
+use metatile_locks::Ticket;
+use raster_field::{Raster, laws_of_metatiles, window_at};
+use source_render::Source;
 use std::alloc::{AllocError, Global};
 
 /// Why there is no blob.
@@ -78,7 +75,7 @@ pub fn blob_of<S: Source>(
     ensures told { S.told source.new ≡ S.told source.old }
 {
     let raster = picture_of(alloc, catalogue, source, ticket)?;
-    let blob = of_catalogue::blob_of(alloc, catalogue, &ticket.meta(), &raster)?;
+    let blob = ppm_slice::blob_of(alloc, catalogue, &ticket.meta(), &raster)?;
     Ok(SharedText::of(alloc, blob)?)
 }
 

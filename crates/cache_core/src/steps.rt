@@ -1,27 +1,24 @@
 //! The events of a request for a tile: an ask or a force, a render, and the end at which its ticket is spent.
 ghost use Rattle.std.specs.Prelude.{ℕ, ◌≡◌, ◌≤◌, true, false, None, Option, Some};
-ghost use Rattle.catalog.specs.LookUp.{IsTile};
-ghost use Rattle.matrix_geometry.specs.declared.address.Address.{Address};
-ghost use Rattle.cache_core.specs.Fits.{IsFit};
 ghost use Rattle.cache_core.specs.Advanced.{Advances};
 ghost use Rattle.cache_core.specs.Begun.{Begins};
+ghost use Rattle.cache_core.specs.Fits.{IsFit};
 ghost use Rattle.cache_core.specs.Lasting.{Lasting};
 ghost use Rattle.cache_core.specs.Shown.{IsIdle};
 ghost use Rattle.cache_core.specs.Steps.{given_up, tile_at};
+ghost use Rattle.catalog.specs.LookUp.{IsTile};
+ghost use Rattle.matrix_geometry.specs.declared.address.Address.{Address};
 
 use crate::actor::{Actor, Step};
 use crate::laws::laws_of_lasting;
 use crate::outcome::{Tile, TileOutcome};
 use crate::render::{RenderFault, Sliced, painted};
-use cabinet::keeper::Keeper;
-use cabinet::laws::laws_of_rows;
-use cabinet::replies::{Asked, Forced};
-use matrix_geometry::address::Address;
-use metatile_locks::ticket::Ticket;
-use raster_field::laws::laws_of_metatiles;
-use raster_field::layout::block_of;
-use shared_text::shared::SharedText;
-use source_render::source::Source;
+use base::SharedText;
+use cabinet::{Asked, Forced, Keeper, laws_of_rows};
+use matrix_geometry::Address;
+use metatile_locks::Ticket;
+use raster_field::{block_of, laws_of_metatiles};
+use source_render::Source;
 use std::alloc::Global;
 
 fn goes_on(actor: Actor) -> Step

@@ -1,11 +1,11 @@
 //! What callers know of the file of a cache between two calls.
 ghost use Rattle.std.specs.Prelude.{◌≡◌, ◌⊎◌, ◌≤◌, length};
-ghost use Rattle.disk_model.specs.Images.{Every};
-ghost use Rattle.gate_journal.specs.Sound.{IsSettled, IsSound};
 ghost use Rattle.cache_file.specs.File.{held, opens_to, unsure};
 ghost use Rattle.cache_file.specs.declared.file.CacheFile.{CacheFile};
+ghost use Rattle.disk_model.specs.Images.{Every};
+ghost use Rattle.gate_journal.specs.Sound.{IsSettled, IsSound};
 
-use disk_model::disk::Disk;
+use disk_model::Disk;
 
 /// Each image of the disk of a settled file opens to its records, and each one of any file to them or to what is unsure. Each
 /// has the journal whole, so that a file that is opened from it agrees with it.

@@ -5,13 +5,13 @@
 //! the records that the call brings (`Brings`), and at every moment of `put` and `read` to one of the first two (`Stays`). Each
 //! image has the journal whole, and each blob that was held before the call but where `put` writes (`HasHeld`): all in
 //! `specs/File.antt`. `laws_of_files` says what the images between two calls open to.
-//! Stands on gate_journal, blob_store, disk_model, metatile_plan and causes.
+//! Stands on gate_journal, blob_store, disk_model, metatile_plan and base.
 #![tactic(auto)]
 
-mod blobs;
-pub mod file;
-pub mod laws;
-pub mod opening;
-mod queries;
-mod recording;
-mod replacing;
+mod file;
+mod laws;
+mod making;
+
+pub use file::CacheFile;
+pub use laws::laws_of_files;
+pub use making::make;

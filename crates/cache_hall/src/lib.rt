@@ -6,13 +6,17 @@
 //! whose book answers for all that the pass had seen. A tile is newer than each truncation that covers it and for which the pass's book
 //! answered before the call or the book answers that its last ask found, and so is a metatile that is refreshed, for each of its tiles;
 //! if the hall is told to be sound, it is the encoded tile of its number.
-//! Stands on cache_access, cabinet_chest, turnstile and bell.
+//! Stands on cache_access, cabinet_chest, turnstile and base.
 #![tactic(auto)]
 
-pub mod get;
-pub mod hall;
-pub mod opening;
-pub mod refresh;
-pub mod shared;
+mod getting;
+mod hall;
+mod refreshing;
+mod shared;
 mod turns;
 mod waiting;
+
+pub use getting::get;
+pub use hall::{Hall, HallEntry};
+pub use refreshing::refresh;
+pub use shared::Shared;

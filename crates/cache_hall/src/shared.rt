@@ -4,20 +4,18 @@ ghost use Rattle.cache_hall.specs.Turned.{IsPassOf};
 
 use crate::hall::Hall;
 use crate::waiting::{ask_until, force_until};
-use cabinet::keeper::Keeper;
-use cabinet::replies::{Asked, CutReply, Expired, Finished, Forced, Saved};
-use cabinet_chest::chest::CabinetChest;
-use cabinet_chest::command::{Command, Counts, Reply};
-use cache_access::access::Access;
-use catalog::catalogue::Catalogue;
-use matrix_geometry::address::Address;
-use metatile_locks::ticket::Ticket;
-use metatile_plan::metatile::MetaKey;
-use shared_text::shared::SharedText;
+use base::SharedText;
+use cabinet::{Asked, CutReply, Expired, Finished, Forced, Keeper, Saved};
+use cabinet_chest::{CabinetChest, Command, Counts, Reply};
+use cache_access::Access;
+use catalog::Catalogue;
+use matrix_geometry::Address;
+use metatile_locks::Ticket;
+use metatile_plan::MetaKey;
 use std::alloc::{AllocError, Global};
 use std::sync::Wait;
-use truncation_list::cover::Cover;
-use turnstile::pass::Pass;
+use truncation_list::Cover;
+use turnstile::Pass;
 
 /// A hall, to who has a pass of it. Each command is a turn; an ask or a force is repeated while another render of its metatile runs, and
 /// the thread sleeps meanwhile. The end of a render and a truncation wake those that sleep.

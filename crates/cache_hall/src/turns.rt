@@ -6,15 +6,13 @@ ghost use Rattle.raster_field.specs.Blocks.{IsMeta};
 ghost use Rattle.turnstile.specs.Passes.{Stays};
 
 use crate::hall::Hall;
-use cabinet::keeper::Keeper;
-use cabinet::replies::{Asked, Forced};
-use cabinet_chest::chest::CabinetChest;
-use cabinet_chest::command::{Command, Reply};
-use matrix_geometry::address::Address;
-use metatile_plan::metatile::MetaKey;
+use cabinet::{Asked, Forced, Keeper};
+use cabinet_chest::{CabinetChest, Command, Reply};
+use matrix_geometry::Address;
+use metatile_plan::MetaKey;
 use std::alloc::{AllocError, Global};
 use std::sync::Wait;
-use turnstile::pass::Pass;
+use turnstile::Pass;
 
 /// An ask. `AllocError` if memory runs out; there is then no turn.
 pub(crate) fn ask<R: Wait, K: Keeper>(

@@ -7,14 +7,13 @@ ghost use Rattle.turnstile.specs.Passes.{Stays};
 
 use crate::hall::Hall;
 use crate::turns::{ask, force};
-use cabinet::keeper::Keeper;
-use cabinet::replies::{Asked, Forced};
-use cabinet_chest::chest::CabinetChest;
-use matrix_geometry::address::Address;
-use metatile_plan::metatile::MetaKey;
+use cabinet::{Asked, Forced, Keeper};
+use cabinet_chest::CabinetChest;
+use matrix_geometry::Address;
+use metatile_plan::MetaKey;
 use std::alloc::{AllocError, Global};
 use std::sync::Wait;
-use turnstile::pass::Pass;
+use turnstile::Pass;
 
 /// Asks for a tile until the answer isn't that another render of its metatile runs, and sleeps meanwhile. `AllocError` if memory runs out
 /// for an ask.

@@ -1,6 +1,6 @@
 //! Tests of quota_ledger.
-use catalog::catalogue::{Catalogue, Scope};
-use quota_ledger::ledger::Ledger;
+use catalog::{Catalogue, Scope};
+use quota_ledger::Ledger;
 use std::test::Fail;
 
 #[test]

@@ -1,7 +1,7 @@
 //! Tests of kept_areas.
-use fixtures::tiles::GREY;
-use kept_areas::areas::KeptAreas;
-use metatile_plan::metatile::MetaKey;
+use fixtures::GREY;
+use kept_areas::KeptAreas;
+use metatile_plan::MetaKey;
 use std::alloc::{AllocError, Global};
 use std::test::Fail;
 

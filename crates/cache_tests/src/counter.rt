@@ -1,7 +1,7 @@
 //! A chest of a turnstile that counts.
 use std::alloc::{AllocError, Global};
 use std::hint;
-use turnstile::chest::Chest;
+use turnstile::Chest;
 
 /// How long a slow turn takes, in looks of a waiting thread.
 const LINGERS: u32 = 100_000;

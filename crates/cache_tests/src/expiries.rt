@@ -1,10 +1,10 @@
 //! Tests of expiry_policy.
 ghost use Rattle.std.specs.Prelude.{◌≡◌, ◌≤◌, IfOk};
 
-use catalog::catalogue::{Policy, Scope};
-use expiry_policy::uses::Uses;
-use fixtures::tiles::META;
-use metatile_plan::metatile::MetaKey;
+use catalog::{Policy, Scope};
+use expiry_policy::Uses;
+use fixtures::META;
+use metatile_plan::MetaKey;
 use std::alloc::{AllocError, Global};
 use std::test::Fail;
 

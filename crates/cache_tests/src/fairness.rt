@@ -7,9 +7,7 @@ use std::sync::Wait;
 use std::sync::atomic::{AtomicBool, Ordering};
 use std::test::Fail;
 use std::thread::{Threads, join};
-use turnstile::entry::Entry;
-use turnstile::pass::Pass;
-use turnstile::turnstile::Turnstile;
+use turnstile::{Entry, Pass, Turnstile};
 
 /// How many turns one pass makes at most while another one waits for its only turn. The test fails where so many were made.
 const MOST: u64 = 50;

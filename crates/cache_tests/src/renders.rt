@@ -1,10 +1,8 @@
 //! Tests of metatile_locks.
 ghost use Rattle.std.specs.Prelude.{[], ◌<◌, ◌≡◌, IfOk};
 
-use fixtures::tiles::META;
-use metatile_locks::locks::Locks;
-use metatile_locks::replies::{Begin, End};
-use metatile_locks::ticket::Ticket;
+use fixtures::META;
+use metatile_locks::{Begin, End, Locks, Ticket};
 use std::alloc::{AllocError, Global};
 use std::test::Fail;
 

@@ -6,13 +6,11 @@ ghost use Rattle.catalog.specs.LookUp.{IsTile};
 ghost use Rattle.matrix_geometry.specs.declared.address.Address.{Address};
 
 use crate::cabinets::new;
-use cabinet::keeper::Keeper;
-use cache_core::actor::{Actor, Step};
-use cache_core::outcome::Tile;
-use cache_core::steps::{advance, begin, give_up};
-use fixtures::tiles::first_tile;
-use matrix_geometry::address::Address;
-use source_render::numbered::Numbered;
+use cabinet::Keeper;
+use cache_core::{Actor, Step, Tile, advance, begin, give_up};
+use fixtures::first_tile;
+use matrix_geometry::Address;
+use source_render::Numbered;
 use std::alloc::Global;
 use std::test::Fail;
 

@@ -4,20 +4,12 @@ ghost use Rattle.matrix_geometry.specs.Limits.{IsWithinLimits};
 ghost use Rattle.truncation_list.specs.Covers.{IsWithinReach};
 ghost use Rattle.truncation_list.specs.Purge.{IsAbove, empty_book};
 
-use exact_ratio::decimal::Decimal;
-use exact_ratio::ratio::Ratio;
-use fixtures::tiles::{CORNER, GREY};
-use matrix_geometry::address::Address;
-use matrix_geometry::boxes::{Box9, Range};
-use matrix_geometry::matrix::{Corner, Matrix, Size};
-use matrix_geometry::theme::Filter;
+use exact_ratio::{Decimal, Ratio};
+use fixtures::{CORNER, GREY};
+use matrix_geometry::{Address, Box9, Corner, Filter, Matrix, Range, Size};
 use std::alloc::{AllocError, Global};
 use std::test::Fail;
-use truncation_list::block::Block;
-use truncation_list::containing::contains;
-use truncation_list::cover::Cover;
-use truncation_list::covering::{covers, hits};
-use truncation_list::list::CutList;
+use truncation_list::{Block, Cover, CutList, contains, covers, hits};
 
 const ANY: Filter = Filter {
     style: None,

@@ -7,9 +7,7 @@ use std::alloc::{AllocError, Global};
 use std::sync::Wait;
 use std::test::Fail;
 use std::thread::{Threads, join};
-use turnstile::entry::Entry;
-use turnstile::pass::Pass;
-use turnstile::turnstile::Turnstile;
+use turnstile::{Entry, Pass, Turnstile};
 
 /// What two threads were answered, what each pass had seen once they met, and the number at the end.
 #[derive(Drop)]

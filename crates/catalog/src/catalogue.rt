@@ -1,7 +1,7 @@
 //! The type of the catalogue, with the policy of expiry and the scope of a quota.
 use crate::grid::Grid;
 use crate::layer::Layer;
-use exact_ratio::items::Items;
+use exact_ratio::Items;
 
 /// Which kept metatile is dropped first where a quota is exceeded.
 #[derive(Clone, Copy, PartialEq, Eq)]

@@ -4,8 +4,7 @@ ghost use Rattle.std.specs.Prelude.{◌≡◌, IfOk};
 use crate::catalogue::Catalogue;
 use crate::grid::Grid;
 use crate::layer::{Dimension, Layer, Style};
-use exact_ratio::items::Items;
-use exact_ratio::words::Words;
+use exact_ratio::{Items, Words};
 use std::alloc::{AllocError, Global};
 
 /// What is copied with memory for its texts and lists.

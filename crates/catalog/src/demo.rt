@@ -1,16 +1,14 @@
 //! The built-in catalogue, for a program that is given none.
-ghost use Rattle.std.specs.Prelude.{◌≡◌, IfOk, pos, FitsSigned};
 ghost use Rattle.std.specs.Int.{w128};
+ghost use Rattle.std.specs.Prelude.{◌≡◌, IfOk, pos, FitsSigned};
 ghost use Rattle.catalog.specs.Demo.{demo, tiny, square, demo_layer};
 ghost use Rattle.catalog.specs.Valid.{IsValid};
 
 use crate::catalogue::{Catalogue, Policy};
 use crate::grid::Grid;
 use crate::layer::{Layer, Style};
-use exact_ratio::items::Items;
-use exact_ratio::ratio::Ratio;
-use exact_ratio::words::Words;
-use matrix_geometry::matrix::Matrix;
+use exact_ratio::{Items, Ratio, Words};
+use matrix_geometry::Matrix;
 use std::alloc::{AllocError, Global};
 
 /// The SHA-256 of no bytes (FIPS 180-4).

@@ -1,12 +1,12 @@
 //! What the tests of several members share: those of names and quotas, and lists that are tested entry by entry.
 ghost use Rattle.std.specs.Prelude.{◌≡◌, ◌<◌, ◌≤◌, ◌^◌, ℕ, List, [], Result, length, ⊤};
-ghost use Rattle.catalog.specs.declared.fault.CatalogueFault.{CatalogueFault};
 ghost use Rattle.catalog.specs.FirstFault.{unless, each, name_test, names_test, quota_test};
+ghost use Rattle.catalog.specs.declared.fault.CatalogueFault.{CatalogueFault};
 
 use crate::fault::{CatalogueFault, Field};
 use crate::named::{Named, is_taken};
 use crate::names::{are_names, are_short, is_name, is_short, within};
-use exact_ratio::words::Words;
+use exact_ratio::Words;
 
 /// Refuses with the fault where the test isn't met.
 pub fn unless(met: bool, fault: CatalogueFault) -> Result<(), CatalogueFault>

@@ -1,7 +1,6 @@
 //! The type of a tile matrix set.
-use exact_ratio::items::Items;
-use exact_ratio::words::Words;
-use matrix_geometry::matrix::Matrix;
+use exact_ratio::{Items, Words};
+use matrix_geometry::Matrix;
 
 /// A tile matrix set (OGC 07-057r7, section 6): matrices from coarse to fine, each with its name at the same place.
 #[derive(Drop)]

@@ -1,6 +1,5 @@
 //! The types of a layer and of its styles, dimensions and age limits.
-use exact_ratio::items::Items;
-use exact_ratio::words::Words;
+use exact_ratio::{Items, Words};
 
 /// The colour of all values from `from` on, up to the next break.
 #[derive(Clone, Copy, PartialEq, Eq)]

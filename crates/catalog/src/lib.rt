@@ -6,21 +6,35 @@
 //! Stands on matrix_geometry and exact_ratio.
 #![tactic(auto)]
 
-pub mod ages;
-pub mod by_name;
-pub mod catalogue;
+mod ages;
+mod by_name;
+mod catalogue;
 mod copy;
-pub mod demo;
-pub mod fault;
-pub mod first_fault;
-pub mod grid;
-pub mod layer;
-pub mod look_up;
-pub mod named;
-pub mod names;
-pub mod valid_ages;
-pub mod valid_dimension;
+mod demo;
+mod fault;
+mod first_fault;
+mod grid;
+mod layer;
+mod look_up;
+mod named;
+mod names;
+mod valid_ages;
+mod valid_dimension;
 mod valid_grid;
-pub mod valid_layer;
-pub mod valid_style;
-pub mod validate;
+mod valid_layer;
+mod valid_style;
+mod validate;
+
+pub use catalogue::{Catalogue, Policy, Scope};
+pub use fault::{CatalogueFault, Field};
+pub use first_fault::{name_test, names_test, unless};
+pub use grid::Grid;
+pub use layer::{Age, Break, Dimension, Layer, Style};
+pub use named::{Named, is_taken, place_named};
+pub use names::{
+    are_distinct, are_names, are_short, is_name, is_parameter, is_same, is_short, within,
+};
+pub use valid_ages::zooms_rise;
+pub use valid_dimension::dimension_name_test;
+pub use valid_layer::{are_factors, are_small, is_among};
+pub use valid_style::rise_from_zero;

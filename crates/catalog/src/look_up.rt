@@ -7,8 +7,7 @@ ghost use Rattle.matrix_geometry.specs.Limits.{IsWithinLimits};
 use crate::catalogue::Catalogue;
 use crate::grid::Grid;
 use crate::layer::{Dimension, Layer, Style};
-use matrix_geometry::matrix::Matrix;
-use matrix_geometry::theme::Theme;
+use matrix_geometry::{Matrix, Theme};
 
 impl Catalogue {
     /// The layer of this number, which has to be that of one.

@@ -2,7 +2,7 @@
 ghost use Rattle.std.specs.Prelude.{◌≡◌, ◌≤◌, ◌^◌, ℕ, List, length};
 ghost use Rattle.catalog.specs.Names.{is_taken, place_named};
 
-use exact_ratio::words::Words;
+use exact_ratio::Words;
 
 /// What has a name among its like, as a grid, a layer or a style.
 pub trait Named: Sized {

@@ -1,10 +1,10 @@
 //! The form of names: which bytes they may have, how long they may be, and when two of them count as the same.
-ghost use Rattle.std.specs.Prelude.{◌≡◌};
 ghost use Rattle.std.specs.List.{list_all};
+ghost use Rattle.std.specs.Prelude.{◌≡◌};
 ghost use Rattle.catalog.specs.Names.{within, is_name_byte, is_name, is_short, are_distinct, is_same, is_parameter};
 
 use crate::named::is_taken;
-use exact_ratio::words::Words;
+use exact_ratio::Words;
 
 /// Whether `low <= n <= high`.
 pub fn within(low: u64, high: u64, n: u64) -> bool

@@ -1,8 +1,8 @@
 //! The first fault of a dimension: its name, its values and its default.
-ghost use Rattle.std.specs.Prelude.{◌≡◌, ◌<◌, ◌≤◌, ◌^◌, length};
 ghost use Rattle.std.specs.List.{list_any};
-ghost use Rattle.catalog.specs.Names.{is_same};
+ghost use Rattle.std.specs.Prelude.{◌≡◌, ◌<◌, ◌≤◌, ◌^◌, length};
 ghost use Rattle.catalog.specs.FirstFault.{dimension_name_test, default_test, dimension_test};
+ghost use Rattle.catalog.specs.Names.{is_same};
 
 use crate::fault::{CatalogueFault, Field};
 use crate::first_fault::{Entry, names_test, unless};

@@ -7,8 +7,8 @@ use crate::first_fault::{Entry, name_test, unless};
 use crate::grid::Grid;
 use crate::named::Named;
 use crate::names::within;
-use exact_ratio::words::Words;
-use matrix_geometry::matrix::Matrix;
+use exact_ratio::Words;
+use matrix_geometry::Matrix;
 
 fn is_near(m: &Matrix) -> bool
     ensures { result ≡ is_near m.now }

@@ -1,6 +1,6 @@
 //! The first fault of a layer. It is tested over the grids of the catalogue, which limit the size of its metatiles.
-ghost use Rattle.std.specs.Prelude.{◌≡◌, ◌<◌, ◌≤◌, ◌^◌, ◌*◌, ◌+◌, ◌==◌, [], length, nat_le, slice_get, IsTrue};
 ghost use Rattle.std.specs.List.{list_all, list_any};
+ghost use Rattle.std.specs.Prelude.{◌≡◌, ◌<◌, ◌≤◌, ◌^◌, ◌*◌, ◌+◌, ◌==◌, [], length, nat_le, slice_get, IsTrue};
 ghost use Rattle.catalog.specs.FirstFault.{each, grid_number_test, style_test, dimension_test, are_factors, is_small, matrices_at, are_small, layer_test};
 
 use crate::fault::{CatalogueFault, Field};
@@ -10,7 +10,7 @@ use crate::layer::{Dimension, Layer, Style};
 use crate::named::Named;
 use crate::names::within;
 use crate::valid_ages::ages_test;
-use matrix_geometry::matrix::Matrix;
+use matrix_geometry::Matrix;
 
 impl Named for Layer {
     ghost name = { λ l. l.id };

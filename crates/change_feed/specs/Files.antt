@@ -2,7 +2,7 @@
 use Rattle.std.specs.Prelude.{◌≡◌, ◌⊎◌, ℕ, ◌+◌, ◌<◌, ◌≤◌, Bool, IsTrue, List, length, Option, Some, None, IfSome, IsSome, Result, Ok, Err, ⊤}
 use Rattle.cache_file.specs.declared.file.CacheFile.{CacheFile}
 use Rattle.cache_file.specs.File.{Brings, held, unsure}
-use Rattle.causes.specs.Causes.{Rose}
+use Rattle.base.specs.Causes.{Rose}
 use Rattle.disk_model.specs.Content.{Content}
 use Rattle.disk_model.specs.Images.{DiskState}
 use Rattle.gate_journal.specs.declared.fault.OpenFault.{OpenFault}

@@ -1,21 +1,20 @@
 //! How a change is made: what it comes to by its number, the file made ready, the cut, and the mark.
 ghost use Rattle.std.specs.Prelude.{◌≡◌, ◌⊎◌, ◌+◌, ◌≤◌, ℕ, IfOk, IsTrue, None, OnErr, Some};
 ghost use Rattle.cabinet.specs.State.{IsSound};
-ghost use Rattle.disk_model.specs.Images.{Every, Leaves};
-ghost use Rattle.gate_journal.specs.Sound.{digest_of};
-ghost use Rattle.served_covers.specs.OfCatalogue.{IsCoverOf};
-ghost use Rattle.change_feed.specs.declared.applied.Applied.TheVariants as applied;
 ghost use Rattle.change_feed.specs.Applies.{Applies, AppliesNext, IsMarkedAs, MayEndAfter, decided, mark_for};
 ghost use Rattle.change_feed.specs.Files.{EndsIn, IsReady, MayEndIn};
 ghost use Rattle.change_feed.specs.Marks.{last_of};
+ghost use Rattle.change_feed.specs.declared.applied.Applied.TheVariants as applied;
+ghost use Rattle.disk_model.specs.Images.{Every, Leaves};
+ghost use Rattle.gate_journal.specs.Sound.{digest_of};
+ghost use Rattle.served_covers.specs.OfCatalogue.{IsCoverOf};
 
 use crate::applied::{Applied, Judged};
 use crate::change::Change;
 use crate::feed::Feed;
 use crate::mark::Mark;
-use cabinet::keeper::Keeper;
-use cabinet::replies::CutReply;
-use disk_model::disk::Disk;
+use cabinet::{CutReply, Keeper};
+use disk_model::Disk;
 use std::alloc::{AllocError, Global};
 
 impl<D: Disk> Feed<D> {

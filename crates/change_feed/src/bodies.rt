@@ -1,6 +1,6 @@
 //! How a mark is written as the body of a record, and how it is read from one.
-ghost use Rattle.std.specs.Prelude.{◌≡◌, ◌≤◌, ◌+◌, ◌++◌, Some, replicate};
 ghost use Rattle.std.specs.Int.{to_be_bytes, w64};
+ghost use Rattle.std.specs.Prelude.{◌≡◌, ◌≤◌, ◌+◌, ◌++◌, Some, replicate};
 ghost use Rattle.change_feed.specs.Marks.{mark_of, number_at};
 
 use crate::mark::Mark;

@@ -1,5 +1,5 @@
 //! The type of a change.
-use truncation_list::cover::Cover;
+use truncation_list::Cover;
 
 /// A change of a feed: its number, which begins at 1, and the tiles that are to be truncated for it.
 #[derive(Clone, Copy)]

@@ -1,7 +1,7 @@
 //! The type of a feed. Its calls stand in files of their own.
 use crate::mark::Mark;
-use cache_file::file::CacheFile;
-use disk_model::disk::Disk;
+use cache_file::CacheFile;
+use disk_model::Disk;
 use std::marker::Model;
 
 /// A feed of changes, with the file of its marks. Contracts see the mark of the last change, the one that a call may have left that

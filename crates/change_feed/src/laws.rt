@@ -1,17 +1,17 @@
 //! What holds of each run of a feed on a cabinet.
 ghost use Rattle.std.specs.Prelude.{◌≡◌, ◌⊎◌, ◌<◌, ◌≤◌, ◌∷◌, ◌++◌, ℕ, IsSome, List, Option, Some};
 ghost use Rattle.cabinet.specs.State.{now};
-ghost use Rattle.disk_model.specs.Content.{Content};
-ghost use Rattle.truncation_list.specs.Books.{AnswersFor};
-ghost use Rattle.truncation_list.specs.declared.cover.Cover.{Cover};
-ghost use Rattle.change_feed.specs.declared.applied.Applied.{Applied};
-ghost use Rattle.change_feed.specs.declared.applied.Applied.TheVariants as applied;
-ghost use Rattle.change_feed.specs.declared.change.Change.{Change};
-ghost use Rattle.change_feed.specs.declared.mark.Mark.{Mark};
 ghost use Rattle.change_feed.specs.Applies.{marked_cut};
 ghost use Rattle.change_feed.specs.Files.{EndsIn, IsMarksFile, MayEndIn, Stand};
 ghost use Rattle.change_feed.specs.Marks.{last_of};
 ghost use Rattle.change_feed.specs.Runs.{Event, IsCutIn, IsEither, IsMadeIn, MayBegin, Runs, Stores, called};
+ghost use Rattle.change_feed.specs.declared.applied.Applied.TheVariants as applied;
+ghost use Rattle.change_feed.specs.declared.applied.Applied.{Applied};
+ghost use Rattle.change_feed.specs.declared.change.Change.{Change};
+ghost use Rattle.change_feed.specs.declared.mark.Mark.{Mark};
+ghost use Rattle.disk_model.specs.Content.{Content};
+ghost use Rattle.truncation_list.specs.Books.{AnswersFor};
+ghost use Rattle.truncation_list.specs.declared.cover.Cover.{Cover};
 
 /// In what follows a run leads from `s` to `t`; a change is cut for where its call answers `Done` or a fault of the marks with the number
 /// of a cut.

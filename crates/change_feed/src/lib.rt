@@ -9,14 +9,20 @@
 //! Stands on cache_file, and on cabinet with the crates of its types.
 #![tactic(auto)]
 
-pub mod applied;
+mod applied;
 mod applying;
 mod bodies;
-pub mod change;
-pub mod feed;
-pub mod laws;
-pub mod mark;
+mod change;
+mod feed;
+mod laws;
+mod mark;
 mod marking;
-pub mod opening;
+mod opening;
 mod queries;
 mod reader;
+
+pub use applied::{Applied, Judged};
+pub use change::Change;
+pub use feed::Feed;
+pub use laws::{laws_of_feeds, laws_of_marks};
+pub use mark::Mark;

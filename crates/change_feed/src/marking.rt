@@ -1,18 +1,18 @@
 //! How a mark is added to the file of a feed, and how the file is made ready for one.
 ghost use Rattle.std.specs.Prelude.{◌≡◌, ◌⊎◌, ◌+◌, ◌<◌, IsTrue, None, OnErr, OnOk, Option, Some};
+ghost use Rattle.base.specs.Causes.{HasCause};
 ghost use Rattle.cache_file.specs.File.{held};
-ghost use Rattle.causes.specs.Causes.{HasCause};
-ghost use Rattle.disk_model.specs.Images.{Every, Leaves};
-ghost use Rattle.gate_journal.specs.Sound.{IsAlike, IsSettled, IsSound, digest_of, slots_of};
-ghost use Rattle.change_feed.specs.declared.mark.Mark.{Mark};
 ghost use Rattle.change_feed.specs.Files.{BringsMark, EndsIn, IsAboveZero, IsReady, MayEndIn};
 ghost use Rattle.change_feed.specs.Marks.{EndsAt, last_of, mark_slots};
+ghost use Rattle.change_feed.specs.declared.mark.Mark.{Mark};
+ghost use Rattle.disk_model.specs.Images.{Every, Leaves};
+ghost use Rattle.gate_journal.specs.Sound.{IsAlike, IsSettled, IsSound, digest_of, slots_of};
 
 use crate::bodies::mark_body;
 use crate::feed::Feed;
 use crate::mark::Mark;
-use cache_file::file::CacheFile;
-use disk_model::disk::{Disk, Failed};
+use cache_file::CacheFile;
+use disk_model::{Disk, Failed};
 
 /// Makes a file that ends in this mark ready for another one.
 fn readied<D: Disk>(file: &mut CacheFile<D>, mark: Option<Mark>) -> Result<(), Failed>

@@ -1,19 +1,18 @@
 //! How the file of marks is made, and how a feed is opened from it and closed.
 ghost use Rattle.std.specs.Prelude.{◌≡◌, ◌≤◌, IfErr, IfOk, IsTrue, None, OnOk};
-ghost use Rattle.causes.specs.Causes.{HasCause};
+ghost use Rattle.base.specs.Causes.{HasCause};
+ghost use Rattle.change_feed.specs.Ends.{marks_of};
+ghost use Rattle.change_feed.specs.Files.{EndsIn, IsMarksFile, IsRefusedAs, asked_for};
 ghost use Rattle.disk_model.specs.Content.{Same};
 ghost use Rattle.disk_model.specs.Images.{ChangesBy, Every};
 ghost use Rattle.gate_journal.specs.Sound.{IsSettled, digest_of};
-ghost use Rattle.change_feed.specs.Ends.{marks_of};
-ghost use Rattle.change_feed.specs.Files.{EndsIn, IsMarksFile, IsRefusedAs, asked_for};
 
 use crate::feed::Feed;
 use crate::reader::MarkReader;
-use cache_file::file::CacheFile;
-use cache_file::opening;
-use catalog::catalogue::Catalogue;
-use disk_model::disk::{Disk, Failed};
-use gate_journal::fault::OpenFault;
+use cache_file::{CacheFile, opening};
+use catalog::Catalogue;
+use disk_model::{Disk, Failed};
+use gate_journal::OpenFault;
 use std::alloc::Global;
 
 /// How many slots a half of the file of marks has.

@@ -1,16 +1,16 @@
 //! What a feed tells of itself.
-ghost use Rattle.std.specs.Prelude.{◌≡◌, IsTrue};
 ghost use Rattle.std.specs.Option.{option_map};
-ghost use Rattle.disk_model.specs.Images.{Every};
-ghost use Rattle.gate_journal.specs.Sound.{IsSettled, digest_of};
+ghost use Rattle.std.specs.Prelude.{◌≡◌, IsTrue};
 ghost use Rattle.change_feed.specs.Applies.{IsJudged};
 ghost use Rattle.change_feed.specs.Files.{EndsIn, IsBehind, MayEndIn};
 ghost use Rattle.change_feed.specs.Marks.{last_of};
+ghost use Rattle.disk_model.specs.Images.{Every};
+ghost use Rattle.gate_journal.specs.Sound.{IsSettled, digest_of};
 
 use crate::applied::Judged;
 use crate::feed::Feed;
 use crate::reader::number_of;
-use disk_model::disk::Disk;
+use disk_model::Disk;
 
 impl<D: Disk> Feed<D> {
     /// The number of the last change that was made and marked; 0 at first.

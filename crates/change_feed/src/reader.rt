@@ -1,14 +1,14 @@
 //! The visitor that reads the marks of a file while it is opened.
 ghost use Rattle.std.specs.Prelude.{ℕ, [], ◌∷◌, ◌++◌, ◌≡◌, length, List, MatchOption, None};
-ghost use Rattle.change_feed.specs.declared.mark.Mark.{Mark};
 ghost use Rattle.change_feed.specs.Marks.{IsNext, LeadsTo, StandsAt, last_of};
+ghost use Rattle.change_feed.specs.declared.mark.Mark.{Mark};
 
 use crate::bodies::mark_of;
 use crate::mark::Mark;
-use gate_journal::visit::Visit;
+use base::Trace;
+use gate_journal::Visit;
 use std::alloc::{AllocError, Global};
 use std::marker::Model;
-use trace::Trace;
 
 /// Reads marks. Contracts see the bodies that it was shown.
 #[derive(Drop)]

@@ -4,8 +4,8 @@ use Rattle.catalog.specs.declared.catalogue.Catalogue.{Catalogue}
 use Rattle.http_wire.specs.declared.inputs.InputEnd.{InputEnd}
 use Rattle.http_wire.specs.declared.inputs.InputEnd.TheVariants as input_end
 use Rattle.sessions.specs.Outside.{InputChange}
-use Rattle.command_setup.specs.declared.configured.Unconfigured.{Unconfigured}
-use Rattle.command_setup.specs.declared.configured.Unconfigured.TheVariants as unconfigured
+use Rattle.command_setup.specs.declared.configuration.Unconfigured.{Unconfigured}
+use Rattle.command_setup.specs.declared.configuration.Unconfigured.TheVariants as unconfigured
 use Rattle.command_setup.specs.Setup.{Configures, Describes, IsRead, IsRefused, refusal_of}
 
 -- a capabilities document that wasn't read, after the catalogue was

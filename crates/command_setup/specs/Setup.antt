@@ -4,16 +4,16 @@ use Rattle.std.specs.Io.KnownBytes.{Consumes, IsAtEnd}
 use Rattle.cabinet.specs.State.{State, fresh_state}
 use Rattle.catalog.specs.declared.catalogue.Catalogue.{Catalogue}
 use Rattle.catalog.specs.declared.fault.CatalogueFault.{CatalogueFault}
-use Rattle.causes.specs.Causes.{Rose}
-use Rattle.clock.specs.Readings.{Readings}
+use Rattle.base.specs.Causes.{Rose}
+use Rattle.base.specs.Readings.{Readings}
 use Rattle.config_text.specs.Text.{catalogue_of}
 use Rattle.http_wire.specs.declared.inputs.InputEnd.{InputEnd}
 use Rattle.http_wire.specs.declared.inputs.InputEnd.TheVariants as input_end
 use Rattle.sessions.specs.Outside.{InputChange}
-use Rattle.command_setup.specs.declared.configured.Unconfigured.{Unconfigured}
-use Rattle.command_setup.specs.declared.configured.Unconfigured.TheVariants as unconfigured
-use Rattle.command_setup.specs.declared.configured.TheConstants.{CATALOGUE_LIMIT}
-use Rattle.command_setup.specs.declared.described.TheConstants.{CAPABILITIES_LIMIT}
+use Rattle.command_setup.specs.declared.configuration.Unconfigured.{Unconfigured}
+use Rattle.command_setup.specs.declared.configuration.Unconfigured.TheVariants as unconfigured
+use Rattle.command_setup.specs.declared.configuration.TheConstants.{CATALOGUE_LIMIT}
+use Rattle.command_setup.specs.declared.description.TheConstants.{CAPABILITIES_LIMIT}
 
 -- a read of an input failed
 abbrev pub HasRisen : InputChange → Type 0

@@ -6,7 +6,12 @@
 //! command_status, and on the crates whose types its calls name.
 #![tactic(auto)]
 
-pub mod configured;
-pub mod described;
-pub mod prepared;
-pub mod refusals;
+mod configuration;
+mod description;
+mod preparation;
+mod refusals;
+
+pub use configuration::{CATALOGUE_LIMIT, Unconfigured, configured, source_number};
+pub use description::described;
+pub use preparation::{both_read, prepared};
+pub use refusals::status_of_refusal;

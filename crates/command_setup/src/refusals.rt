@@ -2,8 +2,8 @@
 ghost use Rattle.std.specs.Prelude.{◌≡◌};
 ghost use Rattle.command_setup.specs.Refusals.{status_of_refusal};
 
-use crate::configured::Unconfigured;
-use command_status::status::Status;
+use crate::configuration::Unconfigured;
+use command_status::Status;
 
 /// The status of words whose catalogue or capabilities document was refused.
 pub fn status_of_refusal(refusal: Unconfigured) -> Status

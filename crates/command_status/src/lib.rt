@@ -7,5 +7,10 @@
 //! and tile_service.
 #![tactic(auto)]
 
-pub mod status;
-pub mod statuses;
+mod status;
+mod statuses;
+
+pub use status::Status;
+pub use statuses::{
+    status_of_form, status_of_input, status_of_opening, status_of_schedule, status_of_session,
+};

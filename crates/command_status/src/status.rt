@@ -1,10 +1,10 @@
 //! How a command ended, and how that is told to the operator: the code that the process ends with, and a line.
 //!
 //! A composition and a link have further ends: those are told by 15 (`compose_words::end`) and 16 (`link_words::ends`).
-use catalog::fault::{CatalogueFault, Field};
-use gate_journal::fault::OpenFault;
-use job_forms::fault::{JobFault, JobField};
-use sessions::session::SessionEnd;
+use catalog::{CatalogueFault, Field};
+use gate_journal::OpenFault;
+use job_forms::{JobFault, JobField};
+use sessions::SessionEnd;
 use std::fmt;
 
 /// How a command ended. Each means the same for all words (`specs/Statuses.antt`).

@@ -3,11 +3,11 @@ ghost use Rattle.std.specs.Prelude.{◌≡◌};
 ghost use Rattle.command_status.specs.Statuses.{status_of_form, status_of_input, status_of_opening, status_of_schedule, status_of_session};
 
 use crate::status::Status;
-use gate_journal::fault::OpenFault;
-use http_wire::inputs::InputEnd;
-use job_forms::fault::JobFault;
-use sessions::session::SessionEnd;
-use tile_service::schedule::ScheduleEnd;
+use gate_journal::OpenFault;
+use http_wire::InputEnd;
+use job_forms::JobFault;
+use sessions::SessionEnd;
+use tile_service::ScheduleEnd;
 
 /// The status of words one of whose files isn't opened. A fault of its disk and want of memory have statuses of their own.
 pub fn status_of_opening(fault: OpenFault) -> Status

@@ -13,9 +13,9 @@ use Rattle.clap.specs.declared.parser.matches.ArgMatches.{ArgMatches}
 use Rattle.clap.proofs.WalkLemmas.{one_text-rows}
 use Rattle.command_words.specs.ServeOptions.{IsGiven, serve_app}
 use Rattle.command_words.specs.ServeWords.{plain_words}
-use Rattle.command_words.specs.declared.serve_words.ServeFault.{ServeFault}
-use Rattle.command_words.specs.declared.serve_words.ServeFault.TheVariants.{Usage, OutOfMemory}
-use Rattle.command_words.specs.declared.serve_words.ServeWords.{ServeWords}
+use Rattle.command_words.specs.declared.server_words.ServeFault.{ServeFault}
+use Rattle.command_words.specs.declared.server_words.ServeFault.TheVariants.{Usage, OutOfMemory}
+use Rattle.command_words.specs.declared.server_words.ServeWords.{ServeWords}
 use Rattle.command_words.proofs.PlainNumbers.{IsPlainNumber, signless}
 use Rattle.command_words.proofs.PlainWords.{IsPlain, plain_parts}
 

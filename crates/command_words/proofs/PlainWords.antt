@@ -7,7 +7,7 @@ use Rattle.std.proofs.lemmas.Bool.{ltb-true, and_parts}
 use Rattle.std.proofs.lemmas.Slice.Eq.{bytes_eq-Decides}
 use Rattle.std.proofs.lemmas.Str.{IsUtf8-from_ascii}
 use Rattle.command_words.specs.ServeWords.{plain_number, plain_pairs, plain_words, served}
-use Rattle.command_words.specs.declared.serve_words.ServeWords.{ServeWords}
+use Rattle.command_words.specs.declared.server_words.ServeWords.{ServeWords}
 use Rattle.command_words.proofs.PlainNumbers.{IsPlainNumber, ascii_digits, number_parts, plain_value}
 use Rattle.command_words.proofs.ServeWalk.{Holds, connections_first, port_first}
 

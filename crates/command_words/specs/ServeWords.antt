@@ -1,7 +1,7 @@
 -- What the words after `serve` ask for.
 use Rattle.std.specs.Prelude.{ℕ, ◌≤◌, ◌==◌, ◌&&◌, Bool, not, nat_le, if◌then◌else◌, List, [], ◌∷◌, slice_index, Option, Some, None, codes, bytes_eq}
 use Rattle.std.specs.Str.Parse.{digits_value}
-use Rattle.command_words.specs.declared.serve_words.ServeWords.{ServeWords}
+use Rattle.command_words.specs.declared.server_words.ServeWords.{ServeWords}
 use Rattle.wmts_kvp.specs.Rows.{is_number}
 
 -- a port of 1 to 65,535, and 1 to 1,000,000 connections

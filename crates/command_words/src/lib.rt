@@ -6,6 +6,10 @@
 //! Stands on wmts_kvp for numbers, and on `clap` for the words of a server.
 #![tactic(auto)]
 
-pub mod serve_words;
-pub mod top_calls;
-pub mod words;
+mod server_words;
+mod top_calls;
+mod words;
+
+pub use server_words::{ServeFault, ServeWords, serve_words};
+pub use top_calls::{TopCall, top_call};
+pub use words::{KeptWord, MemoryWord, UpkeepWord, Word, word_of};

@@ -2,7 +2,7 @@
 ghost use Rattle.std.specs.Prelude.{◌≡◌};
 ghost use Rattle.command_words.specs.TopCalls.{first_word, one_word, top_call};
 
-use exact_ratio::words::Words;
+use exact_ratio::Words;
 
 /// A top call of the program. The first word tells which one words are for; the call itself reads all of them, and tells whether they are of
 /// its form.

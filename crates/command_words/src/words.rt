@@ -2,8 +2,8 @@
 ghost use Rattle.std.specs.Prelude.{◌≡◌};
 ghost use Rattle.command_words.specs.Words.{kept_word, number_of, one_word, two_words, word_of};
 
-use exact_ratio::words::Words;
-use wmts_kvp::number::{below, is_number};
+use exact_ratio::Words;
+use wmts_kvp::{below, is_number};
 
 /// What the words of a command ask for.
 #[derive(Clone, Copy, PartialEq, Eq)]

@@ -13,7 +13,7 @@ use Rattle.cache_core.specs.declared.outcome.Tile.{Tile}
 use Rattle.cache_core.specs.declared.outcome.TileOutcome.{TileOutcome}
 use Rattle.cache_core.specs.declared.outcome.TileOutcome.TheVariants as core
 use Rattle.catalog.specs.declared.catalogue.Catalogue.{Catalogue}
-use Rattle.causes.specs.Causes.{Rose}
+use Rattle.base.specs.Causes.{Rose}
 use Rattle.composite_layers.specs.Composes.{Composes, HasStopped, Stops, fault_of}
 use Rattle.composite_layers.specs.Parts.{AreGot, IsGot, Moment, moment, numbers_of, place_of}
 use Rattle.http_wire.proofs.TakesOn.{rose_before}

@@ -6,7 +6,7 @@ use Rattle.cabinet.specs.declared.replies.CutReply.{CutReply}
 use Rattle.cabinet.specs.declared.replies.CutReply.TheVariants as cut
 use Rattle.cabinet.specs.Hits.{covers_in}
 use Rattle.catalog.specs.declared.catalogue.Catalogue.{Catalogue}
-use Rattle.causes.specs.Causes.{Rose}
+use Rattle.base.specs.Causes.{Rose}
 use Rattle.composite_layers.specs.Composes.{HasComposed, HasStopped}
 use Rattle.composite_layers.specs.Parts.{Moment}
 use Rattle.layer_recipes.specs.Composite.{composite}

@@ -1,7 +1,7 @@
 -- What a composition sees of its output.
 use Rattle.std.specs.Prelude.{ℕ, Bool, true, false, List, Option}
 use Rattle.std.specs.Io.KnownBytes.{Appends}
-use Rattle.causes.specs.Causes.{Rose}
+use Rattle.base.specs.Causes.{Rose}
 use Rattle.tile_requests.specs.Sent.{AppendsFront}
 use Rattle.sessions.specs.Outside.{FaultCounts}
 

@@ -2,25 +2,23 @@
 ghost use Rattle.std.specs.Prelude.{◌≡◌, ◌<◌, ◌≤◌, ◌^◌, length, IfOk, MatchResult};
 ghost use Rattle.cabinet.specs.State.{fresh_state};
 ghost use Rattle.catalog.specs.Valid.{IsValid};
-ghost use Rattle.layer_recipes.specs.OfCatalogue.{IsRecipeOf};
-ghost use Rattle.tile_service.specs.Lines.{lines_of};
-ghost use Rattle.sessions.specs.Outside.{InputChange, counts};
 ghost use Rattle.compose_words.specs.Composing.{IsRecipe, IsUnread, LinesTell};
 ghost use Rattle.compose_words.specs.Ends.{InputEnds, Outer, TextEnds, first_of, rest_of};
+ghost use Rattle.layer_recipes.specs.OfCatalogue.{IsRecipeOf};
+ghost use Rattle.sessions.specs.Outside.{InputChange, counts};
+ghost use Rattle.tile_service.specs.Lines.{lines_of};
 
 use crate::end::{ComposeEnd, end_of_lines};
 use crate::lines::run_lines;
-use cabinet::cabinet::Cabinet;
-use catalog::catalogue::Catalogue;
-use clock::clock::Clock;
-use http_wire::inputs::{InputEnd, read_all};
-use http_wire::streams::{ByteSink, ByteSource};
-use layer_recipes::fault::RecipeFault;
-use layer_recipes::recipe::Recipe;
-use schedule_text::line::LINE_LIMIT;
-use source_render::source::Source;
+use base::Clock;
+use cabinet::Cabinet;
+use catalog::Catalogue;
+use http_wire::{ByteSink, ByteSource, InputEnd, read_all};
+use layer_recipes::{Recipe, RecipeFault};
+use schedule_text::LINE_LIMIT;
+use source_render::Source;
 use std::alloc::Global;
-use tile_service::lines::split_line;
+use tile_service::split_line;
 
 /// The most bytes of an input.
 const INPUT_LIMIT: usize = 16_777_216;

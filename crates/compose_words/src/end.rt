@@ -3,10 +3,10 @@ ghost use Rattle.std.specs.Prelude.{◌≡◌};
 ghost use Rattle.compose_words.specs.Ends.{end_of_lines, end_of_refusal};
 
 use crate::lines::LinesEnd;
-use catalog::fault::CatalogueFault;
-use command_setup::configured::Unconfigured;
-use command_status::status::Status;
-use layer_recipes::fault::{RecipeFault, RecipeField};
+use catalog::CatalogueFault;
+use command_setup::Unconfigured;
+use command_status::Status;
+use layer_recipes::{RecipeFault, RecipeField};
 use std::fmt;
 
 /// How a composition ended (`specs/Ends.antt`).

@@ -11,11 +11,18 @@
 #![tactic(auto)]
 
 mod composing;
-pub mod end;
-pub mod line;
-pub mod lines;
-pub mod orders;
-pub mod reply;
+mod end;
+mod line;
+mod lines;
+mod orders;
+mod reply;
 mod text;
-pub mod word;
+mod word;
 mod words;
+
+pub use end::ComposeEnd;
+pub use line::LineEnd;
+pub use lines::LinesEnd;
+pub use orders::{Order, Unread};
+pub use reply::Reply;
+pub use word::run_compose;

@@ -1,34 +1,31 @@
 //! One line behind a recipe: its order is answered.
 ghost use Rattle.std.specs.Prelude.{◌≡◌, ◌≤◌, length, IfErr, IfOk, List, Option, ℕ};
+ghost use Rattle.base.specs.Causes.{Rose};
 ghost use Rattle.cabinet.specs.Commands.{Cuts, IsCountedCut};
 ghost use Rattle.catalog.specs.Valid.{IsValid};
-ghost use Rattle.causes.specs.Causes.{Rose};
-ghost use Rattle.composite_layers.specs.Composes.{Composes};
-ghost use Rattle.composite_layers.specs.Parts.{Moment, moment};
-ghost use Rattle.layer_recipes.specs.declared.recipe.Part.{Part};
-ghost use Rattle.layer_recipes.specs.OfCatalogue.{IsPlaceIn, IsRecipeOf};
-ghost use Rattle.served_covers.specs.OfCatalogue.{IsCoverOf};
-ghost use Rattle.sessions.specs.Outside.{counts};
-ghost use Rattle.tile_service.specs.Session.{IsAtRest};
 ghost use Rattle.compose_words.specs.OneLine.{GoesOn, IsToldAs, RunsLine, RunsOrder};
 ghost use Rattle.compose_words.specs.Orders.{IsOrderOf};
 ghost use Rattle.compose_words.specs.Run.{Answers};
 ghost use Rattle.compose_words.specs.Texts.{HasFewParts};
 ghost use Rattle.compose_words.specs.Written.{OutputChange};
+ghost use Rattle.composite_layers.specs.Composes.{Composes};
+ghost use Rattle.composite_layers.specs.Parts.{Moment, moment};
+ghost use Rattle.layer_recipes.specs.OfCatalogue.{IsPlaceIn, IsRecipeOf};
+ghost use Rattle.layer_recipes.specs.declared.recipe.Part.{Part};
+ghost use Rattle.served_covers.specs.OfCatalogue.{IsCoverOf};
+ghost use Rattle.sessions.specs.Outside.{counts};
+ghost use Rattle.tile_service.specs.Session.{IsAtRest};
 
 use crate::orders::{Order, Unread, read_order};
 use crate::reply::Reply;
 use crate::text::send_answer;
-use cabinet::cabinet::Cabinet;
-use cabinet::replies::CutReply;
-use composite_layers::plain::compose_plain;
-use http_wire::streams::ByteSink;
-use layer_recipes::composed::{ComposeFault, Composed};
-use layer_recipes::place::Place;
-use layer_recipes::recipe::Recipe;
-use source_render::source::Source;
+use cabinet::{Cabinet, CutReply};
+use composite_layers::compose_plain;
+use http_wire::ByteSink;
+use layer_recipes::{ComposeFault, Composed, Place, Recipe};
+use source_render::Source;
 use std::alloc::{AllocError, Global};
-use truncation_list::cover::Cover;
+use truncation_list::Cover;
 
 /// How a line ended.
 #[derive(Clone, Copy, PartialEq, Eq)]

@@ -2,19 +2,19 @@
 ghost use Rattle.std.specs.Prelude.{◌≡◌, ◌<◌, ◌^◌, length};
 ghost use Rattle.cabinet.specs.State.{IsSound};
 ghost use Rattle.catalog.specs.Valid.{IsValid};
-ghost use Rattle.layer_recipes.specs.OfCatalogue.{IsRecipeOf};
-ghost use Rattle.tile_service.specs.Lines.{lines_of};
-ghost use Rattle.sessions.specs.Outside.{counts};
-ghost use Rattle.tile_service.specs.Session.{IsAtRest};
 ghost use Rattle.compose_words.specs.Ends.{HasRunLines, Outer};
+ghost use Rattle.layer_recipes.specs.OfCatalogue.{IsRecipeOf};
+ghost use Rattle.sessions.specs.Outside.{counts};
+ghost use Rattle.tile_service.specs.Lines.{lines_of};
+ghost use Rattle.tile_service.specs.Session.{IsAtRest};
 
 use crate::line::{LineEnd, run_line};
-use cabinet::cabinet::Cabinet;
-use http_wire::streams::ByteSink;
-use layer_recipes::recipe::Recipe;
-use source_render::source::Source;
+use cabinet::Cabinet;
+use http_wire::ByteSink;
+use layer_recipes::Recipe;
+use source_render::Source;
 use std::alloc::Global;
-use tile_service::lines::split_line;
+use tile_service::split_line;
 
 /// How the lines behind a recipe ended.
 #[derive(Clone, Copy, PartialEq, Eq)]

@@ -1,19 +1,18 @@
 //! The order of a line, read.
 ghost use Rattle.std.specs.Prelude.{◌≡◌, ◌<◌, IfOk, IfSome, length, option_map};
 ghost use Rattle.catalog.specs.Valid.{IsValid};
+ghost use Rattle.compose_words.specs.Orders.{IsOrderOf, IsReadAs, behind, digits_and_rest, number_below, order_of, place_in, place_of, truncation};
 ghost use Rattle.job_forms.specs.Cover.{cover_of};
 ghost use Rattle.layer_recipes.specs.OfCatalogue.{IsPlaceIn};
 ghost use Rattle.served_covers.specs.OfCatalogue.{IsCoverOf};
-ghost use Rattle.compose_words.specs.Orders.{IsOrderOf, IsReadAs, behind, digits_and_rest, number_below, order_of, place_in, place_of, truncation};
 
-use catalog::catalogue::Catalogue;
-use job_forms::cover::read_cover;
-use job_forms::fault::JobFault;
-use layer_recipes::place::Place;
-use schedule_text::line::{LINE_LIMIT, digits_len};
+use catalog::Catalogue;
+use job_forms::{JobFault, read_cover};
+use layer_recipes::Place;
+use schedule_text::{LINE_LIMIT, digits_len};
 use std::alloc::Global;
-use truncation_list::cover::Cover;
-use wmts_kvp::number::{below, is_number};
+use truncation_list::Cover;
+use wmts_kvp::{below, is_number};
 
 /// What a line orders.
 #[derive(Clone, Copy)]

@@ -1,5 +1,5 @@
 //! The type of what a line is answered.
-use layer_recipes::composed::Composed;
+use layer_recipes::Composed;
 
 /// What an order is answered.
 #[derive(Drop)]

@@ -1,14 +1,14 @@
 //! The texts of answers, sent.
 ghost use Rattle.std.specs.Prelude.{◌≡◌, ◌+◌, ◌*◌, ◌≤◌, ◌++◌, codes, decimal, flat_map, length};
 ghost use Rattle.arrayvec.specs.ArrayVec.{array_vec_len};
-ghost use Rattle.sessions.specs.Outside.{counts};
 ghost use Rattle.compose_words.specs.Texts.{HasFewParts, answer_text, joined, one_number, tile_head, tile_text, two_numbers};
 ghost use Rattle.compose_words.specs.Written.{IsSent, OutputChange};
+ghost use Rattle.sessions.specs.Outside.{counts};
 
 use crate::reply::Reply;
 use arrayvec::ArrayVec;
-use http_wire::streams::ByteSink;
-use tile_requests::small_text::{add, add_number, send_behind};
+use http_wire::ByteSink;
+use tile_requests::{add, add_number, send_behind};
 
 /// A label and a number after it.
 fn labelled(label: &[u8], number: u64) -> ArrayVec<u8, 1024>

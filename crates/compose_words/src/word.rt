@@ -1,18 +1,18 @@
 //! The word of a composition, done.
 ghost use Rattle.std.specs.Prelude.{◌≡◌, ◌↔◌, false, true};
-ghost use Rattle.sessions.specs.Outside.{InputChange, counts};
 ghost use Rattle.compose_words.specs.Complete.{IsComplete};
 ghost use Rattle.compose_words.specs.Ends.{ComposeChange, ComposeTells, Outer, Stays};
 ghost use Rattle.compose_words.specs.Words.{is_compose};
+ghost use Rattle.sessions.specs.Outside.{InputChange, counts};
 
 use crate::composing::compose_input;
 use crate::end::{ComposeEnd, end_of_refusal};
 use crate::words::is_compose;
-use clock::clock::Clock;
-use command_setup::configured::configured;
-use exact_ratio::words::Words;
-use http_wire::streams::{ByteSink, ByteSource};
-use source_render::source::Source;
+use base::Clock;
+use command_setup::configured;
+use exact_ratio::Words;
+use http_wire::{ByteSink, ByteSource};
+use source_render::Source;
 use std::alloc::Global;
 
 /// Does the word under the catalogue that is read.

@@ -2,7 +2,7 @@
 ghost use Rattle.std.specs.Prelude.{◌≡◌};
 ghost use Rattle.compose_words.specs.Words.{is_compose};
 
-use exact_ratio::words::Words;
+use exact_ratio::Words;
 
 /// Whether words are `compose` alone.
 pub(crate) fn is_compose(words: &[Words]) -> bool

@@ -5,7 +5,9 @@
 //! the composite of the pictures of the parts' numbers. Each number is above every truncation that covers its part's tile and that the
 //! pass had seen at the call.
 //! Stands on composite_layers, layer_recipes, cache_hall, cache_access, cabinet_chest, turnstile, cabinet, source_render, cache_core,
-//! truncation_list, catalog, matrix_geometry and causes.
+//! truncation_list, catalog, matrix_geometry and base.
 #![tactic(auto)]
 
-pub mod compose;
+mod over_hall;
+
+pub use over_hall::compose;

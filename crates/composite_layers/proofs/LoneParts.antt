@@ -15,7 +15,7 @@ use Rattle.cache_core.specs.Steps.{Stepped}
 use Rattle.cache_core.specs.Shown.{shown}
 use Rattle.catalog.specs.declared.catalogue.Catalogue.{Catalogue}
 use Rattle.catalog.specs.LookUp.{IsTile, matrix_in}
-use Rattle.causes.specs.Causes.{Rose, RoseBy}
+use Rattle.base.specs.Causes.{Rose, RoseBy}
 use Rattle.matrix_geometry.specs.declared.address.Address.{Address}
 use Rattle.tile_requests.specs.declared.request.Mode.TheVariants.{Gets}
 use Rattle.tile_requests.specs.Events.{Opens, ended_by, ended_so, failing}

@@ -6,7 +6,7 @@ use Rattle.cache_core.specs.declared.outcome.TileOutcome.{TileOutcome}
 use Rattle.cache_core.specs.declared.outcome.TileOutcome.TheVariants as core
 use Rattle.cache_core.specs.Fits.{Extends, IsFreshOutcome, IsTrueOutcome}
 use Rattle.cache_core.specs.Steps.{ends}
-use Rattle.causes.specs.Causes.{Rose, RoseBy}
+use Rattle.base.specs.Causes.{Rose, RoseBy}
 use Rattle.matrix_geometry.specs.declared.address.Address.{Address}
 use Rattle.raster_field.specs.declared.colour.Colour.{Colour}
 use Rattle.tile_requests.specs.declared.request.Mode.TheVariants.{Gets}

@@ -5,9 +5,12 @@
 //! catalogue's, it is the composite of the pictures of the parts' numbers. `compose_plain` does so in a cabinet in which no render runs: each
 //! part is asked for by the events of a GET, and each is fresh at its own ask (`specs/Parts.antt`, `specs/Composes.antt`).
 //! Stands on layer_recipes, tile_service, tile_requests, cache_access, cabinet_chest, turnstile, cache_core, cabinet, source_render,
-//! shared_text, truncation_list, catalog, matrix_geometry, raster_field and causes.
+//! truncation_list, catalog, matrix_geometry, raster_field and base.
 #![tactic(auto)]
 
-pub mod compose;
+mod over_access;
 mod part;
-pub mod plain;
+mod plain;
+
+pub use over_access::compose;
+pub use plain::compose_plain;

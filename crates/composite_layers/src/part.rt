@@ -1,20 +1,15 @@
 //! One part: its tile is got, and laid under those before it.
 ghost use Rattle.std.specs.Prelude.{IfErr, MatchResult, Some, ◌≡◌, ◌≤◌};
+ghost use Rattle.base.specs.Causes.{Rose};
 ghost use Rattle.cache_access.specs.Turned.{Goes};
 ghost use Rattle.catalog.specs.Valid.{IsValid};
-ghost use Rattle.causes.specs.Causes.{Rose};
-ghost use Rattle.layer_recipes.specs.OfCatalogue.{IsPartOf, IsPlaceIn, tile_at};
 ghost use Rattle.composite_layers.specs.OverAccess.{GetsAt, IsLaid, Stops, moment_of};
+ghost use Rattle.layer_recipes.specs.OfCatalogue.{IsPartOf, IsPlaceIn, tile_at};
 
-use cache_access::access::Access;
-use cache_access::fault::GetFault;
-use cache_access::get::get;
-use cache_core::outcome::Tile;
-use layer_recipes::composed::ComposeFault;
-use layer_recipes::overlay::Overlay;
-use layer_recipes::place::Place;
-use layer_recipes::recipe::Part;
-use source_render::source::Source;
+use cache_access::{Access, GetFault, get};
+use cache_core::Tile;
+use layer_recipes::{ComposeFault, Overlay, Part, Place};
+use source_render::Source;
 use std::alloc::Global;
 
 /// Gets the tile of a part.

@@ -2,19 +2,18 @@
 ghost use Rattle.std.specs.Prelude.{◌≡◌};
 ghost use Rattle.cache_core.specs.Lasting.{Lasting};
 ghost use Rattle.catalog.specs.Valid.{IsValid};
-ghost use Rattle.tile_service.specs.Session.{IsAtRest};
-ghost use Rattle.layer_recipes.specs.OfCatalogue.{IsPlaceIn, IsRecipeOf};
 ghost use Rattle.composite_layers.specs.Composes.{Composes};
 ghost use Rattle.composite_layers.specs.Parts.{moment, place_of};
+ghost use Rattle.layer_recipes.specs.OfCatalogue.{IsPlaceIn, IsRecipeOf};
+ghost use Rattle.tile_service.specs.Session.{IsAtRest};
 
-use crate::compose::compose;
-use cabinet::keeper::Keeper;
-use cache_access::alone::Alone;
-use layer_recipes::composed::{ComposeFault, Composed};
-use layer_recipes::recipe::Recipe;
-use source_render::source::Source;
+use crate::over_access::compose;
+use cabinet::Keeper;
+use cache_access::Alone;
+use layer_recipes::{ComposeFault, Composed, Recipe};
+use source_render::Source;
 use std::alloc::Global;
-use tile_requests::laws::laws_of_lone_threads;
+use tile_requests::laws_of_lone_threads;
 
 /// The composite of a recipe at a place of its grid, in a cabinet in which no render runs. The parts are asked for from the top down, and
 /// no composite is kept: each call asks for each part again, so that a truncation of any part covers the whole.

@@ -3,19 +3,17 @@ ghost use Rattle.composite_tests.specs.Fit.{IsFit};
 ghost use Rattle.layer_recipes.specs.OfCatalogue.{IsRecipeOf};
 
 use crate::rows::{Outcome, has_first, zoom_0_of};
-use cabinet::keeper::Keeper;
-use cabinet::replies::CutReply;
-use cabinet_chest::chest::CabinetChest;
-use cache_access::access::Access;
-use cache_hall::hall::Hall;
-use cache_hall::shared::Shared;
-use composite_hall::compose::compose;
-use layer_recipes::recipe::Recipe;
-use served_covers::of_catalogue::is_cover_of;
-use source_render::source::Source;
+use cabinet::{CutReply, Keeper};
+use cabinet_chest::CabinetChest;
+use cache_access::Access;
+use cache_hall::{Hall, Shared};
+use composite_hall::compose;
+use layer_recipes::Recipe;
+use served_covers::is_cover_of;
+use source_render::Source;
 use std::alloc::Global;
 use std::sync::Wait;
-use turnstile::pass::Pass;
+use turnstile::Pass;
 
 /// Makes the composite at zoom 0.
 pub fn composed<R: Wait, K: Keeper, S: Source>(

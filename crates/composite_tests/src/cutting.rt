@@ -3,19 +3,18 @@ ghost use Rattle.std.specs.Prelude.{None};
 ghost use Rattle.composite_tests.specs.Fit.{IsFit};
 
 use crate::calls::cut;
-use cabinet::keeper::Keeper;
-use cabinet_chest::chest::CabinetChest;
-use cache_hall::hall::Hall;
-use catalog::catalogue::Catalogue;
-use metatile_locks::ticket::Ticket;
-use metatile_plan::window::Window;
-use raster_field::raster::Raster;
-use source_render::numbered::Numbered;
-use source_render::source::{Failed, Source};
+use cabinet::Keeper;
+use cabinet_chest::CabinetChest;
+use cache_hall::Hall;
+use catalog::Catalogue;
+use metatile_locks::Ticket;
+use metatile_plan::Window;
+use raster_field::Raster;
+use source_render::{Failed, Numbered, Source};
 use std::alloc::Global;
 use std::marker::Model;
 use std::sync::Wait;
-use turnstile::pass::Pass;
+use turnstile::Pass;
 
 /// The source of numbered pictures that truncates a layer at zoom 0 while it renders for the first time.
 #[derive(Drop)]

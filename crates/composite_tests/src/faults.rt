@@ -5,7 +5,7 @@ ghost use Rattle.layer_recipes.specs.OfCatalogue.{IsRecipeOf};
 use crate::calls::{composed, kept};
 use crate::rows::{DEMO, WOOD, has_failed, has_numbers};
 use crate::stand::{Pair, Stand, new_stand};
-use source_render::scripted::Scripted;
+use source_render::Scripted;
 use std::alloc::Global;
 use std::sync::Wait;
 use std::test::Fail;

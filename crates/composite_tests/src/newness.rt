@@ -6,7 +6,7 @@ use crate::calls::{composed, cut, kept};
 use crate::cutting::Cutting;
 use crate::rows::{AFTER_A_CUT, AT_FIRST, DEMO, WOOD, has_numbers, has_text};
 use crate::stand::{Pair, Stand, new_stand};
-use source_render::numbered::Numbered;
+use source_render::Numbered;
 use std::alloc::Global;
 use std::sync::Wait;
 use std::test::Fail;

@@ -7,11 +7,10 @@ ghost use Rattle.tile_service.specs.Session.{IsAtRest};
 
 use crate::rows::{Outcome, demo_over_wood, has_failed, has_first, has_numbers};
 use crate::stand::empty;
-use cabinet::cabinet::Cabinet;
-use composite_layers::plain::compose_plain;
-use layer_recipes::composed::{ComposeFault, Composed};
-use layer_recipes::recipe::Recipe;
-use source_render::scripted::Scripted;
+use cabinet::Cabinet;
+use composite_layers::compose_plain;
+use layer_recipes::{ComposeFault, Composed, Recipe};
+use source_render::Scripted;
 use std::alloc::Global;
 use std::test::Fail;
 

@@ -4,14 +4,12 @@ ghost use Rattle.catalog.specs.Valid.{IsValid};
 ghost use Rattle.composite_layers.specs.Parts.{place_of};
 ghost use Rattle.layer_recipes.specs.OfCatalogue.{IsPlaceIn, IsRecipeOf};
 
-use catalog::catalogue::Catalogue;
-use config_text::read::read_catalogue;
-use layer_recipes::composed::{ComposeFault, Composed};
-use layer_recipes::recipe::Recipe;
-use matrix_geometry::matrix::Matrix;
-use matrix_geometry::theme::Filter;
+use catalog::Catalogue;
+use config_text::read_catalogue;
+use layer_recipes::{ComposeFault, Composed, Recipe};
+use matrix_geometry::{Filter, Matrix};
 use std::alloc::Global;
-use truncation_list::cover::Cover;
+use truncation_list::Cover;
 
 /// The built-in catalogue with two layers more.
 const ROWS: &[u8] = br#"{"source":0,"keptLimit":64,"cutLimit":16,"blobBytes":4096,"policy":"lru",

@@ -6,13 +6,13 @@ ghost use Rattle.layer_recipes.specs.OfCatalogue.{IsRecipeOf};
 ghost use Rattle.tile_service.specs.Session.{IsAtRest};
 
 use crate::rows::{demo_over_wood, rows_catalogue};
-use cabinet::cabinet::Cabinet;
-use cabinet_chest::chest::CabinetChest;
-use cache_hall::hall::{Hall, HallEntry};
-use clock::clock::Clock;
-use layer_recipes::recipe::Recipe;
+use base::Clock;
+use cabinet::Cabinet;
+use cabinet_chest::CabinetChest;
+use cache_hall::{Hall, HallEntry};
+use layer_recipes::Recipe;
 use std::alloc::{AllocError, Global};
-use turnstile::pass::Pass;
+use turnstile::Pass;
 
 /// A hall and two passes of it.
 #[derive(Drop)]

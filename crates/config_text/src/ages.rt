@@ -1,20 +1,17 @@
 //! The age limits of a layer.
-ghost use Rattle.std.specs.Prelude.{◌≡◌, ◌≤◌, ◌&&◌, [], length, map, nat_le, true, IfOk, codes};
 ghost use Rattle.std.specs.List.{list_all};
-ghost use Rattle.serde_json.specs.View.{view};
-ghost use Rattle.serde_json.specs.Find.{get};
+ghost use Rattle.std.specs.Prelude.{◌≡◌, ◌≤◌, ◌&&◌, [], length, map, nat_le, true, IfOk, codes};
 ghost use Rattle.catalog.specs.FirstFault.{zooms_rise};
 ghost use Rattle.config_text.specs.Ages.{age_of, age_row, ages, ages_in, is_age};
 ghost use Rattle.config_text.specs.Member.{or};
 ghost use Rattle.config_text.specs.Reading.{Gives, entries};
+ghost use Rattle.serde_json.specs.Find.{get};
+ghost use Rattle.serde_json.specs.View.{view};
 
 use crate::member::{items, number};
 use crate::row::AgeRow;
 use crate::shape::two;
-use catalog::fault::{CatalogueFault, Field};
-use catalog::first_fault::unless;
-use catalog::layer::Age;
-use catalog::valid_ages::zooms_rise;
+use catalog::{Age, CatalogueFault, Field, unless, zooms_rise};
 use serde_json::Value;
 use std::alloc::{AllocError, Global};
 

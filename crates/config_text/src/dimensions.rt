@@ -1,21 +1,17 @@
 //! The dimensions of a layer, read with their values and defaults.
 ghost use Rattle.std.specs.Prelude.{◌≡◌, ◌<◌, ◌≤◌, ◌^◌, ◌||◌, List, [], Ok, length, map, IfOk, codes};
-ghost use Rattle.serde_json.specs.View.{view};
-ghost use Rattle.serde_json.specs.Find.{get};
 ghost use Rattle.catalog.specs.FirstFault.{each, default_test, dimension_name_test, dimension_test};
-ghost use Rattle.config_text.specs.Reading.{Gives, entries};
-ghost use Rattle.config_text.specs.Member.{required, if_any};
 ghost use Rattle.config_text.specs.Layers.{name_apart, one_of, dimension_of};
+ghost use Rattle.config_text.specs.Member.{required, if_any};
+ghost use Rattle.config_text.specs.Reading.{Gives, entries};
+ghost use Rattle.serde_json.specs.Find.{get};
+ghost use Rattle.serde_json.specs.View.{view};
 
 use crate::each::{Entry, each};
 use crate::member::text;
 use crate::name::required_own_names;
-use catalog::fault::{CatalogueFault, Field};
-use catalog::layer::Dimension;
-use catalog::named::place_named;
-use catalog::valid_dimension::dimension_name_test;
-use exact_ratio::items::Items;
-use exact_ratio::words::Words;
+use catalog::{CatalogueFault, Dimension, Field, dimension_name_test, place_named};
+use exact_ratio::{Items, Words};
 use serde_json::Value;
 use std::alloc::Global;
 

@@ -1,12 +1,12 @@
 //! How the entries of a list are read: one after the other, each beside those before it.
 ghost use Rattle.std.specs.Prelude.{◌≡◌, ℕ, ◌+◌, ◌<◌, ◌≤◌, ◌^◌, List, [], Ok, length, map, Result, IfOk, ⊤};
+ghost use Rattle.catalog.specs.FirstFault.{each};
+ghost use Rattle.catalog.specs.declared.fault.CatalogueFault.{CatalogueFault};
+ghost use Rattle.config_text.specs.Reading.{Gives, entries};
 ghost use Rattle.serde_json.specs.Data.{Data};
 ghost use Rattle.serde_json.specs.View.{view};
-ghost use Rattle.catalog.specs.declared.fault.CatalogueFault.{CatalogueFault};
-ghost use Rattle.catalog.specs.FirstFault.{each};
-ghost use Rattle.config_text.specs.Reading.{Gives, entries};
 
-use catalog::fault::CatalogueFault;
+use catalog::CatalogueFault;
 use serde_json::Value;
 use std::alloc::Global;
 

@@ -1,10 +1,10 @@
 //! The grids of the catalogue's text.
 ghost use Rattle.std.specs.Prelude.{◌≡◌, ◌<◌, ◌≤◌, ◌^◌, List, [], Ok, true, length, map, IfOk};
-ghost use Rattle.serde_json.specs.View.{view};
 ghost use Rattle.catalog.specs.FirstFault.{each, grid_test};
 ghost use Rattle.catalog.specs.Names.{within};
-ghost use Rattle.config_text.specs.Reading.{Gives, entries};
 ghost use Rattle.config_text.specs.Grids.{grid_of, grids_of};
+ghost use Rattle.config_text.specs.Reading.{Gives, entries};
+ghost use Rattle.serde_json.specs.View.{view};
 
 use crate::each::{Entry, each};
 use crate::matrices::{matrices_of, parted};
@@ -12,10 +12,8 @@ use crate::member::required_objects;
 use crate::name::required_id;
 use crate::shape::{above_zero_or, required_corner};
 use crate::spacing::Ground;
-use catalog::fault::{CatalogueFault, Field};
-use catalog::grid::Grid;
-use exact_ratio::decimal::Decimal;
-use exact_ratio::items::Items;
+use catalog::{CatalogueFault, Field, Grid};
+use exact_ratio::{Decimal, Items};
 use serde_json::Value;
 use std::alloc::Global;
 

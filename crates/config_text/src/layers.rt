@@ -1,13 +1,13 @@
 //! The layers of the catalogue's text, read over its grids.
 ghost use Rattle.std.specs.Prelude.{◌≡◌, ◌<◌, ◌≤◌, ◌^◌, ◌==◌, List, [], Ok, true, length, map, IfOk, IfSome, codes};
-ghost use Rattle.serde_json.specs.View.{view};
-ghost use Rattle.serde_json.specs.Find.{get};
 ghost use Rattle.catalog.specs.FirstFault.{each, are_factors, dimension_test, grid_number_test, layer_test, style_test};
 ghost use Rattle.catalog.specs.Names.{within};
-ghost use Rattle.config_text.specs.Reading.{Gives, entries};
-ghost use Rattle.config_text.specs.Member.{or};
 ghost use Rattle.config_text.specs.Layers.{grid_number, factors, layer_of, layers_of};
+ghost use Rattle.config_text.specs.Member.{or};
 ghost use Rattle.config_text.specs.Parts.{dims_in, layer_in, measures_in, numbers_in, styles_in};
+ghost use Rattle.config_text.specs.Reading.{Gives, entries};
+ghost use Rattle.serde_json.specs.Find.{get};
+ghost use Rattle.serde_json.specs.View.{view};
 
 use crate::ages::ages_or_none;
 use crate::dimensions::dimensions_of;
@@ -16,15 +16,12 @@ use crate::member::{objects_or_none, required_objects, whole_if_any, whole_or};
 use crate::name::{required_id, required_names};
 use crate::shape::size;
 use crate::styles::styles_of;
-use catalog::fault::{CatalogueFault, Field};
-use catalog::first_fault::unless;
-use catalog::grid::Grid;
-use catalog::layer::{Dimension, Layer, Style};
-use catalog::named::place_named;
-use catalog::valid_layer::{are_factors, are_small, is_among};
-use exact_ratio::items::Items;
-use exact_ratio::words::Words;
-use matrix_geometry::matrix::Size;
+use catalog::{
+    CatalogueFault, Dimension, Field, Grid, Layer, Style, are_factors, are_small, is_among,
+    place_named, unless,
+};
+use exact_ratio::{Items, Words};
+use matrix_geometry::Size;
 use serde_json::Value;
 use std::alloc::Global;
 

@@ -16,10 +16,12 @@ mod measures;
 mod member;
 mod name;
 mod outermost;
-pub mod read;
+mod read;
 mod row;
 mod settings;
 mod shape;
 mod spacing;
 mod span;
 mod styles;
+
+pub use read::read_catalogue;

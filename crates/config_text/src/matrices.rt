@@ -1,23 +1,20 @@
 //! The matrices of a grid, each made of a span or a scale denominator. A fault of its numbers becomes one of the text.
 ghost use Rattle.std.specs.Prelude.{◌≡◌, ◌<◌, ◌≤◌, ◌^◌, [], Ok, length, map, IfOk};
-ghost use Rattle.serde_json.specs.View.{view};
 ghost use Rattle.catalog.specs.FirstFault.{each, matrix_test};
-ghost use Rattle.matrix_geometry.specs.Limits.{IsWithinLimits};
-ghost use Rattle.config_text.specs.Reading.{Gives, entries};
 ghost use Rattle.config_text.specs.Grids.{spacing_of, or_fault, made, matrix_of};
 ghost use Rattle.config_text.specs.Matrices.{named_matrix_test};
+ghost use Rattle.config_text.specs.Reading.{Gives, entries};
+ghost use Rattle.matrix_geometry.specs.Limits.{IsWithinLimits};
+ghost use Rattle.serde_json.specs.View.{view};
 
 use crate::each::{Entry, each};
 use crate::name::required_id;
 use crate::shape::{corner_or, required_decimal, required_size};
 use crate::spacing::{Ground, NamedMatrix, Spacing};
 use crate::span::span_if_any;
-use catalog::fault::{CatalogueFault, Field};
-use catalog::named::Named;
-use exact_ratio::decimal::Decimal;
-use exact_ratio::words::Words;
-use matrix_geometry::making::GridFault;
-use matrix_geometry::matrix::{Corner, Matrix, Size};
+use catalog::{CatalogueFault, Field, Named};
+use exact_ratio::{Decimal, Words};
+use matrix_geometry::{Corner, GridFault, Matrix, Size};
 use serde_json::Value;
 use std::alloc::{AllocError, Global};
 

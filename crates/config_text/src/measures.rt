@@ -1,5 +1,5 @@
 //! The numbers of a layer.
-use matrix_geometry::matrix::Size;
+use matrix_geometry::Size;
 
 /// The numbers of a layer: the factors of its metatiles, its gutter, the length of a cell, and its quota.
 #[derive(Clone, Copy)]

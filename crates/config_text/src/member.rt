@@ -1,17 +1,15 @@
 //! Members that are whole numbers, texts or lists, required or with a default.
-ghost use Rattle.std.specs.Prelude.{◌≡◌, [], map, length, true, IfOk, IfSome};
 ghost use Rattle.std.specs.List.{list_all};
-ghost use Rattle.serde_json.specs.View.{view};
-ghost use Rattle.serde_json.specs.Find.{get, as_str};
+ghost use Rattle.std.specs.Prelude.{◌≡◌, [], map, length, true, IfOk, IfSome};
 ghost use Rattle.catalog.specs.Names.{within};
-ghost use Rattle.config_text.specs.Reading.{Gives};
 ghost use Rattle.config_text.specs.Member.{required, or, if_any, of_kind, whole, items, is_object, objects};
+ghost use Rattle.config_text.specs.Reading.{Gives};
 ghost use Rattle.json_forms.specs.Forms.{number_of};
+ghost use Rattle.serde_json.specs.Find.{get, as_str};
+ghost use Rattle.serde_json.specs.View.{view};
 
-use catalog::fault::{CatalogueFault, Field};
-use catalog::first_fault::unless;
-use catalog::names::within;
-use json_forms::list::values_of;
+use catalog::{CatalogueFault, Field, unless, within};
+use json_forms::values_of;
 use serde_json::Value;
 
 /// A number without a sign, a fraction or an exponent.

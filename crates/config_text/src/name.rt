@@ -1,19 +1,16 @@
 //! Members that are names: identifiers, each beside those before it, and lists of names.
-ghost use Rattle.std.specs.Prelude.{◌≡◌, map, codes, true, IfOk};
 ghost use Rattle.std.specs.List.{list_all};
-ghost use Rattle.serde_json.specs.View.{view};
-ghost use Rattle.serde_json.specs.Find.{get};
+ghost use Rattle.std.specs.Prelude.{◌≡◌, map, codes, true, IfOk};
 ghost use Rattle.catalog.specs.FirstFault.{name_test, names_test};
 ghost use Rattle.catalog.specs.Names.{are_distinct};
-ghost use Rattle.config_text.specs.Reading.{Gives};
 ghost use Rattle.config_text.specs.Member.{required, name_beside, is_text, text_of, texts, names, own_names};
+ghost use Rattle.config_text.specs.Reading.{Gives};
+ghost use Rattle.serde_json.specs.Find.{get};
+ghost use Rattle.serde_json.specs.View.{view};
 
 use crate::member::{items, text};
-use catalog::fault::{CatalogueFault, Field};
-use catalog::first_fault::{name_test, names_test, unless};
-use catalog::named::Named;
-use catalog::names::are_distinct;
-use exact_ratio::words::Words;
+use catalog::{CatalogueFault, Field, Named, are_distinct, name_test, names_test, unless};
+use exact_ratio::Words;
 use serde_json::Value;
 use std::alloc::{AllocError, Global};
 

@@ -1,17 +1,16 @@
 //! The members of the outermost object before its lists.
 ghost use Rattle.std.specs.Prelude.{◌≡◌, ◌^◌, codes, true, IfOk, IfSome};
+ghost use Rattle.catalog.specs.Names.{within};
+ghost use Rattle.catalog.specs.declared.catalogue.Policy.TheVariants.{Lru};
+ghost use Rattle.config_text.specs.Member.{or};
+ghost use Rattle.config_text.specs.Reading.{Gives};
+ghost use Rattle.config_text.specs.Settings.{policy, settings_of};
 ghost use Rattle.serde_json.specs.Find.{get};
 ghost use Rattle.serde_json.specs.View.{view};
-ghost use Rattle.catalog.specs.declared.catalogue.Policy.TheVariants.{Lru};
-ghost use Rattle.catalog.specs.Names.{within};
-ghost use Rattle.config_text.specs.Reading.{Gives};
-ghost use Rattle.config_text.specs.Member.{or};
-ghost use Rattle.config_text.specs.Settings.{policy, settings_of};
 
 use crate::member::{required_whole, text, whole_if_any, whole_or};
 use crate::settings::Settings;
-use catalog::catalogue::Policy;
-use catalog::fault::{CatalogueFault, Field};
+use catalog::{CatalogueFault, Field, Policy};
 use serde_json::Value;
 
 #[tactic(auto, unfolding(crate::specs::Settings::policy))]

@@ -1,18 +1,17 @@
 //! The reading of a whole text: the catalogue with the text's SHA-256, or the first fault.
 ghost use Rattle.std.specs.Prelude.{◌≡◌, Ok, IfOk};
-ghost use Rattle.serde_json.specs.View.{view};
 ghost use Rattle.catalog.specs.FirstFault.{first_fault};
 ghost use Rattle.catalog.specs.Valid.{IsValid};
 ghost use Rattle.config_text.specs.Reading.{Gives};
 ghost use Rattle.config_text.specs.Text.{digest_of, catalogue_in, catalogue_of};
+ghost use Rattle.serde_json.specs.View.{view};
 
 use crate::grids::grids_of;
 use crate::json::object_in;
 use crate::layers::layers_of;
 use crate::outermost::settings_of;
-use catalog::catalogue::Catalogue;
-use catalog::fault::CatalogueFault;
-use exact_ratio::items::Items;
+use catalog::{Catalogue, CatalogueFault};
+use exact_ratio::Items;
 use serde_json::Value;
 use sha2::{Digest, Sha256};
 use std::alloc::Global;

@@ -1,5 +1,5 @@
 //! What the outermost object says before its lists, as one value.
-use catalog::catalogue::Policy;
+use catalog::Policy;
 
 /// The members of the outermost object before its lists.
 #[derive(Clone, Copy)]

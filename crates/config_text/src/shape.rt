@@ -1,17 +1,17 @@
 //! Members that are decimal numbers or pairs of numbers, as corners and sizes are.
 ghost use Rattle.std.specs.Prelude.{◌≡◌, pos};
-ghost use Rattle.serde_json.specs.View.{view};
-ghost use Rattle.serde_json.specs.Find.{get};
-ghost use Rattle.json_forms.specs.Decimals.{decimal_text};
-ghost use Rattle.config_text.specs.Reading.{Gives};
 ghost use Rattle.config_text.specs.Member.{required, or, of_kind};
+ghost use Rattle.config_text.specs.Reading.{Gives};
 ghost use Rattle.config_text.specs.Shape.{two, wide, size, limited, decimal, above_zero, corner};
+ghost use Rattle.json_forms.specs.Decimals.{decimal_text};
+ghost use Rattle.serde_json.specs.Find.{get};
+ghost use Rattle.serde_json.specs.View.{view};
 
 use crate::member::{items, number};
-use catalog::fault::{CatalogueFault, Field};
-use exact_ratio::decimal::Decimal;
-use json_forms::decimal::{DecimalText, decimal_text};
-use matrix_geometry::matrix::{Corner, Size};
+use catalog::{CatalogueFault, Field};
+use exact_ratio::Decimal;
+use json_forms::{DecimalText, decimal_text};
+use matrix_geometry::{Corner, Size};
 use serde_json::Value;
 
 /// A list of two values.

@@ -1,8 +1,6 @@
 //! What a matrix is made of: the spacing of its pixels and what it takes from its grid; and a matrix with its name.
-use exact_ratio::decimal::Decimal;
-use exact_ratio::ratio::Ratio;
-use exact_ratio::words::Words;
-use matrix_geometry::matrix::{Corner, Matrix};
+use exact_ratio::{Decimal, Ratio, Words};
+use matrix_geometry::{Corner, Matrix};
 
 /// How far apart the pixels of a matrix are.
 #[derive(Clone, Copy)]

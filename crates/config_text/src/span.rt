@@ -1,18 +1,18 @@
 //! The span of a matrix, as digits or as a fraction of two runs of digits.
-ghost use Rattle.std.specs.Prelude.{◌≡◌, ◌<◌, ◌≤◌, ◌^◌, ◌+◌, ◌&&◌, ◌==◌, true, not, length, nat_le, pos};
-ghost use Rattle.std.specs.List.{list_all, list_any};
 ghost use Rattle.std.specs.Char.{is_ascii_digit};
+ghost use Rattle.std.specs.List.{list_all, list_any};
+ghost use Rattle.std.specs.Prelude.{◌≡◌, ◌<◌, ◌≤◌, ◌^◌, ◌+◌, ◌&&◌, ◌==◌, true, not, length, nat_le, pos};
 ghost use Rattle.std.specs.Str.Parse.{digits_value};
-ghost use Rattle.serde_json.specs.View.{view};
-ghost use Rattle.serde_json.specs.Find.{get};
-ghost use Rattle.exact_ratio.specs.Lowest.{lowest_of};
-ghost use Rattle.config_text.specs.Reading.{Gives};
 ghost use Rattle.config_text.specs.Member.{if_any};
+ghost use Rattle.config_text.specs.Reading.{Gives};
 ghost use Rattle.config_text.specs.Shape.{is_nonzero, slash_at, numerator, denominator, span_of, span};
+ghost use Rattle.exact_ratio.specs.Lowest.{lowest_of};
+ghost use Rattle.serde_json.specs.Find.{get};
+ghost use Rattle.serde_json.specs.View.{view};
 
 use crate::member::text;
-use catalog::fault::{CatalogueFault, Field};
-use exact_ratio::ratio::Ratio;
+use catalog::{CatalogueFault, Field};
+use exact_ratio::Ratio;
 use serde_json::Value;
 
 fn are_digits(text: &[u8]) -> bool

@@ -1,22 +1,19 @@
 //! The styles of a layer, with their breaks.
-ghost use Rattle.std.specs.Prelude.{◌≡◌, ◌≤◌, ◌<◌, ◌^◌, ◌&&◌, ◌∷◌, List, [], Ok, length, map, nat_le, true, IfOk, codes};
 ghost use Rattle.std.specs.List.{list_all};
-ghost use Rattle.serde_json.specs.View.{view};
-ghost use Rattle.serde_json.specs.Find.{get};
+ghost use Rattle.std.specs.Prelude.{◌≡◌, ◌≤◌, ◌<◌, ◌^◌, ◌&&◌, ◌∷◌, List, [], Ok, length, map, nat_le, true, IfOk, codes};
 ghost use Rattle.catalog.specs.FirstFault.{each, unless, rise_from_zero, style_test};
-ghost use Rattle.config_text.specs.Reading.{Gives, entries};
-ghost use Rattle.config_text.specs.Member.{required};
 ghost use Rattle.config_text.specs.Layers.{four_of, row_of, is_byte_row, are_breaks, break_of, breaks_in, breaks, style_of};
+ghost use Rattle.config_text.specs.Member.{required};
+ghost use Rattle.config_text.specs.Reading.{Gives, entries};
+ghost use Rattle.serde_json.specs.Find.{get};
+ghost use Rattle.serde_json.specs.View.{view};
 
 use crate::each::{Entry, each};
 use crate::member::{items, number};
 use crate::name::required_id;
 use crate::row::Row;
-use catalog::fault::{CatalogueFault, Field};
-use catalog::first_fault::unless;
-use catalog::layer::{Break, Style};
-use catalog::valid_style::rise_from_zero;
-use exact_ratio::items::Items;
+use catalog::{Break, CatalogueFault, Field, Style, rise_from_zero, unless};
+use exact_ratio::Items;
 use serde_json::Value;
 use std::alloc::{AllocError, Global};
 

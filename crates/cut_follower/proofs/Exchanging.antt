@@ -4,7 +4,7 @@ use Rattle.std.proofs.KnownBytes.{Appends-nil, Appends-trans, Consumes-nil, Cons
 use Rattle.std.proofs.lemmas.Bool.{false≢true}
 use Rattle.std.proofs.lemmas.Grind.{flat_map-append}
 use Rattle.std.proofs.lemmas.List.{length-drop, take-append-drop}
-use Rattle.causes.specs.Causes.{Rose}
+use Rattle.base.specs.Causes.{Rose}
 use Rattle.http_wire.proofs.TakesOn.{rose_before}
 use Rattle.cut_follower.specs.declared.ends.LinkEnd.{LinkEnd}
 use Rattle.cut_follower.specs.declared.ends.LinkEnd.TheVariants as link_end

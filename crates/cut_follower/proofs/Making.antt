@@ -11,7 +11,7 @@ use Rattle.change_feed.specs.declared.applied.Applied.{Applied}
 use Rattle.change_feed.specs.declared.applied.Applied.TheVariants as applied
 use Rattle.change_feed.specs.declared.change.Change.{Change}
 use Rattle.change_feed.specs.Applies.{Applies, IsCutAs, MayEndAfter, Pair, decided, mark_for, marked_cut}
-use Rattle.causes.specs.Causes.{Rose}
+use Rattle.base.specs.Causes.{Rose}
 use Rattle.change_feed.specs.Files.{EndsIn, MayEndIn, Stand}
 use Rattle.change_feed.specs.Marks.{last_of}
 use Rattle.cut_follower.specs.declared.following.Arrived.{Arrived}

@@ -1,5 +1,5 @@
 -- What a lossy link promises.
-use Rattle.std.proofs.Common.{◌≡◌, ℕ, ◌+◌, ◌<◌, ◌≤◌, List, [], ◌∷◌, length, Some, IsTrue, refl, sym, subst, ap, arith, inl, inr}
+use Rattle.std.proofs.Common.{◌≡◌, ℕ, ◌+◌, ◌<◌, ◌≤◌, List, [], ◌∷◌, length, Some, IsTrue, refl, sym, subst, ap, arith, inl, inr, Bool, true, false}
 use Rattle.std.specs.Prelude.{slice_get}
 use Rattle.cabinet.specs.declared.replies.Asked.{Asked}
 use Rattle.cabinet.specs.declared.replies.Asked.TheVariants as replies
@@ -16,7 +16,6 @@ use Rattle.outbox.specs.declared.packet.Packet.TheVariants as packets
 use Rattle.outbox.specs.declared.posted.Posted.{Posted}
 use Rattle.outbox.specs.declared.posted.Posted.TheVariants as posts
 use Rattle.outbox.specs.Posts.{Hears, Outgoing}
-use Rattle.std.proofs.Common.{Bool, true, false}
 use Rattle.truncation_list.specs.Books.{AnswersFor}
 use Rattle.truncation_list.specs.declared.book.Cut.{Cut}
 use Rattle.truncation_list.specs.declared.cover.Cover.{Cover}

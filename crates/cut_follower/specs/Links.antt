@@ -1,7 +1,7 @@
 -- A link at a moment, and what one packet off it or onto it does.
 use Rattle.std.specs.Prelude.{◌≡◌, ℕ, ◌<◌, ◌≤◌, Bool, true, false, List, [], ◌++◌, length, Option, Result, Ok, Err}
 use Rattle.std.specs.Io.KnownBytes.{Appends, Consumes, IsAtEnd}
-use Rattle.causes.specs.Causes.{Rose}
+use Rattle.base.specs.Causes.{Rose}
 use Rattle.cut_follower.specs.declared.packets.Missed.{Missed}
 use Rattle.cut_follower.specs.declared.packets.Missed.TheVariants as missed
 

@@ -1,5 +1,5 @@
 //! How a call over a link ends.
-use change_feed::applied::Applied;
+use change_feed::Applied;
 
 /// How the leader's or the follower's side of a link ended.
 #[derive(Clone, Copy, PartialEq, Eq)]

@@ -1,7 +1,7 @@
 //! The follower's side of a link: it takes each change that comes, and tells what is in force.
 ghost use Rattle.std.specs.Prelude.{◌≡◌, ◌⊎◌, ◌↔◌, ◌≤◌, true};
-ghost use Rattle.cache_core.specs.Lasting.{Lasting};
 ghost use Rattle.cabinet.specs.State.{State};
+ghost use Rattle.cache_core.specs.Lasting.{Lasting};
 ghost use Rattle.change_feed.specs.Applies.{Pair};
 ghost use Rattle.cut_follower.specs.Following.{FollowsOn, IsMade};
 ghost use Rattle.cut_follower.specs.Links.{LinkAt};
@@ -14,16 +14,14 @@ use crate::ends::LinkEnd;
 use crate::packets::{Missed, send_packet, take_packet};
 use crate::taken::Taken;
 use crate::taking::take;
-use cabinet::keeper::Keeper;
-use cache_core::laws::laws_of_lasting;
-use catalog::catalogue::Catalogue;
-use change_feed::applied::Applied;
-use change_feed::feed::Feed;
-use disk_model::disk::Disk;
-use http_wire::links::Link;
-use outbox::packet::Packet;
-use outbox::reading::read_packet;
-use served_covers::of_catalogue::is_cover_of;
+use cabinet::Keeper;
+use cache_core::laws_of_lasting;
+use catalog::Catalogue;
+use change_feed::{Applied, Feed};
+use disk_model::Disk;
+use http_wire::Link;
+use outbox::{Packet, read_packet};
+use served_covers::is_cover_of;
 use std::alloc::Global;
 
 /// How many packets a link may bring.

@@ -1,19 +1,19 @@
 //! What a follower promises, whatever a lossy link does.
-ghost use Rattle.std.specs.Prelude.{◌≡◌, ◌<◌, ◌≤◌, ◌+◌, ◌∷◌, ◌++◌, ℕ, IfSome, IsSome, IsTrue, List, Some, slice_get};
 ghost use Rattle.std.specs.List.{AllByRecursion};
-ghost use Rattle.cabinet.specs.declared.replies.Asked.{Asked};
+ghost use Rattle.std.specs.Prelude.{◌≡◌, ◌<◌, ◌≤◌, ◌+◌, ◌∷◌, ◌++◌, ℕ, IfSome, IsSome, IsTrue, List, Some, slice_get};
 ghost use Rattle.cabinet.specs.Hits.{covers_in};
 ghost use Rattle.cabinet.specs.State.{IsKnown, State};
-ghost use Rattle.change_feed.specs.declared.applied.Applied.{Applied};
-ghost use Rattle.change_feed.specs.declared.applied.Applied.TheVariants as applied;
-ghost use Rattle.change_feed.specs.declared.change.Change.{Change};
+ghost use Rattle.cabinet.specs.declared.replies.Asked.{Asked};
 ghost use Rattle.change_feed.specs.Applies.{marked_cut};
+ghost use Rattle.change_feed.specs.declared.applied.Applied.TheVariants as applied;
+ghost use Rattle.change_feed.specs.declared.applied.Applied.{Applied};
+ghost use Rattle.change_feed.specs.declared.change.Change.{Change};
 ghost use Rattle.cut_follower.specs.InStep.{IsAcknowledged, IsFront, IsInStep, book_in, covers_of, tile_number};
 ghost use Rattle.cut_follower.specs.Lossy.{Event, Happens, Lossy, Passes, arrived, asked, begun};
 ghost use Rattle.cut_follower.specs.Takes.{IsOfCatalogue};
 ghost use Rattle.matrix_geometry.specs.declared.address.Address.{Address};
-ghost use Rattle.outbox.specs.declared.packet.Packet.{Packet};
 ghost use Rattle.outbox.specs.Posts.{Outgoing};
+ghost use Rattle.outbox.specs.declared.packet.Packet.{Packet};
 ghost use Rattle.served_covers.specs.OfCatalogue.{IsCoverOf};
 ghost use Rattle.truncation_list.specs.Books.{AnswersFor};
 ghost use Rattle.truncation_list.specs.declared.book.Cut.{Cut};

@@ -1,20 +1,17 @@
 //! The leader's side of a link: it sends what it has posted, one change after the other, and hears what was seen.
 ghost use Rattle.std.specs.Prelude.{◌≡◌, ◌↔◌, ◌≤◌, None, Some};
-ghost use Rattle.cut_follower.specs.declared.ends.LinkEnd.TheVariants as link_end;
 ghost use Rattle.cut_follower.specs.Leading.{Leads};
 ghost use Rattle.cut_follower.specs.Links.{LinkAt};
 ghost use Rattle.cut_follower.specs.Steps.{ExchangesOne, HearsBytes};
+ghost use Rattle.cut_follower.specs.declared.ends.LinkEnd.TheVariants as link_end;
 ghost use Rattle.outbox.specs.Packets.{IsRanged};
 ghost use Rattle.outbox.specs.Posts.{next_of};
 
 use crate::ends::LinkEnd;
 use crate::packets::{Missed, send_packet, take_packet};
-use disk_model::disk::Disk;
-use http_wire::links::Link;
-use outbox::laws::laws_of_packets;
-use outbox::outbox::Outbox;
-use outbox::packet::Packet;
-use outbox::reading::read_packet;
+use disk_model::Disk;
+use http_wire::Link;
+use outbox::{Outbox, Packet, laws_of_packets, read_packet};
 
 /// What one exchange came to.
 #[derive(Clone, Copy, PartialEq, Eq)]

@@ -13,10 +13,18 @@
 //! types.
 #![tactic(auto)]
 
-pub mod ends;
-pub mod following;
-pub mod laws;
-pub mod leading;
-pub mod packets;
-pub mod taken;
-pub mod taking;
+mod ends;
+mod following;
+mod laws;
+mod leading;
+mod packets;
+mod taken;
+mod taking;
+
+pub use ends::LinkEnd;
+pub use following::{Arrived, follow_link};
+pub use laws::laws_of_lossy_links;
+pub use leading::{Exchanged, lead_link};
+pub use packets::Missed;
+pub use taken::Taken;
+pub use taking::take;

@@ -3,10 +3,8 @@ ghost use Rattle.std.specs.Prelude.{◌≡◌, ◌<◌, ◌≤◌};
 ghost use Rattle.cut_follower.specs.Links.{LinkAt, IsMissedAt, PutsOnto, TakesOff};
 ghost use Rattle.outbox.specs.Packets.{FitsPacket, packet_text};
 
-use http_wire::links::Link;
-use http_wire::sending::send;
-use outbox::packet::{PACKET_SIZE, Packet};
-use outbox::writing::write_packet;
+use http_wire::{Link, send};
+use outbox::{PACKET_SIZE, Packet, write_packet};
 
 /// Why no packet came off a link.
 #[derive(Clone, Copy, PartialEq, Eq)]

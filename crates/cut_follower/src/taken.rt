@@ -1,6 +1,6 @@
 //! What taking a packet comes to.
-use change_feed::applied::Applied;
-use outbox::packet::Packet;
+use change_feed::Applied;
+use outbox::Packet;
 
 /// What became of a packet that came to a follower.
 #[derive(Clone, Copy)]

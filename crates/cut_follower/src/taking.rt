@@ -1,23 +1,22 @@
 //! How a follower takes a packet.
 ghost use Rattle.std.specs.Prelude.{◌≡◌, ◌≤◌, ℕ, IfOk, IsTrue, Ok, OnErr, Some};
 ghost use Rattle.cabinet.specs.State.{IsSound};
-ghost use Rattle.change_feed.specs.declared.applied.Applied.TheVariants as applied;
 ghost use Rattle.change_feed.specs.Applies.{decided};
 ghost use Rattle.change_feed.specs.Files.{EndsIn, MayEndIn};
-ghost use Rattle.cut_follower.specs.declared.taken.Taken.TheVariants as taken;
+ghost use Rattle.change_feed.specs.declared.applied.Applied.TheVariants as applied;
 ghost use Rattle.cut_follower.specs.Takes.{IsOfCatalogue, MayEndTaken, Takes, WhereSeen};
+ghost use Rattle.cut_follower.specs.declared.taken.Taken.TheVariants as taken;
 ghost use Rattle.disk_model.specs.Images.{Every, Leaves};
 ghost use Rattle.gate_journal.specs.Sound.{digest_of};
-ghost use Rattle.outbox.specs.declared.packet.Packet.{Packet};
 ghost use Rattle.outbox.specs.declared.packet.Packet.TheVariants as packets;
+ghost use Rattle.outbox.specs.declared.packet.Packet.{Packet};
 ghost use Rattle.truncation_list.specs.declared.cover.Cover.{Cover};
 
 use crate::taken::Taken;
-use cabinet::keeper::Keeper;
-use change_feed::change::Change;
-use change_feed::feed::Feed;
-use disk_model::disk::Disk;
-use outbox::packet::Packet;
+use cabinet::Keeper;
+use change_feed::{Change, Feed};
+use disk_model::Disk;
+use outbox::Packet;
 use std::alloc::{AllocError, Global};
 
 /// Takes a packet that came to a follower: a change, whose cover is of the catalogue of the cabinet, is made by the feed on the cabinet,

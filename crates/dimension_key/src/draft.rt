@@ -1,5 +1,5 @@
 //! A theme whose values are being read, and why a value is refused.
-use matrix_geometry::theme::Theme;
+use matrix_geometry::Theme;
 
 /// A theme whose values are being read.
 #[derive(Clone, Copy, PartialEq, Eq)]

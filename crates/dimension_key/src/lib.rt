@@ -5,5 +5,7 @@
 //! Stands on catalog and matrix_geometry.
 #![tactic(auto)]
 
-pub mod draft;
-pub mod theme_draft;
+mod draft;
+mod theme_draft;
+
+pub use draft::{DimFault, ThemeDraft};

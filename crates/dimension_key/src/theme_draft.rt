@@ -1,14 +1,13 @@
 //! How a theme is read, one dimension of its layer after the other.
 ghost use Rattle.std.specs.Prelude.{◌≡◌, OnErr, IsSome, MatchResult, Ok, Err, option_copied};
-ghost use Rattle.catalog.specs.declared.catalogue.Catalogue.{Catalogue};
 ghost use Rattle.catalog.specs.LookUp.{HasValues, dimension_at};
 ghost use Rattle.catalog.specs.Valid.{IsValid};
+ghost use Rattle.catalog.specs.declared.catalogue.Catalogue.{Catalogue};
 ghost use Rattle.dimension_key.specs.Draft.{draft_of, default_of, drafted};
 
 use crate::draft::{DimFault, ThemeDraft};
-use catalog::catalogue::Catalogue;
-use catalog::layer::Dimension;
-use matrix_geometry::theme::Theme;
+use catalog::{Catalogue, Dimension};
+use matrix_geometry::Theme;
 
 /// The number of a dimension's default.
 fn default_of(catalogue: &Catalogue, layer: u32, dim: u32) -> Option<u32>

@@ -1,7 +1,7 @@
 -- What is modelled of a disk in memory.
 use Rattle.std.specs.Prelude.{◌≡◌, ◌⊎◌, ℕ, ◌-◌, ◌^◌, List, Bool, true, false, ◌||◌, ◌==◌, nat_lt, Result, Ok, Err}
 use Rattle.std.specs.List.{list_any}
-use Rattle.causes.specs.Causes.{risen}
+use Rattle.base.specs.Causes.{risen}
 use Rattle.disk_model.specs.Content.{Content}
 use Rattle.disk_model.specs.Crash.{crashed}
 use Rattle.disk_model.specs.Images.{DiskState}

@@ -1,6 +1,6 @@
 //! The trait of a disk: what each of its calls gives, and what a crash may leave.
 ghost use Rattle.std.specs.Prelude.{◌≡◌, ◌≤◌, ◌+◌, ◌^◌, Bool, IsTrue, length, OnOk, ℕ};
-ghost use Rattle.causes.specs.Causes.{HasCause};
+ghost use Rattle.base.specs.Causes.{HasCause};
 ghost use Rattle.disk_model.specs.Content.{bytes_at, written, resized, TornWrite, TornCut, Same};
 ghost use Rattle.disk_model.specs.Images.{DiskState, Only, Steps, IsLawful};
 

@@ -1,11 +1,11 @@
 //! A disk over a real file. The bytes that it holds aren't modelled: the system below it is trusted.
-ghost use Rattle.std.specs.Prelude.{◌≡◌, false};
 ghost use Rattle.std.proofs.lemmas.Bool.{false≢true};
-ghost use Rattle.causes.specs.Causes.{HasCause};
+ghost use Rattle.std.specs.Prelude.{◌≡◌, false};
+ghost use Rattle.base.specs.Causes.{HasCause};
 ghost use Rattle.disk_model.specs.Images.{silent};
 
 use crate::disk::{Disk, Failed};
-use causes::one_more;
+use base::one_more;
 use std::fs::File;
 use std::io;
 use std::os::unix::fs::FileExt;

@@ -5,17 +5,21 @@
 //! the contracts of all crates above say what each moment of a call may leave.
 //! Promises: `MemoryDisk` is such a disk, and `crash` leaves one of its images; `write_through` changes nothing but its
 //! range, at every moment. `FileDisk`, over a real file, isn't modelled: it is trusted, and only tested.
-//! Stands on causes.
+//! Stands on base.
 #![tactic(auto)]
 
 mod attempt;
 mod bytes;
-mod crash;
-pub mod disk;
-pub mod file;
+mod disk;
+mod file;
 mod log;
 mod make;
-pub mod memory;
-mod memory_calls;
-pub mod pick;
-pub mod through;
+mod memory;
+mod pick;
+mod through;
+
+pub use disk::{Disk, Failed};
+pub use file::FileDisk;
+pub use memory::MemoryDisk;
+pub use pick::Pick;
+pub use through::write_through;

@@ -1,6 +1,6 @@
 //! A write that is on the disk once it has succeeded.
 ghost use Rattle.std.specs.Prelude.{◌≡◌, ◌≤◌, ◌+◌, ◌^◌, IsTrue, length, OnOk};
-ghost use Rattle.causes.specs.Causes.{HasCause};
+ghost use Rattle.base.specs.Causes.{HasCause};
 ghost use Rattle.disk_model.specs.Content.{written, TornWrite};
 ghost use Rattle.disk_model.specs.Images.{Only, ChangesBy};
 

@@ -1,7 +1,7 @@
 -- A truncation of a cabinet on a disk.
 use Rattle.std.proofs.Common.{ℕ, ◌≡◌, ◌⊎◌, ◌+◌, ◌≤◌, Bool, true, not, IsTrue, [], ◌∷◌, length, refl, sym, ap, subst, ◌∙◌, inl, inr, Result, arith, length-append}
 use Rattle.std.specs.Option.{option_map}
-use Rattle.causes.specs.Causes.{Rose}
+use Rattle.base.specs.Causes.{Rose}
 use Rattle.disk_model.specs.Content.{Content}
 use Rattle.disk_model.specs.Images.{DiskState}
 use Rattle.disk_model.specs.Moments.{leaves_as}

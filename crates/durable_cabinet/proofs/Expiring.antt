@@ -1,7 +1,7 @@
 -- An expiry of a cabinet on a disk.
 use Rattle.std.proofs.Common.{ℕ, ◌≡◌, ◌⊎◌, Bool, IsTrue, Some, Result, refl, ap, ◌∙◌, inl, inr}
 use Rattle.std.specs.Option.{is_some}
-use Rattle.causes.specs.Causes.{Rose}
+use Rattle.base.specs.Causes.{Rose}
 use Rattle.disk_model.specs.Content.{Content}
 use Rattle.disk_model.specs.Images.{DiskState}
 use Rattle.disk_model.specs.Moments.{leaves_as}

@@ -2,7 +2,7 @@
 use Rattle.std.proofs.Common.{ℕ, ◌≡◌, ◌⊎◌, ◌+◌, ◌≤◌, Bool, true, false, not, ◌&&◌, ◌==◌, IsTrue, List, [], ◌∷◌, ◌++◌, length, filter, replicate, Some, None, refl, sym, ap, subst, ◌∙◌, inl, inr, Result, arith, length-append}
 use Rattle.std.proofs.lemmas.List.{length-replicate}
 use Rattle.std.specs.Option.{is_some, option_map}
-use Rattle.causes.specs.Causes.{Rose}
+use Rattle.base.specs.Causes.{Rose}
 use Rattle.disk_model.specs.Content.{Content, bytes_at}
 use Rattle.disk_model.proofs.Reading.{length-bytes_at}
 use Rattle.disk_model.specs.Images.{DiskState}

@@ -3,7 +3,7 @@ use Rattle.std.proofs.Common.{ℕ, ◌≡◌, ◌+◌, ◌≤◌, Bool, not, [],
 use Rattle.std.proofs.lemmas.Grind.{fold-append}
 use Rattle.disk_model.specs.Content.{Content}
 use Rattle.disk_model.specs.Images.{DiskState}
-use Rattle.clock.specs.Readings.{read}
+use Rattle.base.specs.Readings.{read}
 use Rattle.gate_journal.specs.declared.journal.Journal.{Journal}
 use Rattle.metatile_locks.specs.declared.render.Render.{Render}
 use Rattle.metatile_locks.specs.Running.{has_number, unmarked}

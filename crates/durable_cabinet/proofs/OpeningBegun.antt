@@ -10,7 +10,7 @@ use Rattle.cabinet.specs.State.{State}
 use Rattle.cabinet_records.specs.Replay.{AreRecordsOf, Replayed, book_after, opening_after, opening_number}
 use Rattle.cache_file.specs.File.{HasBlobAt}
 use Rattle.catalog.specs.declared.catalogue.Catalogue.{Catalogue}
-use Rattle.clock.specs.Readings.{Readings}
+use Rattle.base.specs.Readings.{Readings}
 use Rattle.disk_model.specs.Content.{Content, bytes_at}
 use Rattle.disk_model.specs.Images.{DiskState, Leaves, Only}
 use Rattle.disk_model.specs.Moments.{leaves_as}

@@ -8,7 +8,7 @@ use Rattle.cabinet_records.proofs.Replaying.{IsSoundIn, sound_is}
 use Rattle.cabinet_records.specs.Replay.{Replayed}
 use Rattle.catalog.specs.Valid.{IsValid}
 use Rattle.catalog.specs.declared.catalogue.Catalogue.{Catalogue}
-use Rattle.clock.specs.Readings.{Readings}
+use Rattle.base.specs.Readings.{Readings}
 use Rattle.disk_model.specs.Content.{Content, bytes_at}
 use Rattle.durable_cabinet.specs.Filed.{opened_as}
 use Rattle.durable_cabinet.specs.Images.{HasIn, IsSoundImage, OpensTo, blob_on, blobs_start, pictured}

@@ -1,6 +1,6 @@
 -- A saving of uses of a cabinet on a disk.
 use Rattle.std.proofs.Common.{ℕ, ◌≡◌, ◌⊎◌, Bool, IsTrue, Some, Result, refl, ◌∙◌, inl, inr}
-use Rattle.causes.specs.Causes.{Rose}
+use Rattle.base.specs.Causes.{Rose}
 use Rattle.disk_model.specs.Content.{Content}
 use Rattle.disk_model.specs.Images.{DiskState}
 use Rattle.disk_model.specs.Moments.{leaves_as}

@@ -10,8 +10,8 @@ use Rattle.cabinet.specs.State.{IsKnown, State, now}
 use Rattle.cache_file.specs.declared.file.CacheFile.{CacheFile}
 use Rattle.cache_file.specs.File.{HoldsBlob, held, unsure}
 use Rattle.catalog.specs.declared.catalogue.Catalogue.{Catalogue}
-use Rattle.causes.specs.Causes.{Rose}
-use Rattle.clock.specs.Readings.{Readings}
+use Rattle.base.specs.Causes.{Rose}
+use Rattle.base.specs.Readings.{Readings}
 use Rattle.disk_model.specs.Content.{Content, bytes_at}
 use Rattle.disk_model.specs.Images.{DiskState}
 use Rattle.gate_journal.specs.declared.fault.OpenFault.{OpenFault}

@@ -5,7 +5,7 @@ use Rattle.cabinet_records.specs.Replay.{Replayed, book_after, opening_number}
 use Rattle.cabinet.specs.History.{Opening}
 use Rattle.cabinet.specs.State.{State, now}
 use Rattle.catalog.specs.declared.catalogue.Catalogue.{Catalogue}
-use Rattle.causes.specs.Causes.{Rose}
+use Rattle.base.specs.Causes.{Rose}
 use Rattle.disk_model.specs.Content.{Content}
 use Rattle.disk_model.specs.Images.{DiskState, Leaves}
 use Rattle.disk_model.specs.Moments.{leaves_as, leaves_none, leaves_then}

@@ -1,9 +1,9 @@
 //! How a tile is asked for: what is kept of its metatile is read, out of the hot tier or from the disk, before anything changes.
 ghost use Rattle.std.specs.Prelude.{◌≡◌, ◌+◌, ◌≤◌, ℕ, Bool, IfOk, OnErr, Some};
-ghost use Rattle.catalog.specs.LookUp.{IsTile};
 ghost use Rattle.cabinet.specs.Commands.{Asks, IsUnread};
 ghost use Rattle.cabinet.specs.History.{kept_of};
 ghost use Rattle.cabinet.specs.State.{asked_at, now};
+ghost use Rattle.catalog.specs.LookUp.{IsTile};
 ghost use Rattle.disk_model.specs.Content.{Content};
 ghost use Rattle.durable_cabinet.specs.Alike.{IsAlikeTo};
 ghost use Rattle.durable_cabinet.specs.Backing.{Rests};
@@ -15,15 +15,12 @@ ghost use Rattle.raster_field.specs.Blocks.{block_of};
 
 use crate::hot::HotTier;
 use crate::reading::read_part;
-use cabinet::cabinet_core::Core;
-use cabinet::kept::Kept;
-use cabinet::replies::Asked;
-use cabinet::turns::as_asked;
-use cache_file::file::CacheFile;
-use disk_model::disk::Disk;
-use matrix_geometry::address::Address;
-use raster_field::layout::block_of;
-use shared_text::shared::SharedText;
+use base::SharedText;
+use cabinet::{Asked, Core, Kept, as_asked};
+use cache_file::CacheFile;
+use disk_model::Disk;
+use matrix_geometry::Address;
+use raster_field::block_of;
 use std::alloc::{AllocError, Global};
 
 /// Asks for a tile of which nothing is read. `AllocError` where memory runs out; all is then as before.

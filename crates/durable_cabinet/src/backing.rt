@@ -1,26 +1,24 @@
 //! How a command is written down: the file is made ready for its record, and then the record is entered. What contracts say of it
 //! holds of each cabinet that the record leads to.
-ghost use Rattle.std.specs.Prelude.{ℕ, ◌≡◌, ◌<◌, IsTrue, OnOk, Some, length};
-ghost use Rattle.cabinet.specs.Commands.{place_for};
-ghost use Rattle.cabinet_records.specs.Recorded.{stored_record};
-ghost use Rattle.raster_field.specs.Blocks.{IsMeta};
 ghost use Rattle.std.specs.List.{AllByRecursion};
+ghost use Rattle.std.specs.Prelude.{ℕ, ◌≡◌, ◌<◌, IsTrue, OnOk, Some, length};
+ghost use Rattle.base.specs.Causes.{HasCause};
+ghost use Rattle.cabinet.specs.Commands.{place_for};
 ghost use Rattle.cabinet.specs.State.{State, now};
-ghost use Rattle.causes.specs.Causes.{HasCause};
+ghost use Rattle.cabinet_records.specs.Recorded.{stored_record};
 ghost use Rattle.durable_cabinet.specs.Backing.{AreRegionsOf, Enters, Leads, Rests, Stores, Writes, with_away};
 ghost use Rattle.durable_cabinet.specs.Drafts.{HasRoom};
 ghost use Rattle.durable_cabinet.specs.Filed.{IsFiled, IsHeldOn};
 ghost use Rattle.gate_journal.specs.Sound.{IsSettled, room_of};
+ghost use Rattle.raster_field.specs.Blocks.{IsMeta};
 ghost use Rattle.record_text.specs.Fits.{Fits};
 
 use crate::draft::Draft;
 use crate::entries::stored;
-use cabinet::cabinet_core::Core;
-use cabinet::kept::Kept;
-use cache_file::file::CacheFile;
-use disk_model::disk::{Disk, Failed};
-use record_text::entries::Record;
-use record_text::writing::encode;
+use cabinet::{Core, Kept};
+use cache_file::CacheFile;
+use disk_model::{Disk, Failed};
+use record_text::{Record, encode};
 
 /// Makes the file ready for a record: settled, and with room, for which its records are replaced where there is none.
 pub(crate) fn ready<D: Disk>(

@@ -1,18 +1,18 @@
 //! How an opening is written down.
-ghost use Rattle.std.specs.Prelude.{◌≡◌, ◌+◌, ◌<◌, ◌≤◌, ◌^◌, [], false, IfNone, IfOk, IfSome, IsTrue, OnErr, OnOk, length};
 ghost use Rattle.std.specs.Option.{option_map_or};
+ghost use Rattle.std.specs.Prelude.{◌≡◌, ◌+◌, ◌<◌, ◌≤◌, ◌^◌, [], false, IfNone, IfOk, IfSome, IsTrue, OnErr, OnOk, length};
+ghost use Rattle.base.specs.Causes.{HasCause};
 ghost use Rattle.cabinet.specs.State.{now};
-ghost use Rattle.causes.specs.Causes.{HasCause};
-ghost use Rattle.gate_journal.specs.Sound.{IsAlike, IsSettled, room_of, slots_of, version_of};
 ghost use Rattle.durable_cabinet.specs.Drafts.{HasRoom, most_left};
 ghost use Rattle.durable_cabinet.specs.Images.{slots_for};
 ghost use Rattle.durable_cabinet.specs.Openings.{Enters, IsBegun};
+ghost use Rattle.gate_journal.specs.Sound.{IsAlike, IsSettled, room_of, slots_of, version_of};
 
 use crate::draft::{Draft, opened_body};
 use crate::replaying::slots_for;
-use cabinet::cabinet_core::Core;
-use cache_file::file::CacheFile;
-use disk_model::disk::{Disk, Failed};
+use cabinet::Core;
+use cache_file::CacheFile;
+use disk_model::{Disk, Failed};
 use std::alloc::{AllocError, Global};
 
 /// The number of the opening that follows the last one; `None` where it would not fit 24 bits.

@@ -1,25 +1,22 @@
 //! The records of a compaction, written into room that was made before.
-ghost use Rattle.std.specs.Prelude.{◌≡◌, ◌≤◌, ◌+◌, ◌++◌, ◌∷◌, IfOk, OnOk, [], length, map, vec_capacity};
 ghost use Rattle.std.specs.List.{AllByRecursion};
+ghost use Rattle.std.specs.Prelude.{◌≡◌, ◌≤◌, ◌+◌, ◌++◌, ◌∷◌, IfOk, OnOk, [], length, map, vec_capacity};
 ghost use Rattle.cabinet_records.specs.Recorded.{stored_record};
 ghost use Rattle.catalog.specs.Valid.{IsValid};
+ghost use Rattle.durable_cabinet.specs.Drafts.{HasRoom, IsCompactionOf, cut_record};
 ghost use Rattle.raster_field.specs.Blocks.{IsMeta};
 ghost use Rattle.record_text.specs.Fits.{Fits};
 ghost use Rattle.record_text.specs.Spelling.{spelling};
 ghost use Rattle.record_text.specs.declared.entries.Record.TheVariants as record_of;
 ghost use Rattle.served_covers.specs.OfCatalogue.{IsCoverOf};
-ghost use Rattle.durable_cabinet.specs.Drafts.{HasRoom, IsCompactionOf, cut_record};
 
 use crate::entries::{stored, truncated};
-use cabinet::cabinet_core::Core;
-use cabinet::ranking::Ranking;
-use catalog::catalogue::Catalogue;
-use record_text::entries::Record;
-use record_text::writing::encode;
+use cabinet::{Core, Ranking};
+use catalog::Catalogue;
+use record_text::{Record, encode};
 use std::alloc::{AllocError, Global};
 use std::marker::Model;
-use truncation_list::cover::Cover;
-use truncation_list::list::CutList;
+use truncation_list::{Cover, CutList};
 
 /// The bodies of a compaction. Contracts see those that were written last, and for how many there is room.
 #[derive(Drop)]

@@ -1,29 +1,28 @@
 //! How a cabinet begins with what its records are restored to. Where that fails, each value is dropped by a call of its own: left to the
 //! end of a body that has several ends, the drops of so large values are gone through at each.
 ghost use Rattle.std.specs.Prelude.{◌≡◌, ◌⊎◌, ◌≤◌, [], IfErr, IfOk, IsTrue};
+ghost use Rattle.base.specs.Causes.{Rose};
 ghost use Rattle.cabinet_records.specs.Replay.{Replayed};
 ghost use Rattle.catalog.specs.Valid.{IsValid};
-ghost use Rattle.causes.specs.Causes.{Rose};
 ghost use Rattle.disk_model.specs.Images.{Leaves};
-ghost use Rattle.gate_journal.specs.Sound.{IsSettled};
 ghost use Rattle.durable_cabinet.specs.Drafts.{HasRoom};
 ghost use Rattle.durable_cabinet.specs.Ends.{disk_of};
 ghost use Rattle.durable_cabinet.specs.Filed.{IsRefusedAs, OpensLike, on_disk, opened_as};
 ghost use Rattle.durable_cabinet.specs.Images.{IsOurs, OpensTo};
 ghost use Rattle.durable_cabinet.specs.Openings.{IsBegun, IsReplayed, OpensWith};
+ghost use Rattle.gate_journal.specs.Sound.{IsSettled};
 
 use crate::beginning::{drafted, number_after, write_opening};
+use crate::disk_cabinet::Cabinet;
 use crate::draft::Draft;
-use crate::durable::Cabinet;
 use crate::hot::HotTier;
-use cabinet::cabinet_core::Core;
-use cabinet_records::openings::laws_of_replays;
-use cabinet_records::restored::Restored;
-use cache_file::file::CacheFile;
-use catalog::catalogue::Catalogue;
-use clock::clock::Clock;
-use disk_model::disk::Disk;
-use gate_journal::fault::OpenFault;
+use base::Clock;
+use cabinet::Core;
+use cabinet_records::{Restored, laws_of_replays};
+use cache_file::CacheFile;
+use catalog::Catalogue;
+use disk_model::Disk;
+use gate_journal::OpenFault;
 use std::alloc::Global;
 
 /// Makes the opening of a core durable, and ties it to its file, with nothing in the hot tier.

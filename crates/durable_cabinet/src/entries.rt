@@ -1,6 +1,6 @@
 //! The records that commands write. The numbers of each fit its fields.
-ghost use Rattle.std.specs.Prelude.{FitsSigned, IfSome, Some, length, ◌<◌, ◌^◌, ◌≡◌};
 ghost use Rattle.std.specs.Int.{w64};
+ghost use Rattle.std.specs.Prelude.{FitsSigned, IfSome, Some, length, ◌<◌, ◌^◌, ◌≡◌};
 ghost use Rattle.cabinet.specs.History.{kept_of};
 ghost use Rattle.cabinet.specs.State.{now};
 ghost use Rattle.cabinet_records.specs.Recorded.{stored_record};
@@ -10,12 +10,11 @@ ghost use Rattle.record_text.specs.Fits.{Fits, FitsBox};
 ghost use Rattle.record_text.specs.declared.entries.Record.TheVariants as record_of;
 ghost use Rattle.served_covers.specs.OfCatalogue.{IsCoverOf};
 
-use cabinet::cabinet_core::Core;
-use cabinet::kept::Kept;
-use catalog::catalogue::Catalogue;
-use matrix_geometry::boxes::Box9;
-use record_text::entries::Record;
-use truncation_list::cover::Cover;
+use cabinet::{Core, Kept};
+use catalog::Catalogue;
+use matrix_geometry::Box9;
+use record_text::Record;
+use truncation_list::Cover;
 
 // What the type of a number says of it: a field of a struct has no range of its own.
 

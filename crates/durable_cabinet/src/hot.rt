@@ -1,12 +1,12 @@
 //! The hot tier: the texts of the tiles that were read from the disk lately. An ask that it serves reads no disk.
-ghost use Rattle.std.specs.Prelude.{◌≡◌, ◌⊎◌, [], Contains, IfOk, IfSome, OnOk};
 ghost use Rattle.std.specs.List.{AllByRecursion};
+ghost use Rattle.std.specs.Prelude.{◌≡◌, ◌⊎◌, [], Contains, IfOk, IfSome, OnOk};
 ghost use Rattle.durable_cabinet.specs.Hot.{address_of, hot_tile};
 
 use crate::texts::{HotText, TileKey};
+use base::SharedText;
 use lru::LruCache;
-use matrix_geometry::address::Address;
-use shared_text::shared::SharedText;
+use matrix_geometry::Address;
 use std::alloc::{AllocError, Global};
 use std::marker::Model;
 use std::num::NonZeroUsize;

@@ -1,16 +1,15 @@
 //! A cabinet on a disk as a keeper.
-use crate::durable::Cabinet;
-use cabinet::keeper::Keeper;
-use cabinet::replies::{Asked, CutReply, Expired, Finished, Forced, Saved};
-use catalog::catalogue::Catalogue;
-use disk_model::disk::Disk;
-use matrix_geometry::address::Address;
-use metatile_locks::ticket::Ticket;
-use metatile_plan::metatile::MetaKey;
-use raster_field::laws::laws_of_metatiles;
-use shared_text::shared::SharedText;
+use crate::disk_cabinet::Cabinet;
+use base::SharedText;
+use cabinet::{Asked, CutReply, Expired, Finished, Forced, Keeper, Saved};
+use catalog::Catalogue;
+use disk_model::Disk;
+use matrix_geometry::Address;
+use metatile_locks::Ticket;
+use metatile_plan::MetaKey;
+use raster_field::laws_of_metatiles;
 use std::alloc::{AllocError, Global};
-use truncation_list::cover::Cover;
+use truncation_list::Cover;
 
 impl<D: Disk> Keeper for Cabinet<D> {
     ghost use Rattle.durable_cabinet.specs.Outlasting.{Outlasts, outlasts_itself, outlasts_on};

@@ -11,17 +11,17 @@
 mod asking;
 mod backing;
 mod beginning;
-mod commands;
+mod disk_cabinet;
 mod draft;
-pub mod durable;
 mod entering;
 mod entries;
 mod hot;
 mod keeping;
-pub mod laws;
-pub mod opening;
-pub mod parts;
+mod parts;
 mod reading;
 mod replaying;
 mod rooms;
 mod texts;
+
+pub use disk_cabinet::{Cabinet, make};
+pub use parts::Parts;

@@ -1,5 +1,5 @@
 //! What a cabinet is taken apart into.
-use clock::clock::Clock;
+use base::Clock;
 
 /// The clock and the disk of a cabinet.
 #[derive(Drop)]

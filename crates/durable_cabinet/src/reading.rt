@@ -1,20 +1,18 @@
 //! How a tile is read out of the blob of its metatile on the disk.
 ghost use Rattle.std.specs.Prelude.{◌≡◌, ◌≤◌, IfOk, IfSome, None, Some};
-ghost use Rattle.catalog.specs.LookUp.{IsTile};
-ghost use Rattle.causes.specs.Causes.{Rose};
+ghost use Rattle.base.specs.Causes.{Rose};
 ghost use Rattle.cabinet.specs.History.{kept_of};
 ghost use Rattle.cabinet.specs.State.{now};
+ghost use Rattle.catalog.specs.LookUp.{IsTile};
 ghost use Rattle.durable_cabinet.specs.Backing.{Rests};
 ghost use Rattle.durable_cabinet.specs.Filed.{IsFiled};
 ghost use Rattle.durable_cabinet.specs.Tiles.{IsPartOf};
 ghost use Rattle.raster_field.specs.Blocks.{block_of};
 
-use cabinet::blob::tile_span;
-use cabinet::cabinet_core::Core;
-use cabinet::kept::Kept;
-use cache_file::file::CacheFile;
-use disk_model::disk::Disk;
-use matrix_geometry::address::Address;
+use cabinet::{Core, Kept, tile_span};
+use cache_file::CacheFile;
+use disk_model::Disk;
+use matrix_geometry::Address;
 use std::alloc::{AllocError, Global};
 
 /// Reads a tile's part of what is kept of its metatile; `None` only where the disk's count of faults rose. The memory for it is taken

@@ -7,12 +7,11 @@ ghost use Rattle.durable_cabinet.specs.Filed.{IsRefusedAs};
 ghost use Rattle.durable_cabinet.specs.Images.{slots_for};
 ghost use Rattle.durable_cabinet.specs.Openings.{IsReplayed, asked_for, disk_in};
 
-use cabinet_records::replay::Replay;
-use cabinet_records::restored::Restored;
-use cache_file::file::CacheFile;
-use catalog::catalogue::Catalogue;
-use disk_model::disk::Disk;
-use gate_journal::fault::OpenFault;
+use cabinet_records::{Replay, Restored};
+use cache_file::CacheFile;
+use catalog::Catalogue;
+use disk_model::Disk;
+use gate_journal::OpenFault;
 use std::alloc::Global;
 
 /// How many slots a half of the journal has.

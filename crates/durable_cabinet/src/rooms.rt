@@ -3,7 +3,7 @@ ghost use Rattle.std.specs.Prelude.{IfOk, OnOk, ◌+◌, ◌≤◌};
 ghost use Rattle.durable_cabinet.specs.Drafts.{needed};
 
 use crate::draft::Draft;
-use cabinet::cabinet_core::Core;
+use cabinet::Core;
 use std::alloc::{AllocError, Global};
 
 /// One more than for what stands. `AllocError` where that fits no number.

@@ -1,6 +1,6 @@
 //! What the hot tier holds, and by what it is found.
-use matrix_geometry::theme::Theme;
-use shared_text::shared::SharedText;
+use base::SharedText;
+use matrix_geometry::Theme;
 
 /// A tile, by which its text is found: what its address says.
 #[derive(Clone, Copy, PartialEq, Eq, Hash)]

@@ -2,24 +2,18 @@
 ghost use Rattle.std.specs.Prelude.{IfOk, ◌≡◌};
 ghost use Rattle.catalog.specs.Demo.{demo};
 
-use cabinet::keeper::Keeper;
-use cabinet::replies::{Asked, CutReply, Expired, Finished, Forced, Saved};
-use catalog::catalogue::Catalogue;
-use clock::clock::Clock;
-use disk_model::pick::Pick;
-use durable_cabinet::durable::Cabinet;
-use durable_cabinet::opening::make;
-use durable_cabinet::parts::Parts;
-use fixtures::tiles::corner_tile;
-use matrix_geometry::theme::Filter;
-use raster_field::laws::laws_of_metatiles;
-use raster_field::layout::{blob_size, block_of};
-use served_covers::of_catalogue::is_cover_of;
-use shared_text::shared::SharedText;
-use silent_disk::SilentDisk;
+use base::{Clock, SharedText};
+use cabinet::{Asked, CutReply, Expired, Finished, Forced, Keeper, Saved};
+use catalog::Catalogue;
+use disk_model::Pick;
+use durable_cabinet::{Cabinet, Parts, make};
+use fixtures::{SilentDisk, corner_tile};
+use matrix_geometry::Filter;
+use raster_field::{blob_size, block_of, laws_of_metatiles};
+use served_covers::is_cover_of;
 use std::alloc::{AllocError, Global};
 use std::test::Fail;
-use truncation_list::cover::Cover;
+use truncation_list::Cover;
 
 /// A cover of all zooms of the demo layer.
 pub const ALL: Cover = Cover {

@@ -3,18 +3,14 @@ ghost use Rattle.std.specs.Prelude.{◌≡◌};
 ghost use Rattle.catalog.specs.Demo.{demo};
 
 use crate::cabinets::{ALL, disk_of, kept, made, opened};
-use cabinet::keeper::Keeper;
-use cabinet::replies::Finished;
-use catalog::catalogue::Catalogue;
-use change_feed::applied::Applied;
-use change_feed::feed::Feed;
-use cut_follower::taken::Taken;
-use cut_follower::taking::take;
-use disk_model::disk::Disk;
-use disk_model::pick::Pick;
-use outbox::packet::Packet;
-use served_covers::of_catalogue::is_cover_of;
-use silent_disk::SilentDisk;
+use cabinet::{Finished, Keeper};
+use catalog::Catalogue;
+use change_feed::{Applied, Feed};
+use cut_follower::{Taken, take};
+use disk_model::{Disk, Pick};
+use fixtures::SilentDisk;
+use outbox::Packet;
+use served_covers::is_cover_of;
 use std::alloc::{AllocError, Global};
 use std::test::Fail;
 

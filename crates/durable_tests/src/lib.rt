@@ -2,7 +2,7 @@
 //!
 //! It has no code of its own and promises nothing: what the cabinet and the follower promise is proved in their crates. No disk here is
 //! modelled, so that what comes back is read from the bytes alone.
-//! Stands on durable_cabinet, cut_follower and silent_disk, and on the crates of what they are called with.
+//! Stands on durable_cabinet, cut_follower and fixtures, and on the crates of what they are called with.
 #![tactic(auto)]
 
 #[cfg(test)]

@@ -3,10 +3,9 @@ ghost use Rattle.std.specs.Prelude.{◌≡◌};
 ghost use Rattle.catalog.specs.Demo.{demo};
 
 use crate::cabinets::{asked, cut, kept, made, opened};
-use cabinet::keeper::Keeper;
-use cabinet::replies::Finished;
-use disk_model::pick::Pick;
-use silent_disk::SilentDisk;
+use cabinet::{Finished, Keeper};
+use disk_model::Pick;
+use fixtures::SilentDisk;
 use std::alloc::{AllocError, Global};
 use std::test::Fail;
 

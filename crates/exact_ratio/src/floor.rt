@@ -1,6 +1,6 @@
 //! Division that rounds down, also below 0, where `/` would round towards 0.
-ghost use Rattle.std.specs.Prelude.{◌≡◌, ◌≤ℤ◌, pos};
 ghost use Rattle.std.specs.Int.{int_div_euclid};
+ghost use Rattle.std.specs.Prelude.{◌≡◌, ◌≤ℤ◌, pos};
 ghost use Rattle.exact_ratio.specs.Fractions.{IsFloor};
 
 /// The greatest whole number at or below `n / d`.

@@ -6,10 +6,16 @@
 //! Stands on nothing.
 #![tactic(auto)]
 
-pub mod decimal;
-pub mod floor;
-pub mod items;
-pub mod lowest;
-pub mod ratio;
-pub mod read;
-pub mod words;
+mod decimal;
+mod floor;
+mod items;
+mod lowest;
+mod ratio;
+mod read;
+mod words;
+
+pub use decimal::{Decimal, DecimalFault};
+pub use floor::floor_div;
+pub use items::Items;
+pub use ratio::Ratio;
+pub use words::Words;

@@ -1,6 +1,6 @@
 //! How fractions are brought to lowest terms.
-ghost use Rattle.std.specs.Prelude.{◌≡◌, ◌<◌, ◌^◌, ◌*ℤ◌, ◌<ℤ◌, pos, IfSome};
 ghost use Rattle.std.specs.Int.{IsGcd};
+ghost use Rattle.std.specs.Prelude.{◌≡◌, ◌<◌, ◌^◌, ◌*ℤ◌, ◌<ℤ◌, pos, IfSome};
 ghost use Rattle.exact_ratio.specs.Lowest.{gcd, least_i128, lowest, lowest_of};
 
 use crate::ratio::Ratio;

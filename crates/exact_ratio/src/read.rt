@@ -1,7 +1,7 @@
 //! How a decimal number is read from a text.
-ghost use Rattle.std.specs.Prelude.{◌≡◌, ℕ, ◌+◌, ◌<◌, ◌≤◌, ◌^◌, length, slice_index, unsigned_abs, FitsSigned, MatchResult};
 ghost use Rattle.std.specs.Char.{IsAsciiDigit};
 ghost use Rattle.std.specs.Int.{w128};
+ghost use Rattle.std.specs.Prelude.{◌≡◌, ℕ, ◌+◌, ◌<◌, ◌≤◌, ◌^◌, length, slice_index, unsigned_abs, FitsSigned, MatchResult};
 ghost use Rattle.std.specs.Str.Parse.{digits_value_after, starts_with_minus};
 ghost use Rattle.exact_ratio.specs.Decimal.{AreDigits, decimal_of, digits_end, left_at, part_digits, scaled_of, sign_len, signed, unless_left, whole_digits};
 ghost use Rattle.exact_ratio.specs.Form.{IsDecimalText, IsFaultOf};

@@ -1,5 +1,5 @@
 //! The exception codes, and the locator of an exception.
-use exact_ratio::words::Words;
+use exact_ratio::Words;
 
 /// Why a request was refused (OGC 07-057r7, section 7.2.3, and OGC 06-121r3, section 8.3).
 #[derive(Clone, Copy, PartialEq, Eq)]

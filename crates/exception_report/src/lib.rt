@@ -5,6 +5,9 @@
 //! Stands on exact_ratio.
 #![tactic(auto)]
 
-pub mod code;
+mod code;
 mod escape;
-pub mod report;
+mod report_text;
+
+pub use code::{Code, Locator};
+pub use report_text::{report, status_of};

@@ -1,6 +1,5 @@
 -- How far a change of an entry is settled by climbing: up to the first node that keeps its winner, where that is another entry.
-use Rattle.std.proofs.Common.{ℕ, ◌≡◌, ◌≢◌, ◌+◌, ◌-◌, ◌<◌, ◌⊎◌, inl, inr, Bool, refl, sym, ap, subst, ◌∙◌, arith}
-use Rattle.std.proofs.Common.{List, length, slice_index, slice_set, get_or-set_same, get_or-set_other, length-set, length-append, length-take-le, take, get_or-take, [], ◌∷◌, ◌++◌}
+use Rattle.std.proofs.Common.{ℕ, ◌≡◌, ◌≢◌, ◌+◌, ◌-◌, ◌<◌, ◌⊎◌, inl, inr, Bool, refl, sym, ap, subst, ◌∙◌, arith, List, length, slice_index, slice_set, get_or-set_same, get_or-set_other, length-set, length-append, length-take-le, take, get_or-take, [], ◌∷◌, ◌++◌}
 use Rattle.std.proofs.lemmas.List.{get_or_append_left, get_or_push}
 use Rattle.expiry_policy.specs.Tournaments.{above, IsAbove, itself, higher, Wins, IsRanked, IsRankedUpTo}
 use Rattle.expiry_policy.proofs.Winners.{above_above, above_below, above_least, above_next, ranked_but_changed, ranked_but_first, ranked_but_last, right_before, right_elsewhere, right_without, settled_all, settled_more, stands_above}

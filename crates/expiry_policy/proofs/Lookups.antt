@@ -1,7 +1,6 @@
 -- How the uses that a map's entries stand for are looked up.
-use Rattle.std.proofs.Common.{ℕ, ◌≡◌, ◌≢◌, ◌-◌, ◌<◌, suc, zero, Bool, true, false, cond, List, [], ◌∷◌, length, take, get_or, set, slice_get, Option, Some, None, is_some, refl, sym, ap, subst, ◌∙◌, arith}
+use Rattle.std.proofs.Common.{ℕ, ◌≡◌, ◌≢◌, ◌-◌, ◌<◌, suc, zero, Bool, true, false, cond, List, [], ◌∷◌, length, take, get_or, set, slice_get, Option, Some, None, is_some, refl, sym, ap, subst, ◌∙◌, arith, get_or-set_other, get_or-take, ◌++◌}
 use Rattle.std.proofs.Math.Bool.{and_assoc}
-use Rattle.std.proofs.Common.{get_or-set_other, get_or-take, ◌++◌}
 use Rattle.std.proofs.lemmas.List.Quantifiers.{position-Some}
 use Rattle.std.proofs.lemmas.List.{get_or-map}
 use Rattle.std.specs.Cmp.{IsEquivalence, both_ways}

@@ -1,15 +1,15 @@
 //! The entries of a map of metatiles, and which of two goes first.
 ghost use Rattle.std.specs.Prelude.{IfSome, None, Some, if◌then◌else◌, is_some, length, ℕ, ◌+◌, ◌<◌, ◌≡◌, ◌≢◌, ◌≤◌};
-ghost use Rattle.indexmap.specs.IndexMap.{spare};
-ghost use Rattle.metatile_plan.specs.declared.metatile.MetaKey.{MetaKey};
-ghost use Rattle.metatile_plan.specs.Keys.{same_meta};
 ghost use Rattle.expiry_policy.specs.Entries.{goes, use_at, uses_of};
 ghost use Rattle.expiry_policy.specs.Layers.{use_in};
+ghost use Rattle.indexmap.specs.IndexMap.{spare};
+ghost use Rattle.metatile_plan.specs.Keys.{same_meta};
+ghost use Rattle.metatile_plan.specs.declared.metatile.MetaKey.{MetaKey};
 
 use crate::order::{Order, precedes};
 use crate::uses::Use;
 use indexmap::IndexMap;
-use metatile_plan::metatile::MetaKey;
+use metatile_plan::MetaKey;
 
 /// What is counted of a metatile.
 #[derive(Clone, Copy, PartialEq, Eq)]

@@ -1,11 +1,11 @@
 //! What holds of the victims of all expiries.
 ghost use Rattle.std.specs.Prelude.{IsSome, List, None, Option, Some, [], find, true, ◌≡◌};
+ghost use Rattle.catalog.specs.Scopes.{is_in};
 ghost use Rattle.catalog.specs.declared.catalogue.Policy.{Policy};
 ghost use Rattle.catalog.specs.declared.catalogue.Scope.{Scope};
-ghost use Rattle.catalog.specs.Scopes.{is_in};
-ghost use Rattle.metatile_plan.specs.declared.metatile.MetaKey.{MetaKey};
-ghost use Rattle.expiry_policy.specs.declared.uses.Use.{Use};
 ghost use Rattle.expiry_policy.specs.Victims.{AreApart, IsVictim, in_scope, is_of, victim};
+ghost use Rattle.expiry_policy.specs.declared.uses.Use.{Use};
+ghost use Rattle.metatile_plan.specs.declared.metatile.MetaKey.{MetaKey};
 
 /// A victim is held and of the scope, and there is none exactly where the scope holds nothing. Where the uses are of different
 /// metatiles, there is no other victim than the list's.

@@ -1,21 +1,21 @@
 //! The uses of the metatiles of one layer, with the tournaments that rank them.
-ghost use Rattle.std.specs.Prelude.{IfSome, IsSome, None, OnOk, Some, [], if◌then◌else◌, is_some, length, slice_index, true, ◌+◌, ◌≡◌, ◌≤◌, ◌⊎◌};
 ghost use Rattle.std.specs.List.{AllByRecursion};
-ghost use Rattle.metatile_plan.specs.declared.metatile.MetaKey.{MetaKey};
-ghost use Rattle.metatile_plan.specs.Keys.{same_meta};
+ghost use Rattle.std.specs.Prelude.{IfSome, IsSome, None, OnOk, Some, [], if◌then◌else◌, is_some, length, slice_index, true, ◌+◌, ◌≡◌, ◌≤◌, ◌⊎◌};
 ghost use Rattle.expiry_policy.specs.Entries.{goes, uses_of};
 ghost use Rattle.expiry_policy.specs.Layers.{use_in};
 ghost use Rattle.expiry_policy.specs.Orders.{IsFirst};
 ghost use Rattle.expiry_policy.specs.Tournaments.{IsRanked};
 ghost use Rattle.expiry_policy.specs.Victims.{AreApart};
+ghost use Rattle.metatile_plan.specs.Keys.{same_meta};
+ghost use Rattle.metatile_plan.specs.declared.metatile.MetaKey.{MetaKey};
 
 use crate::held::{Held, add, change, index_of, take_out, use_at, use_of};
 use crate::order::{Order, Ranking};
 use crate::tournament::Tournament;
 use crate::uses::Use;
-use catalog::catalogue::Policy;
+use catalog::Policy;
 use indexmap::IndexMap;
-use metatile_plan::metatile::MetaKey;
+use metatile_plan::MetaKey;
 use std::alloc::{AllocError, Global};
 use std::marker::Model;
 

@@ -1,12 +1,12 @@
 //! The uses of all layers, each at the place of its number.
 ghost use Rattle.std.specs.Prelude.{IfOk, IsSome, OnOk, Some, if◌then◌else◌, slice_get, ℕ, ◌+◌, ◌≡◌, ◌≤◌, ◌⊎◌};
-ghost use Rattle.metatile_plan.specs.declared.metatile.MetaKey.{MetaKey};
-ghost use Rattle.metatile_plan.specs.Keys.{same_meta};
 ghost use Rattle.expiry_policy.specs.Layers.{AreBare, MayGrow, OfLayer, use_in};
+ghost use Rattle.metatile_plan.specs.Keys.{same_meta};
+ghost use Rattle.metatile_plan.specs.declared.metatile.MetaKey.{MetaKey};
 
 use crate::layer::LayerUses;
 use crate::uses::Use;
-use catalog::catalogue::Policy;
+use catalog::Policy;
 use std::alloc::{AllocError, Global};
 
 /// No uses yet of so many layers. `AllocError` where memory runs out.

@@ -1,13 +1,13 @@
 //! Which metatile goes first among all layers.
-ghost use Rattle.std.specs.Prelude.{Some, slice_get, true, ℕ, ◌≡◌};
 ghost use Rattle.std.specs.Option.{option_map};
+ghost use Rattle.std.specs.Prelude.{Some, slice_get, true, ℕ, ◌≡◌};
 ghost use Rattle.expiry_policy.specs.Layers.{OfLayer, use_among};
 ghost use Rattle.expiry_policy.specs.Orders.{IsFirst, sooner, unsaved_key};
 
 use crate::layer::LayerUses;
 use crate::order::{Order, precedes};
 use crate::uses::Use;
-use metatile_plan::metatile::MetaKey;
+use metatile_plan::MetaKey;
 
 /// The latter where it goes before the former.
 fn sooner(order: Order, former: Option<Use>, latter: Option<Use>) -> Option<Use>

@@ -7,10 +7,13 @@
 #![tactic(auto)]
 
 mod held;
-pub mod laws;
+mod laws;
 mod layer;
 mod layers;
 mod leading;
 mod order;
 mod tournament;
-pub mod uses;
+mod uses;
+
+pub use laws::laws_of_victims;
+pub use uses::{Use, Uses};

@@ -1,14 +1,14 @@
 //! The orders in which metatiles are ranked.
-ghost use Rattle.std.specs.Prelude.{if◌then◌else◌, ◌∷◌, ◌==◌, ◌≡◌};
 ghost use Rattle.std.specs.Cmp.Lexicographic.{slice_cmp};
 ghost use Rattle.std.specs.Ordering.{nat_cmp};
+ghost use Rattle.std.specs.Prelude.{if◌then◌else◌, ◌∷◌, ◌==◌, ◌≡◌};
 ghost use Rattle.catalog.specs.declared.catalogue.Policy.TheVariants.{Lfu, Lru};
 ghost use Rattle.expiry_policy.specs.Orders.{precedes, ranked};
 ghost use Rattle.expiry_policy.specs.Victims.{fields, is_before, rank};
 
 use crate::uses::Use;
-use catalog::catalogue::Policy;
-use metatile_plan::metatile::MetaKey;
+use catalog::Policy;
+use metatile_plan::MetaKey;
 use std::cmp::Ordering;
 
 /// By what metatiles are ranked.

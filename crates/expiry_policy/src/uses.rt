@@ -1,16 +1,16 @@
 //! The uses of the held metatiles, the victim that they make, and those that are to be saved.
-ghost use Rattle.std.specs.Prelude.{IfOk, IfSome, IsSome, None, OnOk, Some, [], if◌then◌else◌, is_some, length, slice_get, true, ℕ, ◌+◌, ◌<◌, ◌≡◌, ◌≢◌, ◌≤◌, ◌⊎◌};
 ghost use Rattle.std.specs.List.{AllByRecursion};
 ghost use Rattle.std.specs.Option.{option_map};
-ghost use Rattle.metatile_plan.specs.declared.metatile.MetaKey.{MetaKey};
+ghost use Rattle.std.specs.Prelude.{IfOk, IfSome, IsSome, None, OnOk, Some, [], if◌then◌else◌, is_some, length, slice_get, true, ℕ, ◌+◌, ◌<◌, ◌≡◌, ◌≢◌, ◌≤◌, ◌⊎◌};
 ghost use Rattle.metatile_plan.specs.Keys.{same_meta};
+ghost use Rattle.metatile_plan.specs.declared.metatile.MetaKey.{MetaKey};
 
 use crate::layer::LayerUses;
 use crate::layers::{no_uses, put_in, reserve_each};
 use crate::leading::{first_of_all, key_of, unsaved_key};
 use crate::order::{Order, Ranking};
-use catalog::catalogue::{Policy, Scope};
-use metatile_plan::metatile::MetaKey;
+use catalog::{Policy, Scope};
+use metatile_plan::MetaKey;
 use std::alloc::{AllocError, Global};
 use std::marker::Model;
 

@@ -1,8 +1,8 @@
 //! A chunk: a short list of parts in memory of its own, with a summary of its holes.
 ghost use Rattle.std.specs.Prelude.{◌≡◌, ◌+◌, ◌<◌, ◌≤◌, [], ◌++◌, IfSome, IfNone, IfOk, insert, remove, length, take, vec_len, vec_capacity};
-ghost use Rattle.extent_map.specs.Parts.{LieInOrder};
-ghost use Rattle.extent_map.specs.Holes.{first_start, last_end, FitsBeforeNone, IsGap};
 ghost use Rattle.extent_map.specs.Chunks.{chunk_room};
+ghost use Rattle.extent_map.specs.Holes.{first_start, last_end, FitsBeforeNone, IsGap};
+ghost use Rattle.extent_map.specs.Parts.{LieInOrder};
 
 use crate::gaps::{first_gap, hole_before, larger, summary_of};
 use crate::holes::{end_before, start_behind};

@@ -1,9 +1,9 @@
 //! The search among chunks that lie in order, one behind the other. Chunks with no part may stand among them.
 ghost use Rattle.std.specs.Prelude.{◌≡◌, ◌+◌, ◌<◌, ◌≤◌, [], Contains, IfSome, IfNone, IsFalse, IsTrue, ℕ, length, slice_index_or, suc, take};
+ghost use Rattle.extent_map.specs.Chunks.{all_parts, chunk_at, chunk_room, parts_before, parts_behind, AreCrowded, FitsAt, IsSpot};
+ghost use Rattle.extent_map.specs.Holes.{last_end, FitsBeforeNone, IsFirstHole};
 ghost use Rattle.extent_map.specs.Parts.{part_at, LieInOrder};
 ghost use Rattle.extent_map.specs.Spaces.{IsFree, NoneFree, NoneFreeBelow};
-ghost use Rattle.extent_map.specs.Holes.{last_end, FitsBeforeNone, IsFirstHole};
-ghost use Rattle.extent_map.specs.Chunks.{all_parts, chunk_at, chunk_room, parts_before, parts_behind, AreCrowded, FitsAt, IsSpot};
 
 use crate::chunk::{Chunk, ROOM};
 use crate::holes::{fits, hole_at, index_of};

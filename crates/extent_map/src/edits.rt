@@ -1,7 +1,7 @@
 //! Changes of the chunks. None of them takes memory, but for `grow`.
 ghost use Rattle.std.specs.Prelude.{◌≡◌, ◌+◌, ◌*◌, ◌/◌, ◌<◌, ◌≤◌, ◌++◌, ◌∷◌, ◌-◌, [], OnOk, ℕ, insert, length, suc, vec_len, vec_capacity};
-ghost use Rattle.extent_map.specs.Parts.{LieInOrder};
 ghost use Rattle.extent_map.specs.Chunks.{all_parts, chunk_at, chunk_room, parts_before, parts_behind, FitsAt, IsDivided, IsSpot, IsUsed};
+ghost use Rattle.extent_map.specs.Parts.{LieInOrder};
 
 use crate::chunk::{Chunk, ROOM};
 use crate::chunks::loose_pair;

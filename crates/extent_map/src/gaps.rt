@@ -1,7 +1,7 @@
 //! The holes between the parts of one list.
 ghost use Rattle.std.specs.Prelude.{◌+◌, ◌≤◌, IfSome, IfNone, drop, length, take};
-ghost use Rattle.extent_map.specs.Parts.{LieInOrder};
 ghost use Rattle.extent_map.specs.Holes.{first_start, last_end, FitsBeforeNone, IsGap, IsSummed};
+ghost use Rattle.extent_map.specs.Parts.{LieInOrder};
 
 use crate::holes::{end_before, fits, start_behind};
 use crate::part::{Hole, Part, Summary};

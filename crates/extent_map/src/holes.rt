@@ -1,8 +1,8 @@
 //! Holes between parts that lie in order.
 ghost use Rattle.std.specs.Prelude.{◌≡◌, ◌+◌, ◌<◌, ◌≤◌, IfSome, IfNone, All, AllPairs, Contains, length, slice_index_or, take, drop, nat_le};
+ghost use Rattle.extent_map.specs.Holes.{first_start, last_end, IsHole};
 ghost use Rattle.extent_map.specs.Parts.{part_at, LieInOrder};
 ghost use Rattle.extent_map.specs.Spaces.{IsFree};
-ghost use Rattle.extent_map.specs.Holes.{first_start, last_end, IsHole};
 
 use crate::part::Part;
 

@@ -11,7 +11,10 @@
 mod chunk;
 mod chunks;
 mod edits;
-pub mod extents;
+mod extents;
 mod gaps;
 mod holes;
-pub mod part;
+mod part;
+
+pub use extents::Extents;
+pub use part::{Found, Hole, Part, Spot, Summary};

@@ -9,9 +9,9 @@ use Rattle.catalog.specs.declared.fault.CatalogueFault.{CatalogueFault}
 use Rattle.change_feed.specs.declared.mark.Mark.{Mark}
 use Rattle.change_feed.specs.Files.{EndsIn}
 use Rattle.change_feed.specs.Marks.{EndsAt, IsBadAt, IsBadIn, LeadsTo}
-use Rattle.clock.specs.Readings.{Readings}
-use Rattle.command_setup.specs.declared.configured.Unconfigured.{Unconfigured}
-use Rattle.command_setup.specs.declared.configured.Unconfigured.TheVariants as unconfigured
+use Rattle.base.specs.Readings.{Readings}
+use Rattle.command_setup.specs.declared.configuration.Unconfigured.{Unconfigured}
+use Rattle.command_setup.specs.declared.configuration.Unconfigured.TheVariants as unconfigured
 use Rattle.command_setup.specs.Setup.{Configures, HasRisen, IsRead}
 use Rattle.command_status.specs.declared.status.Status.TheVariants as status
 use Rattle.command_status.specs.declared.status.Status.{Status}
@@ -19,8 +19,8 @@ use Rattle.config_text.specs.Text.{catalogue_of}
 use Rattle.gate_journal.specs.declared.fault.OpenFault.{OpenFault}
 use Rattle.gate_journal.specs.declared.fault.OpenFault.TheVariants as fault
 use Rattle.gate_journal.specs.Opened.{Opening, differs, no_cache, records}
-use Rattle.kept_cache.proofs.Refusing.{not_opened}
-use Rattle.kept_cache.specs.Change.{DiskChange}
+use Rattle.opened_cache.proofs.Refusing.{not_opened}
+use Rattle.opened_cache.specs.Change.{DiskChange}
 use Rattle.tile_service.specs.Lines.{lines_of}
 use Rattle.sessions.specs.Outside.{InputChange}
 use Rattle.feed_words.specs.declared.lines.LinesEnd.TheVariants as lines_end

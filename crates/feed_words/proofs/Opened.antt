@@ -11,7 +11,7 @@ use Rattle.disk_model.specs.Images.{After, ChangesBy, DiskState, Every, Leaves}
 use Rattle.disk_model.specs.Moments.{leaves_as, leaves_then}
 use Rattle.gate_journal.specs.declared.fault.OpenFault.{OpenFault}
 use Rattle.gate_journal.specs.declared.fault.OpenFault.TheVariants as fault
-use Rattle.kept_cache.specs.Change.{DiskChange}
+use Rattle.opened_cache.specs.Change.{DiskChange}
 use Rattle.sessions.specs.Outside.{FaultCounts, InputChange, OutputChange}
 use Rattle.command_status.specs.declared.status.Status.{Status}
 use Rattle.command_status.specs.declared.status.Status.TheVariants as status

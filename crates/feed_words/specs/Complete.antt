@@ -3,16 +3,16 @@ use Rattle.std.specs.Prelude.{ℕ, ◌≡◌, ◌⊎◌, ◌≤◌, IsSome, IsTr
 use Rattle.std.specs.List.{AllByRecursion}
 use Rattle.cabinet.specs.State.{State}
 use Rattle.catalog.specs.declared.catalogue.Catalogue.{Catalogue}
-use Rattle.causes.specs.Causes.{Rose}
+use Rattle.base.specs.Causes.{Rose}
 use Rattle.change_feed.specs.declared.mark.Mark.{Mark}
 use Rattle.change_feed.specs.Files.{EndsIn}
-use Rattle.clock.specs.Readings.{Readings}
+use Rattle.base.specs.Readings.{Readings}
 use Rattle.command_setup.specs.Setup.{HasRisen}
 use Rattle.command_status.specs.declared.status.Status.TheVariants as status
 use Rattle.command_status.specs.declared.status.Status.{Status}
 use Rattle.config_text.specs.Text.{catalogue_of}
-use Rattle.kept_cache.specs.Change.{DiskChange, HasFailed}
-use Rattle.kept_cache.specs.Opened.{IsOpened}
+use Rattle.opened_cache.specs.Change.{DiskChange, HasFailed}
+use Rattle.opened_cache.specs.Opened.{IsOpened}
 use Rattle.tile_service.specs.Lines.{lines_of}
 use Rattle.sessions.specs.Outside.{InputChange}
 use Rattle.feed_words.specs.declared.words.FeedWord.{FeedWord}

@@ -3,12 +3,12 @@ use Rattle.std.specs.Prelude.{ℕ, ◌≡◌, ◌⊎◌, ◌+◌, ◌≤◌, Boo
 use Rattle.std.specs.Io.KnownBytes.{Consumes, IsAtEnd}
 use Rattle.cabinet.specs.State.{IsSound, State}
 use Rattle.catalog.specs.declared.catalogue.Catalogue.{Catalogue}
-use Rattle.causes.specs.Causes.{Rose}
+use Rattle.base.specs.Causes.{Rose}
 use Rattle.change_feed.specs.Applies.{Pair}
 use Rattle.change_feed.specs.Files.{EndsIn, IsMarksFile, IsRefusedAs, MayEndIn}
 use Rattle.change_feed.specs.Runs.{Runs}
-use Rattle.clock.specs.Readings.{Readings}
-use Rattle.command_setup.specs.declared.configured.Unconfigured.{Unconfigured}
+use Rattle.base.specs.Readings.{Readings}
+use Rattle.command_setup.specs.declared.configuration.Unconfigured.{Unconfigured}
 use Rattle.command_setup.specs.Held.{MayBe}
 use Rattle.command_setup.specs.Setup.{Configures, IsRead}
 use Rattle.command_status.specs.declared.status.Status.{Status}
@@ -18,10 +18,10 @@ use Rattle.durable_cabinet.specs.Images.{IsOurs}
 use Rattle.gate_journal.specs.declared.fault.OpenFault.{OpenFault}
 use Rattle.gate_journal.specs.declared.fault.OpenFault.TheVariants as fault
 use Rattle.command_status.specs.declared.status.Status.TheVariants as status
-use Rattle.kept_cache.specs.Change.{DiskChange, HasFailed, HasWritten, IsCutShort}
+use Rattle.opened_cache.specs.Change.{DiskChange, HasFailed, HasWritten, IsCutShort}
 use Rattle.sessions.specs.Outside.{FaultCounts, InputChange, OutputChange}
-use Rattle.kept_cache.specs.Crash.{LastsThrough, OpeningLeaves}
-use Rattle.kept_cache.specs.Opened.{HasOpened, IsRefused, RefusalLeaves}
+use Rattle.opened_cache.specs.Crash.{LastsThrough, OpeningLeaves}
+use Rattle.opened_cache.specs.Opened.{HasOpened, IsRefused, RefusalLeaves}
 use Rattle.tile_service.specs.Lines.{lines_of}
 use Rattle.feed_words.specs.declared.lines.LinesEnd.{LinesEnd}
 use Rattle.feed_words.specs.declared.lines.LinesEnd.TheVariants as lines_end

@@ -2,7 +2,7 @@
 -- A tie between the code and its definitions: the promise can be read without it.
 use Rattle.std.specs.Prelude.{◌≡◌, ◌⊎◌, ℕ, Bool, IsTrue, List}
 use Rattle.cabinet.specs.State.{IsSound}
-use Rattle.causes.specs.Causes.{Rose}
+use Rattle.base.specs.Causes.{Rose}
 use Rattle.change_feed.specs.Applies.{Pair}
 use Rattle.change_feed.specs.Files.{MayEndIn}
 use Rattle.disk_model.specs.Images.{DiskState, Leaves}

@@ -7,7 +7,7 @@ use Rattle.change_feed.specs.declared.change.Change.{Change}
 use Rattle.change_feed.specs.Applies.{Applies, Pair}
 use Rattle.change_feed.specs.Files.{MayEndIn}
 use Rattle.disk_model.specs.Images.{DiskState, Leaves}
-use Rattle.kept_cache.specs.Change.{HasWritten, IsCutShort}
+use Rattle.opened_cache.specs.Change.{HasWritten, IsCutShort}
 use Rattle.sessions.specs.Outside.{OutputChange}
 use Rattle.served_covers.specs.OfCatalogue.{IsCoverOf}
 use Rattle.truncation_list.specs.Books.{AnswersForBook}

@@ -1,14 +1,14 @@
 -- A run of a feed: the changes of its lines, one after the other, what became of each, and what is written of them.
 use Rattle.std.specs.Prelude.{ℕ, ◌≡◌, ◌⊎◌, ◌+◌, ◌≤◌, List, [], ◌∷◌, ◌++◌, length, map, flat_map, Some, None}
 use Rattle.catalog.specs.declared.catalogue.Catalogue.{Catalogue}
-use Rattle.causes.specs.Causes.{Rose}
+use Rattle.base.specs.Causes.{Rose}
 use Rattle.change_feed.specs.declared.applied.Applied.{Applied}
 use Rattle.change_feed.specs.declared.change.Change.{Change}
 use Rattle.change_feed.specs.Applies.{Applies, Pair, decided}
 use Rattle.change_feed.specs.Files.{MayEndIn, Stand}
 use Rattle.change_feed.specs.Runs.{Event, Stores, called}
 use Rattle.disk_model.specs.Content.{Content}
-use Rattle.kept_cache.specs.Change.{HasWritten}
+use Rattle.opened_cache.specs.Change.{HasWritten}
 use Rattle.sessions.specs.Outside.{OutputChange}
 use Rattle.served_covers.specs.OfCatalogue.{IsCoverOf}
 use Rattle.tile_requests.specs.Sent.{AppendsPart}

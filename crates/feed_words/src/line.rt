@@ -1,20 +1,17 @@
 //! One line of a feed: its change is made, and answered.
 ghost use Rattle.std.specs.Prelude.{◌≡◌, ◌≤◌};
 ghost use Rattle.catalog.specs.Valid.{IsValid};
-ghost use Rattle.gate_journal.specs.Sound.{digest_of};
-ghost use Rattle.sessions.specs.Outside.{OutputChange, counts};
-ghost use Rattle.served_covers.specs.OfCatalogue.{IsCoverOf};
 ghost use Rattle.feed_words.specs.OneLine.{GoesTo, IsToldAs, MakesChange, RunsLine};
+ghost use Rattle.gate_journal.specs.Sound.{digest_of};
+ghost use Rattle.served_covers.specs.OfCatalogue.{IsCoverOf};
+ghost use Rattle.sessions.specs.Outside.{OutputChange, counts};
 
 use crate::orders::{Unread, read_change};
 use crate::text::send_answer;
-use cabinet::keeper::Keeper;
-use cabinet::laws::laws_of_rows;
-use change_feed::applied::Applied;
-use change_feed::change::Change;
-use change_feed::feed::Feed;
-use disk_model::disk::Disk;
-use http_wire::streams::ByteSink;
+use cabinet::{Keeper, laws_of_rows};
+use change_feed::{Applied, Change, Feed};
+use disk_model::Disk;
+use http_wire::ByteSink;
 use std::alloc::Global;
 
 /// How a line ended.

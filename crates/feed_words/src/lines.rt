@@ -2,18 +2,18 @@
 ghost use Rattle.std.specs.Prelude.{◌≡◌, ◌<◌, ◌^◌, length};
 ghost use Rattle.cache_core.specs.Lasting.{Lasting};
 ghost use Rattle.catalog.specs.Valid.{IsValid};
+ghost use Rattle.feed_words.specs.Fed.{HasRunLines};
 ghost use Rattle.gate_journal.specs.Sound.{digest_of};
 ghost use Rattle.sessions.specs.Outside.{OutputChange, counts};
-ghost use Rattle.feed_words.specs.Fed.{HasRunLines};
 
 use crate::line::{LineEnd, run_line};
-use cabinet::keeper::Keeper;
-use cache_core::laws::laws_of_lasting;
-use change_feed::feed::Feed;
-use disk_model::disk::Disk;
-use http_wire::streams::ByteSink;
+use cabinet::Keeper;
+use cache_core::laws_of_lasting;
+use change_feed::Feed;
+use disk_model::Disk;
+use http_wire::ByteSink;
 use std::alloc::Global;
-use tile_service::lines::split_line;
+use tile_service::split_line;
 
 /// How the lines of a feed ended.
 #[derive(Clone, Copy, PartialEq, Eq)]

@@ -1,16 +1,16 @@
 //! The word that makes an empty file of marks.
 ghost use Rattle.std.specs.Prelude.{◌≡◌};
-ghost use Rattle.kept_cache.specs.Change.{DiskChange};
-ghost use Rattle.sessions.specs.Outside.{OutputChange, counts};
 ghost use Rattle.feed_words.specs.Ends.{MakesMarks};
+ghost use Rattle.opened_cache.specs.Change.{DiskChange};
+ghost use Rattle.sessions.specs.Outside.{OutputChange, counts};
 
 use arrayvec::ArrayVec;
-use catalog::catalogue::Catalogue;
-use change_feed::feed::Feed;
-use command_status::status::Status;
-use disk_model::disk::Disk;
-use http_wire::streams::ByteSink;
-use kept_cache::writing::written;
+use catalog::Catalogue;
+use change_feed::Feed;
+use command_status::Status;
+use disk_model::Disk;
+use http_wire::ByteSink;
+use opened_cache::written;
 
 /// Makes an empty file of marks, whatever stood there, and writes that it is made. Each end comes as `MakesMarks` says. It takes no
 /// memory.

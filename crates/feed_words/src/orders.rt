@@ -1,17 +1,16 @@
 //! The change that a line of a feed orders.
 ghost use Rattle.std.specs.Prelude.{◌≡◌, IfOk};
 ghost use Rattle.catalog.specs.Valid.{IsValid};
+ghost use Rattle.feed_words.specs.Orders.{IsReadAs, change_in, number_in, with_cover, with_number};
 ghost use Rattle.job_forms.specs.Cover.{cover_of};
 ghost use Rattle.served_covers.specs.OfCatalogue.{IsCoverOf};
-ghost use Rattle.feed_words.specs.Orders.{IsReadAs, change_in, number_in, with_cover, with_number};
 
-use catalog::catalogue::Catalogue;
-use change_feed::change::Change;
-use job_forms::cover::read_cover;
-use job_forms::fault::JobFault;
-use schedule_text::line::{LINE_LIMIT, digits_len};
+use catalog::Catalogue;
+use change_feed::Change;
+use job_forms::{JobFault, read_cover};
+use schedule_text::{LINE_LIMIT, digits_len};
 use std::alloc::Global;
-use wmts_kvp::number::{is_number, short_number};
+use wmts_kvp::{is_number, short_number};
 
 /// Why a line gives no change.
 #[derive(Clone, Copy, PartialEq, Eq)]

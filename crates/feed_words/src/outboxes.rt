@@ -5,11 +5,11 @@ ghost use Rattle.disk_model.specs.Content.{Same};
 ghost use Rattle.disk_model.specs.Images.{ChangesBy, Every};
 ghost use Rattle.outbox.specs.Files.{IsOutboxFile, IsRefusedAs, MayOpenTo, OpensToPosts};
 
-use catalog::catalogue::Catalogue;
-use disk_model::disk::Disk;
-use gate_journal::fault::OpenFault;
-use kept_cache::lent::{LentDisk, Loan};
-use outbox::outbox::Outbox;
+use catalog::Catalogue;
+use disk_model::Disk;
+use gate_journal::OpenFault;
+use opened_cache::{LentDisk, Loan};
+use outbox::Outbox;
 use std::alloc::Global;
 
 /// Opens the outbox of a disk that is lent. A refusal hands the loan back.

@@ -1,14 +1,14 @@
 //! The texts of answers, sent.
 ghost use Rattle.std.specs.Prelude.{◌≡◌, ◌≤◌, ◌++◌, decimal, length};
 ghost use Rattle.arrayvec.specs.ArrayVec.{array_vec_len};
-ghost use Rattle.sessions.specs.Outside.{OutputChange, counts};
 ghost use Rattle.feed_words.specs.OneLine.{IsSent};
 ghost use Rattle.feed_words.specs.Texts.{answer_text, no_number, one_number, two_numbers};
+ghost use Rattle.sessions.specs.Outside.{OutputChange, counts};
 
 use arrayvec::ArrayVec;
-use change_feed::applied::Applied;
-use http_wire::streams::ByteSink;
-use tile_requests::small_text::{add, add_number, send_behind};
+use change_feed::Applied;
+use http_wire::ByteSink;
+use tile_requests::{add, add_number, send_behind};
 
 /// A label and a number after it.
 fn labelled(label: &[u8], number: u64) -> ArrayVec<u8, 1024>

@@ -1,23 +1,22 @@
 //! The words of a feed, done.
 ghost use Rattle.std.specs.Prelude.{◌≡◌, ◌↔◌, None, Some, IsTrue};
 ghost use Rattle.catalog.specs.Valid.{IsValid};
-ghost use Rattle.kept_cache.specs.Change.{DiskChange};
-ghost use Rattle.sessions.specs.Outside.{InputChange, OutputChange, counts};
 ghost use Rattle.feed_words.specs.Complete.{IsComplete};
 ghost use Rattle.feed_words.specs.Ends.{CacheLasts, FeedChange, FeedTells, IsFitFor, IsFitUnder, Stays, WordEnds, WordLasts};
 ghost use Rattle.feed_words.specs.Words.{feed_word};
+ghost use Rattle.opened_cache.specs.Change.{DiskChange};
+ghost use Rattle.sessions.specs.Outside.{InputChange, OutputChange, counts};
 
 use crate::fed::feed;
 use crate::making::make_marks;
 use crate::words::{FeedWord, feed_word};
-use catalog::catalogue::Catalogue;
-use clock::clock::Clock;
-use command_setup::configured::configured;
-use command_setup::refusals::status_of_refusal;
-use command_status::status::Status;
-use disk_model::disk::Disk;
-use exact_ratio::words::Words;
-use http_wire::streams::{ByteSink, ByteSource};
+use base::Clock;
+use catalog::Catalogue;
+use command_setup::{configured, status_of_refusal};
+use command_status::Status;
+use disk_model::Disk;
+use exact_ratio::Words;
+use http_wire::{ByteSink, ByteSource};
 use std::alloc::Global;
 
 /// Does a word under a catalogue.

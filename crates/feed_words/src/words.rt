@@ -2,7 +2,7 @@
 ghost use Rattle.std.specs.Prelude.{◌≡◌};
 ghost use Rattle.feed_words.specs.Words.{feed_word, one_word, two_words};
 
-use exact_ratio::words::Words;
+use exact_ratio::Words;
 
 /// What the words of a feed ask for.
 #[derive(Clone, Copy, PartialEq, Eq)]

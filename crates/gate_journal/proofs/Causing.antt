@@ -1,6 +1,6 @@
 -- Why opening fails.
 use Rattle.std.proofs.Common.{◌≡◌, ℕ, ◌≤◌, Result, Err, sym, ◌∙◌, ap, subst, arith}
-use Rattle.causes.specs.Causes.{Rose}
+use Rattle.base.specs.Causes.{Rose}
 use Rattle.gate_journal.specs.declared.fault.OpenFault.{OpenFault}
 use Rattle.gate_journal.specs.declared.fault.OpenFault.TheVariants.{NotACache, CatalogueDiffers, BadRecord, Spent, DiskFault, OutOfMemory}
 use Rattle.gate_journal.specs.Reading.{IsOpenCause, HasOpenCause}

@@ -1,6 +1,6 @@
 -- What opening a journal reads, and what it answers.
 use Rattle.std.specs.Prelude.{◌≡◌, ◌≢◌, ℕ, ◌+◌, ◌*◌, ◌<◌, ◌≤◌, List, length, Bool, true, false, ◌||◌, if◌then◌else◌, IsTrue, Option, Some, None, MatchOption, Result, Ok, Err, IfErr, ⊤}
-use Rattle.causes.specs.Causes.{Rose}
+use Rattle.base.specs.Causes.{Rose}
 use Rattle.disk_model.specs.Content.{Content, byte_at, Same}
 use Rattle.disk_model.specs.Images.{DiskState, ChangesBy}
 use Rattle.gate_journal.specs.declared.fault.OpenFault.{OpenFault}

@@ -1,8 +1,8 @@
 //! Why a cache isn't opened.
-ghost use Rattle.gate_journal.specs.declared.fault.OpenFault.TheVariants.{DiskFault, OutOfMemory};
 ghost use Rattle.std.specs.Prelude.{◌≡◌};
+ghost use Rattle.gate_journal.specs.declared.fault.OpenFault.TheVariants.{DiskFault, OutOfMemory};
 
-use disk_model::disk::Failed;
+use disk_model::Failed;
 use std::alloc::{AllocError, AllocFailed};
 
 /// Why a cache isn't opened.

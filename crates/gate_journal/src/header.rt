@@ -1,6 +1,6 @@
 //! The header of a half: its magic, which names its version, its generation and its digest.
-ghost use Rattle.std.specs.Prelude.{◌≡◌, ◌++◌, replicate};
 ghost use Rattle.std.specs.Int.{w64, to_be_bytes};
+ghost use Rattle.std.specs.Prelude.{◌≡◌, ◌++◌, replicate};
 ghost use Rattle.gate_journal.specs.Opened.{magic};
 
 /// What a header of version 1 begins with. Such headers are read, and never written.

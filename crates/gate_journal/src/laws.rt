@@ -7,7 +7,7 @@ ghost use Rattle.gate_journal.specs.Opened.{opened, records};
 ghost use Rattle.gate_journal.specs.Sound.{IsSettled, IsSound, SameFrom, digest_of, kept, other, slots_of, version_of};
 ghost use Rattle.gate_journal.specs.declared.journal.Journal.{Journal};
 
-use disk_model::disk::Disk;
+use disk_model::Disk;
 
 /// Each image of the disk of a settled journal opens to its records, under its version, and each one of any sound journal to them or to what the
 /// undecided gate gives. Calls that write behind a settled journal alone leave it as it is, and at each moment an image opens

@@ -5,25 +5,28 @@
 //! moment within `append` and `compact` each image opens to the records from before the call or to those that it is to lead
 //! to, and within `settle` to the records or to what the undecided gate gives; nothing past the journal changes
 //! (`specs/Calls.antt`). After `Ok` of one of them each image of the disk opens to the journal's records (`laws_of_journals`).
-//! Stands on disk_model and causes.
+//! Stands on disk_model and base.
 #![tactic(auto)]
 
-mod append;
+mod choosing;
 mod collecting;
-mod compact;
-pub mod fault;
+mod fault;
 mod half;
 mod header;
-pub mod journal;
-pub mod laws;
-pub mod making;
-mod open;
-pub mod opened;
+mod journal;
+mod laws;
+mod making;
+mod opened;
 mod pieces;
-mod queries;
 mod reading;
-mod settle;
 mod standing;
-pub mod visit;
+mod visit;
 mod visiting;
 mod writes;
+
+pub use fault::OpenFault;
+pub use journal::Journal;
+pub use laws::laws_of_journals;
+pub use making::make;
+pub use opened::Opened;
+pub use visit::Visit;

@@ -1,6 +1,6 @@
 //! How a disk becomes a journal without records.
 ghost use Rattle.std.specs.Prelude.{◌≡◌, ◌≤◌, ◌^◌, [], IsTrue, OnOk, length};
-ghost use Rattle.causes.specs.Causes.{HasCause};
+ghost use Rattle.base.specs.Causes.{HasCause};
 ghost use Rattle.disk_model.specs.Images.{Every, Only};
 ghost use Rattle.gate_journal.specs.Layout.{journal_length, new_layout};
 ghost use Rattle.gate_journal.specs.Opened.{opened, records};
@@ -8,7 +8,7 @@ ghost use Rattle.gate_journal.specs.Sound.{IsLaidOut};
 
 use crate::header::header_body;
 use crate::writes::open_gate;
-use disk_model::disk::{Disk, Failed};
+use disk_model::{Disk, Failed};
 
 /// Makes a journal of version 2 with no records, in place of what the disk holds. A half has so many slots, 1 to 2^40. After `Ok` each
 /// image opens to no records under the digest, of version 2, by the first half and generation 1, nothing is pending, and the disk ends

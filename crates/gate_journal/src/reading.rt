@@ -1,6 +1,6 @@
 //! How headers are read from a disk, and which half they put in force.
 ghost use Rattle.std.specs.Prelude.{◌≡◌, ◌≤◌, ℕ, IfOk, IsTrue};
-ghost use Rattle.causes.specs.Causes.{HasCause};
+ghost use Rattle.base.specs.Causes.{HasCause};
 ghost use Rattle.disk_model.specs.Content.{Content, bytes_at, Same};
 ghost use Rattle.disk_model.specs.Images.{ChangesBy};
 ghost use Rattle.gate_journal.specs.Opened.{half_in_force};
@@ -8,7 +8,7 @@ ghost use Rattle.gate_journal.specs.Reading.{NamesVersion, Says, SaysForce};
 
 use crate::half::Half;
 use crate::header::{Header, MAGIC_OF_1, MAGIC_OF_2};
-use disk_model::disk::{Disk, Failed};
+use disk_model::{Disk, Failed};
 
 /// The version whose magic these bytes are.
 fn version_named(bytes: &[u8]) -> Option<u8>

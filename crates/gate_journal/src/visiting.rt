@@ -5,7 +5,7 @@ ghost use Rattle.gate_journal.specs.Visiting.{ComesOfPart, ComesOfHalf, OnlyRead
 use crate::fault::OpenFault;
 use crate::half::AT_ONCE;
 use crate::visit::Visit;
-use disk_model::disk::Disk;
+use disk_model::Disk;
 use std::alloc::Global;
 
 /// The body of a slot.

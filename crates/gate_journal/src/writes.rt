@@ -1,11 +1,10 @@
 //! The three writes of a journal, each of which is on the disk once it succeeded.
 ghost use Rattle.std.specs.Prelude.{◌≡◌, ◌≤◌, ◌+◌, ◌^◌, [], ◌∷◌, IsTrue, OnOk};
-ghost use Rattle.causes.specs.Causes.{HasCause};
+ghost use Rattle.base.specs.Causes.{HasCause};
 ghost use Rattle.disk_model.specs.Content.{bytes_at, written, TornWrite};
 ghost use Rattle.disk_model.specs.Images.{Only, ChangesBy};
 
-use disk_model::disk::{Disk, Failed};
-use disk_model::through::write_through;
+use disk_model::{Disk, Failed, write_through};
 
 /// Writes the body of a slot. At no moment may its gate, or another byte below the old end, be other than before.
 #[tactic(auto, using(crate::proofs::Places::written_body))]

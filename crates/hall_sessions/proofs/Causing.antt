@@ -16,7 +16,7 @@ use Rattle.cabinet_chest.specs.declared.shown.Shown.{Shown}
 use Rattle.cabinet_chest.specs.Replies.{IsCutAnswered, IsReplyTo, MayReply}
 use Rattle.cache_core.specs.declared.outcome.Tile.{Tile}
 use Rattle.catalog.specs.declared.catalogue.Catalogue.{Catalogue}
-use Rattle.causes.specs.Causes.{Rose}
+use Rattle.base.specs.Causes.{Rose}
 use Rattle.job_board.specs.Calls.{BoardHolding, MakesOne}
 use Rattle.job_board.specs.declared.shown.Command.TheVariants as board_command
 use Rattle.job_board.specs.declared.shown.Reply.TheVariants as board_reply
@@ -24,7 +24,7 @@ use Rattle.job_requests.specs.declared.request.JobRequest.{JobRequest}
 use Rattle.job_requests.specs.declared.request.JobRequest.TheVariants as job_request
 use Rattle.job_requests.specs.Routes.{request_for as job_request_for}
 use Rattle.job_requests.specs.Served.{IsLookServed, IsStopServed, IsSubmissionServed, ServesJob, outcome_of_look, outcome_of_submission}
-use Rattle.jobs.specs.declared.job.Job.{Job}
+use Rattle.job_forms.specs.declared.job.Job.{Job}
 use Rattle.matrix_geometry.specs.declared.address.Address.{Address}
 use Rattle.truncation_list.specs.declared.book.FrontedBook.{FrontedBook}
 use Rattle.truncation_list.specs.declared.cover.Cover.{Cover}

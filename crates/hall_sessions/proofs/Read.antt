@@ -9,7 +9,7 @@ use Rattle.job_requests.specs.declared.request.JobRequest.TheVariants as job_req
 use Rattle.job_requests.specs.Routes.{request_for as job_request_for}
 use Rattle.job_requests.specs.Served.{ServesJob, outcome_of_look, outcome_of_submission}
 use Rattle.job_requests.specs.Texts.{progress_text, submitted_text}
-use Rattle.job_sheet.specs.declared.progress.Progress.{Progress}
+use Rattle.job_board.specs.declared.progress.Progress.{Progress}
 use Rattle.cabinet_chest.specs.declared.shown.Note.{Note}
 use Rattle.cache_hall.specs.Turned.{HallPass}
 use Rattle.cache_hall.specs.Gained.{gains_none}

@@ -9,8 +9,8 @@ use Rattle.job_board.specs.declared.shown.Command.TheVariants as command
 use Rattle.job_board.specs.declared.shown.Reply.{Reply}
 use Rattle.job_board.specs.declared.shown.Reply.TheVariants as reply
 use Rattle.job_board.specs.declared.shown.Shown.{Shown}
-use Rattle.job_sheet.specs.declared.progress.Progress.{Progress}
-use Rattle.job_sheet.specs.Hands.{Holding}
+use Rattle.job_board.specs.declared.progress.Progress.{Progress}
+use Rattle.job_board.specs.Hands.{Holding}
 use Rattle.truncation_list.specs.declared.book.FrontedBook.{FrontedBook}
 
 same_stop : (x y : Bool) → reply.Stop x ≡ reply.Stop y → y ≡ x

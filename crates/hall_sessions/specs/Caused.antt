@@ -10,7 +10,7 @@ use Rattle.cabinet_chest.specs.declared.command.Reply.TheVariants as reply
 use Rattle.cabinet_chest.specs.declared.shown.Note.{Note}
 use Rattle.cache_core.specs.declared.outcome.Tile.{Tile}
 use Rattle.catalog.specs.declared.catalogue.Catalogue.{Catalogue}
-use Rattle.causes.specs.Causes.{Rose}
+use Rattle.base.specs.Causes.{Rose}
 use Rattle.http_wire.specs.declared.message.Message.{Message}
 use Rattle.job_board.specs.declared.shown.Command.TheVariants as board_command
 use Rattle.job_board.specs.declared.shown.Reply.TheVariants as board_reply
@@ -19,9 +19,9 @@ use Rattle.job_requests.specs.declared.request.JobRequest.{JobRequest}
 use Rattle.job_requests.specs.declared.request.JobRequest.TheVariants as job_request
 use Rattle.job_requests.specs.Routes.{request_for as job_request_for}
 use Rattle.job_requests.specs.Texts.{progress_text, submitted_text}
-use Rattle.job_sheet.specs.declared.progress.Progress.{Progress}
-use Rattle.jobs.specs.declared.job.Job.{Job}
-use Rattle.jobs.specs.Places.{places}
+use Rattle.job_board.specs.declared.progress.Progress.{Progress}
+use Rattle.job_forms.specs.declared.job.Job.{Job}
+use Rattle.job_forms.specs.Places.{places}
 use Rattle.matrix_geometry.specs.declared.address.Address.{Address}
 use Rattle.metatile_plan.specs.declared.metatile.MetaKey.{MetaKey}
 use Rattle.truncation_list.specs.declared.cover.Cover.{Cover}

@@ -2,7 +2,7 @@
 use Rattle.std.specs.Prelude.{ℕ, ◌≡◌, ◌+◌, ◌≤◌, Bool, List, [], ◌∷◌, map, flat_map, Option}
 use Rattle.cabinet_chest.specs.declared.shown.Note.{Note}
 use Rattle.catalog.specs.declared.catalogue.Catalogue.{Catalogue}
-use Rattle.causes.specs.Causes.{Rose}
+use Rattle.base.specs.Causes.{Rose}
 use Rattle.http_wire.specs.declared.message.Message.{Message}
 use Rattle.job_board.specs.Calls.{BoardHolding}
 use Rattle.truncation_list.specs.declared.book.FrontedBook.{FrontedBook}

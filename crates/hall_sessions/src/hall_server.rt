@@ -7,16 +7,16 @@ ghost use Rattle.job_board.specs.Calls.{IsBoardPass};
 
 use crate::requests::serve;
 use crate::world::World;
-use cabinet::keeper::Keeper;
-use cabinet_chest::chest::CabinetChest;
-use http_wire::message::Message;
-use job_board::board::BoardPass;
-use sessions::server::MessageServer;
-use source_render::source::Source;
+use cabinet::Keeper;
+use cabinet_chest::CabinetChest;
+use http_wire::Message;
+use job_board::BoardPass;
+use sessions::MessageServer;
+use source_render::Source;
 use std::alloc::Global;
 use std::sync::Wait;
-use tile_requests::outcome::Outcome;
-use turnstile::pass::Pass;
+use tile_requests::Outcome;
+use turnstile::Pass;
 
 /// Serves the messages of a connection over a hall and a board, by a pass of each, and counts them as traffic.
 #[derive(Drop)]

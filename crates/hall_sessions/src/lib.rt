@@ -9,6 +9,10 @@
 #![tactic(auto)]
 
 mod hall_server;
-pub mod requests;
-pub mod session;
-pub mod world;
+mod requests;
+mod session;
+mod world;
+
+pub use requests::serve;
+pub use session::serve_session;
+pub use world::World;

@@ -8,23 +8,17 @@ ghost use Rattle.job_board.specs.Calls.{IsBoardPass};
 ghost use Rattle.tile_requests.specs.Requests.{IsOf};
 
 use crate::world::World;
-use cabinet::keeper::Keeper;
-use cabinet_chest::chest::CabinetChest;
-use cache_hall::hall::Hall;
-use cache_hall::shared::Shared;
-use http_wire::message::Message;
-use job_board::board::BoardPass;
-use job_requests::routes::read_job_request;
-use job_requests::serving::serve_job;
-use source_render::source::Source;
+use cabinet::Keeper;
+use cabinet_chest::CabinetChest;
+use cache_hall::{Hall, Shared};
+use http_wire::Message;
+use job_board::BoardPass;
+use job_requests::{read_job_request, serve_job};
+use source_render::Source;
 use std::alloc::Global;
 use std::sync::Wait;
-use tile_requests::answering::answer;
-use tile_requests::message_ref::MessageRef;
-use tile_requests::outcome::{Outcome, Plain};
-use tile_requests::request::Request;
-use tile_requests::routes::read_request;
-use turnstile::pass::Pass;
+use tile_requests::{MessageRef, Outcome, Plain, Request, answer, read_request};
+use turnstile::Pass;
 
 /// A request, served to its outcome.
 fn served<R: Wait, K: Keeper, S: Source>(

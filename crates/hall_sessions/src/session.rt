@@ -8,15 +8,15 @@ ghost use Rattle.sessions.specs.Outside.{counts};
 
 use crate::hall_server::HallServer;
 use crate::world::World;
-use cabinet::keeper::Keeper;
-use cabinet_chest::chest::CabinetChest;
-use http_wire::links::Link;
-use job_board::board::BoardPass;
-use sessions::session::{SessionEnd, hold_session};
-use source_render::source::Source;
+use cabinet::Keeper;
+use cabinet_chest::CabinetChest;
+use http_wire::Link;
+use job_board::BoardPass;
+use sessions::{SessionEnd, hold_session};
+use source_render::Source;
 use std::alloc::Global;
 use std::sync::Wait;
-use turnstile::pass::Pass;
+use turnstile::Pass;
 
 /// Serves the messages of one connection (RFC 9112) over a hall and a board of jobs, in order, each before the next is looked for, at
 /// most 10,000 of them. Who asks for a tile gets it, or 503, unless the source failed for it or no number of a render is left. Each end

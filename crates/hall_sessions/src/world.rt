@@ -1,10 +1,10 @@
 //! What many threads serve with.
-use cabinet::keeper::Keeper;
-use cache_hall::hall::Hall;
-use exact_ratio::words::Words;
-use job_board::board::Board;
-use traffic::traffic::Traffic;
-use wmts_rest::table::RestTable;
+use base::Traffic;
+use cabinet::Keeper;
+use cache_hall::Hall;
+use exact_ratio::Words;
+use job_board::Board;
+use wmts_rest::RestTable;
 
 /// Where many threads are served: a hall, the reading of paths, the capabilities document, a board of jobs, and the counts of requests.
 #[derive(Drop)]

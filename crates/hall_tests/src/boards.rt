@@ -2,8 +2,7 @@
 ghost use Rattle.job_board.specs.Calls.{IsBoardPass};
 
 use crate::stage::{PLACES, board_of, seed};
-use job_board::board::{Board, BoardPass};
-use job_sheet::progress::Progress;
+use job_board::{Board, BoardPass, Progress};
 use std::alloc::Global;
 use std::sync::Wait;
 use std::test::Fail;

@@ -3,8 +3,8 @@ ghost use Rattle.std.specs.Prelude.{IfOk, length, ◌≡◌};
 
 use crate::meeting::{Meeting, MeetingGate};
 use crate::stage::{new_stage, run};
-use job_sheet::progress::Progress;
-use seed_jobs::gate::OpenGate;
+use job_board::Progress;
+use seed_jobs::OpenGate;
 use std::alloc::{AllocError, Global};
 use std::test::Fail;
 

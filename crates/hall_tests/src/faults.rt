@@ -11,19 +11,17 @@ use crate::texts::{
     CUT, LAST_MESSAGE, LOST, LOST_LAST, MESSAGES, TILE, TILE_AGAIN, TILE_HEAD, TILE_OLD, UNCUT,
 };
 use crate::visit::{Visit, held, visit_of};
-use cabinet::keeper::Keeper;
-use cabinet_chest::chest::CabinetChest;
-use hall_sessions::world::World;
-use http_wire::memory_link::MemoryLink;
-use http_wire::memory_sink::MemorySink;
-use http_wire::memory_source::MemorySource;
-use job_board::board::BoardPass;
-use sessions::session::SessionEnd;
-use source_render::scripted::Scripted;
+use cabinet::Keeper;
+use cabinet_chest::CabinetChest;
+use hall_sessions::World;
+use http_wire::{MemoryLink, MemorySink, MemorySource};
+use job_board::BoardPass;
+use sessions::SessionEnd;
+use source_render::Scripted;
 use std::alloc::{AllocError, Global};
 use std::sync::Wait;
 use std::test::Fail;
-use turnstile::pass::Pass;
+use turnstile::Pass;
 
 /// More calls than an object has in such a session.
 const CALLS: u64 = 64;

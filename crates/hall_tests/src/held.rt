@@ -1,12 +1,11 @@
 //! A source that holds a render until another tile was answered.
 ghost use Rattle.std.specs.Prelude.{None};
 
-use catalog::catalogue::Catalogue;
-use metatile_locks::ticket::Ticket;
-use metatile_plan::window::Window;
-use raster_field::raster::Raster;
-use source_render::numbered::Numbered;
-use source_render::source::{Failed, Source};
+use catalog::Catalogue;
+use metatile_locks::Ticket;
+use metatile_plan::Window;
+use raster_field::Raster;
+use source_render::{Failed, Numbered, Source};
 use std::alloc::{AllocError, Global};
 use std::sync::Arc;
 use std::sync::atomic::{AtomicU64, Ordering};

@@ -4,12 +4,10 @@ ghost use Rattle.job_board.specs.Calls.{IsBoardPass};
 
 use crate::pair::{Pair, new_pair};
 use crate::visit::{Visit, held, visit_of};
-use cabinet::keeper::Keeper;
-use http_wire::memory_link::MemoryLink;
-use http_wire::memory_sink::MemorySink;
-use http_wire::memory_source::MemorySource;
-use sessions::session::SessionEnd;
-use source_render::scripted::Scripted;
+use cabinet::Keeper;
+use http_wire::{MemoryLink, MemorySink, MemorySource};
+use sessions::SessionEnd;
+use source_render::Scripted;
 use std::alloc::{AllocError, Global};
 use std::sync::Wait;
 use std::test::Fail;

@@ -4,7 +4,7 @@
 //! threads, and members that rest while requests are served.
 //!
 //! It has no code of its own and promises nothing: what the crates promise is proved in each of them.
-//! Stands on cache_hall, hall_sessions, durable_cabinet, job_runner, seed_jobs and silent_disk, and on the crates of what they are called
+//! Stands on cache_hall, hall_sessions, durable_cabinet, seed_jobs and fixtures, and on the crates of what they are called
 //! with.
 #![tactic(auto)]
 

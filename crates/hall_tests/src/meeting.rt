@@ -1,6 +1,5 @@
 //! Gates at which two members wait for each other.
-use job_runner::gates::JobGate;
-use seed_jobs::gate::Gate;
+use seed_jobs::{Gate, JobGate};
 use std::sync::atomic::{AtomicU64, Ordering};
 use std::thread;
 

@@ -2,11 +2,10 @@
 ghost use Rattle.std.specs.Prelude.{IfOk, IfSome, ◌≡◌};
 ghost use Rattle.catalog.specs.Demo.{demo};
 
-use catalog::catalogue::Catalogue;
-use clock::clock::Clock;
-use durable_cabinet::durable::Cabinet;
-use durable_cabinet::opening::make;
-use silent_disk::SilentDisk;
+use base::Clock;
+use catalog::Catalogue;
+use durable_cabinet::{Cabinet, make};
+use fixtures::SilentDisk;
 use std::alloc::{AllocError, Global};
 
 /// A cabinet on a disk of which contracts know the count of faults alone.

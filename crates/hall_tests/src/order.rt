@@ -6,19 +6,15 @@ ghost use Rattle.http_wire.specs.Side.{side};
 ghost use Rattle.tile_service.specs.Session.{IsAtRest};
 
 use crate::pair::empty;
-use cabinet::keeper::Keeper;
-use exact_ratio::words::Words;
-use http_wire::links::Link;
-use http_wire::memory_sink::MemorySink;
-use http_wire::memory_source::MemorySource;
-use http_wire::streams::{ByteSink, ByteSource, Failed};
-use sessions::session::SessionEnd;
-use source_render::numbered::Numbered;
+use cabinet::Keeper;
+use exact_ratio::Words;
+use http_wire::{ByteSink, ByteSource, Failed, Link, MemorySink, MemorySource};
+use sessions::SessionEnd;
+use source_render::Numbered;
 use std::alloc::{AllocError, Global};
 use std::test::Fail;
-use tile_service::counter::Counter;
-use tile_service::session::replay_session;
-use wmts_rest::table::RestTable;
+use tile_service::{Counter, replay_session};
+use wmts_rest::RestTable;
 
 /// A connection in memory that notes, at each take, how many bytes have been put by then.
 #[derive(Drop)]

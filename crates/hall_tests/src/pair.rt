@@ -2,35 +2,27 @@
 ghost use Rattle.std.specs.Prelude.{IfOk, IfSome, ◌≡◌};
 ghost use Rattle.catalog.specs.Demo.{demo};
 ghost use Rattle.catalog.specs.LookUp.{IsTile};
+ghost use Rattle.catalog.specs.Valid.{IsValid};
 ghost use Rattle.hall_tests.specs.Fit.{IsFit};
 ghost use Rattle.raster_field.specs.Blocks.{IsMeta};
-ghost use Rattle.catalog.specs.Valid.{IsValid};
 ghost use Rattle.served_covers.specs.OfCatalogue.{IsCoverOf};
 ghost use Rattle.tile_service.specs.Session.{IsAtRest};
 
-use cabinet::cabinet::Cabinet;
-use cabinet::keeper::Keeper;
-use cabinet::replies::{CutReply, Expired, Saved};
-use cabinet_chest::chest::CabinetChest;
-use cabinet_chest::command::Counts;
-use cache_access::access::Access;
-use cache_access::refreshed::Refreshed;
-use cache_core::outcome::Tile;
-use cache_hall::get::get;
-use cache_hall::hall::{Hall, HallEntry};
-use cache_hall::refresh::refresh;
-use cache_hall::shared::Shared;
-use catalog::catalogue::Catalogue;
-use clock::clock::Clock;
-use fixtures::tiles::FIRST;
-use matrix_geometry::address::Address;
-use matrix_geometry::theme::Filter;
-use metatile_plan::metatile::MetaKey;
-use source_render::source::Source;
+use base::Clock;
+use cabinet::{Cabinet, CutReply, Expired, Keeper, Saved};
+use cabinet_chest::{CabinetChest, Counts};
+use cache_access::{Access, Refreshed};
+use cache_core::Tile;
+use cache_hall::{Hall, HallEntry, Shared, get, refresh};
+use catalog::Catalogue;
+use fixtures::FIRST;
+use matrix_geometry::{Address, Filter};
+use metatile_plan::MetaKey;
+use source_render::Source;
 use std::alloc::{AllocError, Global};
 use std::sync::Wait;
-use truncation_list::cover::Cover;
-use turnstile::pass::Pass;
+use truncation_list::Cover;
+use turnstile::Pass;
 
 /// A hall and two passes of it.
 #[derive(Drop)]

@@ -6,19 +6,18 @@ ghost use Rattle.hall_tests.specs.Fit.{IsFit};
 
 use crate::held::{Held, Stage};
 use crate::pair::{Pair, counted, cut, got, is_kept_up, new_pair, refreshed};
-use cabinet::keeper::Keeper;
-use cabinet_chest::chest::CabinetChest;
-use cabinet_chest::command::Counts;
-use cache_access::refreshed::Refreshed;
-use cache_hall::hall::Hall;
-use fixtures::tiles::{GREY, first_tile};
-use matrix_geometry::address::Address;
-use source_render::numbered::Numbered;
+use cabinet::Keeper;
+use cabinet_chest::{CabinetChest, Counts};
+use cache_access::Refreshed;
+use cache_hall::Hall;
+use fixtures::{GREY, first_tile};
+use matrix_geometry::Address;
+use source_render::Numbered;
 use std::alloc::{AllocError, Global};
 use std::sync::Wait;
 use std::test::Fail;
 use std::thread::{Threads, join};
-use turnstile::pass::Pass;
+use turnstile::Pass;
 
 /// Whether a tile that one pass rendered is a hit for the other one, and is then counted and kept up.
 fn is_hit_for_the_other<R: Wait, K: Keeper>(rt: &R, alloc: Global, pair: Pair<K>) -> bool

@@ -1,8 +1,7 @@
 //! Members of a crew that rest while requests are served.
 use crate::moments::Moments;
-use job_runner::pacing::{Pace, PacedGate};
-use seed_jobs::gate::Gate;
-use traffic::traffic::Traffic;
+use base::Traffic;
+use seed_jobs::{Gate, Pace, PacedGate};
 
 /// When the first and the second place of a member are let through, in microseconds, each of which is come to after work of 100 ms: the
 /// first while nobody asks, the second after so many requests, of which so many were served.

@@ -5,29 +5,25 @@ ghost use Rattle.cache_hall.specs.Turned.{IsPassOf};
 ghost use Rattle.catalog.specs.Valid.{IsValid};
 ghost use Rattle.catalog.specs.declared.catalogue.Catalogue.{Catalogue};
 ghost use Rattle.job_board.specs.Calls.{IsBoardPass};
-ghost use Rattle.job_runner.specs.Idles.{IsReady};
+ghost use Rattle.seed_jobs.specs.Idles.{IsReady};
 
-use cabinet::cabinet::Cabinet;
-use cabinet_chest::chest::CabinetChest;
-use cache_hall::hall::{Hall, HallEntry};
-use catalog::catalogue::Catalogue;
-use clock::clock::Clock;
-use config_text::read::read_catalogue;
-use job_board::board::{Board, BoardEntry, BoardPass};
-use job_runner::gates::JobGate;
-use job_runner::members::idle_members;
-use job_runner::runner::Runner;
-use job_runner::running::run_jobs;
-use job_sheet::progress::Progress;
-use jobs::job::{Job, JobKind};
-use matrix_geometry::theme::Filter;
-use source_render::numbered::Numbered;
+use base::Clock;
+use cabinet::Cabinet;
+use cabinet_chest::CabinetChest;
+use cache_hall::{Hall, HallEntry};
+use catalog::Catalogue;
+use config_text::read_catalogue;
+use job_board::{Board, BoardEntry, BoardPass, Progress};
+use job_forms::{Job, JobKind};
+use matrix_geometry::Filter;
+use seed_jobs::{JobGate, Runner, idle_members, run_jobs};
+use source_render::Numbered;
 use std::alloc::{AllocError, Global};
 use std::sync::Wait;
 use std::sync::atomic::AtomicBool;
 use std::thread::Threads;
-use truncation_list::cover::Cover;
-use turnstile::pass::Pass;
+use truncation_list::Cover;
+use turnstile::Pass;
 
 /// A catalogue with four matrices of the web's grid, and metatiles of 4 by 4 tiles.
 const WEB: &[u8] = br#"{"keptLimit":4096,"cutLimit":256,"blobBytes":1000000000,

@@ -4,20 +4,19 @@ ghost use Rattle.hall_tests.specs.Fit.{IsFit};
 ghost use Rattle.job_board.specs.Calls.{IsBoardPass};
 
 use crate::pair::Pair;
-use cabinet::keeper::Keeper;
-use cabinet_chest::chest::CabinetChest;
-use exact_ratio::words::Words;
-use hall_sessions::session::serve_session;
-use hall_sessions::world::World;
-use http_wire::memory_link::MemoryLink;
-use job_board::board::{Board, BoardEntry, BoardPass};
-use sessions::session::SessionEnd;
-use source_render::scripted::Scripted;
+use base::Traffic;
+use cabinet::Keeper;
+use cabinet_chest::CabinetChest;
+use exact_ratio::Words;
+use hall_sessions::{World, serve_session};
+use http_wire::MemoryLink;
+use job_board::{Board, BoardEntry, BoardPass};
+use sessions::SessionEnd;
+use source_render::Scripted;
 use std::alloc::{AllocError, Global};
 use std::sync::Wait;
-use traffic::traffic::Traffic;
-use turnstile::pass::Pass;
-use wmts_rest::table::RestTable;
+use turnstile::Pass;
+use wmts_rest::RestTable;
 
 /// A world, two passes of its hall, and one of its board.
 #[derive(Drop)]

@@ -13,3 +13,4 @@ pub mod Takes
 pub mod Fetches
 pub mod Looks
 pub mod Outlines
+pub mod Lists

@@ -1,7 +1,7 @@
 -- What contracts see of the memory forms, and what a call of theirs does. Calls are counted from 1.
 use Rattle.std.specs.Prelude.{◌≡◌, ◌==◌, ◌++◌, ℕ, List, length, drop, Bool, true, false, min, max, Result, Ok, Err}
 use Rattle.std.specs.List.{list_any}
-use Rattle.causes.specs.Causes.{risen}
+use Rattle.base.specs.Causes.{risen}
 
 -- bytes to be read, handed out in pieces
 pub record Supply : Type 0 where

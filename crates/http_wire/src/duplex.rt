@@ -1,8 +1,8 @@
 //! A link made of an input and an output that are lent apart. Its type names both loans, so that who lent them knows
 //! afterwards that these two, and no others, were read and written.
-ghost use Rattle.std.specs.Prelude.{◌≡◌, ◌≤◌, ◌<◌, length, IfOk, refl};
 ghost use Rattle.std.specs.Io.KnownBytes.{ReadConsumes, WriteAppends};
-ghost use Rattle.causes.specs.Causes.{HasCause};
+ghost use Rattle.std.specs.Prelude.{◌≡◌, ◌≤◌, ◌<◌, length, IfOk, refl};
+ghost use Rattle.base.specs.Causes.{HasCause};
 ghost use Rattle.http_wire.specs.Side.{side};
 
 use crate::links::Link;

@@ -1,12 +1,12 @@
 //! What the fields of a head say of the body's length and of the connection's end, and the method that a token names.
-ghost use Rattle.std.specs.Prelude.{◌≡◌, ◌≤◌, length, map, All, IfOk, codes};
 ghost use Rattle.std.specs.List.{list_any};
+ghost use Rattle.std.specs.Prelude.{◌≡◌, ◌≤◌, length, map, All, IfOk, codes};
 ghost use Rattle.std.specs.Str.{str_eq_ignore_ascii_case};
-ghost use Rattle.httparse.specs.Grammar.{IsToken};
-ghost use Rattle.httparse.specs.Spans.{IsHeaderWithin, header_bytes};
 ghost use Rattle.http_wire.specs.Fields.{is_named, has_named, values, said_length, says_close};
 ghost use Rattle.http_wire.specs.Lengths.{IsLengthOf};
 ghost use Rattle.http_wire.specs.Messages.{method_of};
+ghost use Rattle.httparse.specs.Grammar.{IsToken};
+ghost use Rattle.httparse.specs.Spans.{IsHeaderWithin, header_bytes};
 
 use crate::message::Method;
 use httparse::spans::HeaderSpan;

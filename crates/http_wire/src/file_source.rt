@@ -52,7 +52,7 @@ impl ByteSource for FileSource {
             Found::Shut => Err(Failed),
         };
         if answer.is_err() {
-            self.faults = causes::one_more(self.faults);
+            self.faults = base::one_more(self.faults);
         }
         answer
     }

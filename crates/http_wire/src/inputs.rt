@@ -1,7 +1,7 @@
 //! A source read to its end, up to a limit.
-ghost use Rattle.std.specs.Prelude.{◌≡◌, ◌≤◌, ◌+◌, ℕ, List, length, IfOk};
 ghost use Rattle.std.specs.Io.KnownBytes.{Consumes, IsAtEnd};
-ghost use Rattle.causes.specs.Causes.{Rose};
+ghost use Rattle.std.specs.Prelude.{◌≡◌, ◌≤◌, ◌+◌, ℕ, List, length, IfOk};
+ghost use Rattle.base.specs.Causes.{Rose};
 
 use crate::streams::ByteSource;
 use std::alloc::Global;

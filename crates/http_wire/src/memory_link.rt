@@ -1,7 +1,7 @@
 //! A connection in memory, made of a source and a sink.
-ghost use Rattle.std.specs.Prelude.{◌≡◌, ◌≤◌, ◌<◌, Some, length, IfOk, refl};
 ghost use Rattle.std.specs.Io.KnownBytes.{ReadConsumes, WriteAppends};
-ghost use Rattle.causes.specs.Causes.{HasCause};
+ghost use Rattle.std.specs.Prelude.{◌≡◌, ◌≤◌, ◌<◌, Some, length, IfOk, refl};
+ghost use Rattle.base.specs.Causes.{HasCause};
 ghost use Rattle.http_wire.specs.Memory.{Supplies, TakesIn};
 ghost use Rattle.http_wire.specs.Side.{side};
 

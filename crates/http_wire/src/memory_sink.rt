@@ -1,7 +1,7 @@
 //! A sink in memory, some calls of which may be set to fail.
-ghost use Rattle.std.specs.Prelude.{◌≡◌, ◌≤◌, ◌<◌, Some, [], length, IfOk};
 ghost use Rattle.std.specs.Io.KnownBytes.{WriteAppends};
-ghost use Rattle.causes.specs.Causes.{HasCause};
+ghost use Rattle.std.specs.Prelude.{◌≡◌, ◌≤◌, ◌<◌, Some, [], length, IfOk};
+ghost use Rattle.base.specs.Causes.{HasCause};
 ghost use Rattle.http_wire.specs.Memory.{TakesIn};
 
 use crate::streams::{ByteSink, Failed};
@@ -62,7 +62,7 @@ impl ByteSink for MemorySink {
         if self.fail.as_slice().contains(&self.calls)
             || self.taken.extend_from_slice(bytes).is_err()
         {
-            self.faults = causes::one_more(self.faults);
+            self.faults = base::one_more(self.faults);
             return Err(Failed);
         }
         Ok(bytes.len())

@@ -1,7 +1,7 @@
 //! A source in memory, which cuts its bytes into pieces and some calls of which may be set to fail.
-ghost use Rattle.std.specs.Prelude.{◌≡◌, ◌≤◌, ◌<◌, Some, length, IfOk};
 ghost use Rattle.std.specs.Io.KnownBytes.{ReadConsumes};
-ghost use Rattle.causes.specs.Causes.{HasCause};
+ghost use Rattle.std.specs.Prelude.{◌≡◌, ◌≤◌, ◌<◌, Some, length, IfOk};
+ghost use Rattle.base.specs.Causes.{HasCause};
 ghost use Rattle.http_wire.specs.Memory.{Supplies};
 
 use crate::streams::{ByteSource, Failed};
@@ -59,7 +59,7 @@ impl ByteSource for MemorySource {
     {
         self.calls = self.calls.saturating_add(1);
         if self.fail.as_slice().contains(&self.calls) {
-            self.faults = causes::one_more(self.faults);
+            self.faults = base::one_more(self.faults);
             return Err(Failed);
         }
         let (_, left) = self.bytes.as_slice().split_at(self.at);

@@ -1,5 +1,5 @@
 //! The types of messages, and of how a stream of them goes on and stops.
-use exact_ratio::words::Words;
+use exact_ratio::Words;
 
 /// The method of a message (RFC 9110, section 9).
 #[derive(Clone, Copy, PartialEq, Eq)]

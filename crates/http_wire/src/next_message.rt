@@ -9,7 +9,7 @@ use crate::look::Found;
 use crate::message::{Ended, Message, Next, Stop, WireFault};
 use crate::outline::{Outlined, outline_of};
 use crate::streams::ByteSource;
-use exact_ratio::words::Words;
+use exact_ratio::Words;
 use httparse::spans::EMPTY_HEADER_SPAN;
 use std::alloc::{AllocError, Global};
 

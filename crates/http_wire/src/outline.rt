@@ -1,13 +1,13 @@
 //! What a message takes of its head, or the status that refuses the head.
 ghost use Rattle.std.specs.Prelude.{◌≡◌, ◌≤◌, ◌==◌, ◌||◌, length, map, All, IfOk};
-ghost use Rattle.httparse.specs.Spans.{IsHeaderWithin, header_bytes, IsRequestOf, IsRequestWithin};
 ghost use Rattle.http_wire.specs.Messages.{front};
 ghost use Rattle.http_wire.specs.Outlines.{Judges, Outlines};
+ghost use Rattle.httparse.specs.Spans.{IsHeaderWithin, header_bytes, IsRequestOf, IsRequestWithin};
 
 use crate::fields::{body_length_of, has_close, has_field, method_named};
 use crate::look::front_of;
 use crate::message::Method;
-use exact_ratio::words::Words;
+use exact_ratio::Words;
 use httparse::spans::{HeaderSpan, RequestSpans};
 use std::alloc::{AllocError, Global};
 

@@ -1,8 +1,8 @@
 //! The reader of the messages of a stream.
 ghost use Rattle.std.specs.Prelude.{◌≡◌, [], None, IfOk, IfSome};
 ghost use Rattle.http_wire.specs.Answers.{Answers, IsMessage, IsPartOfTake, Leaves, again_of, ended_of};
-ghost use Rattle.http_wire.specs.ReadCause.{HasReadCause};
 ghost use Rattle.http_wire.specs.Messages.{HoldsMessage};
+ghost use Rattle.http_wire.specs.ReadCause.{HasReadCause};
 ghost use Rattle.http_wire.specs.Reader.{stream};
 
 use crate::filling::TAKE_SIZE;

@@ -1,7 +1,7 @@
 //! Bytes sent whole, or how many of them went out before a write failed.
-ghost use Rattle.std.specs.Prelude.{◌≡◌, ◌<◌, ◌++◌, take, length, IfErr, OnOk};
 ghost use Rattle.std.specs.Io.KnownBytes.{Appends};
-ghost use Rattle.causes.specs.Causes.{HasCause};
+ghost use Rattle.std.specs.Prelude.{◌≡◌, ◌<◌, ◌++◌, take, length, IfErr, OnOk};
+ghost use Rattle.base.specs.Causes.{HasCause};
 
 use crate::streams::ByteSink;
 

@@ -27,7 +27,7 @@ impl ByteSource for StdinSource {
 
     fn take(&mut self, into: &mut [u8]) -> Result<usize, Failed> {
         let Ok(count) = self.stdin.read(into) else {
-            self.faults = causes::one_more(self.faults);
+            self.faults = base::one_more(self.faults);
             return Err(Failed);
         };
         Ok(count)
@@ -59,7 +59,7 @@ impl ByteSink for StdoutSink {
         match self.stdout.write(bytes) {
             Ok(count) if count > 0 => Ok(count),
             _ => {
-                self.faults = causes::one_more(self.faults);
+                self.faults = base::one_more(self.faults);
                 Err(Failed)
             }
         }

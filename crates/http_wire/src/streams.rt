@@ -1,8 +1,8 @@
 //! The traits of what bytes come from and of what they go to.
+ghost use Rattle.std.specs.Io.KnownBytes.{ReadConsumes, WriteAppends};
 ghost use Rattle.std.specs.Prelude.{◌≡◌, ℕ, ◌<◌, ◌≤◌, List, length, IfOk};
 ghost use Rattle.std.specs.declared.option.Option.{Option};
-ghost use Rattle.std.specs.Io.KnownBytes.{ReadConsumes, WriteAppends};
-ghost use Rattle.causes.specs.Causes.{HasCause};
+ghost use Rattle.base.specs.Causes.{HasCause};
 ghost use Rattle.http_wire.specs.Side.{Side, no_side};
 
 /// A read or a write that failed.

@@ -1,2 +1,12 @@
 pub mod Watches
 pub mod Over
+pub mod Accounts
+pub mod Counting
+pub mod Sound
+pub mod Words
+pub mod Rules
+pub mod Moves
+pub mod Cuts
+pub mod Held
+pub mod Telling
+pub mod Gathered

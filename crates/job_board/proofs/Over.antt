@@ -4,9 +4,9 @@ use Rattle.std.specs.Prelude.{slice_get}
 use Rattle.std.proofs.lemmas.Option.{same_Some, slice_get_within}
 use mathlib.Core.Logic.{dite}
 use native.Mathlib.Decide.{ℕ_discrete}
-use Rattle.job_sheet.specs.declared.progress.Progress.{Progress}
-use Rattle.job_sheet.specs.Calls.{HasEnded, StaysEnded}
-use Rattle.job_sheet.specs.Hands.{Holding, Sheet}
+use Rattle.job_board.specs.declared.progress.Progress.{Progress}
+use Rattle.job_board.specs.SheetCalls.{HasEnded, StaysEnded}
+use Rattle.job_board.specs.Hands.{Holding, Sheet}
 use Rattle.job_board.specs.declared.posted.Posted.{Posted}
 use Rattle.job_board.specs.declared.posted.WatchedJob.{WatchedJob}
 use Rattle.job_board.specs.declared.shown.Command.{Command}

@@ -5,11 +5,11 @@ use Rattle.std.proofs.lemmas.Bool.Decides.{nat_tests}
 use Rattle.std.proofs.lemmas.List.{map-append, map-set}
 use Rattle.std.proofs.lemmas.List.Elements.{All-push}
 use Rattle.std.proofs.lemmas.Option.{slice_get-map}
-use Rattle.job_sheet.specs.declared.progress.Progress.{Progress}
-use Rattle.job_sheet.specs.Calls.{AddsUp, Cancels, HasEnded, IsFinal, IsSettled, StaysEnded, Tells}
-use Rattle.job_sheet.specs.Standings.{Later}
-use Rattle.job_sheet.specs.Hands.{Holding, Sheet}
-use Rattle.job_sheet.proofs.Accounts.{same_standing}
+use Rattle.job_board.specs.declared.progress.Progress.{Progress}
+use Rattle.job_board.specs.SheetCalls.{AddsUp, Cancels, HasEnded, IsFinal, IsSettled, StaysEnded, Tells}
+use Rattle.job_board.specs.Standings.{Later}
+use Rattle.job_board.specs.Hands.{Holding, Sheet}
+use Rattle.job_board.proofs.Accounts.{same_standing}
 use Rattle.job_board.specs.declared.posted.Posted.{Posted}
 use Rattle.job_board.specs.declared.posted.WatchedJob.{WatchedJob}
 use Rattle.job_board.specs.declared.shown.Shown.{Shown}

@@ -1,10 +1,10 @@
 -- The commands of a board, a row for each reply: where it comes, and the board after it.
 use Rattle.std.specs.Prelude.{ℕ, ◌≡◌, ◌≤◌, ◌<◌, ◌+◌, ◌-◌, ◌==◌, ◌⊎◌, Bool, true, false, if◌then◌else◌, [], ◌∷◌, ◌++◌, length, Option, Some, None, slice_get, slice_set, ⊤}
-use Rattle.job_sheet.specs.declared.progress.Progress.{Progress}
-use Rattle.job_sheet.specs.Calls.{AddsUp, Cancels, HasEnded, IsSettled, StaysEnded, Tells}
-use Rattle.job_sheet.specs.Hands.{Holding, fresh_holding}
-use Rattle.job_sheet.specs.Standings.{Later}
-use Rattle.jobs.specs.declared.job.Job.{Job}
+use Rattle.job_board.specs.declared.progress.Progress.{Progress}
+use Rattle.job_board.specs.SheetCalls.{AddsUp, Cancels, HasEnded, IsSettled, StaysEnded, Tells}
+use Rattle.job_board.specs.Hands.{Holding, fresh_holding}
+use Rattle.job_board.specs.Standings.{Later}
+use Rattle.job_forms.specs.declared.job.Job.{Job}
 use Rattle.truncation_list.specs.declared.book.FrontedBook.{FrontedBook}
 use Rattle.job_board.specs.declared.posted.Posted.{Posted}
 use Rattle.job_board.specs.declared.posted.WatchedJob.{WatchedJob}

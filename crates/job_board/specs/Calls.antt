@@ -1,7 +1,7 @@
 -- What the calls of a board do to a pass: one turn each.
 use Rattle.std.specs.Prelude.{ℕ, ◌≡◌, [], ◌∷◌, Some, None, Result, Ok, Err}
 use Rattle.atomic_table.specs.Seated.{TableId}
-use Rattle.jobs.specs.declared.job.Job.{Job}
+use Rattle.job_forms.specs.declared.job.Job.{Job}
 use Rattle.truncation_list.specs.declared.book.FrontedBook.{FrontedBook}
 use Rattle.truncation_list.specs.Books.{AnswersForFronted}
 use Rattle.turnstile.specs.declared.view.Made.{Made}

@@ -1,2 +1,9 @@
 pub mod Boards
 pub mod Calls
+pub mod Standings
+pub mod Hands
+pub mod SheetCalls
+pub mod Views
+pub mod Rule
+pub mod Steps
+pub mod Seats

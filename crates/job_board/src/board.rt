@@ -1,17 +1,14 @@
 //! The board, behind its turnstile.
 ghost use Rattle.std.specs.Prelude.{All, IfOk, false, length, ◌<◌, ◌≡◌, ◌≤◌};
-ghost use Rattle.turnstile.specs.Passes.{fresh_pass};
 ghost use Rattle.job_board.specs.Calls.{IsFirstBoardPass};
+ghost use Rattle.turnstile.specs.Passes.{fresh_pass};
 
 use crate::posts::Posts;
-use bell::Bell;
-use exact_ratio::items::Items;
+use base::Bell;
+use exact_ratio::Items;
 use std::alloc::{AllocError, Global};
 use std::sync::Wait;
-use turnstile::chest::Chest;
-use turnstile::entry::Entry;
-use turnstile::pass::Pass;
-use turnstile::turnstile::Turnstile;
+use turnstile::{Chest, Entry, Pass, Turnstile};
 
 /// A place at a board: who has it may submit jobs, run them, look at them and stop them.
 pub type BoardPass = Pass<Posts>;

@@ -1,19 +1,19 @@
 //! The calls of a board, one turn each.
 ghost use Rattle.std.specs.Prelude.{◌≡◌};
 ghost use Rattle.job_board.specs.Boards.{MaySubmit};
-ghost use Rattle.job_sheet.specs.Calls.{IsSettled};
 ghost use Rattle.job_board.specs.Calls.{IsBoardPass, MakesOne, SubmitsJob};
+ghost use Rattle.job_board.specs.SheetCalls.{IsSettled};
 
 use crate::board::Board;
 use crate::fault::BoardFault;
 use crate::posted::{Posted, WatchedJob};
 use crate::posts::Posts;
+use crate::progress::Progress;
 use crate::shown::{Command, Reply};
-use job_sheet::progress::Progress;
-use jobs::job::Job;
+use job_forms::Job;
 use std::alloc::Global;
 use std::sync::Wait;
-use turnstile::pass::Pass;
+use turnstile::Pass;
 
 impl Board {
     /// Submits a job of so many places, and answers its number, from 1. `Full` exactly where the turn found 64 jobs waiting or 1,024

@@ -1,10 +1,10 @@
 //! A job that is to be run.
 ghost use Rattle.std.specs.Prelude.{◌≡◌, None};
-ghost use Rattle.job_sheet.specs.Hands.{AreFresh};
+ghost use Rattle.job_board.specs.Hands.{AreFresh};
 
-use job_sheet::hand::Hand;
-use job_sheet::sheet::JobSheet;
-use jobs::job::Job;
+use crate::hand::Hand;
+use crate::sheet::JobSheet;
+use job_forms::Job;
 use std::sync::Arc;
 
 /// A job with what it takes to run it: its number, its sheet, which the board shares, and all hands of the sheet, none of which has

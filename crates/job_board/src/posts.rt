@@ -3,7 +3,7 @@ use crate::posted::{Posted, WatchedJob};
 use crate::shown::{Command, Note, Reply, Shown};
 use std::alloc::{AllocError, Global};
 use std::marker::Model;
-use turnstile::chest::Chest;
+use turnstile::Chest;
 
 /// The jobs of a server. Contracts see which wait, and the watches of all.
 #[derive(Drop)]

@@ -1,14 +1,13 @@
 //! The commands of the board, one by one.
 ghost use Rattle.std.specs.Prelude.{◌≡◌, IfOk, OnErr};
 ghost use Rattle.job_board.specs.Boards.{Finishes, IsSubmission, Looks, MaySubmit, Stops, Submits, TakesNext, TakesOver, empty};
-ghost use Rattle.job_sheet.specs.Calls.{Cancels, IsSettled, StaysEnded};
+ghost use Rattle.job_board.specs.SheetCalls.{Cancels, IsSettled, StaysEnded};
 
 use crate::posted::{Posted, WatchedJob};
 use crate::posts::Posts;
-use job_sheet::desk::Desk;
-use job_sheet::progress::Progress;
-use job_sheet::sheet::JobSheet;
-use jobs::job::Job;
+use crate::progress::Progress;
+use crate::sheet::{Desk, JobSheet};
+use job_forms::Job;
 use std::alloc::{AllocError, Global};
 use std::sync::Arc;
 

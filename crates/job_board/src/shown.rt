@@ -1,8 +1,8 @@
 //! What a turn at the board does and is answered, and what the board shows between two turns.
+use crate::hand::Hand;
 use crate::posted::{Posted, WatchedJob};
-use job_sheet::hand::Hand;
-use job_sheet::progress::Progress;
-use jobs::job::Job;
+use crate::progress::Progress;
+use job_forms::Job;
 use std::collections::LinkedList;
 
 /// What a turn does.

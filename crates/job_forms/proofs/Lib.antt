@@ -1,2 +1,13 @@
 pub mod Ascii
 pub mod Texts
+mod Choices
+mod CoveredMetas
+mod Members
+mod MetaRanges
+mod InOrder
+mod Pieces
+mod PlaceLists
+mod Products
+mod Values
+mod WantedCounts
+mod ZoomSteps

@@ -3,3 +3,10 @@ pub mod Cover
 pub mod Members
 pub mod Outcome
 pub mod Values
+pub mod Covered
+pub mod Job
+pub mod Order
+pub mod Places
+pub mod Reading
+pub mod Steps
+pub mod Themes

@@ -1,15 +1,13 @@
 //! The box of a cover, in billionths of a unit.
 ghost use Rattle.std.specs.Prelude.{◌≡◌, ◌≤◌, ◌^◌, codes, map, option_map, unsigned_abs, IfOk, IfSome};
+ghost use Rattle.job_forms.specs.Bounds.{bound, box_of, box_if_any, four, in_order, limited};
+ghost use Rattle.matrix_geometry.specs.Limits.{IsReachable};
 ghost use Rattle.serde_json.specs.Find.{get};
 ghost use Rattle.serde_json.specs.View.{view};
-ghost use Rattle.matrix_geometry.specs.Limits.{IsReachable};
-ghost use Rattle.job_forms.specs.Bounds.{bound, box_of, box_if_any, four, in_order, limited};
 
 use crate::fault::{JobFault, JobField};
-use json_forms::decimal::{DecimalText, decimal_text};
-use json_forms::list::values_of;
-use matrix_geometry::boxes::Box9;
-use matrix_geometry::making::coordinate;
+use json_forms::{DecimalText, decimal_text, values_of};
+use matrix_geometry::{Box9, coordinate};
 use serde_json::Value;
 
 /// The four edges of a box in a list of values.

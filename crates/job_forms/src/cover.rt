@@ -1,11 +1,11 @@
 //! The reading of a whole cover.
 ghost use Rattle.std.specs.Prelude.{◌≡◌, ◌<◌, ◌≤◌, ℕ, Some, IfOk, IfSome, IsSome, IsSomeAnd, length, slice_get};
-ghost use Rattle.serde_json.specs.View.{view};
 ghost use Rattle.catalog.specs.LookUp.{dimension_at, matrix_in};
 ghost use Rattle.catalog.specs.Valid.{IsValid};
 ghost use Rattle.job_forms.specs.Cover.{cover_in, cover_of, filter_in, zooms_in};
-ghost use Rattle.served_covers.specs.OfCatalogue.{IsCoverOf};
 ghost use Rattle.job_forms.specs.Outcome.{Gives};
+ghost use Rattle.serde_json.specs.View.{view};
+ghost use Rattle.served_covers.specs.OfCatalogue.{IsCoverOf};
 
 use crate::bounds::box_if_any;
 use crate::fault::{JobFault, JobField};
@@ -13,12 +13,12 @@ use crate::member::{
     format_if_any, matrices_of, required_grid, required_layer, required_zoom, style_if_any,
 };
 use crate::values::values_or_any;
-use catalog::catalogue::Catalogue;
-use json_forms::object::object_in;
-use matrix_geometry::theme::Filter;
+use catalog::Catalogue;
+use json_forms::object_in;
+use matrix_geometry::Filter;
 use serde_json::Value;
 use std::alloc::Global;
-use truncation_list::cover::Cover;
+use truncation_list::Cover;
 
 // What a member gives, or else its fault: `?` less its conversion of the error, which each member's proof would pay for.
 macro_rules! member {

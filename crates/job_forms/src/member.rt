@@ -1,13 +1,13 @@
 //! The members of a cover that are a single name or number: layer, grid, matrices, format and style.
 ghost use Rattle.std.specs.Prelude.{◌≡◌, ◌<◌, ◌≤◌, codes, Contains, IfOk, IfSome, IsSomeAnd, length, slice_get};
-ghost use Rattle.serde_json.specs.Find.{get};
-ghost use Rattle.serde_json.specs.View.{view};
 ghost use Rattle.catalog.specs.Valid.{IsValid};
 ghost use Rattle.job_forms.specs.Members as forms;
 ghost use Rattle.job_forms.specs.Members.{required, if_any, matrices_of};
+ghost use Rattle.serde_json.specs.Find.{get};
+ghost use Rattle.serde_json.specs.View.{view};
 
 use crate::fault::{JobFault, JobField};
-use catalog::catalogue::Catalogue;
+use catalog::Catalogue;
 use serde_json::Value;
 
 fn layer(catalogue: &Catalogue, value: &Value) -> Option<u32>

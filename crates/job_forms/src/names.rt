@@ -1,11 +1,10 @@
 //! The names of dimensions among the members of an object.
 ghost use Rattle.std.specs.Prelude.{◌≡◌};
-ghost use Rattle.serde_json.specs.View.{members_view};
 ghost use Rattle.catalog.specs.Valid.{IsDimension};
 ghost use Rattle.job_forms.specs.Values.{are_known, names_in};
+ghost use Rattle.serde_json.specs.View.{members_view};
 
-use catalog::layer::Dimension;
-use catalog::named::is_taken;
+use catalog::{Dimension, is_taken};
 use serde_json::{Map, Value};
 use std::str::from_utf8;
 

@@ -1,18 +1,16 @@
 //! The values of dimensions that a cover is for.
 ghost use Rattle.std.specs.Prelude.{◌≡◌, ◌<◌, ◌≤◌, ℕ, Some, codes, option_copied, option_map, IfOk, IfSome, IsSomeAnd, length, slice_get};
-ghost use Rattle.serde_json.specs.Find.{get};
-ghost use Rattle.serde_json.specs.View.{members_view, view};
 ghost use Rattle.catalog.specs.LookUp.{dimension_at};
 ghost use Rattle.catalog.specs.Names.{place_named};
 ghost use Rattle.catalog.specs.Valid.{IsDimension, IsValid};
 ghost use Rattle.job_forms.specs.Values as spec;
 ghost use Rattle.job_forms.specs.Values.{known, wanted, values, values_or_any};
+ghost use Rattle.serde_json.specs.Find.{get};
+ghost use Rattle.serde_json.specs.View.{members_view, view};
 
 use crate::fault::{JobFault, JobField};
 use crate::names::{are_known, name_of};
-use catalog::catalogue::Catalogue;
-use catalog::layer::Dimension;
-use catalog::named::place_named;
+use catalog::{Catalogue, Dimension, place_named};
 use serde_json::{Map, Value};
 
 fn known<'v>(dims: &[Dimension], value: &'v Value) -> Option<&'v Map<String, Value>>

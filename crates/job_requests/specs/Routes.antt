@@ -9,9 +9,9 @@ use Rattle.http_wire.specs.declared.message.Message.{Message}
 use Rattle.http_wire.specs.declared.message.Method.{Method}
 use Rattle.http_wire.specs.declared.message.Method.TheVariants.{Get, Post, Delete, Other}
 use Rattle.job_forms.specs.declared.fault.JobFault.{JobFault}
-use Rattle.jobs.specs.declared.job.Job.{Job}
-use Rattle.jobs.specs.Job.{Fits}
-use Rattle.jobs.specs.Reading.{job_of}
+use Rattle.job_forms.specs.declared.job.Job.{Job}
+use Rattle.job_forms.specs.Job.{Fits}
+use Rattle.job_forms.specs.Reading.{job_of}
 use Rattle.tile_requests.specs.Routes.{path_of}
 use Rattle.wmts_kvp.specs.Rows.{is_number}
 use Rattle.job_requests.specs.declared.request.JobRequest.{JobRequest}

@@ -4,9 +4,9 @@ use Rattle.catalog.specs.declared.catalogue.Catalogue.{Catalogue}
 use Rattle.job_board.specs.declared.shown.Command.TheVariants as command
 use Rattle.job_board.specs.declared.shown.Reply.TheVariants as reply
 use Rattle.job_board.specs.Calls.{BoardHolding, MakesNone, MakesOne}
-use Rattle.job_sheet.specs.declared.progress.Progress.{Progress}
-use Rattle.jobs.specs.declared.job.Job.{Job}
-use Rattle.jobs.specs.Places.{places}
+use Rattle.job_board.specs.declared.progress.Progress.{Progress}
+use Rattle.job_forms.specs.declared.job.Job.{Job}
+use Rattle.job_forms.specs.Places.{places}
 use Rattle.tile_requests.specs.declared.outcome.Outcome.{Outcome}
 use Rattle.tile_requests.specs.declared.outcome.Outcome.TheVariants as outcome
 use Rattle.tile_requests.specs.declared.outcome.Plain.TheVariants as plain

@@ -1,6 +1,6 @@
 -- The texts that are told of a job, as JSON (RFC 8259).
 use Rattle.std.specs.Prelude.{ℕ, Bool, true, false, List, ◌++◌, codes, decimal}
-use Rattle.job_sheet.specs.declared.progress.Progress.{Progress}
+use Rattle.job_board.specs.declared.progress.Progress.{Progress}
 
 abbrev pub bool_text : Bool → List ℕ
 bool_text true = codes "true"

@@ -1,6 +1,5 @@
 //! What is asked for under the path of jobs.
-use job_forms::fault::JobFault;
-use jobs::job::Job;
+use job_forms::{Job, JobFault};
 
 /// What a message under `/jobs` asks for.
 #[derive(Clone, Copy, PartialEq, Eq)]

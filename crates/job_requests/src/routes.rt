@@ -1,19 +1,17 @@
 //! Where a message leads under the path of jobs.
 ghost use Rattle.std.specs.Prelude.{◌≡◌, IfOk, IfSome};
 ghost use Rattle.catalog.specs.Valid.{IsValid};
-ghost use Rattle.jobs.specs.Reading.{job_of};
+ghost use Rattle.job_forms.specs.Reading.{job_of};
 ghost use Rattle.job_requests.specs.Routes.{IsOf, asked_of, job_at, number_in, request_for, submission_of};
 ghost use Rattle.tile_requests.specs.Shown.{shown_message};
 
 use crate::request::JobRequest;
-use catalog::catalogue::Catalogue;
-use http_wire::message::Method;
-use job_forms::fault::JobFault;
-use jobs::reading::read_job;
+use catalog::Catalogue;
+use http_wire::Method;
+use job_forms::{JobFault, read_job};
 use std::alloc::{AllocError, Global};
-use tile_requests::message_ref::MessageRef;
-use tile_requests::routes::path_of;
-use wmts_kvp::number::{is_number, short_number};
+use tile_requests::{MessageRef, path_of};
+use wmts_kvp::{is_number, short_number};
 
 /// The number that a text of 1 to 18 digits spells; none where it is no such text.
 #[tactic(auto, using(wmts_kvp::proofs::Numbers::digits_of_number))]

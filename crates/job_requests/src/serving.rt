@@ -3,22 +3,19 @@ ghost use Rattle.std.specs.Prelude.{◌≡◌, ◌≤◌};
 ghost use Rattle.catalog.specs.Valid.{IsValid};
 ghost use Rattle.job_board.specs.Boards.{MaySubmit};
 ghost use Rattle.job_board.specs.Calls.{IsBoardPass};
-ghost use Rattle.jobs.specs.Job.{Fits};
+ghost use Rattle.job_forms.specs.Job.{Fits};
 ghost use Rattle.job_requests.specs.Routes.{IsOf};
 ghost use Rattle.job_requests.specs.Served.{IsLookServed, IsStopServed, IsSubmissionServed, ServesJob};
 
 use crate::request::JobRequest;
 use crate::texts::{progress_text, submitted_text};
-use catalog::catalogue::Catalogue;
-use job_board::board::Board;
-use job_board::fault::BoardFault;
-use job_board::posts::Posts;
-use jobs::job::Job;
-use jobs::places::count;
+use catalog::Catalogue;
+use job_board::{Board, BoardFault, Posts};
+use job_forms::{Job, count};
 use std::alloc::Global;
 use std::sync::Wait;
-use tile_requests::outcome::{Outcome, Plain};
-use turnstile::pass::Pass;
+use tile_requests::{Outcome, Plain};
+use turnstile::Pass;
 
 /// A job is submitted, with as many places as it has.
 fn submission<R: Wait>(

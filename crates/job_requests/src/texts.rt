@@ -2,17 +2,17 @@
 ghost use Rattle.std.specs.Prelude.{◌≡◌, ◌++◌, IfOk, OnOk};
 ghost use Rattle.job_requests.specs.Texts.{bool_text, member, progress_text, submitted_text};
 
-use exact_ratio::words::Words;
-use job_sheet::progress::Progress;
+use exact_ratio::Words;
+use job_board::Progress;
 use std::alloc::{AllocError, Global};
-use tile_requests::numbers::add_number;
+use tile_requests::push_number;
 
 /// The number of a job that was submitted. `AllocError` where memory runs out.
 pub fn submitted_text(alloc: Global, number: u64) -> Result<Words, AllocError>
     ensures { IfOk result (λ text. text ≡ submitted_text number) }
 {
     let mut text = Vec::from_slice(alloc, b"{\"job\":")?;
-    add_number(&mut text, number)?;
+    push_number(&mut text, number)?;
     text.extend_from_slice(b"}\n")?;
     Ok(Words::of(text))
 }
@@ -29,7 +29,7 @@ fn add_member(text: &mut Vec<u8>, label: &[u8], number: u64) -> Result<(), Alloc
     ensures { OnOk result (text.new.items ≡ text.old.items ++ member label.now number) }
 {
     text.extend_from_slice(label)?;
-    add_number(text, number)
+    push_number(text, number)
 }
 
 /// How far a job is: how many places it has, how many of them are claimed, done and failed, and whether it was ended early. `AllocError`

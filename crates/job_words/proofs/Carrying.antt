@@ -6,7 +6,7 @@ use Rattle.cache_core.specs.declared.actor.Step.{Step}
 use Rattle.cache_core.specs.declared.outcome.TileOutcome.{TileOutcome}
 use Rattle.cache_core.specs.Shown.{shown}
 use Rattle.cache_core.specs.Steps.{Stepped, advanced, began, disk_faults, ends}
-use Rattle.causes.specs.Causes.{RoseBy}
+use Rattle.base.specs.Causes.{RoseBy}
 use Rattle.job_words.specs.Visit.{Chances}
 use Rattle.matrix_geometry.specs.declared.address.Address.{Address}
 use Rattle.tile_requests.specs.Events.{GoesFurther, Moves, RunsTo, ended_so}

@@ -9,8 +9,8 @@ use Rattle.cabinet.specs.State.{State, IsSound}
 use Rattle.cache_core.specs.declared.outcome.TileOutcome as cached
 use Rattle.cache_core.specs.declared.outcome.TileOutcome.TheVariants as outcome
 use Rattle.cache_core.specs.Steps.{Stepped, ends}
-use Rattle.causes.specs.Causes.{RoseBy}
-use Rattle.jobs.specs.Places.{Metatile, Cut}
+use Rattle.base.specs.Causes.{RoseBy}
+use Rattle.job_forms.specs.Places.{Metatile, Cut}
 use Rattle.job_words.specs.Coming.{ComesTo}
 use Rattle.job_words.specs.Run.{failed_by, is_disk, is_source}
 use Rattle.job_words.specs.Visit.{CutsOnce, end_of_cut, end_of_tile}

@@ -2,20 +2,20 @@
 use Rattle.std.proofs.Common.{ℕ, ◌≡◌, ◌≤◌, List, Option, subst}
 use Rattle.cabinet.specs.State.{State}
 use Rattle.catalog.specs.declared.catalogue.Catalogue.{Catalogue}
-use Rattle.clock.specs.Readings.{Readings}
-use Rattle.jobs.specs.declared.job.Job.{Job}
+use Rattle.base.specs.Readings.{Readings}
+use Rattle.job_forms.specs.declared.job.Job.{Job}
 use Rattle.job_words.specs.declared.tally.Tally.{Tally}
 use Rattle.job_words.specs.Ends.{IsDoneSo, RunsAndSaves, job_text, output_of}
 use Rattle.job_words.specs.Run.{IsRun, tally_of}
 use Rattle.job_words.specs.Visit.{Visit}
 use Rattle.command_status.specs.declared.status.Status.{Status}
 use Rattle.command_status.specs.declared.status.Status.TheVariants as status
-use Rattle.kept_cache.specs.Change.{DiskChange}
-use Rattle.kept_cache.specs.Opened.{HasOpened}
-use Rattle.kept_cache.specs.Saving.{SavesAll}
-use Rattle.kept_cache.specs.Texts.{Sends}
-use Rattle.kept_cache.proofs.Picturing.{saves_sound}
-use Rattle.kept_cache.proofs.Within.{rose_within, saved_so}
+use Rattle.opened_cache.specs.Change.{DiskChange}
+use Rattle.opened_cache.specs.Opened.{HasOpened}
+use Rattle.opened_cache.specs.Saving.{SavesAll}
+use Rattle.opened_cache.specs.Texts.{Sends}
+use Rattle.opened_cache.proofs.Picturing.{saves_sound}
+use Rattle.opened_cache.proofs.Within.{rose_within, saved_so}
 use Rattle.sessions.specs.Outside.{FaultCounts, Outside, counts}
 
 -- a run and the saving after it, with the faults of the disk counted over the whole word

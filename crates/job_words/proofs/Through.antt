@@ -7,10 +7,10 @@ use Rattle.std.proofs.lemmas.List.Sums.{sum_by-append, sum_by-cons}
 use Rattle.std.proofs.lemmas.Option.{get_or_from_slice_get, slice_get_within}
 use Rattle.cabinet.specs.State.{State, IsSound}
 use Rattle.catalog.specs.declared.catalogue.Catalogue.{Catalogue}
-use Rattle.causes.specs.Causes.{RoseBy}
-use Rattle.jobs.specs.declared.job.Job.{Job}
-use Rattle.jobs.specs.declared.job.JobKind.TheVariants.{Truncate}
-use Rattle.jobs.specs.Places.{Place, Cut, places, places_of}
+use Rattle.base.specs.Causes.{RoseBy}
+use Rattle.job_forms.specs.declared.job.Job.{Job}
+use Rattle.job_forms.specs.declared.job.JobKind.TheVariants.{Truncate}
+use Rattle.job_forms.specs.Places.{Place, Cut, places, places_of}
 use Rattle.job_words.specs.Coming.{ComesTo}
 use Rattle.job_words.specs.declared.place.PlaceEnd.{PlaceEnd}
 use Rattle.job_words.specs.declared.place.PlaceEnd.TheVariants.{Done, Failed}

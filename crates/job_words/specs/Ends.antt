@@ -2,22 +2,22 @@
 use Rattle.std.specs.Prelude.{ℕ, ◌≡◌, ◌⊎◌, List, ◌++◌, Option, Some, codes, decimal}
 use Rattle.cabinet.specs.State.{IsSound, State}
 use Rattle.catalog.specs.declared.catalogue.Catalogue.{Catalogue}
-use Rattle.causes.specs.Causes.{Rose}
-use Rattle.clock.specs.Readings.{Readings}
-use Rattle.jobs.specs.declared.job.Job.{Job}
-use Rattle.jobs.specs.declared.job.JobKind.{JobKind}
-use Rattle.jobs.specs.declared.job.JobKind.TheVariants.{Seed, Reseed, Truncate}
+use Rattle.base.specs.Causes.{Rose}
+use Rattle.base.specs.Readings.{Readings}
+use Rattle.job_forms.specs.declared.job.Job.{Job}
+use Rattle.job_forms.specs.declared.job.JobKind.{JobKind}
+use Rattle.job_forms.specs.declared.job.JobKind.TheVariants.{Seed, Reseed, Truncate}
 use Rattle.job_words.specs.declared.tally.Tally.{Tally}
 use Rattle.job_words.specs.Input.{IsFormedSo, IsJobIn, IsTooLong}
 use Rattle.job_words.specs.Run.{IsRun, tally_of}
 use Rattle.job_words.specs.Visit.{Visit}
 use Rattle.command_status.specs.declared.status.Status.{Status}
 use Rattle.command_status.specs.declared.status.Status.TheVariants as status
-use Rattle.kept_cache.specs.Change.{DiskChange, HasFailed, HasWritten, IsCutShort}
+use Rattle.opened_cache.specs.Change.{DiskChange, HasFailed, HasWritten, IsCutShort}
 use Rattle.sessions.specs.Outside.{FaultCounts, InputChange, OutputChange, Outside}
-use Rattle.kept_cache.specs.Crash.{OpeningLeaves}
-use Rattle.kept_cache.specs.Opened.{HasOpened, IsRefused, RefusalLeaves}
-use Rattle.kept_cache.specs.Saving.{SavesAll}
+use Rattle.opened_cache.specs.Crash.{OpeningLeaves}
+use Rattle.opened_cache.specs.Opened.{HasOpened, IsRefused, RefusalLeaves}
+use Rattle.opened_cache.specs.Saving.{SavesAll}
 
 -- THE TEXT of a tally
 

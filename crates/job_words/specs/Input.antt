@@ -3,9 +3,9 @@ use Rattle.std.specs.Prelude.{◌≡◌, Result, Ok}
 use Rattle.catalog.specs.declared.catalogue.Catalogue.{Catalogue}
 use Rattle.command_status.specs.declared.status.Status.{Status}
 use Rattle.job_forms.specs.declared.fault.JobFault.{JobFault}
-use Rattle.jobs.specs.declared.job.Job.{Job}
-use Rattle.jobs.specs.Reading.{job_of}
-use Rattle.kept_cache.specs.Inputs.{HasFault, HasMore, IsRead, Reads}
+use Rattle.job_forms.specs.declared.job.Job.{Job}
+use Rattle.job_forms.specs.Reading.{job_of}
+use Rattle.opened_cache.specs.Inputs.{HasFault, HasMore, IsRead, Reads}
 use Rattle.sessions.specs.Outside.{InputChange}
 
 -- it is the job of its text, of at most 65,536 bytes

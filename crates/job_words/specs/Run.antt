@@ -2,11 +2,11 @@
 use Rattle.std.specs.Prelude.{ℕ, ◌≡◌, ◌+◌, Bool, true, false, not, List, [], ◌∷◌, length, map, Option, Some, count_by, sum_by}
 use Rattle.cabinet.specs.State.{State, IsSound}
 use Rattle.cache_core.specs.Steps.{one_where}
-use Rattle.causes.specs.Causes.{RoseBy}
-use Rattle.jobs.specs.declared.job.Job.{Job}
-use Rattle.jobs.specs.declared.job.JobKind.{JobKind}
-use Rattle.jobs.specs.declared.job.JobKind.TheVariants.{Seed, Reseed, Truncate}
-use Rattle.jobs.specs.Places.{places}
+use Rattle.base.specs.Causes.{RoseBy}
+use Rattle.job_forms.specs.declared.job.Job.{Job}
+use Rattle.job_forms.specs.declared.job.JobKind.{JobKind}
+use Rattle.job_forms.specs.declared.job.JobKind.TheVariants.{Seed, Reseed, Truncate}
+use Rattle.job_forms.specs.Places.{places}
 use Rattle.job_words.specs.declared.place.PlaceEnd.{PlaceEnd}
 use Rattle.job_words.specs.declared.place.PlaceEnd.TheVariants.{Done, Failed}
 use Rattle.job_words.specs.declared.place.PlaceFault.{PlaceFault}

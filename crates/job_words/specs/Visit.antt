@@ -8,7 +8,7 @@ use Rattle.cabinet.specs.State.{State}
 use Rattle.cache_core.specs.declared.outcome.TileOutcome.{TileOutcome}
 use Rattle.cache_core.specs.declared.outcome.TileOutcome.TheVariants as outcome
 use Rattle.cache_core.specs.Steps.{Stepped, began, ends}
-use Rattle.jobs.specs.Places.{Place, Metatile, Cut}
+use Rattle.job_forms.specs.Places.{Place, Metatile, Cut}
 use Rattle.job_words.specs.declared.place.PlaceEnd.{PlaceEnd}
 use Rattle.job_words.specs.declared.place.PlaceEnd.TheVariants.{Done, Failed}
 use Rattle.job_words.specs.declared.place.PlaceFault.TheVariants as fault

@@ -1,20 +1,18 @@
 //! The one cut of a truncation that is run as a job.
 ghost use Rattle.std.specs.Prelude.{ℕ, ◌≡◌, Bool, Option};
 ghost use Rattle.cache_core.specs.Lasting.{Lasting};
+ghost use Rattle.job_forms.specs.Places.{Cut};
 ghost use Rattle.job_words.specs.Coming.{ComesTo};
 ghost use Rattle.job_words.specs.Visit.{end_of_cut};
-ghost use Rattle.jobs.specs.Places.{Cut};
 ghost use Rattle.served_covers.specs.OfCatalogue.{IsCoverOf};
 ghost use Rattle.sessions.specs.Outside.{counts};
 ghost use Rattle.tile_service.specs.Session.{IsAtRest};
 
 use crate::place::{PlaceEnd, PlaceFault};
-use cabinet::keeper::Keeper;
-use cabinet::laws::laws_of_rows;
-use cabinet::replies::CutReply;
-use cache_core::laws::laws_of_lasting;
+use cabinet::{CutReply, Keeper, laws_of_rows};
+use cache_core::laws_of_lasting;
 use std::alloc::{AllocError, Global};
-use truncation_list::cover::Cover;
+use truncation_list::Cover;
 
 /// How the reply of the one cut ends its place.
 fn end_of_cut(reply: Result<CutReply, AllocError>) -> PlaceEnd

@@ -1,17 +1,15 @@
 //! The job of an input, read to its end.
 ghost use Rattle.std.specs.Prelude.{◌≡◌, IfOk};
 ghost use Rattle.catalog.specs.Valid.{IsValid};
+ghost use Rattle.job_forms.specs.Job.{Fits};
 ghost use Rattle.job_words.specs.Input.{ReadsJob};
-ghost use Rattle.jobs.specs.Job.{Fits};
 ghost use Rattle.sessions.specs.Outside.{InputChange};
 
-use catalog::catalogue::Catalogue;
-use command_status::status::Status;
-use command_status::statuses::status_of_form;
-use http_wire::streams::ByteSource;
-use jobs::job::Job;
-use jobs::reading::read_job;
-use kept_cache::input::text_in;
+use catalog::Catalogue;
+use command_status::{Status, status_of_form};
+use http_wire::ByteSource;
+use job_forms::{Job, read_job};
+use opened_cache::text_in;
 use std::alloc::Global;
 
 /// The most bytes of a job.

@@ -1,25 +1,23 @@
 //! A metatile of a job, refreshed: asked for or forced, and then rendered and handed in at once, since no render runs beside it.
 ghost use Rattle.std.specs.Prelude.{◌≡◌};
-ghost use Rattle.cache_core.specs.declared.outcome.TileOutcome.{TileOutcome};
 ghost use Rattle.cache_core.specs.Lasting.{Lasting};
+ghost use Rattle.cache_core.specs.declared.outcome.TileOutcome.{TileOutcome};
 ghost use Rattle.catalog.specs.Valid.{IsValid};
+ghost use Rattle.job_forms.specs.Places.{Metatile};
 ghost use Rattle.job_words.specs.Coming.{ComesTo};
 ghost use Rattle.job_words.specs.Visit.{end_of_tile};
-ghost use Rattle.jobs.specs.Places.{Metatile};
 ghost use Rattle.raster_field.specs.Blocks.{IsMeta};
-ghost use Rattle.tile_requests.specs.Events.{EndsAs};
 ghost use Rattle.sessions.specs.Outside.{counts};
+ghost use Rattle.tile_requests.specs.Events.{EndsAs};
 ghost use Rattle.tile_service.specs.Session.{IsAtRest};
 
 use crate::place::{PlaceEnd, PlaceFault};
-use cabinet::keeper::Keeper;
-use cache_access::alone::Alone;
-use cache_access::fault::GetFault;
-use cache_access::refreshed::Refreshed;
-use metatile_plan::metatile::MetaKey;
-use source_render::source::Source;
+use cabinet::Keeper;
+use cache_access::{Alone, GetFault, Refreshed};
+use metatile_plan::MetaKey;
+use source_render::Source;
 use std::alloc::Global;
-use tile_requests::laws::laws_of_lone_threads;
+use tile_requests::laws_of_lone_threads;
 
 /// How a refresh ends the place of its metatile: one that is rendered and could not be kept is done too.
 fn end_of_refresh(refreshed: Result<Refreshed, GetFault>) -> PlaceEnd
@@ -51,5 +49,5 @@ pub fn refresh<C: Keeper, S: Source>(
 {
     laws_of_lone_threads();
     let way = Alone::new();
-    end_of_refresh(cache_access::refresh::refresh(&way, alloc, cabinet, source, meta, with_force))
+    end_of_refresh(cache_access::refresh(&way, alloc, cabinet, source, meta, with_force))
 }

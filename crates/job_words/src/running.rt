@@ -2,11 +2,11 @@
 ghost use Rattle.std.specs.Prelude.{◌≡◌, ◌≢◌, ◌<◌, ◌≤◌, ◌+◌, List, Some, length, slice_get};
 ghost use Rattle.cache_core.specs.Lasting.{Lasting};
 ghost use Rattle.catalog.specs.Valid.{IsValid};
+ghost use Rattle.job_forms.specs.Job.{Fits};
+ghost use Rattle.job_forms.specs.Places.{Place, places};
 ghost use Rattle.job_words.specs.Coming.{ComesTo};
 ghost use Rattle.job_words.specs.Run.{IsRun, forces, tally_of};
 ghost use Rattle.job_words.specs.Visit.{Visit};
-ghost use Rattle.jobs.specs.Job.{Fits};
-ghost use Rattle.jobs.specs.Places.{Place, places};
 ghost use Rattle.sessions.specs.Outside.{counts};
 ghost use Rattle.tile_service.specs.Session.{IsAtRest};
 
@@ -14,11 +14,10 @@ use crate::cutting::cut;
 use crate::place::PlaceEnd;
 use crate::refreshing::refresh;
 use crate::tally::Tally;
-use cabinet::keeper::Keeper;
-use cache_core::laws::laws_of_lasting;
-use jobs::job::{Job, JobKind};
-use jobs::places::{count, nth};
-use source_render::source::Source;
+use cabinet::Keeper;
+use cache_core::laws_of_lasting;
+use job_forms::{Job, JobKind, count, nth};
+use source_render::Source;
 use std::alloc::Global;
 
 /// Refreshes the metatile at a place of a seed or a reseed.

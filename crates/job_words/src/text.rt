@@ -2,16 +2,16 @@
 ghost use Rattle.std.specs.Prelude.{◌≡◌, ◌+◌, ◌≤◌, ◌++◌, codes, decimal, length};
 ghost use Rattle.arrayvec.specs.ArrayVec.{array_vec_len};
 ghost use Rattle.job_words.specs.Ends.{job_text, kind_text};
+ghost use Rattle.opened_cache.specs.Texts.{Sends};
 ghost use Rattle.sessions.specs.Outside.{OutputChange, counts};
-ghost use Rattle.kept_cache.specs.Texts.{Sends};
 
 use crate::tally::Tally;
 use arrayvec::ArrayVec;
-use command_status::status::Status;
-use http_wire::streams::ByteSink;
-use jobs::job::JobKind;
-use kept_cache::writing::written;
-use tile_requests::small_text::{add, add_number};
+use command_status::Status;
+use http_wire::ByteSink;
+use job_forms::JobKind;
+use opened_cache::written;
+use tile_requests::{add, add_number};
 
 /// The name of what a job does, as its text spells it.
 fn kind_text(kind: JobKind) -> &'static [u8]

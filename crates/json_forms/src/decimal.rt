@@ -1,9 +1,9 @@
 //! Decimal numbers that are written as JSON strings. Too many digits are told apart from another form.
 ghost use Rattle.std.specs.Prelude.{◌≡◌};
-ghost use Rattle.serde_json.specs.View.{view};
 ghost use Rattle.json_forms.specs.Decimals.{text_of, decimal_text};
+ghost use Rattle.serde_json.specs.View.{view};
 
-use exact_ratio::decimal::{Decimal, DecimalFault};
+use exact_ratio::{Decimal, DecimalFault};
 use serde_json::Value;
 
 /// A text of the form of a decimal number.

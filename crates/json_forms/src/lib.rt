@@ -5,6 +5,10 @@
 //! Stands on exact_ratio and serde_json.
 #![tactic(auto)]
 
-pub mod decimal;
-pub mod list;
-pub mod object;
+mod decimal;
+mod list;
+mod object;
+
+pub use decimal::{DecimalText, decimal_text};
+pub use list::values_of;
+pub use object::object_in;

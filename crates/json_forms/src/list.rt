@@ -1,7 +1,7 @@
 //! The values of a JSON array.
 ghost use Rattle.std.specs.Prelude.{◌≡◌, map, option_map};
-ghost use Rattle.serde_json.specs.View.{view};
 ghost use Rattle.json_forms.specs.Forms.{values_of};
+ghost use Rattle.serde_json.specs.View.{view};
 
 use serde_json::Value;
 

@@ -1,7 +1,7 @@
 //! Texts that are one JSON object.
 ghost use Rattle.std.specs.Prelude.{◌≡◌, IfOk, option_map};
-ghost use Rattle.serde_json.specs.View.{view};
 ghost use Rattle.json_forms.specs.Forms.{object_of};
+ghost use Rattle.serde_json.specs.View.{view};
 
 use serde_json::Value;
 use std::alloc::{AllocError, Global};

@@ -13,14 +13,13 @@ use crate::order::{is_before, place_in};
 use crate::side::Sides;
 use crate::spot::Spot;
 use crate::table::{hit_in, index_in, least_of, lesser};
-use catalog::grid::Grid;
-use matrix_geometry::theme::Theme;
-use metatile_locks::aim::Aim;
-use metatile_plan::keys::same_meta;
-use metatile_plan::metatile::{Factors, MetaKey};
+use catalog::Grid;
+use matrix_geometry::Theme;
+use metatile_locks::Aim;
+use metatile_plan::{Factors, MetaKey, same_meta};
 use std::alloc::{AllocError, Global};
 use std::marker::Model;
-use truncation_list::cover::Cover;
+use truncation_list::Cover;
 
 /// How many keys a chunk has room for.
 pub const ROOM: usize = 512;

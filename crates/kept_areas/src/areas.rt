@@ -2,8 +2,8 @@
 ghost use Rattle.std.specs.Prelude.{[], Bool, IfNone, IfOk, IfSome, IsSome, IsTrue, None, OnOk, Some, false, if◌then◌else◌, ℕ, ◌+◌, ◌<◌, ◌^◌, ◌≡◌, ◌≤◌};
 ghost use Rattle.catalog.specs.Valid.{IsGrid};
 ghost use Rattle.metatile_locks.specs.Running.{IsPlanOn, hits_in};
-ghost use Rattle.metatile_plan.specs.declared.metatile.MetaKey.{MetaKey};
 ghost use Rattle.metatile_plan.specs.Keys.{same_meta};
+ghost use Rattle.metatile_plan.specs.declared.metatile.MetaKey.{MetaKey};
 ghost use Rattle.truncation_list.specs.Covers.{IsWithinReach};
 
 use crate::area::{Area, ROOM};
@@ -11,11 +11,11 @@ use crate::chunks::{enter, grow, prepare, take_out};
 use crate::looking::{first_of, place_of};
 use crate::spot::{Hit, Spot};
 use crate::walk::{hit_among, least_among};
-use catalog::grid::Grid;
-use metatile_plan::metatile::{Factors, MetaKey};
+use catalog::Grid;
+use metatile_plan::{Factors, MetaKey};
 use std::alloc::{AllocError, Global};
 use std::marker::Model;
-use truncation_list::cover::Cover;
+use truncation_list::Cover;
 
 /// How many metatiles there will be room for in all, where so many are to be kept beside those that are.
 fn needed(taken: usize, metatiles: usize) -> Result<usize, AllocError>

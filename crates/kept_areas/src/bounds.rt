@@ -1,24 +1,23 @@
 //! The bounds of a chunk: what they are of some keys, and whether a key within them can be hit.
-ghost use Rattle.std.specs.Prelude.{IsTrue, List, false, ◌==◌, ◌≡◌};
 ghost use Rattle.std.specs.Option.{option_map_or};
+ghost use Rattle.std.specs.Prelude.{IsTrue, List, false, ◌==◌, ◌≡◌};
 ghost use Rattle.catalog.specs.Valid.{IsGrid};
 ghost use Rattle.kept_areas.specs.Bounds.{AreBounded, IsWithin, is_near, meets_sides, widen, widened};
 ghost use Rattle.kept_areas.specs.Kept.{IsEntered};
+ghost use Rattle.kept_areas.specs.declared.spot.Spot.{Spot};
 ghost use Rattle.metatile_locks.specs.Reach.{IsAimed};
 ghost use Rattle.metatile_locks.specs.Running.{IsPlanOn, hits_in};
 ghost use Rattle.metatile_plan.specs.declared.metatile.MetaKey.{MetaKey};
-ghost use Rattle.kept_areas.specs.declared.spot.Spot.{Spot};
 ghost use Rattle.truncation_list.specs.Covers.{IsWithinReach};
 
 use crate::side::{Side, Sides};
 use crate::spot::Spot;
 use crate::table::{least_of, lesser};
-use catalog::grid::Grid;
-use matrix_geometry::boxes::Range;
-use metatile_locks::aim::Aim;
-use metatile_locks::laws::laws_of_reach;
-use metatile_plan::metatile::{Factors, MetaKey};
-use truncation_list::cover::Cover;
+use catalog::Grid;
+use matrix_geometry::Range;
+use metatile_locks::{Aim, laws_of_reach};
+use metatile_plan::{Factors, MetaKey};
+use truncation_list::Cover;
 
 /// Between no two numbers.
 const VOID: Side = Side {

@@ -7,7 +7,7 @@ use crate::area::{Area, ROOM};
 use crate::looking::{Place, chunk_for, first_of};
 use crate::order::place_in;
 use crate::spot::Spot;
-use metatile_plan::metatile::MetaKey;
+use metatile_plan::MetaKey;
 use std::alloc::{AllocError, Global};
 
 /// Makes chunks with no key behind the others, until there are so many. `AllocError` where memory runs out.

@@ -9,12 +9,15 @@
 #![tactic(auto)]
 
 mod area;
-pub mod areas;
+mod areas;
 mod bounds;
 mod chunks;
 mod looking;
 mod order;
 mod side;
-pub mod spot;
+mod spot;
 mod table;
 mod walk;
+
+pub use areas::KeptAreas;
+pub use spot::{Hit, Spot};

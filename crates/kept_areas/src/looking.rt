@@ -6,7 +6,7 @@ ghost use Rattle.metatile_plan.specs.Keys.{same_meta};
 
 use crate::area::Area;
 use crate::spot::Spot;
-use metatile_plan::metatile::MetaKey;
+use metatile_plan::MetaKey;
 
 /// Where a key stands.
 #[derive(Clone, Copy)]

@@ -3,7 +3,7 @@
 ghost use Rattle.std.specs.Prelude.{length, ◌≤◌};
 
 use crate::spot::Spot;
-use metatile_plan::metatile::MetaKey;
+use metatile_plan::MetaKey;
 
 /// Whether one place comes before another along the curve that goes through the four quarters of each square in turn: the one
 /// in the upper half does, or else the left one, of the largest square that parts them.

@@ -1,5 +1,5 @@
 //! The types of a kept key and of a key that was hit.
-use metatile_plan::metatile::MetaKey;
+use metatile_plan::MetaKey;
 
 /// The key of a kept metatile, with the number of the render that is kept of it.
 #[derive(Clone, Copy, PartialEq, Eq)]

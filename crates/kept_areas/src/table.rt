@@ -8,11 +8,10 @@ ghost use Rattle.metatile_plan.specs.Keys.{same_meta};
 ghost use Rattle.truncation_list.specs.Covers.{IsWithinReach};
 
 use crate::spot::Spot;
-use catalog::grid::Grid;
-use metatile_locks::aim::Aim;
-use metatile_plan::keys::same_meta;
-use metatile_plan::metatile::{Factors, MetaKey};
-use truncation_list::cover::Cover;
+use catalog::Grid;
+use metatile_locks::Aim;
+use metatile_plan::{Factors, MetaKey, same_meta};
+use truncation_list::Cover;
 
 /// The lesser of a number and of one that was found before.
 pub fn lesser(was: Option<u64>, number: u64) -> Option<u64>

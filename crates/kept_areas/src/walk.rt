@@ -8,10 +8,10 @@ ghost use Rattle.truncation_list.specs.Covers.{IsWithinReach};
 
 use crate::area::Area;
 use crate::spot::Hit;
-use catalog::grid::Grid;
-use metatile_locks::aim::Aim;
-use metatile_plan::metatile::Factors;
-use truncation_list::cover::Cover;
+use catalog::Grid;
+use metatile_locks::Aim;
+use metatile_plan::Factors;
+use truncation_list::Cover;
 
 /// The least number of all chunks and of one that was found before.
 pub fn least_among(chunks: &[Area], was: Option<u64>) -> Option<u64>

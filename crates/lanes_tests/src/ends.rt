@@ -4,7 +4,7 @@ use crate::server;
 use std::net::{Net, TcpStream};
 use std::test::Fail;
 use std::time::Clock;
-use tcp_lanes::limits::Limits;
+use tcp_lanes::Limits;
 
 /// Whether one that is no message is refused, while another client goes on.
 fn is_refused_beside<R: Net<Stream = TcpStream>>(rt: &R, port: u16) -> bool {

@@ -3,7 +3,7 @@
 //!
 //! It has no code of its own and promises nothing. What the system gives and takes isn't modelled, so that what lanes do with
 //! it is tested here and not proved.
-//! Stands on tcp_lanes and listeners, and on http_wire, exact_ratio and causes for a session over a lane.
+//! Stands on tcp_lanes, and on http_wire, exact_ratio and base for a session over a lane.
 #![tactic(auto)]
 
 #[cfg(test)]

@@ -6,7 +6,7 @@ use std::alloc::Global;
 use std::fs::{File, Files};
 use std::net::{Net, TcpStream};
 use std::test::Fail;
-use tcp_lanes::limits::Limits;
+use tcp_lanes::Limits;
 
 fn are_served(clients: &mut Vec<Client>) -> bool {
     for client in clients.iter_mut() {

@@ -2,16 +2,14 @@
 use crate::client::Client;
 use crate::crowds::connect_all;
 use crate::server;
-use listeners::listener::Listener;
+use http_wire::Listener;
 use std::alloc::Global;
 use std::net::{Net, TcpStream};
 use std::sync::{Arc, Mutex, Wait};
 use std::test::Fail;
 use std::thread;
 use std::time::{Clock, Duration};
-use tcp_lanes::accept::TcpAccept;
-use tcp_lanes::limits::{LANES, Limits};
-use tcp_lanes::link::TcpLink;
+use tcp_lanes::{LANES, Limits, TcpAccept, TcpLink};
 
 /// As many links as there may be at a time, or fewer where one isn't given.
 fn all_links<R: Wait + Clock + Copy + Drop>(

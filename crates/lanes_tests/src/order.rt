@@ -5,7 +5,7 @@ use crate::server;
 use std::alloc::{AllocError, Global};
 use std::net::{Net, TcpStream};
 use std::test::Fail;
-use tcp_lanes::limits::Limits;
+use tcp_lanes::Limits;
 
 /// A message whose answer is the number of its turn.
 const TURN: &[u8] = b"GET /turn HTTP/1.1\r\n\r\n";

@@ -1,15 +1,13 @@
 //! A server of some workers, which ends when so many links have ended.
 use crate::session;
-use listeners::listener::Listener;
+use http_wire::Listener;
 use std::alloc::{AllocError, Global};
 use std::net::Net;
 use std::sync::{Arc, Mutex, Wait};
 use std::thread::{JoinHandle, Threads};
 use std::time::Clock;
 use std::{io, thread};
-use tcp_lanes::accept::TcpAccept;
-use tcp_lanes::limits::Limits;
-use tcp_lanes::link::TcpLink;
+use tcp_lanes::{Limits, TcpAccept, TcpLink};
 
 /// The socket, and how many links are to be given.
 #[derive(Drop)]

@@ -1,8 +1,5 @@
 //! A session over a link, which answers each message by its target.
-use http_wire::links::Link;
-use http_wire::message::{Message, Next};
-use http_wire::reader::MessageReader;
-use http_wire::sending::send_both;
+use http_wire::{Link, Message, MessageReader, Next, send_both};
 use std::alloc::{AllocError, Global};
 use std::thread;
 use std::time::{Clock, Duration};

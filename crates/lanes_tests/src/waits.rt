@@ -7,7 +7,7 @@ use std::sync::Wait;
 use std::test::Fail;
 use std::thread::Threads;
 use std::time::Clock;
-use tcp_lanes::limits::Limits;
+use tcp_lanes::Limits;
 
 /// A limit in milliseconds for a client that does nothing meanwhile.
 const SHORT: u64 = 300;

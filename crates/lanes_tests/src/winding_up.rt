@@ -5,7 +5,7 @@ use std::net::{Net, TcpStream};
 use std::test::Fail;
 use std::thread;
 use std::time::{Clock, Duration};
-use tcp_lanes::limits::Limits;
+use tcp_lanes::Limits;
 
 /// Whether a client is served to its end.
 fn comes_and_goes<R: Net<Stream = TcpStream>>(rt: &R, port: u16) -> bool {

@@ -10,7 +10,7 @@ use Rattle.catalog.specs.declared.layer.Style.{Style}
 use Rattle.catalog.specs.LookUp.{layer_of, matrix_in, style_of}
 use Rattle.matrix_geometry.specs.declared.matrix.Matrix.{Matrix}
 use Rattle.matrix_geometry.specs.declared.theme.Theme.{Theme}
-use Rattle.metatile_plan.specs.declared.window.Window.{Window}
+use Rattle.metatile_plan.specs.declared.windows.Window.{Window}
 use Rattle.metatile_plan.specs.Texts.{header}
 use Rattle.raster_field.specs.declared.colour.Colour.{Colour}
 use Rattle.raster_field.specs.Picture.{Scene, scene_of}

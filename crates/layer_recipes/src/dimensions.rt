@@ -1,17 +1,16 @@
 //! The values of a layer's dimensions that a part names.
 ghost use Rattle.std.specs.Prelude.{◌≡◌, ◌<◌, option_copied, option_map, IfOk, IfSome, IsSome, length};
-ghost use Rattle.serde_json.specs.View.{view};
 ghost use Rattle.catalog.specs.LookUp.{HasValues, dimension_at, dimensions_of};
 ghost use Rattle.catalog.specs.Valid.{IsDimension, IsValid};
 ghost use Rattle.dimension_key.specs.Draft.{draft_of, drafted};
 ghost use Rattle.layer_recipes.specs.Dimensions.{dimensions, formed, given, or_fault, theme_in};
+ghost use Rattle.serde_json.specs.View.{view};
 
 use crate::fault::{RecipeFault, RecipeField};
 use crate::names::{are_values, name_of};
-use catalog::catalogue::Catalogue;
-use catalog::layer::Dimension;
-use dimension_key::draft::{DimFault, ThemeDraft};
-use matrix_geometry::theme::Theme;
+use catalog::{Catalogue, Dimension};
+use dimension_key::{DimFault, ThemeDraft};
+use matrix_geometry::Theme;
 use serde_json::Value;
 
 /// Tests the form of the whole member.

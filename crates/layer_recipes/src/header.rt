@@ -4,7 +4,7 @@ ghost use Rattle.matrix_geometry.specs.Limits.{IsWithinLimits};
 ghost use Rattle.metatile_plan.specs.Texts.{header};
 
 use itoa::Buffer;
-use matrix_geometry::matrix::Matrix;
+use matrix_geometry::Matrix;
 use std::alloc::{AllocError, Global};
 
 fn add(text: &mut Vec<u8>, bytes: &[u8]) -> Result<(), AllocError>

@@ -7,16 +7,23 @@
 //! Stands on json_forms, dimension_key, raster_field, metatile_plan, catalog, matrix_geometry, exact_ratio, serde_json and itoa.
 #![tactic(auto)]
 
-pub mod composed;
+mod composed;
 mod dimensions;
-pub mod fault;
+mod fault;
 mod header;
-pub mod laws;
+mod laws;
 mod member;
 mod names;
-pub mod overlay;
+mod overlay;
 mod part;
 mod pixels;
-pub mod place;
-pub mod reading;
-pub mod recipe;
+mod place;
+mod reading;
+mod recipe;
+
+pub use composed::{ComposeFault, Composed};
+pub use fault::{RecipeFault, RecipeField};
+pub use laws::laws_of_composites;
+pub use overlay::Overlay;
+pub use place::Place;
+pub use recipe::{Part, Recipe};

@@ -1,19 +1,19 @@
 //! The members of a recipe that are a name, a colour or a list.
-ghost use Rattle.std.specs.Prelude.{◌≡◌, ◌<◌, ◌≤◌, codes, true, option_and_then, Contains, IfOk, IfSome, IsSomeAnd, length, map, slice_get};
 ghost use Rattle.std.specs.List.{list_all};
-ghost use Rattle.serde_json.specs.Find.{as_str, get};
-ghost use Rattle.json_forms.specs.Forms.{values_of};
-ghost use Rattle.serde_json.specs.View.{view};
+ghost use Rattle.std.specs.Prelude.{◌≡◌, ◌<◌, ◌≤◌, codes, true, option_and_then, Contains, IfOk, IfSome, IsSomeAnd, length, map, slice_get};
 ghost use Rattle.catalog.specs.LookUp.{layer_named};
 ghost use Rattle.catalog.specs.Valid.{IsValid};
+ghost use Rattle.json_forms.specs.Forms.{values_of};
 ghost use Rattle.layer_recipes.specs.Members as forms;
 ghost use Rattle.layer_recipes.specs.Members.{byte_of, colour_of, is_few, is_object, required};
 ghost use Rattle.layer_recipes.specs.Outcome.{Gives};
+ghost use Rattle.serde_json.specs.Find.{as_str, get};
+ghost use Rattle.serde_json.specs.View.{view};
 
 use crate::fault::{RecipeFault, RecipeField};
-use catalog::catalogue::Catalogue;
-use json_forms::list::values_of;
-use raster_field::colour::Colour;
+use catalog::Catalogue;
+use json_forms::values_of;
+use raster_field::Colour;
 use serde_json::Value;
 
 fn grid(catalogue: &Catalogue, value: &Value) -> Option<u32>

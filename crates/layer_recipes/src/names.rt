@@ -1,11 +1,10 @@
 //! The names of dimensions among the members of an object.
 ghost use Rattle.std.specs.Prelude.{◌≡◌};
-ghost use Rattle.serde_json.specs.View.{members_view, view};
 ghost use Rattle.catalog.specs.Valid.{IsDimension};
 ghost use Rattle.layer_recipes.specs.Dimensions.{are_values, is_value};
+ghost use Rattle.serde_json.specs.View.{members_view, view};
 
-use catalog::layer::Dimension;
-use catalog::named::is_taken;
+use catalog::{Dimension, is_taken};
 use serde_json::{Map, Value};
 use std::str::from_utf8;
 

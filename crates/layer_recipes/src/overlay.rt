@@ -1,14 +1,14 @@
 //! An encoded tile on which parts are laid, one at a time.
 ghost use Rattle.std.specs.Prelude.{◌≡◌, ◌∷◌, ◌++◌, true, ℕ, IfOk, List, [], replicate};
-ghost use Rattle.matrix_geometry.specs.Limits.{IsWithinLimits};
-ghost use Rattle.raster_field.specs.declared.colour.Colour.{Colour};
 ghost use Rattle.layer_recipes.specs.Composite.{laid_over};
 ghost use Rattle.layer_recipes.specs.Overlaid.{Lays};
+ghost use Rattle.matrix_geometry.specs.Limits.{IsWithinLimits};
+ghost use Rattle.raster_field.specs.declared.colour.Colour.{Colour};
 
 use crate::header::{black_text, pixel_count};
 use crate::pixels::lay_pixels;
-use matrix_geometry::matrix::Matrix;
-use raster_field::colour::Colour;
+use matrix_geometry::Matrix;
+use raster_field::Colour;
 use std::alloc::{AllocError, Global};
 use std::marker::Model;
 

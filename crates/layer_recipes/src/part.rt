@@ -1,19 +1,19 @@
 //! The parts of a recipe.
-ghost use Rattle.std.specs.Prelude.{◌≡◌, ◌<◌, ◌≤◌, [], codes, Contains, IfOk, IsSome, IsSomeAnd, length, map, option_map};
 ghost use Rattle.std.specs.List.{AllByRecursion};
-ghost use Rattle.serde_json.specs.Find.{get};
-ghost use Rattle.serde_json.specs.View.{view};
+ghost use Rattle.std.specs.Prelude.{◌≡◌, ◌<◌, ◌≤◌, [], codes, Contains, IfOk, IsSome, IsSomeAnd, length, map, option_map};
 ghost use Rattle.catalog.specs.LookUp.{HasValues, layer_of, style_of};
 ghost use Rattle.catalog.specs.Valid.{IsValid};
 ghost use Rattle.layer_recipes.specs.OfCatalogue.{IsPartOf};
 ghost use Rattle.layer_recipes.specs.Outcome.{Gives, entries};
 ghost use Rattle.layer_recipes.specs.Recipes.{part_in};
+ghost use Rattle.serde_json.specs.Find.{get};
+ghost use Rattle.serde_json.specs.View.{view};
 
 use crate::dimensions::theme_in;
 use crate::fault::RecipeFault;
 use crate::member::{required_key, required_layer, required_style};
 use crate::recipe::Part;
-use catalog::catalogue::Catalogue;
+use catalog::Catalogue;
 use serde_json::Value;
 use std::alloc::Global;
 

@@ -3,7 +3,7 @@ ghost use Rattle.std.specs.Prelude.{◌≡◌, ◌<◌, ◌≤◌, ◌+◌, ◌*
 ghost use Rattle.layer_recipes.specs.Composite.{is_same, pixel_in};
 ghost use Rattle.layer_recipes.specs.Overlaid.{AreLaid, laid, with_pixel};
 
-use raster_field::colour::Colour;
+use raster_field::Colour;
 
 fn byte(text: &[u8], at: usize) -> u8
     ensures { result ≡ get_or text.now at 0 }

@@ -1,11 +1,11 @@
 //! The tile of a part.
 ghost use Rattle.std.specs.Prelude.{◌≡◌};
-ghost use Rattle.catalog.specs.declared.catalogue.Catalogue.{Catalogue};
 ghost use Rattle.catalog.specs.LookUp.{IsTile};
+ghost use Rattle.catalog.specs.declared.catalogue.Catalogue.{Catalogue};
 ghost use Rattle.layer_recipes.specs.OfCatalogue.{IsPartOf, IsPlaceIn, tile_at};
 
 use crate::recipe::Part;
-use matrix_geometry::address::Address;
+use matrix_geometry::Address;
 
 /// Where in the matrix of this number of a grid a tile lies.
 #[derive(Clone, Copy, PartialEq, Eq)]

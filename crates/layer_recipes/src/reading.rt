@@ -1,17 +1,17 @@
 //! The reading of a whole recipe.
 ghost use Rattle.std.specs.Prelude.{◌≡◌, IfOk};
-ghost use Rattle.serde_json.specs.View.{view};
 ghost use Rattle.catalog.specs.Valid.{IsValid};
 ghost use Rattle.layer_recipes.specs.OfCatalogue.{IsRecipeOf};
 ghost use Rattle.layer_recipes.specs.Outcome.{Gives};
 ghost use Rattle.layer_recipes.specs.Recipes.{recipe_in, recipe_of};
+ghost use Rattle.serde_json.specs.View.{view};
 
 use crate::fault::RecipeFault;
 use crate::member::{required_grid, required_parts};
 use crate::part::each_part;
 use crate::recipe::Recipe;
-use catalog::catalogue::Catalogue;
-use json_forms::object::object_in;
+use catalog::Catalogue;
+use json_forms::object_in;
 use serde_json::Value;
 use std::alloc::Global;
 

@@ -1,6 +1,6 @@
 //! The types of a recipe and of its parts.
-use matrix_geometry::theme::Theme;
-use raster_field::colour::Colour;
+use matrix_geometry::Theme;
+use raster_field::Colour;
 
 /// A part of a recipe: tiles of one theme.
 #[derive(Clone, Copy, PartialEq, Eq)]

@@ -5,7 +5,7 @@ ghost use Rattle.link_queue.specs.Accepted.{HasAccepted};
 ghost use Rattle.link_queue.specs.Hands.{IsHand, table_of};
 
 use crate::queue::{LinkHand, LinkQueue};
-use listeners::listener::Listener;
+use http_wire::Listener;
 use std::sync::Wait;
 
 /// Accepts so many links, hands each in, and closes the listener and the queue. False where an accept failed; no further one was then made.

@@ -3,7 +3,7 @@ use crossbeam_queue::protocol::{Join, Lesson, Outcome, Protocol, Split};
 use std::collections::LinkedList;
 
 /// What a hand has put and taken, and its parts of the right to know what the queue holds. No value of it is made.
-pub struct Hand<L> {
+pub struct QueueHand<L> {
     pub parts: u64,
     pub put: LinkedList<L>,
     pub taken: LinkedList<L>,
@@ -12,7 +12,7 @@ pub struct Hand<L> {
 /// The rule of the queue: what was put is what was taken and what it holds, however the links are weighed.
 pub struct Fair;
 
-impl<L> Protocol<L, Hand<L>> for Fair {
+impl<L> Protocol<L, QueueHand<L>> for Fair {
     ghost use Rattle.std.specs.Prelude.{[]};
     ghost use Rattle.link_queue.specs.Hands.{IsBalanced, all_parts, hand};
 
@@ -24,7 +24,7 @@ impl<L> Protocol<L, Hand<L>> for Fair {
 /// A further hand: it gets one part, and has put and taken nothing.
 pub(crate) struct OneMore;
 
-impl<L> Split<Hand<L>> for OneMore {
+impl<L> Split<QueueHand<L>> for OneMore {
     ghost use Rattle.std.specs.Prelude.{[], ◌-◌};
     ghost use Rattle.link_queue.specs.Hands.{hand};
 
@@ -36,7 +36,7 @@ impl<L> Split<Hand<L>> for OneMore {
 /// One hand takes over what another one has put and taken, and its parts.
 pub(crate) struct TakesOver;
 
-impl<L> Join<Hand<L>> for TakesOver {
+impl<L> Join<QueueHand<L>> for TakesOver {
     ghost use Rattle.std.specs.Prelude.{[]};
     ghost use Rattle.link_queue.specs.Hands.{hand, with_other};
 
@@ -48,14 +48,14 @@ impl<L> Join<Hand<L>> for TakesOver {
 /// A link is put.
 pub(crate) struct Puts;
 
-impl<L> Outcome<L, Hand<L>> for Puts {
+impl<L> Outcome<L, QueueHand<L>> for Puts {
     ghost use Rattle.std.specs.Prelude.{◌≡◌};
     ghost use Rattle.link_queue.specs.Hands.{with_put};
 
     ghost then = { λ v link w. w ≡ with_put v link };
 }
 
-impl<L> Lesson<L, Hand<L>> for Puts {
+impl<L> Lesson<L, QueueHand<L>> for Puts {
     ghost use Rattle.std.specs.Prelude.{⊤};
 
     ghost fact = { λ v links. ⊤ };
@@ -64,14 +64,14 @@ impl<L> Lesson<L, Hand<L>> for Puts {
 /// A link is taken. A hand that is alone at the queue knows what it holds.
 pub(crate) struct Takes;
 
-impl<L> Outcome<L, Hand<L>> for Takes {
+impl<L> Outcome<L, QueueHand<L>> for Takes {
     ghost use Rattle.std.specs.Prelude.{◌≡◌};
     ghost use Rattle.link_queue.specs.Hands.{with_taken};
 
     ghost then = { λ v link w. w ≡ with_taken v link };
 }
 
-impl<L> Lesson<L, Hand<L>> for Takes {
+impl<L> Lesson<L, QueueHand<L>> for Takes {
     ghost use Rattle.link_queue.specs.Hands.{KnowsHeld};
 
     ghost fact = { KnowsHeld };

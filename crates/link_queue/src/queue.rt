@@ -3,8 +3,8 @@ ghost use Rattle.std.specs.Prelude.{[], IfNone, IfOk, MatchOption, ◌++◌, ◌
 ghost use Rattle.crossbeam_queue.specs.Passes.{view};
 ghost use Rattle.link_queue.specs.Hands.{IsEven, IsHand, all_parts, hand, table_of, with_other, with_put, with_taken};
 
-use crate::hand::{Fair, Hand, OneMore, Puts, Takes, TakesOver};
-use bell::Bell;
+use crate::hand::{Fair, OneMore, Puts, QueueHand, Takes, TakesOver};
+use base::Bell;
 use crossbeam_queue::{Pass, RuledArrayQueue};
 use std::alloc::{AllocError, Global};
 use std::sync::Wait;
@@ -16,7 +16,7 @@ const ROOM: usize = 4;
 /// Where links wait for a worker, in the order in which they were given.
 #[derive(Drop)]
 pub struct LinkQueue<L: Drop> {
-    pub links: RuledArrayQueue<L, Hand<L>, Fair>,
+    pub links: RuledArrayQueue<L, QueueHand<L>, Fair>,
     /// Rung where a link came, and where no more come.
     came: Bell,
     /// Rung where a link was taken.
@@ -25,7 +25,7 @@ pub struct LinkQueue<L: Drop> {
 }
 
 /// A hand at such a queue: who has it may put links and take them. It has no bytes.
-pub type LinkHand<L> = Pass<L, Hand<L>>;
+pub type LinkHand<L> = Pass<L, QueueHand<L>>;
 
 impl<L: Drop> LinkQueue<L> {
     /// An empty queue, and the one hand at it. `AllocError` where memory runs out.

@@ -2,9 +2,9 @@
 use Rattle.std.proofs.Common.{◌≡◌, ◌≤◌, ℕ, Result, Ok, Err, inr, subst}
 use Rattle.cabinet.specs.State.{State}
 use Rattle.catalog.specs.declared.catalogue.Catalogue.{Catalogue}
-use Rattle.clock.specs.Readings.{Readings}
-use Rattle.command_setup.specs.declared.configured.Unconfigured.{Unconfigured}
-use Rattle.command_setup.specs.declared.configured.Unconfigured.TheVariants as unconfigured
+use Rattle.base.specs.Readings.{Readings}
+use Rattle.command_setup.specs.declared.configuration.Unconfigured.{Unconfigured}
+use Rattle.command_setup.specs.declared.configuration.Unconfigured.TheVariants as unconfigured
 use Rattle.command_status.specs.declared.status.Status.TheVariants as status
 use Rattle.cut_follower.specs.declared.ends.LinkEnd.{LinkEnd}
 use Rattle.cut_follower.specs.declared.ends.LinkEnd.TheVariants as link_end
@@ -12,8 +12,8 @@ use Rattle.cut_follower.specs.Links.{LinkAt}
 use Rattle.command_setup.specs.Refusals.{status_of_refusal}
 use Rattle.gate_journal.specs.declared.fault.OpenFault.{OpenFault}
 use Rattle.gate_journal.specs.declared.fault.OpenFault.TheVariants as fault
-use Rattle.kept_cache.specs.Change.{DiskChange}
-use Rattle.kept_cache.specs.Opened.{HasOpened}
+use Rattle.opened_cache.specs.Change.{DiskChange}
+use Rattle.opened_cache.specs.Opened.{HasOpened}
 use Rattle.sessions.specs.Outside.{counts}
 use Rattle.link_words.proofs.Following.{wider}
 use Rattle.link_words.specs.declared.ends.LinkingEnd.TheVariants as linking

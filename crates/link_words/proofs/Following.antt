@@ -11,7 +11,7 @@ use Rattle.cut_follower.specs.Links.{LinkAt}
 use Rattle.disk_model.specs.Content.{Content, Same}
 use Rattle.disk_model.specs.Images.{After, ChangesBy, DiskState, Every, Leaves}
 use Rattle.disk_model.specs.Moments.{leaves_as, leaves_then}
-use Rattle.kept_cache.specs.Change.{DiskChange}
+use Rattle.opened_cache.specs.Change.{DiskChange}
 use Rattle.sessions.specs.Outside.{FaultCounts, counts}
 use Rattle.link_words.specs.Ends.{HasFollowed}
 

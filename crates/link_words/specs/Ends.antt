@@ -5,8 +5,8 @@ use Rattle.catalog.specs.declared.catalogue.Catalogue.{Catalogue}
 use Rattle.change_feed.specs.Applies.{Pair}
 use Rattle.change_feed.specs.Files.{EndsIn, IsMarksFile, MayEndIn}
 use Rattle.change_feed.specs.Files as marks_file
-use Rattle.clock.specs.Readings.{Readings}
-use Rattle.command_setup.specs.declared.configured.Unconfigured.{Unconfigured}
+use Rattle.base.specs.Readings.{Readings}
+use Rattle.command_setup.specs.declared.configuration.Unconfigured.{Unconfigured}
 use Rattle.command_setup.specs.Held.{MayBe}
 use Rattle.command_setup.specs.Setup.{Configures, IsRead}
 use Rattle.cut_follower.specs.declared.ends.LinkEnd.{LinkEnd}
@@ -19,9 +19,9 @@ use Rattle.durable_cabinet.specs.Filed as cache_file
 use Rattle.durable_cabinet.specs.Images.{IsOurs}
 use Rattle.command_setup.specs.Refusals.{status_of_refusal}
 use Rattle.gate_journal.specs.declared.fault.OpenFault.{OpenFault}
-use Rattle.kept_cache.specs.Change.{DiskChange}
-use Rattle.kept_cache.specs.Crash.{LastsThrough}
-use Rattle.kept_cache.specs.Opened.{HasOpened, RefusalLeaves}
+use Rattle.opened_cache.specs.Change.{DiskChange}
+use Rattle.opened_cache.specs.Crash.{LastsThrough}
+use Rattle.opened_cache.specs.Opened.{HasOpened, RefusalLeaves}
 use Rattle.outbox.specs.Files.{IsOutboxFile, MayOpenTo, OpensToPosts}
 use Rattle.outbox.specs.Files as outbox_file
 use Rattle.outbox.specs.Posts.{Outgoing}

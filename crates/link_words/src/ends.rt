@@ -2,10 +2,9 @@
 ghost use Rattle.std.specs.Prelude.{◌≡◌};
 ghost use Rattle.link_words.specs.Endings.{ending_of, ending_of_link};
 
-use command_status::status::Status;
-use command_status::statuses::status_of_opening;
-use cut_follower::ends::LinkEnd;
-use gate_journal::fault::OpenFault;
+use command_status::{Status, status_of_opening};
+use cut_follower::LinkEnd;
+use gate_journal::OpenFault;
 use std::fmt;
 
 /// How the words of a link ended (`specs/Ends.antt`).

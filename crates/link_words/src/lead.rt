@@ -2,19 +2,18 @@
 ghost use Rattle.std.specs.Prelude.{◌≡◌, IsTrue};
 ghost use Rattle.catalog.specs.Valid.{IsValid};
 ghost use Rattle.cut_follower.specs.Links.{LinkAt};
-ghost use Rattle.kept_cache.specs.Change.{DiskChange};
+ghost use Rattle.link_words.specs.Ends.{LeadsOver};
+ghost use Rattle.opened_cache.specs.Change.{DiskChange};
 ghost use Rattle.outbox.specs.Files.{IsOutboxFile};
 ghost use Rattle.sessions.specs.Outside.{counts};
-ghost use Rattle.link_words.specs.Ends.{LeadsOver};
 
-use catalog::catalogue::Catalogue;
-use cut_follower::ends::LinkEnd;
-use cut_follower::leading::lead_link;
-use disk_model::disk::Disk;
-use feed_words::outboxes::{closed_outbox, opened_outbox};
-use gate_journal::fault::OpenFault;
-use http_wire::links::Link;
-use kept_cache::lent::Loan;
+use catalog::Catalogue;
+use cut_follower::{LinkEnd, lead_link};
+use disk_model::Disk;
+use feed_words::{closed_outbox, opened_outbox};
+use gate_journal::OpenFault;
+use http_wire::Link;
+use opened_cache::Loan;
 use std::alloc::Global;
 use std::marker::Brand;
 

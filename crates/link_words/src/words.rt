@@ -2,8 +2,8 @@
 ghost use Rattle.std.specs.Prelude.{◌≡◌};
 ghost use Rattle.link_words.specs.Words.{link_word, port_in, two_words};
 
-use exact_ratio::words::Words;
-use wmts_kvp::number::{below, is_number};
+use exact_ratio::Words;
+use wmts_kvp::{below, is_number};
 
 /// What the words of a link ask for, with the port of the connection.
 #[derive(Clone, Copy, PartialEq, Eq)]

@@ -1,5 +1,5 @@
 //! The edges of a tile, a box on the ground, and a range of tiles.
-use exact_ratio::ratio::Ratio;
+use exact_ratio::Ratio;
 
 /// The four edges of a tile, in units of the grid.
 #[derive(Clone, Copy, PartialEq, Eq)]

@@ -1,17 +1,16 @@
 //! The edges of a tile, and the tiles of a box with a tolerance of a millionth of a tile, by exact fractions.
-ghost use Rattle.std.specs.Prelude.{◌≡◌, ◌*◌, ◌<◌, ◌≤◌, ◌^◌, ◌+ℤ◌, ◌-ℤ◌, ◌*ℤ◌, ◌<ℤ◌, pos, IfSome, unsigned_abs};
 ghost use Rattle.std.specs.Int.{int_div_euclid};
+ghost use Rattle.std.specs.Prelude.{◌≡◌, ◌*◌, ◌<◌, ◌≤◌, ◌^◌, ◌+ℤ◌, ◌-ℤ◌, ◌*ℤ◌, ◌<ℤ◌, pos, IfSome, unsigned_abs};
 ghost use Rattle.exact_ratio.specs.Fractions.{lowest_terms};
 ghost use Rattle.exact_ratio.specs.Lowest.{lowest};
-ghost use Rattle.matrix_geometry.specs.Geometry.{box_of, cols_of, cut_to, left_edge, range_of, rows_of, upper_edge};
 ghost use Rattle.matrix_geometry.specs.Away.{tiles_away};
+ghost use Rattle.matrix_geometry.specs.Geometry.{box_of, cols_of, cut_to, left_edge, range_of, rows_of, upper_edge};
 ghost use Rattle.matrix_geometry.specs.Limits.{IsReachable, IsWithinLimits};
 ghost use Rattle.matrix_geometry.specs.Ranges.{AreTilesOf, IsRangeOf};
 
 use crate::boxes::{Box9, Range, TileBox};
 use crate::matrix::Matrix;
-use exact_ratio::floor::floor_div;
-use exact_ratio::ratio::Ratio;
+use exact_ratio::{Ratio, floor_div};
 
 /// A millionth of a tile, in billionths of a tile.
 const EPS: i128 = 1_000;

@@ -5,10 +5,16 @@
 //! Stands on exact_ratio.
 #![tactic(auto)]
 
-pub mod address;
-pub mod boxes;
-pub mod filter;
-pub mod geometry;
-pub mod making;
-pub mod matrix;
-pub mod theme;
+mod address;
+mod boxes;
+mod filter;
+mod geometry;
+mod making;
+mod matrix;
+mod theme;
+
+pub use address::Address;
+pub use boxes::{Box9, Range, TileBox};
+pub use making::{GridFault, coordinate};
+pub use matrix::{Corner, Matrix, Size};
+pub use theme::{Filter, Theme};

@@ -1,14 +1,13 @@
 //! How a matrix is made of a span or a scale denominator, within the limits on its numbers.
-ghost use Rattle.std.specs.Prelude.{◌≡◌, ◌*◌, ◌^◌, ◌≤◌, ◌*ℤ◌, ◌<ℤ◌, ◌&&◌, pos, unsigned_abs, int_div, IfOk, IfSome, IsTrue, if◌then◌else◌};
-ghost use Rattle.std.specs.Option.{ForSome};
 ghost use Rattle.std.specs.Int.{is_positive};
+ghost use Rattle.std.specs.Option.{ForSome};
+ghost use Rattle.std.specs.Prelude.{◌≡◌, ◌*◌, ◌^◌, ◌≤◌, ◌*ℤ◌, ◌<ℤ◌, ◌&&◌, pos, unsigned_abs, int_div, IfOk, IfSome, IsTrue, if◌then◌else◌};
 ghost use Rattle.exact_ratio.specs.Lowest.{lowest};
 ghost use Rattle.matrix_geometry.specs.Limits.{IsWithinLimits};
 ghost use Rattle.matrix_geometry.specs.Making.{billionths_of, coordinate_of, is_coordinate, is_corner, is_count, is_extent, is_fine_enough, is_matrix_size, is_side, is_tile_size, is_within_extent, made_of, made_of_scale, made_of_span, span_given, span_if_positive};
 
 use crate::matrix::{Corner, Matrix, Size};
-use exact_ratio::decimal::Decimal;
-use exact_ratio::ratio::Ratio;
+use exact_ratio::{Decimal, Ratio};
 
 /// Why there is no matrix of these numbers.
 #[derive(Clone, Copy, Debug, PartialEq, Eq)]

@@ -1,6 +1,5 @@
 //! The types of a tile matrix, of its corner and of a size.
-use exact_ratio::decimal::Decimal;
-use exact_ratio::ratio::Ratio;
+use exact_ratio::{Decimal, Ratio};
 
 /// A matrix of tiles (OGC 07-057r7, section 6).
 #[derive(Clone, Copy, PartialEq, Eq)]

@@ -1,5 +1,5 @@
 //! The type of an aim.
-use matrix_geometry::boxes::Range;
+use matrix_geometry::Range;
 
 /// Which metatiles a cover reaches at a zoom.
 #[derive(Clone, Copy, PartialEq, Eq)]

@@ -6,13 +6,10 @@ ghost use Rattle.metatile_locks.specs.Running.{IsPlanOn, block, hits_in};
 ghost use Rattle.metatile_plan.specs.Plan.{IsMetaIn, IsPlan};
 ghost use Rattle.truncation_list.specs.Covers.{IsWithinReach, hits};
 
-use catalog::grid::Grid;
-use matrix_geometry::matrix::Matrix;
-use metatile_plan::metatile::{Factors, MetaKey};
-use metatile_plan::plan::tiles_of;
-use truncation_list::block::Block;
-use truncation_list::cover::Cover;
-use truncation_list::covering::hits;
+use catalog::Grid;
+use matrix_geometry::Matrix;
+use metatile_plan::{Factors, MetaKey, tiles_of};
+use truncation_list::{Block, Cover, hits};
 
 /// Whether the cover is for some tile of a metatile that lies in this matrix.
 fn hits_on(f: &Factors, m: &Matrix, cover: &Cover, meta: &MetaKey) -> bool

@@ -5,12 +5,21 @@
 //! Stands on truncation_list, metatile_plan, catalog and matrix_geometry.
 #![tactic(auto)]
 
-pub mod aim;
-pub mod hitting;
-pub mod laws;
-pub mod locks;
-pub mod reach;
-pub mod render;
-pub mod replies;
+mod aim;
+mod hitting;
+mod laws;
+mod locks;
+mod reach_of_cover;
+mod render;
+mod replies;
 mod table;
-pub mod ticket;
+mod ticket;
+
+pub use aim::Aim;
+pub use hitting::hits_in;
+pub use laws::laws_of_reach;
+pub use locks::Locks;
+pub use reach_of_cover::{is_reached, reach};
+pub use render::Render;
+pub use replies::{Begin, End};
+pub use ticket::Ticket;

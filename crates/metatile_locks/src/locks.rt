@@ -7,11 +7,11 @@ use crate::render::Render;
 use crate::replies::{Begin, End};
 use crate::table::{least, overtake, render_of, running_for, take_off};
 use crate::ticket::Ticket;
-use catalog::grid::Grid;
-use metatile_plan::metatile::{Factors, MetaKey};
+use catalog::Grid;
+use metatile_plan::{Factors, MetaKey};
 use std::alloc::{AllocError, Global};
 use std::marker::Model;
-use truncation_list::cover::Cover;
+use truncation_list::Cover;
 
 /// The renders that run, the oldest first. Contracts see them, and how many more there is room for.
 #[derive(Drop)]

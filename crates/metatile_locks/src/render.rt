@@ -1,5 +1,5 @@
 //! The entry of a running render.
-use metatile_plan::metatile::MetaKey;
+use metatile_plan::MetaKey;
 
 /// A render that runs: the moment at which it was begun, in seconds, and the number of the last truncation that overtook it.
 #[derive(Clone, Copy, PartialEq, Eq)]

@@ -7,10 +7,9 @@ ghost use Rattle.truncation_list.specs.Covers.{IsWithinReach};
 
 use crate::aim::Aim;
 use crate::render::Render;
-use catalog::grid::Grid;
-use metatile_plan::keys::same_meta;
-use metatile_plan::metatile::{Factors, MetaKey};
-use truncation_list::cover::Cover;
+use catalog::Grid;
+use metatile_plan::{Factors, MetaKey, same_meta};
+use truncation_list::Cover;
 
 fn find_running<'a>(renders: &'a [Render], meta: &MetaKey) -> Option<&'a Render>
     ensures { option_copied result ≡ find (runs_for meta.now) renders.now }

@@ -1,7 +1,7 @@
 //! The ticket of a render, made and spent by its crate alone.
 ghost use Rattle.std.specs.Prelude.{◌≡◌};
 
-use metatile_plan::metatile::MetaKey;
+use metatile_plan::MetaKey;
 use std::marker::Model;
 
 /// The right to render a metatile under a number. It must be spent, and `Locks::begin` alone makes one.

@@ -6,7 +6,7 @@ use Rattle.matrix_geometry.specs.declared.boxes.Range.{Range}
 use Rattle.matrix_geometry.specs.declared.matrix.Matrix.{Matrix}
 use Rattle.metatile_plan.specs.declared.metatile.Factors.{Factors}
 use Rattle.metatile_plan.specs.declared.metatile.MetaKey.{MetaKey}
-use Rattle.metatile_plan.specs.declared.window.Window.{Window}
+use Rattle.metatile_plan.specs.declared.windows.Window.{Window}
 
 -- THE BLOCK
 

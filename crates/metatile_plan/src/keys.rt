@@ -1,7 +1,7 @@
 //! Keys of metatiles, compared.
 ghost use Rattle.std.specs.Prelude.{true, ◌≡◌};
-ghost use Rattle.metatile_plan.specs.declared.metatile.MetaKey.{MetaKey};
 ghost use Rattle.metatile_plan.specs.Keys.{same_meta};
+ghost use Rattle.metatile_plan.specs.declared.metatile.MetaKey.{MetaKey};
 
 use crate::metatile::MetaKey;
 

@@ -1,14 +1,14 @@
 //! What holds of all metatiles and their blobs.
 ghost use Rattle.std.specs.Prelude.{IsTrue, ℕ, ◌+◌, ◌/◌, ◌<◌, ◌≡◌, ◌↔◌};
+ghost use Rattle.matrix_geometry.specs.Limits.{IsWithinLimits};
+ghost use Rattle.matrix_geometry.specs.Ranges.{is_in_range};
 ghost use Rattle.matrix_geometry.specs.declared.address.Address.{Address};
 ghost use Rattle.matrix_geometry.specs.declared.boxes.Range.{Range};
 ghost use Rattle.matrix_geometry.specs.declared.matrix.Matrix.{Matrix};
-ghost use Rattle.matrix_geometry.specs.Limits.{IsWithinLimits};
-ghost use Rattle.matrix_geometry.specs.Ranges.{is_in_range};
-ghost use Rattle.metatile_plan.specs.declared.metatile.Factors.{Factors};
-ghost use Rattle.metatile_plan.specs.declared.metatile.MetaKey.{MetaKey};
 ghost use Rattle.metatile_plan.specs.Plan.{IsBlockOf, IsIn, IsMetaIn, IsPlan, IsWindowOn, meta_of, tiles_of, window_of};
 ghost use Rattle.metatile_plan.specs.Texts.{blob_len, span_of};
+ghost use Rattle.metatile_plan.specs.declared.metatile.Factors.{Factors};
+ghost use Rattle.metatile_plan.specs.declared.metatile.MetaKey.{MetaKey};
 
 /// A tile of the matrix lies in the block of its metatile, of which the matrix then has some tile; and a tile in the block
 /// of a metatile is one of the matrix, and its metatile is that one.

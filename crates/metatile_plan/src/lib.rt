@@ -5,10 +5,18 @@
 //! Stands on matrix_geometry.
 #![tactic(auto)]
 
-pub mod keys;
-pub mod laws;
-pub mod metatile;
-pub mod plan;
-pub mod span;
-pub mod spans;
-pub mod window;
+mod keys;
+mod laws;
+mod metatile;
+mod plan;
+mod span;
+mod spans;
+mod windows;
+
+pub use keys::{laws_of_keys, same_meta};
+pub use laws::{laws_of_blocks, laws_of_spans, laws_of_windows};
+pub use metatile::{Factors, MetaKey};
+pub use plan::{meta_of, tiles_of, window};
+pub use span::Span;
+pub use spans::{blob_len, tile_len, tile_span_in_blob};
+pub use windows::Window;

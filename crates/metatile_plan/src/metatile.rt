@@ -1,5 +1,5 @@
 //! The key of a metatile, and the factors by which tiles are gathered into metatiles.
-use matrix_geometry::theme::Theme;
+use matrix_geometry::Theme;
 
 /// How the tiles of a layer are gathered into metatiles.
 #[derive(Clone, Copy, PartialEq, Eq)]

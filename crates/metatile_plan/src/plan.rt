@@ -4,10 +4,8 @@ ghost use Rattle.matrix_geometry.specs.Limits.{IsWithinLimits};
 ghost use Rattle.metatile_plan.specs.Plan.{IsBlockOf, IsMetaIn, IsPlan, IsWindowOn, meta_of, tiles_of, window_of};
 
 use crate::metatile::{Factors, MetaKey};
-use crate::window::Window;
-use matrix_geometry::address::Address;
-use matrix_geometry::boxes::Range;
-use matrix_geometry::matrix::Matrix;
+use crate::windows::Window;
+use matrix_geometry::{Address, Matrix, Range};
 
 /// The metatile that holds a tile.
 pub fn meta_of(address: &Address, f: &Factors) -> MetaKey

@@ -8,7 +8,7 @@ use crate::metatile::{Factors, MetaKey};
 use crate::plan::tiles_of;
 use crate::span::Span;
 use itoa::Buffer;
-use matrix_geometry::matrix::Matrix;
+use matrix_geometry::Matrix;
 
 /// How many digits a number has.
 fn digits(number: u32) -> u32

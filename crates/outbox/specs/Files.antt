@@ -4,7 +4,7 @@ use Rattle.std.specs.List.{AllByRecursion}
 use Rattle.cache_file.specs.File.{held, unsure}
 use Rattle.catalog.specs.declared.catalogue.Catalogue.{Catalogue}
 use Rattle.catalog.specs.Valid.{IsValid}
-use Rattle.causes.specs.Causes.{Rose}
+use Rattle.base.specs.Causes.{Rose}
 use Rattle.disk_model.specs.Content.{Content}
 use Rattle.disk_model.specs.Images.{DiskState}
 use Rattle.gate_journal.specs.declared.fault.OpenFault.{OpenFault}

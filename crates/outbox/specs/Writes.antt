@@ -1,7 +1,7 @@
 -- What the writing of a post's record comes to.
 use Rattle.std.specs.Prelude.{◌⊎◌, ℕ, [], ◌∷◌, ◌++◌, Bool, IsTrue, Some, None, ⊤}
 use Rattle.catalog.specs.declared.catalogue.Catalogue.{Catalogue}
-use Rattle.causes.specs.Causes.{Rose}
+use Rattle.base.specs.Causes.{Rose}
 use Rattle.disk_model.specs.Images.{DiskState, Every, Leaves}
 use Rattle.gate_journal.specs.declared.journal.Journal.{Journal}
 use Rattle.gate_journal.specs.Sound.{IsSettled}

@@ -5,8 +5,8 @@ ghost use Rattle.outbox.specs.Posts.{Hears, IsChangeOf, next_behind, next_of};
 
 use crate::outbox::Outbox;
 use crate::packet::Packet;
-use disk_model::disk::Disk;
-use truncation_list::cover::Cover;
+use disk_model::Disk;
+use truncation_list::Cover;
 
 /// The change behind the one of this number.
 fn behind(posts: &[Cover], number: u64) -> Option<Packet>

@@ -5,7 +5,7 @@ ghost use Rattle.gate_journal.specs.Sound.{IsSettled};
 ghost use Rattle.outbox.specs.Files.{MayOpenTo, OpensToPosts};
 
 use crate::outbox::Outbox;
-use disk_model::disk::Disk;
+use disk_model::Disk;
 
 impl<D: Disk> Outbox<D> {
     /// What a crash now leaves, where the disk is modelled: each image opens to the posts, or to these and the one that a call may have left

@@ -1,15 +1,15 @@
 //! What holds of all packets, and of the images of all outboxes.
 ghost use Rattle.std.specs.Prelude.{◌≡◌, ◌<◌, ◌≤◌, ◌^◌, ℕ, List, length};
-ghost use Rattle.catalog.specs.declared.catalogue.Catalogue.{Catalogue};
 ghost use Rattle.catalog.specs.Valid.{IsValid};
+ghost use Rattle.catalog.specs.declared.catalogue.Catalogue.{Catalogue};
 ghost use Rattle.disk_model.specs.Content.{Content};
-ghost use Rattle.served_covers.specs.OfCatalogue.{IsCoverOf};
-ghost use Rattle.truncation_list.specs.declared.cover.Cover.{Cover};
-ghost use Rattle.outbox.specs.declared.packet.Packet.{Packet};
-ghost use Rattle.outbox.specs.declared.packet.Packet.TheVariants as packet;
 ghost use Rattle.outbox.specs.Files.{IsOutboxFile, MayOpenTo, OpensToPosts};
 ghost use Rattle.outbox.specs.Packets.{FitsPacket, IsRanged, packet_text};
 ghost use Rattle.outbox.specs.Posts.{MayBeFound, Outgoing};
+ghost use Rattle.outbox.specs.declared.packet.Packet.TheVariants as packet;
+ghost use Rattle.outbox.specs.declared.packet.Packet.{Packet};
+ghost use Rattle.served_covers.specs.OfCatalogue.{IsCoverOf};
+ghost use Rattle.truncation_list.specs.declared.cover.Cover.{Cover};
 
 /// Of packets whose numbers fit their fields no two share a spelling, and each spelling has 64 bytes. A packet that can be read fits. The
 /// change of a cover of a valid catalogue, whose number is above 0 and fits, can be read.

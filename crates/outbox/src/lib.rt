@@ -9,14 +9,21 @@
 
 mod hearing;
 mod images;
-pub mod laws;
-pub mod opening;
-pub mod outbox;
-pub mod packet;
-pub mod posted;
+mod laws;
+mod opening;
+mod outbox;
+mod packet;
+mod posted;
 mod posting;
 mod ranges;
 mod reader;
-pub mod reading;
-pub mod writing;
+mod reading;
+mod writing;
 mod written;
+
+pub use laws::{laws_of_outboxes, laws_of_packets};
+pub use outbox::Outbox;
+pub use packet::{PACKET_SIZE, Packet};
+pub use posted::Posted;
+pub use reading::read_packet;
+pub use writing::write_packet;

@@ -1,7 +1,7 @@
 //! How the file of an outbox is made, and how an outbox is opened from it and closed.
 ghost use Rattle.std.specs.Prelude.{◌≡◌, ◌≤◌, [], IfErr, IfOk, IsTrue, None, OnOk};
+ghost use Rattle.base.specs.Causes.{HasCause};
 ghost use Rattle.catalog.specs.Valid.{IsValid};
-ghost use Rattle.causes.specs.Causes.{HasCause};
 ghost use Rattle.disk_model.specs.Content.{Same};
 ghost use Rattle.disk_model.specs.Images.{ChangesBy, Every};
 ghost use Rattle.gate_journal.specs.Sound.{IsSettled, digest_of};
@@ -10,11 +10,10 @@ ghost use Rattle.outbox.specs.Opens.{asked_for, disk_of};
 
 use crate::outbox::{Outbox, SLOTS};
 use crate::reader::PostReader;
-use cache_file::file::CacheFile;
-use cache_file::opening;
-use catalog::catalogue::Catalogue;
-use disk_model::disk::{Disk, Failed};
-use gate_journal::fault::OpenFault;
+use cache_file::{CacheFile, opening};
+use catalog::Catalogue;
+use disk_model::{Disk, Failed};
+use gate_journal::OpenFault;
 use std::alloc::Global;
 use std::snapshot::Snapshot;
 

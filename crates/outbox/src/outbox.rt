@@ -1,10 +1,10 @@
 //! The type of an outbox. Its calls stand in files of their own.
-use cache_file::file::CacheFile;
-use catalog::catalogue::Catalogue;
-use disk_model::disk::Disk;
+use cache_file::CacheFile;
+use catalog::Catalogue;
+use disk_model::Disk;
 use std::marker::Model;
 use std::snapshot::Snapshot;
-use truncation_list::cover::Cover;
+use truncation_list::Cover;
 
 /// How many slots a half of the file of an outbox has, and so how many posts it can hold.
 pub(crate) const SLOTS: u64 = 65536;

@@ -1,5 +1,5 @@
 //! What a leader and a follower send each other.
-use truncation_list::cover::Cover;
+use truncation_list::Cover;
 
 /// What a leader and a follower send each other.
 #[derive(Clone, Copy, PartialEq, Eq)]

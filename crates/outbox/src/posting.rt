@@ -1,26 +1,25 @@
 //! How a cover is posted: its record is written first, and the list has it where every image has the record.
 ghost use Rattle.std.specs.Prelude.{◌≡◌, ◌⊎◌, ◌+◌, ◌<◌, ◌≤◌, ◌++◌, ◌∷◌, [], ℕ, IfOk, IsTrue, Ok, OnErr, OnOk, length};
+ghost use Rattle.base.specs.Causes.{HasCause};
 ghost use Rattle.cache_file.specs.File.{Brings, held};
 ghost use Rattle.catalog.specs.declared.catalogue.Catalogue.{Catalogue};
-ghost use Rattle.causes.specs.Causes.{HasCause};
 ghost use Rattle.disk_model.specs.Images.{Every, Leaves};
 ghost use Rattle.gate_journal.specs.Sound.{IsAlike, IsSettled, IsSound, digest_of, room_of};
-ghost use Rattle.record_text.specs.Fits.{FitsCover};
-ghost use Rattle.served_covers.specs.OfCatalogue.{IsCoverOf};
-ghost use Rattle.outbox.specs.declared.posted.Posted.TheVariants as posted;
 ghost use Rattle.outbox.specs.Files.{IsPostable, IsPosted, MayOpenTo, OpensToPosts, post_body};
 ghost use Rattle.outbox.specs.Posts.{Outgoing, Posts};
 ghost use Rattle.outbox.specs.Writes.{HasWritten, IsFailedOnly};
+ghost use Rattle.outbox.specs.declared.posted.Posted.TheVariants as posted;
+ghost use Rattle.record_text.specs.Fits.{FitsCover};
+ghost use Rattle.served_covers.specs.OfCatalogue.{IsCoverOf};
 
 use crate::outbox::{Outbox, SLOTS};
 use crate::posted::Posted;
 use crate::written::Written;
-use cache_file::file::CacheFile;
-use disk_model::disk::{Disk, Failed};
-use record_text::entries::Record;
-use record_text::writing::encode;
+use cache_file::CacheFile;
+use disk_model::{Disk, Failed};
+use record_text::{Record, encode};
 use std::alloc::{AllocError, Global};
-use truncation_list::cover::Cover;
+use truncation_list::Cover;
 
 /// The type of a filter says that it has four values.
 fn four(values: [Option<u32>; 4])

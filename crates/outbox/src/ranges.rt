@@ -1,12 +1,12 @@
 //! Which covers have numbers that a catalogue may have.
-ghost use Rattle.std.specs.Prelude.{◌≡◌, ◌↔◌, ◌<◌, ◌≤◌, ◌^◌, true, length, unsigned_abs, IfSome};
 ghost use Rattle.std.specs.List.{AllByRecursion};
+ghost use Rattle.std.specs.Prelude.{◌≡◌, ◌↔◌, ◌<◌, ◌≤◌, ◌^◌, true, length, unsigned_abs, IfSome};
 ghost use Rattle.matrix_geometry.specs.Limits.{IsReachable};
-ghost use Rattle.outbox.specs.declared.packet.Packet.TheVariants as packet;
 ghost use Rattle.outbox.specs.Packets.{IsRanged, IsRangedCover};
+ghost use Rattle.outbox.specs.declared.packet.Packet.TheVariants as packet;
 
-use matrix_geometry::boxes::Box9;
-use truncation_list::cover::Cover;
+use matrix_geometry::Box9;
+use truncation_list::Cover;
 
 /// The farthest that an edge of a box may lie from 0, in billionths of a unit: 10^8 units.
 const REACH: u64 = 100_000_000_000_000_000;

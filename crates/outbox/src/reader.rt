@@ -1,18 +1,18 @@
 //! The visitor that reads the posts of a file while it is opened.
 ghost use Rattle.std.specs.Prelude.{ℕ, [], ◌∷◌, ◌++◌, ◌≡◌, ◌≢◌, ◌+◌, ◌<◌, ◌^◌, List, IfErr, IfOk, MatchOption, OnErr, length};
-ghost use Rattle.truncation_list.specs.declared.cover.Cover.{Cover};
 ghost use Rattle.outbox.specs.Files.{ArePosts, IsBadBehind, IsPostable, post_body};
 ghost use Rattle.outbox.specs.Opens.{StandsAt};
+ghost use Rattle.truncation_list.specs.declared.cover.Cover.{Cover};
 
 use crate::reading::cut_in;
-use catalog::catalogue::Catalogue;
-use gate_journal::visit::Visit;
-use record_text::reading::decode;
-use served_covers::of_catalogue::is_cover_of;
+use base::Trace;
+use catalog::Catalogue;
+use gate_journal::Visit;
+use record_text::decode;
+use served_covers::is_cover_of;
 use std::alloc::{AllocError, Global};
 use std::marker::Model;
-use trace::Trace;
-use truncation_list::cover::Cover;
+use truncation_list::Cover;
 
 /// Reads posts. Contracts see the catalogue, and the bodies that it was shown.
 #[derive(Drop)]

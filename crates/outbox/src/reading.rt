@@ -1,15 +1,14 @@
 //! How a packet is read from 64 bytes, which have to be the one spelling of it.
 ghost use Rattle.std.specs.Prelude.{◌≡◌, ◌↔◌, ◌<◌, ◌∷◌, Some, slice_index};
-ghost use Rattle.outbox.specs.declared.packet.Packet.{Packet};
 ghost use Rattle.outbox.specs.Packets.{IsReadAs, IsRanged, cut_in, packet_text};
+ghost use Rattle.outbox.specs.declared.packet.Packet.{Packet};
 
 use crate::packet::Packet;
 use crate::ranges::is_ranged;
 use crate::writing::write_packet;
 use byteorder::{BigEndian, ByteOrder};
-use record_text::entries::Record;
-use record_text::reading::decode;
-use truncation_list::cover::Cover;
+use record_text::{Record, decode};
+use truncation_list::Cover;
 
 /// The number and the cover of a record that is a cut's.
 pub(crate) fn cut_in(entry: Option<Record>) -> Option<(u64, Cover)>

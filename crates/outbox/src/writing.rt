@@ -1,16 +1,15 @@
 //! How a packet is written.
 ghost use Rattle.std.specs.Prelude.{◌≡◌, ◌∷◌, ◌++◌, replicate};
 ghost use Rattle.byteorder.specs.Endian.{big_bytes};
-ghost use Rattle.record_text.specs.declared.entries.Record.TheVariants as record_of;
+ghost use Rattle.outbox.specs.Packets.{FitsPacket, packet_text};
 ghost use Rattle.record_text.specs.Fits.{FitsCover};
 ghost use Rattle.record_text.specs.Spelling.{spelling};
-ghost use Rattle.outbox.specs.Packets.{FitsPacket, packet_text};
+ghost use Rattle.record_text.specs.declared.entries.Record.TheVariants as record_of;
 
 use crate::packet::Packet;
 use byteorder::{BigEndian, ByteOrder};
-use record_text::entries::Record;
-use record_text::writing::encode;
-use truncation_list::cover::Cover;
+use record_text::{Record, encode};
+use truncation_list::Cover;
 
 /// The kind of a packet, and the body of a record.
 fn change_text(number: u64, cover: &Cover) -> [u8; 64]

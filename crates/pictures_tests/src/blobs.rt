@@ -2,16 +2,14 @@
 ghost use Rattle.catalog.specs.Valid.{IsValid};
 
 use crate::renders::rendered;
-use catalog::catalogue::Catalogue;
-use catalog::layer::Layer;
-use exact_ratio::items::Items;
-use fixtures::sea::sea_catalogue;
-use fixtures::tiles::first_tile;
-use matrix_geometry::theme::Theme;
-use metatile_plan::metatile::MetaKey;
-use ppm_slice::of_catalogue::tile_of;
-use raster_field::layout::{blob_size, block_of};
-use source_render::numbered::Numbered;
+use catalog::{Catalogue, Layer};
+use exact_ratio::Items;
+use fixtures::{first_tile, sea_catalogue};
+use matrix_geometry::Theme;
+use metatile_plan::MetaKey;
+use ppm_slice::tile_of;
+use raster_field::{blob_size, block_of};
+use source_render::Numbered;
 use std::alloc::{AllocError, Global};
 use std::test::Fail;
 

@@ -1,12 +1,11 @@
 //! raster_field: metatiles of a catalogue with dimensions
 ghost use Rattle.catalog.specs.Valid.{IsValid};
 
-use catalog::catalogue::Catalogue;
-use fixtures::sea::sea_catalogue;
-use fixtures::tiles::FIRST;
-use matrix_geometry::theme::Theme;
-use metatile_plan::metatile::MetaKey;
-use raster_field::known::is_meta;
+use catalog::Catalogue;
+use fixtures::{FIRST, sea_catalogue};
+use matrix_geometry::Theme;
+use metatile_plan::MetaKey;
+use raster_field::is_meta;
 use std::test::Fail;
 
 /// Whether the first metatile with these values is of a catalogue.

@@ -2,18 +2,12 @@
 ghost use Rattle.std.specs.Prelude.{IfOk, ◌≡◌};
 ghost use Rattle.matrix_geometry.specs.Limits.{IsWithinLimits};
 
-use exact_ratio::decimal::Decimal;
-use exact_ratio::ratio::Ratio;
-use matrix_geometry::address::Address;
-use matrix_geometry::boxes::Range;
-use matrix_geometry::matrix::{Corner, Matrix, Size};
-use matrix_geometry::theme::Theme;
-use metatile_plan::keys::same_meta;
-use metatile_plan::metatile::Factors;
-use metatile_plan::plan::{meta_of, tiles_of, window};
-use metatile_plan::span::Span;
-use metatile_plan::spans::{blob_len, tile_len, tile_span_in_blob};
-use metatile_plan::window::Window;
+use exact_ratio::{Decimal, Ratio};
+use matrix_geometry::{Address, Corner, Matrix, Range, Size, Theme};
+use metatile_plan::{
+    Factors, Span, Window, blob_len, meta_of, same_meta, tile_len, tile_span_in_blob, tiles_of,
+    window,
+};
 use std::test::Fail;
 
 const FACTORS: Factors = Factors {

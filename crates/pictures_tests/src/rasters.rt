@@ -1,10 +1,7 @@
 //! Tests of raster_field.
-use catalog::catalogue::Catalogue;
-use fixtures::tiles::FIRST;
-use raster_field::colour::{Colour, colour_of};
-use raster_field::field::field_value;
-use raster_field::layout::window_at;
-use raster_field::raster::Raster;
+use catalog::Catalogue;
+use fixtures::FIRST;
+use raster_field::{Colour, Raster, colour_of, field_value, window_at};
 use std::test::Fail;
 
 // The first value under number 1 is 7 + 17 * 4 + 13 * 4.

@@ -2,16 +2,13 @@
 ghost use Rattle.std.specs.Prelude.{[], ◌<◌, ◌≡◌, IfOk};
 ghost use Rattle.catalog.specs.Valid.{IsValid};
 
-use catalog::catalogue::Catalogue;
-use fixtures::tiles::FIRST;
-use metatile_locks::locks::Locks;
-use metatile_locks::replies::Begin;
-use metatile_plan::metatile::MetaKey;
-use ppm_slice::of_catalogue::blob_of;
-use raster_field::known::is_meta;
-use raster_field::layout::window_at;
-use raster_field::raster::Raster;
-use source_render::source::Source;
+use catalog::Catalogue;
+use fixtures::FIRST;
+use metatile_locks::{Begin, Locks};
+use metatile_plan::MetaKey;
+use ppm_slice::blob_of;
+use raster_field::{Raster, is_meta, window_at};
+use source_render::Source;
 use std::alloc::{AllocError, Global};
 use std::test::Fail;
 

@@ -1,8 +1,6 @@
 //! Tests of source_render.
 use crate::renders::{FIRST_BLOB, renders};
-use source_render::any::AnySource;
-use source_render::numbered::Numbered;
-use source_render::scripted::Scripted;
+use source_render::{AnySource, Numbered, Scripted};
 use std::test::Fail;
 use std::{fs, process};
 

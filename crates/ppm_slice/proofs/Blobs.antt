@@ -10,7 +10,7 @@ use Rattle.matrix_geometry.specs.declared.matrix.Matrix.{Matrix}
 use Rattle.matrix_geometry.specs.Limits.{IsWithinLimits}
 use Rattle.metatile_plan.specs.declared.metatile.Factors.{Factors}
 use Rattle.metatile_plan.specs.declared.metatile.MetaKey.{MetaKey}
-use Rattle.metatile_plan.specs.declared.window.Window.{Window}
+use Rattle.metatile_plan.specs.declared.windows.Window.{Window}
 use Rattle.metatile_plan.specs.Plan.{IsIn, IsMetaIn, IsPlan, IsWindowOn, tiles_of, window_of}
 use Rattle.metatile_plan.specs.Texts.{across, blob_len, down, header, span_of, tile_len}
 use Rattle.metatile_plan.proofs.Sides.{window_on}

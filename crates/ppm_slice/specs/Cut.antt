@@ -5,7 +5,7 @@ use Rattle.matrix_geometry.specs.declared.boxes.Range.{Range}
 use Rattle.matrix_geometry.specs.declared.matrix.Matrix.{Matrix}
 use Rattle.metatile_plan.specs.declared.metatile.Factors.{Factors}
 use Rattle.metatile_plan.specs.declared.metatile.MetaKey.{MetaKey}
-use Rattle.metatile_plan.specs.declared.window.Window.{Window}
+use Rattle.metatile_plan.specs.declared.windows.Window.{Window}
 use Rattle.metatile_plan.specs.Plan.{tiles_of, window_of}
 use Rattle.metatile_plan.specs.Texts.{across, down, header}
 use Rattle.raster_field.specs.Rasters.{Image, part_of_row}

@@ -5,6 +5,10 @@
 //! `tile_text`. Stands on raster_field, metatile_plan and matrix_geometry.
 #![tactic(auto)]
 
-pub mod of_catalogue;
-pub mod parts;
-pub mod slicing;
+mod of_catalogue;
+mod parts;
+mod slicing;
+
+pub use of_catalogue::{blob_of, tile_of};
+pub use parts::tile_bytes;
+pub use slicing::slice_blob;

@@ -8,13 +8,10 @@ ghost use Rattle.raster_field.specs.TileText.{tile_text};
 
 use crate::parts::tile_bytes;
 use crate::slicing::slice_blob;
-use catalog::catalogue::Catalogue;
-use matrix_geometry::address::Address;
-use metatile_plan::laws::laws_of_blocks;
-use metatile_plan::metatile::MetaKey;
-use raster_field::laws::laws_of_metatiles;
-use raster_field::layout::{block_of, layout_of};
-use raster_field::raster::Raster;
+use catalog::Catalogue;
+use matrix_geometry::Address;
+use metatile_plan::{MetaKey, laws_of_blocks};
+use raster_field::{Raster, block_of, laws_of_metatiles, layout_of};
 use std::alloc::{AllocError, Global};
 
 /// The blob of a metatile of the catalogue out of a raster of its window. `AllocError` where memory runs out.

@@ -1,16 +1,15 @@
 //! An encoded tile in a blob.
 ghost use Rattle.std.specs.Prelude.{Some, length, ℕ, ◌≡◌};
-ghost use Rattle.catalog.specs.declared.catalogue.Catalogue.{Catalogue};
 ghost use Rattle.catalog.specs.LookUp.{matrix_in};
+ghost use Rattle.catalog.specs.declared.catalogue.Catalogue.{Catalogue};
 ghost use Rattle.matrix_geometry.specs.Limits.{IsWithinLimits};
 ghost use Rattle.metatile_plan.specs.Plan.{IsIn, IsMetaIn, IsPlan, tiles_of};
 ghost use Rattle.metatile_plan.specs.Texts.{blob_len, span_of};
 ghost use Rattle.raster_field.specs.Blocks.{IsMeta, block_text, factors_at, part_of, tile_in};
 ghost use Rattle.raster_field.specs.TileText.{tile_text};
 
-use matrix_geometry::matrix::Matrix;
-use metatile_plan::metatile::{Factors, MetaKey};
-use metatile_plan::spans::tile_span_in_blob;
+use matrix_geometry::Matrix;
+use metatile_plan::{Factors, MetaKey, tile_span_in_blob};
 
 /// An encoded tile in a blob of its metatile, without a copy.
 pub fn tile_bytes<'a>(

@@ -1,7 +1,7 @@
 //! Encoded tiles, cut out of a raster.
 ghost use Rattle.std.specs.Prelude.{IfOk, OnOk, Some, length, ℕ, ◌+◌, ◌-◌, ◌*◌, ◌<◌, ◌≡◌, ◌≤◌, ◌++◌};
-ghost use Rattle.catalog.specs.declared.catalogue.Catalogue.{Catalogue};
 ghost use Rattle.catalog.specs.LookUp.{matrix_in};
+ghost use Rattle.catalog.specs.declared.catalogue.Catalogue.{Catalogue};
 ghost use Rattle.matrix_geometry.specs.Limits.{IsWithinLimits};
 ghost use Rattle.metatile_plan.specs.Plan.{IsIn, IsMetaIn, IsPlan, tiles_of, window_of};
 ghost use Rattle.metatile_plan.specs.Texts.{across, blob_len, down, header};
@@ -11,13 +11,9 @@ ghost use Rattle.raster_field.specs.Blocks.{IsMeta, block_text, factors_at};
 ghost use Rattle.raster_field.specs.Rasters.{picture_on};
 
 use itoa::Buffer;
-use matrix_geometry::boxes::Range;
-use matrix_geometry::matrix::Matrix;
-use metatile_plan::metatile::{Factors, MetaKey};
-use metatile_plan::plan::{tiles_of, window};
-use metatile_plan::spans::blob_len;
-use metatile_plan::window::Window;
-use raster_field::raster::Raster;
+use matrix_geometry::{Matrix, Range};
+use metatile_plan::{Factors, MetaKey, Window, blob_len, tiles_of, window};
+use raster_field::Raster;
 use std::alloc::{AllocError, Global};
 
 /// A raster of a window, with the tiles that are to be cut out of it.

@@ -1,13 +1,12 @@
 //! The file that the cache is kept in.
-ghost use Rattle.std.specs.Prelude.{◌≡◌, false};
 ghost use Rattle.std.proofs.lemmas.Bool.{false≢true};
-ghost use Rattle.causes.specs.Causes.{HasCause};
+ghost use Rattle.std.specs.Prelude.{◌≡◌, false};
+ghost use Rattle.base.specs.Causes.{HasCause};
 ghost use Rattle.disk_model.specs.Images.{silent};
 ghost use Rattle.program_files.specs.Faults.{faults_of_disk};
 
-use causes::one_more;
-use disk_model::disk::{Disk, Failed};
-use disk_model::file::FileDisk;
+use base::one_more;
+use disk_model::{Disk, Failed, FileDisk};
 use std::fs::{File, OpenOptions};
 use std::io;
 use std::io::ErrorKind;

@@ -2,10 +2,7 @@
 ghost use Rattle.std.specs.Prelude.{None};
 ghost use Rattle.program_files.specs.Faults.{faults_of};
 
-use http_wire::file_source::FileSource;
-use http_wire::memory_source::MemorySource;
-use http_wire::std_streams::StdinSource;
-use http_wire::streams::{ByteSource, Failed};
+use http_wire::{ByteSource, Failed, FileSource, MemorySource, StdinSource};
 
 /// Where the program reads from: a file, bytes that were read from a file before, or standard input. It isn't modelled.
 #[derive(Drop)]

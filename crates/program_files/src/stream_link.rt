@@ -2,9 +2,8 @@
 ghost use Rattle.std.specs.Prelude.{None, refl};
 ghost use Rattle.http_wire.specs.Side.{side};
 
-use causes::one_more;
-use http_wire::links::Link;
-use http_wire::streams::{ByteSink, ByteSource, Failed};
+use base::one_more;
+use http_wire::{ByteSink, ByteSource, Failed, Link};
 use std::io;
 use std::io::{Read, Write};
 use std::net::{Ipv4Addr, Net, TcpListener, TcpStream};

@@ -1,9 +1,9 @@
 //! What holds of the accounts of a catalogue for any parts.
-ghost use Rattle.std.specs.Prelude.{List, Some, [], length, true, ℕ, ◌++◌, ◌<◌, ◌≡◌, ◌≤◌, ◌∷◌};
 ghost use Rattle.std.specs.List.{AllByRecursion, list_any};
+ghost use Rattle.std.specs.Prelude.{List, Some, [], length, true, ℕ, ◌++◌, ◌<◌, ◌≡◌, ◌≤◌, ◌∷◌};
+ghost use Rattle.catalog.specs.Scopes.{is_in};
 ghost use Rattle.catalog.specs.declared.catalogue.Catalogue.{Catalogue};
 ghost use Rattle.catalog.specs.declared.catalogue.Scope.{Scope};
-ghost use Rattle.catalog.specs.Scopes.{is_in};
 ghost use Rattle.quota_ledger.specs.Accounts.{IsBalanced, Part, accounts, added, exceeded, removed, used, used_at};
 
 /// A part that is counted in gives the accounts of the parts with it, and one that is counted out again those of the parts

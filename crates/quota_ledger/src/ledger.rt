@@ -1,11 +1,10 @@
 //! The accounts of a catalogue: bytes are counted in and out, and the scope whose quota is exceeded is told.
-ghost use Rattle.std.specs.Prelude.{IfOk, None, [], length, map, ◌+◌, ◌<◌, ◌^◌, ◌≡◌, ◌≤◌};
 ghost use Rattle.std.specs.List.{position};
+ghost use Rattle.std.specs.Prelude.{IfOk, None, [], length, map, ◌+◌, ◌<◌, ◌^◌, ◌≡◌, ◌≤◌};
 ghost use Rattle.quota_ledger.specs.Accounts.{accounts, added, exceeded, is_above, or_all, removed, used_at};
 
 use crate::account::Account;
-use catalog::catalogue::{Catalogue, Scope};
-use catalog::layer::Layer;
+use catalog::{Catalogue, Layer, Scope};
 use std::alloc::{AllocError, Global};
 use std::marker::Model;
 

@@ -6,6 +6,10 @@
 //! Stands on catalog.
 #![tactic(auto)]
 
-pub mod account;
-pub mod laws;
-pub mod ledger;
+mod account;
+mod laws;
+mod ledger;
+
+pub use account::Account;
+pub use laws::laws_of_ledgers;
+pub use ledger::Ledger;

@@ -1,9 +1,8 @@
 -- Parts of the picture on a window.
-use Rattle.std.proofs.Common.{◌≡◌, ℕ, ◌+◌, ◌*◌, ◌≤◌, ◌<◌, List, [], ◌∷◌, length, take, drop, get_or, refl, sym, ap, ◌∙◌, arith}
+use Rattle.std.proofs.Common.{◌≡◌, ℕ, ◌+◌, ◌*◌, ◌≤◌, ◌<◌, List, [], ◌∷◌, length, take, drop, get_or, refl, sym, ap, ◌∙◌, arith, Some, None}
 use Rattle.std.specs.declared.option.Option.{Option}
-use Rattle.std.proofs.Common.{Some, None}
 use Rattle.std.proofs.lemmas.List.{get_or-take, get_or-drop, length-replicate}
-use Rattle.metatile_plan.specs.declared.window.Window.{Window}
+use Rattle.metatile_plan.specs.declared.windows.Window.{Window}
 use Rattle.raster_field.specs.Picture.{Scene, colour_at}
 use Rattle.raster_field.specs.Rasters.{IsWhole, colour_in, part_of_row, picture_in, place_of, window_pixels}
 use Rattle.raster_field.specs.TileText.{bytes_of, pixel_row}

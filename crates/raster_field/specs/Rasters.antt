@@ -5,7 +5,7 @@ use Rattle.std.specs.Option.{option_map_or}
 use Rattle.catalog.specs.declared.catalogue.Catalogue.{Catalogue}
 use Rattle.catalog.specs.LookUp.{matrix_in}
 use Rattle.metatile_plan.specs.declared.metatile.MetaKey.{MetaKey}
-use Rattle.metatile_plan.specs.declared.window.Window.{Window}
+use Rattle.metatile_plan.specs.declared.windows.Window.{Window}
 use Rattle.metatile_plan.specs.Plan.{window_of}
 use Rattle.raster_field.specs.declared.colour.Colour.{Colour}
 use Rattle.raster_field.specs.Blocks.{factors_at}

@@ -2,7 +2,7 @@
 ghost use Rattle.std.specs.Prelude.{◌≡◌};
 ghost use Rattle.raster_field.specs.Picture.{colour_of};
 
-use catalog::layer::Style;
+use catalog::Style;
 
 /// The colour of a pixel, a byte each of red, green and blue.
 #[derive(Clone, Copy, PartialEq, Eq)]

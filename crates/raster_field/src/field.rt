@@ -6,11 +6,9 @@ ghost use Rattle.raster_field.specs.Blocks.{IsMeta};
 ghost use Rattle.raster_field.specs.Fields.{IsPixel, field_value};
 ghost use Rattle.raster_field.specs.Picture.{cell_at, shade_of, weighted};
 
-use catalog::catalogue::Catalogue;
-use catalog::layer::Layer;
-use matrix_geometry::matrix::Matrix;
-use matrix_geometry::theme::Theme;
-use metatile_plan::metatile::MetaKey;
+use catalog::{Catalogue, Layer};
+use matrix_geometry::{Matrix, Theme};
+use metatile_plan::MetaKey;
 
 fn wide(number: u32) -> u128
     ensures value { result ≡ number }

@@ -5,11 +5,9 @@ ghost use Rattle.catalog.specs.Valid.{IsLayer, IsValid};
 ghost use Rattle.matrix_geometry.specs.Limits.{IsWithinLimits};
 ghost use Rattle.raster_field.specs.Blocks.{IsMeta};
 
-use catalog::catalogue::Catalogue;
-use catalog::layer::Layer;
-use matrix_geometry::matrix::Matrix;
-use matrix_geometry::theme::Theme;
-use metatile_plan::metatile::MetaKey;
+use catalog::{Catalogue, Layer};
+use matrix_geometry::{Matrix, Theme};
+use metatile_plan::MetaKey;
 
 /// Whether the matrix has some tile of the metatile.
 fn has_tile(layer: &Layer, matrix: &Matrix, meta: &MetaKey) -> bool

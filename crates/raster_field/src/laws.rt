@@ -1,20 +1,20 @@
 //! What holds of all pictures on windows, and of all metatiles of a valid catalogue.
 ghost use Rattle.std.specs.Prelude.{IsSome, Option, Some, length, ℕ, ◌+◌, ◌<◌, ◌≡◌, ◌≤◌};
-ghost use Rattle.catalog.specs.declared.catalogue.Catalogue.{Catalogue};
 ghost use Rattle.catalog.specs.LookUp.{IsTile, matrix_in};
 ghost use Rattle.catalog.specs.Valid.{IsValid};
+ghost use Rattle.catalog.specs.declared.catalogue.Catalogue.{Catalogue};
+ghost use Rattle.matrix_geometry.specs.Limits.{IsWithinLimits};
 ghost use Rattle.matrix_geometry.specs.declared.address.Address.{Address};
 ghost use Rattle.matrix_geometry.specs.declared.matrix.Matrix.{Matrix};
-ghost use Rattle.matrix_geometry.specs.Limits.{IsWithinLimits};
-ghost use Rattle.metatile_plan.specs.declared.metatile.MetaKey.{MetaKey};
-ghost use Rattle.metatile_plan.specs.declared.window.Window.{Window};
 ghost use Rattle.metatile_plan.specs.Plan.{IsMetaIn, IsPlan};
+ghost use Rattle.metatile_plan.specs.declared.metatile.MetaKey.{MetaKey};
+ghost use Rattle.metatile_plan.specs.declared.windows.Window.{Window};
 ghost use Rattle.raster_field.specs.Blocks.{IsMeta, blob_size, block_of, block_text, factors_at, tile_part};
 ghost use Rattle.raster_field.specs.Picture.{Scene, colour_at, scene_of};
 ghost use Rattle.raster_field.specs.Rasters.{IsWhole, colour_in, part_of_row, picture_in};
 ghost use Rattle.raster_field.specs.TileText.{pixel_row, tile_text};
 
-use metatile_plan::laws::laws_of_blocks;
+use metatile_plan::laws_of_blocks;
 
 /// The picture on a window has at each pixel the colour of the whole picture there, and the parts of its rows are parts of
 /// the rows of the whole picture.

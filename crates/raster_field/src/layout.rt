@@ -7,14 +7,9 @@ ghost use Rattle.metatile_plan.specs.Plan.{IsMetaIn, IsPlan};
 ghost use Rattle.raster_field.specs.Blocks.{IsMeta, blob_size, block_of, factors_at, factors_of, first_tile};
 ghost use Rattle.raster_field.specs.Rasters.{IsWindowOf, window_in};
 
-use catalog::catalogue::Catalogue;
-use catalog::layer::Layer;
-use matrix_geometry::address::Address;
-use matrix_geometry::matrix::Matrix;
-use metatile_plan::metatile::{Factors, MetaKey};
-use metatile_plan::plan::{meta_of, window};
-use metatile_plan::spans::blob_len;
-use metatile_plan::window::Window;
+use catalog::{Catalogue, Layer};
+use matrix_geometry::{Address, Matrix};
+use metatile_plan::{Factors, MetaKey, Window, blob_len, meta_of, window};
 
 /// How the tiles of a layer are gathered into metatiles.
 pub fn factors_of(layer: &Layer) -> Factors

@@ -7,9 +7,16 @@
 //! Stands on catalog, metatile_plan and matrix_geometry.
 #![tactic(auto)]
 
-pub mod colour;
-pub mod field;
-pub mod known;
-pub mod laws;
-pub mod layout;
-pub mod raster;
+mod colour;
+mod field;
+mod known;
+mod laws;
+mod layout;
+mod raster;
+
+pub use colour::{Colour, colour_of};
+pub use field::{cell_at, field_value, shade_of};
+pub use known::is_meta;
+pub use laws::{laws_of_metatiles, laws_of_pictures};
+pub use layout::{Layout, blob_size, block_of, factors_of, first_tile, layout_of, window_at};
+pub use raster::Raster;

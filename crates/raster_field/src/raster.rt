@@ -3,7 +3,7 @@ ghost use Rattle.std.specs.Prelude.{IfOk, ℕ, ◌+◌, ◌*◌, ◌<◌, ◌≡
 ghost use Rattle.raster_field.specs.Rasters.{HasSize, IsWhole, blank, colour_in, part_of_row, place_of, spliced, with_bytes, with_row};
 
 use crate::colour::Colour;
-use metatile_plan::window::Window;
+use metatile_plan::Window;
 use std::alloc::{AllocError, Global};
 use std::marker::Model;
 

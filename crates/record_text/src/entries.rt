@@ -1,6 +1,6 @@
 //! The records of a journal.
-use metatile_plan::metatile::MetaKey;
-use truncation_list::cover::Cover;
+use metatile_plan::MetaKey;
+use truncation_list::Cover;
 
 /// What a journal records.
 #[derive(Clone, Copy, PartialEq, Eq)]

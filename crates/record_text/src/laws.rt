@@ -1,9 +1,9 @@
 //! What holds of all spellings.
 ghost use Rattle.std.specs.Prelude.{◌≡◌, length};
-ghost use Rattle.record_text.specs.declared.entries.Record.{Record};
 ghost use Rattle.record_text.specs.Fits.{Fits};
 ghost use Rattle.record_text.specs.Old.{IsOld, old_spelling};
 ghost use Rattle.record_text.specs.Spelling.{spelling};
+ghost use Rattle.record_text.specs.declared.entries.Record.{Record};
 
 /// Of records whose numbers fit their fields: no two share a spelling, and each spelling has 63 bytes. A record of version 1
 /// is spelled alike in both versions.

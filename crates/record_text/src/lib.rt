@@ -7,7 +7,12 @@
 #![tactic(auto)]
 
 mod draft;
-pub mod entries;
-pub mod laws;
-pub mod reading;
-pub mod writing;
+mod entries;
+mod laws;
+mod reading;
+mod writing;
+
+pub use entries::Record;
+pub use laws::laws_of_spellings;
+pub use reading::{decode, decode_old};
+pub use writing::encode;

@@ -1,20 +1,19 @@
 //! How a record is read from a body, which has to be the one spelling of it.
-ghost use Rattle.std.specs.Prelude.{◌≡◌, ◌+◌, ◌≤◌, ◌<◌, ◌^◌, ◌↔◌, length, Some, FitsSigned, IfSome, IsTrue};
 ghost use Rattle.std.specs.Int.{w64};
 ghost use Rattle.std.specs.List.{AllByRecursion};
-ghost use Rattle.record_text.specs.declared.entries.Record.{Record};
+ghost use Rattle.std.specs.Prelude.{◌≡◌, ◌+◌, ◌≤◌, ◌<◌, ◌^◌, ◌↔◌, length, Some, FitsSigned, IfSome, IsTrue};
 ghost use Rattle.record_text.specs.Fits.{Fits, FitsBox, FitsCover, FitsFilter, FitsMetatile};
-ghost use Rattle.record_text.specs.Spelling.{spelling, wanted};
 ghost use Rattle.record_text.specs.Old.{IsOld, old_spelling};
 ghost use Rattle.record_text.specs.Reading.{number_at, values_at, metatile_at, coordinate_at, box_at, bounds_at, wanted_of, filter_at, cover_at, entry_of};
+ghost use Rattle.record_text.specs.Spelling.{spelling, wanted};
+ghost use Rattle.record_text.specs.declared.entries.Record.{Record};
 
 use crate::entries::Record;
 use crate::writing::encode;
 use byteorder::{BigEndian, ByteOrder};
-use matrix_geometry::boxes::Box9;
-use matrix_geometry::theme::{Filter, Theme};
-use metatile_plan::metatile::MetaKey;
-use truncation_list::cover::Cover;
+use matrix_geometry::{Box9, Filter, Theme};
+use metatile_plan::MetaKey;
+use truncation_list::Cover;
 
 fn one_at(bytes: &[u8], at: usize) -> u32
     requires { at + 1 ≤ length bytes.now }

@@ -1,16 +1,15 @@
 //! How a record is spelled.
-ghost use Rattle.std.specs.Prelude.{◌≡◌, ◌+◌, ◌≤◌, ◌<◌, ◌^◌, ◌++◌, length, IfSome, None, Some};
 ghost use Rattle.std.specs.List.{AllByRecursion, flat_map};
+ghost use Rattle.std.specs.Prelude.{◌≡◌, ◌+◌, ◌≤◌, ◌<◌, ◌^◌, ◌++◌, length, IfSome, None, Some};
 ghost use Rattle.byteorder.specs.Endian.{big_bytes};
 ghost use Rattle.record_text.specs.Fits.{Fits, FitsBox, FitsCover, FitsFilter, FitsMetatile, FitsTheme};
 ghost use Rattle.record_text.specs.Spelling.{blob, bounds, coordinate, counted, cover, filter, metatile, position, spelling, theme, wanted};
 
 use crate::draft::Draft;
 use crate::entries::Record;
-use matrix_geometry::boxes::Box9;
-use matrix_geometry::theme::{Filter, Theme};
-use metatile_plan::metatile::MetaKey;
-use truncation_list::cover::Cover;
+use matrix_geometry::{Box9, Filter, Theme};
+use metatile_plan::MetaKey;
+use truncation_list::Cover;
 
 fn with_values(draft: Draft, values: [u32; 4]) -> Draft
     requires room { length draft + 8 ≤ 63 }

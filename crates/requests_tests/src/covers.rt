@@ -1,16 +1,14 @@
 //! job_forms, and served_covers
 ghost use Rattle.catalog.specs.Valid.{IsValid};
 
-use catalog::catalogue::Catalogue;
-use fixtures::sea::sea_catalogue;
-use job_forms::cover::read_cover;
-use job_forms::fault::{JobFault, JobField};
-use matrix_geometry::boxes::Box9;
-use matrix_geometry::theme::Filter;
-use served_covers::of_catalogue::is_cover_of;
+use catalog::Catalogue;
+use fixtures::sea_catalogue;
+use job_forms::{JobFault, JobField, read_cover};
+use matrix_geometry::{Box9, Filter};
+use served_covers::is_cover_of;
 use std::alloc::Global;
 use std::test::Fail;
-use truncation_list::cover::Cover;
+use truncation_list::Cover;
 
 const TEXT: &[u8] =
     br#"{"layer":"sea","grid":"tiny","zoomStart":0,"zoomStop":2,"bounds":["0","12","4.000004","16"],"format":"image/x-portable-pixmap","style":"grey","dimensions":{"level":"10"},"type":7}"#;

@@ -2,18 +2,16 @@
 //! 4 units from the corner 0, 16; the layer gathers two tiles each way, and has two dimensions of two values.
 ghost use Rattle.std.specs.Prelude.{◌≢◌};
 ghost use Rattle.catalog.specs.Valid.{IsValid};
-ghost use Rattle.jobs.specs.Job.{Fits};
+ghost use Rattle.job_forms.specs.Job.{Fits};
 
-use catalog::catalogue::Catalogue;
-use fixtures::sea::sea_catalogue;
-use jobs::job::{Job, JobKind};
-use jobs::places::{count, fits, nth};
-use matrix_geometry::boxes::Box9;
-use matrix_geometry::theme::{Filter, Theme};
-use metatile_plan::metatile::MetaKey;
+use catalog::Catalogue;
+use fixtures::sea_catalogue;
+use job_forms::{Job, JobKind, count, fits, nth};
+use matrix_geometry::{Box9, Filter, Theme};
+use metatile_plan::MetaKey;
 use std::alloc::{AllocError, Global};
 use std::test::Fail;
-use truncation_list::cover::Cover;
+use truncation_list::Cover;
 
 /// The matrices 1 and 2 from 0 to 9 units to the right and 7 downwards, in which the last matrix has the columns 0 to 2 and
 /// the rows 0 and 1: its second metatile is covered in one of its two columns.

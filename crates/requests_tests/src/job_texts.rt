@@ -1,12 +1,10 @@
 //! jobs: texts of jobs, by the rules of a job's two members.
-use catalog::catalogue::Catalogue;
-use job_forms::fault::{JobFault, JobField};
-use jobs::job::{Job, JobKind};
-use jobs::reading::read_job;
-use matrix_geometry::theme::Filter;
+use catalog::Catalogue;
+use job_forms::{Job, JobFault, JobField, JobKind, read_job};
+use matrix_geometry::Filter;
 use std::alloc::Global;
 use std::test::Fail;
-use truncation_list::cover::Cover;
+use truncation_list::Cover;
 
 const COVER: Cover = Cover {
     layer: 0,

@@ -1,6 +1,5 @@
 //! Tests of schedule_text.
-use schedule_text::line::{LineFault, read_line};
-use schedule_text::verb::Verb;
+use schedule_text::{LineFault, Verb, read_line};
 use std::test::Fail;
 
 #[test]

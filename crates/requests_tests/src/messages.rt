@@ -1,9 +1,6 @@
 //! http_wire: the messages of a stream
 use crate::streams::source;
-use http_wire::memory_link::MemoryLink;
-use http_wire::memory_sink::MemorySink;
-use http_wire::message::{Message, Method, Next, Stop, WireFault};
-use http_wire::reader::MessageReader;
+use http_wire::{MemoryLink, MemorySink, Message, MessageReader, Method, Next, Stop, WireFault};
 use std::alloc::{AllocError, Global};
 use std::test::Fail;
 

@@ -1,14 +1,13 @@
 //! Tests of wmts_rest.
 ghost use Rattle.catalog.specs.Valid.{IsValid};
 
-use catalog::catalogue::Catalogue;
-use fixtures::sea::sea_catalogue;
-use matrix_geometry::address::Address;
-use matrix_geometry::theme::Theme;
+use catalog::Catalogue;
+use fixtures::sea_catalogue;
+use matrix_geometry::{Address, Theme};
 use std::alloc::{AllocError, Global};
 use std::test::Fail;
-use wmts_kvp::query::Query;
-use wmts_rest::table::RestTable;
+use wmts_kvp::Query;
+use wmts_rest::RestTable;
 
 const TILE: Address = Address {
     theme: Theme {

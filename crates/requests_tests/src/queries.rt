@@ -1,15 +1,14 @@
 //! Tests of wmts_kvp.
 ghost use Rattle.catalog.specs.Valid.{IsValid};
 
-use catalog::catalogue::Catalogue;
-use exact_ratio::words::Words;
-use exception_report::code::Code;
-use fixtures::sea::sea_catalogue;
-use matrix_geometry::address::Address;
-use matrix_geometry::theme::Theme;
+use catalog::Catalogue;
+use exact_ratio::Words;
+use exception_report::Code;
+use fixtures::sea_catalogue;
+use matrix_geometry::{Address, Theme};
 use std::alloc::{AllocError, Global};
 use std::test::Fail;
-use wmts_kvp::query::{Query, read_pairs, read_query};
+use wmts_kvp::{Query, read_pairs, read_query};
 
 const TILE: Address = Address {
     theme: Theme {

@@ -1,12 +1,8 @@
 //! http_wire: what bytes come from and go to
-use http_wire::file_source::FileSource;
-use http_wire::inputs::{InputEnd, read_all};
-use http_wire::links::Link;
-use http_wire::memory_link::MemoryLink;
-use http_wire::memory_sink::MemorySink;
-use http_wire::memory_source::MemorySource;
-use http_wire::sending::{Sent, send};
-use http_wire::streams::{ByteSink, ByteSource, Failed};
+use http_wire::{
+    ByteSink, ByteSource, Failed, FileSource, InputEnd, Link, MemoryLink, MemorySink, MemorySource,
+    Sent, read_all, send,
+};
 use std::alloc::{AllocError, Global};
 use std::rt::Files;
 use std::test::Fail;

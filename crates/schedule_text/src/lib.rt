@@ -4,5 +4,8 @@
 //! Stands on metatile_plan, for its spans.
 #![tactic(auto)]
 
-pub mod line;
-pub mod verb;
+mod line;
+mod verb;
+
+pub use line::{LINE_LIMIT, Line, LineFault, digits_len, read_line};
+pub use verb::{Verb, verb_of};

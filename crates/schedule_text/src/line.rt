@@ -4,7 +4,7 @@ ghost use Rattle.std.specs.Str.Parse.{AllDigits};
 ghost use Rattle.schedule_text.specs.Line.{digits_len, actor_of, line_of};
 
 use crate::verb::{Verb, verb_of};
-use metatile_plan::span::Span;
+use metatile_plan::Span;
 
 /// One line: the number of its actor, 0 to 63, what the actor does, and where the rest stands in the line.
 #[derive(Clone, Copy, PartialEq, Eq)]

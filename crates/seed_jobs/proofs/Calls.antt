@@ -3,10 +3,10 @@ use Rattle.std.proofs.Common.{ℕ, zero, suc, ◌≡◌, ◌<◌, arith, length,
 use Rattle.std.specs.Prelude.{slice_get}
 use Rattle.cache_hall.specs.Turned.{HallPass}
 use Rattle.catalog.specs.declared.catalogue.Catalogue.{Catalogue}
-use Rattle.jobs.specs.declared.job.Job.{Job}
-use Rattle.jobs.specs.declared.job.JobKind.{JobKind}
-use Rattle.jobs.specs.declared.job.JobKind.TheVariants as kind
-use Rattle.jobs.specs.Places.{Cut, Place, places, places_of}
+use Rattle.job_forms.specs.declared.job.Job.{Job}
+use Rattle.job_forms.specs.declared.job.JobKind.{JobKind}
+use Rattle.job_forms.specs.declared.job.JobKind.TheVariants as kind
+use Rattle.job_forms.specs.Places.{Cut, Place, places, places_of}
 use Rattle.truncation_list.specs.declared.cover.Cover.{Cover}
 use Rattle.seed_jobs.specs.Visited.{HasCut, HasVisited}
 

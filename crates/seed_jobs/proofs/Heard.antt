@@ -2,13 +2,13 @@
 use Rattle.std.proofs.Common.{ℕ, zero, suc, ◌≡◌, ◌≢◌, ◌+◌, ◌<◌, ◌≤◌, All, List, [], ◌∷◌, ◌++◌, length, get_or, slice_get, slice_set, Option, Some, None, refl, sym, ap, subst, ◌∙◌, append_assoc, arith}
 use Rattle.std.specs.List.{AllWithin}
 use Rattle.std.proofs.lemmas.List.Elements.{All-map, AllWithin-more}
-use Rattle.job_sheet.specs.declared.standing.Account.{Account}
-use Rattle.job_sheet.specs.declared.standing.End.TheVariants.{Open}
-use Rattle.job_sheet.specs.declared.standing.Standing.{Standing}
-use Rattle.job_sheet.specs.Calls.{Gathers, HasEnded, ShareOut, claimed_by, done_by, failed_by, seeing}
-use Rattle.job_sheet.specs.Hands.{HasGathered, Holding, Sheet, own, own_of, watching}
-use Rattle.job_sheet.specs.Standings.{IsSound, Later, LaterAccount, account}
-use Rattle.job_sheet.proofs.Gathered.{all_places, sees_end, shares_out}
+use Rattle.job_board.specs.declared.standing.Account.{Account}
+use Rattle.job_board.specs.declared.standing.End.TheVariants.{Open}
+use Rattle.job_board.specs.declared.standing.Standing.{Standing}
+use Rattle.job_board.specs.SheetCalls.{Gathers, HasEnded, ShareOut, claimed_by, done_by, failed_by, seeing}
+use Rattle.job_board.specs.Hands.{HasGathered, Holding, Sheet, own, own_of, watching}
+use Rattle.job_board.specs.Standings.{IsSound, Later, LaterAccount, account}
+use Rattle.job_board.proofs.Gathered.{all_places, sees_end, shares_out}
 use Rattle.seed_jobs.specs.declared.member.Member.{Member}
 use Rattle.seed_jobs.specs.Crews.{AreShared, SeesEnd, hands_of}
 use Rattle.seed_jobs.specs.Gathered.{AreAlike, AreAll, HasHeard, IsAlike}

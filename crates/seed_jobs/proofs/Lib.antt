@@ -4,3 +4,9 @@ mod Together
 mod Heard
 mod Sums
 mod Shared
+mod Swapping
+mod Joining
+mod Counting
+pub mod History
+mod Pairing
+mod Putting

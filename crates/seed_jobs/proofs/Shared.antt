@@ -4,12 +4,12 @@ use Rattle.std.proofs.Common.{ℕ, zero, suc, ◌≡◌, ◌≢◌, ◌+◌, ◌
 use Rattle.std.proofs.lemmas.List.Sums.{sum_by-cons}
 use Rattle.atomic_table.specs.Seated.{TableId}
 use Rattle.catalog.specs.declared.catalogue.Catalogue.{Catalogue}
-use Rattle.job_sheet.specs.declared.standing.Account.{Account}
-use Rattle.job_sheet.specs.declared.standing.End.TheVariants.{Open}
-use Rattle.job_sheet.specs.Calls.{claimed_by, done_by, failed_by}
-use Rattle.job_sheet.specs.Hands.{AreFresh, Holding, Sheet, fresh_holding, own}
-use Rattle.job_sheet.specs.Standings.{fresh}
-use Rattle.jobs.specs.declared.job.Job.{Job}
+use Rattle.job_board.specs.declared.standing.Account.{Account}
+use Rattle.job_board.specs.declared.standing.End.TheVariants.{Open}
+use Rattle.job_board.specs.SheetCalls.{claimed_by, done_by, failed_by}
+use Rattle.job_board.specs.Hands.{AreFresh, Holding, Sheet, fresh_holding, own}
+use Rattle.job_board.specs.Standings.{fresh}
+use Rattle.job_forms.specs.declared.job.Job.{Job}
 use Rattle.seed_jobs.specs.declared.tally.Tally.{Tally}
 use Rattle.seed_jobs.specs.Crews.{AreShared, HaveWorked, SeesEnd, hands_of, total_of}
 use Rattle.seed_jobs.specs.Gathered.{AreAlike, AreAll, IsAlike}

@@ -1,7 +1,7 @@
 -- A crew from its members.
 use Rattle.std.proofs.Common.{ℕ, zero, suc, ◌≡◌, ◌<◌, All, List, [], ◌∷◌, length, get_or, Option, arith, subst}
 use Rattle.catalog.specs.declared.catalogue.Catalogue.{Catalogue}
-use Rattle.jobs.specs.declared.job.Job.{Job}
+use Rattle.job_forms.specs.declared.job.Job.{Job}
 use Rattle.seed_jobs.specs.declared.member.Member.{Member}
 use Rattle.seed_jobs.specs.Crews.{HaveWorked}
 use Rattle.seed_jobs.specs.Members.{tallies_of, worker_of, workers_of}

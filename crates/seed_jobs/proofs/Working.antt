@@ -3,14 +3,14 @@ use Rattle.std.proofs.Common.{ℕ, ◌≡◌, ◌≢◌, ◌+◌, ◌≤◌, ◌
 use Rattle.catalog.specs.declared.catalogue.Catalogue.{Catalogue}
 use Rattle.atomic_table.specs.Seated.{TableId}
 use Rattle.cache_hall.specs.Turned.{HallPass, IsPassOf}
-use Rattle.job_sheet.specs.declared.standing.Account.{Account}
-use Rattle.job_sheet.specs.declared.standing.End.{End}
-use Rattle.job_sheet.specs.declared.standing.End.TheVariants.{AllClaimed, Cancelled, Open}
-use Rattle.job_sheet.specs.declared.standing.Standing.{Standing}
-use Rattle.job_sheet.specs.Calls.{Claims, MeetsNone, Refuses}
-use Rattle.job_sheet.specs.Hands.{Holding, Sheet, own}
-use Rattle.job_sheet.specs.Standings.{ending, gaining}
-use Rattle.jobs.specs.declared.job.Job.{Job}
+use Rattle.job_board.specs.declared.standing.Account.{Account}
+use Rattle.job_board.specs.declared.standing.End.{End}
+use Rattle.job_board.specs.declared.standing.End.TheVariants.{AllClaimed, Cancelled, Open}
+use Rattle.job_board.specs.declared.standing.Standing.{Standing}
+use Rattle.job_board.specs.SheetCalls.{Claims, MeetsNone, Refuses}
+use Rattle.job_board.specs.Hands.{Holding, Sheet, own}
+use Rattle.job_board.specs.Standings.{ending, gaining}
+use Rattle.job_forms.specs.declared.job.Job.{Job}
 use Rattle.truncation_list.specs.declared.book.FrontedBook.{FrontedBook}
 use Rattle.turnstile.specs.Passes.{seen_by}
 use Rattle.seed_jobs.specs.declared.tally.Tally.{Tally}

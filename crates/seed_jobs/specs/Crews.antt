@@ -1,10 +1,10 @@
 -- What a crew does: each of its workers works, and their places are shared out.
 use Rattle.std.specs.Prelude.{◌≡◌, ℕ, List, [], ◌∷◌, map, sum_by, Contains, ⊤}
 use Rattle.catalog.specs.declared.catalogue.Catalogue.{Catalogue}
-use Rattle.job_sheet.specs.declared.standing.End.TheVariants.{AllClaimed}
-use Rattle.job_sheet.specs.Calls.{HasEnded, ShareOut, claimed_by}
-use Rattle.job_sheet.specs.Hands.{Holding, Sheet, own, watching}
-use Rattle.jobs.specs.declared.job.Job.{Job}
+use Rattle.job_board.specs.declared.standing.End.TheVariants.{AllClaimed}
+use Rattle.job_board.specs.SheetCalls.{HasEnded, ShareOut, claimed_by}
+use Rattle.job_board.specs.Hands.{Holding, Sheet, own, watching}
+use Rattle.job_forms.specs.declared.job.Job.{Job}
 use Rattle.seed_jobs.specs.declared.tally.Tally.{Tally}
 use Rattle.seed_jobs.specs.Workers.{Worker}
 use Rattle.seed_jobs.specs.Works.{Works}

@@ -1,10 +1,10 @@
 -- What a gathering of a crew's hands does.
 -- A tie between the code and its definitions: the promise can be read without it.
 use Rattle.std.specs.Prelude.{◌≡◌, ◌≢◌, ◌+◌, ℕ, List, [], ◌∷◌, All, Some, length, slice_get, ⊤}
-use Rattle.job_sheet.specs.declared.standing.End.TheVariants.{Open}
-use Rattle.job_sheet.specs.Calls.{seeing}
-use Rattle.job_sheet.specs.Hands.{Holding, Sheet, own}
-use Rattle.job_sheet.specs.Standings.{Later}
+use Rattle.job_board.specs.declared.standing.End.TheVariants.{Open}
+use Rattle.job_board.specs.SheetCalls.{seeing}
+use Rattle.job_board.specs.Hands.{Holding, Sheet, own}
+use Rattle.job_board.specs.Standings.{Later}
 use Rattle.seed_jobs.specs.Workers.{Worker}
 
 -- the hand has seen all that these other hands had, and is otherwise as it was

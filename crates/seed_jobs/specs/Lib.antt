@@ -7,3 +7,6 @@ pub mod Works
 pub mod Crews
 pub mod Gathered
 pub mod Totals
+pub mod Idles
+pub mod Turns
+pub mod Runs

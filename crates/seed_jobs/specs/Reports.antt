@@ -1,9 +1,9 @@
 -- What a worker's steps on its sheet do to its hand.
 -- A tie between the code and its definitions: the promise can be read without it.
 use Rattle.std.specs.Prelude.{◌≡◌, ℕ, ◌+◌, Bool, true, false, not, List, [], ◌∷◌, ◌++◌}
-use Rattle.job_sheet.specs.declared.standing.Account.{Account}
-use Rattle.job_sheet.specs.Calls.{one_done, one_failed}
-use Rattle.job_sheet.specs.Hands.{Holding, own}
+use Rattle.job_board.specs.declared.standing.Account.{Account}
+use Rattle.job_board.specs.SheetCalls.{one_done, one_failed}
+use Rattle.job_board.specs.Hands.{Holding, own}
 use Rattle.seed_jobs.specs.declared.tally.Tally.{Tally}
 
 -- the account after a report

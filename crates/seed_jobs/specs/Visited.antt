@@ -4,7 +4,7 @@ use Rattle.std.specs.Prelude.{ℕ, ◌≡◌, Bool, List}
 use Rattle.cabinet_chest.specs.declared.shown.Note.{Note}
 use Rattle.catalog.specs.declared.catalogue.Catalogue.{Catalogue}
 use Rattle.cache_hall.specs.Turned.{Gains, HallPass}
-use Rattle.jobs.specs.declared.job.Job.{Job}
+use Rattle.job_forms.specs.declared.job.Job.{Job}
 use Rattle.truncation_list.specs.declared.cover.Cover.{Cover}
 use Rattle.turnstile.specs.Passes.{seen_by}
 use Rattle.turnstile.specs.declared.view.Made.{Made}

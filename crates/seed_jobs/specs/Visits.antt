@@ -6,7 +6,7 @@ use Rattle.cabinet_chest.specs.declared.command.Command.TheVariants as command
 use Rattle.cabinet_chest.specs.declared.command.Reply.TheVariants as reply
 use Rattle.cabinet_chest.specs.declared.shown.Note.{Note}
 use Rattle.catalog.specs.declared.catalogue.Catalogue.{Catalogue}
-use Rattle.causes.specs.Causes.{Rose}
+use Rattle.base.specs.Causes.{Rose}
 use Rattle.metatile_plan.specs.declared.metatile.MetaKey.{MetaKey}
 use Rattle.truncation_list.specs.declared.book.FrontedBook.{FrontedBook}
 use Rattle.truncation_list.specs.declared.cover.Cover.{Cover}
@@ -16,10 +16,10 @@ use Rattle.cache_access.specs.declared.fault.GetFault.TheVariants.{SourceFault}
 use Rattle.cache_access.specs.declared.refreshed.Refreshed.{Refreshed}
 use Rattle.cache_hall.specs.Refreshes.{CameTo}
 use Rattle.cache_access.specs.Turned.{AreTurns, IsOf}
-use Rattle.jobs.specs.declared.job.Job.{Job}
-use Rattle.jobs.specs.declared.job.JobKind.{JobKind}
-use Rattle.jobs.specs.declared.job.JobKind.TheVariants.{Reseed, Seed, Truncate}
-use Rattle.jobs.specs.Places.{Cut, Metatile, Place, places}
+use Rattle.job_forms.specs.declared.job.Job.{Job}
+use Rattle.job_forms.specs.declared.job.JobKind.{JobKind}
+use Rattle.job_forms.specs.declared.job.JobKind.TheVariants.{Reseed, Seed, Truncate}
+use Rattle.job_forms.specs.Places.{Cut, Metatile, Place, places}
 use Rattle.seed_jobs.specs.declared.tally.Tally.{Tally}
 
 -- a visit: the number of its place, the turns that the pass made there, whether the place counts as done, the book that the pass had seen

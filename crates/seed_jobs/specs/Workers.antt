@@ -3,7 +3,7 @@ use Rattle.std.specs.Prelude.{ℕ, ◌≡◌, true, Option, Some}
 use Rattle.atomic_table.specs.Seated.{TableId}
 use Rattle.cache_hall.specs.Turned.{HallPass, IsPassOf}
 use Rattle.catalog.specs.declared.catalogue.Catalogue.{Catalogue}
-use Rattle.job_sheet.specs.Hands.{Holding, MayClaim, Sheet}
+use Rattle.job_board.specs.Hands.{Holding, MayClaim, Sheet}
 
 -- a worker: its hand of the job's sheet, its pass of the hall, the number that its source tells, and how often that has failed
 pub record Worker : Type 0 where

@@ -1,11 +1,11 @@
 -- What a worker does: it visits the places that its hand claims, until that meets None.
 use Rattle.std.specs.Prelude.{◌≡◌, ◌≢◌, ◌+◌, ◌≤◌, List, ◌++◌, length}
 use Rattle.catalog.specs.declared.catalogue.Catalogue.{Catalogue}
-use Rattle.job_sheet.specs.declared.standing.Account.{Account}
-use Rattle.job_sheet.specs.declared.standing.End.{End}
-use Rattle.job_sheet.specs.declared.standing.End.TheVariants.{Open}
-use Rattle.job_sheet.specs.Hands.{Holding, own}
-use Rattle.jobs.specs.declared.job.Job.{Job}
+use Rattle.job_board.specs.declared.standing.Account.{Account}
+use Rattle.job_board.specs.declared.standing.End.{End}
+use Rattle.job_board.specs.declared.standing.End.TheVariants.{Open}
+use Rattle.job_board.specs.Hands.{Holding, own}
+use Rattle.job_forms.specs.declared.job.Job.{Job}
 use Rattle.turnstile.specs.Passes.{seen_by}
 use Rattle.seed_jobs.specs.declared.tally.Tally.{Tally}
 use Rattle.seed_jobs.specs.Visits.{AreVisits, Visit, done_of, failed_of, tally_of, turns_of, visited}

@@ -1,17 +1,16 @@
 //! The hands of a crew, gathered.
 ghost use Rattle.std.specs.Prelude.{IfNone, IfSome, [], ◌≡◌, ◌∷◌};
-ghost use Rattle.job_sheet.specs.Calls.{claimed_by, done_by, failed_by};
-ghost use Rattle.job_sheet.specs.Hands.{watching};
+ghost use Rattle.job_board.specs.Hands.{watching};
+ghost use Rattle.job_board.specs.SheetCalls.{claimed_by, done_by, failed_by};
 ghost use Rattle.seed_jobs.specs.Crews.{AreShared, SeesEnd, hands_of};
 ghost use Rattle.seed_jobs.specs.Gathered.{AreAlike, AreAll, AreOf, HasHeard, IsAlike};
 ghost use Rattle.seed_jobs.specs.Members.{tallies_of, worker_of, workers_of};
 
 use crate::gate::Gate;
 use crate::member::Member;
-use cabinet::keeper::Keeper;
-use job_sheet::hand::Hand;
-use job_sheet::sheet::JobSheet;
-use source_render::source::Source;
+use cabinet::Keeper;
+use job_board::{Hand, JobSheet};
+use source_render::Source;
 
 /// A hand is told all that the hands of these members have seen. The answer is a watch that has seen as much.
 fn hear<K: Keeper, S: Source, G: Gate>(

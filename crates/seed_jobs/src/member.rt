@@ -1,11 +1,11 @@
 //! A member of a crew.
 use crate::gate::Gate;
 use crate::tally::Tally;
-use cabinet::keeper::Keeper;
-use cabinet_chest::chest::CabinetChest;
-use job_sheet::hand::Hand;
-use source_render::source::Source;
-use turnstile::pass::Pass;
+use cabinet::Keeper;
+use cabinet_chest::CabinetChest;
+use job_board::Hand;
+use source_render::Source;
+use turnstile::Pass;
 
 /// A worker of a crew, with what it came to.
 #[derive(Drop)]

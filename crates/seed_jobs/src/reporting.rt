@@ -1,10 +1,9 @@
 //! The reports of a worker.
 ghost use Rattle.std.specs.Prelude.{◌≡◌};
-ghost use Rattle.job_sheet.specs.Hands.{MayReport};
+ghost use Rattle.job_board.specs.Hands.{MayReport};
 ghost use Rattle.seed_jobs.specs.Reports.{Reports};
 
-use job_sheet::hand::Hand;
-use job_sheet::sheet::JobSheet;
+use job_board::{Hand, JobSheet};
 
 /// Reports a place done or failed.
 pub(crate) fn report(sheet: &JobSheet, hand: &mut Hand, place: u64, is_done: bool)

@@ -7,8 +7,8 @@ ghost use Rattle.seed_jobs.specs.Totals.{HasFew};
 use crate::gate::Gate;
 use crate::member::Member;
 use crate::tally::Tally;
-use cabinet::keeper::Keeper;
-use source_render::source::Source;
+use cabinet::Keeper;
+use source_render::Source;
 
 /// The counts of all members together.
 pub(crate) fn total<K: Keeper, S: Source, G: Gate>(crew: &[Member<K, S, G>]) -> Tally

@@ -2,23 +2,19 @@
 ghost use Rattle.std.specs.Prelude.{Bool, Some, length, true, ◌<◌, ◌≡◌, ◌≢◌, ◌≤◌};
 ghost use Rattle.cache_hall.specs.Turned.{IsPassOf};
 ghost use Rattle.catalog.specs.Valid.{IsValid};
-ghost use Rattle.jobs.specs.Job.{Fits};
-ghost use Rattle.jobs.specs.Places.{places};
+ghost use Rattle.job_forms.specs.Job.{Fits};
+ghost use Rattle.job_forms.specs.Places.{places};
 ghost use Rattle.seed_jobs.specs.Visited.{HasCut, HasVisited};
 
-use cabinet::keeper::Keeper;
-use cabinet::replies::CutReply;
-use cabinet_chest::chest::CabinetChest;
-use cache_access::access::Access;
-use cache_hall::hall::Hall;
-use cache_hall::refresh::refresh;
-use cache_hall::shared::Shared;
-use jobs::job::{Job, JobKind};
-use jobs::places::nth;
-use source_render::source::Source;
+use cabinet::{CutReply, Keeper};
+use cabinet_chest::CabinetChest;
+use cache_access::Access;
+use cache_hall::{Hall, Shared, refresh};
+use job_forms::{Job, JobKind, nth};
+use source_render::Source;
 use std::alloc::Global;
 use std::sync::Wait;
-use turnstile::pass::Pass;
+use turnstile::Pass;
 
 /// Refreshes the metatile at a place of a seed or a reseed, and says whether that answered no fault.
 fn is_refreshed<R: Wait, K: Keeper, S: Source>(

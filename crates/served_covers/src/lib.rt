@@ -5,4 +5,6 @@
 //! Stands on truncation_list, catalog and matrix_geometry.
 #![tactic(auto)]
 
-pub mod of_catalogue;
+mod of_catalogue;
+
+pub use of_catalogue::is_cover_of;

@@ -3,9 +3,9 @@ ghost use Rattle.std.specs.Prelude.{◌≡◌, ◌↔◌, ◌<◌, ◌≤◌, �
 ghost use Rattle.matrix_geometry.specs.Limits.{IsReachable};
 ghost use Rattle.served_covers.specs.OfCatalogue.{HasWanted, IsCoverOf};
 
-use catalog::catalogue::Catalogue;
-use matrix_geometry::boxes::Box9;
-use truncation_list::cover::Cover;
+use catalog::Catalogue;
+use matrix_geometry::Box9;
+use truncation_list::Cover;
 
 /// The farthest that an edge of a box may lie from 0, in billionths of a unit: 10^8 units.
 const REACH: u64 = 100_000_000_000_000_000;

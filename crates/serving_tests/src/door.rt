@@ -2,12 +2,9 @@
 ghost use Rattle.std.specs.Prelude.{None, refl};
 ghost use Rattle.http_wire.specs.Side.{side};
 
-use http_wire::links::Link;
-use http_wire::memory_source::MemorySource;
-use http_wire::streams::{ByteSink, ByteSource, Failed};
-use listeners::listener::Listener;
+use base::Trace;
+use http_wire::{ByteSink, ByteSource, Failed, Link, Listener, MemorySource};
 use std::sync::{Mutex, Wait};
-use trace::Trace;
 
 /// A connection in memory that puts what it takes in where others read it. Neither side is modelled.
 #[derive(Drop)]
@@ -74,7 +71,7 @@ impl<'a, R: Wait> Listener for Door<'a, R> {
                 Ok(link)
             }
             None => {
-                self.faults = causes::one_more(self.faults);
+                self.faults = base::one_more(self.faults);
                 Err(Failed)
             }
         }

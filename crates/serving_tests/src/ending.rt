@@ -5,16 +5,16 @@ use crate::answers::{JOB, JOB_SUBMITTED};
 use crate::door::{Door, HeardLink};
 use crate::slow::SlowSource;
 use crate::stage::{Stage, served, supply};
-use command_status::status::Status;
-use hall_service::stage::SOURCES;
-use source_render::numbered::Numbered;
+use base::Trace;
+use command_status::Status;
+use server_workers::SOURCES;
+use source_render::Numbered;
 use std::alloc::Global;
 use std::sync::atomic::{AtomicU64, Ordering};
 use std::sync::{Mutex, Wait};
 use std::test::Fail;
 use std::thread::Threads;
 use std::time::Clock;
-use trace::Trace;
 
 /// How many places the job has.
 const PLACES: u64 = 4;

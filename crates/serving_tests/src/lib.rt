@@ -1,7 +1,7 @@
 //! Tests of a server, over connections in memory and over sockets of the loopback.
 //!
 //! It has no code of its own and promises nothing.
-//! Stands on tile_serving and tcp_lanes, and on the crates of what they are called with.
+//! Stands on server_command and tcp_lanes, and on the crates of what they are called with.
 #![tactic(auto)]
 
 #[cfg(test)]

@@ -8,9 +8,9 @@ use crate::answers::{
 use crate::client::answer_to;
 use crate::held::Hold;
 use crate::stage::{Stage, held_sources, served, sources};
-use command_status::status::Status;
-use hall_service::stage::SOURCES;
-use source_render::source::Source;
+use command_status::Status;
+use server_workers::SOURCES;
+use source_render::Source;
 use std::alloc::Global;
 use std::net::{Net, TcpStream};
 use std::sync::Wait;
@@ -18,7 +18,7 @@ use std::test::Fail;
 use std::thread;
 use std::thread::Threads;
 use std::time::Clock;
-use tcp_lanes::accept::TcpAccept;
+use tcp_lanes::TcpAccept;
 
 /// What a client read.
 #[derive(Clone, Copy, PartialEq, Eq)]

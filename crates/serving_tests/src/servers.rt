@@ -2,15 +2,13 @@
 use crate::door::{Door, HeardLink};
 use crate::stage::{Stage, served, sources, supply};
 use crate::texts::{are_of_one_render, has};
-use command_status::status::Status;
-use http_wire::memory_link::MemoryLink;
-use http_wire::memory_sink::MemorySink;
-use listeners::list_of_links::ListOfLinks;
+use base::Trace;
+use command_status::Status;
+use http_wire::{ListOfLinks, MemoryLink, MemorySink};
 use std::alloc::Global;
 use std::sync::{Mutex, Wait};
 use std::test::Fail;
 use std::thread::Threads;
-use trace::Trace;
 
 /// The one message of a connection: a tile of the built-in catalogue.
 const MESSAGE: &[u8] =

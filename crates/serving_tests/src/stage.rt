@@ -2,23 +2,20 @@
 ghost use Rattle.std.specs.Prelude.{IfOk, length, ◌≡◌, ◌≤◌};
 
 use crate::held::{HeldSource, Hold};
-use clock::clock::Clock;
-use command_status::status::Status;
-use exact_ratio::words::Words;
-use hall_service::stage::SOURCES;
-use http_wire::memory_sink::MemorySink;
-use http_wire::memory_source::MemorySource;
-use listeners::listener::Listener;
-use silent_disk::SilentDisk;
-use source_render::numbered::Numbered;
-use source_render::source::Source;
+use base::Clock;
+use command_status::Status;
+use exact_ratio::Words;
+use fixtures::SilentDisk;
+use http_wire::{Listener, MemorySink, MemorySource};
+use server_command::run_server;
+use server_workers::SOURCES;
+use source_render::{Numbered, Source};
 use std::alloc::Global;
 use std::snapshot::Snapshot;
 use std::sync::Wait;
 use std::test::Fail;
 use std::thread::Threads;
-use tile_command::command::run_command;
-use tile_serving::server::run_server;
+use tile_command::run_command;
 
 /// A source of these bytes.
 pub fn supply(alloc: Global, bytes: &[u8]) -> Result<MemorySource, Fail> {

@@ -1,7 +1,7 @@
 -- What comes next on the link of a session: a message, or the end of the session where none comes.
 use Rattle.std.specs.Prelude.{ℕ, ◌≡◌, List, Option, None}
 use Rattle.std.specs.Io.KnownBytes.{Appends, Keeps, prepend_known}
-use Rattle.causes.specs.Causes.{Rose}
+use Rattle.base.specs.Causes.{Rose}
 use Rattle.http_wire.specs.Answers.{IsPartOfTake, Remain, StaysAt, TakesMessage}
 use Rattle.http_wire.specs.Messages.{HoldsMessage}
 use Rattle.http_wire.specs.Reader.{Reading}

@@ -5,9 +5,7 @@ ghost use Rattle.sessions.specs.Coming.{EndsUnmet, HasCome};
 
 use crate::responses::write_refusal;
 use crate::session::SessionEnd;
-use http_wire::links::Link;
-use http_wire::message::{Message, Next, WireFault};
-use http_wire::reader::MessageReader;
+use http_wire::{Link, Message, MessageReader, Next, WireFault};
 use std::alloc::Global;
 
 /// The next message of a session, or how the session ends where none comes. Bytes that are no message are answered before it ends.

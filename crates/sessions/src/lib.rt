@@ -7,7 +7,12 @@
 //! Stands on tile_requests, source_render and http_wire.
 #![tactic(auto)]
 
-pub mod coming;
-pub mod responses;
-pub mod server;
-pub mod session;
+mod coming;
+mod responses;
+mod server;
+mod session;
+
+pub use coming::next_message;
+pub use responses::{write_refusal, write_response};
+pub use server::{MessageServer, NoJobs};
+pub use session::{SESSION_LIMIT, SessionEnd, hold_session};

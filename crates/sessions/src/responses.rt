@@ -1,20 +1,15 @@
 //! How the response to a message is written, and that to bytes that are no message.
-ghost use Rattle.std.specs.Prelude.{◌≡◌, true, OnErr, OnOk};
 ghost use Rattle.std.specs.Io.KnownBytes.{Appends};
-ghost use Rattle.causes.specs.Causes.{HasCause};
+ghost use Rattle.std.specs.Prelude.{◌≡◌, true, OnErr, OnOk};
+ghost use Rattle.base.specs.Causes.{HasCause};
 ghost use Rattle.sessions.specs.Responses.{MayTell, bad_text};
 ghost use Rattle.tile_requests.specs.Response.{response_text, response_with};
 ghost use Rattle.tile_requests.specs.Sent.{AppendsFront};
 ghost use Rattle.tile_requests.specs.Shown.{shown_parts};
 
-use http_wire::sending::Sent;
-use http_wire::streams::ByteSink;
+use http_wire::{ByteSink, Sent};
 use std::alloc::Global;
-use tile_requests::head::head;
-use tile_requests::outcome::Outcome;
-use tile_requests::parts::Parts;
-use tile_requests::response::{bare, parts_of};
-use tile_requests::small_text::send_behind;
+use tile_requests::{Outcome, Parts, bare, head, parts_of, send_behind};
 
 /// Sends a response, which closes its connection or does not.
 fn send_response<O: ByteSink>(sink: &mut O, closes: bool, parts: &Parts<'_>) -> Result<(), Sent>

@@ -2,13 +2,13 @@
 ghost use Rattle.std.specs.Prelude.{◌≡◌, ℕ, List};
 ghost use Rattle.std.specs.declared.option.Option.{Option};
 ghost use Rattle.http_wire.specs.declared.message.Message.{Message};
-ghost use Rattle.tile_requests.specs.declared.outcome.Outcome.{Outcome};
 ghost use Rattle.sessions.specs.Exchanges.{Standing, standing};
+ghost use Rattle.tile_requests.specs.declared.outcome.Outcome.{Outcome};
 
-use http_wire::message::Message;
-use source_render::source::Source;
+use http_wire::Message;
+use source_render::Source;
 use std::alloc::Global;
-use tile_requests::outcome::Outcome;
+use tile_requests::Outcome;
 
 /// Where no job can be submitted.
 #[derive(Drop)]

@@ -1,23 +1,20 @@
 //! The messages of one connection, served in order, and how a session ends.
-ghost use Rattle.std.specs.Prelude.{◌≡◌, OnErr, OnOk};
 ghost use Rattle.std.specs.Io.KnownBytes.{Appends};
-ghost use Rattle.causes.specs.Causes.{HasCause};
+ghost use Rattle.std.specs.Prelude.{◌≡◌, OnErr, OnOk};
+ghost use Rattle.base.specs.Causes.{HasCause};
 ghost use Rattle.sessions.specs.Exchanges.{standing};
 ghost use Rattle.sessions.specs.Outside.{InputChange, OutputChange, counts};
 ghost use Rattle.sessions.specs.Responses.{MayTell};
 ghost use Rattle.sessions.specs.Sessions.{IsHeld};
-ghost use Rattle.tile_requests.specs.declared.outcome.Outcome.{Outcome};
 ghost use Rattle.tile_requests.specs.Response.{closes, response};
 ghost use Rattle.tile_requests.specs.Sent.{AppendsFront};
+ghost use Rattle.tile_requests.specs.declared.outcome.Outcome.{Outcome};
 
 use crate::coming::next_message;
 use crate::responses::write_response;
 use crate::server::MessageServer;
-use http_wire::links::Link;
-use http_wire::message::Message;
-use http_wire::reader::MessageReader;
-use http_wire::sending::Sent;
-use source_render::source::Source;
+use http_wire::{Link, Message, MessageReader, Sent};
+use source_render::Source;
 use std::alloc::Global;
 
 /// How many messages a session answers at most.

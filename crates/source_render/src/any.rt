@@ -2,10 +2,10 @@
 use crate::grid_file::GridFile;
 use crate::numbered::Numbered;
 use crate::source::{Failed, Source};
-use catalog::catalogue::Catalogue;
-use metatile_locks::ticket::Ticket;
-use metatile_plan::window::Window;
-use raster_field::raster::Raster;
+use catalog::Catalogue;
+use metatile_locks::Ticket;
+use metatile_plan::Window;
+use raster_field::Raster;
 use std::fs::File;
 use std::io::ErrorKind;
 use std::rt::Files;

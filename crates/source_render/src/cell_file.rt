@@ -1,6 +1,6 @@
 //! Files of cells.
-ghost use Rattle.std.specs.Prelude.{IfSome, IsSome, drop, get_or, take, ℕ, ◌+◌, ◌*◌, ◌<◌, ◌≡◌, ◌≤◌, ◌^◌};
 ghost use Rattle.std.specs.Int.{from_be_bytes, w32};
+ghost use Rattle.std.specs.Prelude.{IfSome, IsSome, drop, get_or, take, ℕ, ◌+◌, ◌*◌, ◌<◌, ◌≡◌, ◌≤◌, ◌^◌};
 ghost use Rattle.source_render.specs.Cells.{IsGridFile};
 
 use crate::painter::MOST;

@@ -10,15 +10,11 @@ use crate::numbered::Numbered;
 use crate::painter::{BYTES, MOST, put_row};
 use crate::palette::{palette_of, put_pixel};
 use crate::source::{Failed, Source};
-use catalog::catalogue::Catalogue;
-use catalog::layer::Layer;
-use matrix_geometry::matrix::Matrix;
-use metatile_locks::ticket::Ticket;
-use metatile_plan::metatile::MetaKey;
-use metatile_plan::window::Window;
-use raster_field::colour::Colour;
-use raster_field::field::cell_at;
-use raster_field::raster::Raster;
+use catalog::{Catalogue, Layer};
+use matrix_geometry::Matrix;
+use metatile_locks::Ticket;
+use metatile_plan::{MetaKey, Window};
+use raster_field::{Colour, Raster, cell_at};
 use std::fs::File;
 use std::io::ErrorKind;
 use std::rt::Files;
@@ -198,7 +194,7 @@ impl<'a, R: Files<File = File> + Drop> Source for GridFile<'a, R> {
         match self.paint(catalogue, ticket, window, into) {
             Some(()) => Ok(()),
             None => {
-                self.faults = causes::one_more(self.faults);
+                self.faults = base::one_more(self.faults);
                 Err(Failed)
             }
         }

@@ -1,9 +1,9 @@
 //! A source that is lent is a source.
 use crate::source::{Failed, Source};
-use catalog::catalogue::Catalogue;
-use metatile_locks::ticket::Ticket;
-use metatile_plan::window::Window;
-use raster_field::raster::Raster;
+use catalog::Catalogue;
+use metatile_locks::Ticket;
+use metatile_plan::Window;
+use raster_field::Raster;
 
 impl<S: Source> Source for &mut S {
     ghost told = { λ s. S.told s.now };

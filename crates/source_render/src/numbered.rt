@@ -1,16 +1,16 @@
 //! The source of numbered pictures.
 ghost use Rattle.std.specs.Prelude.{IsOk, OnOk, Some, ◌≡◌};
-ghost use Rattle.causes.specs.Causes.{HasCause};
+ghost use Rattle.base.specs.Causes.{HasCause};
 ghost use Rattle.catalog.specs.Valid.{IsValid};
 ghost use Rattle.raster_field.specs.Blocks.{IsMeta};
 ghost use Rattle.raster_field.specs.Rasters.{HasSize, IsWindowOf, picture_on};
 
 use crate::painter::paint;
 use crate::source::{Failed, Source};
-use catalog::catalogue::Catalogue;
-use metatile_locks::ticket::Ticket;
-use metatile_plan::window::Window;
-use raster_field::raster::Raster;
+use catalog::Catalogue;
+use metatile_locks::Ticket;
+use metatile_plan::Window;
+use raster_field::Raster;
 
 /// A source of numbered pictures, which never fails.
 #[derive(Drop)]

@@ -9,15 +9,10 @@ ghost use Rattle.raster_field.specs.TileText.{pixel_row};
 ghost use Rattle.source_render.specs.Shown.{AreShares, IsPalette, shown};
 
 use crate::palette::{palette_of, put_pixel};
-use catalog::catalogue::Catalogue;
-use catalog::layer::{Layer, Style};
-use matrix_geometry::matrix::Matrix;
-use matrix_geometry::theme::Theme;
-use metatile_plan::metatile::MetaKey;
-use metatile_plan::window::Window;
-use raster_field::colour::Colour;
-use raster_field::field::{cell_at, shade_of};
-use raster_field::raster::Raster;
+use catalog::{Catalogue, Layer, Style};
+use matrix_geometry::{Matrix, Theme};
+use metatile_plan::{MetaKey, Window};
+use raster_field::{Colour, Raster, cell_at, shade_of};
 
 /// The most columns of a window: 8 tiles of 512, and 64 on both sides.
 pub const MOST: usize = 4224;

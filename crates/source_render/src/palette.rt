@@ -3,8 +3,8 @@ ghost use Rattle.std.specs.Prelude.{◌≡◌, ◌+◌, ◌*◌, ◌≤◌, ◌+
 ghost use Rattle.raster_field.specs.TileText.{bytes_of};
 ghost use Rattle.source_render.specs.Shown.{IsPalette};
 
-use catalog::layer::Style;
-use raster_field::colour::{Colour, colour_of};
+use catalog::Style;
+use raster_field::{Colour, colour_of};
 
 /// The colour of each value in a style.
 pub fn palette_of(style: &Style) -> [Colour; 256]

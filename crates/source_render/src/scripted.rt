@@ -1,16 +1,16 @@
 //! The source of numbered pictures that fails at listed calls, by which tests show what a failure leads to.
 ghost use Rattle.std.specs.Prelude.{Contains, IsErr, OnOk, Some, true, min, ◌+◌, ◌-◌, ◌^◌, ◌↔◌, ◌≡◌};
-ghost use Rattle.causes.specs.Causes.{HasCause};
+ghost use Rattle.base.specs.Causes.{HasCause};
 ghost use Rattle.catalog.specs.Valid.{IsValid};
 ghost use Rattle.raster_field.specs.Blocks.{IsMeta};
 ghost use Rattle.raster_field.specs.Rasters.{HasSize, IsWindowOf, picture_on};
 
 use crate::painter::paint;
 use crate::source::{Failed, Source};
-use catalog::catalogue::Catalogue;
-use metatile_locks::ticket::Ticket;
-use metatile_plan::window::Window;
-use raster_field::raster::Raster;
+use catalog::Catalogue;
+use metatile_locks::Ticket;
+use metatile_plan::Window;
+use raster_field::Raster;
 
 /// A source of numbered pictures that fails at listed calls, for tests.
 #[derive(Drop)]
@@ -73,7 +73,7 @@ impl Source for Scripted {
         ensures listed { IsErr result ↔ Contains self.old.fail.items self.new.calls }
     {
         if self.next_fails() {
-            self.faults = causes::one_more(self.faults);
+            self.faults = base::one_more(self.faults);
             return Err(Failed);
         }
         paint(

@@ -1,15 +1,15 @@
 //! The trait of what renders pictures.
 ghost use Rattle.std.specs.Prelude.{◌≡◌, ℕ, OnOk, Some};
 ghost use Rattle.std.specs.declared.option.Option.{Option};
-ghost use Rattle.causes.specs.Causes.{HasCause};
+ghost use Rattle.base.specs.Causes.{HasCause};
 ghost use Rattle.catalog.specs.Valid.{IsValid};
 ghost use Rattle.raster_field.specs.Blocks.{IsMeta};
 ghost use Rattle.raster_field.specs.Rasters.{HasSize, IsWindowOf, picture_on};
 
-use catalog::catalogue::Catalogue;
-use metatile_locks::ticket::Ticket;
-use metatile_plan::window::Window;
-use raster_field::raster::Raster;
+use catalog::Catalogue;
+use metatile_locks::Ticket;
+use metatile_plan::Window;
+use raster_field::Raster;
 
 /// A rendering that failed.
 #[derive(Clone, Copy, Debug, PartialEq, Eq)]

@@ -1,10 +1,7 @@
 //! Tests of blob_store.
-use blob_store::putting::put;
-use blob_store::reading::read_tile;
-use disk_model::disk::Disk;
-use disk_model::memory::MemoryDisk;
-use disk_model::pick::Pick;
-use metatile_plan::span::Span;
+use blob_store::{put, read_tile};
+use disk_model::{Disk, MemoryDisk, Pick};
+use metatile_plan::Span;
 use std::test::Fail;
 
 #[test]

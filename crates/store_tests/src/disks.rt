@@ -1,9 +1,5 @@
 //! Tests of disk_model.
-use disk_model::disk::{Disk, Failed};
-use disk_model::file::FileDisk;
-use disk_model::memory::MemoryDisk;
-use disk_model::pick::Pick;
-use disk_model::through::write_through;
+use disk_model::{Disk, Failed, FileDisk, MemoryDisk, Pick, write_through};
 use std::fs::File;
 use std::test::Fail;
 use std::{fs, process};

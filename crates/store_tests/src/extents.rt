@@ -1,5 +1,5 @@
 //! Tests of extent_map.
-use extent_map::extents::Extents;
+use extent_map::Extents;
 use std::test::Fail;
 
 #[test]

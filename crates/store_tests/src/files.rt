@@ -4,11 +4,9 @@ ghost use Rattle.disk_model.specs.Memory.{memory_state};
 ghost use Rattle.gate_journal.specs.Sound.{IsSettled, IsSound, slots_of};
 
 use crate::values::{body, digest};
-use cache_file::file::CacheFile;
-use cache_file::opening::make;
-use disk_model::memory::MemoryDisk;
-use disk_model::pick::Pick;
-use metatile_plan::span::Span;
+use cache_file::{CacheFile, make};
+use disk_model::{MemoryDisk, Pick};
+use metatile_plan::Span;
 use std::alloc::Global;
 use std::process::Abort;
 use std::test::Fail;

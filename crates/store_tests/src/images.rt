@@ -4,11 +4,8 @@ ghost use Rattle.disk_model.specs.Memory.{memory_state};
 ghost use Rattle.gate_journal.specs.Sound.{IsSettled, IsSound, slots_of};
 
 use crate::values::{are_bodies, body, digest};
-use disk_model::disk::Disk;
-use disk_model::memory::MemoryDisk;
-use gate_journal::journal::Journal;
-use gate_journal::making::make;
-use gate_journal::visit::Visit;
+use disk_model::{Disk, MemoryDisk};
+use gate_journal::{Journal, Visit, make};
 use std::alloc::{AllocError, Global};
 use std::process::Abort;
 use std::test::Fail;

@@ -4,12 +4,8 @@ ghost use Rattle.disk_model.specs.Memory.{memory_state};
 ghost use Rattle.gate_journal.specs.Sound.{IsSettled, IsSound, slots_of};
 
 use crate::values::{are_bodies, body, digest};
-use disk_model::disk::{Disk, Failed};
-use disk_model::memory::MemoryDisk;
-use disk_model::pick::Pick;
-use gate_journal::fault::OpenFault;
-use gate_journal::journal::Journal;
-use gate_journal::making::make;
+use disk_model::{Disk, Failed, MemoryDisk, Pick};
+use gate_journal::{Journal, OpenFault, make};
 use std::alloc::Global;
 use std::process::Abort;
 use std::test::Fail;

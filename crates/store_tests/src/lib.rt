@@ -2,7 +2,7 @@
 //!
 //! It has no code of its own and promises nothing: what the crates promise is proved in each of them.
 //! Stands on disk_model, gate_journal, record_text, extent_map, blob_store, cache_file and outbox, on metatile_plan, truncation_list and
-//! matrix_geometry for the fields of records, and on silent_disk, catalog and served_covers for an outbox.
+//! matrix_geometry for the fields of records, and on fixtures, catalog and served_covers for an outbox.
 #![tactic(auto)]
 
 #[cfg(test)]

@@ -2,17 +2,15 @@
 ghost use Rattle.std.specs.Prelude.{◌≡◌, IfOk};
 ghost use Rattle.catalog.specs.Demo.{demo};
 
-use catalog::catalogue::Catalogue;
-use disk_model::disk::Disk;
-use matrix_geometry::theme::Filter;
-use outbox::outbox::Outbox;
-use outbox::packet::Packet;
-use outbox::posted::Posted;
-use served_covers::of_catalogue::is_cover_of;
-use silent_disk::SilentDisk;
+use catalog::Catalogue;
+use disk_model::Disk;
+use fixtures::SilentDisk;
+use matrix_geometry::Filter;
+use outbox::{Outbox, Packet, Posted};
+use served_covers::is_cover_of;
 use std::alloc::{AllocError, Global};
 use std::test::Fail;
-use truncation_list::cover::Cover;
+use truncation_list::Cover;
 
 /// The zooms of the demo layer up to this one.
 fn up_to(z_stop: u32) -> Cover {

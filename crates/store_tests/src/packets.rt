@@ -2,9 +2,7 @@
 ghost use Rattle.outbox.specs.Packets.{FitsPacket};
 
 use crate::records::{ANY, body_of};
-use outbox::packet::Packet;
-use outbox::reading::read_packet;
-use outbox::writing::write_packet;
+use outbox::{Packet, read_packet, write_packet};
 
 /// The bytes of a change: 1, and the body of a cut.
 fn change_bytes() -> [u8; 64] {

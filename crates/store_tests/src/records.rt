@@ -1,11 +1,8 @@
 //! Tests of record_text.
-use matrix_geometry::boxes::Box9;
-use matrix_geometry::theme::{Filter, Theme};
-use metatile_plan::metatile::MetaKey;
-use record_text::entries::Record;
-use record_text::reading::{decode, decode_old};
-use record_text::writing::encode;
-use truncation_list::cover::Cover;
+use matrix_geometry::{Box9, Filter, Theme};
+use metatile_plan::MetaKey;
+use record_text::{Record, decode, decode_old, encode};
+use truncation_list::Cover;
 
 const KEY: MetaKey = MetaKey {
     theme: Theme {

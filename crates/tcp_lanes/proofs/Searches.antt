@@ -7,7 +7,7 @@ use Rattle.http_wire.specs.declared.message.Message.{Message}
 use Rattle.http_wire.proofs.NoHeadYet.{head_ends}
 use Rattle.tcp_lanes.specs.Ends.{NeedsBytes, EndsAs}
 use Rattle.tcp_lanes.specs.declared.intake.Front.{Front}
-use Rattle.tcp_lanes.specs.declared.message_end.End.TheVariants.{Whole}
+use Rattle.tcp_lanes.specs.declared.message_ends.End.TheVariants.{Whole}
 use Rattle.tcp_lanes.specs.Intakes.{Taken, at_hand, IsSearched, HoldsNone, IsHopeful, LooksAs, SearchesAs}
 use Rattle.tcp_lanes.proofs.Messages.{none_held}
 

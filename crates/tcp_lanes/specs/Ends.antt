@@ -3,8 +3,8 @@ use Rattle.std.specs.Prelude.{◌≡◌, ℕ, ◌<◌, ◌≤◌, List, [], ◌+
 use Rattle.http_wire.specs.Looks.{MayHaveHead}
 use Rattle.http_wire.specs.Messages.{IsNext, HoldsMessage}
 use Rattle.http_wire.specs.declared.message.Message.{Message}
-use Rattle.tcp_lanes.specs.declared.message_end.End.{End}
-use Rattle.tcp_lanes.specs.declared.message_end.End.TheVariants.{Whole, Headless, Short, Hopeless}
+use Rattle.tcp_lanes.specs.declared.message_ends.End.{End}
+use Rattle.tcp_lanes.specs.declared.message_ends.End.TheVariants.{Whole, Headless, Short, Hopeless}
 
 -- no message is whole before so many bytes are there, and with so many one can be
 pub record NeedsBytes (held : List ℕ) (need : ℕ) : Type 0 where

@@ -3,9 +3,9 @@ use crate::lane::Lane;
 use crate::limits::{EVENTS, Limits};
 use crate::link::TcpLink;
 use crate::lobby::{Lobby, time};
-use crate::seat::Poller;
-use http_wire::streams::Failed;
-use listeners::listener::Listener;
+use crate::shared_lanes::Poller;
+use base::Trace;
+use http_wire::{Failed, Listener};
 use mio::net::TcpListener;
 use mio::{Events, Poll};
 use std::alloc::{AllocError, Global};
@@ -13,7 +13,6 @@ use std::io;
 use std::net::{Ipv4Addr, Net, SocketAddr};
 use std::sync::{Arc, Wait};
 use std::time::Clock;
-use trace::Trace;
 
 /// A listening socket. Of the connections to it contracts know nothing. Once it is closed or dropped, and its
 /// last lane has ended, nobody connects any more.
@@ -105,7 +104,7 @@ impl<R: Wait + Clock + Copy + Drop> Listener for TcpAccept<R> {
                 Ok(link)
             }
             None => {
-                self.faults = causes::one_more(self.faults);
+                self.faults = base::one_more(self.faults);
                 Err(Failed)
             }
         }

@@ -2,7 +2,7 @@
 use crate::conn::{Conn, Filled, Sent};
 use crate::limits::{EMFILE, ENFILE, ENOBUFS, ENOMEM, PAUSE, WELCOMES};
 use crate::lobby::{Lobby, time};
-use crate::seat::{LISTENING, Ready};
+use crate::shared_lanes::{LISTENING, Ready};
 use mio::net::TcpStream;
 use std::alloc::AllocError;
 use std::io::ErrorKind;
@@ -95,7 +95,7 @@ impl Lobby {
         let AtHand { token, conn } = at_hand;
         drop(conn);
         self.slots.vacate(rt, token);
-        self.seat.lock(rt).dismiss(token);
+        self.shared_lanes.lock(rt).dismiss(token);
     }
 
     /// Lets a connection end whose last answer was given.
@@ -118,13 +118,13 @@ impl Lobby {
     /// Accepts connections that wait, as far as there is room.
     fn welcome<R: Wait + Clock>(&self, rt: &R) {
         for _ in 0..WELCOMES {
-            let Some(token) = self.seat.lock(rt).hire() else {
+            let Some(token) = self.shared_lanes.lock(rt).hire() else {
                 return;
             };
             match self.next_stream(rt) {
                 Ok(stream) => {
                     if self.admit(rt, token, stream).is_err() {
-                        self.seat.lock(rt).dismiss(token);
+                        self.shared_lanes.lock(rt).dismiss(token);
                     }
                 }
                 Err(error) => {
@@ -148,14 +148,14 @@ impl Lobby {
     /// Takes a token back to which no connection came. Whether no further one is to be tried for now: none waits, or the system is
     /// short of what one takes, which may be had later. Any other error is that of one connection, as of one that its client gave up.
     fn refuse<R: Wait>(&self, rt: &R, token: usize, error: &io::Error) -> bool {
-        let mut seat = self.seat.lock(rt);
-        seat.dismiss(token);
+        let mut shared_lanes = self.shared_lanes.lock(rt);
+        shared_lanes.dismiss(token);
         if error.kind() == ErrorKind::WouldBlock {
             return true;
         }
         let short = is_shortage(error);
         if short {
-            seat.postpone();
+            shared_lanes.postpone();
         }
         short
     }

@@ -3,8 +3,8 @@ ghost use Rattle.std.specs.Prelude.{◌≡◌, ◌≤◌, ◌+◌, ◌-◌, ◌+
 ghost use Rattle.tcp_lanes.specs.Intakes.{waiting, at_hand, given_more, IsSearched, HoldsNone, HasNone, LooksAs, SearchesAs};
 
 use crate::limits::{LOOKING, READ_SIZE};
-use crate::message_end::{End, may_end_head, message_end};
-use http_wire::look::HEAD_LIMIT;
+use crate::message_ends::{End, may_end_head, message_end};
+use http_wire::HEAD_LIMIT;
 use std::alloc::{AllocError, Global};
 use std::marker::Model;
 

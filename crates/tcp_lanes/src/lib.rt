@@ -20,17 +20,26 @@
 //! there; `Intake` keeps each byte in its order, misses no whole message, gives exactly it, and gives a front up only where no
 //! message ever is; `TcpAccept` gives one link more or fails with its cause. What the system gives and takes isn't modelled: this
 //! is trusted, and tested on the loopback.
-//! Stands on listeners, http_wire, causes and exact_ratio, on `httparse`, and on `mio` for epoll.
+//! Stands on http_wire, base and exact_ratio, on `httparse`, and on `mio` for epoll.
 #![tactic(auto)]
 
-pub mod accept;
+mod accept;
 mod conn;
 mod desk;
-pub mod intake;
+mod intake;
 mod lane;
-pub mod limits;
-pub mod link;
+mod limits;
+mod link;
 mod lobby;
-pub mod message_end;
-mod seat;
+mod message_ends;
+mod shared_lanes;
 mod slots;
+
+pub use accept::TcpAccept;
+pub use intake::{Front, Intake};
+pub use limits::{
+    EMFILE, ENFILE, ENOBUFS, ENOMEM, EVENTS, HELD_BACK, IGNORED, LANES, LOOKING, LOOKS, Limits,
+    PAUSE, READ_SIZE, SERVED, WATCH, WELCOMES,
+};
+pub use link::TcpLink;
+pub use message_ends::{End, may_end_head, message_end};

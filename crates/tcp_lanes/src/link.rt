@@ -3,8 +3,7 @@ ghost use Rattle.std.specs.Prelude.{None, refl};
 ghost use Rattle.http_wire.specs.Side.{side};
 
 use crate::lane::Lane;
-use http_wire::links::Link;
-use http_wire::streams::{ByteSink, ByteSource, Failed};
+use http_wire::{ByteSink, ByteSource, Failed, Link};
 use std::sync::Wait;
 use std::time::Clock;
 
@@ -60,7 +59,7 @@ impl<R: Wait + Clock + Drop> ByteSink for TcpLink<R> {
         if self.lane.put(&self.rt, bytes) {
             return Ok(bytes.len());
         }
-        self.faults = causes::one_more(self.faults);
+        self.faults = base::one_more(self.faults);
         Err(Failed)
     }
 }

@@ -1,6 +1,6 @@
 //! What the lanes share: the listening socket, the connections that rest, and the line of those that are ready.
 use crate::limits::{HELD_BACK, LANES, Limits, WATCH};
-use crate::seat::{ALARM, LISTENING, Poller, Ready, Seat, Step, Vigil};
+use crate::shared_lanes::{ALARM, LISTENING, Poller, Ready, SharedLanes, Step, Vigil};
 use crate::slots::Slots;
 use mio::net::TcpListener;
 use mio::{Interest, Registry, Token, Waker};
@@ -19,7 +19,7 @@ pub struct Lobby {
     pub door: Mutex<Option<TcpListener>>,
     pub registry: Registry,
     pub slots: Slots,
-    pub seat: Mutex<Seat>,
+    pub shared_lanes: Mutex<SharedLanes>,
     parked: Condvar,
     /// Ends the wait of the lane that asks the system.
     alarm: Waker,
@@ -67,7 +67,7 @@ impl Lobby {
             door: Mutex::new(Some(socket)),
             registry,
             slots: Slots::new(alloc, limits.connections)?,
-            seat: Mutex::new(Seat::new(alloc, poller, limits, now)?),
+            shared_lanes: Mutex::new(SharedLanes::new(alloc, poller, limits, now)?),
             parked: Condvar::new(),
             alarm,
             heads: Mutex::new(heads(alloc)?),
@@ -83,7 +83,7 @@ impl Lobby {
             .wait_while(rt, self.heads.lock(rt), |heads| heads.is_empty());
         let head = heads.pop().unwrap_or(Vec::new(self.alloc));
         drop(heads);
-        self.seat.lock(rt).begin();
+        self.shared_lanes.lock(rt).begin();
         head
     }
 
@@ -104,11 +104,11 @@ impl Lobby {
 
     /// Notes that a lane has ended, and has another one look after those in line.
     fn call_another<R: Wait>(&self, rt: &R) {
-        let mut seat = self.seat.lock(rt);
-        seat.come_back();
-        let wakes = seat.needs_hand();
-        let alarms = seat.needs_asker();
-        drop(seat);
+        let mut shared_lanes = self.shared_lanes.lock(rt);
+        shared_lanes.come_back();
+        let wakes = shared_lanes.needs_hand();
+        let alarms = shared_lanes.needs_asker();
+        drop(shared_lanes);
         if wakes {
             self.parked.notify_one();
         } else if alarms {
@@ -128,31 +128,31 @@ impl Lobby {
 
     /// Puts a socket in line.
     pub fn tell<R: Wait>(&self, rt: &R, token: usize) {
-        self.seat.lock(rt).tell(token, false);
+        self.shared_lanes.lock(rt).tell(token, false);
     }
 
     /// Waits for a socket that is ready.
     pub fn next<R: Wait + Clock>(&self, rt: &R) -> Ready {
         let mut vigil = Vigil::new();
-        let mut seat = self.seat.lock(rt);
-        seat.come_back();
+        let mut shared_lanes = self.shared_lanes.lock(rt);
+        shared_lanes.come_back();
         for _ in rt.forever() {
-            if let Some(ready) = seat.first() {
-                self.set_out(seat, &mut vigil);
+            if let Some(ready) = shared_lanes.first() {
+                self.set_out(shared_lanes, &mut vigil);
                 return ready;
             }
-            seat = match seat.step(&mut vigil) {
-                Step::Watch => self.watch(rt, seat),
-                Step::Ask(poller) => self.ask(rt, seat, poller),
-                Step::Park => self.park(rt, seat, &mut vigil),
+            shared_lanes = match shared_lanes.step(&mut vigil) {
+                Step::Watch => self.watch(rt, shared_lanes),
+                Step::Ask(poller) => self.ask(rt, shared_lanes, poller),
+                Step::Park => self.park(rt, shared_lanes, &mut vigil),
             };
         }
         unreachable!()
     }
 
-    fn set_out(&self, mut seat: MutexGuard<'_, Seat>, vigil: &mut Vigil) {
-        let wake = seat.set_out(vigil);
-        drop(seat);
+    fn set_out(&self, mut shared_lanes: MutexGuard<'_, SharedLanes>, vigil: &mut Vigil) {
+        let wake = shared_lanes.set_out(vigil);
+        drop(shared_lanes);
         if wake {
             self.parked.notify_one();
         }
@@ -161,48 +161,48 @@ impl Lobby {
     fn watch<'b, R: Wait + Clock>(
         &'b self,
         rt: &R,
-        mut seat: MutexGuard<'b, Seat>,
-    ) -> MutexGuard<'b, Seat> {
-        seat.park();
-        let (mut seat, _) = self
+        mut shared_lanes: MutexGuard<'b, SharedLanes>,
+    ) -> MutexGuard<'b, SharedLanes> {
+        shared_lanes.park();
+        let (mut shared_lanes, _) = self
             .parked
-            .wait_timeout(rt, seat, Duration::from_millis(WATCH));
-        seat.unpark();
-        seat
+            .wait_timeout(rt, shared_lanes, Duration::from_millis(WATCH));
+        shared_lanes.unpark();
+        shared_lanes
     }
 
     fn park<'b, R: Wait>(
         &'b self,
         rt: &R,
-        mut seat: MutexGuard<'b, Seat>,
+        mut shared_lanes: MutexGuard<'b, SharedLanes>,
         vigil: &mut Vigil,
-    ) -> MutexGuard<'b, Seat> {
-        seat.park();
-        let mut seat = self.parked.wait(rt, seat);
-        seat.unpark();
-        seat.rise(vigil);
-        seat
+    ) -> MutexGuard<'b, SharedLanes> {
+        shared_lanes.park();
+        let mut shared_lanes = self.parked.wait(rt, shared_lanes);
+        shared_lanes.unpark();
+        shared_lanes.rise(vigil);
+        shared_lanes
     }
 
     /// Asks the system who is ready, and waits for it as long as may be.
     fn ask<'b, R: Wait + Clock>(
         &'b self,
         rt: &R,
-        seat: MutexGuard<'b, Seat>,
+        shared_lanes: MutexGuard<'b, SharedLanes>,
         mut poller: Poller,
-    ) -> MutexGuard<'b, Seat> {
-        let patience = seat.patience();
-        drop(seat);
+    ) -> MutexGuard<'b, SharedLanes> {
+        let patience = shared_lanes.patience();
+        drop(shared_lanes);
         // A wait that fails tells of nobody, as one that a signal ends.
         let _ = poller.poll.poll(&mut poller.events, patience);
         let now = time(rt);
-        let mut seat = self.seat.lock(rt);
-        if seat.hear(poller, now) {
-            drop(seat);
+        let mut shared_lanes = self.shared_lanes.lock(rt);
+        if shared_lanes.hear(poller, now) {
+            drop(shared_lanes);
             self.sweep(rt, now);
-            return self.seat.lock(rt);
+            return self.shared_lanes.lock(rt);
         }
-        seat
+        shared_lanes
     }
 
     /// Puts the connections in line that have waited too long. Who takes them up looks once more before it closes them.

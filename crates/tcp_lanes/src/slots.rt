@@ -1,6 +1,6 @@
 //! Where the connections rest, each in a slot with a lock of its own.
 use crate::conn::Conn;
-use crate::seat::Ready;
+use crate::shared_lanes::Ready;
 use mio::Registry;
 use std::alloc::{AllocError, Global};
 use std::sync::{Mutex, Wait};

@@ -5,8 +5,8 @@ use Rattle.cabinet.specs.Commands.{Cuts}
 use Rattle.cabinet.specs.declared.replies.CutReply.TheVariants as cut
 use Rattle.cabinet.specs.State.{State, fresh_state}
 use Rattle.catalog.specs.declared.catalogue.Catalogue.{Catalogue}
-use Rattle.causes.specs.Causes.{Rose}
-use Rattle.clock.specs.Readings.{Readings}
+use Rattle.base.specs.Causes.{Rose}
+use Rattle.base.specs.Readings.{Readings}
 use Rattle.command_setup.specs.Setup.{HasRisen}
 use Rattle.command_status.specs.declared.status.Status.TheVariants as status
 use Rattle.command_status.specs.declared.status.Status.{Status}
@@ -24,14 +24,14 @@ use Rattle.job_forms.specs.declared.fault.JobFault.{JobFault}
 use Rattle.job_forms.specs.declared.fault.JobFault.TheVariants as form
 use Rattle.job_words.specs.Ends.{RunsJob}
 use Rattle.job_words.specs.Input as jobs
-use Rattle.jobs.specs.declared.job.Job.{Job}
-use Rattle.jobs.specs.Reading.{job_of}
-use Rattle.kept_cache.specs.Change.{DiskChange, HasFailed}
-use Rattle.kept_cache.specs.Opened as opened
-use Rattle.kept_cache.specs.Opened.{HasOpened}
-use Rattle.kept_words.specs.Covers as covers
-use Rattle.kept_words.specs.Ends.{DropsAll, Makes, TellsUsage, Truncates}
-use Rattle.kept_words.specs.Runs.{HasReplayed, HasScheduled}
+use Rattle.job_forms.specs.declared.job.Job.{Job}
+use Rattle.job_forms.specs.Reading.{job_of}
+use Rattle.opened_cache.specs.Change.{DiskChange, HasFailed}
+use Rattle.opened_cache.specs.Opened as opened
+use Rattle.opened_cache.specs.Opened.{HasOpened}
+use Rattle.disk_words.specs.Covers as covers
+use Rattle.disk_words.specs.Ends.{DropsAll, Makes, TellsUsage, Truncates}
+use Rattle.disk_words.specs.Runs.{HasReplayed, HasScheduled}
 use Rattle.tile_command.specs.Causes.{CutReplies, HasCause, HasReadFault, IsCaused, IsComplete, IsInOrder, NothingFails, OfDisk, OfDocument, OfInput, UnderBoth}
 use Rattle.tile_command.specs.Change.{CommandChange, Stays, output_of, without_disk}
 use Rattle.tile_command.specs.Command.{HasServed}

@@ -5,10 +5,10 @@ use Rattle.std.proofs.Common.{ap, sym, subst, ◌∙◌, append-nil, inl, inr, r
 use Rattle.cabinet.specs.State.{State}
 use Rattle.catalog.specs.declared.catalogue.Catalogue.{Catalogue}
 use Rattle.catalog.specs.declared.fault.CatalogueFault.{CatalogueFault}
-use Rattle.causes.specs.Causes.{Rose}
-use Rattle.clock.specs.Readings.{Readings}
-use Rattle.command_setup.specs.declared.configured.Unconfigured.{Unconfigured}
-use Rattle.command_setup.specs.declared.configured.Unconfigured.TheVariants as unconfigured
+use Rattle.base.specs.Causes.{Rose}
+use Rattle.base.specs.Readings.{Readings}
+use Rattle.command_setup.specs.declared.configuration.Unconfigured.{Unconfigured}
+use Rattle.command_setup.specs.declared.configuration.Unconfigured.TheVariants as unconfigured
 use Rattle.command_setup.specs.Setup as setup
 use Rattle.command_setup.specs.Setup.{Configures, HasRisen, IsDocument, IsRefused, IsTooLongText}
 use Rattle.command_status.specs.declared.status.Status.TheVariants as status
@@ -16,7 +16,7 @@ use Rattle.command_words.specs.declared.words.Word.{Word}
 use Rattle.http_wire.specs.declared.message.Message.{Message}
 use Rattle.http_wire.specs.declared.message.Stop.TheVariants as stop
 use Rattle.config_text.specs.Text.{catalogue_of}
-use Rattle.kept_cache.specs.Change.{DiskChange}
+use Rattle.opened_cache.specs.Change.{DiskChange}
 use Rattle.tile_command.specs.Causes.{BreaksOff, ComesToEnd, HaveLast, IsCaused, IsOver, OfDocument, OfInput, RefusesSo, RunRefuses}
 use Rattle.tile_command.specs.Change.{CommandChange}
 use Rattle.command_setup.specs.Refusals.{status_of_refusal}

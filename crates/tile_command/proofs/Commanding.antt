@@ -1,11 +1,11 @@
 -- What a command came to, as one record.
 use Rattle.std.proofs.Common.{◌≡◌, Option, Some, None, refl, subst, sym}
 use Rattle.cabinet.specs.State.{State}
-use Rattle.clock.specs.Readings.{Readings}
+use Rattle.base.specs.Readings.{Readings}
 use Rattle.command_status.specs.declared.status.Status.TheVariants as status
 use Rattle.command_status.specs.declared.status.Status.{Status}
 use Rattle.command_words.specs.declared.words.Word.{Word}
-use Rattle.kept_cache.specs.Change.{DiskChange}
+use Rattle.opened_cache.specs.Change.{DiskChange}
 use Rattle.tile_command.proofs.Caused.{caused, completed}
 use Rattle.tile_command.proofs.Serving.{exactly_usage}
 use Rattle.tile_command.proofs.Tests.{exact}

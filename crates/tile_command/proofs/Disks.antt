@@ -2,7 +2,7 @@
 use Rattle.std.specs.Prelude.{ℕ, ◌≡◌, ◌⊎◌, IsSome, IsTrue, List, Option, Some, None}
 use Rattle.std.proofs.Common.{Ok, ap, arith, inl, inr, refl, subst, sym, ◌∙◌}
 use Rattle.catalog.specs.declared.catalogue.Catalogue.{Catalogue}
-use Rattle.clock.specs.Readings.{Readings}
+use Rattle.base.specs.Readings.{Readings}
 use Rattle.command_status.specs.declared.status.Status.TheVariants as status
 use Rattle.command_status.specs.declared.status.Status.{Status}
 use Rattle.command_words.specs.declared.words.KeptWord.TheVariants as kept
@@ -12,26 +12,23 @@ use Rattle.command_words.specs.declared.words.Word.TheVariants as word
 use Rattle.gate_journal.specs.declared.fault.OpenFault.{OpenFault}
 use Rattle.job_forms.specs.Cover.{cover_of}
 use Rattle.job_forms.specs.declared.fault.JobFault.{JobFault}
-use Rattle.jobs.specs.Reading.{job_of}
-use Rattle.kept_cache.specs.Change.{DiskChange}
-use Rattle.tile_command.specs.Causes.{AreCutsFull, BreaksStream, IsCacheRefused, IsCaused, IsInputOver, IsMalformed, IsOver, IsThrough, NothingFails, OfDocument, RefusesLine, UnderCatalogue}
+use Rattle.job_forms.specs.Reading.{job_of}
+use Rattle.opened_cache.specs.Change.{DiskChange}
+use Rattle.tile_command.specs.Causes.{AreCutsFull, BreaksStream, IsCacheRefused, IsCaused, IsInputOver, IsMalformed, IsOver, IsThrough, NothingFails, OfDocument, RefusesLine, UnderCatalogue, UnderInput, CutReplies, Opening}
 use Rattle.tile_command.specs.Change.{CommandChange}
-use Rattle.tile_command.specs.Exact.{AreModelled, IsTold}
+use Rattle.tile_command.specs.Exact.{AreModelled, IsTold, OpensModelled}
 use Rattle.tile_command.proofs.Caused.{no_disk, no_read}
 use Rattle.sessions.specs.declared.session.SessionEnd.{SessionEnd}
 use Rattle.cabinet.specs.Commands.{Cuts}
 use Rattle.durable_cabinet.specs.Filed.{opened_as}
 use Rattle.durable_cabinet.proofs.Once.{opens_once}
 use Rattle.truncation_list.specs.declared.cover.Cover.{Cover}
-use Rattle.tile_command.specs.Causes.{UnderInput}
 use Rattle.cabinet.specs.State.{State}
 use Rattle.gate_journal.specs.declared.fault.OpenFault.TheVariants as open_fault
-use Rattle.kept_cache.proofs.Refusing.{not_opened, one_refusal}
-use Rattle.kept_cache.specs.Opened.{IsOpened, IsRefused}
+use Rattle.opened_cache.proofs.Refusing.{not_opened, one_refusal}
+use Rattle.opened_cache.specs.Opened.{IsOpened, IsRefused}
 use Rattle.cabinet.specs.declared.replies.CutReply.{CutReply}
 use Rattle.cabinet.specs.declared.replies.CutReply.TheVariants as cut
-use Rattle.tile_command.specs.Causes.{CutReplies, Opening}
-use Rattle.tile_command.specs.Exact.{OpensModelled}
 use Rattle.tile_command.proofs.Exact as files
 
 -- TWO REPLIES of one cut

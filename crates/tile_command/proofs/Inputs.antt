@@ -3,7 +3,7 @@ use Rattle.std.specs.Prelude.{ℕ, ◌≡◌, ◌≤◌, ◌+◌, zero, suc, IsS
 use Rattle.std.proofs.Common.{ap, arith, inl, inr, refl, subst, sym, ◌∙◌}
 use Rattle.cabinet.specs.State.{State, fresh_state}
 use Rattle.catalog.specs.declared.catalogue.Catalogue.{Catalogue}
-use Rattle.clock.specs.Readings.{Readings}
+use Rattle.base.specs.Readings.{Readings}
 use Rattle.command_status.specs.declared.status.Status.TheVariants as status
 use Rattle.command_status.specs.declared.status.Status.{Status}
 use Rattle.command_words.specs.declared.words.KeptWord.TheVariants as kept
@@ -12,9 +12,9 @@ use Rattle.command_words.specs.declared.words.Word.{Word}
 use Rattle.command_words.specs.declared.words.Word.TheVariants as word
 use Rattle.gate_journal.specs.declared.fault.OpenFault.{OpenFault}
 use Rattle.job_forms.specs.declared.fault.JobFault.{JobFault}
-use Rattle.kept_cache.specs.Change.{DiskChange}
-use Rattle.kept_cache.specs.Opened.{IsRefused}
-use Rattle.kept_cache.proofs.Refusing.{not_opened}
+use Rattle.opened_cache.specs.Change.{DiskChange}
+use Rattle.opened_cache.specs.Opened.{IsRefused}
+use Rattle.opened_cache.proofs.Refusing.{not_opened}
 use Rattle.tile_command.specs.Causes.{AreCutsFull, BreaksOff, BreaksStream, ComesToEnd, IsCacheRefused, IsCaused, IsInputOver, IsMalformed, IsOver, IsThrough, NothingFails, OfDocument, Opening, RefusesLine, RunRefuses, UnderBoth, UnderCatalogue}
 use Rattle.tile_command.specs.Change.{CommandChange, without_disk}
 use Rattle.tile_command.specs.Exact.{AreModelled, EachRunRefuses, HasIllLine, IsBreakTold, IsIllAt, IsTold, IsToldBy, OfLines, OpensModelled, RefusesInAll, UnderSchedule}

@@ -12,11 +12,11 @@ use Rattle.command_words.specs.declared.words.UpkeepWord.{UpkeepWord}
 use Rattle.command_words.specs.declared.words.UpkeepWord.TheVariants as upkeep
 use Rattle.command_words.specs.declared.words.Word.{Word}
 use Rattle.command_words.specs.declared.words.Word.TheVariants as word
-use Rattle.clock.specs.Readings.{Readings}
-use Rattle.command_setup.specs.declared.configured.Unconfigured.{Unconfigured}
-use Rattle.command_setup.specs.declared.configured.Unconfigured.TheVariants as unconfigured
+use Rattle.base.specs.Readings.{Readings}
+use Rattle.command_setup.specs.declared.configuration.Unconfigured.{Unconfigured}
+use Rattle.command_setup.specs.declared.configuration.Unconfigured.TheVariants as unconfigured
 use Rattle.job_words.specs.Ends.{RunsJob}
-use Rattle.kept_cache.specs.Change.{DiskChange}
+use Rattle.opened_cache.specs.Change.{DiskChange}
 use Rattle.tile_command.specs.Change.{CommandChange, Stays, output_of, without_disk}
 use Rattle.tile_command.specs.Command.{HasServed}
 use Rattle.tile_command.specs.Kept.{HasKeptUp, HasRun}

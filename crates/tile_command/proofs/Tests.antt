@@ -1,9 +1,9 @@
 -- Each test that what is handed in doesn't pass is told.
 use Rattle.std.specs.Prelude.{Option, Some, None}
-use Rattle.clock.specs.Readings.{Readings}
+use Rattle.base.specs.Readings.{Readings}
 use Rattle.command_status.specs.declared.status.Status.{Status}
 use Rattle.command_words.specs.declared.words.Word.{Word}
-use Rattle.kept_cache.specs.Change.{DiskChange}
+use Rattle.opened_cache.specs.Change.{DiskChange}
 use Rattle.tile_command.specs.Causes.{HasCause, IsCaused, NothingFails}
 use Rattle.tile_command.specs.Change.{CommandChange}
 use Rattle.tile_command.specs.Exact.{AreModelled, IsExact, TellsTests}

@@ -7,8 +7,8 @@ use Rattle.cabinet.specs.declared.replies.CutReply.TheVariants as cut
 use Rattle.cabinet.specs.State.{State, fresh_state}
 use Rattle.catalog.specs.declared.catalogue.Catalogue.{Catalogue}
 use Rattle.catalog.specs.declared.fault.CatalogueFault.{CatalogueFault}
-use Rattle.causes.specs.Causes.{Rose, RoseBy}
-use Rattle.clock.specs.Readings.{Readings}
+use Rattle.base.specs.Causes.{Rose, RoseBy}
+use Rattle.base.specs.Readings.{Readings}
 use Rattle.command_setup.specs.Setup.{HasRisen}
 use Rattle.command_status.specs.declared.status.Status.TheVariants as status
 use Rattle.command_status.specs.declared.status.Status.{Status}
@@ -26,9 +26,9 @@ use Rattle.http_wire.specs.Streams.{StandIn}
 use Rattle.job_forms.specs.Cover.{cover_of}
 use Rattle.job_forms.specs.declared.fault.JobFault.{JobFault}
 use Rattle.job_forms.specs.Outcome.{Outcome}
-use Rattle.jobs.specs.Reading.{job_of}
-use Rattle.kept_cache.specs.Change.{DiskChange, HasFailed}
-use Rattle.kept_cache.specs.Opened.{IsOpened, IsRefused}
+use Rattle.job_forms.specs.Reading.{job_of}
+use Rattle.opened_cache.specs.Change.{DiskChange, HasFailed}
+use Rattle.opened_cache.specs.Opened.{IsOpened, IsRefused}
 use Rattle.tile_command.specs.Change.{CommandChange, without_disk}
 use Rattle.tile_requests.specs.Requests.{Chance}
 use Rattle.sessions.specs.declared.session.SessionEnd.{SessionEnd}

@@ -2,7 +2,7 @@
 use Rattle.std.specs.Prelude.{ℕ, ◌≡◌, List}
 use Rattle.catalog.specs.declared.catalogue.Catalogue.{Catalogue}
 use Rattle.command_setup.specs.Setup.{AreRead, IsRefused}
-use Rattle.command_setup.specs.declared.configured.Unconfigured.{Unconfigured}
+use Rattle.command_setup.specs.declared.configuration.Unconfigured.{Unconfigured}
 use Rattle.command_status.specs.declared.status.Status.{Status}
 use Rattle.sessions.specs.Outside.{InputChange, OutputChange, Outside, counts}
 use Rattle.command_setup.specs.Refusals.{status_of_refusal}

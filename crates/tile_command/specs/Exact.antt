@@ -2,8 +2,8 @@
 use Rattle.std.specs.Prelude.{ℕ, ◌≡◌, ◌≤◌, ◌+◌, ◌⊎◌, IfSome, IsSome, IsSomeAnd, IsTrue, List, length, slice_get, Option, Some, None, ⊤}
 use Rattle.cabinet.specs.State.{State, fresh_state}
 use Rattle.catalog.specs.declared.fault.CatalogueFault.{CatalogueFault}
-use Rattle.causes.specs.Causes.{RoseBy}
-use Rattle.clock.specs.Readings.{Readings}
+use Rattle.base.specs.Causes.{RoseBy}
+use Rattle.base.specs.Readings.{Readings}
 use Rattle.command_status.specs.declared.status.Status.TheVariants as status
 use Rattle.command_status.specs.declared.status.Status.{Status}
 use Rattle.command_words.specs.declared.words.KeptWord.TheVariants as kept
@@ -16,7 +16,7 @@ use Rattle.http_wire.specs.declared.message.Stop.{Stop}
 use Rattle.http_wire.specs.declared.message.Stop.TheVariants as stop
 use Rattle.http_wire.specs.Exceptions.{AgreeAfter}
 use Rattle.job_forms.specs.declared.fault.JobFault.{JobFault}
-use Rattle.kept_cache.specs.Change.{DiskChange}
+use Rattle.opened_cache.specs.Change.{DiskChange}
 use Rattle.tile_command.specs.Causes.{AreCutsFull, BreaksStream, IsCacheRefused, IsFaulty, IsInputOver, IsMalformed, IsOver, NothingFails, OfDocument, Opening, UnderBoth, UnderCatalogue}
 use Rattle.tile_command.specs.Change.{CommandChange, without_disk}
 use Rattle.tile_requests.specs.Requests.{Chance}

@@ -1,12 +1,12 @@
 -- What a job on the cache of a disk came to.
 use Rattle.std.specs.Prelude.{◌≡◌, ◌⊎◌, Ok, Err}
 use Rattle.catalog.specs.declared.catalogue.Catalogue.{Catalogue}
-use Rattle.clock.specs.Readings.{Readings}
+use Rattle.base.specs.Readings.{Readings}
 use Rattle.command_setup.specs.Setup.{Configures, IsRead}
-use Rattle.command_setup.specs.declared.configured.Unconfigured.{Unconfigured}
+use Rattle.command_setup.specs.declared.configuration.Unconfigured.{Unconfigured}
 use Rattle.command_status.specs.declared.status.Status.{Status}
 use Rattle.job_words.specs.Ends.{RunsJob}
-use Rattle.kept_cache.specs.Change.{DiskChange}
+use Rattle.opened_cache.specs.Change.{DiskChange}
 use Rattle.tile_command.specs.Change.{Stays}
 use Rattle.command_setup.specs.Refusals.{status_of_refusal}
 use Rattle.sessions.specs.Outside.{InputChange, Outside}

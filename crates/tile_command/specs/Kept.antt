@@ -2,19 +2,19 @@
 use Rattle.std.specs.Prelude.{ℕ, ◌≡◌, ◌⊎◌, List, Ok, Err, ⊤}
 use Rattle.cabinet.specs.State.{State}
 use Rattle.catalog.specs.declared.catalogue.Catalogue.{Catalogue}
-use Rattle.clock.specs.Readings.{Readings}
+use Rattle.base.specs.Readings.{Readings}
 use Rattle.command_setup.specs.Setup.{Configures, IsRead}
-use Rattle.command_setup.specs.declared.configured.Unconfigured.{Unconfigured}
+use Rattle.command_setup.specs.declared.configuration.Unconfigured.{Unconfigured}
 use Rattle.command_status.specs.declared.status.Status.{Status}
 use Rattle.command_words.specs.declared.words.KeptWord.{KeptWord}
 use Rattle.command_words.specs.declared.words.KeptWord.TheVariants as kept
 use Rattle.command_words.specs.declared.words.UpkeepWord.{UpkeepWord}
 use Rattle.command_words.specs.declared.words.UpkeepWord.TheVariants as upkeep
-use Rattle.kept_cache.specs.Change.{DiskChange}
+use Rattle.opened_cache.specs.Change.{DiskChange}
 use Rattle.sessions.specs.Outside.{InputChange, OutputChange, Outside}
-use Rattle.kept_cache.specs.Crash.{LastsThrough}
-use Rattle.kept_words.specs.Ends.{DropsAll, Makes, TellsUsage, Truncates}
-use Rattle.kept_words.specs.Runs.{RunsSchedule, RunsSession}
+use Rattle.opened_cache.specs.Crash.{LastsThrough}
+use Rattle.disk_words.specs.Ends.{DropsAll, Makes, TellsUsage, Truncates}
+use Rattle.disk_words.specs.Runs.{RunsSchedule, RunsSession}
 use Rattle.tile_command.specs.Change.{CommandChange, IsUnready, Stays, WithBoth}
 use Rattle.command_setup.specs.Refusals.{status_of_refusal}
 

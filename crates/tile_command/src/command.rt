@@ -1,23 +1,23 @@
 //! The top call: what the words ask for, done.
 ghost use Rattle.std.specs.Prelude.{◌≡◌};
 ghost use Rattle.command_words.specs.Words.{word_of};
-ghost use Rattle.kept_cache.specs.Change.{DiskChange};
-ghost use Rattle.kept_cache.specs.Passing.{PassesDisk};
+ghost use Rattle.opened_cache.specs.Change.{DiskChange};
+ghost use Rattle.opened_cache.specs.Passing.{PassesDisk};
+ghost use Rattle.sessions.specs.Outside.{InputChange, Outside, counts};
 ghost use Rattle.tile_command.specs.Change.{CommandChange, Stays};
 ghost use Rattle.tile_command.specs.Command.{CommandRun, Commands, IsFitFor};
-ghost use Rattle.sessions.specs.Outside.{InputChange, Outside, counts};
 
 use crate::job::job_run;
 use crate::kept::on_disk;
 use crate::memory::in_memory;
 use crate::upkeep::kept_up;
-use clock::clock::Clock;
-use command_status::status::Status;
-use command_words::words::{Word, word_of};
-use disk_model::disk::Disk;
-use exact_ratio::words::Words;
-use http_wire::streams::{ByteSink, ByteSource};
-use source_render::source::Source;
+use base::Clock;
+use command_status::Status;
+use command_words::{Word, word_of};
+use disk_model::Disk;
+use exact_ratio::Words;
+use http_wire::{ByteSink, ByteSource};
+use source_render::Source;
 use std::alloc::Global;
 
 /// Does what the words say, under the catalogue that it reads; a catalogue of no bytes is the built-in one. `schedule` runs the lines

@@ -1,20 +1,19 @@
 //! A job on the cache of the disk.
 ghost use Rattle.std.specs.Prelude.{◌≡◌, ⊤};
 ghost use Rattle.command_setup.specs.Held.{HoldsFile};
-ghost use Rattle.kept_cache.specs.Change.{DiskChange};
+ghost use Rattle.opened_cache.specs.Change.{DiskChange};
+ghost use Rattle.sessions.specs.Outside.{InputChange, Outside, counts};
 ghost use Rattle.tile_command.specs.Change.{Stays};
 ghost use Rattle.tile_command.specs.Job.{JobTells};
 ghost use Rattle.tile_command.specs.Kept.{HasLasted};
-ghost use Rattle.sessions.specs.Outside.{InputChange, Outside, counts};
 
-use clock::clock::Clock;
-use command_setup::configured::configured;
-use command_setup::refusals::status_of_refusal;
-use command_status::status::Status;
-use disk_model::disk::Disk;
-use http_wire::streams::{ByteSink, ByteSource};
-use job_words::word::run_job;
-use source_render::source::Source;
+use base::Clock;
+use command_setup::{configured, status_of_refusal};
+use command_status::Status;
+use disk_model::Disk;
+use http_wire::{ByteSink, ByteSource};
+use job_words::run_job;
+use source_render::Source;
 use std::alloc::Global;
 
 /// Runs the job that the input has on the cache of the disk, under the catalogue that is read. Each status comes as `JobTells` says, and

@@ -1,25 +1,21 @@
 //! A run on a cabinet in memory.
 ghost use Rattle.std.specs.Prelude.{◌≡◌, ⊤};
 ghost use Rattle.catalog.specs.Valid.{IsValid};
+ghost use Rattle.sessions.specs.Outside.{InputChange, Outside, counts};
 ghost use Rattle.tile_command.specs.Change.{CommandChange, Stays};
 ghost use Rattle.tile_command.specs.Memory.{HasWorked, MemoryTells, status_of_drill};
-ghost use Rattle.sessions.specs.Outside.{InputChange, Outside, counts};
 ghost use Rattle.tile_service.specs.Session.{IsAtRest};
 
-use cabinet::cabinet::Cabinet;
-use clock::clock::Clock;
-use command_setup::prepared::prepared;
-use command_setup::refusals::status_of_refusal;
-use command_status::status::Status;
-use command_status::statuses::{status_of_schedule, status_of_session};
-use command_words::words::MemoryWord;
-use http_wire::streams::{ByteSink, ByteSource};
-use source_render::source::Source;
+use base::Clock;
+use cabinet::Cabinet;
+use command_setup::{prepared, status_of_refusal};
+use command_status::{Status, status_of_schedule, status_of_session};
+use command_words::MemoryWord;
+use http_wire::{ByteSink, ByteSource};
+use source_render::Source;
 use std::alloc::Global;
-use tile_drill::drill::{DrillEnd, run_drill};
-use tile_service::counter::Counter;
-use tile_service::schedule::run_schedule;
-use tile_service::streams::replay_streams;
+use tile_drill::{DrillEnd, run_drill};
+use tile_service::{Counter, replay_streams, run_schedule};
 
 /// The status of a drill's end.
 fn status_of_drill(end: DrillEnd) -> Status

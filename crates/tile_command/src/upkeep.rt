@@ -1,24 +1,20 @@
 //! A step of upkeep on the cache of the disk.
 ghost use Rattle.std.specs.Prelude.{◌≡◌, IsTrue, ⊤};
 ghost use Rattle.catalog.specs.Valid.{IsValid};
-ghost use Rattle.kept_cache.specs.Change.{DiskChange};
+ghost use Rattle.opened_cache.specs.Change.{DiskChange};
 ghost use Rattle.sessions.specs.Outside.{InputChange, OutputChange, counts};
 ghost use Rattle.tile_command.specs.Change.{Stays};
 ghost use Rattle.tile_command.specs.Command.{IsFitForUpkeep, IsFitUnder};
 ghost use Rattle.tile_command.specs.Kept.{HasKeptUp, StepLasts, UpkeepLasts, UpkeepTells};
 
-use catalog::catalogue::Catalogue;
-use clock::clock::Clock;
-use command_setup::configured::configured;
-use command_setup::refusals::status_of_refusal;
-use command_status::status::Status;
-use command_words::words::UpkeepWord;
-use disk_model::disk::Disk;
-use http_wire::streams::{ByteSink, ByteSource};
-use kept_words::expire::expire;
-use kept_words::making::make;
-use kept_words::truncate::truncate;
-use kept_words::usage::usage;
+use base::Clock;
+use catalog::Catalogue;
+use command_setup::{configured, status_of_refusal};
+use command_status::Status;
+use command_words::UpkeepWord;
+use disk_model::Disk;
+use disk_words::{expire, make, truncate, usage};
+use http_wire::{ByteSink, ByteSource};
 use std::alloc::Global;
 
 /// Does a step of upkeep under a catalogue.

@@ -6,8 +6,8 @@ use Rattle.std.proofs.lemmas.List.{length-map}
 use Rattle.std.proofs.lemmas.List.Sums.{sum_by-append}
 use Rattle.cabinet.specs.State.{State}
 use Rattle.catalog.specs.Valid.{IsValid}
-use Rattle.tile_service.specs.declared.run_line.LineEnd.{LineEnd}
-use Rattle.tile_service.specs.declared.run_line.LineEnd.TheVariants as line_end
+use Rattle.tile_service.specs.declared.one_line.LineEnd.{LineEnd}
+use Rattle.tile_service.specs.declared.one_line.LineEnd.TheVariants as line_end
 use Rattle.tile_drill.specs.declared.drill_run.MadeEnd.{MadeEnd}
 use Rattle.tile_drill.specs.declared.drill_run.MadeEnd.TheVariants as made_end
 use Rattle.tile_service.specs.declared.seats.Seat.{Seat}

@@ -4,7 +4,7 @@ use Rattle.std.specs.Bool.{⊤}
 use Rattle.std.specs.Io.KnownBytes.{Appends}
 use Rattle.std.proofs.lemmas.List.Sums.{sum_by-cons}
 use Rattle.cabinet.specs.State.{State}
-use Rattle.causes.specs.Causes.{Rose}
+use Rattle.base.specs.Causes.{Rose}
 use Rattle.sha2.specs.Sha256.{sha256}
 use Rattle.tile_drill.specs.declared.drill.DrillEnd.TheVariants.{Done, OutOfMemory, WriteFault}
 use Rattle.tile_drill.specs.declared.drill_run.MadeEnd.TheVariants as made_end

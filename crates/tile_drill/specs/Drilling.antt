@@ -6,7 +6,7 @@ use Rattle.sha2.specs.Sha256.{sha256}
 use Rattle.tile_drill.specs.declared.drill_lines.Aim.{Aim}
 use Rattle.tile_drill.specs.declared.drill_run.MadeEnd.{MadeEnd}
 use Rattle.tile_drill.specs.declared.drill_run.MadeEnd.TheVariants.{Done, OutOfMemory}
-use Rattle.tile_service.specs.declared.run_line.LineEnd.{LineEnd}
+use Rattle.tile_service.specs.declared.one_line.LineEnd.{LineEnd}
 use Rattle.tile_service.specs.declared.seats.Seat.{Seat}
 use Rattle.tile_service.specs.declared.cache_tally.CacheTally.{CacheTally}
 use Rattle.tile_drill.specs.Drill.{IsDrilled, drill_lines, drill_run, line_count, made}

@@ -2,10 +2,10 @@
 ghost use Rattle.std.specs.Prelude.{◌≡◌, ◌++◌, Some};
 ghost use Rattle.sha2.specs.Sha256.{sha256};
 
-use http_wire::streams::{ByteSink, Failed};
+use base::Trace;
+use http_wire::{ByteSink, Failed};
 use sha2::{Digest, Sha256};
 use std::marker::Model;
-use trace::Trace;
 
 /// Keeps of the bytes that it takes only their digest. It never fails. Clauses read it as the bytes.
 #[derive(Drop)]

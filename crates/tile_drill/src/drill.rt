@@ -1,18 +1,17 @@
 //! A drill as a whole: its lines are made and run, and its summary is written.
 ghost use Rattle.std.specs.Prelude.{◌≡◌};
 ghost use Rattle.catalog.specs.Valid.{IsValid};
-ghost use Rattle.tile_drill.specs.Drill.{Drills};
 ghost use Rattle.sessions.specs.Outside.{counts};
+ghost use Rattle.tile_drill.specs.Drill.{Drills};
 ghost use Rattle.tile_service.specs.Run.{free_seats, world_of};
 
 use crate::drill_run::{MadeEnd, run_made_lines};
 use crate::summary::send_summary;
-use cabinet::cabinet::Cabinet;
-use http_wire::streams::ByteSink;
-use source_render::source::Source;
+use cabinet::Cabinet;
+use http_wire::ByteSink;
+use source_render::Source;
 use std::alloc::Global;
-use tile_service::counter::Counter;
-use tile_service::seats::{close, free_seats};
+use tile_service::{Counter, close, free_seats};
 
 /// How a drill ended.
 #[derive(Clone, Copy, PartialEq, Eq)]

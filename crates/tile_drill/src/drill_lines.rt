@@ -6,12 +6,10 @@ ghost use Rattle.tile_drill.specs.Made.{aimed_at, cols_at, cover_text, dimension
 ghost use Rattle.tile_service.specs.Seats.{pending_at};
 
 use crate::draws::Draws;
-use catalog::catalogue::Catalogue;
-use catalog::grid::Grid;
-use catalog::layer::{Dimension, Layer, Style};
+use catalog::{Catalogue, Dimension, Grid, Layer, Style};
 use std::alloc::{AllocError, Global};
-use tile_requests::numbers::add_number;
-use tile_service::seats::{Seat, is_busy};
+use tile_requests::push_number;
+use tile_service::{Seat, is_busy};
 
 /// What a drill asks for: the first layer, its first style, and the first of its grids.
 #[derive(Clone, Copy)]
@@ -81,7 +79,7 @@ fn add_count(text: &mut Vec<u8>, label: &[u8], number: u32) -> Result<(), AllocE
     ensures { OnOk result (text.new.items ≡ text.old.items ++ label.now ++ decimal number) }
 {
     text.extend_from_slice(label)?;
-    add_number(text, u64::from(number))
+    push_number(text, u64::from(number))
 }
 
 /// The default of a dimension, or else its first value.
@@ -205,7 +203,7 @@ fn front_of(alloc: Global, actor: u32) -> Result<Vec<u8>, AllocError>
     ensures { IfOk result (λ v. v.items ≡ decimal actor ++ codes " ") }
 {
     let mut text = Vec::new(alloc);
-    add_number(&mut text, u64::from(actor))?;
+    push_number(&mut text, u64::from(actor))?;
     text.extend_from_slice(b" ")?;
     Ok(text)
 }

@@ -1,21 +1,18 @@
 //! The lines of a drill, each run as soon as it is made, with the count and the digest of the answers.
 ghost use Rattle.std.specs.Prelude.{◌≡◌, List, Option, Some, IfOk, OnErr, map, replicate};
 ghost use Rattle.catalog.specs.Valid.{IsValid};
+ghost use Rattle.sessions.specs.Outside.{counts};
 ghost use Rattle.tile_drill.specs.Drilling.{HasMade, Makes};
 ghost use Rattle.tile_service.specs.OneLine.{IsSeated, seat_of};
-ghost use Rattle.sessions.specs.Outside.{counts};
 ghost use Rattle.tile_service.specs.Run.{PendingRequest, free_seats, world_of};
 
 use crate::digest_sink::DigestSink;
 use crate::draws::Draws;
 use crate::drill_lines::made_line;
-use cabinet::cabinet::Cabinet;
-use source_render::source::Source;
+use cabinet::Cabinet;
+use source_render::Source;
 use std::alloc::{AllocError, Global};
-use tile_service::cache_tally::CacheTally;
-use tile_service::counter::Counter;
-use tile_service::run_line::{LineEnd, run_line};
-use tile_service::seats::{ACTORS, Seat};
+use tile_service::{ACTORS, CacheTally, Counter, LineEnd, Seat, run_line};
 
 /// How many lines a drill has.
 pub const DRILL_LINES: u64 = 4096;

@@ -8,7 +8,9 @@
 
 mod digest_sink;
 mod draws;
-pub mod drill;
+mod drill;
 mod drill_lines;
 mod drill_run;
 mod summary;
+
+pub use drill::{DrillEnd, run_drill};

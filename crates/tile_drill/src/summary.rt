@@ -1,17 +1,16 @@
 //! The summary of a drill: a line of counts and a line of the digest, which take no memory.
-ghost use Rattle.std.specs.Prelude.{◌≡◌, ◌+◌, ◌^◌, ◌<◌, ◌≤◌, ◌++◌, decimal, length, OnErr, OnOk};
 ghost use Rattle.std.specs.Io.KnownBytes.{Appends};
+ghost use Rattle.std.specs.Prelude.{◌≡◌, ◌+◌, ◌^◌, ◌<◌, ◌≤◌, ◌++◌, decimal, length, OnErr, OnOk};
 ghost use Rattle.arrayvec.specs.ArrayVec.{array_vec_len};
-ghost use Rattle.causes.specs.Causes.{HasCause};
+ghost use Rattle.base.specs.Causes.{HasCause};
 ghost use Rattle.tile_drill.specs.Drill.{counts_text, digest_text};
 ghost use Rattle.tile_requests.specs.Sent.{AppendsFront};
 ghost use Rattle.tile_service.specs.CacheTally.{total};
 
 use arrayvec::ArrayVec;
-use http_wire::sending::Sent;
-use http_wire::streams::ByteSink;
-use tile_requests::small_text::{add, add_number, send_behind};
-use tile_service::cache_tally::CacheTally;
+use http_wire::{ByteSink, Sent};
+use tile_requests::{add, add_number, send_behind};
+use tile_service::CacheTally;
 
 /// Adds a label and the number after it.
 fn add_count(text: &mut ArrayVec<u8, 1024>, label: &[u8], number: u64)

@@ -18,7 +18,7 @@ use Rattle.cache_core.specs.Steps.{tile_at}
 use Rattle.catalog.specs.declared.catalogue.Catalogue.{Catalogue}
 use Rattle.catalog.specs.LookUp.{IsTile, matrix_in}
 use Rattle.catalog.specs.Valid.{IsValid}
-use Rattle.causes.specs.Causes.{Rose}
+use Rattle.base.specs.Causes.{Rose}
 use Rattle.matrix_geometry.specs.declared.address.Address.{Address}
 use Rattle.matrix_geometry.specs.declared.matrix.Matrix.{Matrix}
 use Rattle.metatile_locks.specs.Tickets.{Ticketed}

@@ -17,7 +17,7 @@ use Rattle.cache_core.specs.Fits.{IsTrueOutcome}
 use Rattle.cache_core.specs.Steps.{tile_at}
 use Rattle.catalog.specs.declared.catalogue.Catalogue.{Catalogue}
 use Rattle.catalog.specs.LookUp.{IsTile}
-use Rattle.causes.specs.Causes.{Rose}
+use Rattle.base.specs.Causes.{Rose}
 use Rattle.matrix_geometry.specs.declared.address.Address.{Address}
 use Rattle.metatile_locks.specs.Tickets.{Ticketed}
 use Rattle.raster_field.specs.Blocks.{blob_size, tile_part}

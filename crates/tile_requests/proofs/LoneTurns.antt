@@ -33,7 +33,7 @@ use Rattle.cache_core.proofs.Beginnings.{hit_asked, spent_asked, spent_forced, t
 use Rattle.cache_core.proofs.Endings.{abandons_catalogue, abandons_grow, extends_fresh, failed_on, finish_cause, finishes_catalogue, finishes_grow, finishes_is, painted_on, went_unwritten}
 use Rattle.catalog.specs.declared.catalogue.Catalogue.{Catalogue}
 use Rattle.catalog.specs.LookUp.{IsTile}
-use Rattle.causes.specs.Causes.{Rose, RoseBy}
+use Rattle.base.specs.Causes.{Rose, RoseBy}
 use Rattle.matrix_geometry.specs.declared.address.Address.{Address}
 use Rattle.metatile_locks.specs.declared.render.Render.{Render}
 use Rattle.metatile_locks.specs.Tickets.{Ticketed}

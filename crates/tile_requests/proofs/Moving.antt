@@ -14,7 +14,7 @@ use Rattle.cache_core.specs.Begun.{Begins}
 use Rattle.cache_core.specs.Fits.{IsFit, IsFreshActor, Extends, place_of}
 use Rattle.cache_core.specs.Shown.{shown, IsFailed, IsIdle}
 use Rattle.cache_core.specs.Steps.{Stepped, given, unless_busy, unless_kept, unless_unread, began, advanced}
-use Rattle.causes.specs.Causes.{Rose}
+use Rattle.base.specs.Causes.{Rose}
 use Rattle.matrix_geometry.specs.declared.address.Address.{Address}
 use Rattle.metatile_locks.specs.Running.{running_for}
 use Rattle.raster_field.specs.Blocks.{block_of}

@@ -11,7 +11,7 @@ use Rattle.cache_core.specs.declared.actor.Step.{Step}
 use Rattle.cache_core.specs.Begun.{Begins}
 use Rattle.cache_core.specs.Shown.{shown}
 use Rattle.cache_core.specs.Steps.{Stepped, began, advanced, disk_faults, given, unless_busy, unless_kept, unless_unread}
-use Rattle.causes.specs.Causes.{RoseBy}
+use Rattle.base.specs.Causes.{RoseBy}
 use Rattle.matrix_geometry.specs.declared.address.Address.{Address}
 use Rattle.metatile_locks.specs.Running.{running_for}
 use Rattle.raster_field.specs.Blocks.{block_of}

@@ -16,7 +16,7 @@ use Rattle.cache_core.specs.Advanced.{Advances}
 use Rattle.cache_core.specs.Begun.{Begins}
 use Rattle.cache_core.specs.Fits.{IsFit, IsTrueActor, IsTrueOutcome, IsFreshActor, IsFreshOutcome, Extends}
 use Rattle.cache_core.specs.Shown.{shown, IsIdle}
-use Rattle.causes.specs.Causes.{RoseBy}
+use Rattle.base.specs.Causes.{RoseBy}
 use Rattle.matrix_geometry.specs.declared.address.Address.{Address}
 use Rattle.tile_requests.specs.declared.request.Mode.{Mode}
 use Rattle.tile_requests.specs.Requests.{Chance, disk_faults_in, is_at_work, events, owed}

@@ -12,7 +12,7 @@ use Rattle.cache_access.specs.Gets.{IsGot}
 use Rattle.cache_access.specs.Turned.{IsOf}
 use Rattle.cache_core.specs.declared.outcome.Tile.{Tile}
 use Rattle.catalog.specs.declared.catalogue.Catalogue.{Catalogue}
-use Rattle.causes.specs.Causes.{Rose}
+use Rattle.base.specs.Causes.{Rose}
 use Rattle.matrix_geometry.specs.declared.address.Address.{Address}
 use Rattle.truncation_list.specs.declared.book.FrontedBook.{FrontedBook}
 use Rattle.truncation_list.specs.declared.cover.Cover.{Cover}

@@ -5,12 +5,11 @@ ghost use Rattle.catalog.specs.Valid.{IsValid};
 ghost use Rattle.tile_requests.specs.Requests.{IsOf, tile_of};
 ghost use Rattle.tile_requests.specs.Served.{ServesRequest};
 
-use crate::immediate::immediate;
+use crate::at_once::immediate;
 use crate::outcome::Outcome;
 use crate::request::{Request, outcome_of_get};
-use cache_access::access::Access;
-use cache_access::get::get;
-use source_render::source::Source;
+use cache_access::{Access, get};
+use source_render::Source;
 use std::alloc::Global;
 
 /// Answers a request: a tile is asked for, and rendered and handed in if it isn't kept. If memory runs out, the outcome says so.

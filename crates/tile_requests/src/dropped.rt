@@ -1,13 +1,12 @@
 //! The text that tells which metatile an expiry dropped.
-ghost use Rattle.std.specs.Prelude.{◌≡◌, ◌++◌, IfOk, OnOk};
 ghost use Rattle.std.specs.List.{join_with_byte};
+ghost use Rattle.std.specs.Prelude.{◌≡◌, ◌++◌, IfOk, OnOk};
 ghost use Rattle.tile_requests.specs.Texts.{comma_before, dropped_text, grid_id, layer_id, place_text, style_id, value_text, value_texts};
 
-use crate::numbers::add_number;
-use catalog::catalogue::Catalogue;
-use catalog::layer::Dimension;
-use exact_ratio::words::Words;
-use metatile_plan::metatile::MetaKey;
+use crate::numbers::push_number;
+use catalog::{Catalogue, Dimension};
+use exact_ratio::Words;
+use metatile_plan::MetaKey;
 use std::alloc::{AllocError, Global};
 
 /// The identifier of its layer.
@@ -92,11 +91,11 @@ fn add_place(text: &mut Vec<u8>, meta: &MetaKey) -> Result<(), AllocError>
     ensures { OnOk result (text.new.items ≡ text.old.items ++ place_text meta.now) }
 {
     text.extend_from_slice(b"\",\"z\":")?;
-    add_number(text, u64::from(meta.z))?;
+    push_number(text, u64::from(meta.z))?;
     text.extend_from_slice(b",\"row\":")?;
-    add_number(text, u64::from(meta.row))?;
+    push_number(text, u64::from(meta.row))?;
     text.extend_from_slice(b",\"col\":")?;
-    add_number(text, u64::from(meta.col))?;
+    push_number(text, u64::from(meta.col))?;
     text.extend_from_slice(b"}}\n")?;
     Ok(())
 }

@@ -1,30 +1,30 @@
 //! What the turns of a thread that has a cabinet for itself come to, as the events of a request.
 ghost use Rattle.std.specs.Prelude.{Bool, IfErr, List, Option, Result, Some, ℕ, ◌≡◌, ◌≤◌};
+ghost use Rattle.base.specs.Causes.{Rose};
 ghost use Rattle.cabinet.specs.State.{IsSound, fronted, now};
 ghost use Rattle.cabinet_chest.specs.declared.shown.Note.{Note};
 ghost use Rattle.cabinet_chest.specs.declared.shown.Shown.{Shown};
 ghost use Rattle.cache_access.specs.Alone.{AreSteps, IsAtRest};
-ghost use Rattle.cache_access.specs.declared.fault.GetFault.{GetFault};
-ghost use Rattle.cache_access.specs.declared.fault.GetFault.TheVariants.{SourceFault};
-ghost use Rattle.cache_access.specs.declared.refreshed.Refreshed.{Refreshed};
 ghost use Rattle.cache_access.specs.Gets.{IsGot};
 ghost use Rattle.cache_access.specs.Refreshes.{CameTo};
+ghost use Rattle.cache_access.specs.declared.fault.GetFault.TheVariants.{SourceFault};
+ghost use Rattle.cache_access.specs.declared.fault.GetFault.{GetFault};
+ghost use Rattle.cache_access.specs.declared.refreshed.Refreshed.{Refreshed};
 ghost use Rattle.cache_core.specs.declared.outcome.Tile.{Tile};
 ghost use Rattle.cache_core.specs.declared.outcome.TileOutcome.{TileOutcome};
 ghost use Rattle.catalog.specs.LookUp.{IsTile};
 ghost use Rattle.catalog.specs.Valid.{IsValid};
-ghost use Rattle.causes.specs.Causes.{Rose};
 ghost use Rattle.matrix_geometry.specs.declared.address.Address.{Address};
 ghost use Rattle.metatile_plan.specs.declared.metatile.MetaKey.{MetaKey};
 ghost use Rattle.raster_field.specs.Blocks.{IsMeta, first_tile};
-ghost use Rattle.tile_requests.specs.declared.request.Mode.TheVariants.{Gets};
-ghost use Rattle.tile_requests.specs.Events.{EndsAs, Opens, RunsTo, ended_by, ended_so};
-ghost use Rattle.tile_requests.specs.declared.outcome.Outcome.{Outcome};
-ghost use Rattle.tile_requests.specs.declared.request.Request.{Request};
 ghost use Rattle.tile_requests.specs.Counted.{AreAllCounts, IsCounted};
+ghost use Rattle.tile_requests.specs.Events.{EndsAs, Opens, RunsTo, ended_by, ended_so};
 ghost use Rattle.tile_requests.specs.Immediate.{IsImmediate};
 ghost use Rattle.tile_requests.specs.Served.{IsServedAtOnce};
 ghost use Rattle.tile_requests.specs.Texts.{usage_text};
+ghost use Rattle.tile_requests.specs.declared.outcome.Outcome.{Outcome};
+ghost use Rattle.tile_requests.specs.declared.request.Mode.TheVariants.{Gets};
+ghost use Rattle.tile_requests.specs.declared.request.Request.{Request};
 ghost use Rattle.turnstile.specs.declared.view.Made.{Made};
 
 /// The turns of a get, by a thread that has the cabinet for itself, are the events of the line that gets the tile, under some chance, and

@@ -7,18 +7,34 @@
 //! Stands on cabinet, cache_core, cache_access, source_render, job_forms, exception_report, wmts_kvp, wmts_rest and http_wire.
 #![tactic(auto)]
 
-pub mod answering;
-pub mod dropped;
-pub mod events;
-pub mod head;
-pub mod immediate;
-pub mod laws;
-pub mod message_ref;
-pub mod numbers;
-pub mod outcome;
-pub mod parts;
-pub mod request;
-pub mod response;
-pub mod routes;
-pub mod small_text;
-pub mod usage;
+mod answering;
+mod at_once;
+mod dropped;
+mod laws;
+mod message_ref;
+mod numbers;
+mod outcome;
+mod parts;
+mod request;
+mod request_events;
+mod response;
+mod response_head;
+mod routes;
+mod small_text;
+mod usage;
+
+pub use answering::answer;
+pub use at_once::immediate;
+pub use dropped::dropped_text;
+pub use laws::laws_of_lone_threads;
+pub use message_ref::MessageRef;
+pub use numbers::push_number;
+pub use outcome::{Outcome, Plain};
+pub use parts::{Body, MediaType, Parts, TileHeaders};
+pub use request::{Mode, Request, outcome_of, outcome_of_get};
+pub use request_events::events;
+pub use response::{bare, parts_of};
+pub use response_head::head;
+pub use routes::{Route, path_of, read_request};
+pub use small_text::{add, add_number, send_behind};
+pub use usage::usage_text;

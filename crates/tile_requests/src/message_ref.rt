@@ -1,7 +1,7 @@
 //! A message whose parts are borrowed, so that the messages of a schedule and of a session are read alike.
 ghost use Rattle.std.specs.Prelude.{◌≡◌};
 
-use http_wire::message::{Message, Method};
+use http_wire::{Message, Method};
 
 /// A message where it stands: its target and its body are borrowed. It doesn't know whether it is the last of its connection.
 #[derive(Clone, Copy)]

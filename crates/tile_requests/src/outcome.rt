@@ -1,8 +1,8 @@
 //! The outcomes of all requests.
-use exact_ratio::words::Words;
-use exception_report::code::{Code, Locator};
-use job_forms::fault::JobFault;
-use shared_text::shared::SharedText;
+use base::SharedText;
+use exact_ratio::Words;
+use exception_report::{Code, Locator};
+use job_forms::JobFault;
 
 /// How a request ended.
 #[derive(Drop)]

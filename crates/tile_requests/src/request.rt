@@ -4,12 +4,12 @@ ghost use Rattle.tile_requests.specs.Requests.{outcome_of};
 ghost use Rattle.tile_requests.specs.Served.{outcome_of_get};
 
 use crate::outcome::{Outcome, Plain};
-use cache_access::fault::GetFault;
-use cache_core::outcome::{Tile, TileOutcome};
-use exception_report::code::{Code, Locator};
-use job_forms::fault::JobFault;
-use matrix_geometry::address::Address;
-use truncation_list::cover::Cover;
+use cache_access::GetFault;
+use cache_core::{Tile, TileOutcome};
+use exception_report::{Code, Locator};
+use job_forms::JobFault;
+use matrix_geometry::Address;
+use truncation_list::Cover;
 
 /// What is asked for.
 #[derive(Drop)]

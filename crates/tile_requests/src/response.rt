@@ -2,16 +2,15 @@
 ghost use Rattle.std.specs.Prelude.{◌≡◌, ◌++◌, IfOk, OnErr, [], true};
 ghost use Rattle.exception_report.specs.Report.{report_of};
 ghost use Rattle.exception_report.specs.Status.{status_of};
-ghost use Rattle.tile_requests.specs.Shown.{media_type_name, shown_parts};
 ghost use Rattle.tile_requests.specs.Requests.{is_made};
 ghost use Rattle.tile_requests.specs.Response.{bare, cut_text, fault_kind, fault_text, field_of, parts_of, plain_parts, spelt, typed};
+ghost use Rattle.tile_requests.specs.Shown.{media_type_name, shown_parts};
 
-use crate::numbers::add_number;
+use crate::numbers::push_number;
 use crate::outcome::{Outcome, Plain};
 use crate::parts::{Body, MediaType, Parts, TileHeaders};
-use exception_report::code::{Code, Locator};
-use exception_report::report::{report, status_of};
-use job_forms::fault::{JobFault, JobField};
+use exception_report::{Code, Locator, report, status_of};
+use job_forms::{JobFault, JobField};
 use std::alloc::{AllocError, Global};
 
 /// A body that lies elsewhere.
@@ -73,7 +72,7 @@ fn cut<'a>(alloc: Global, number: u64) -> Result<Parts<'a>, AllocError>
     ensures { IfOk result (λ p. shown_parts p ≡ parts_of [] (Outcome.Cut number)) }
 {
     let mut text = Vec::from_slice(alloc, b"{\"cut\":")?;
-    add_number(&mut text, number)?;
+    push_number(&mut text, number)?;
     text.extend_from_slice(b"}\n")?;
     Ok(made(200, MediaType::Json, text))
 }

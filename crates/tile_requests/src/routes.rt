@@ -1,23 +1,22 @@
 //! The table of paths: where a message leads by its method and path, and what it asks for there.
-ghost use Rattle.std.specs.Prelude.{◌≡◌, ◌≤◌, ◌==◌, length, not, IfOk, IfSome};
 ghost use Rattle.std.specs.List.{prefix_len};
-ghost use Rattle.catalog.specs.declared.catalogue.Catalogue.{Catalogue};
+ghost use Rattle.std.specs.Prelude.{◌≡◌, ◌≤◌, ◌==◌, length, not, IfOk, IfSome};
 ghost use Rattle.catalog.specs.Valid.{IsValid};
-ghost use Rattle.wmts_kvp.specs.Reading.{IsOfCatalogue};
-ghost use Rattle.tile_requests.specs.Requests.{IsOf};
+ghost use Rattle.catalog.specs.declared.catalogue.Catalogue.{Catalogue};
 ghost use Rattle.job_forms.specs.Cover.{cover_of};
-ghost use Rattle.tile_requests.specs.Shown.{shown_message};
+ghost use Rattle.tile_requests.specs.Requests.{IsOf};
 ghost use Rattle.tile_requests.specs.Routes.{path_of, query_of, by_get, by_post, route_of, request_of, request_or_none, truncation_of, request_at, request_for};
+ghost use Rattle.tile_requests.specs.Shown.{shown_message};
+ghost use Rattle.wmts_kvp.specs.Reading.{IsOfCatalogue};
 
 use crate::message_ref::MessageRef;
 use crate::request::Request;
-use catalog::catalogue::Catalogue;
-use http_wire::message::Method;
-use job_forms::cover::read_cover;
-use job_forms::fault::JobFault;
+use catalog::Catalogue;
+use http_wire::Method;
+use job_forms::{JobFault, read_cover};
 use std::alloc::{AllocError, Global};
-use wmts_kvp::query::{Query, read_query};
-use wmts_rest::table::RestTable;
+use wmts_kvp::{Query, read_query};
+use wmts_rest::RestTable;
 
 /// Where the path of a message leads.
 #[derive(Clone, Copy, PartialEq, Eq)]

@@ -1,13 +1,12 @@
 //! Texts of at most 1,024 bytes that take no memory: the line of an answer, the head of a response, the lines of a summary.
-ghost use Rattle.std.specs.Prelude.{◌≡◌, ◌+◌, ◌≤◌, ◌++◌, length, decimal, OnErr, OnOk};
 ghost use Rattle.std.specs.Io.KnownBytes.{Appends};
+ghost use Rattle.std.specs.Prelude.{◌≡◌, ◌+◌, ◌≤◌, ◌++◌, length, decimal, OnErr, OnOk};
 ghost use Rattle.arrayvec.specs.ArrayVec.{array_vec_len};
-ghost use Rattle.causes.specs.Causes.{HasCause};
+ghost use Rattle.base.specs.Causes.{HasCause};
 ghost use Rattle.tile_requests.specs.Sent.{AppendsFront};
 
 use arrayvec::ArrayVec;
-use http_wire::sending::{Sent, send, send_both};
-use http_wire::streams::ByteSink;
+use http_wire::{ByteSink, Sent, send, send_both};
 use itoa::Buffer;
 
 /// The most bytes of a body that is sent in one piece with what stands before it, since each write of its own costs a

@@ -2,14 +2,14 @@
 ghost use Rattle.std.specs.Prelude.{◌≡◌, ◌++◌, IfOk, OnErr, OnOk, length};
 ghost use Rattle.cache_access.specs.Turned.{Goes};
 ghost use Rattle.catalog.specs.Valid.{IsValid};
-ghost use Rattle.tile_requests.specs.Texts.{kept_counts_text, layer_line, quota_text, totals_text};
 ghost use Rattle.tile_requests.specs.Counting.{HasCounted, HasCountedVainly, HasToldUsage};
+ghost use Rattle.tile_requests.specs.Texts.{kept_counts_text, layer_line, quota_text, totals_text};
 
-use crate::numbers::add_number;
-use cabinet_chest::command::Counts;
-use cache_access::access::Access;
-use catalog::layer::Layer;
-use exact_ratio::words::Words;
+use crate::numbers::push_number;
+use cabinet_chest::Counts;
+use cache_access::Access;
+use catalog::Layer;
+use exact_ratio::Words;
 use std::alloc::{AllocError, Global};
 
 fn add_quota(text: &mut Vec<u8>, quota: Option<u64>) -> Result<(), AllocError>
@@ -17,7 +17,7 @@ fn add_quota(text: &mut Vec<u8>, quota: Option<u64>) -> Result<(), AllocError>
 {
     match quota {
         None => text.extend_from_slice(b"-"),
-        Some(bytes) => add_number(text, bytes),
+        Some(bytes) => push_number(text, bytes),
     }
 }
 
@@ -31,9 +31,9 @@ fn add_counts(
     ensures { OnOk result (text.new.items ≡ text.old.items ++ kept_counts_text metatiles bytes quota) }
 {
     text.extend_from_slice(b" ")?;
-    add_number(text, u64::from(metatiles))?;
+    push_number(text, u64::from(metatiles))?;
     text.extend_from_slice(b" ")?;
-    add_number(text, bytes)?;
+    push_number(text, bytes)?;
     text.extend_from_slice(b" ")?;
     add_quota(text, quota)?;
     text.extend_from_slice(b"\n")?;
@@ -61,7 +61,7 @@ fn add_totals(
     text.extend_from_slice(b"total")?;
     add_counts(text, all.metatiles, all.bytes, quota)?;
     text.extend_from_slice(b"cuts ")?;
-    add_number(text, u64::from(cuts.cuts))?;
+    push_number(text, u64::from(cuts.cuts))?;
     text.extend_from_slice(b"\n")
 }
 

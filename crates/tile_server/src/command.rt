@@ -1,18 +1,16 @@
 //! The words of a command that runs once.
 use crate::{CACHE, CAPABILITIES, CELLS, Catalogue, catalogue_of, ended};
-use clock::clock::Clock;
-use command_status::status::Status;
-use command_words::words::{UpkeepWord, Word, word_of};
-use exact_ratio::words::Words;
-use http_wire::file_source::FileSource;
-use http_wire::std_streams::{StdinSource, StdoutSink};
-use program_files::cache_disk::CacheDisk;
-use program_files::input::Input;
-use source_render::any::AnySource;
+use base::Clock;
+use command_status::Status;
+use command_words::{UpkeepWord, Word, word_of};
+use exact_ratio::Words;
+use http_wire::{FileSource, StdinSource, StdoutSink};
+use program_files::{CacheDisk, Input};
+use source_render::AnySource;
 use std::fs::File;
 use std::process::ExitCode;
 use std::rt::Files;
-use tile_command::command::run_command;
+use tile_command::run_command;
 
 /// The cache's file, opened for the words that work on it, and made by those that make it.
 fn cache_for(rt: &impl Files<File = File>, words: &[Words]) -> CacheDisk {

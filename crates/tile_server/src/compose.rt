@@ -1,13 +1,12 @@
 //! The word `compose`: tiles of several layers, laid over each other.
 use crate::{CELLS, Catalogue, catalogue_of, ended};
-use clock::clock::Clock;
-use command_status::status::Status;
-use compose_words::end::ComposeEnd;
-use compose_words::word::run_compose;
-use exact_ratio::words::Words;
-use http_wire::std_streams::{StdinSource, StdoutSink};
-use program_files::input::Input;
-use source_render::any::AnySource;
+use base::Clock;
+use command_status::Status;
+use compose_words::{ComposeEnd, run_compose};
+use exact_ratio::Words;
+use http_wire::{StdinSource, StdoutSink};
+use program_files::Input;
+use source_render::AnySource;
 use std::io::Eprint;
 use std::process::ExitCode;
 

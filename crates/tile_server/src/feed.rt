@@ -1,13 +1,10 @@
 //! The words of a feed: numbered changes, each made once on the cache.
 use crate::{CACHE, CATALOGUE, MARKS, ended};
-use clock::clock::Clock;
-use exact_ratio::words::Words;
-use feed_words::word::run_feed;
-use feed_words::words::{FeedWord, feed_word};
-use http_wire::file_source::FileSource;
-use http_wire::std_streams::{StdinSource, StdoutSink};
-use program_files::cache_disk::CacheDisk;
-use program_files::input::Input;
+use base::Clock;
+use exact_ratio::Words;
+use feed_words::{FeedWord, feed_word, run_feed};
+use http_wire::{FileSource, StdinSource, StdoutSink};
+use program_files::{CacheDisk, Input};
 use std::fs::File;
 use std::process::ExitCode;
 use std::rt::Files;

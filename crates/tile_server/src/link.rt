@@ -1,14 +1,10 @@
 //! The words of a link: a leader's posts go over a connection, or the changes that come over one are made on the cache.
 use crate::{CACHE, CATALOGUE, MARKS, OUTBOX, ended, unconnected};
-use clock::clock::Clock;
-use exact_ratio::words::Words;
-use http_wire::file_source::FileSource;
-use link_words::ends::LinkingEnd;
-use link_words::link::run_link;
-use link_words::words::{LinkWord, link_word};
-use program_files::cache_disk::CacheDisk;
-use program_files::input::Input;
-use program_files::stream_link::StreamLink;
+use base::Clock;
+use exact_ratio::Words;
+use http_wire::FileSource;
+use link_words::{LinkWord, LinkingEnd, link_word, run_link};
+use program_files::{CacheDisk, Input, StreamLink};
 use std::fs::File;
 use std::io;
 use std::io::Eprint;

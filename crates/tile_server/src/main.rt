@@ -1,10 +1,10 @@
 //! The program `tile_server`, a cache of map tiles: it hands the words, files and streams of the process to the top call that the words are
 //! for (`top_call` of command_words), and tells how that ended. `command` hands them to `run_command` of tile_command, `serve` to `run_server`
-//! of tile_serving, with a listening socket, `feed` to `run_feed` of feed_words, `compose` to `run_compose` of compose_words, `twin` to
+//! of server_command, with a listening socket, `feed` to `run_feed` of feed_words, `compose` to `run_compose` of compose_words, `twin` to
 //! `run_twin` of twin_words, and `link` to `run_link` of link_words, with a connection.
 //!
 //! Promises: none that a clause says; this is the trusted edge. What the command does is promised there.
-//! Stands on tile_command, tile_serving, feed_words, compose_words, twin_words and link_words, and on the crates whose files, streams and
+//! Stands on tile_command, server_command, feed_words, compose_words, twin_words and link_words, and on the crates whose files, streams and
 //! sockets it opens.
 #![tactic(auto)]
 
@@ -15,15 +15,13 @@ mod link;
 mod serve;
 mod twin;
 
-use clock::clock::Clock;
-use command_setup::configured::{CATALOGUE_LIMIT, source_number};
-use command_status::status::Status;
-use command_words::top_calls::{TopCall, top_call};
-use exact_ratio::words::Words;
-use http_wire::file_source::FileSource;
-use http_wire::inputs::{InputEnd, read_all};
-use http_wire::memory_source::MemorySource;
-use program_files::input::Input;
+use base::Clock;
+use command_setup::{CATALOGUE_LIMIT, source_number};
+use command_status::Status;
+use command_words::{TopCall, top_call};
+use exact_ratio::Words;
+use http_wire::{FileSource, InputEnd, MemorySource, read_all};
+use program_files::Input;
 use std::alloc::AllocError;
 use std::fs::File;
 use std::io::{Eprint, Print};

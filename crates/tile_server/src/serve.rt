@@ -2,15 +2,15 @@
 ghost use Rattle.std.specs.Prelude.{IfOk, length, ◌≡◌, ◌≤◌};
 
 use crate::{CACHE, CAPABILITIES, CELLS, Catalogue, catalogue_of, ended, unconnected};
-use clock::clock::Clock;
-use command_status::status::Status;
-use command_words::serve_words::{ServeFault, ServeWords, serve_words};
-use exact_ratio::words::Words;
-use hall_service::stage::SOURCES;
-use http_wire::file_source::FileSource;
-use program_files::cache_disk::CacheDisk;
-use program_files::input::Input;
-use source_render::any::AnySource;
+use base::Clock;
+use command_status::Status;
+use command_words::{ServeFault, ServeWords, serve_words};
+use exact_ratio::Words;
+use http_wire::FileSource;
+use program_files::{CacheDisk, Input};
+use server_command::run_server;
+use server_workers::SOURCES;
+use source_render::AnySource;
 use std::alloc::AllocError;
 use std::fs::File;
 use std::io::Eprint;
@@ -20,8 +20,7 @@ use std::rt::Files;
 use std::snapshot::Snapshot;
 use std::sync::Wait;
 use std::thread::Threads;
-use tcp_lanes::accept::TcpAccept;
-use tile_serving::server::run_server;
+use tcp_lanes::TcpAccept;
 
 /// The sources that a server takes.
 fn sources_of<R: Files<File = File> + AllocGlobal + Copy + Drop>(

@@ -1,17 +1,15 @@
 //! The words of a twin: a leader and a follower over a link that loses, repeats and reorders what goes over it, event by event.
 use crate::{CACHE, CELLS, Catalogue, MARKS, OUTBOX, catalogue_of, ended};
-use clock::clock::Clock;
-use command_status::status::Status;
-use exact_ratio::words::Words;
-use http_wire::std_streams::{StdinSource, StdoutSink};
-use program_files::cache_disk::CacheDisk;
-use program_files::input::Input;
-use source_render::any::AnySource;
+use base::Clock;
+use command_status::Status;
+use exact_ratio::Words;
+use http_wire::{StdinSource, StdoutSink};
+use program_files::{CacheDisk, Input};
+use source_render::AnySource;
 use std::fs::File;
 use std::process::ExitCode;
 use std::rt::Files;
-use twin_words::twin::run_twin;
-use twin_words::words::{TwinWord, twin_word};
+use twin_words::{TwinWord, run_twin, twin_word};
 
 /// A file of a twin, opened for the words that work on it, and made by the one that makes it.
 fn file_for(rt: &impl Files<File = File>, words: &[Words], path: &str) -> CacheDisk {

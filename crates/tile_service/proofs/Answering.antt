@@ -10,7 +10,7 @@ use Rattle.cache_access.specs.declared.fault.GetFault.{GetFault}
 use Rattle.cache_access.specs.declared.fault.GetFault.TheVariants as fault
 use Rattle.cache_core.specs.declared.outcome.Tile.{Tile}
 use Rattle.catalog.specs.LookUp.{IsTile}
-use Rattle.causes.specs.Causes.{Rose}
+use Rattle.base.specs.Causes.{Rose}
 use Rattle.matrix_geometry.specs.declared.address.Address.{Address}
 use Rattle.turnstile.specs.declared.view.Made.{Made}
 use Rattle.tile_requests.specs.declared.outcome.Outcome.{Outcome}

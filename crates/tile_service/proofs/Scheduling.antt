@@ -3,8 +3,8 @@ use Rattle.std.proofs.Common.{◌≡◌, ℕ, map, replicate, ◌+◌, ◌≤◌
 use Rattle.std.specs.Io.KnownBytes.{Appends}
 use Rattle.std.proofs.lemmas.Grind.{flat_map-append}
 use Rattle.cabinet.specs.State.{State}
-use Rattle.tile_service.specs.declared.run_line.LineEnd.{LineEnd}
-use Rattle.tile_service.specs.declared.run_line.LineEnd.TheVariants as line_end
+use Rattle.tile_service.specs.declared.one_line.LineEnd.{LineEnd}
+use Rattle.tile_service.specs.declared.one_line.LineEnd.TheVariants as line_end
 use Rattle.tile_service.specs.declared.run_lines.RunEnd.{RunEnd}
 use Rattle.tile_service.specs.declared.run_lines.RunEnd.TheVariants.{Done, Line, WriteFault}
 use Rattle.tile_service.specs.declared.seats.Seat.{Seat}

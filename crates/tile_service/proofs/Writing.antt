@@ -1,12 +1,12 @@
 -- The answer of a line is written, all of it or a front.
 use Rattle.std.proofs.Common.{◌≡◌, ℕ, Bool, true, false, List, [], ◌∷◌, Option, None, Some, refl, inl, inr, sym, subst, flat_map, append-nil}
 use Rattle.std.specs.Io.KnownBytes.{Appends}
-use Rattle.causes.specs.Causes.{Rose}
+use Rattle.base.specs.Causes.{Rose}
 use Rattle.cabinet.specs.State.{State}
 use Rattle.tile_service.specs.declared.action_end.ActionEnd.TheVariants.{Refused, Silent, Answers}
 use Rattle.tile_service.specs.declared.action_end.Answer as code
 use Rattle.tile_requests.specs.declared.outcome.Outcome.{Outcome}
-use Rattle.tile_service.specs.declared.run_line.LineEnd.TheVariants as line_end
+use Rattle.tile_service.specs.declared.one_line.LineEnd.TheVariants as line_end
 use Rattle.tile_service.specs.declared.seats.Seat.{Seat}
 use Rattle.tile_service.specs.declared.cache_tally.CacheResult.{CacheResult}
 use Rattle.tile_service.specs.declared.cache_tally.CacheResult.TheVariants.{Hit, Miss, Other}

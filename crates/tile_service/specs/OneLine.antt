@@ -7,7 +7,7 @@ use Rattle.cabinet.specs.State.{State, IsSound}
 use Rattle.cache_core.specs.Fits.{IsFit, IsFreshActor, IsTrueActor, Extends}
 use Rattle.cache_core.specs.Shown.{IsIdle}
 use Rattle.catalog.specs.declared.catalogue.Catalogue.{Catalogue}
-use Rattle.causes.specs.Causes.{RoseBy}
+use Rattle.base.specs.Causes.{RoseBy}
 use Rattle.http_wire.specs.declared.message.Message.{Message}
 use Rattle.tile_service.specs.declared.action_end.ActionEnd.{ActionEnd}
 use Rattle.tile_service.specs.declared.action_end.ActionEnd.TheVariants as action_end

@@ -3,7 +3,7 @@ use Rattle.std.specs.Prelude.{ℕ, ◌≡◌, ◌≤◌, ◌+◌, List, [], ◌�
 use Rattle.std.specs.Io.KnownBytes.{Appends, Consumes, IsAtEnd}
 use Rattle.std.specs.List.{AllByRecursion}
 use Rattle.cabinet.specs.State.{IsSound, State}
-use Rattle.causes.specs.Causes.{Rose, RoseBy}
+use Rattle.base.specs.Causes.{Rose, RoseBy}
 use Rattle.tile_service.specs.declared.run_lines.RunEnd.{RunEnd}
 use Rattle.tile_service.specs.declared.run_lines.RunEnd.TheVariants as run_end
 use Rattle.tile_service.specs.declared.schedule.ScheduleEnd.{ScheduleEnd}

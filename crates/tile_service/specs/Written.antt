@@ -3,9 +3,9 @@
 use Rattle.std.specs.Prelude.{ℕ, ◌≡◌, ◌≤◌, List, [], ◌∷◌, map, Option, None, flat_map}
 use Rattle.std.specs.Io.KnownBytes.{Appends}
 use Rattle.cabinet.specs.State.{State}
-use Rattle.causes.specs.Causes.{Rose}
-use Rattle.tile_service.specs.declared.run_line.LineEnd.{LineEnd}
-use Rattle.tile_service.specs.declared.run_line.LineEnd.TheVariants as line_end
+use Rattle.base.specs.Causes.{Rose}
+use Rattle.tile_service.specs.declared.one_line.LineEnd.{LineEnd}
+use Rattle.tile_service.specs.declared.one_line.LineEnd.TheVariants as line_end
 use Rattle.tile_service.specs.declared.seats.Seat.{Seat}
 use Rattle.tile_service.specs.Lines.{action_in}
 use Rattle.tile_service.specs.OneLine.{IsLine, IsSeated, seat_of}

@@ -1,5 +1,5 @@
 //! How the action of a line ends, before its answer is written.
-use tile_requests::outcome::Outcome;
+use tile_requests::Outcome;
 
 /// What a line answers.
 #[derive(Drop)]

@@ -1,24 +1,20 @@
 //! How the answer of a line is written: its response after a line of its own.
-ghost use Rattle.std.specs.Prelude.{◌≡◌, ◌≤◌, ◌++◌, false, IfOk, OnErr, OnOk};
 ghost use Rattle.std.specs.Io.KnownBytes.{Appends};
+ghost use Rattle.std.specs.Prelude.{◌≡◌, ◌≤◌, ◌++◌, false, IfOk, OnErr, OnOk};
 ghost use Rattle.arrayvec.specs.ArrayVec.{array_vec_len};
-ghost use Rattle.causes.specs.Causes.{HasCause};
-ghost use Rattle.tile_service.specs.CacheTally.{result_of};
+ghost use Rattle.base.specs.Causes.{HasCause};
 ghost use Rattle.sessions.specs.Responses.{MayTell};
-ghost use Rattle.tile_requests.specs.Shown.{shown_parts};
 ghost use Rattle.tile_requests.specs.Response.{answer_line, framed, response_text, response_with};
 ghost use Rattle.tile_requests.specs.Sent.{AppendsFront};
+ghost use Rattle.tile_requests.specs.Shown.{shown_parts};
+ghost use Rattle.tile_service.specs.CacheTally.{result_of};
 
 use crate::action_end::Answer;
 use crate::cache_tally::{CacheResult, result_of};
 use arrayvec::ArrayVec;
-use http_wire::sending::Sent;
-use http_wire::streams::ByteSink;
+use http_wire::{ByteSink, Sent};
 use std::alloc::Global;
-use tile_requests::head::head;
-use tile_requests::parts::Parts;
-use tile_requests::response::{bare, parts_of};
-use tile_requests::small_text::{add, add_number, send_behind};
+use tile_requests::{Parts, add, add_number, bare, head, parts_of, send_behind};
 
 /// The line that stands before a response. It takes no memory.
 fn answer_line(line: u64, actor: u32, start: u64, bytes: u64) -> ArrayVec<u8, 1024>

@@ -2,7 +2,7 @@
 ghost use Rattle.std.specs.Prelude.{◌≡◌, ◌^◌, ◌<◌};
 ghost use Rattle.tile_service.specs.CacheTally.{both, one_of, result_of, total};
 
-use tile_requests::outcome::Outcome;
+use tile_requests::Outcome;
 
 /// What an answer tells of the cache.
 #[derive(Clone, Copy, PartialEq, Eq)]

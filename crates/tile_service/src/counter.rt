@@ -1,7 +1,7 @@
 //! What one thread serves with: a cabinet, the reading of paths, and the capabilities document.
-use cabinet::keeper::Keeper;
-use exact_ratio::words::Words;
-use wmts_rest::table::RestTable;
+use cabinet::Keeper;
+use exact_ratio::Words;
+use wmts_rest::RestTable;
 
 /// Where one thread is served.
 #[derive(Drop)]

@@ -1,10 +1,10 @@
 //! What the bytes of renderings have no part in, and what a cabinet without a disk has no part in.
-ghost use Rattle.std.specs.Prelude.{List, ℕ, map, ◌≡◌};
 ghost use Rattle.std.specs.List.{AllByRecursion};
-ghost use Rattle.causes.specs.Causes.{RoseBy};
+ghost use Rattle.std.specs.Prelude.{List, ℕ, map, ◌≡◌};
+ghost use Rattle.base.specs.Causes.{RoseBy};
 ghost use Rattle.http_wire.specs.declared.message.Message.{Message};
-ghost use Rattle.tile_service.specs.Alike.{without_bytes};
 ghost use Rattle.tile_requests.specs.Requests.{Chance};
+ghost use Rattle.tile_service.specs.Alike.{without_bytes};
 ghost use Rattle.tile_service.specs.Run.{IsFaultless, World, disk_faults, run};
 ghost use Rattle.tile_service.specs.Session.{session};
 

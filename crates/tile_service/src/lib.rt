@@ -12,18 +12,30 @@
 //! Stands on sessions, tile_requests, cabinet, cache_access, by which a session gets its tiles, cache_core, source_render, schedule_text and http_wire.
 #![tactic(auto)]
 
-pub mod action_end;
-pub mod answer;
-pub mod cache_tally;
-pub mod counter;
-pub mod laws;
-pub mod lines;
+mod action_end;
+mod answer;
+mod cache_tally;
+mod counter;
+mod laws;
+mod lines;
 mod lone_server;
+mod one_line;
 mod perform;
-pub mod run_line;
 mod run_lines;
-pub mod schedule;
-pub mod seats;
+mod schedule;
+mod seats;
 mod serving;
-pub mod session;
-pub mod streams;
+mod session;
+mod streams;
+
+pub use action_end::{ActionEnd, Answer};
+pub use answer::write_answer;
+pub use cache_tally::{CacheResult, CacheTally, result_of};
+pub use counter::Counter;
+pub use laws::{laws_of_memory, laws_of_runs};
+pub use lines::{Action, action_in, split_line};
+pub use one_line::{LineEnd, run_line};
+pub use schedule::{ScheduleEnd, run_schedule};
+pub use seats::{ACTORS, Pending, Seat, close, free_seats, is_busy, is_free, pending_at, settle};
+pub use session::replay_session;
+pub use streams::replay_streams;

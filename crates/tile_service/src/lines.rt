@@ -1,15 +1,13 @@
 //! The lines of a schedule: where each ends, and the action that it says.
-ghost use Rattle.std.specs.Prelude.{◌≡◌, ◌<◌, ◌≤◌, ◌∷◌, length};
 ghost use Rattle.std.specs.Option.{option_map};
-ghost use Rattle.tile_service.specs.Lines.{lines_of, line_length, get, post, action_with, says_nothing, action_in};
+ghost use Rattle.std.specs.Prelude.{◌≡◌, ◌<◌, ◌≤◌, ◌∷◌, length};
 ghost use Rattle.tile_requests.specs.Shown.{shown_message};
+ghost use Rattle.tile_service.specs.Lines.{lines_of, line_length, get, post, action_with, says_nothing, action_in};
 ghost use Rattle.tile_service.specs.Shown.{shown_action};
 
-use http_wire::message::Method;
-use schedule_text::line::{LINE_LIMIT, read_line};
-use schedule_text::verb::Verb;
-use tile_requests::message_ref::MessageRef;
-use tile_requests::request::Mode;
+use http_wire::Method;
+use schedule_text::{LINE_LIMIT, Verb, read_line};
+use tile_requests::{MessageRef, Mode};
 
 /// What a line says.
 #[derive(Clone, Copy)]

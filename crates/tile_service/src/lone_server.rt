@@ -1,19 +1,19 @@
 //! A counter as a server of messages.
 ghost use Rattle.std.specs.Prelude.{◌≡◌};
-ghost use Rattle.sessions.specs.Outside.{counts};
 ghost use Rattle.catalog.specs.Valid.{IsValid};
+ghost use Rattle.sessions.specs.Outside.{counts};
 ghost use Rattle.tile_service.specs.Serving.{ServesAndLasts};
 ghost use Rattle.tile_service.specs.Session.{IsAtRest};
 
 use crate::counter::Counter;
 use crate::serving::serve;
-use cabinet::keeper::Keeper;
-use http_wire::message::Message;
-use sessions::server::{MessageServer, NoJobs};
-use source_render::source::Source;
+use cabinet::Keeper;
+use http_wire::Message;
+use sessions::{MessageServer, NoJobs};
+use source_render::Source;
 use std::alloc::Global;
 use std::marker::PhantomData;
-use tile_requests::outcome::Outcome;
+use tile_requests::Outcome;
 
 /// Serves the messages of a connection from a counter, between which no render runs.
 #[derive(Drop)]

@@ -2,32 +2,28 @@
 ghost use Rattle.std.specs.Prelude.{◌≡◌, ◌≤◌, List, None, Option, Some, slice_get};
 ghost use Rattle.cache_core.specs.Lasting.{Lasting};
 ghost use Rattle.catalog.specs.Valid.{IsValid};
-ghost use Rattle.tile_service.specs.Performing.{IsAsked};
-ghost use Rattle.tile_service.specs.Lines.{Sends, Steps, action_in};
-ghost use Rattle.tile_service.specs.OneLine.{Performs, IsSeated};
 ghost use Rattle.sessions.specs.Outside.{counts};
 ghost use Rattle.tile_requests.specs.Immediate.{IsImmediate};
 ghost use Rattle.tile_requests.specs.Requests.{IsOf, tile_of};
 ghost use Rattle.tile_requests.specs.Shown.{shown_message};
+ghost use Rattle.tile_service.specs.Lines.{Sends, Steps, action_in};
+ghost use Rattle.tile_service.specs.OneLine.{Performs, IsSeated};
+ghost use Rattle.tile_service.specs.Performing.{IsAsked};
 ghost use Rattle.tile_service.specs.Run.{PendingRequest};
 
 use crate::action_end::{ActionEnd, Answer};
 use crate::counter::Counter;
 use crate::lines::{Action, action_in};
 use crate::seats::{Pending, Seat, is_free, pending_at, settle};
-use cabinet::keeper::Keeper;
-use cache_access::alone::Alone;
-use cache_core::laws::laws_of_lasting;
-use cache_core::steps::advance;
-use source_render::source::Source;
+use cabinet::Keeper;
+use cache_access::Alone;
+use cache_core::{advance, laws_of_lasting};
+use source_render::Source;
 use std::alloc::Global;
-use tile_requests::events::events;
-use tile_requests::immediate::immediate;
-use tile_requests::laws::laws_of_lone_threads;
-use tile_requests::message_ref::MessageRef;
-use tile_requests::outcome::{Outcome, Plain};
-use tile_requests::request::{Mode, Request};
-use tile_requests::routes::read_request;
+use tile_requests::{
+    MessageRef, Mode, Outcome, Plain, Request, events, immediate, laws_of_lone_threads,
+    read_request,
+};
 
 /// An answer in the line in which the request starts.
 fn answered(actor: u32, line: u64, outcome: Outcome) -> ActionEnd

@@ -2,20 +2,20 @@
 ghost use Rattle.std.specs.Prelude.{◌≡◌, ◌<◌, ◌^◌, List, Option, length, map, replicate};
 ghost use Rattle.cache_core.specs.Lasting.{Lasting};
 ghost use Rattle.catalog.specs.Valid.{IsValid};
-ghost use Rattle.tile_service.specs.OneLine.{seat_of};
 ghost use Rattle.sessions.specs.Outside.{counts};
+ghost use Rattle.tile_service.specs.OneLine.{seat_of};
 ghost use Rattle.tile_service.specs.Passing.{LeadsThrough};
 ghost use Rattle.tile_service.specs.Run.{PendingRequest, free_seats, world_of};
 ghost use Rattle.tile_service.specs.Schedules.{HasRunThrough};
 
 use crate::counter::Counter;
 use crate::lines::split_line;
-use crate::run_line::{LineEnd, run_line};
+use crate::one_line::{LineEnd, run_line};
 use crate::seats::{ACTORS, Seat};
-use cabinet::keeper::Keeper;
-use cache_core::laws::laws_of_lasting;
-use http_wire::streams::ByteSink;
-use source_render::source::Source;
+use cabinet::Keeper;
+use cache_core::laws_of_lasting;
+use http_wire::ByteSink;
+use source_render::Source;
 use std::alloc::Global;
 
 /// How the lines of a schedule ended.

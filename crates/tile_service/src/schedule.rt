@@ -10,11 +10,10 @@ ghost use Rattle.tile_service.specs.Schedules.{Schedules, SchedulesThrough, end_
 use crate::counter::Counter;
 use crate::run_lines::{RunEnd, run_lines};
 use crate::seats::{close, free_seats};
-use cabinet::keeper::Keeper;
-use cache_core::laws::laws_of_lasting;
-use http_wire::inputs::{InputEnd, read_all};
-use http_wire::streams::{ByteSink, ByteSource};
-use source_render::source::Source;
+use cabinet::Keeper;
+use cache_core::laws_of_lasting;
+use http_wire::{ByteSink, ByteSource, InputEnd, read_all};
+use source_render::Source;
 use std::alloc::Global;
 
 /// The most bytes of a schedule.

@@ -6,14 +6,12 @@ ghost use Rattle.tile_requests.specs.Events.{GoesOn};
 ghost use Rattle.tile_service.specs.Seats.{all_left, action_end_of, pending_at, is_free, next_seat};
 
 use crate::action_end::{ActionEnd, Answer};
-use cabinet::keeper::Keeper;
-use cache_core::actor::{Actor, Step};
-use cache_core::laws::laws_of_lasting;
-use cache_core::steps::give_up;
-use matrix_geometry::address::Address;
+use cabinet::Keeper;
+use cache_core::{Actor, Step, give_up, laws_of_lasting};
+use matrix_geometry::Address;
 use std::alloc::{AllocError, Global};
 use std::mem;
-use tile_requests::request::outcome_of;
+use tile_requests::outcome_of;
 
 /// How many actors a schedule has.
 pub const ACTORS: usize = 64;

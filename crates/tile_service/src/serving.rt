@@ -9,18 +9,15 @@ ghost use Rattle.tile_service.specs.Serving.{Serves};
 ghost use Rattle.tile_service.specs.Session.{IsAtRest};
 
 use crate::counter::Counter;
-use cabinet::keeper::Keeper;
-use cache_access::alone::Alone;
-use cache_core::laws::laws_of_lasting;
-use http_wire::message::Message;
-use source_render::source::Source;
+use cabinet::Keeper;
+use cache_access::Alone;
+use cache_core::laws_of_lasting;
+use http_wire::Message;
+use source_render::Source;
 use std::alloc::Global;
-use tile_requests::answering::answer;
-use tile_requests::laws::laws_of_lone_threads;
-use tile_requests::message_ref::MessageRef;
-use tile_requests::outcome::{Outcome, Plain};
-use tile_requests::request::Request;
-use tile_requests::routes::read_request;
+use tile_requests::{
+    MessageRef, Outcome, Plain, Request, answer, laws_of_lone_threads, read_request,
+};
 
 /// Answers a request in a cabinet in which no render runs: a tile is asked for, rendered and finished.
 fn answered<C: Keeper, S: Source>(

@@ -9,12 +9,11 @@ ghost use Rattle.tile_service.specs.Session.{IsAtRest};
 
 use crate::counter::Counter;
 use crate::lone_server::LoneServer;
-use cabinet::keeper::Keeper;
-use cache_core::laws::laws_of_lasting;
-use http_wire::links::Link;
-use sessions::server::NoJobs;
-use sessions::session::{SessionEnd, hold_session};
-use source_render::source::Source;
+use cabinet::Keeper;
+use cache_core::laws_of_lasting;
+use http_wire::Link;
+use sessions::{NoJobs, SessionEnd, hold_session};
+use source_render::Source;
 use std::alloc::Global;
 
 /// Serves the messages of one connection (RFC 9112), in order, each before the next is looked for, at most 10,000 of them. No

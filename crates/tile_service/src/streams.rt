@@ -9,11 +9,10 @@ ghost use Rattle.tile_service.specs.Session.{IsAtRest};
 
 use crate::counter::Counter;
 use crate::session::replay_session;
-use cabinet::keeper::Keeper;
-use http_wire::duplex::{Duplex, Ends, Loans};
-use http_wire::streams::{ByteSink, ByteSource};
-use sessions::session::SessionEnd;
-use source_render::source::Source;
+use cabinet::Keeper;
+use http_wire::{ByteSink, ByteSource, Duplex, Ends, Loans};
+use sessions::SessionEnd;
+use source_render::Source;
 use std::alloc::Global;
 use std::marker::Brand;
 

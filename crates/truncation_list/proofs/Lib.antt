@@ -19,4 +19,4 @@ pub mod Indexing
 pub mod Roomy
 pub mod Outdone
 pub mod Freeing
-pub mod Hits
+pub mod HitRules

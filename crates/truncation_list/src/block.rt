@@ -1,6 +1,5 @@
 //! The type of a block of tiles.
-use matrix_geometry::boxes::Range;
-use matrix_geometry::theme::Theme;
+use matrix_geometry::{Range, Theme};
 
 /// A block of tiles: those of one theme, grid and matrix in a range of rows and columns.
 #[derive(Clone, Copy, PartialEq, Eq)]

@@ -1,6 +1,6 @@
 //! The types of a cut and of a book: the cuts in force with a floor, alone and with the last number that was given.
 use crate::cover::Cover;
-use exact_ratio::items::Items;
+use exact_ratio::Items;
 
 /// A truncation that was done: its number, and the tiles that it is for.
 #[derive(Clone, Copy, PartialEq, Eq)]

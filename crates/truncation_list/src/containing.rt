@@ -1,11 +1,10 @@
 //! Whether one cover contains another, told by their fields alone.
-ghost use Rattle.std.specs.Prelude.{◌≡◌, length};
 ghost use Rattle.std.specs.List.{list_all, zip};
+ghost use Rattle.std.specs.Prelude.{◌≡◌, length};
 ghost use Rattle.truncation_list.specs.Contains.{contains, contains_box, contains_filter, contains_number, contains_x, contains_y, contains_zoom};
 
 use crate::cover::Cover;
-use matrix_geometry::boxes::Box9;
-use matrix_geometry::theme::Filter;
+use matrix_geometry::{Box9, Filter};
 
 fn contains_x(outer: &Box9, inner: &Box9) -> bool
     ensures { result ≡ contains_x outer.now inner.now }

@@ -1,6 +1,5 @@
 //! The type of a cover.
-use matrix_geometry::boxes::Box9;
-use matrix_geometry::theme::Filter;
+use matrix_geometry::{Box9, Filter};
 
 /// Which tiles a truncation or a seed is for: those of a layer and a grid, of the matrices from `z_start` to `z_stop`, in
 /// the box where there is one, with the styles and values that the filter admits.

@@ -6,9 +6,7 @@ ghost use Rattle.truncation_list.specs.Covers.{CoversSome, IsWithinReach, covers
 
 use crate::block::Block;
 use crate::cover::Cover;
-use matrix_geometry::address::Address;
-use matrix_geometry::boxes::{Box9, Range};
-use matrix_geometry::matrix::Matrix;
+use matrix_geometry::{Address, Box9, Matrix, Range};
 
 fn is_in_zoom(cover: &Cover, z: u32) -> bool
     ensures { result ≡ is_in_zoom cover.now z }

@@ -1,6 +1,6 @@
 //! An index of cuts: in which slots the cuts of a layer, a grid and a zoom lie.
-ghost use Rattle.std.specs.Prelude.{MatchOption, IfOk, IsTrue, OnOk, ℕ, [], false, length, take, ◌++◌, ◌∷◌, ◌<◌, ◌≡◌, if◌then◌else◌};
 ghost use Rattle.std.specs.List.{All, HoldsAt};
+ghost use Rattle.std.specs.Prelude.{MatchOption, IfOk, IsTrue, OnOk, ℕ, [], false, length, take, ◌++◌, ◌∷◌, ◌<◌, ◌≡◌, if◌then◌else◌};
 ghost use Rattle.truncation_list.specs.Index.{HasRoom, capacity, is_of, listed, slots_in, stands};
 ghost use Rattle.truncation_list.specs.Slots.{taken, without};
 

@@ -1,13 +1,13 @@
 //! The cuts by number with their index.
-ghost use Rattle.std.specs.Prelude.{IsTrue, MatchOption, OnOk, [], drop, false, filter, length, slice_index_or, true, ◌+◌, ◌++◌, ◌<◌, ◌^◌, ◌∷◌, ◌≡◌};
 ghost use Rattle.std.specs.List.{All, remove};
+ghost use Rattle.std.specs.Prelude.{IsTrue, MatchOption, OnOk, [], drop, false, filter, length, slice_index_or, true, ◌+◌, ◌++◌, ◌<◌, ◌^◌, ◌∷◌, ◌≡◌};
 ghost use Rattle.matrix_geometry.specs.Limits.{IsWithinLimits};
-ghost use Rattle.truncation_list.specs.declared.cover.Cover.{Cover};
 ghost use Rattle.truncation_list.specs.Contains.{contains};
 ghost use Rattle.truncation_list.specs.Covers.{IsWithinReach};
 ghost use Rattle.truncation_list.specs.Listed.{HasRoomFor, IsLastCovering, is_hit_since, outermost};
 ghost use Rattle.truncation_list.specs.Purge.{IsAbove, IsInOrder, is_outdone};
 ghost use Rattle.truncation_list.specs.Slots.{no_cut, stays};
+ghost use Rattle.truncation_list.specs.declared.cover.Cover.{Cover};
 
 use crate::block::Block;
 use crate::book::Cut;
@@ -18,8 +18,7 @@ use crate::lists::{list_in, list_of};
 use crate::looking::{hit_since, is_outdone, last_covering, place_of, some_within};
 use crate::settling::free_outdone;
 use crate::slots::{cut_in, free_going, keep_taken};
-use matrix_geometry::address::Address;
-use matrix_geometry::matrix::Matrix;
+use matrix_geometry::{Address, Matrix};
 use slab::Slab;
 use std::alloc::{AllocError, Global};
 use std::marker::Model;

@@ -1,16 +1,16 @@
 //! What holds of all covers and books.
 ghost use Rattle.std.specs.Prelude.{IsTrue, List, None, Option, Some, max, ℕ, ◌<◌, ◌≡◌, ◌≤◌, ◌⊎◌};
+ghost use Rattle.matrix_geometry.specs.Limits.{IsWithinLimits};
 ghost use Rattle.matrix_geometry.specs.declared.address.Address.{Address};
 ghost use Rattle.matrix_geometry.specs.declared.matrix.Matrix.{Matrix};
-ghost use Rattle.matrix_geometry.specs.Limits.{IsWithinLimits};
-ghost use Rattle.truncation_list.specs.declared.book.Book.{Book};
-ghost use Rattle.truncation_list.specs.declared.book.Cut.{Cut};
-ghost use Rattle.truncation_list.specs.declared.book.FrontedBook.{FrontedBook};
-ghost use Rattle.truncation_list.specs.declared.cover.Cover.{Cover};
 ghost use Rattle.truncation_list.specs.Books.{AnswersFor, AnswersForBook, AnswersForFronted, last_seen};
 ghost use Rattle.truncation_list.specs.Contains.{contains};
 ghost use Rattle.truncation_list.specs.Covers.{IsWithinReach, covers};
 ghost use Rattle.truncation_list.specs.Purge.{IsAbove, IsByNumber, IsInOrder, added, purged, remaining, remaining_by_rule, with_cut, with_floor};
+ghost use Rattle.truncation_list.specs.declared.book.Book.{Book};
+ghost use Rattle.truncation_list.specs.declared.book.Cut.{Cut};
+ghost use Rattle.truncation_list.specs.declared.book.FrontedBook.{FrontedBook};
+ghost use Rattle.truncation_list.specs.declared.cover.Cover.{Cover};
 
 /// A cover contains itself, and what a cover contains that it contains. It is for each tile that a cover which it contains
 /// is for.

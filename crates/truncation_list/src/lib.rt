@@ -6,19 +6,26 @@
 //! Stands on matrix_geometry and slab.
 #![tactic(auto)]
 
-pub mod block;
-pub mod book;
-pub mod containing;
-pub mod cover;
-pub mod covering;
-pub mod fault;
+mod block;
+mod book;
+mod containing;
+mod cover;
+mod covering;
 mod going;
 mod index;
 mod indexed;
-pub mod laws;
-pub mod list;
+mod laws;
+mod list;
 mod lists;
 mod looking;
 mod purge;
 mod settling;
 mod slots;
+
+pub use block::Block;
+pub use book::{Book, Cut, FrontedBook};
+pub use containing::contains;
+pub use cover::Cover;
+pub use covering::{covers, hits};
+pub use laws::{laws_of_books, laws_of_containment, laws_of_fronted_books, laws_of_purges};
+pub use list::CutList;

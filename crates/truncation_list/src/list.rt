@@ -1,18 +1,17 @@
 //! The list of the cuts in force, with its floor: cuts are added, purged and looked up.
 ghost use Rattle.std.specs.Prelude.{IfOk, IsTrue, OnOk, Some, length, max, slice_get, ◌<◌, ◌≡◌, ◌≤◌, ◌↔◌, None};
 ghost use Rattle.matrix_geometry.specs.Limits.{IsWithinLimits};
-ghost use Rattle.truncation_list.specs.declared.cover.Cover.{Cover};
 ghost use Rattle.truncation_list.specs.Books.{AnswersForBook, last_seen};
 ghost use Rattle.truncation_list.specs.Covers.{IsWithinReach};
 ghost use Rattle.truncation_list.specs.Listed.{IsLastCovering, IsReady, is_hit_since};
 ghost use Rattle.truncation_list.specs.Purge.{IsAbove, IsInOrder, added, empty_book, purged, with_cut, with_floor};
+ghost use Rattle.truncation_list.specs.declared.cover.Cover.{Cover};
 
 use crate::block::Block;
 use crate::cover::Cover;
 use crate::indexed::IndexedCuts;
 use crate::purge::{floor_after, purge, settled_stay_at_least, stay_at_least};
-use matrix_geometry::address::Address;
-use matrix_geometry::matrix::Matrix;
+use matrix_geometry::{Address, Matrix};
 use std::alloc::{AllocError, Global};
 use std::marker::Model;
 

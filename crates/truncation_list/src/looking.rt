@@ -1,7 +1,7 @@
 //! Looks along lists of slots: for the last cut that covers a tile, for one within a cover, for one around a cut, and for the place
 //! of a number.
-ghost use Rattle.std.specs.Prelude.{IsTrue, MatchOption, ℕ, false, length, nat_le, slice_index_or, ◌<◌, ◌≡◌, ◌≤◌};
 ghost use Rattle.std.specs.List.{All, Contains};
+ghost use Rattle.std.specs.Prelude.{IsTrue, MatchOption, ℕ, false, length, nat_le, slice_index_or, ◌<◌, ◌≡◌, ◌≤◌};
 ghost use Rattle.matrix_geometry.specs.Limits.{IsWithinLimits};
 ghost use Rattle.truncation_list.specs.Contains.{contains};
 ghost use Rattle.truncation_list.specs.Index.{list_of, listed, slots_in, standing};
@@ -17,8 +17,7 @@ use crate::covering::{covers, hits};
 use crate::index::Index;
 use crate::lists::{exceed, first_list, last_list, list_in, list_of};
 use crate::slots::cut_in;
-use matrix_geometry::address::Address;
-use matrix_geometry::matrix::Matrix;
+use matrix_geometry::{Address, Matrix};
 use slab::Slab;
 
 /// The number of the last cut in these slots that covers the tile. They are read from their end, as far as the first cut that

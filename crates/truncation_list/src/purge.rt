@@ -1,9 +1,9 @@
 //! The purge of cuts by number: which of them go, how many stay, and the floor after it.
 ghost use Rattle.std.specs.Prelude.{IsTrue, ◌+◌, ◌<◌, false, filter, fold, drop, length, slice_index_or, ◌≡◌, ◌≤◌, ◌↔◌};
-ghost use Rattle.truncation_list.specs.declared.cover.Cover.{Cover};
 ghost use Rattle.truncation_list.specs.Listed.{HasRoomFor, IsSettled};
 ghost use Rattle.truncation_list.specs.Purge.{IsInOrder, goes, is_outdone, raised, remaining};
 ghost use Rattle.truncation_list.specs.Slots.{no_cut, stays};
+ghost use Rattle.truncation_list.specs.declared.cover.Cover.{Cover};
 
 use crate::cover::Cover;
 use crate::going::{is_old, stays};

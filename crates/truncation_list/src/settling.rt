@@ -1,6 +1,6 @@
 //! Frees the slots of the cuts that lie within later ones.
-ghost use Rattle.std.specs.Prelude.{None, if◌then◌else◌, ◌≡◌, ◌≤◌};
 ghost use Rattle.std.specs.List.{All};
+ghost use Rattle.std.specs.Prelude.{None, if◌then◌else◌, ◌≡◌, ◌≤◌};
 ghost use Rattle.slab.specs.Slab.{get, slab_len};
 ghost use Rattle.truncation_list.specs.Index.{IsIndexed};
 ghost use Rattle.truncation_list.specs.Purge.{is_outdone_among};

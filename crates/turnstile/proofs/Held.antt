@@ -11,7 +11,7 @@ use Rattle.truncation_list.proofs.Answering.{fronted_through, seen_of_both}
 use Rattle.turnstile.specs.declared.view.Known.{Known}
 use Rattle.turnstile.specs.declared.view.View.{View}
 use Rattle.turnstile.specs.declared.view.Made.{Made}
-use Rattle.turnstile.specs.declared.view.Stage.TheVariants.{Out}
+use Rattle.turnstile.specs.declared.view.TurnStage.TheVariants.{Out}
 use Rattle.turnstile.specs.Line.{AreAmong, AreInLine, IsLine}
 use Rattle.turnstile.specs.Views.{after_turn, made_of, newcomer, notes, turns_in}
 use Rattle.turnstile.specs.Steps.{Found, Gathers, HeardBy}

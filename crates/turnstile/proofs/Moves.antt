@@ -18,7 +18,7 @@ use Rattle.turnstile.specs.declared.view.Known.{Known}
 use Rattle.turnstile.specs.declared.view.Lodged.{Lodged}
 use Rattle.turnstile.specs.declared.view.Made.{Made}
 use Rattle.turnstile.specs.declared.view.Opening.{Opening}
-use Rattle.turnstile.specs.declared.view.Stage.TheVariants.{Idle, Out}
+use Rattle.turnstile.specs.declared.view.TurnStage.TheVariants.{Idle, Out}
 use Rattle.turnstile.specs.declared.view.View.{View}
 use Rattle.turnstile.specs.Line.{InLine, IsLine}
 use Rattle.turnstile.specs.Views.{Slot, after_turn, first_view, hearing, known_after, known_from, newcomer, notes, one_less, parts_of, spent, turns_in}

@@ -11,8 +11,8 @@ use Rattle.atomic_table.proofs.Lists.{set_here, set_else, at_longer}
 use Rattle.truncation_list.specs.declared.book.FrontedBook.{FrontedBook}
 use Rattle.turnstile.specs.declared.view.Known.{Known}
 use Rattle.turnstile.specs.declared.view.Made.{Made}
-use Rattle.turnstile.specs.declared.view.Stage.{Stage}
-use Rattle.turnstile.specs.declared.view.Stage.TheVariants.{Idle, Out}
+use Rattle.turnstile.specs.declared.view.TurnStage.{TurnStage}
+use Rattle.turnstile.specs.declared.view.TurnStage.TheVariants.{Idle, Out}
 use Rattle.turnstile.specs.declared.view.View.{View}
 use Rattle.turnstile.specs.Views.{Slot, parts_of, turns_in}
 use Rattle.turnstile.specs.Rule.{Holds, Kept, Stands, Tells}
@@ -21,12 +21,12 @@ use Rattle.turnstile.proofs.Seats.{each_set, each_snoc, inside, total_set, total
 -- WHO HAS THE TURN
 
 -- a view that has no turn, since the chest is home, stands wherever the turn goes
-pub still : {C : Type 0} (now now' : C) (word word' holder holder' j j' : ℕ) → word ≡ 0 → (st : Stage C) → Stands now word holder j st → Stands now' word' holder' j' st
+pub still : {C : Type 0} (now now' : C) (word word' holder holder' j j' : ℕ) → word ≡ 0 → (st : TurnStage C) → Stands now word holder j st → Stands now' word' holder' j' st
 still now now' word word' holder holder' j j' z Idle k = tt
 still now now' word word' holder holder' j j' z (Out c) k = let w = k.0 in absurd (omega arith)
 
 -- a view that is not the holder's stands wherever the turn goes
-pub other_stands : {C : Type 0} (now now' : C) (word word' holder holder' j : ℕ) → j ≢ holder → (st : Stage C) → Stands now word holder j st → Stands now' word' holder' j st
+pub other_stands : {C : Type 0} (now now' : C) (word word' holder holder' j : ℕ) → j ≢ holder → (st : TurnStage C) → Stands now word holder j st → Stands now' word' holder' j st
 other_stands now now' word word' holder holder' j ne Idle k = tt
 other_stands now now' word word' holder holder' j ne (Out c) k = absurd (ne k.1)
 

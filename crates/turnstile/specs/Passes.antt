@@ -7,7 +7,7 @@ use Rattle.truncation_list.specs.Books.{AnswersForFronted}
 use Rattle.turnstile.specs.declared.view.Known.{Known}
 use Rattle.turnstile.specs.declared.view.Made.{Made}
 use Rattle.turnstile.specs.declared.view.Opening.{Opening}
-use Rattle.turnstile.specs.declared.view.Stage.TheVariants.{Idle, Out}
+use Rattle.turnstile.specs.declared.view.TurnStage.TheVariants.{Idle, Out}
 use Rattle.turnstile.specs.declared.view.View.{View}
 use Rattle.turnstile.specs.Views.{first_view, made_of}
 use Rattle.turnstile.specs.Steps.{Found}

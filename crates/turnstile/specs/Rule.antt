@@ -9,8 +9,8 @@ use Rattle.truncation_list.specs.Books.{AnswersForFronted}
 use Rattle.turnstile.specs.declared.view.Known.{Known}
 use Rattle.turnstile.specs.declared.view.Lodged.{Lodged}
 use Rattle.turnstile.specs.declared.view.Made.{Made}
-use Rattle.turnstile.specs.declared.view.Stage.{Stage}
-use Rattle.turnstile.specs.declared.view.Stage.TheVariants.{Idle, Out}
+use Rattle.turnstile.specs.declared.view.TurnStage.{TurnStage}
+use Rattle.turnstile.specs.declared.view.TurnStage.TheVariants.{Idle, Out}
 use Rattle.turnstile.specs.declared.view.View.{View}
 use Rattle.turnstile.specs.Line.{InLine}
 use Rattle.turnstile.specs.Views.{Slot, parts_of, turns_in}
@@ -25,7 +25,7 @@ abbrev pub Agree : FrontedBook → FrontedBook → Type 0
 Agree a b = AnswersForFronted a b ⊎ AnswersForFronted b a
 
 -- a view that has the turn is the holder's, while the word is 1, and it found the chest that was last at home
-abbrev pub Stands : {C : Type 0} → C → ℕ → ℕ → ℕ → Stage C → Type 0
+abbrev pub Stands : {C : Type 0} → C → ℕ → ℕ → ℕ → TurnStage C → Type 0
 Stands now word holder at Idle = Unit {0}
 Stands now word holder at (Out found) = (word ≡ 1) × (at ≡ holder) × (found ≡ now)
 

@@ -5,7 +5,7 @@ use Rattle.truncation_list.specs.declared.book.FrontedBook.{FrontedBook}
 use Rattle.truncation_list.specs.Books.{AnswersForFronted}
 use Rattle.turnstile.specs.declared.view.Known.{Known}
 use Rattle.turnstile.specs.declared.view.Lodged.{Lodged}
-use Rattle.turnstile.specs.declared.view.Stage.TheVariants.{Out}
+use Rattle.turnstile.specs.declared.view.TurnStage.TheVariants.{Out}
 use Rattle.turnstile.specs.declared.view.View.{View}
 use Rattle.turnstile.specs.Views.{Slot, known_after, after_turn, notes, turns_in}
 

@@ -4,7 +4,7 @@ use Rattle.truncation_list.specs.declared.book.FrontedBook.{FrontedBook}
 use Rattle.turnstile.specs.declared.view.Known.{Known}
 use Rattle.turnstile.specs.declared.view.Lodged.{Lodged}
 use Rattle.turnstile.specs.declared.view.Made.{Made}
-use Rattle.turnstile.specs.declared.view.Stage.TheVariants.{Idle}
+use Rattle.turnstile.specs.declared.view.TurnStage.TheVariants.{Idle}
 use Rattle.turnstile.specs.declared.view.View.{View}
 use Rattle.turnstile.specs.declared.view.Opening.{Opening}
 

@@ -1,7 +1,7 @@
 //! What lies behind a turnstile.
 ghost use Rattle.std.specs.Prelude.{◌≡◌, Bool, true, IfErr, IfOk};
-ghost use Rattle.truncation_list.specs.declared.book.FrontedBook.{FrontedBook};
 ghost use Rattle.truncation_list.specs.Books.{AnswersForFronted, last_seen};
+ghost use Rattle.truncation_list.specs.declared.book.FrontedBook.{FrontedBook};
 
 use std::alloc::{AllocError, Global};
 

@@ -5,17 +5,20 @@
 //! Promises, for every chest: each turn is one command on the one chest, whose book answers for all that the pass had
 //! seen; the pass has then seen what the turn left, and its list gained one note. After `meet` both passes have a book
 //! that answers for both. `close` gives the chest back once all passes are returned.
-//! Stands on truncation_list (books), trace (data for contracts alone), bell (for those that wait) and atomic_table (the atomic steps).
+//! Stands on truncation_list (books), base (data for contracts, and for those that wait) and atomic_table (the atomic steps).
 #![tactic(auto)]
 
-pub mod chest;
+mod chest;
 mod deal;
-pub mod entry;
-mod gate;
-pub mod pass;
+mod pass;
 mod start;
 mod steps;
-mod turns;
-pub mod turnstile;
-pub mod view;
+mod turn_queue;
+mod turnstile;
+mod view;
 mod waiting;
+
+pub use chest::Chest;
+pub use pass::Pass;
+pub use turnstile::{Entry, Turnstile};
+pub use view::{Known, Lodged, Made, OneChest, Opening, TurnStage, View};

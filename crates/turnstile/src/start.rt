@@ -1,6 +1,6 @@
 //! What a turnstile is made with, for contracts alone.
-ghost use Rattle.std.specs.Prelude.{◌≡◌, Bool};
 ghost use Rattle.std.specs.Borrow.{ftrue};
+ghost use Rattle.std.specs.Prelude.{◌≡◌, Bool};
 
 use std::marker::{Model, PhantomData};
 

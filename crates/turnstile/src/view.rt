@@ -4,10 +4,10 @@
 use crate::chest::Chest;
 use crate::start::Start;
 use atomic_table::TableRule;
+use base::Trace;
 use std::collections::LinkedList;
 use std::marker::PhantomData;
-use trace::Trace;
-use truncation_list::book::FrontedBook;
+use truncation_list::FrontedBook;
 
 /// The chest as it lies in the slot. A step on the table cannot know which command was done, so contracts find it here,
 /// with its reply, which is absent where there was no memory for the command.
@@ -34,7 +34,7 @@ pub struct Made<N> {
 }
 
 /// Whether a seat has the turn, and then the chest that it found. No value of it is made.
-pub enum Stage<C> {
+pub enum TurnStage<C> {
     Idle,
     Out(C),
 }
@@ -51,7 +51,7 @@ pub struct View<C, H, N> {
     pub heard: Known<H>,
     pub made: LinkedList<Made<N>>,
     pub gathered: LinkedList<Made<N>>,
-    pub stage: Stage<C>,
+    pub stage: TurnStage<C>,
 }
 
 /// What a table is made with: its start, and how many passes there will be.

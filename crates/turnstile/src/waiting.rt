@@ -3,7 +3,7 @@
 //! A pass looks for its turn for a while, then sleeps until a turn ends, and looks for as long again. One that has slept so often in vain
 //! has the next turn left to it: a pass that has not slept does not try for it then. So who makes turn after turn, as for a disk that is
 //! slow, keeps no other one out. Where nobody sleeps this costs one load a turn.
-use bell::Bell;
+use base::Bell;
 use std::sync::Wait;
 use std::sync::atomic::{AtomicU64, Ordering};
 

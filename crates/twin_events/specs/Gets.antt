@@ -9,7 +9,7 @@ use Rattle.cabinet.specs.Endings.{IsKeptUnlessFailed}
 use Rattle.cabinet.specs.Fresh.{IsFresh}
 use Rattle.cabinet.specs.State.{IsSound, State}
 use Rattle.cache_core.specs.declared.outcome.Tile.{Tile}
-use Rattle.causes.specs.Causes.{Rose}
+use Rattle.base.specs.Causes.{Rose}
 use Rattle.cut_follower.specs.InStep.{tile_number}
 use Rattle.cut_follower.specs.Lossy as lossy
 use Rattle.matrix_geometry.specs.declared.address.Address.{Address}

@@ -1,5 +1,5 @@
 //! What carrying a packet comes to.
-use change_feed::applied::Applied;
+use change_feed::Applied;
 
 /// What became of a packet that was carried.
 #[derive(Clone, Copy, PartialEq, Eq)]

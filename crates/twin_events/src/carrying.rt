@@ -12,16 +12,14 @@ ghost use Rattle.twin_events.specs.Twins.{IsReady, standing};
 
 use crate::carried::Carried;
 use crate::twin::Twin;
-use cabinet::keeper::Keeper;
-use cache_core::laws::laws_of_lasting;
-use change_feed::feed::Feed;
-use cut_follower::taken::Taken;
-use cut_follower::taking::take;
-use disk_model::disk::Disk;
-use outbox::outbox::Outbox;
-use outbox::packet::Packet;
+use cabinet::Keeper;
+use cache_core::laws_of_lasting;
+use change_feed::Feed;
+use cut_follower::{Taken, take};
+use disk_model::Disk;
+use outbox::{Outbox, Packet};
 use std::alloc::{AllocError, Global};
-use truncation_list::cover::Cover;
+use truncation_list::Cover;
 
 /// The packet that has a place, from 1.
 fn packet_at(sent: &[Packet], place: u64) -> Option<Packet>

@@ -10,16 +10,13 @@ ghost use Rattle.twin_events.specs.Twins.{IsReady, standing};
 
 use crate::got::Got;
 use crate::twin::Twin;
-use cabinet::keeper::Keeper;
-use cabinet::replies::Asked;
-use cache_core::laws::laws_of_lasting;
-use cache_core::outcome::Tile;
-use cache_core::render::{RenderFault, Sliced, painted};
-use disk_model::disk::Disk;
-use matrix_geometry::address::Address;
-use metatile_locks::ticket::Ticket;
-use raster_field::laws::laws_of_metatiles;
-use source_render::source::Source;
+use cabinet::{Asked, Keeper};
+use cache_core::{RenderFault, Sliced, Tile, laws_of_lasting, painted};
+use disk_model::Disk;
+use matrix_geometry::Address;
+use metatile_locks::Ticket;
+use raster_field::laws_of_metatiles;
+use source_render::Source;
 use std::alloc::{AllocError, Global};
 
 /// Renders the metatile of a ticket, and ends the render: its blob is handed in, or the ticket given back.

@@ -1,5 +1,5 @@
 //! What getting a tile comes to.
-use cache_core::outcome::Tile;
+use cache_core::Tile;
 
 /// How a tile that was asked of a follower was answered.
 #[derive(Drop)]

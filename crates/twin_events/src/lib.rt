@@ -9,10 +9,14 @@
 //! tiles, on tile_service for cabinets in which no render runs, and on the crates of their types.
 #![tactic(auto)]
 
-pub mod carried;
-pub mod carrying;
-pub mod getting;
-pub mod got;
-pub mod posting;
-pub mod sending;
-pub mod twin;
+mod carried;
+mod carrying;
+mod getting;
+mod got;
+mod posting;
+mod sending;
+mod twin;
+
+pub use carried::Carried;
+pub use got::Got;
+pub use twin::Twin;

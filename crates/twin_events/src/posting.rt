@@ -7,11 +7,11 @@ ghost use Rattle.served_covers.specs.OfCatalogue.{IsCoverOf};
 ghost use Rattle.twin_events.specs.Twins.{IsReady, LeadsBy, MayOpenBehind, standing};
 
 use crate::twin::Twin;
-use cabinet::keeper::Keeper;
-use disk_model::disk::Disk;
-use outbox::posted::Posted;
+use cabinet::Keeper;
+use disk_model::Disk;
+use outbox::Posted;
 use std::alloc::{AllocError, Global};
-use truncation_list::cover::Cover;
+use truncation_list::Cover;
 
 impl<K: Keeper, M: Disk, N: Disk> Twin<K, M, N> {
     /// Posts a cover of the catalogue at the leader: it is the next change. What becomes of it, `Posted` says: `Full` exactly where there

@@ -5,8 +5,8 @@ ghost use Rattle.outbox.specs.Posts.{next_of};
 ghost use Rattle.twin_events.specs.Twins.{IsReady, LeadsBy, IsSentTo, standing};
 
 use crate::twin::Twin;
-use cabinet::keeper::Keeper;
-use disk_model::disk::Disk;
+use cabinet::Keeper;
+use disk_model::Disk;
 use std::alloc::{AllocError, Global};
 
 impl<K: Keeper, M: Disk, N: Disk> Twin<K, M, N> {

@@ -1,9 +1,8 @@
 //! The type of a twin. Its calls stand in files of their own.
-use cabinet::keeper::Keeper;
-use change_feed::feed::Feed;
-use disk_model::disk::Disk;
-use outbox::outbox::Outbox;
-use outbox::packet::Packet;
+use cabinet::Keeper;
+use change_feed::Feed;
+use disk_model::Disk;
+use outbox::{Outbox, Packet};
 
 /// A leader and a follower, and every packet that was ever sent between them. It needs one catalogue: that of the outbox is the
 /// cabinet's, and each change that was sent has a cover of it.

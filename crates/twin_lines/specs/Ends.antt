@@ -2,10 +2,10 @@
 use Rattle.std.specs.Prelude.{ℕ, ◌≡◌, ◌⊎◌, ◌+◌, ◌≤◌, IsTrue, Bool, List, [], ◌∷◌, ◌++◌, length, map, Option, Some, None, ⊤}
 use Rattle.cabinet.specs.State.{IsSound}
 use Rattle.catalog.specs.declared.catalogue.Catalogue.{Catalogue}
-use Rattle.causes.specs.Causes.{Rose}
+use Rattle.base.specs.Causes.{Rose}
 use Rattle.change_feed.specs.Files.{MayEndIn}
 use Rattle.disk_model.specs.Images.{DiskState, Leaves}
-use Rattle.kept_cache.specs.Change.{HasWritten}
+use Rattle.opened_cache.specs.Change.{HasWritten}
 use Rattle.sessions.specs.Outside.{OutputChange}
 use Rattle.tile_requests.specs.Sent.{AppendsPart}
 use Rattle.tile_service.specs.Lines.{lines_of}

@@ -5,7 +5,7 @@ use Rattle.cabinet.specs.State.{IsSound}
 use Rattle.catalog.specs.declared.catalogue.Catalogue.{Catalogue}
 use Rattle.change_feed.specs.Files.{MayEndIn}
 use Rattle.disk_model.specs.Images.{Leaves}
-use Rattle.kept_cache.specs.Change.{HasWritten, IsCutShort}
+use Rattle.opened_cache.specs.Change.{HasWritten, IsCutShort}
 use Rattle.sessions.specs.Outside.{OutputChange}
 use Rattle.outbox.specs.Files.{MayOpenTo}
 use Rattle.twin_lines.specs.declared.line_end.LineEnd.{LineEnd}

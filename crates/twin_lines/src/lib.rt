@@ -10,9 +10,15 @@
 //! lines and small texts, and on the crates whose types its calls name.
 #![tactic(auto)]
 
-pub mod line;
-pub mod line_end;
-pub mod lines;
-pub mod order;
-pub mod orders;
-pub mod text;
+mod line;
+mod line_end;
+mod lines;
+mod order;
+mod orders;
+mod text;
+
+pub use line_end::LineEnd;
+pub use lines::{Halt, run_lines};
+pub use order::{Order, Side};
+pub use orders::Unread;
+pub use text::tell_stopped;

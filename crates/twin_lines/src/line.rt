@@ -3,28 +3,28 @@ ghost use Rattle.std.specs.Prelude.{◌≡◌, ◌≤◌, ℕ, IfOk, Option, Som
 ghost use Rattle.cache_core.specs.Lasting.{Lasting};
 ghost use Rattle.catalog.specs.LookUp.{IsTile};
 ghost use Rattle.gate_journal.specs.Sound.{digest_of};
-ghost use Rattle.sessions.specs.Outside.{OutputChange, counts};
 ghost use Rattle.served_covers.specs.OfCatalogue.{IsCoverOf};
+ghost use Rattle.sessions.specs.Outside.{OutputChange, counts};
 ghost use Rattle.twin_events.specs.Twins.{IsReady, standing};
-ghost use Rattle.twin_lines.specs.declared.order.Order.TheVariants as order;
 ghost use Rattle.twin_lines.specs.Ends.{passage};
 ghost use Rattle.twin_lines.specs.OneLine.{GoesTo, RunsOrder};
 ghost use Rattle.twin_lines.specs.Orders.{IsOrderOf, IsReadAs, order_in};
 ghost use Rattle.twin_lines.specs.Steps.{faults, moment};
+ghost use Rattle.twin_lines.specs.declared.order.Order.TheVariants as order;
 
 use crate::line_end::LineEnd;
 use crate::order::Order;
 use crate::orders::{Unread, read_order};
 use crate::text::{tell_carried, tell_got, tell_posted, tell_sent};
-use cabinet::keeper::Keeper;
-use cache_core::laws::laws_of_lasting;
-use disk_model::disk::Disk;
-use http_wire::streams::ByteSink;
-use matrix_geometry::address::Address;
-use source_render::source::Source;
+use cabinet::Keeper;
+use cache_core::laws_of_lasting;
+use disk_model::Disk;
+use http_wire::ByteSink;
+use matrix_geometry::Address;
+use source_render::Source;
 use std::alloc::Global;
-use truncation_list::cover::Cover;
-use twin_events::twin::Twin;
+use truncation_list::Cover;
+use twin_events::Twin;
 
 /// Posts a cover at the leader, and tells what became of it.
 fn run_post<K: Keeper, M: Disk, N: Disk, O: ByteSink>(

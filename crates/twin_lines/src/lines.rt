@@ -10,14 +10,14 @@ ghost use Rattle.twin_lines.specs.Steps.{faults, moment};
 use crate::line::run_line;
 use crate::line_end::LineEnd;
 use crate::order::Side;
-use cabinet::keeper::Keeper;
-use cache_core::laws::laws_of_lasting;
-use disk_model::disk::Disk;
-use http_wire::streams::ByteSink;
-use source_render::source::Source;
+use cabinet::Keeper;
+use cache_core::laws_of_lasting;
+use disk_model::Disk;
+use http_wire::ByteSink;
+use source_render::Source;
 use std::alloc::Global;
-use tile_service::lines::split_line;
-use twin_events::twin::Twin;
+use tile_service::split_line;
+use twin_events::Twin;
 
 /// How lines ended. Line numbers count from that of the first line.
 #[derive(Clone, Copy)]

@@ -1,6 +1,6 @@
 //! What a line orders.
-use matrix_geometry::address::Address;
-use truncation_list::cover::Cover;
+use matrix_geometry::Address;
+use truncation_list::Cover;
 
 /// One of the two sides of a lossy link.
 #[derive(Clone, Copy, PartialEq, Eq)]

@@ -1,20 +1,18 @@
 //! The order that a line gives.
-ghost use Rattle.std.specs.Prelude.{◌≡◌, IfOk, IsTrue, drop, length, nat_eq};
 ghost use Rattle.std.specs.List.{starts_with};
-ghost use Rattle.catalog.specs.declared.catalogue.Catalogue.{Catalogue};
+ghost use Rattle.std.specs.Prelude.{◌≡◌, IfOk, IsTrue, drop, length, nat_eq};
 ghost use Rattle.catalog.specs.Valid.{IsValid};
+ghost use Rattle.catalog.specs.declared.catalogue.Catalogue.{Catalogue};
 ghost use Rattle.job_forms.specs.Cover.{cover_of};
-ghost use Rattle.wmts_kvp.specs.Reading.{query_reading};
 ghost use Rattle.twin_lines.specs.Orders.{IsOrderOf, IsReadAs, carry_of, get_in, order_in, post_of, tile_of};
+ghost use Rattle.wmts_kvp.specs.Reading.{query_reading};
 
 use crate::order::{Order, Side};
-use catalog::catalogue::Catalogue;
-use job_forms::cover::read_cover;
-use job_forms::fault::JobFault;
-use schedule_text::line::LINE_LIMIT;
+use catalog::Catalogue;
+use job_forms::{JobFault, read_cover};
+use schedule_text::LINE_LIMIT;
 use std::alloc::Global;
-use wmts_kvp::number::{is_number, short_number};
-use wmts_kvp::query::{Query, read_query};
+use wmts_kvp::{Query, is_number, read_query, short_number};
 
 /// Why a line gives no order.
 #[derive(Clone, Copy, PartialEq, Eq)]

@@ -8,12 +8,11 @@ ghost use Rattle.twin_lines.specs.Texts.{answer_text, applied_text, carried_text
 
 use crate::line_end::LineEnd;
 use arrayvec::ArrayVec;
-use change_feed::applied::Applied;
-use http_wire::streams::ByteSink;
-use outbox::posted::Posted;
-use tile_requests::small_text::{add, add_number, send_behind};
-use twin_events::carried::Carried;
-use twin_events::got::Got;
+use change_feed::Applied;
+use http_wire::ByteSink;
+use outbox::Posted;
+use tile_requests::{add, add_number, send_behind};
+use twin_events::{Carried, Got};
 
 /// A label and a number after it.
 #[tactic(auto, unfolding(crate::specs::Texts::one_number))]

@@ -5,11 +5,11 @@ use Rattle.cabinet.specs.State.{IsKnown, IsSound, State, now}
 use Rattle.cabinet_records.specs.Replay.{book_after, opening_number}
 use Rattle.catalog.specs.declared.catalogue.Catalogue.{Catalogue}
 use Rattle.catalog.specs.Valid.{IsValid}
-use Rattle.causes.specs.Causes.{Rose}
+use Rattle.base.specs.Causes.{Rose}
 use Rattle.change_feed.specs.declared.mark.Mark.{Mark}
 use Rattle.change_feed.specs.Files.{EndsIn, MayEndIn, Stand}
 use Rattle.change_feed.specs.Runs.{IsEither}
-use Rattle.clock.specs.Readings.{Readings}
+use Rattle.base.specs.Readings.{Readings}
 use Rattle.cut_follower.specs.Lossy.{Event, Lossy, cabinet_opened, marks_opened, outbox_opened}
 use Rattle.disk_model.specs.Content.{Content, Same}
 use Rattle.disk_model.specs.Images.{After, DiskState, IsLawful, Leaves}
@@ -20,11 +20,11 @@ use Rattle.durable_cabinet.specs.Outlasting.{AnswersAs}
 use Rattle.http_wire.proofs.TakesOn.{rose_before}
 use Rattle.http_wire.specs.declared.inputs.InputEnd.TheVariants as input_end
 use Rattle.http_wire.specs.declared.inputs.InputEnd.{InputEnd}
-use Rattle.kept_cache.proofs.Lasting.{opening_lasts, work_lasts}
+use Rattle.opened_cache.proofs.Lasting.{opening_lasts, work_lasts}
 use Rattle.command_status.specs.declared.status.Status.{Status}
-use Rattle.kept_cache.specs.Change.{DiskChange}
+use Rattle.opened_cache.specs.Change.{DiskChange}
 use Rattle.gate_journal.specs.declared.fault.OpenFault.{OpenFault}
-use Rattle.kept_cache.specs.Crash.{Lasts}
+use Rattle.opened_cache.specs.Crash.{Lasts}
 use Rattle.command_status.specs.Statuses.{status_of_input, status_of_opening}
 use Rattle.outbox.specs.Files.{MayOpenTo, OpensToPosts}
 use Rattle.outbox.specs.Posts.{MayBeFound, Outgoing}

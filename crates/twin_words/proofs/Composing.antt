@@ -6,7 +6,7 @@ use Rattle.cabinet.specs.State.{IsKnown, State, now}
 use Rattle.cabinet_records.specs.Replay.{Replayed, book_after, opening_number}
 use Rattle.catalog.specs.declared.catalogue.Catalogue.{Catalogue}
 use Rattle.change_feed.specs.Runs.{GoesOn}
-use Rattle.clock.specs.Readings.{Readings}
+use Rattle.base.specs.Readings.{Readings}
 use Rattle.disk_model.specs.Content.{Content}
 use Rattle.disk_model.specs.Images.{DiskState, Every, IsLawful, Leaves}
 use Rattle.disk_model.specs.Moments.{leaves_as}
@@ -16,9 +16,9 @@ use Rattle.durable_cabinet.specs.Outlasting.{AnswersAs}
 use Rattle.durable_cabinet.proofs.Once.{opens_once}
 use Rattle.gate_journal.specs.declared.fault.OpenFault.{OpenFault}
 use Rattle.gate_journal.specs.declared.fault.OpenFault.TheVariants as fault
-use Rattle.kept_cache.specs.Change.{DiskChange}
-use Rattle.kept_cache.specs.Crash.{IsLeftBy, LeftByOpening}
-use Rattle.kept_cache.specs.Opened.{RefusalLeaves}
+use Rattle.opened_cache.specs.Change.{DiskChange}
+use Rattle.opened_cache.specs.Crash.{IsLeftBy, LeftByOpening}
+use Rattle.opened_cache.specs.Opened.{RefusalLeaves}
 use Rattle.truncation_list.specs.Books.{AnswersForBook}
 use Rattle.truncation_list.proofs.Answering.{answers_through}
 use Rattle.twin_words.specs.Opens.{GoesFurther, IsLeftFor}

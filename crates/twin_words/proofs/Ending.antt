@@ -1,7 +1,7 @@
 -- How the words of a twin never end.
 use Rattle.std.proofs.Common.{◌≡◌, inl, inr, subst}
 use Rattle.catalog.specs.declared.catalogue.Catalogue.{Catalogue}
-use Rattle.clock.specs.Readings.{Readings}
+use Rattle.base.specs.Readings.{Readings}
 use Rattle.command_status.specs.declared.status.Status.TheVariants as status
 use Rattle.command_status.specs.declared.status.Status.{Status}
 use Rattle.command_status.specs.Statuses.{status_of_opening}

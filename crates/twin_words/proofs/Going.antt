@@ -5,13 +5,13 @@ use Rattle.std.specs.Io.KnownBytes.{Appends}
 use Rattle.std.proofs.lemmas.List.{length-map, map-append}
 use Rattle.cabinet.specs.State.{IsSound, State, now}
 use Rattle.catalog.specs.declared.catalogue.Catalogue.{Catalogue}
-use Rattle.causes.specs.Causes.{Rose}
+use Rattle.base.specs.Causes.{Rose}
 use Rattle.change_feed.specs.Files.{MayEndIn, Stand}
 use Rattle.disk_model.specs.Content.{Content}
 use Rattle.disk_model.specs.Images.{DiskState}
 use Rattle.disk_model.specs.Moments.{leaves_as, leaves_none, leaves_then}
 use Rattle.http_wire.proofs.TakesOn.{rose_before}
-use Rattle.kept_cache.specs.Change.{DiskChange}
+use Rattle.opened_cache.specs.Change.{DiskChange}
 use Rattle.outbox.specs.Files.{MayOpenTo}
 use Rattle.outbox.specs.Posts.{Outgoing}
 use Rattle.tile_requests.proofs.Known.{appends_more}

@@ -23,7 +23,7 @@ use Rattle.twin_lines.specs.Steps.{Moment, Step}
 use Rattle.twin_lines.specs.Texts.{answer_text, answers_from}
 use Rattle.twin_words.proofs.Going.{no_part, ordered_length, ordered_then, part_then, weight_counts, weight_of_text, weight_then, written_then}
 use Rattle.twin_words.proofs.Stretching.{change, left_as}
-use Rattle.causes.specs.Causes.{Rose}
+use Rattle.base.specs.Causes.{Rose}
 use Rattle.http_wire.specs.declared.inputs.InputEnd.{InputEnd}
 use Rattle.http_wire.specs.declared.inputs.InputEnd.TheVariants as input_end
 use Rattle.twin_words.specs.Ends.{IsTooLong, RefusesAgain}

@@ -1,7 +1,6 @@
 -- The openings and the steps of a twin as events of a lossy link, which stays in step.
-use Rattle.std.specs.Prelude.{IsTrue, true, false}
+use Rattle.std.specs.Prelude.{IsTrue, true, false, IfSome, slice_get}
 use Rattle.std.proofs.Common.{◌≡◌, ◌<◌, ℕ, List, [], ◌∷◌, Option, Some, None, refl, sym, subst, ap, ◌∙◌, inl, inr}
-use Rattle.std.specs.Prelude.{IfSome, slice_get}
 use Rattle.cabinet.specs.declared.replies.Asked.{Asked}
 use Rattle.cabinet.specs.declared.replies.Asked.TheVariants as asked
 use Rattle.cabinet.specs.Hits.{covers_in}

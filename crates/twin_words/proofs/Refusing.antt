@@ -4,15 +4,15 @@ use Rattle.cabinet.specs.State.{State}
 use Rattle.catalog.specs.declared.catalogue.Catalogue.{Catalogue}
 use Rattle.catalog.specs.Valid.{IsValid}
 use Rattle.change_feed.specs.Files as marks_files
-use Rattle.clock.specs.Readings.{Readings}
+use Rattle.base.specs.Readings.{Readings}
 use Rattle.disk_model.specs.Images.{DiskState}
 use Rattle.gate_journal.specs.declared.fault.OpenFault.{OpenFault}
 use Rattle.gate_journal.specs.declared.journal.Journal.{Journal}
 use Rattle.gate_journal.specs.Sound.{IsSettled}
-use Rattle.kept_cache.proofs.Closing.{has_opened}
-use Rattle.kept_cache.specs.Change.{DiskChange}
-use Rattle.kept_cache.specs.Crash.{IsClosed}
-use Rattle.kept_cache.specs.Opened.{IsOpened}
+use Rattle.opened_cache.proofs.Closing.{has_opened}
+use Rattle.opened_cache.specs.Change.{DiskChange}
+use Rattle.opened_cache.specs.Crash.{IsClosed}
+use Rattle.opened_cache.specs.Opened.{IsOpened}
 use Rattle.outbox.specs.Files as outbox_files
 use Rattle.sessions.specs.Outside.{counts}
 use Rattle.twin_words.specs.Opens.{IsQuiet, OpensAlone, RefusesMarks, RefusesOutbox}

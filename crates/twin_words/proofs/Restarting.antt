@@ -5,7 +5,7 @@ use Rattle.cabinet.specs.State.{IsKnown, IsSound, State, now}
 use Rattle.catalog.specs.declared.catalogue.Catalogue.{Catalogue}
 use Rattle.catalog.specs.Valid.{IsValid}
 use Rattle.change_feed.specs.Files.{MayEndIn, Stand}
-use Rattle.clock.specs.Readings.{Readings}
+use Rattle.base.specs.Readings.{Readings}
 use Rattle.disk_model.specs.Content.{Content, Same}
 use Rattle.disk_model.specs.Images.{After, ChangesBy, DiskState, Every, IsLawful, Leaves}
 use Rattle.disk_model.specs.Moments.{leaves_as, leaves_none}
@@ -15,8 +15,8 @@ use Rattle.gate_journal.specs.declared.fault.OpenFault.{OpenFault}
 use Rattle.gate_journal.specs.declared.fault.OpenFault.TheVariants as fault
 use Rattle.gate_journal.specs.declared.journal.Journal.{Journal}
 use Rattle.gate_journal.specs.Sound.{IsSettled}
-use Rattle.kept_cache.specs.Change.{DiskChange}
-use Rattle.kept_cache.specs.Crash.{IsClosed, IsLeftBy, LeftByOpening, OpeningLeaves}
+use Rattle.opened_cache.specs.Change.{DiskChange}
+use Rattle.opened_cache.specs.Crash.{IsClosed, IsLeftBy, LeftByOpening, OpeningLeaves}
 use Rattle.outbox.specs.Files.{MayOpenTo, OpensToPosts}
 use Rattle.truncation_list.proofs.Answering.{answers_itself}
 use Rattle.sessions.specs.Outside.{counts}

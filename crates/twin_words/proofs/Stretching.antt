@@ -5,7 +5,7 @@ use Rattle.std.specs.Io.KnownBytes.{Appends}
 use Rattle.cabinet.specs.State.{IsSound, now}
 use Rattle.cache_core.specs.Lasting.{Lasting}
 use Rattle.catalog.specs.declared.catalogue.Catalogue.{Catalogue}
-use Rattle.causes.specs.Causes.{Rose}
+use Rattle.base.specs.Causes.{Rose}
 use Rattle.change_feed.specs.Files.{MayEndIn}
 use Rattle.disk_model.specs.Content.{Content}
 use Rattle.disk_model.specs.Images.{DiskState, Leaves}
@@ -14,12 +14,12 @@ use Rattle.durable_cabinet.specs.Images.{IsOurs}
 use Rattle.durable_cabinet.specs.Outlasting.{AnswersAs, Outlasts}
 use Rattle.gate_journal.specs.declared.journal.Journal.{Journal}
 use Rattle.gate_journal.specs.Sound.{IsSettled}
-use Rattle.kept_cache.specs.Change.{DiskChange}
+use Rattle.opened_cache.specs.Change.{DiskChange}
 use Rattle.sessions.specs.Outside.{OutputChange, counts}
 use Rattle.twin_lines.specs.declared.lines.Halt.{Halt}
 use Rattle.twin_lines.specs.Ends.{AreOrdered, DiskPassage, Ends, HasRunLines, IsAmong, passage}
 use Rattle.twin_lines.specs.Steps.{AreTrue, IsLater, Moment, Step, faults, moment, stopped}
-use Rattle.twin_events.specs.Twins.{IsAt, LeadsBy}
+use Rattle.twin_events.specs.Twins.{IsAt, LeadsBy, Standing}
 use Rattle.cut_follower.specs.Lossy.{Event}
 use Rattle.change_feed.specs.Files as marks_files
 use Rattle.durable_cabinet.specs.Filed as cache_files
@@ -33,7 +33,6 @@ use Rattle.std.proofs.lemmas.List.{length-append}
 use Rattle.tile_requests.specs.Sent.{AppendsFront}
 use Rattle.tile_service.specs.Lines.{lines_of}
 use Rattle.truncation_list.proofs.Answering.{answers_itself}
-use Rattle.twin_events.specs.Twins.{Standing}
 use Rattle.twin_lines.specs.declared.lines.Halt.TheVariants as halt
 use Rattle.twin_lines.specs.declared.order.Order.TheVariants as order
 use Rattle.twin_lines.specs.declared.order.Side.{Side}

@@ -2,10 +2,10 @@
 use Rattle.std.specs.Prelude.{ℕ, ◌≡◌, ◌⊎◌, ◌+◌, ◌≤◌, ◌&&◌, Bool, IsTrue, List, [], length, Option, Some, None, Ok, Err, ⊤}
 use Rattle.std.specs.Io.KnownBytes.{Consumes, IsAtEnd}
 use Rattle.catalog.specs.declared.catalogue.Catalogue.{Catalogue}
-use Rattle.causes.specs.Causes.{Rose}
+use Rattle.base.specs.Causes.{Rose}
 use Rattle.change_feed.specs.Files.{EndsIn, IsMarksFile, MayEndIn}
-use Rattle.clock.specs.Readings.{Readings}
-use Rattle.command_setup.specs.declared.configured.Unconfigured.{Unconfigured}
+use Rattle.base.specs.Readings.{Readings}
+use Rattle.command_setup.specs.declared.configuration.Unconfigured.{Unconfigured}
 use Rattle.command_setup.specs.Held.{MayBe}
 use Rattle.command_setup.specs.Setup.{Configures, IsRead}
 use Rattle.command_status.specs.declared.status.Status.{Status}
@@ -17,10 +17,10 @@ use Rattle.command_setup.specs.Refusals.{status_of_refusal}
 use Rattle.command_status.specs.Statuses.{status_of_opening}
 use Rattle.gate_journal.specs.declared.fault.OpenFault.{OpenFault}
 use Rattle.command_status.specs.declared.status.Status.TheVariants as status
-use Rattle.kept_cache.specs.Change.{DiskChange, HasFailed, HasWritten}
+use Rattle.opened_cache.specs.Change.{DiskChange, HasFailed, HasWritten}
 use Rattle.sessions.specs.Outside.{FaultCounts, InputChange, OutputChange}
-use Rattle.kept_cache.specs.Crash.{LastsThrough}
-use Rattle.kept_cache.specs.Opened.{IsOpened}
+use Rattle.opened_cache.specs.Crash.{LastsThrough}
+use Rattle.opened_cache.specs.Opened.{IsOpened}
 use Rattle.change_feed.specs.Files as marks_files
 use Rattle.durable_cabinet.specs.Filed as cache_files
 use Rattle.outbox.specs.Files as outbox_files

@@ -7,7 +7,7 @@ use Rattle.disk_model.specs.Images.{DiskState, Every}
 use Rattle.durable_cabinet.specs.Images.{IsOurs, OpensTo}
 use Rattle.command_status.specs.declared.status.Status.{Status}
 use Rattle.command_status.specs.declared.status.Status.TheVariants as status
-use Rattle.kept_cache.specs.Change.{DiskChange, HasFailed, HasWritten, IsCutShort}
+use Rattle.opened_cache.specs.Change.{DiskChange, HasFailed, HasWritten, IsCutShort}
 use Rattle.sessions.specs.Outside.{OutputChange, counts}
 use Rattle.outbox.specs.Files.{OpensToPosts}
 

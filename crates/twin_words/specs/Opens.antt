@@ -4,7 +4,7 @@ use Rattle.cabinet.specs.State.{IsSound, State, now}
 use Rattle.catalog.specs.declared.catalogue.Catalogue.{Catalogue}
 use Rattle.change_feed.specs.Files.{EndsIn, MayEndIn, Stand}
 use Rattle.change_feed.specs.Files as marks_files
-use Rattle.clock.specs.Readings.{Readings}
+use Rattle.base.specs.Readings.{Readings}
 use Rattle.cut_follower.specs.Lossy.{Lossy}
 use Rattle.disk_model.specs.Content.{Content, Same}
 use Rattle.disk_model.specs.Images.{ChangesBy, Every, Leaves}
@@ -12,9 +12,9 @@ use Rattle.durable_cabinet.specs.Images.{IsOurs}
 use Rattle.durable_cabinet.specs.Filed as cache_files
 use Rattle.durable_cabinet.specs.Outlasting.{AnswersAs}
 use Rattle.gate_journal.specs.declared.fault.OpenFault.{OpenFault}
-use Rattle.kept_cache.specs.Change.{DiskChange}
-use Rattle.kept_cache.specs.Crash.{OpeningLeaves}
-use Rattle.kept_cache.specs.Opened.{HasOpened, IsOpened, RefusalLeaves}
+use Rattle.opened_cache.specs.Change.{DiskChange}
+use Rattle.opened_cache.specs.Crash.{OpeningLeaves}
+use Rattle.opened_cache.specs.Opened.{HasOpened, IsOpened, RefusalLeaves}
 use Rattle.outbox.specs.Files.{MayOpenTo, OpensToPosts}
 use Rattle.outbox.specs.Files as outbox_files
 use Rattle.truncation_list.specs.Books.{AnswersForBook}

@@ -5,7 +5,7 @@ use Rattle.catalog.specs.declared.catalogue.Catalogue.{Catalogue}
 use Rattle.cut_follower.specs.InStep.{IsInStep}
 use Rattle.cut_follower.specs.Lossy.{Event, Lossy, Passes, cabinet_opened, marks_opened, outbox_opened, with_sent}
 use Rattle.disk_model.specs.Content.{Content}
-use Rattle.kept_cache.specs.Change.{DiskChange}
+use Rattle.opened_cache.specs.Change.{DiskChange}
 use Rattle.truncation_list.specs.declared.book.Cut.{Cut}
 use Rattle.twin_events.specs.declared.got.Got.{Got}
 use Rattle.twin_events.specs.declared.got.Got.TheVariants as got

@@ -3,7 +3,7 @@
 use Rattle.std.specs.Prelude.{ℕ, ◌≡◌, ◌≤◌, ◌⊎◌, ◌+◌, ◌++◌, ◌&&◌, IsTrue, List, [], ◌∷◌, length, Option, Some, ⊤}
 use Rattle.cabinet.specs.State.{IsSound}
 use Rattle.catalog.specs.declared.catalogue.Catalogue.{Catalogue}
-use Rattle.causes.specs.Causes.{Rose}
+use Rattle.base.specs.Causes.{Rose}
 use Rattle.change_feed.specs.Files.{MayEndIn}
 use Rattle.cut_follower.specs.Lossy.{Event}
 use Rattle.disk_model.specs.Images.{Leaves}
@@ -12,7 +12,7 @@ use Rattle.http_wire.specs.declared.inputs.InputEnd.{InputEnd}
 use Rattle.http_wire.specs.declared.inputs.InputEnd.TheVariants as input_end
 use Rattle.command_status.specs.declared.status.Status.{Status}
 use Rattle.command_status.specs.declared.status.Status.TheVariants as status
-use Rattle.kept_cache.specs.Change.{DiskChange, HasWritten}
+use Rattle.opened_cache.specs.Change.{DiskChange, HasWritten}
 use Rattle.sessions.specs.Outside.{InputChange, OutputChange}
 use Rattle.command_status.specs.Statuses.{status_of_input, status_of_opening}
 use Rattle.tile_service.specs.Lines.{lines_of}

@@ -3,17 +3,17 @@ ghost use Rattle.std.specs.Prelude.{◌≡◌, ◌≤◌, IfErr, IfOk, IsTrue};
 ghost use Rattle.catalog.specs.Valid.{IsValid};
 ghost use Rattle.durable_cabinet.specs.Images.{IsOurs};
 ghost use Rattle.gate_journal.specs.Sound.{IsSettled};
-ghost use Rattle.kept_cache.specs.Crash.{IsClosed, OpeningLeaves};
-ghost use Rattle.kept_cache.specs.Opened.{IsOpened};
+ghost use Rattle.opened_cache.specs.Crash.{IsClosed, OpeningLeaves};
+ghost use Rattle.opened_cache.specs.Opened.{IsOpened};
 ghost use Rattle.twin_words.specs.Made.{change_of};
 ghost use Rattle.twin_words.specs.Opens.{RefusesCache};
 
-use catalog::catalogue::Catalogue;
-use clock::clock::Clock;
-use disk_model::disk::Disk;
-use durable_cabinet::durable::Cabinet;
-use gate_journal::fault::OpenFault;
-use kept_cache::lent::{LentDisk, Loan};
+use base::Clock;
+use catalog::Catalogue;
+use disk_model::Disk;
+use durable_cabinet::Cabinet;
+use gate_journal::OpenFault;
+use opened_cache::{LentDisk, Loan};
 use std::alloc::Global;
 
 /// Opens the cabinet of a disk that is lent. Every image of a moment of it is one of those at entry, or opens as what was read. A refusal

@@ -1,5 +1,5 @@
 //! The three disks of a twin, lent and handed back.
-use gate_journal::fault::OpenFault;
+use gate_journal::OpenFault;
 
 /// The disks of a twin that is closed, each one the disk that was lent.
 #[derive(Drop)]

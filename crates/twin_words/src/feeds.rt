@@ -5,11 +5,11 @@ ghost use Rattle.disk_model.specs.Content.{Same};
 ghost use Rattle.disk_model.specs.Images.{ChangesBy};
 ghost use Rattle.gate_journal.specs.Sound.{digest_of};
 
-use catalog::catalogue::Catalogue;
-use change_feed::feed::Feed;
-use disk_model::disk::Disk;
-use gate_journal::fault::OpenFault;
-use kept_cache::lent::{LentDisk, Loan};
+use catalog::Catalogue;
+use change_feed::Feed;
+use disk_model::Disk;
+use gate_journal::OpenFault;
+use opened_cache::{LentDisk, Loan};
 use std::alloc::Global;
 
 /// Opens the feed of marks that are lent. A refusal hands the loan back, and no count of faults falls.

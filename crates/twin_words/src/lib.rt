@@ -8,17 +8,23 @@
 //! that the next run goes on from there. A stop opens its side again: the cabinet under a greater number, and the outbox with nothing
 //! heard (`specs/Opens.antt`). At every moment a crash leaves a cache that answers for every truncation that was in force, marks of a
 //! stand along the steps, and posts along them.
-//! Stands on twin_lines, by which it runs lines, on twin_events for the twin, on kept_cache and feed_words for caches, marks and
+//! Stands on twin_lines, by which it runs lines, on twin_events for the twin, on opened_cache and feed_words for caches, marks and
 //! outboxes that are lent, on cut_follower for what a lossy link promises, on command_setup for the catalogue, on command_status for how it ends, and on the
 //! crates whose types its calls name.
 #![tactic(auto)]
 
-pub mod cabinets;
-pub mod disks;
-pub mod feeds;
+mod cabinets;
+mod disks;
+mod feeds;
 mod making;
 mod opening;
 mod running;
 mod stopping;
-pub mod twin;
-pub mod words;
+mod twin;
+mod words;
+
+pub use cabinets::{Closed, closed_with_clock, opened_cabinet};
+pub use disks::{Disks, Unfollowed, Unopened};
+pub use feeds::opened_feed;
+pub use twin::run_twin;
+pub use words::{TwinWord, twin_word};

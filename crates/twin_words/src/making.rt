@@ -5,13 +5,13 @@ ghost use Rattle.sessions.specs.Outside.{OutputChange, counts};
 ghost use Rattle.twin_words.specs.Made.{MakesTwin, change_of};
 
 use arrayvec::ArrayVec;
-use catalog::catalogue::Catalogue;
-use change_feed::feed::Feed;
-use command_status::status::Status;
-use disk_model::disk::Disk;
-use http_wire::streams::ByteSink;
-use kept_cache::writing::written;
-use outbox::outbox::Outbox;
+use catalog::Catalogue;
+use change_feed::Feed;
+use command_status::Status;
+use disk_model::Disk;
+use http_wire::ByteSink;
+use opened_cache::written;
+use outbox::Outbox;
 
 /// Makes an empty cache, an empty file of marks and an empty outbox, in this order, whatever stood there, and writes that they are made.
 /// Each end comes as `MakesTwin` says. It takes no memory.
@@ -30,7 +30,7 @@ pub(crate) fn make_twin<D: Disk, O: ByteSink>(
     ensures marks_told { D.told marks.new ≡ D.told marks.old }
     ensures outbox_told { D.told outbox.new ≡ D.told outbox.old }
 {
-    if durable_cabinet::opening::make(catalogue, disk).is_err() {
+    if durable_cabinet::make(catalogue, disk).is_err() {
         return Status::DiskFault;
     }
     if Feed::make(catalogue, marks).is_err() {

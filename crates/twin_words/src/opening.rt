@@ -6,7 +6,7 @@ ghost use Rattle.change_feed.specs.Files.{IsMarksFile, MayEndIn};
 ghost use Rattle.disk_model.specs.Images.{Every};
 ghost use Rattle.durable_cabinet.specs.Images.{IsOurs};
 ghost use Rattle.gate_journal.specs.Sound.{IsSettled, digest_of};
-ghost use Rattle.kept_cache.specs.Crash.{IsClosed, OpeningLeaves};
+ghost use Rattle.opened_cache.specs.Crash.{IsClosed, OpeningLeaves};
 ghost use Rattle.outbox.specs.Files.{IsOutboxFile, MayOpenTo};
 ghost use Rattle.twin_events.specs.Twins.{IsReady, standing};
 ghost use Rattle.twin_words.specs.Made.{change_of};
@@ -15,18 +15,16 @@ ghost use Rattle.twin_words.specs.Opens.{IsQuiet, OpensFollower, OpensTwin, Refu
 use crate::cabinets::opened_cabinet;
 use crate::disks::{Disks, Unfollowed, Unopened};
 use crate::feeds::opened_feed;
-use cabinet::keeper::Keeper;
-use catalog::catalogue::Catalogue;
-use change_feed::feed::Feed;
-use clock::clock::Clock;
-use disk_model::disk::Disk;
-use durable_cabinet::durable::Cabinet;
-use feed_words::marks::closed_marks;
-use feed_words::outboxes::{closed_outbox, opened_outbox};
-use kept_cache::lent::{LentDisk, Loan};
-use kept_cache::opened::closed;
+use base::Clock;
+use cabinet::Keeper;
+use catalog::Catalogue;
+use change_feed::Feed;
+use disk_model::Disk;
+use durable_cabinet::Cabinet;
+use feed_words::{closed_marks, closed_outbox, opened_outbox};
+use opened_cache::{LentDisk, Loan, closed};
 use std::alloc::Global;
-use twin_events::twin::Twin;
+use twin_events::Twin;
 
 /// A follower's cabinet and its feed, of disks that are lent.
 #[derive(Drop)]

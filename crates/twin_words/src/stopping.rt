@@ -2,27 +2,25 @@
 ghost use Rattle.std.specs.Prelude.{◌≡◌, ◌≤◌, ℕ, IfErr, IfOk, Option};
 ghost use Rattle.gate_journal.specs.Sound.{IsSettled, digest_of};
 ghost use Rattle.twin_events.specs.Twins.{IsReady, standing};
-ghost use Rattle.twin_lines.specs.declared.order.Side.TheVariants as sides;
 ghost use Rattle.twin_lines.specs.Steps.{faults, moment};
+ghost use Rattle.twin_lines.specs.declared.order.Side.TheVariants as sides;
 ghost use Rattle.twin_words.specs.Made.{change_of};
 ghost use Rattle.twin_words.specs.Opens.{Restarts, StaysClosed};
 
 use crate::cabinets::{Closed, closed_with_clock};
 use crate::disks::{Disks, Unfollowed, Unopened};
 use crate::opening::{Follower, closed_twin, opened_follower};
-use cabinet::keeper::Keeper;
-use change_feed::laws::laws_of_marks;
-use disk_model::disk::Disk;
-use durable_cabinet::durable::Cabinet;
-use feed_words::marks::closed_marks;
-use feed_words::outboxes::{closed_outbox, opened_outbox};
-use gate_journal::fault::OpenFault;
-use kept_cache::lent::{LentDisk, Loan};
-use kept_cache::opened::closed;
-use outbox::laws::laws_of_outboxes;
+use cabinet::Keeper;
+use change_feed::laws_of_marks;
+use disk_model::Disk;
+use durable_cabinet::Cabinet;
+use feed_words::{closed_marks, closed_outbox, opened_outbox};
+use gate_journal::OpenFault;
+use opened_cache::{LentDisk, Loan, closed};
+use outbox::laws_of_outboxes;
 use std::alloc::Global;
-use twin_events::twin::Twin;
-use twin_lines::order::Side;
+use twin_events::Twin;
+use twin_lines::Side;
 
 /// Closes the outbox of a twin and opens it again: it has its posts, or these and the one that was undecided, and has heard nothing. A
 /// refusal closes the twin.

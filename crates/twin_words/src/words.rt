@@ -2,7 +2,7 @@
 ghost use Rattle.std.specs.Prelude.{◌≡◌};
 ghost use Rattle.twin_words.specs.Words.{one_word, twin_word, two_words};
 
-use exact_ratio::words::Words;
+use exact_ratio::Words;
 
 /// What the words of a twin ask for.
 #[derive(Clone, Copy, PartialEq, Eq)]

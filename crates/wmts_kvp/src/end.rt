@@ -1,5 +1,5 @@
 //! What ends the reading of a query before its last parameter.
-use exception_report::code::Code;
+use exception_report::Code;
 
 /// What ends the reading of a query before its last row.
 #[derive(Clone, Copy)]

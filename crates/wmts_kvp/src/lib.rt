@@ -6,8 +6,11 @@
 #![tactic(auto)]
 
 mod end;
-pub mod number;
+mod number;
 mod pairs;
-pub mod query;
+mod query;
 mod rows;
 mod theme;
+
+pub use number::{below, is_number, short_number};
+pub use query::{Query, read_pairs, read_query};

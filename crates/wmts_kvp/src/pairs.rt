@@ -2,8 +2,8 @@
 ghost use Rattle.std.specs.Prelude.{◌≡◌, IfOk, option_copied};
 ghost use Rattle.wmts_kvp.specs.Pairs.{pairs_of, value_of};
 
-use catalog::names::is_same;
-use exact_ratio::words::Words;
+use catalog::is_same;
+use exact_ratio::Words;
 use form_urlencoded::parse;
 use std::alloc::{AllocError, Global};
 

@@ -10,11 +10,10 @@ use crate::end::End;
 use crate::pairs::pairs_of;
 use crate::rows;
 use crate::theme::theme;
-use catalog::catalogue::Catalogue;
-use exact_ratio::words::Words;
-use exception_report::code::{Code, Locator};
-use matrix_geometry::address::Address;
-use matrix_geometry::theme::Theme;
+use catalog::Catalogue;
+use exact_ratio::Words;
+use exception_report::{Code, Locator};
+use matrix_geometry::{Address, Theme};
 use std::alloc::{AllocError, Global};
 
 /// What a request asks for.

@@ -11,9 +11,9 @@ ghost use Rattle.wmts_kvp.specs.Rows.{some_or, parameter, equal, requested, styl
 use crate::end::End;
 use crate::number::{below, is_number};
 use crate::pairs::value_of;
-use catalog::catalogue::Catalogue;
-use exact_ratio::words::Words;
-use exception_report::code::Code;
+use catalog::Catalogue;
+use exact_ratio::Words;
+use exception_report::Code;
 
 /// The value of a parameter that must be there.
 fn given<'a>(pairs: &'a [(Words, Words)], name: &'a [u8]) -> Result<&'a [u8], End<'a>>

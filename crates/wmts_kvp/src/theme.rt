@@ -9,10 +9,10 @@ ghost use Rattle.wmts_kvp.specs.Rows.{or_refusal, dimensions};
 
 use crate::end::End;
 use crate::pairs::value_of;
-use catalog::catalogue::Catalogue;
-use dimension_key::draft::{DimFault, ThemeDraft};
-use exact_ratio::words::Words;
-use exception_report::code::Code;
+use catalog::Catalogue;
+use dimension_key::{DimFault, ThemeDraft};
+use exact_ratio::Words;
+use exception_report::Code;
 
 /// The draft with the value that the pairs give to the layer's next dimension, which has this name.
 fn with_value<'a>(

@@ -8,4 +8,6 @@
 mod route;
 mod segments;
 mod spelling;
-pub mod table;
+mod table;
+
+pub use table::RestTable;

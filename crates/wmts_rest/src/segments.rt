@@ -1,9 +1,9 @@
 //! The segments of a tile's path, and their texts.
-ghost use Rattle.std.specs.Prelude.{◌≡◌, ◌==◌, nat_lt, IfOk, length, map, option_copied};
 ghost use Rattle.std.specs.List.{list_all, slice_split};
+ghost use Rattle.std.specs.Prelude.{◌≡◌, ◌==◌, nat_lt, IfOk, length, map, option_copied};
 ghost use Rattle.wmts_rest.specs.Paths.{after, before, inside, are_segments, text_of};
 
-use exact_ratio::words::Words;
+use exact_ratio::Words;
 use percent_encoding::percent_decode;
 use std::alloc::{AllocError, Global};
 

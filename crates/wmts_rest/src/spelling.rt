@@ -4,11 +4,10 @@ ghost use Rattle.catalog.specs.Valid.{IsValid};
 ghost use Rattle.wmts_kvp.specs.Reading.{IsOfCatalogue};
 ghost use Rattle.wmts_rest.specs.Paths.{dimensions_at, is_complete, names_of, pairs_of, pairs_under, supplied, layer_reading, texts_reading};
 
-use catalog::catalogue::Catalogue;
-use catalog::layer::Dimension;
-use exact_ratio::words::Words;
+use catalog::{Catalogue, Dimension};
+use exact_ratio::Words;
 use std::alloc::{AllocError, Global};
-use wmts_kvp::query::{Query, read_pairs};
+use wmts_kvp::{Query, read_pairs};
 
 fn dimensions_at(catalogue: &Catalogue, layer: Option<u32>) -> &[Dimension]
     ensures { result.now ≡ dimensions_at catalogue.now layer }

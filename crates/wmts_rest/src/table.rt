@@ -1,6 +1,6 @@
 //! The table of routes, and the reading of a path by it.
-ghost use Rattle.std.specs.Prelude.{◌≡◌, IfOk, IfSome, map};
 ghost use Rattle.std.specs.Option.{option_and_then};
+ghost use Rattle.std.specs.Prelude.{◌≡◌, IfOk, IfSome, map};
 ghost use Rattle.catalog.specs.Valid.{IsValid};
 ghost use Rattle.wmts_kvp.specs.Reading.{IsOfCatalogue};
 ghost use Rattle.wmts_rest.specs.Paths.{path_reading, segments_of, segments_reading};
@@ -9,12 +9,12 @@ ghost use Rattle.wmts_rest.specs.Routes.{route_at, routes};
 use crate::route::Route;
 use crate::segments::{are_segments, inside, segments_of, texts_of};
 use crate::spelling::read_texts;
-use catalog::catalogue::Catalogue;
+use catalog::Catalogue;
 use matchit::{InsertError, Router};
 use std::alloc::{AllocError, Global};
 use std::marker::Model;
 use std::str::from_utf8;
-use wmts_kvp::query::Query;
+use wmts_kvp::Query;
 
 /// The routes of the RESTful requests.
 #[derive(Drop)]

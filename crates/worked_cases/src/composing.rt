@@ -1,10 +1,9 @@
 //! The word of a composition, run over any objects.
-use clock::clock::Clock;
-use compose_words::end::ComposeEnd;
-use compose_words::word::run_compose;
-use exact_ratio::words::Words;
-use http_wire::streams::{ByteSink, ByteSource};
-use source_render::source::Source;
+use base::Clock;
+use compose_words::{ComposeEnd, run_compose};
+use exact_ratio::Words;
+use http_wire::{ByteSink, ByteSource};
+use source_render::Source;
 use std::alloc::Global;
 
 /// Runs the word of a composition, and tells its end alone.

@@ -1,6 +1,6 @@
 //! How the disk of a step behaves, as the lines of a step's file `fakes` say.
-use disk_model::pick::Pick;
-use silent_disk::SilentDisk;
+use disk_model::Pick;
+use fixtures::SilentDisk;
 use std::alloc::{AllocError, Global};
 
 /// How a disk behaves, and what of it is left to the next step.

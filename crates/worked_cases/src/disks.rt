@@ -1,8 +1,7 @@
 //! The three disks of a step: that of the cache, that of a feed's marks, and that of an outbox.
 use crate::fakes::Fakes;
-use disk_model::disk::Disk;
-use disk_model::pick::Pick;
-use silent_disk::SilentDisk;
+use disk_model::{Disk, Pick};
+use fixtures::SilentDisk;
 use std::alloc::{AllocError, Global};
 
 /// The bytes of the three disks.

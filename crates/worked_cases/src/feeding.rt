@@ -2,12 +2,12 @@
 ghost use Rattle.feed_words.specs.Ends.{IsFitFor};
 ghost use Rattle.feed_words.specs.Words.{feed_word};
 
-use clock::clock::Clock;
-use command_status::status::Status;
-use disk_model::disk::Disk;
-use exact_ratio::words::Words;
-use feed_words::word::run_feed;
-use http_wire::streams::{ByteSink, ByteSource};
+use base::Clock;
+use command_status::Status;
+use disk_model::Disk;
+use exact_ratio::Words;
+use feed_words::run_feed;
+use http_wire::{ByteSink, ByteSource};
 use std::alloc::Global;
 
 /// Runs the words of a feed, and tells their status alone.

@@ -3,14 +3,11 @@ ghost use Rattle.std.specs.Prelude.{◌≡◌};
 ghost use Rattle.link_words.specs.Ends.{Handed, IsFitFor};
 ghost use Rattle.link_words.specs.Words.{link_word};
 
-use clock::clock::Clock;
-use disk_model::disk::Disk;
-use exact_ratio::words::Words;
-use http_wire::duplex::{Duplex, Ends, Loans};
-use http_wire::links::Link;
-use http_wire::streams::{ByteSink, ByteSource};
-use link_words::ends::LinkingEnd;
-use link_words::link::run_link;
+use base::Clock;
+use disk_model::Disk;
+use exact_ratio::Words;
+use http_wire::{ByteSink, ByteSource, Duplex, Ends, Link, Loans};
+use link_words::{LinkingEnd, run_link};
 use std::alloc::Global;
 use std::marker::Brand;
 

@@ -4,12 +4,10 @@ use crate::disks::{Contents, Crashes, Disks};
 use crate::fakes::{Fake, Fakes};
 use crate::source_fake::SourceFake;
 use crate::top_calls::{Streams, status_by};
-use clock::clock::Clock;
-use command_setup::configured::source_number;
-use exact_ratio::words::Words;
-use http_wire::memory_sink::MemorySink;
-use http_wire::memory_source::MemorySource;
-use http_wire::streams::{ByteSink, ByteSource};
+use base::Clock;
+use command_setup::source_number;
+use exact_ratio::Words;
+use http_wire::{ByteSink, ByteSource, MemorySink, MemorySource};
 use std::alloc::{AllocError, Global};
 use std::io;
 

@@ -1,13 +1,12 @@
 //! The source of a step, which fails as the lines of a step's file `fakes` say, and tells whether it did.
 ghost use Rattle.std.specs.Prelude.{None};
 
-use catalog::catalogue::Catalogue;
-use causes::one_more;
-use metatile_locks::ticket::Ticket;
-use metatile_plan::window::Window;
-use raster_field::raster::Raster;
-use source_render::scripted::Scripted;
-use source_render::source::{Failed, Source};
+use base::one_more;
+use catalog::Catalogue;
+use metatile_locks::Ticket;
+use metatile_plan::Window;
+use raster_field::Raster;
+use source_render::{Failed, Scripted, Source};
 
 /// The source of numbered pictures that fails at listed calls, and counts how often it has failed.
 #[derive(Drop)]

@@ -6,8 +6,8 @@ use crate::acknowledged::Bounds;
 use crate::disk_fake::number_of;
 use crate::disks::{Contents, Crashes, Disks};
 use crate::run::{Given, came_to};
-use disk_model::pick::Pick;
-use silent_disk::SilentDisk;
+use disk_model::Pick;
+use fixtures::SilentDisk;
 use std::alloc::{AllocError, Global};
 use std::io;
 

@@ -8,18 +8,16 @@ use crate::feeding::fed_status;
 use crate::linking::linked_end;
 use crate::source_fake::SourceFake;
 use crate::twinning::twin_status;
-use clock::clock::Clock;
-use command_status::status::Status;
-use command_words::top_calls::{TopCall, top_call};
-use disk_model::disk::Disk;
-use exact_ratio::words::Words;
-use http_wire::memory_sink::MemorySink;
-use http_wire::memory_source::MemorySource;
-use http_wire::streams::{ByteSink, ByteSource};
-use source_render::source::Source;
+use base::Clock;
+use command_status::Status;
+use command_words::{TopCall, top_call};
+use disk_model::Disk;
+use exact_ratio::Words;
+use http_wire::{ByteSink, ByteSource, MemorySink, MemorySource};
+use source_render::Source;
 use std::alloc::{AllocError, Global};
 use std::fmt::Display;
-use tile_command::command::run_command;
+use tile_command::run_command;
 
 /// The streams that a command reads.
 #[derive(Drop)]

@@ -2,14 +2,14 @@
 ghost use Rattle.twin_words.specs.Ends.{IsFitFor, text_of};
 ghost use Rattle.twin_words.specs.Words.{twin_word};
 
-use clock::clock::Clock;
-use command_status::status::Status;
-use disk_model::disk::Disk;
-use exact_ratio::words::Words;
-use http_wire::streams::{ByteSink, ByteSource};
-use source_render::source::Source;
+use base::Clock;
+use command_status::Status;
+use disk_model::Disk;
+use exact_ratio::Words;
+use http_wire::{ByteSink, ByteSource};
+use source_render::Source;
 use std::alloc::Global;
-use twin_words::twin::run_twin;
+use twin_words::run_twin;
 
 /// Runs the words of a twin, and tells their status alone.
 pub fn twin_status<S: Source, D: Disk, I: ByteSource, O: ByteSink>(

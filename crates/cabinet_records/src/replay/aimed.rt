@@ -1,8 +1,6 @@
 //! The cuts of a zoom as they are aimed at its metatiles: which rows and columns of metatiles each of them reaches.
-use matrix_geometry::boxes::Range;
-use matrix_geometry::matrix::Matrix;
-use matrix_geometry::theme::Filter;
-use metatile_plan::metatile::Factors;
+use matrix_geometry::{Filter, Matrix, Range};
+use metatile_plan::Factors;
 
 /// A zoom of a layer on a grid, with how its tiles are gathered into metatiles.
 #[derive(Clone, Copy, PartialEq, Eq)]

@@ -1,20 +1,19 @@
 //! Aims cuts at the metatiles of zooms, and looks for one that hits a metatile. What a cover reaches is reckoned once for a zoom, and not for each metatile.
-ghost use Rattle.std.specs.Prelude.{[], IfOk, IfSome, OnErr, OnOk, length, take, true, ◌++◌, ◌<◌, ◌∷◌, ◌≡◌, ◌≤◌, if◌then◌else◌};
 ghost use Rattle.std.specs.List.{All, AllByRecursion};
+ghost use Rattle.std.specs.Prelude.{[], IfOk, IfSome, OnErr, OnOk, length, take, true, ◌++◌, ◌<◌, ◌∷◌, ◌≡◌, ◌≤◌, if◌then◌else◌};
+ghost use Rattle.cabinet_records.specs.Aiming.{AreAimed, IsOfZoom, IsZoomOn, NumbersFall, aimed_at, is_aimed_at, is_aimed_since, is_for};
 ghost use Rattle.matrix_geometry.specs.Ranges.{is_in_some_range};
 ghost use Rattle.metatile_locks.specs.Running.{block};
 ghost use Rattle.truncation_list.specs.Covers.{IsWithinReach};
 ghost use Rattle.truncation_list.specs.Listed.{is_hit_since};
-ghost use Rattle.cabinet_records.specs.Aiming.{AreAimed, IsOfZoom, IsZoomOn, NumbersFall, aimed_at, is_aimed_at, is_aimed_since, is_for};
 
 use crate::replay::aimed::{AimedCut, Aims, Zoom};
-use catalog::grid::Grid;
-use matrix_geometry::boxes::Range;
-use metatile_locks::reach::reach;
-use metatile_plan::metatile::MetaKey;
+use catalog::Grid;
+use matrix_geometry::Range;
+use metatile_locks::reach;
+use metatile_plan::MetaKey;
 use std::alloc::{AllocError, Global};
-use truncation_list::cover::Cover;
-use truncation_list::list::CutList;
+use truncation_list::{Cover, CutList};
 
 /// How many zooms have a list at most: each is looked for along all of them.
 const MOST_ZOOMS: usize = 1024;

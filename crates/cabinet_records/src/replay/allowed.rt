@@ -1,25 +1,22 @@
 //! Whether a cache has a record behind those that were played, but for the regions of blobs.
-ghost use Rattle.std.specs.Prelude.{IfSome, true, ℕ, ◌<◌, ◌≡◌, ◌≢◌, ◌≤◌, ◌↔◌};
 ghost use Rattle.std.specs.List.{AllByRecursion};
 ghost use Rattle.std.specs.Option.{option_map_or};
-ghost use Rattle.catalog.specs.Valid.{IsValid};
+ghost use Rattle.std.specs.Prelude.{IfSome, true, ℕ, ◌<◌, ◌≡◌, ◌≢◌, ◌≤◌, ◌↔◌};
 ghost use Rattle.cabinet.specs.History.{but};
+ghost use Rattle.cabinet.specs.Shelved.{listed};
 ghost use Rattle.cabinet_records.specs.Played.{AreTiedIn, MayKeep, replayed_of};
 ghost use Rattle.cabinet_records.specs.Replay.{IsKeptUnder, MayCut, MayOpen, opening_of};
-ghost use Rattle.cabinet.specs.Shelved.{listed};
+ghost use Rattle.catalog.specs.Valid.{IsValid};
 
 use crate::replay::newer::is_newer;
 use crate::replay::places::place_of;
 use crate::replay::progress::Progress;
-use cabinet::kept::Kept;
-use cabinet::store::Store;
-use catalog::catalogue::Catalogue;
-use metatile_plan::metatile::MetaKey;
-use raster_field::known::is_meta;
-use raster_field::layout::blob_size;
-use served_covers::of_catalogue::is_cover_of;
-use truncation_list::cover::Cover;
-use truncation_list::list::CutList;
+use cabinet::{Kept, Store};
+use catalog::Catalogue;
+use metatile_plan::MetaKey;
+use raster_field::{blob_size, is_meta};
+use served_covers::is_cover_of;
+use truncation_list::{Cover, CutList};
 
 /// How many numbers an opening has, with the one that it doesn't give.
 const NUMBERS: u64 = 1 << 40;

@@ -1,14 +1,14 @@
 //! What a replay holds before the first record.
 ghost use Rattle.std.specs.Prelude.{IfOk, ◌≡◌};
-ghost use Rattle.catalog.specs.Valid.{IsValid};
 ghost use Rattle.cabinet_records.specs.Played.{IsPlayed, replayed_of};
 ghost use Rattle.cabinet_records.specs.Replay.{unplayed};
+ghost use Rattle.catalog.specs.Valid.{IsValid};
 
 use crate::replay::cuts::ReplayCuts;
 use crate::replay::progress::Progress;
-use cabinet::store::Store;
-use catalog::catalogue::Catalogue;
-use extent_map::extents::Extents;
+use cabinet::Store;
+use catalog::Catalogue;
+use extent_map::Extents;
 use indexmap::IndexMap;
 use std::alloc::{AllocError, Global};
 

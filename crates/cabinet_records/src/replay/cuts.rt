@@ -1,19 +1,18 @@
 //! The cuts of a replay, with lists of them that are aimed at the metatiles of zooms.
 ghost use Rattle.std.specs.Prelude.{IfOk, IfSome, OnOk, ◌≡◌};
+ghost use Rattle.cabinet_records.specs.Aiming.{IsOfZoom, IsZoomOn};
 ghost use Rattle.metatile_locks.specs.Running.{block};
 ghost use Rattle.truncation_list.specs.Covers.{IsWithinReach};
 ghost use Rattle.truncation_list.specs.Listed.{IsReady, is_hit_since};
 ghost use Rattle.truncation_list.specs.Purge.{IsAbove, empty_book, with_cut};
-ghost use Rattle.cabinet_records.specs.Aiming.{IsOfZoom, IsZoomOn};
 
 use crate::replay::aimed::{Aims, Zoom};
 use crate::replay::aiming::{aim_at, hit_since};
-use catalog::grid::Grid;
-use metatile_plan::metatile::MetaKey;
+use catalog::Grid;
+use metatile_plan::MetaKey;
 use std::alloc::{AllocError, Global};
 use std::marker::Model;
-use truncation_list::cover::Cover;
-use truncation_list::list::CutList;
+use truncation_list::{Cover, CutList};
 
 /// How many cuts may be aimed in all lists together: what they take, some 70 bytes each, is given back at the end of the replay.
 const MOST_AIMED: u32 = 1_000_000;

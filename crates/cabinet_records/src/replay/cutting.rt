@@ -1,15 +1,15 @@
 //! How a record of a cut changes what a replay holds.
 ghost use Rattle.std.specs.Prelude.{ℕ};
-ghost use Rattle.catalog.specs.Valid.{IsValid};
 ghost use Rattle.cabinet_records.specs.Played.{IsPlayed, Steps};
+ghost use Rattle.catalog.specs.Valid.{IsValid};
 
 use crate::replay::allowed::may_cut;
 use crate::replay::progress::Progress;
 use crate::replay::sparing::spare;
-use catalog::catalogue::Catalogue;
-use record_text::entries::Record;
+use catalog::Catalogue;
+use record_text::Record;
 use std::alloc::{AllocError, Global};
-use truncation_list::cover::Cover;
+use truncation_list::Cover;
 
 /// Plays a record of a cut. `AllocError` where memory runs out.
 pub fn cut(

@@ -1,13 +1,13 @@
 //! How a record of any kind changes what a replay holds.
-ghost use Rattle.catalog.specs.Valid.{IsValid};
 ghost use Rattle.cabinet_records.specs.Played.{IsPlayed, Steps};
+ghost use Rattle.catalog.specs.Valid.{IsValid};
 
 use crate::replay::cutting::cut;
 use crate::replay::keeping::{counted, dropped, opened, stored};
 use crate::replay::progress::Progress;
-use cabinet::kept::Kept;
-use catalog::catalogue::Catalogue;
-use record_text::entries::Record;
+use cabinet::Kept;
+use catalog::Catalogue;
+use record_text::Record;
 use std::alloc::{AllocError, Global};
 
 /// Plays a record, and tells whether a cache has it there. Where none has, what is held means nothing any more. `AllocError` where

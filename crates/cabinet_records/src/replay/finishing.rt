@@ -1,10 +1,10 @@
 //! What a replay answers at its end, where each record is one that a cache has.
 ghost use Rattle.std.specs.Prelude.{IfErr, IfOk, List, Option, length, ◌≡◌, ℕ};
-ghost use Rattle.catalog.specs.declared.catalogue.Catalogue.{Catalogue};
-ghost use Rattle.record_text.specs.declared.entries.Record.{Record};
 ghost use Rattle.cabinet_records.specs.Played.{IsPlayed, replayed_of};
 ghost use Rattle.cabinet_records.specs.Replay.{AreTooMany, IsLastCut, IsRestored, Replays, unplayed};
 ghost use Rattle.cabinet_records.specs.Shows.{IsCutAt, IsFinished};
+ghost use Rattle.catalog.specs.declared.catalogue.Catalogue.{Catalogue};
+ghost use Rattle.record_text.specs.declared.entries.Record.{Record};
 
 use crate::replay::listing::finished;
 use crate::replay::progress::Progress;

@@ -1,14 +1,14 @@
 //! What a replay keeps of each record: whether it is the first that no cache has, or that version 1 doesn't have, or the last cut.
 ghost use Rattle.std.specs.Prelude.{IfOk, List, OnErr, Option, [], length, ◌++◌, ◌∷◌, ◌≡◌, ℕ, if◌then◌else◌};
-ghost use Rattle.catalog.specs.Valid.{IsValid};
-ghost use Rattle.record_text.specs.declared.entries.Record.{Record as Entry};
 ghost use Rattle.cabinet_records.specs.Replay.{is_cut};
 ghost use Rattle.cabinet_records.specs.Shows.{IsCutAt, IsLateAt, StandsAt, first_bad, first_of, is_late};
+ghost use Rattle.catalog.specs.Valid.{IsValid};
+ghost use Rattle.record_text.specs.declared.entries.Record.{Record as Entry};
 
 use crate::replay::entering::play;
 use crate::replay::progress::Progress;
-use catalog::catalogue::Catalogue;
-use record_text::entries::Record;
+use catalog::Catalogue;
+use record_text::Record;
 use std::alloc::{AllocError, Global};
 
 /// Plays one more record, which stands in the slot `count`, unless a record before it is one that no cache has. Answers the slot of

@@ -1,23 +1,21 @@
 //! How a metatile that is stored, and a record that drops one or sets its uses, change what a replay holds.
 ghost use Rattle.std.specs.Prelude.{Contains, IfNone, IfSome, IsSome, OnOk, Some, find, ℕ, ◌<◌, ◌==◌, ◌≡◌, ◌≤◌, if◌then◌else◌};
-ghost use Rattle.catalog.specs.declared.catalogue.Catalogue.{Catalogue};
-ghost use Rattle.catalog.specs.Valid.{IsValid};
-ghost use Rattle.indexmap.specs.IndexMap.{spare};
 ghost use Rattle.cabinet.specs.Gaps.{region};
 ghost use Rattle.cabinet_records.specs.Placed.{place_in};
 ghost use Rattle.cabinet_records.specs.Played.{Claims, HasRoom, IsPlayed, LeavesAll, Plays, Steps, places_but};
+ghost use Rattle.catalog.specs.Valid.{IsValid};
+ghost use Rattle.catalog.specs.declared.catalogue.Catalogue.{Catalogue};
+ghost use Rattle.indexmap.specs.IndexMap.{spare};
 
 use crate::replay::allowed::{is_kept_under, may_keep, may_open};
 use crate::replay::newer::aim;
 use crate::replay::places::{Places, drop_place, put_place};
 use crate::replay::progress::Progress;
-use cabinet::kept::Kept;
-use cabinet::tally::{give_back, law_of_extents};
-use cabinet::text::Text;
-use catalog::catalogue::Catalogue;
-use extent_map::extents::Extents;
-use metatile_plan::metatile::MetaKey;
-use record_text::entries::Record;
+use cabinet::{Kept, Text, give_back, law_of_extents};
+use catalog::Catalogue;
+use extent_map::Extents;
+use metatile_plan::MetaKey;
+use record_text::Record;
 use std::alloc::{AllocError, Global};
 
 /// Makes room for one more to be kept. `AllocError` where memory runs out.

@@ -1,17 +1,16 @@
 //! What a replay comes to at its end: what is kept in the order of its records, and the cuts, purged.
-ghost use Rattle.std.specs.Prelude.{IfNone, IfSome, IsPermutation, length, unwrap_or, vec_capacity, ℕ, ◌<◌, ◌≡◌, ◌≤◌};
 ghost use Rattle.std.specs.List.Sorted.{IsNonDecreasingBy};
-ghost use Rattle.catalog.specs.declared.catalogue.Catalogue.{Catalogue};
+ghost use Rattle.std.specs.Prelude.{IfNone, IfSome, IsPermutation, length, unwrap_or, vec_capacity, ℕ, ◌<◌, ◌≡◌, ◌≤◌};
+ghost use Rattle.cabinet.specs.Shelved.{listed};
 ghost use Rattle.cabinet_records.specs.Placed.{ArePlaced, place_at, place_in};
 ghost use Rattle.cabinet_records.specs.Played.{IsPlayed, replayed_of};
 ghost use Rattle.cabinet_records.specs.Replay.{book_after};
-ghost use Rattle.cabinet.specs.Shelved.{listed};
+ghost use Rattle.catalog.specs.declared.catalogue.Catalogue.{Catalogue};
 
 use crate::replay::places::{Places, place_of};
 use crate::replay::progress::Progress;
 use crate::restored::Restored;
-use cabinet::kept::Kept;
-use cabinet::store::Store;
+use cabinet::{Kept, Store};
 
 /// The place of a number, 0 where it has none.
 fn place_or_first(places: &Places, number: u64) -> u64

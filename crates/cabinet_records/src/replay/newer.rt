@@ -1,24 +1,20 @@
 //! Whether a render is newer than each cut that hits its metatile. Only the cuts of its layer, grid and zoom are looked at, and of these none of a
 //! lesser number. Where they are aimed at the zoom, each takes a few comparisons; else the tiles of its box are reckoned.
 ghost use Rattle.std.specs.Prelude.{Some, slice_get, true, ◌≡◌, ◌↔◌};
+ghost use Rattle.cabinet.specs.Fresh.{IsNewer};
+ghost use Rattle.cabinet_records.specs.Played.{IsNewerThan};
 ghost use Rattle.catalog.specs.Valid.{IsGrid, IsValid};
 ghost use Rattle.matrix_geometry.specs.Limits.{IsWithinLimits};
 ghost use Rattle.raster_field.specs.Blocks.{IsMeta};
-ghost use Rattle.cabinet.specs.Fresh.{IsNewer};
-ghost use Rattle.cabinet_records.specs.Played.{IsNewerThan};
 
 use crate::replay::aimed::Zoom;
 use crate::replay::cuts::ReplayCuts;
-use catalog::catalogue::Catalogue;
-use catalog::grid::Grid;
-use matrix_geometry::matrix::Matrix;
-use metatile_plan::metatile::MetaKey;
-use metatile_plan::plan::tiles_of;
-use raster_field::known::is_meta;
-use raster_field::layout::{Layout, layout_of};
+use catalog::{Catalogue, Grid};
+use matrix_geometry::Matrix;
+use metatile_plan::{MetaKey, tiles_of};
+use raster_field::{Layout, is_meta, layout_of};
 use std::alloc::Global;
-use truncation_list::block::Block;
-use truncation_list::list::CutList;
+use truncation_list::{Block, CutList};
 
 /// Whether the number is above those of all cuts that hit a block.
 fn is_newer_than(cuts: &CutList, m: &Matrix, block: &Block, number: u64) -> bool

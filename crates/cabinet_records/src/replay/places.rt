@@ -1,10 +1,10 @@
 //! The numbers of what is kept, each with the place of the record that keeps it among all records. A number is found by its hash.
 ghost use Rattle.std.specs.Prelude.{None, Some, if◌then◌else◌, ℕ, ◌+◌, ◌<◌, ◌==◌, ◌≡◌, ◌≤◌};
-ghost use Rattle.indexmap.specs.IndexMap.{spare};
 ghost use Rattle.cabinet_records.specs.Placed.{place_in};
 ghost use Rattle.cabinet_records.specs.Played.{places_but};
+ghost use Rattle.indexmap.specs.IndexMap.{spare};
 
-use cabinet::kept::Kept;
+use cabinet::Kept;
 use indexmap::IndexMap;
 
 /// The place of each number that has one.

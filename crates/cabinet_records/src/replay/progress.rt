@@ -1,9 +1,8 @@
 //! What the records of a journal come to so far, as a replay holds it.
 use crate::replay::cuts::ReplayCuts;
 use crate::replay::places::Places;
-use cabinet::kept::Kept;
-use cabinet::store::Store;
-use extent_map::extents::Extents;
+use cabinet::{Kept, Store};
+use extent_map::Extents;
 
 /// What is held while records are played.
 #[derive(Drop)]

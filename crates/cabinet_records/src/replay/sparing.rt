@@ -1,16 +1,16 @@
 //! What a cut hits of what a replay keeps is dropped, one after the other as it is found by area.
 ghost use Rattle.std.specs.Prelude.{length, ℕ, ◌≡◌, ◌≤◌};
+ghost use Rattle.cabinet.specs.History.{spared};
+ghost use Rattle.cabinet.specs.Shelved.{listed};
+ghost use Rattle.cabinet_records.specs.Placed.{AreTied, place_in};
 ghost use Rattle.catalog.specs.Valid.{IsValid};
 ghost use Rattle.served_covers.specs.OfCatalogue.{IsCoverOf};
-ghost use Rattle.cabinet.specs.History.{spared};
-ghost use Rattle.cabinet_records.specs.Placed.{AreTied, place_in};
-ghost use Rattle.cabinet.specs.Shelved.{listed};
 
 use crate::replay::places::{Places, drop_place};
-use cabinet::store::Store;
-use catalog::catalogue::Catalogue;
-use extent_map::extents::Extents;
-use truncation_list::cover::Cover;
+use cabinet::Store;
+use catalog::Catalogue;
+use extent_map::Extents;
+use truncation_list::Cover;
 
 /// Drops each kept metatile of which the cover is for a tile, with its region and the place of its number. Each is dropped before the
 /// next one is looked for, from the chunk on in which it was found.

@@ -1,8 +1,7 @@
-use Rattle.std.proofs.Common.{◌≡◌, ℕ, List, take, drop, nat_eq, replicate, true, false, sym, ◌∙◌, ap}
+use Rattle.std.proofs.Common.{◌≡◌, ℕ, List, take, drop, nat_eq, replicate, true, false, sym, ◌∙◌, ap, Some, Option}
 use Rattle.std.specs.Cmp.Lexicographic.{pointwise}
 use Rattle.change_feed.specs.declared.mark.Mark.{Mark}
 use Rattle.change_feed.specs.Marks.{mark_of}
-use Rattle.std.proofs.Common.{Some, Option}
 use Rattle.change_feed.proofs.Spelling.{spells_none, spells_some}
 use Rattle.change_feed.proofs.bodies.mark_of.Goals as goal
 

@@ -1,9 +1,8 @@
-use Rattle.std.proofs.Common.{refl}
+use Rattle.std.proofs.Common.{refl, length}
 use Rattle.disk_model.specs.Content.{TornWrite}
 use Rattle.disk_model.specs.Writes.{unchanged_write}
 use Rattle.disk_model.specs.declared.log.Call.TheVariants.{WriteFailed}
 use Rattle.disk_model.proofs.Calls.{either, seen_kept, seen_none, steps_none, steps_write_failed}
-use Rattle.std.proofs.Common.{length}
 use Rattle.disk_model.proofs.attempt.fail_write.Goals as goal
 
 pub returns-clause-steps : goal.returns-clause-steps

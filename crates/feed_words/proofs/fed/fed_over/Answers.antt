@@ -1,7 +1,7 @@
 use Rattle.std.proofs.Common.{ap, sym, ◌∙◌}
 use Rattle.cabinet.specs.State.{State}
-use Rattle.kept_cache.proofs.Closing.{has_opened}
-use Rattle.kept_cache.proofs.Lasting.{worked}
+use Rattle.opened_cache.proofs.Closing.{has_opened}
+use Rattle.opened_cache.proofs.Lasting.{worked}
 use Rattle.feed_words.proofs.Ending.{fed_tells}
 use Rattle.feed_words.proofs.fed.fed_over.Goals as goal
 

@@ -1,7 +1,7 @@
 use Rattle.std.proofs.Common.{All, List, false, subst, sym}
 use Rattle.std.proofs.lemmas.Bool.{false≢true}
 use Rattle.job_board.specs.Calls.{BoardHolding, IsBoardPass}
-use Rattle.job_runner.specs.Idles.{Idle, MayJoin}
+use Rattle.seed_jobs.specs.Idles.{Idle, MayJoin}
 use Rattle.hall_tests.proofs.stage.runner_of.Goals as goal
 
 pub returns : goal.returns

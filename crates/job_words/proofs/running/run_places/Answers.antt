@@ -1,6 +1,6 @@
 use Rattle.std.proofs.Common.{◌≡◌, ◌+◌, ap, arith, length, refl, sym, ◌∙◌}
 use Rattle.catalog.specs.declared.catalogue.Catalogue.{Catalogue}
-use Rattle.jobs.specs.Places.{places}
+use Rattle.job_forms.specs.Places.{places}
 use Rattle.job_words.proofs.Through.{one_at_most, one_done, part_more, runs_all}
 use Rattle.job_words.proofs.running.run_places.Goals.{in-Done, in-Failed}
 use Rattle.job_words.proofs.running.run_places.Goals as goal

@@ -1,4 +1,4 @@
-use Rattle.jobs.specs.Places.{Cut}
+use Rattle.job_forms.specs.Places.{Cut}
 use Rattle.job_words.proofs.Through.{the_cut}
 use Rattle.job_words.proofs.running.visit.Goals as goal
 

@@ -1,9 +1,9 @@
 use Rattle.std.proofs.Common.{refl, sym, subst, ◌∙◌}
 use Rattle.cabinet.specs.State.{State}
-use Rattle.jobs.specs.Job.{Fits}
+use Rattle.job_forms.specs.Job.{Fits}
 use Rattle.job_words.proofs.Telling.{job_tells}
-use Rattle.kept_cache.proofs.Closing.{has_opened}
-use Rattle.kept_cache.proofs.Lasting.{worked}
+use Rattle.opened_cache.proofs.Closing.{has_opened}
+use Rattle.opened_cache.proofs.Lasting.{worked}
 use Rattle.tile_service.specs.Session.{IsAtRest}
 use Rattle.job_words.proofs.word.run_over.Goals as goal
 

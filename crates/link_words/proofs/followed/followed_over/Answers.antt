@@ -1,7 +1,7 @@
 use Rattle.std.proofs.Common.{ap, sym, ◌∙◌}
 use Rattle.cabinet.specs.State.{State}
-use Rattle.kept_cache.proofs.Closing.{has_opened}
-use Rattle.kept_cache.proofs.Lasting.{worked}
+use Rattle.opened_cache.proofs.Closing.{has_opened}
+use Rattle.opened_cache.proofs.Lasting.{worked}
 use Rattle.link_words.proofs.Ending.{followed_tells}
 use Rattle.link_words.proofs.followed.followed_over.Goals as goal
 

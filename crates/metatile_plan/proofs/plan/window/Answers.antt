@@ -1,5 +1,5 @@
 use Rattle.std.proofs.Common.{rules, subst}
-use Rattle.metatile_plan.specs.declared.window.Window.{Window}
+use Rattle.metatile_plan.specs.declared.windows.Window.{Window}
 use Rattle.metatile_plan.specs.Plan.{IsWindowOn, tiles_of}
 use Rattle.metatile_plan.proofs.Sides.{window_on}
 use Rattle.metatile_plan.proofs.plan.window.Goals as goal

@@ -1,5 +1,5 @@
 use Rattle.std.proofs.Common.{arith, subst, sym, ap, ◌∙◌}
-use Rattle.job_sheet.specs.Hands.{Holding, watching}
+use Rattle.job_board.specs.Hands.{Holding, watching}
 use Rattle.seed_jobs.specs.Crews.{hands_of}
 use Rattle.seed_jobs.specs.Gathered.{HasHeard}
 use Rattle.seed_jobs.specs.Members.{workers_of}

@@ -5,7 +5,7 @@ use Rattle.std.proofs.lemmas.List.Elements.{All-get_or, All-map}
 use Rattle.truncation_list.specs.declared.book.Cut.{Cut}
 use Rattle.truncation_list.specs.Covers.{IsWithinReach}
 use Rattle.truncation_list.specs.Slots.{cut_in, cuts_in, no_cut}
-use Rattle.truncation_list.proofs.Hits.{hit, hits_since, none_since}
+use Rattle.truncation_list.proofs.HitRules.{hit, hits_since, none_since}
 use Rattle.truncation_list.proofs.Outdone.{any_found}
 use Rattle.truncation_list.proofs.Rule.{any_none}
 use Rattle.truncation_list.proofs.looking.hit_since.Goals as goal

@@ -1,7 +1,7 @@
 use Rattle.std.proofs.Common.{◌≡◌, ◌≤◌, length, drop, false}
 use Rattle.std.specs.List.{All}
 use Rattle.truncation_list.specs.Slots.{cut_in}
-use Rattle.truncation_list.proofs.Hits.{hits_since}
+use Rattle.truncation_list.proofs.HitRules.{hits_since}
 use Rattle.truncation_list.proofs.looking.hit_since.Given as goal
 
 abbrev pub invariant-looking : goal.invariant-looking

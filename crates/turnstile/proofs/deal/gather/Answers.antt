@@ -8,7 +8,7 @@ pub loop-next-init : goal.loop-next-init
 loop-next-init g c =
     let ready = c.into_seat-all.ensures.ready in
     let same = c.into_seat-all.ensures.same in
-    let p = popped (λ p. p.table ≡ c.args.gate.now.table.shared.table_id) c.args.passes.items c.pop.new.self.items c.in-Some.first c.in-Some.ensures.items c.requires.own in
+    let p = popped (λ p. p.table ≡ c.args.queue.now.table.shared.table_id) c.args.passes.items c.pop.new.self.items c.in-Some.first c.in-Some.ensures.items c.requires.own in
     let more = one_longer c.args.passes.items c.pop.new.self.items c.in-Some.first c.in-Some.ensures.items in
     let one = ready.parts_is in
     record {
@@ -24,14 +24,14 @@ loop-next-init g c =
 pub hear-requires-clause-own : goal.hear-requires-clause-own
 hear-requires-clause-own g c =
     let inv = c.loop-next.invariant in
-    let p = popped (λ p. p.table ≡ c.args.gate.now.table.shared.table_id) c.loop-next.rest.items c.pop-in-loop-next.new.self.items c.in-Some-pop.next c.in-Some-pop.ensures.items inv.own in
+    let p = popped (λ p. p.table ≡ c.args.queue.now.table.shared.table_id) c.loop-next.rest.items c.pop-in-loop-next.new.self.items c.in-Some-pop.next c.in-Some-pop.ensures.items inv.own in
     (inv.table, ap (λ h. h.table) c.into_seat.ensures.same ∙ p.1, c.into_seat.ensures.ready.carries)
 
 pub loop-next-preserved : goal.loop-next-preserved
 loop-next-preserved g c =
     let inv = c.loop-next.invariant in
     let items = c.in-Some-pop.ensures.items in
-    let p = popped (λ p. p.table ≡ c.args.gate.now.table.shared.table_id) c.loop-next.rest.items c.pop-in-loop-next.new.self.items c.in-Some-pop.next items inv.own in
+    let p = popped (λ p. p.table ≡ c.args.queue.now.table.shared.table_id) c.loop-next.rest.items c.pop-in-loop-next.new.self.items c.in-Some-pop.next items inv.own in
     let more = one_longer c.loop-next.rest.items c.pop-in-loop-next.new.self.items c.in-Some-pop.next items in
     let h = heard_more c.loop-next.all c.into_seat.result c.hear.new.seat inv.ready c.into_seat.ensures.ready c.hear.ensures.own.1 c.hear.ensures.heard in
     let parts = inv.parts in

@@ -8,8 +8,8 @@ use Rattle.turnstile.proofs.deal.gather.Given as goal
 
 abbrev pub invariant-loop-next : goal.invariant-loop-next
 invariant-loop-next g l = record {
-  own : All (λ p. p.table ≡ l.gate.table.shared.table_id) l.rest.items;
-  table : l.all.table_id ≡ l.gate.table.shared.table_id;
+  own : All (λ p. p.table ≡ l.queue.table.shared.table_id) l.rest.items;
+  table : l.all.table_id ≡ l.queue.table.shared.table_id;
   ready : IsReady (knows l.all).parts l.all;
   parts : (knows l.all).parts + length l.rest.items ≡ length l.fn.passes.items;
   turns : (p : Holding g.row.C-Charter.Denot g.row.C-Note.Denot) → Contains l.fn.passes.items p → Contains l.rest.items p ⊎ AreAmong p.made (turns_in (knows l.all));

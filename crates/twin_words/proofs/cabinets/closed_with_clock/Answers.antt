@@ -1,4 +1,4 @@
-use Rattle.kept_cache.proofs.Lasting.{left_by}
+use Rattle.opened_cache.proofs.Lasting.{left_by}
 use Rattle.twin_words.proofs.cabinets.closed_with_clock.Goals as goal
 
 pub returns-clause-closed : goal.returns-clause-closed

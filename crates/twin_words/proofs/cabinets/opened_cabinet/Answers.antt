@@ -1,5 +1,5 @@
 use Rattle.std.proofs.Common.{sym}
-use Rattle.kept_cache.proofs.Refused.{refusal_leaves}
+use Rattle.opened_cache.proofs.Refused.{refusal_leaves}
 use Rattle.sessions.specs.Outside.{counts}
 use Rattle.twin_words.proofs.cabinets.opened_cabinet.Goals as goal
 

@@ -1,7 +1,7 @@
 use Rattle.std.proofs.Common.{ap, inl, refl, sym, ◌≡◌, ◌∙◌}
 use Rattle.catalog.specs.declared.catalogue.Catalogue.{Catalogue}
 use Rattle.gate_journal.specs.Sound.{IsSettled}
-use Rattle.kept_cache.proofs.Lasting.{opening_lasts}
+use Rattle.opened_cache.proofs.Lasting.{opening_lasts}
 use Rattle.sessions.specs.Outside.{counts}
 use Rattle.twin_events.specs.Twins.{standing}
 use Rattle.twin_words.proofs.Beginning.{lasts, twins}

@@ -5,7 +5,7 @@ use Rattle.cabinet.specs.declared.replies.Forced.{Forced}
 use Rattle.cabinet.specs.History.{kept_of}
 use Rattle.cabinet.specs.State.{IsKnown, State, now}
 use Rattle.cabinet.specs.Steps.{AsksKept}
-use Rattle.cabinet.proofs.Found.{hit_of, hit_true, some_kept}
+use Rattle.cabinet.proofs.FoundKept.{hit_of, hit_true, some_kept}
 use Rattle.cabinet.proofs.cabinet.Cabinet.ask_kept.Goals as goal
 
 pub ask_kept-requires-clause-kept : goal.ask_kept-requires-clause-kept

@@ -4,7 +4,7 @@ use Rattle.metatile_plan.specs.declared.metatile.MetaKey.{MetaKey}
 use Rattle.raster_field.specs.Blocks.{block_of}
 use Rattle.cabinet.specs.Commands.{Forces, IsForcedOf}
 use Rattle.cabinet.specs.State.{IsKnown, State, asked_at}
-use Rattle.cabinet.proofs.Found.{none_unkept}
+use Rattle.cabinet.proofs.FoundKept.{none_unkept}
 use Rattle.cabinet.proofs.cabinet.Cabinet.ask_unkept.Goals as goal
 
 pub returns-clause-asked : goal.returns-clause-asked

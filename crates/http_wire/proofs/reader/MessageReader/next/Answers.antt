@@ -1,7 +1,7 @@
 use Rattle.std.proofs.Common.{◌≡◌, Some, None, refl, subst, sym, ap, ◌∙◌}
 use Rattle.http_wire.specs.Messages.{HoldsMessage}
 use Rattle.http_wire.proofs.Fetched.{fetched_of}
-use Rattle.http_wire.proofs.Ended.{never, had_ended, goes_on, side_stays}
+use Rattle.http_wire.proofs.MessageEnds.{never, had_ended, goes_on, side_stays}
 use Rattle.http_wire.proofs.reader.MessageReader.next.Goals as goal
 
 pub returns-in-Some : goal.returns-in-Some

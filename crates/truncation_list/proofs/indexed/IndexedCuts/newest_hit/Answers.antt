@@ -8,7 +8,7 @@ use Rattle.truncation_list.specs.Listed.{Indexed, is_hit_since}
 use Rattle.truncation_list.specs.Purge.{IsInOrder}
 use Rattle.truncation_list.specs.Slots.{AreTaken, cut_in, cuts_in}
 use Rattle.truncation_list.proofs.Decided.{both}
-use Rattle.truncation_list.proofs.Hits.{hits_since}
+use Rattle.truncation_list.proofs.HitRules.{hits_since}
 use Rattle.truncation_list.proofs.InSlots.{in_order_kept}
 use Rattle.truncation_list.proofs.Outdone.{any_passing}
 use Rattle.truncation_list.proofs.Standing.{hits_stands}

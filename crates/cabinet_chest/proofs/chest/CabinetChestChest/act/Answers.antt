@@ -1,0 +1,68 @@
+use Rattle.cabinet_chest.proofs.Clauses.{book_if, book_of, charter_if, charter_of, reply_if}
+use Rattle.cabinet_chest.proofs.chest.CabinetChestChest.act.Goals as goal
+
+pub returns-in-Ask-clause-charter : goal.returns-in-Ask-clause-charter
+returns-in-Ask-clause-charter g c = charter_if _ _ _ _ c.ask.ensures.acts c.ask.ensures.err
+
+pub returns-in-Ask-clause-reply : goal.returns-in-Ask-clause-reply
+returns-in-Ask-clause-reply g c = rw c.in-Ask.is (reply_if _ _ _ _ c.ask.ensures.acts)
+
+pub returns-in-Ask-clause-book : goal.returns-in-Ask-clause-book
+returns-in-Ask-clause-book g c = book_if _ _ _ _ c.ask.ensures.acts c.ask.ensures.err
+
+pub returns-in-Force-clause-charter : goal.returns-in-Force-clause-charter
+returns-in-Force-clause-charter g c = charter_if _ _ _ _ c.force.ensures.acts c.force.ensures.err
+
+pub returns-in-Force-clause-reply : goal.returns-in-Force-clause-reply
+returns-in-Force-clause-reply g c = rw c.in-Force.is (reply_if _ _ _ _ c.force.ensures.acts)
+
+pub returns-in-Force-clause-book : goal.returns-in-Force-clause-book
+returns-in-Force-clause-book g c = book_if _ _ _ _ c.force.ensures.acts c.force.ensures.err
+
+pub returns-in-Cut-clause-charter : goal.returns-in-Cut-clause-charter
+returns-in-Cut-clause-charter g c = charter_if _ _ _ _ c.cut.ensures.acts c.cut.ensures.err
+
+pub returns-in-Cut-clause-reply : goal.returns-in-Cut-clause-reply
+returns-in-Cut-clause-reply g c = rw c.in-Cut.is (reply_if _ _ _ _ c.cut.ensures.acts)
+
+pub returns-in-Cut-clause-book : goal.returns-in-Cut-clause-book
+returns-in-Cut-clause-book g c = book_if _ _ _ _ c.cut.ensures.acts c.cut.ensures.err
+
+pub returns-in-Finish-clause-charter : goal.returns-in-Finish-clause-charter
+returns-in-Finish-clause-charter g c = charter_of _ _ _ _ c.finish.ensures
+
+pub returns-in-Finish-clause-reply : goal.returns-in-Finish-clause-reply
+returns-in-Finish-clause-reply g c = rw c.in-Finish.is (c.finish.ensures.may)
+
+pub returns-in-Finish-clause-book : goal.returns-in-Finish-clause-book
+returns-in-Finish-clause-book g c = book_of _ _ _ _ c.finish.ensures
+
+pub returns-in-Abandon-clause-charter : goal.returns-in-Abandon-clause-charter
+returns-in-Abandon-clause-charter g c = charter_of _ _ _ _ c.abandon.ensures
+
+pub returns-in-Abandon-clause-reply : goal.returns-in-Abandon-clause-reply
+returns-in-Abandon-clause-reply g c = rw c.in-Abandon.is (c.abandon.ensures.may)
+
+pub returns-in-Abandon-clause-book : goal.returns-in-Abandon-clause-book
+returns-in-Abandon-clause-book g c = book_of _ _ _ _ c.abandon.ensures
+
+pub returns-in-Expire-clause-charter : goal.returns-in-Expire-clause-charter
+returns-in-Expire-clause-charter g c = charter_of _ _ _ _ c.expire.ensures
+
+pub returns-in-Expire-clause-reply : goal.returns-in-Expire-clause-reply
+returns-in-Expire-clause-reply g c = rw c.in-Expire.is (c.expire.ensures.may)
+
+pub returns-in-Expire-clause-book : goal.returns-in-Expire-clause-book
+returns-in-Expire-clause-book g c = book_of _ _ _ _ c.expire.ensures
+
+pub returns-in-SaveUses-clause-charter : goal.returns-in-SaveUses-clause-charter
+returns-in-SaveUses-clause-charter g c = charter_of _ _ _ _ c.save_uses.ensures
+
+pub returns-in-SaveUses-clause-reply : goal.returns-in-SaveUses-clause-reply
+returns-in-SaveUses-clause-reply g c = rw c.in-SaveUses.is (c.save_uses.ensures.may)
+
+pub returns-in-SaveUses-clause-book : goal.returns-in-SaveUses-clause-book
+returns-in-SaveUses-clause-book g c = book_of _ _ _ _ c.save_uses.ensures
+
+pub returns-in-Usage-clause-reply : goal.returns-in-Usage-clause-reply
+returns-in-Usage-clause-reply g c = rw c.in-Usage.is (c.usage.ensures.may)

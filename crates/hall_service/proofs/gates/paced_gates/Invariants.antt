@@ -1,5 +1,0 @@
-use Rattle.std.proofs.Common.{◌≡◌, length}
-use Rattle.hall_service.proofs.gates.paced_gates.Given as goal
-
-abbrev pub invariant-opening : goal.invariant-opening
-invariant-opening g l = length l.gates.items ≡ l.counter

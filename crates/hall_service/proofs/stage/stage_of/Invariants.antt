@@ -1,4 +1,0 @@
-use Rattle.hall_service.proofs.stage.stage_of.Given as goal
-
-abbrev pub ghost-make : goal.ghost-make
-ghost-make g a = g.told

@@ -1,3 +1,0 @@
-pub mod Idles
-pub mod Turns
-pub mod Runs

@@ -1,7 +1,0 @@
-pub mod Standings
-pub mod Hands
-pub mod Calls
-pub mod Views
-pub mod Rule
-pub mod Steps
-pub mod Seats

@@ -1,7 +1,0 @@
-pub mod Covered
-pub mod Job
-pub mod Order
-pub mod Places
-pub mod Reading
-pub mod Steps
-pub mod Themes

@@ -1,0 +1,96 @@
+-- Each saving leaves one metatile fewer with uses that aren't saved.
+use Rattle.std.proofs.Common.{ℕ, ◌≡◌, ◌≢◌, ◌≤◌, ◌+◌, suc, Bool, true, false, not, cond, List, [], ◌∷◌, ◌++◌, length, map, filter, find, Some, arith, refl, ap, subst, ◌∙◌}
+use Rattle.std.specs.Prelude.{◌==◌}
+use Rattle.std.proofs.lemmas.Bool.Decides.{nat_tests}
+use Rattle.cabinet.specs.Commands.{Saves}
+use Rattle.cabinet.specs.Counted.{use_of, uses, uses_of}
+use Rattle.cabinet.specs.declared.entry.Entry.TheVariants as entry
+use Rattle.cabinet.specs.declared.kept.Kept.{Kept}
+use Rattle.cabinet.specs.declared.replies.Saved.TheVariants as saved
+use Rattle.cabinet.specs.History.{History, with_uses}
+use Rattle.cabinet.specs.State.{State, blobs_counted, now}
+use Rattle.cabinet.proofs.Rows.{now_more}
+use Rattle.cabinet.proofs.UsesAfter.{counted_more}
+use Rattle.cabinet.proofs.WithUses.{set_same}
+use Rattle.expiry_policy.specs.declared.uses.Use.{Use}
+use Rattle.expiry_policy.specs.Victims.{all_saved, is_of}
+use Rattle.opened_cache.specs.Saving.{SavesMany}
+use Rattle.metatile_plan.specs.declared.metatile.MetaKey.{MetaKey}
+use Rattle.std.specs.Option.{option_map}
+
+-- it has uses that aren't saved
+abbrev is_unsaved : Use → Bool
+is_unsaved u = not (u.uses == u.saved)
+
+-- how many metatiles have such
+abbrev pub unsaved_count : State → ℕ
+unsaved_count s = length (filter is_unsaved (uses_of s))
+
+-- the uses of a metatile are saved
+abbrev saved_of : MetaKey → Use → Use
+saved_of m u = cond (is_of m u) (all_saved u) u
+
+-- THE USES after a saving
+
+counted_uses : (h : History) (m : MetaKey) (ts : List Kept)
+    → map (λ t. use_of (h ++ entry.Counted m (uses h m) ∷ []) t.meta) (map (with_uses m (uses h m)) ts) ≡ map (saved_of m) (map (λ t. use_of h t.meta) ts)
+counted_uses h m [] = refl
+counted_uses h m (t ∷ ts) = λ i. one i ∷ counted_uses h m ts i
+  where
+    then : History
+    then = h ++ entry.Counted m (uses h m) ∷ []
+
+    one : use_of then (with_uses m (uses h m) t).meta ≡ saved_of m (use_of h t.meta)
+    one = ap (use_of then) (set_same m (uses h m) (λ (x : Kept). x.meta) (λ x. refl) t) ∙ counted_more h m t.meta (uses h m) refl
+
+-- THEIR COUNT
+
+module _ (m : MetaKey) where
+  none_new : (us : List Use) → length (filter is_unsaved (map (saved_of m) us)) ≤ length (filter is_unsaved us)
+  none_new [] = omega arith
+  none_new (u ∷ us) = chosen (is_of m u) (is_unsaved u) refl (u.uses == u.uses) refl (none_new us)
+    where
+      chosen : (its unsaved : Bool) → is_unsaved u ≡ unsaved → (same : Bool) → (u.uses == u.uses) ≡ same
+          → length (filter is_unsaved (map (saved_of m) us)) ≤ length (filter is_unsaved us)
+          → length (filter is_unsaved (cond its (all_saved u) u ∷ map (saved_of m) us)) ≤ length (filter is_unsaved (u ∷ us))
+      chosen true true is true same h = rw (is, same) (omega (arith, h))
+      chosen true false is true same h = rw (is, same) (omega (arith, h))
+      chosen true unsaved is false same h = absurd (grind (arith, nat_tests))
+      chosen false true is same e h = rw is (omega (arith, h))
+      chosen false false is same e h = rw is (omega (arith, h))
+
+  one_less : (us : List Use) (v : Use) → find (is_of m) us ≡ Some v → is_unsaved v ≡ true → length (filter is_unsaved (map (saved_of m) us)) + 1 ≤ length (filter is_unsaved us)
+  one_less [] v found is = absurd (cc)
+  one_less (u ∷ us) v found is = chosen (is_of m u) (is_unsaved u) refl (u.uses == u.uses) refl (none_new us) (one_less us v) found
+    where
+      chosen : (its unsaved : Bool) → is_unsaved u ≡ unsaved → (same : Bool) → (u.uses == u.uses) ≡ same
+          → length (filter is_unsaved (map (saved_of m) us)) ≤ length (filter is_unsaved us)
+          → (find (is_of m) us ≡ Some v → is_unsaved v ≡ true → length (filter is_unsaved (map (saved_of m) us)) + 1 ≤ length (filter is_unsaved us))
+          → cond its (Some u) (find (is_of m) us) ≡ Some v
+          → length (filter is_unsaved (cond its (all_saved u) u ∷ map (saved_of m) us)) + 1 ≤ length (filter is_unsaved (u ∷ us))
+      chosen true true told true same all later there = rw (told, same) (omega (arith, all))
+      chosen true false told true same all later there = let e : u ≡ v = cc in absurd (cc (subst (λ x. is_unsaved x ≡ false) e told, is))
+      chosen true unsaved told false same all later there = absurd (grind (arith, nat_tests))
+      chosen false true told same e all later there = let l = later there is in rw told (omega (arith, l))
+      chosen false false told same e all later there = let l = later there is in rw told (omega (arith, l))
+
+-- A SAVING
+
+unsaved_so : (u : Use) → u.uses ≢ u.saved → is_unsaved u ≡ true
+unsaved_so u apart = grind (arith, nat_tests)
+
+pub saves_fewer : (s u : State) (m : MetaKey) → Saves s (saved.Done m) u → unsaved_count u + 1 ≤ unsaved_count s
+saves_fewer s u m row =
+    let v = row.0.0 in
+    let least = row.0.1 in
+    let n = uses s.history m in
+    let kept = now_more s (entry.Counted m n) (option_map (blobs_counted m n) s.blobs) in
+    rw (row.1, kept, counted_uses s.history m (now s).kept)
+    (one_less m (uses_of s) v least.held (unsaved_so v least.unsaved))
+
+-- one saving more
+pub saves_more : (n : ℕ) (s t u : State) (m : MetaKey) → SavesMany n s t → Saves t (saved.Done m) u → SavesMany (n + 1) s u
+saves_more n s t u m saves row = subst (λ k. SavesMany k s u) one (t, saves, (m, row))
+  where
+    one : suc n ≡ n + 1
+    one = omega arith

@@ -1,0 +1,87 @@
+-- What each status of a server says.
+use Rattle.std.specs.Prelude.{ℕ, ◌≡◌, Bool, List, length}
+use Rattle.atomic_table.specs.Seated.{TableId}
+use Rattle.cabinet.specs.State.{State}
+use Rattle.catalog.specs.declared.catalogue.Catalogue.{Catalogue}
+use Rattle.base.specs.Causes.{Rose}
+use Rattle.base.specs.Readings.{Readings}
+use Rattle.command_setup.specs.Setup.{AreRead, IsRefused}
+use Rattle.command_setup.specs.declared.configuration.Unconfigured.TheVariants as unconfigured
+use Rattle.command_status.specs.declared.status.Status.TheVariants as status
+use Rattle.command_status.specs.declared.status.Status.{Status}
+use Rattle.gate_journal.specs.declared.fault.OpenFault.{OpenFault}
+use Rattle.gate_journal.specs.declared.fault.OpenFault.TheVariants as fault
+use Rattle.server_workers.specs.First.{first_pass}
+use Rattle.server_workers.specs.Served.{HasServedOver, Listened}
+use Rattle.server_workers.specs.Stints.{LinkReading, Service}
+use Rattle.sessions.specs.Outside.{FaultCounts, InputChange}
+use Rattle.server_command.specs.Opened.{IsOpened, IsUnopened, ServerDisk}
+
+-- WHAT A SERVER IS HANDED
+
+-- its two files and its clock; how many links it is to serve, how contracts read them, which its listener had given before and after, and
+-- how often that had failed; and whether its caller told it that the cache is sound
+pub record ServerChange (L : Type 0) : Type 0 where
+  pub catalogue : InputChange
+  pub capabilities : InputChange
+  pub clock : Readings
+  pub connections : ℕ
+  pub reading : LinkReading L
+  pub given_before : List L
+  pub given_after : List L
+  pub accepts : FaultCounts
+  pub told : Bool
+
+-- WHAT IT CAME TO
+
+-- both files were read, and this holds of their catalogue and of the capabilities document
+abbrev pub WithBoth : {L : Type 0} → ServerChange L → (Catalogue → List ℕ → Type 0) → Type 0
+WithBoth h P = (c : Catalogue) × (document : List ℕ) × AreRead h.catalogue h.capabilities c document × P c document
+
+-- how the links of a server are served: by passes that had seen the opened cabinet's book, and from places at one board of jobs
+abbrev pub service_of : {L : Type 0} → ServerChange L → Catalogue → List ℕ → TableId → TableId → State → Service L
+service_of h c document table board opened = record { reading = h.reading; document = document; catalogue = c; board = board; first = first_pass table c h.told opened }
+
+-- how many links were asked for, those that the listener had given, and how often its accepts had failed
+abbrev pub listened : {L : Type 0} → ServerChange L → Listened L
+listened h = record { connections = h.connections; given_before = h.given_before; given_after = h.given_after; accepts = h.accepts }
+
+-- The cache of the disk was opened under the catalogue, and the links that the listener gave were served over it, by passes that had seen
+-- the opened cabinet's book.
+pub record HasServed {L D : Type 0} (h : ServerChange L) (d : ServerDisk D) (c : Catalogue) (document : List ℕ) : Type 0 where
+  pub opened : State
+  pub is_opened : IsOpened d c h.clock opened
+  pub table : TableId
+  pub board : TableId
+  pub over : HasServedOver (service_of h c document table board opened) (listened h)
+
+-- so it was, and as many links were given as were asked for
+abbrev pub HasServedAll : {L D : Type 0} → ServerChange L → ServerDisk D → Catalogue → List ℕ → Type 0
+HasServedAll h d c document = (s : HasServed h d c document) × (length s.over.links ≡ h.connections)
+
+-- A cache is refused by neither a fault of the disk nor want of memory, which have statuses of their own.
+abbrev pub IsCacheRefused : {L D : Type 0} → ServerChange L → ServerDisk D → OpenFault → Type 0
+IsCacheRefused h d fault.DiskFault = ⊥
+IsCacheRefused h d fault.OutOfMemory = ⊥
+IsCacheRefused h d fault.NotACache = WithBoth h (λ c _. IsUnopened d fault.NotACache c)
+IsCacheRefused h d (fault.CatalogueDiffers found asked) = WithBoth h (λ c _. IsUnopened d (fault.CatalogueDiffers found asked) c)
+IsCacheRefused h d (fault.BadRecord slot) = WithBoth h (λ c _. IsUnopened d (fault.BadRecord slot) c)
+IsCacheRefused h d fault.Spent = WithBoth h (λ c _. IsUnopened d fault.Spent c)
+
+-- What each status says. Every one but `Done` and `ListenFault` comes before the first link is asked for: the listener stays as it was.
+abbrev pub HasEnded : {L D : Type 0} → ServerChange L → ServerDisk D → Type 0 → Type 0 → Status → Type 0
+HasEnded h d CapabilitiesStay ListenerStays status.Done = WithBoth h (HasServedAll h d)
+HasEnded h d CapabilitiesStay ListenerStays status.ListenFault = WithBoth h (HasServed h d) × Rose h.accepts.before h.accepts.after
+HasEnded h d CapabilitiesStay ListenerStays (status.Catalogue f) = IsRefused h.catalogue h.capabilities CapabilitiesStay (unconfigured.Fault f) × ListenerStays
+HasEnded h d CapabilitiesStay ListenerStays status.ReadFault = IsRefused h.catalogue h.capabilities CapabilitiesStay unconfigured.ReadFault × ListenerStays
+HasEnded h d CapabilitiesStay ListenerStays status.TooLong = IsRefused h.catalogue h.capabilities CapabilitiesStay unconfigured.TooLong × ListenerStays
+HasEnded h d CapabilitiesStay ListenerStays (status.Cache f) = IsCacheRefused h d f × ListenerStays
+HasEnded h d CapabilitiesStay ListenerStays status.DiskFault = WithBoth h (λ c _. IsUnopened d fault.DiskFault c) × ListenerStays
+HasEnded h d CapabilitiesStay ListenerStays status.OutOfMemory = ListenerStays
+HasEnded h d CapabilitiesStay ListenerStays status.ThreadFault = ListenerStays
+HasEnded h d CapabilitiesStay ListenerStays status.Usage = ⊥
+HasEnded h d CapabilitiesStay ListenerStays status.WriteFault = ⊥
+HasEnded h d CapabilitiesStay ListenerStays (status.Line n) = ⊥
+HasEnded h d CapabilitiesStay ListenerStays status.CutsFull = ⊥
+HasEnded h d CapabilitiesStay ListenerStays (status.Stream session) = ⊥
+HasEnded h d CapabilitiesStay ListenerStays (status.Form cause) = ⊥

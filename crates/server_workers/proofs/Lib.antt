@@ -1,0 +1,13 @@
+pub mod Crews
+pub mod Supplied
+pub mod Shared
+pub mod Hearing
+pub mod Holding
+pub mod Between
+pub mod JobTurns
+pub mod Stopping
+pub mod Knowing
+pub mod Closing
+pub mod Gathering
+pub mod PassCounts
+pub mod Upkept

@@ -1,4 +1,0 @@
-use Rattle.tile_serving.proofs.server.run_server.Given as goal
-
-abbrev pub ghost-made_ready : goal.ghost-made_ready
-ghost-made_ready g a = a._mark.now.value

@@ -1,4 +1,0 @@
-use Rattle.tile_serving.proofs.setup.made_ready.Given as goal
-
-abbrev pub ghost-world_on : goal.ghost-world_on
-ghost-world_on g a = g.told

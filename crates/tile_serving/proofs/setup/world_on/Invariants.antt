@@ -1,4 +1,0 @@
-use Rattle.tile_serving.proofs.setup.world_on.Given as goal
-
-abbrev pub ghost-stage_of : goal.ghost-stage_of
-ghost-stage_of g a = g.told
