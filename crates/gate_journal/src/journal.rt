@@ -198,6 +198,7 @@ impl Journal {
             disk.write_at(start + 64 * done, piece)?;
             done += count;
         }
+        // The half is safe before its header speaks of it.
         disk.sync()?;
         Ok(())
     }
