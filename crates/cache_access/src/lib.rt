@@ -12,16 +12,16 @@
 mod access;
 mod alone;
 mod fault;
-mod getting;
+mod get_tile;
 mod making;
+mod refresh_metatile;
 mod refreshed;
-mod refreshing;
 mod remaking;
 mod requesting;
 
 pub use access::Access;
 pub use alone::Alone;
 pub use fault::GetFault;
-pub use getting::get;
+pub use get_tile::get;
+pub use refresh_metatile::refresh;
 pub use refreshed::Refreshed;
-pub use refreshing::refresh;

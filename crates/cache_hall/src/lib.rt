@@ -9,14 +9,14 @@
 //! Stands on cache_access, cabinet_chest, turnstile and base.
 #![tactic(auto)]
 
-mod getting;
+mod get_tile;
 mod hall;
-mod refreshing;
+mod refresh_metatile;
 mod shared;
 mod turns;
 mod waiting;
 
-pub use getting::get;
+pub use get_tile::get;
 pub use hall::{Hall, HallEntry};
-pub use refreshing::refresh;
+pub use refresh_metatile::refresh;
 pub use shared::Shared;

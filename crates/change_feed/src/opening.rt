@@ -9,7 +9,7 @@ ghost use Rattle.gate_journal.specs.Sound.{IsSettled, digest_of};
 
 use crate::feed::Feed;
 use crate::reader::MarkReader;
-use cache_file::{CacheFile, opening};
+use cache_file::CacheFile;
 use catalog::Catalogue;
 use disk_model::{Disk, Failed};
 use gate_journal::OpenFault;
@@ -41,7 +41,7 @@ impl<D: Disk> Feed<D> {
         ensures made { IsTrue (D.told marks.old) → OnOk result (Every (D.state marks.new).may_leave (EndsIn catalogue.now.digest None)) }
         ensures cause { HasCause (D.faults marks.old) (D.faults marks.new) result }
     {
-        opening::make(marks, &catalogue.digest, SLOTS)
+        cache_file::make(marks, &catalogue.digest, SLOTS)
     }
 
     /// Opens a feed from the file of its marks: syncs the disk, and reads its marks. The disk holds what `make` and feeds wrote there.

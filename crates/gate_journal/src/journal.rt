@@ -1,9 +1,9 @@
 //! A journal: its type, how it is opened, and its calls.
 ghost use Rattle.std.specs.Prelude.{◌+◌, ◌*◌, ◌<◌, ◌≤◌, ◌^◌};
 
-use crate::choosing::choose;
 use crate::fault::OpenFault;
 use crate::half::{AT_ONCE, Half};
+use crate::half_in_force::choose;
 use crate::header::header_body;
 use crate::opened::Opened;
 use crate::pieces::fill_piece;

@@ -8,10 +8,10 @@
 //! Stands on disk_model and base.
 #![tactic(auto)]
 
-mod choosing;
 mod collecting;
 mod fault;
 mod half;
+mod half_in_force;
 mod header;
 mod journal;
 mod laws;

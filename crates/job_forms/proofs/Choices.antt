@@ -14,7 +14,7 @@ use Rattle.truncation_list.specs.declared.cover.Cover.{Cover}
 use Rattle.truncation_list.proofs.Decided.{both, eq_is, is_eq, join}
 use Rattle.job_forms.specs.Themes.{styles_of, themes, themes_with, values_from, wanted_of}
 use Rattle.job_forms.proofs.Members.{Has, flat_has, has_flat, has_map, has_range, map_has, range_has}
-use Rattle.job_forms.proofs.Values.{rows_with, wanted_at}
+use Rattle.job_forms.proofs.ThemeValues.{rows_with, wanted_at}
 use Rattle.job_forms.proofs.ZoomSteps.{within_some}
 
 -- ONE NUMBER

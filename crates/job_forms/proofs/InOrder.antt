@@ -10,7 +10,7 @@ use Rattle.job_forms.specs.Places.{from_to, metas_at, metas_in, metas_in_row, me
 use Rattle.job_forms.specs.Themes.{styles_of, themes, themes_with, values_from, wanted_of}
 use Rattle.job_forms.proofs.CoveredMetas.{metas_has, some_has}
 use Rattle.job_forms.proofs.Members.{Has, IsApart, IsRising, flat_has, map_has, rising_apart, rising_flat, rising_map, rising_range}
-use Rattle.job_forms.proofs.Values.{rows_with, wanted_at}
+use Rattle.job_forms.proofs.ThemeValues.{rows_with, wanted_at}
 
 -- LISTS OF NUMBERS
 

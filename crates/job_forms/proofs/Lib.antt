@@ -8,6 +8,6 @@ mod InOrder
 mod Pieces
 mod PlaceLists
 mod Products
-mod Values
+mod ThemeValues
 mod WantedCounts
 mod ZoomSteps

@@ -82,7 +82,7 @@ fn row_at(catalogue: &Catalogue, cover: &Cover, place: u128) -> Row
 }
 
 /// The theme at this place among those that a cover is for.
-#[tactic(auto, using(crate::proofs::Values::style_within, crate::proofs::Values::theme_stands))]
+#[tactic(auto, using(crate::proofs::ThemeValues::style_within, crate::proofs::ThemeValues::theme_stands))]
 pub fn theme_at(catalogue: &Catalogue, cover: &Cover, place: u128) -> Theme
     requires valid { IsValid catalogue.now }
     requires cover { IsCoverOf catalogue.now cover.now }

@@ -10,7 +10,7 @@ ghost use Rattle.outbox.specs.Opens.{asked_for, disk_of};
 
 use crate::outbox::{Outbox, SLOTS};
 use crate::reader::PostReader;
-use cache_file::{CacheFile, opening};
+use cache_file::CacheFile;
 use catalog::Catalogue;
 use disk_model::{Disk, Failed};
 use gate_journal::OpenFault;
@@ -40,7 +40,7 @@ impl<D: Disk> Outbox<D> {
         ensures made { IsTrue (D.told disk.old) → OnOk result (Every (D.state disk.new).may_leave (λ image. OpensToPosts catalogue.now image [])) }
         ensures cause { HasCause (D.faults disk.old) (D.faults disk.new) result }
     {
-        opening::make(disk, &catalogue.digest, SLOTS)
+        cache_file::make(disk, &catalogue.digest, SLOTS)
     }
 
     /// Opens an outbox from its file, whose posts are of this catalogue: syncs the disk, and reads its posts. None of them was heard as

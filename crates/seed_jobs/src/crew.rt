@@ -14,7 +14,7 @@ use crate::gathering::gather;
 use crate::member::Member;
 use crate::tally::Tally;
 use crate::totals::total;
-use crate::working::work;
+use crate::worker::work;
 use cabinet::Keeper;
 use cache_hall::Hall;
 use job_board::{Hand, JobSheet};

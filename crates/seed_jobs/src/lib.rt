@@ -26,7 +26,7 @@ mod running;
 mod tally;
 mod totals;
 mod visiting;
-mod working;
+mod worker;
 
 pub use crew::{CrewEnd, run_seed};
 pub use gate::{Gate, OpenGate};
@@ -37,4 +37,4 @@ pub use pacing::{Pace, PacedGate};
 pub use runner::{IdleMember, MEMBERS, Runner};
 pub use running::run_jobs;
 pub use tally::Tally;
-pub use working::work;
+pub use worker::work;

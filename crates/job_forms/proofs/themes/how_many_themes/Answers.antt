@@ -1,6 +1,6 @@
 use Rattle.std.proofs.Common.{rules, ◌∙◌}
 use Rattle.job_forms.specs.Steps.{numbers}
-use Rattle.job_forms.proofs.Values.{AreWanted, themes_product}
+use Rattle.job_forms.proofs.ThemeValues.{AreWanted, themes_product}
 use Rattle.job_forms.proofs.themes.how_many_themes.Goals as goal
 
 pub returns-clause-value : goal.returns-clause-value

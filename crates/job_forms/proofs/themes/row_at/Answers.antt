@@ -1,6 +1,6 @@
 use Rattle.std.proofs.Common.{rules}
 use Rattle.job_forms.specs.Steps.{numbers}
-use Rattle.job_forms.proofs.Values.{AreWanted, wanted_stands}
+use Rattle.job_forms.proofs.ThemeValues.{AreWanted, wanted_stands}
 use Rattle.job_forms.proofs.themes.row_at.Goals as goal
 
 pub returns : goal.returns

@@ -2,7 +2,7 @@ use Rattle.std.proofs.Common.{◌-◌, length}
 use Rattle.job_board.specs.Hands.{own}
 use Rattle.seed_jobs.specs.Workers.{Worker}
 use Rattle.seed_jobs.proofs.Working.{IsAtWork}
-use Rattle.seed_jobs.proofs.working.work.Given as goal
+use Rattle.seed_jobs.proofs.worker.work.Given as goal
 
 abbrev pub invariant-working : goal.invariant-working
 invariant-working g l =

@@ -1,5 +1,5 @@
 use Rattle.seed_jobs.proofs.Working.{at_first, countable, goes_on, works}
-use Rattle.seed_jobs.proofs.working.work.Goals as goal
+use Rattle.seed_jobs.proofs.worker.work.Goals as goal
 
 pub working-init : goal.working-init
 working-init g c = rw c.new-tally.ensures (at_first _ _ _ _ _ c.requires.worker)

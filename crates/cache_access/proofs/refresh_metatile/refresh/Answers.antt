@@ -6,7 +6,7 @@ use Rattle.cache_access.specs.declared.requesting.Requested.{Requested}
 use Rattle.cache_access.specs.Made.{Remakes}
 use Rattle.cache_access.specs.Requested.{HasAwaited}
 use Rattle.cache_access.proofs.Refreshing.{refreshed_kept, refreshed_made, ticket_meta}
-use Rattle.cache_access.proofs.refreshing.refresh.Goals as goal
+use Rattle.cache_access.proofs.refresh_metatile.refresh.Goals as goal
 
 pub remake-requires-clause-meta : goal.remake-requires-clause-meta
 remake-requires-clause-meta g c =

@@ -6,7 +6,7 @@ use Rattle.cache_access.specs.Made.{Makes}
 use Rattle.cache_access.specs.Waits.{HasWaited}
 use Rattle.cache_access.proofs.Asked.{ticket_for}
 use Rattle.cache_access.proofs.Getting.{got_kept, got_made}
-use Rattle.cache_access.proofs.getting.get.Goals as goal
+use Rattle.cache_access.proofs.get_tile.get.Goals as goal
 
 pub make-requires-clause-ticket : goal.make-requires-clause-ticket
 make-requires-clause-ticket g c =

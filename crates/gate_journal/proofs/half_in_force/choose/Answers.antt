@@ -5,7 +5,7 @@ use Rattle.gate_journal.specs.Opened.{differs}
 use Rattle.gate_journal.specs.Reading.{Says}
 use Rattle.gate_journal.proofs.Choosing.{opened_none, opened_differs, from_not_true, from_not_false, same_lists_of}
 use Rattle.gate_journal.proofs.Steps.{quiet_then}
-use Rattle.gate_journal.proofs.choosing.choose.Goals as goal
+use Rattle.gate_journal.proofs.half_in_force.choose.Goals as goal
 
 pub returns-in_default : goal.returns-in_default
 returns-in_default g c =
