@@ -3,7 +3,7 @@ ghost use Rattle.std.specs.Prelude.{◌≡◌};
 ghost use Rattle.gate_journal.specs.Layout.{journal_length};
 ghost use Rattle.gate_journal.specs.Sound.{slots_of};
 
-use disk_model::Failed;
+use disk_model::{Disk, Failed};
 use gate_journal::{Journal, OpenFault, Visit};
 use metatile_plan::Span;
 use std::alloc::Global;
