@@ -15,5 +15,6 @@ mod shown;
 
 pub use chest::CabinetChest;
 pub use command::{Command, Counts, Reply};
+pub use counting::counts_of;
 pub use laws::laws_of_numbers;
 pub use shown::{Note, Shown};

@@ -4,3 +4,6 @@ pub mod Turning
 pub mod Asked
 pub mod Getting
 pub mod Refreshing
+pub mod Going
+pub mod KeepingUp
+pub mod LoneUpkeep

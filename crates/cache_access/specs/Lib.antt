@@ -6,3 +6,4 @@ pub mod Stepping
 pub mod Refreshes
 pub mod Requested
 pub mod Made
+pub mod KeepsUp

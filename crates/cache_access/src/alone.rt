@@ -1,11 +1,8 @@
 //! The way to a cache of a thread that has it for itself.
-ghost use Rattle.std.specs.Prelude.{length, ◌≡◌, ◌≤◌};
-ghost use Rattle.cabinet_chest.specs.Counts.{counts_of};
-
 use crate::access::Access;
 use base::SharedText;
 use cabinet::{Asked, CutReply, Expired, Finished, Forced, Keeper, Saved};
-use cabinet_chest::Counts;
+use cabinet_chest::{Counts, counts_of};
 use catalog::Catalogue;
 use matrix_geometry::Address;
 use metatile_locks::Ticket;
@@ -25,26 +22,6 @@ impl<K: Keeper> Alone<K> {
     /// The way to any cabinet of this type.
     pub fn new() -> Alone<K> {
         Alone { of: PhantomData }
-    }
-}
-
-/// What is kept of the layer with this number, or of all layers if the number is how many there are.
-fn counts_of<K: Keeper>(keeper: &K, layer: u32) -> Counts
-    requires { layer ≤ length (K.state keeper.now).catalogue.layers }
-    ensures { result ≡ counts_of (K.state keeper.now) layer }
-{
-    let cuts = keeper.cuts();
-    if (layer as usize) < keeper.catalogue().layers.len() {
-        return Counts {
-            metatiles: keeper.kept_in(layer),
-            bytes: keeper.used(layer),
-            cuts,
-        };
-    }
-    Counts {
-        metatiles: keeper.kept(),
-        bytes: keeper.used_all(),
-        cuts,
     }
 }
 

@@ -11,7 +11,8 @@ ghost use Rattle.opened_cache.specs.Crash.{LastsThrough};
 ghost use Rattle.sessions.specs.Outside.{OutputChange, counts};
 
 use base::Clock;
-use cabinet::{Expired, Keeper, laws_of_rows};
+use cabinet::Keeper;
+use cache_access::{Alone, Upkept, expire_until_within};
 use catalog::Catalogue;
 use command_status::{Status, status_of_opening};
 use disk_model::Disk;
@@ -47,18 +48,13 @@ fn drop_all<C: Keeper>(cabinet: &mut C) -> Option<u32>
     ensures dropped { result ≡ None → (n : ℕ) × Drops n (C.state cabinet.old) (C.state cabinet.new) }
     ensures lasts { C.outlasts cabinet.old cabinet.new }
 {
-    let most = cabinet.kept();
-    let mut dropped = 0;
-    'dropping: while dropped <= most {
-        cabinet.known();
-        laws_of_rows();
-        match cabinet.expire() {
-            Expired::Dropped(_) => dropped += 1,
-            Expired::DiskFault(_, _) => return None,
-            Expired::Within => return Some(dropped),
-        }
+    // each turn but the last drops a metatile that is kept
+    let most = u64::from(cabinet.kept()) + 1;
+    match expire_until_within(&Alone::new(), cabinet, most) {
+        Upkept::Done(dropped) => Some(dropped as u32),
+        Upkept::DiskFault(_) => None,
+        Upkept::Stopped => unreachable!(),
     }
-    unreachable!()
 }
 
 /// Tells how many were dropped.

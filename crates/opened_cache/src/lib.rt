@@ -5,8 +5,8 @@
 //! at every moment of the opening a crash leaves a cache that answers for every truncation that was in force, and once it is closed for all
 //! that the cabinet answers for (`specs/Crash.antt`); uses are saved until all are or the disk fails (`specs/Saving.antt`); an
 //! input is read whole, or the status tells why not (`specs/Inputs.antt`).
-//! Stands on durable_cabinet, whose cabinet it opens, on gate_journal, whose faults it hands on, on command_status for how a word ends, on
-//! tile_requests for small texts, and on the crates whose types its calls name.
+//! Stands on durable_cabinet, whose cabinet it opens, on cache_access, by which it saves uses, on gate_journal, whose faults it hands on, on
+//! command_status for how a word ends, on tile_requests for small texts, and on the crates whose types its calls name.
 #![tactic(auto)]
 
 mod input;

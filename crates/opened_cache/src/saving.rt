@@ -5,7 +5,8 @@ ghost use Rattle.cache_core.specs.Lasting.{Lasting};
 ghost use Rattle.opened_cache.specs.Saving.{SavesAll};
 ghost use Rattle.sessions.specs.Outside.{counts};
 
-use cabinet::{Keeper, Saved, laws_of_rows};
+use cabinet::Keeper;
+use cache_access::{Alone, save_uses_of};
 
 /// Saves the uses of one metatile after the other, until all are saved or the disk fails. It takes no memory.
 pub fn save_all<C: Keeper>(cabinet: &mut C)
@@ -14,13 +15,8 @@ pub fn save_all<C: Keeper>(cabinet: &mut C)
     ensures known { IsKnown (C.state cabinet.new) }
     ensures later { C.faults cabinet.old ≤ C.faults cabinet.new }
 {
-    'saving: loop {
-        cabinet.known();
-        laws_of_rows();
-        match cabinet.save_uses() {
-            Saved::Done(_) => {}
-            Saved::DiskFault(_, _) => return,
-            Saved::Within => return,
-        }
-    }
+    // each turn but the last saves the uses of a metatile that is kept
+    let most = u64::from(cabinet.kept()) + 1;
+    let _ = save_uses_of(&Alone::new(), cabinet, most);
+    cabinet.known();
 }

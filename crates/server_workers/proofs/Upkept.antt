@@ -1,12 +1,18 @@
 -- The turns of an upkeep, one after the other.
-use Rattle.std.proofs.Common.{◌≡◌, ◌||◌, ◌∙◌, Bool, true, false, IsTrue, List, [], ◌∷◌, ◌++◌, inl, inr, ap, subst, sym}
-use Rattle.std.proofs.lemmas.List.Elements.{All-nil, All-push, All-append, Contains-append_left, Contains-push}
+use Rattle.std.proofs.Common.{ℕ, ◌≡◌, ◌||◌, ◌∙◌, Bool, true, false, IsTrue, List, [], ◌∷◌, ◌++◌, length, inl, inr, ap, subst, sym}
+use Rattle.std.proofs.lemmas.List.Elements.{All-nil, All-cons, All-append, Contains-append_left, Contains-push}
+use Rattle.std.specs.Prelude.{All}
 use Rattle.std.specs.List.{Contains}
-use Rattle.cabinet_chest.specs.declared.command.Command.TheVariants as command
 use Rattle.cabinet_chest.specs.declared.command.Reply.{Reply}
+use Rattle.cabinet_chest.specs.declared.shown.Note.{Note}
+use Rattle.cache_access.specs.declared.upkept.Upkept.{Upkept}
+use Rattle.cache_access.specs.declared.upkept.Upkept.TheVariants.{Done, DiskFault, Stopped}
+use Rattle.cache_access.specs.KeepsUp.{AreDone, Chore, EndsAs, KeepsUp, dropping, saving}
+use Rattle.cache_access.specs.Turned.{IsOf}
 use Rattle.cache_hall.specs.Gained.{gains_more, gains_none}
-use Rattle.cache_hall.specs.Turned.{GainsOne, HallPass}
+use Rattle.cache_hall.specs.Turned.{Gains, HallPass}
 use Rattle.catalog.specs.declared.catalogue.Catalogue.{Catalogue}
+use Rattle.turnstile.specs.declared.view.Made.{Made}
 use Rattle.server_workers.specs.Upkept.{HasKeptUp, IsKeptUpBy, IsUpkeep, has_quota}
 use Rattle.server_workers.proofs.Between.{HasTurnsAt, more_turns, no_turns, of_turns}
 
@@ -27,13 +33,33 @@ kept_more c p q r first then = record {
   all = All-append (IsUpkeep c) first.turns then.turns first.all then.all;
 }
 
-pub expired : (c : Catalogue) (p q r : HallPass) (answer : Reply) → HasKeptUp c p q → GainsOne c q r command.Expire answer → HasKeptUp c p r
-expired c p q r answer before one =
-    kept_more c p q r before record { turns = one.turn ∷ []; gains = one.gains; all = All-push (IsUpkeep c) [] one.turn (All-nil (IsUpkeep c)) (inl one.of.command) }
+-- BY UPKEEP of one kind, whose turns may be made
 
-pub saved : (c : Catalogue) (p q r : HallPass) (answer : Reply) → IsTrue (has_quota c) → HasKeptUp c p q → GainsOne c q r command.SaveUses answer → HasKeptUp c p r
-saved c p q r answer has before one =
-    kept_more c p q r before record { turns = one.turn ∷ []; gains = one.gains; all = All-push (IsUpkeep c) [] one.turn (All-nil (IsUpkeep c)) (inr (one.of.command, has)) }
+module _ (c : Catalogue) (chore : Chore) (may : (m : Made Note) → m.note.command ≡ chore.does → IsUpkeep c m) where
+  all_may : (turns : List (Made Note)) → AreDone chore turns → All (IsUpkeep c) turns
+  all_may [] done = All-nil (IsUpkeep c)
+  all_may (m ∷ turns) (did, done) = All-cons (IsUpkeep c) m turns (may m did.1.command) (all_may turns done)
+
+  one_may : (ends : List (Made Note)) (m : Made Note) (r : Reply) → ends ≡ m ∷ [] → IsOf chore.does r m → All (IsUpkeep c) ends
+  one_may ends m r one is = subst (All (IsUpkeep c)) (sym one) (All-cons (IsUpkeep c) m [] (may m is.command) (All-nil (IsUpkeep c)))
+
+  ends_may : (most many : ℕ) (ends : List (Made Note)) (r : Upkept) → EndsAs chore most many ends r → All (IsUpkeep c) ends
+  ends_may most many ends (Done n) (same, (m, one, is)) = one_may ends m chore.nothing one is
+  ends_may most many ends (DiskFault n) (same, (m, b, a, one, is)) = one_may ends m (chore.failed b a) one is
+  ends_may most many ends Stopped (same, none) = subst (All (IsUpkeep c)) (sym none) (All-nil (IsUpkeep c))
+
+  kept_by : (p q : HallPass) (most : ℕ) (r : Upkept) → KeepsUp (Gains c) chore most p q r → HasKeptUp c p q
+  kept_by p q most r h = record {
+    turns = h.turns ++ h.ends;
+    gains = h.gains;
+    all = All-append (IsUpkeep c) h.turns h.ends (all_may h.turns h.done) (ends_may most (length h.turns) h.ends r h.over);
+  }
+
+pub kept_by_drops : (c : Catalogue) (p q : HallPass) (most : ℕ) (r : Upkept) → KeepsUp (Gains c) dropping most p q r → HasKeptUp c p q
+kept_by_drops c = kept_by c dropping (λ m is. inl is)
+
+pub kept_by_savings : (c : Catalogue) (p q : HallPass) (most : ℕ) (r : Upkept) → IsTrue (has_quota c) → KeepsUp (Gains c) saving most p q r → HasKeptUp c p q
+kept_by_savings c p q most r has h = kept_by c saving (λ m is. inr (is, has)) p q most r h
 
 -- such turns are at a cabinet of the catalogue
 pub of_upkeep : (c : Catalogue) (before after : HallPass) → before.made ≡ [] → HasKeptUp c before after → HasTurnsAt c after

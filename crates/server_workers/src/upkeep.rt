@@ -4,9 +4,9 @@ ghost use Rattle.std.specs.Prelude.{IsTrue, is_some, ◌≡◌};
 ghost use Rattle.cache_hall.specs.Turned.{IsPassOf};
 ghost use Rattle.server_workers.specs.Upkept.{HasKeptUp, has_quota};
 
-use cabinet::{Expired, Keeper, Saved};
+use cabinet::Keeper;
 use cabinet_chest::CabinetChest;
-use cache_access::Access;
+use cache_access::{expire_until_within, save_uses_of};
 use cache_hall::{Hall, Shared};
 use catalog::{Catalogue, Layer};
 use std::sync::Wait;
@@ -18,7 +18,7 @@ use turnstile::Pass;
 const SAVING: u64 = 1000;
 
 /// Of how many metatiles a round saves the uses at most, one turn each.
-const ROUND: u32 = 8;
+const ROUND: u64 = 8;
 
 /// What tells others that a work has ended.
 #[derive(Drop)]
@@ -64,55 +64,35 @@ fn has_quota(catalogue: &Catalogue) -> bool
 }
 
 /// Drops metatiles until no quota is exceeded or the disk fails.
-#[tactic(auto, using(crate::proofs::Upkept::kept_nothing, crate::proofs::Upkept::expired))]
+#[tactic(auto, using(crate::proofs::Upkept::kept_by_drops))]
 fn expire_all<R: Wait, K: Keeper>(rt: &R, hall: &Hall<K>, pass: &mut Pass<CabinetChest<K>>)
     requires { IsPassOf hall.now.turnstile.table hall.now.catalogue pass.old }
     ensures of { IsPassOf hall.now.turnstile.table hall.now.catalogue pass.new }
     ensures keeps { HasKeptUp hall.now.catalogue pass.old pass.new }
 {
-    let access = Shared { rt, hall };
-    'expiring: for _ in rt.forever() {
-        match access.expire(pass) {
-            Expired::Dropped(_) => {}
-            Expired::Within | Expired::DiskFault(_, _) => return,
-        }
-    }
-    unreachable!()
+    let _ = expire_until_within(&Shared { rt, hall }, pass, u64::MAX);
 }
 
 /// Saves uses until all are saved or the disk fails.
-#[tactic(auto, using(crate::proofs::Upkept::kept_nothing, crate::proofs::Upkept::saved))]
+#[tactic(auto, using(crate::proofs::Upkept::kept_by_savings))]
 fn save_all<R: Wait, K: Keeper>(rt: &R, hall: &Hall<K>, pass: &mut Pass<CabinetChest<K>>)
     requires of { IsPassOf hall.now.turnstile.table hall.now.catalogue pass.old }
     requires quota { IsTrue (has_quota hall.now.catalogue) }
     ensures of { IsPassOf hall.now.turnstile.table hall.now.catalogue pass.new }
     ensures keeps { HasKeptUp hall.now.catalogue pass.old pass.new }
 {
-    let access = Shared { rt, hall };
-    'saving: for _ in rt.forever() {
-        match access.save_uses(pass) {
-            Saved::Done(_) => {}
-            Saved::Within | Saved::DiskFault(_, _) => return,
-        }
-    }
-    unreachable!()
+    let _ = save_uses_of(&Shared { rt, hall }, pass, u64::MAX);
 }
 
 /// Saves the uses of a few metatiles, one turn each, until all are saved or the disk fails. Who waits for a turn has it in between.
-#[tactic(auto, using(crate::proofs::Upkept::kept_nothing, crate::proofs::Upkept::saved))]
+#[tactic(auto, using(crate::proofs::Upkept::kept_by_savings))]
 fn save_round<R: Wait, K: Keeper>(rt: &R, hall: &Hall<K>, pass: &mut Pass<CabinetChest<K>>)
     requires of { IsPassOf hall.now.turnstile.table hall.now.catalogue pass.old }
     requires quota { IsTrue (has_quota hall.now.catalogue) }
     ensures of { IsPassOf hall.now.turnstile.table hall.now.catalogue pass.new }
     ensures keeps { HasKeptUp hall.now.catalogue pass.old pass.new }
 {
-    let access = Shared { rt, hall };
-    'round: for _ in 0..ROUND {
-        match access.save_uses(pass) {
-            Saved::Done(_) => {}
-            Saved::Within | Saved::DiskFault(_, _) => return,
-        }
-    }
+    let _ = save_uses_of(&Shared { rt, hall }, pass, ROUND);
 }
 
 /// The time in milliseconds, on a clock that never goes back. A clock that can't be read stands still.

@@ -8,5 +8,4 @@ pub mod LoneTurns
 pub mod LoneRuns
 pub mod LoneRefreshes
 pub mod Counts
-pub mod Going
 pub mod LoneAtOnce

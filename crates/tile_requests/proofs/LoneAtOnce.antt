@@ -1,5 +1,5 @@
 -- Requests that are answered without a render, by a thread that has the cabinet for itself.
-use Rattle.std.proofs.Common.{ℕ, ◌≡◌, ◌+◌, ◌<◌, ◌≤◌, Bool, true, false, List, [], ◌∷◌, ◌++◌, length, Option, Some, None, inl, inr, refl, sym, ap, subst, ◌∙◌, arith}
+use Rattle.std.proofs.Common.{ℕ, ◌≡◌, ◌+◌, ◌<◌, ◌≤◌, Bool, true, false, List, [], ◌∷◌, length, Option, Some, None, inl, inr, refl, sym, ap, subst, ◌∙◌, arith}
 use Rattle.std.proofs.lemmas.Bool.Decides.{nat_tests}
 use Rattle.std.specs.Prelude.{IsSome, nat_lt, if◌then◌else◌}
 use Rattle.cabinet.specs.declared.replies.CutReply.{CutReply}
@@ -19,6 +19,7 @@ use Rattle.cabinet_chest.specs.declared.shown.Shown.{Shown}
 use Rattle.cabinet_chest.specs.Counts.{counts_in_all, counts_in_layer, counts_of}
 use Rattle.cabinet_chest.specs.Replies.{IsReplyTo, MayReply}
 use Rattle.cache_access.specs.Alone.{AreSteps, IsStep}
+use Rattle.cache_access.proofs.LoneUpkeep.{steps_split}
 use Rattle.catalog.specs.declared.catalogue.Catalogue.{Catalogue}
 use Rattle.catalog.specs.declared.catalogue.Scope.{Scope}
 use Rattle.catalog.specs.declared.layer.Layer.{Layer}
@@ -134,16 +135,6 @@ module _ (c : Catalogue) (b a : Shown) (does : Command) (r : Reply) (may : MayRe
 
 unsure : (m : Made Note) (c : Catalogue) (x : Shown) → IsStep c x m → MayReply c false m.note.before m.note.after m.note.command m.note.reply
 unsure m c x step = step.reply false (λ e. absurd (cc))
-
--- the disk has failed no less often behind turns
-pub steps_later : (c : Catalogue) (ms : List (Made Note)) (x y : Shown) → AreSteps c x ms y → x.faults ≤ y.faults
-steps_later c [] x y steps = steps.1
-steps_later c (m ∷ ms) x y steps = let later = steps_later c ms m.note.after y steps.1 in omega (arith, later, steps.0.later, (unsure m c x steps.0).later)
-
--- a split of turns
-steps_split : (c : Catalogue) (ms ns : List (Made Note)) (x y : Shown) → AreSteps c x (ms ++ ns) y → (z : Shown) × AreSteps c x ms z × AreSteps c z ns y
-steps_split c [] ns x y steps = (x, (refl, omega arith), steps)
-steps_split c (m ∷ ms) ns x y steps = let later = steps_split c ms ns m.note.after y steps.1 in (later.0, (steps.0, later.1), later.2)
 
 -- a count changes nothing
 count_stays : (c : Catalogue) (x : Shown) (m : Made Note) (layer : ℕ) (n : Counts) → IsStep c x m → IsCount layer n m → (n ≡ counts_of x.state layer) × (m.note.after.state ≡ x.state)

@@ -3,7 +3,7 @@ use Rattle.std.specs.Prelude.{Some}
 use Rattle.std.proofs.lemmas.List.{take_more}
 use Rattle.catalog.specs.declared.catalogue.Catalogue.{Catalogue}
 use Rattle.catalog.specs.Valid.{IsValid}
-use Rattle.tile_requests.proofs.Going.{goes_here, goes_on}
+use Rattle.cache_access.proofs.Going.{goes_here, goes_on}
 use Rattle.layer_recipes.specs.declared.recipe.Part.{Part}
 use Rattle.layer_recipes.specs.OfCatalogue.{IsPartOf, IsPlaceIn}
 use Rattle.composite_layers.specs.OverAccess.{GetsAt, IsLaid, Stops, moment_of}

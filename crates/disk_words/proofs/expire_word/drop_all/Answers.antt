@@ -1,33 +1,32 @@
-use Rattle.std.proofs.Common.{arith, subst, sym}
-use Rattle.cabinet.specs.declared.replies.Expired.TheVariants as expired
-use Rattle.cabinet.specs.State.{now}
-use Rattle.disk_words.proofs.Dropping.{drops_more, fewer}
-use Rattle.disk_words.specs.Ends.{Drops}
-use Rattle.truncation_list.proofs.Answering.{answers_through}
+use Rattle.std.proofs.Common.{arith}
+use Rattle.cache_access.specs.declared.upkept.Upkept.TheVariants as upkept
+use Rattle.disk_words.proofs.Dropping.{dropped_all}
 use Rattle.disk_words.proofs.expire_word.drop_all.Goals as goal
 
-pub dropping-smaller : goal.dropping-smaller
-dropping-smaller g c = let f = fewer (g.C.Keeper.state c.dropping.cabinet) (g.C.Keeper.state c.expire.new.self) c.in-Dropped.field-0 c.in-Dropped.ensures.expires in omega arith
+pub overflow_cast-result : goal.overflow_cast-result
+overflow_cast-result g c =
+    let K = g.C.Keeper in
+    let all = dropped_all K.state K.faults K.outlasts _ _ _ _ (upkept.Done c.in-Done.dropped) c.kept.ensures c.from-most.ensures c.in-Done.ensures.keeps_up in
+    let kept = c.kept.ensures in
+    let range = c.kept.type_inv in
+    omega (arith, kept, range, all.0)
 
-pub dropping-preserved : goal.dropping-preserved
-dropping-preserved g c =
-    let i = c.dropping.invariant in
-    let row = c.in-Dropped.ensures.expires in
-    let first = g.C.Keeper.state c.args.cabinet.now in
-    let old = g.C.Keeper.state c.dropping.cabinet in
-    let new = g.C.Keeper.state c.expire.new.self in
-    let m = c.in-Dropped.field-0 in
-    let f = fewer old new m row in
-    let known = c.laws_of_rows.ensures.expires old new (expired.Dropped m) c.known.ensures row in
-    record {
-      drops = drops_more c.dropping.dropped first old new m i.drops row;
-      few = omega (arith, i.few, f);
-      lasts = g.C.Keeper.outlasts_on c.args.cabinet.now c.dropping.cabinet c.expire.new.self i.answers i.lasts c.expire.ensures.lasts;
-      answers = answers_through (now new).book (now old).book (now first).book known.answers.book i.answers;
-      later = omega (arith, i.later, c.expire.ensures.later);
-    }
+pub returns-in-Done-clause-all : goal.returns-in-Done-clause-all
+returns-in-Done-clause-all g c =
+    let K = g.C.Keeper in
+    let all = dropped_all K.state K.faults K.outlasts _ _ _ _ (upkept.Done c.in-Done.dropped) c.kept.ensures c.from-most.ensures c.in-Done.ensures.keeps_up in
+    (all.1, all.2)
+
+pub returns-in-DiskFault-clause-failed : goal.returns-in-DiskFault-clause-failed
+returns-in-DiskFault-clause-failed g c none =
+    let K = g.C.Keeper in
+    (dropped_all K.state K.faults K.outlasts _ _ _ _ (upkept.DiskFault c.in-DiskFault.field-0) c.kept.ensures c.from-most.ensures c.in-DiskFault.ensures.keeps_up).0
 
 pub returns-in-DiskFault-clause-dropped : goal.returns-in-DiskFault-clause-dropped
-returns-in-DiskFault-clause-dropped g c = λ none.
-    let row = c.in-DiskFault.ensures.expires in
-    (c.dropping.dropped, subst (Drops c.dropping.dropped (g.C.Keeper.state c.args.cabinet.now)) (sym row.2) c.dropping.invariant.drops)
+returns-in-DiskFault-clause-dropped g c none =
+    let K = g.C.Keeper in
+    let some = dropped_all K.state K.faults K.outlasts _ _ _ _ (upkept.DiskFault c.in-DiskFault.field-0) c.kept.ensures c.from-most.ensures c.in-DiskFault.ensures.keeps_up in
+    (c.in-DiskFault.field-0, some.1)
+
+pub unreachable-requires : goal.unreachable-requires
+unreachable-requires g c = let K = g.C.Keeper in dropped_all K.state K.faults K.outlasts _ _ _ _ upkept.Stopped c.kept.ensures c.from-most.ensures c.in-Stopped.ensures.keeps_up

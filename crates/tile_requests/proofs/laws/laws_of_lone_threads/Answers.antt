@@ -1,6 +1,7 @@
 use Rattle.cabinet.specs.State.{IsSound}
 use Rattle.std.proofs.Common.{◌≡◌, Some}
-use Rattle.tile_requests.proofs.LoneAtOnce.{at_once, counts_stay, steps_later, usage_is}
+use Rattle.cache_access.proofs.LoneUpkeep.{steps_later}
+use Rattle.tile_requests.proofs.LoneAtOnce.{at_once, counts_stay, usage_is}
 use Rattle.tile_requests.proofs.LoneRefreshes.{refresh_runs}
 use Rattle.tile_requests.proofs.LoneRuns.{get_opens}
 use Rattle.tile_requests.proofs.laws.laws_of_lone_threads.Goals as goal

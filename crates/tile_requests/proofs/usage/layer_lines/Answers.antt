@@ -1,7 +1,7 @@
 use Rattle.std.proofs.Common.{◌≡◌, Some, None, arith, sym, ap, length, ◌∙◌}
 use Rattle.std.specs.Prelude.{option_copied, slice_get}
 use Rattle.tile_requests.proofs.Counts.{counted_first, counted_more, counted_vainly, is_there}
-use Rattle.tile_requests.proofs.Going.{goes_here, goes_on}
+use Rattle.cache_access.proofs.Going.{goes_here, goes_on}
 use Rattle.tile_requests.proofs.usage.layer_lines.Goals as goal
 
 pub overflow_cast-layers : goal.overflow_cast-layers

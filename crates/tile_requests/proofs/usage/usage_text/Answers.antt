@@ -4,7 +4,7 @@ use Rattle.cabinet_chest.specs.declared.command.Reply.TheVariants as reply
 use Rattle.cache_access.specs.Turned.{GainsOne}
 use Rattle.tile_requests.specs.Texts.{totals_text}
 use Rattle.tile_requests.proofs.Counts.{usage_told, usage_untold}
-use Rattle.tile_requests.proofs.Going.{goes_on}
+use Rattle.cache_access.proofs.Going.{goes_on}
 use Rattle.tile_requests.proofs.usage.usage_text.Goals as goal
 
 pub returns-in-Err-add_totals-clause-vain : goal.returns-in-Err-add_totals-clause-vain

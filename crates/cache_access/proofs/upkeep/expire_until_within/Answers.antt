@@ -1,0 +1,78 @@
+use Rattle.std.proofs.Common.{arith}
+use Rattle.cache_access.specs.KeepsUp.{dropping}
+use Rattle.cache_access.proofs.Going.{goes_here, goes_on}
+use Rattle.cache_access.proofs.KeepingUp.{done_more, done_none, has_failed, has_stopped, nothing_left}
+use Rattle.cache_access.proofs.upkeep.expire_until_within.Goals as goal
+
+pub dropping-init : goal.dropping-init
+dropping-init g c =
+    let A = g.A.Access in
+    let way = c.args.access.now in
+    let x = c.args.cache.now in
+    record {
+      done = done_none (A.gains way) dropping x (A.gains_none way x);
+      goes = goes_here (A.catalogue way) (A.reaches way) (A.owes way) (A.lasts way) x c.requires (A.lasts_itself way x);
+      still = λ s. s;
+      rests = λ r. r;
+      within = omega arith;
+    }
+
+pub dropping-preserved : goal.dropping-preserved
+dropping-preserved g c =
+    let A = g.A.Access in
+    let way = c.args.access.now in
+    let x = c.args.cache.now in
+    let y = c.dropping.cache in
+    let z = c.expire.new.cache in
+    let i = c.dropping.invariant in
+    record {
+      done = done_more (A.gains way) dropping x y z (A.gains_on way x y z) c.dropping.metatiles i.done c.in-Dropped.field-0 c.in-Dropped.ensures.done;
+      goes = goes_on (A.catalogue way) (A.reaches way) (A.owes way) (A.lasts way) x y z (A.lasts_on way x y z) i.goes c.in-Dropped.ensures.goes;
+      still = λ s. c.in-Dropped.ensures.still (i.still s);
+      rests = λ r. c.in-Dropped.ensures.rests (i.rests r);
+      within = omega (arith, c.dropping-test.true);
+    }
+
+pub returns-in-Within-clause-keeps_up : goal.returns-in-Within-clause-keeps_up
+returns-in-Within-clause-keeps_up g c =
+    let A = g.A.Access in
+    let way = c.args.access.now in
+    let x = c.args.cache.now in
+    let y = c.dropping.cache in
+    let z = c.expire.new.cache in
+    nothing_left (A.gains way) dropping x y z (A.gains_on way x y z) c.dropping.metatiles c.dropping.invariant.done c.args.most c.dropping-test.true c.in-Within.ensures.done
+
+pub returns-in-Within-clause-goes : goal.returns-in-Within-clause-goes
+returns-in-Within-clause-goes g c =
+    let A = g.A.Access in
+    let way = c.args.access.now in
+    let x = c.args.cache.now in
+    let y = c.dropping.cache in
+    let z = c.expire.new.cache in
+    goes_on (A.catalogue way) (A.reaches way) (A.owes way) (A.lasts way) x y z (A.lasts_on way x y z) c.dropping.invariant.goes c.in-Within.ensures.goes
+
+pub returns-in-DiskFault-clause-keeps_up : goal.returns-in-DiskFault-clause-keeps_up
+returns-in-DiskFault-clause-keeps_up g c =
+    let A = g.A.Access in
+    let way = c.args.access.now in
+    let x = c.args.cache.now in
+    let y = c.dropping.cache in
+    let z = c.expire.new.cache in
+    has_failed (A.gains way) dropping x y z (A.gains_on way x y z) c.dropping.metatiles c.dropping.invariant.done c.args.most c.dropping-test.true c.in-DiskFault.field-0 c.in-DiskFault.field-1 c.in-DiskFault.ensures.done
+
+pub returns-in-DiskFault-clause-goes : goal.returns-in-DiskFault-clause-goes
+returns-in-DiskFault-clause-goes g c =
+    let A = g.A.Access in
+    let way = c.args.access.now in
+    let x = c.args.cache.now in
+    let y = c.dropping.cache in
+    let z = c.expire.new.cache in
+    goes_on (A.catalogue way) (A.reaches way) (A.owes way) (A.lasts way) x y z (A.lasts_on way x y z) c.dropping.invariant.goes c.in-DiskFault.ensures.goes
+
+pub returns-clause-keeps_up : goal.returns-clause-keeps_up
+returns-clause-keeps_up g c =
+    let A = g.A.Access in
+    let way = c.args.access.now in
+    let is = c.dropping-test.false in
+    let within = c.dropping.invariant.within in
+    has_stopped (A.gains way) dropping c.args.most c.dropping.metatiles c.args.cache.now c.dropping.cache c.dropping.invariant.done (omega (arith, is, within))
