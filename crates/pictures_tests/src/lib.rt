@@ -2,7 +2,7 @@
 //!
 //! It has no code of its own and promises nothing: what the crates promise is proved in each of them. What a whole run of the
 //! program shows is tested there.
-//! Stands on metatile_plan, raster_field, ppm_slice and source_render, and on metatile_locks, catalog, matrix_geometry and
+//! Stands on metatile_plan, raster_field, ppm_slice, png_text and source_render, and on metatile_locks, catalog, matrix_geometry and
 //! exact_ratio for what they are called with.
 #![tactic(auto)]
 
@@ -12,6 +12,8 @@ mod blobs;
 mod metas;
 #[cfg(test)]
 mod plans;
+#[cfg(test)]
+mod pngs;
 #[cfg(test)]
 mod rasters;
 #[cfg(test)]
