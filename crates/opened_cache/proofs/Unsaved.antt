@@ -138,13 +138,13 @@ all_saved_by x y most many s above had Stopped (is, left) =
     let no_more = no_more_than (λ t. use_of x.state.history t.meta) (now x.state).kept in
     absurd (omega (arith, above, few, no_more, is))
 
-pub saves_all : {K : Type 0} (state : K → State) (faults : K → ℕ) (outlasts : K → K → Type 0) (k l : K) (kept most : ℕ) (r : Upkept) → kept ≡ length (now (state k)).kept → most ≡ kept
-    → KeepsUp (leads state faults outlasts) saving (most + 1) k l r → SavesAll (counts (faults k) (faults l)) (state k) (state l)
-saves_all state faults outlasts k l kept most r are is h =
+pub saves_all : {K : Type 0} (state : K → State) (faults : K → ℕ) (outlasts : K → K → Type 0) (k l : K) (most : ℕ) (r : Upkept) → length (now (state k)).kept < most
+    → KeepsUp (leads state faults outlasts) saving most k l r → SavesAll (counts (faults k) (faults l)) (state k) (state l)
+saves_all state faults outlasts k l most r above h =
     let x = seen (faults k) (state k) in
     let y = seen (faults l) (state l) in
-    let lone = lone_saving (leads state faults outlasts) k l (state k).catalogue x y (HasSaved (state k)) (record { saves = refl; few = omega arith }) (most + 1) r (saved_more (state k)) h h.gains in
-    all_saved_by x y (most + 1) lone.0 lone.1 (omega (arith, are, is)) lone.2 r lone.3
+    let lone = lone_saving (leads state faults outlasts) k l (state k).catalogue x y (HasSaved (state k)) (record { saves = refl; few = omega arith }) most r (saved_more (state k)) h h.gains in
+    all_saved_by x y most lone.0 lone.1 above lone.2 r lone.3
 
 pub later_by : {K : Type 0} (state : K → State) (faults : K → ℕ) (outlasts : K → K → Type 0) (k l : K) (most : ℕ) (r : Upkept) → KeepsUp (leads state faults outlasts) saving most k l r → faults k ≤ faults l
 later_by state faults outlasts k l most r h = steps_later (state k).catalogue (h.turns ++ h.ends) (seen (faults k) (state k)) (seen (faults l) (state l)) h.gains
