@@ -2,14 +2,16 @@
 //!
 //! It has no code of its own and promises nothing: what the crates promise is proved in each of them. What a whole run of the
 //! program shows is tested there.
-//! Stands on metatile_plan, raster_field, ppm_slice, png_text and source_render, and on metatile_locks, catalog, matrix_geometry and
-//! exact_ratio for what they are called with.
+//! Stands on metatile_plan, raster_field, ppm_slice, png_text, ppm_reading and source_render, and on metatile_locks, catalog,
+//! matrix_geometry and exact_ratio for what they are called with.
 #![tactic(auto)]
 
 #[cfg(test)]
 mod blobs;
 #[cfg(test)]
 mod metas;
+#[cfg(test)]
+mod pixmaps;
 #[cfg(test)]
 mod plans;
 #[cfg(test)]

@@ -1,0 +1,9 @@
+pub mod Lengths
+pub mod FieldValues
+pub mod Heads
+pub mod LineEnds
+pub mod Moving
+pub mod MoreBytes
+pub mod ChunksTaken
+pub mod Told
+pub mod AtTheStart
