@@ -10,7 +10,7 @@ use crate::hall::Hall;
 use crate::shared::Shared;
 use cabinet::Keeper;
 use cabinet_chest::CabinetChest;
-use cache_access::{GetFault, get};
+use cache_access::GetFault;
 use cache_core::Tile;
 use matrix_geometry::Address;
 use source_render::Source;
@@ -41,5 +41,5 @@ pub fn get<R: Wait, K: Keeper, S: Source>(
     ensures cause { IfErr result (λ e. e ≡ GetFault.SourceFault → Rose (S.faults source.old) (S.faults source.new)) }
     ensures told { S.told source.new ≡ S.told source.old }
 {
-    get::get(&Shared { rt, hall }, alloc, pass, source, address)
+    cache_access::get(&Shared { rt, hall }, alloc, pass, source, address)
 }

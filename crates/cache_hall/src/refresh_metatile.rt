@@ -10,7 +10,7 @@ use crate::hall::Hall;
 use crate::shared::Shared;
 use cabinet::Keeper;
 use cabinet_chest::CabinetChest;
-use cache_access::{GetFault, Refreshed, refresh};
+use cache_access::{GetFault, Refreshed};
 use metatile_plan::MetaKey;
 use source_render::Source;
 use std::alloc::Global;
@@ -41,5 +41,5 @@ pub fn refresh<R: Wait, K: Keeper, S: Source>(
     ensures cause { IfErr result (λ e. e ≡ GetFault.SourceFault → Rose (S.faults source.old) (S.faults source.new)) }
     ensures told { S.told source.new ≡ S.told source.old }
 {
-    refresh::refresh(&Shared { rt, hall }, alloc, pass, source, meta, is_forced)
+    cache_access::refresh(&Shared { rt, hall }, alloc, pass, source, meta, is_forced)
 }

@@ -10,7 +10,6 @@ ghost use Rattle.layer_recipes.specs.OfCatalogue.{IsPlaceIn, IsRecipeOf};
 use cabinet::Keeper;
 use cabinet_chest::CabinetChest;
 use cache_hall::{Hall, Shared};
-use composite_layers::compose;
 use layer_recipes::{ComposeFault, Composed, Recipe};
 use source_render::Source;
 use std::alloc::Global;
@@ -46,5 +45,5 @@ pub fn compose<R: Wait, K: Keeper, S: Source>(
     ensures told { S.told source.new ≡ S.told source.old }
 {
     let way = Shared { rt, hall };
-    compose::compose(&way, alloc, pass, source, recipe, z, row, col)
+    composite_layers::compose(&way, alloc, pass, source, recipe, z, row, col)
 }
