@@ -1,13 +1,14 @@
 -- What the word tells of the run of a job.
-use Rattle.std.proofs.Common.{ℕ, ◌≡◌, ◌≤◌, List, Option, subst}
+use Rattle.std.proofs.Common.{ℕ, ◌≡◌, ◌≤◌, List, map, Option, subst}
 use Rattle.cabinet.specs.State.{State}
 use Rattle.catalog.specs.declared.catalogue.Catalogue.{Catalogue}
 use Rattle.base.specs.Readings.{Readings}
+use Rattle.job_places.specs.declared.tally.Tally.{Tally}
+use Rattle.job_places.specs.Tallies.{tally_of}
 use Rattle.job_forms.specs.declared.job.Job.{Job}
-use Rattle.job_words.specs.declared.tally.Tally.{Tally}
 use Rattle.job_words.specs.Ends.{IsDoneSo, RunsAndSaves, job_text, output_of}
-use Rattle.job_words.specs.Run.{IsRun, tally_of}
-use Rattle.job_words.specs.Visit.{Visit}
+use Rattle.job_words.specs.Run.{IsRun}
+use Rattle.job_words.specs.Visit.{LoneVisit}
 use Rattle.command_status.specs.declared.status.Status.{Status}
 use Rattle.command_status.specs.declared.status.Status.TheVariants as status
 use Rattle.opened_cache.specs.Change.{DiskChange}
@@ -19,7 +20,7 @@ use Rattle.opened_cache.proofs.Within.{rose_within, saved_so}
 use Rattle.sessions.specs.Outside.{FaultCounts, Outside, counts}
 
 -- a run and the saving after it, with the faults of the disk counted over the whole word
-pub runs_and_saves : (told : Option ℕ) (renders : FaultCounts) (before start mid after : ℕ) (job : Job) (visits : List Visit) (s t u : State) → before ≤ start → mid ≤ after
+pub runs_and_saves : (told : Option ℕ) (renders : FaultCounts) (before start mid after : ℕ) (job : Job) (visits : List LoneVisit) (s t u : State) → before ≤ start → mid ≤ after
     → IsRun told renders (counts start mid) job visits s t → SavesAll (counts mid after) t u → RunsAndSaves told renders (counts before after) job visits s u
 runs_and_saves told renders before start mid after job visits s t u earlier later run saves = record {
   ran = t;
@@ -36,8 +37,8 @@ runs_and_saves told renders before start mid after job visits s t u earlier late
 
 -- THE TEXT, by how its writing ended
 
-told_so : (c : Catalogue) (clock : Readings) (job : Job) (o : Outside) (d : DiskChange) (Stays : Type 0) (s u : State) (visits : List Visit)
-    → HasOpened c clock d s u → RunsAndSaves o.told o.renders o.disk job visits s u → (e : Status) → Sends (output_of o) (job_text job.kind (tally_of visits)) e
+told_so : (c : Catalogue) (clock : Readings) (job : Job) (o : Outside) (d : DiskChange) (Stays : Type 0) (s u : State) (visits : List LoneVisit)
+    → HasOpened c clock d s u → RunsAndSaves o.told o.renders o.disk job visits s u → (e : Status) → Sends (output_of o) (job_text job.kind (tally_of (map (λ v. v.end) visits))) e
     → IsDoneSo c clock job o d Stays e
 told_so c clock job o d Stays s u visits h runs status.Done sends = (s, u, h, visits, runs, sends)
 told_so c clock job o d Stays s u visits h runs status.WriteFault sends = (s, u, h, visits, runs, sends)
@@ -56,8 +57,8 @@ told_so c clock job o d Stays s u visits h runs status.ListenFault sends = absur
 told_so c clock job o d Stays s u visits h runs status.ThreadFault sends = absurd sends
 
 -- the tally that was written is that of the visits
-pub job_tells : (c : Catalogue) (clock : Readings) (job : Job) (o : Outside) (d : DiskChange) (Stays : Type 0) (s u : State) (visits : List Visit)
-    → HasOpened c clock d s u → RunsAndSaves o.told o.renders o.disk job visits s u → (tally : Tally) → tally ≡ tally_of visits → (e : Status) → Sends (output_of o) (job_text job.kind tally) e
+pub job_tells : (c : Catalogue) (clock : Readings) (job : Job) (o : Outside) (d : DiskChange) (Stays : Type 0) (s u : State) (visits : List LoneVisit)
+    → HasOpened c clock d s u → RunsAndSaves o.told o.renders o.disk job visits s u → (tally : Tally) → tally ≡ tally_of (map (λ v. v.end) visits) → (e : Status) → Sends (output_of o) (job_text job.kind tally) e
     → IsDoneSo c clock job o d Stays e
 job_tells c clock job o d Stays s u visits h runs tally same e sends =
     told_so c clock job o d Stays s u visits h runs e (subst (λ t. Sends (output_of o) (job_text job.kind t) e) same sends)

@@ -4,7 +4,7 @@ use Rattle.std.specs.Prelude.{ℕ, ◌≡◌, ◌≤◌, Bool, Option, Some}
 use Rattle.cabinet.specs.State.{State, IsSound}
 use Rattle.base.specs.Causes.{RoseBy}
 use Rattle.job_forms.specs.Places.{Place}
-use Rattle.job_words.specs.declared.place.PlaceEnd.{PlaceEnd}
+use Rattle.job_places.specs.declared.place.PlaceEnd.{PlaceEnd}
 use Rattle.job_words.specs.Run.{disk_faults_at, failed_by, is_source}
 use Rattle.job_words.specs.Visit.{Chances, IsVisitedAt}
 use Rattle.sessions.specs.Outside.{FaultCounts}

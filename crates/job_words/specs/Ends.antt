@@ -1,16 +1,17 @@
 -- What each end of the word `job` says.
-use Rattle.std.specs.Prelude.{ℕ, ◌≡◌, ◌⊎◌, List, ◌++◌, Option, Some, codes, decimal}
+use Rattle.std.specs.Prelude.{ℕ, ◌≡◌, ◌⊎◌, List, ◌++◌, map, Option, Some, codes, decimal}
 use Rattle.cabinet.specs.State.{IsSound, State}
 use Rattle.catalog.specs.declared.catalogue.Catalogue.{Catalogue}
 use Rattle.base.specs.Causes.{Rose}
 use Rattle.base.specs.Readings.{Readings}
+use Rattle.job_places.specs.declared.tally.Tally.{Tally}
+use Rattle.job_places.specs.Tallies.{tally_of}
 use Rattle.job_forms.specs.declared.job.Job.{Job}
 use Rattle.job_forms.specs.declared.job.JobKind.{JobKind}
 use Rattle.job_forms.specs.declared.job.JobKind.TheVariants.{Seed, Reseed, Truncate}
-use Rattle.job_words.specs.declared.tally.Tally.{Tally}
 use Rattle.job_words.specs.Input.{IsFormedSo, IsJobIn, IsTooLong}
-use Rattle.job_words.specs.Run.{IsRun, tally_of}
-use Rattle.job_words.specs.Visit.{Visit}
+use Rattle.job_words.specs.Run.{IsRun}
+use Rattle.job_words.specs.Visit.{LoneVisit}
 use Rattle.command_status.specs.declared.status.Status.{Status}
 use Rattle.command_status.specs.declared.status.Status.TheVariants as status
 use Rattle.opened_cache.specs.Change.{DiskChange, HasFailed, HasWritten, IsCutShort}
@@ -35,7 +36,7 @@ job_text kind tally =
 -- From s these visits were the run of the job, and then the uses of what is kept were saved, to u. The faults of the disk are counted over
 -- the whole word, from before the opening until after the saving. Where the source is modelled as the catalogue's, what is then kept is the pictures of the
 -- numbers, if what was opened was.
-pub record RunsAndSaves (told : Option ℕ) (renders disk : FaultCounts) (job : Job) (visits : List Visit) (s u : State) : Type 0 where
+pub record RunsAndSaves (told : Option ℕ) (renders disk : FaultCounts) (job : Job) (visits : List LoneVisit) (s u : State) : Type 0 where
   pub ran : State
   pub run : IsRun told renders disk job visits s ran
   pub saves : SavesAll disk ran u
@@ -48,7 +49,7 @@ output_of o = record { writes = o.writes; from = o.from; to = o.to }
 -- the cache was opened, the job was run, the uses were saved and the cache was closed; and this holds of the text of the tally
 abbrev pub HasRun : Catalogue → Readings → Job → Outside → DiskChange → (List ℕ → Type 0) → Type 0
 HasRun c clock job o d Written =
-    (s : State) × (u : State) × HasOpened c clock d s u × (visits : List Visit) × RunsAndSaves o.told o.renders o.disk job visits s u × Written (job_text job.kind (tally_of visits))
+    (s : State) × (u : State) × HasOpened c clock d s u × (visits : List LoneVisit) × RunsAndSaves o.told o.renders o.disk job visits s u × Written (job_text job.kind (tally_of (map (λ v. v.end) visits)))
 
 -- THE ENDS
 

@@ -1,41 +1,23 @@
 -- The run of a job: its places, in order, each visited once.
-use Rattle.std.specs.Prelude.{ℕ, ◌≡◌, ◌+◌, Bool, true, false, not, List, [], ◌∷◌, length, map, Option, Some, count_by, sum_by}
+use Rattle.std.specs.Prelude.{ℕ, ◌≡◌, ◌+◌, Bool, true, false, List, [], ◌∷◌, map, Option, Some, sum_by}
 use Rattle.cabinet.specs.State.{State, IsSound}
 use Rattle.cache_core.specs.Steps.{one_where}
 use Rattle.base.specs.Causes.{RoseBy}
+use Rattle.job_places.specs.declared.place.PlaceEnd.{PlaceEnd}
+use Rattle.job_places.specs.declared.place.PlaceEnd.TheVariants.{Done, Failed}
+use Rattle.job_places.specs.declared.place.PlaceFault.{PlaceFault}
+use Rattle.job_places.specs.declared.place.PlaceFault.TheVariants as fault
+use Rattle.job_places.specs.Visits.{forces}
 use Rattle.job_forms.specs.declared.job.Job.{Job}
-use Rattle.job_forms.specs.declared.job.JobKind.{JobKind}
-use Rattle.job_forms.specs.declared.job.JobKind.TheVariants.{Seed, Reseed, Truncate}
 use Rattle.job_forms.specs.Places.{places}
-use Rattle.job_words.specs.declared.place.PlaceEnd.{PlaceEnd}
-use Rattle.job_words.specs.declared.place.PlaceEnd.TheVariants.{Done, Failed}
-use Rattle.job_words.specs.declared.place.PlaceFault.{PlaceFault}
-use Rattle.job_words.specs.declared.place.PlaceFault.TheVariants as fault
-use Rattle.job_words.specs.declared.tally.Tally.{Tally}
-use Rattle.job_words.specs.Visit.{Visit, IsVisited}
+use Rattle.job_words.specs.Visit.{LoneVisit, IsVisited}
 use Rattle.tile_requests.specs.Requests.{disk_faults_in}
 use Rattle.sessions.specs.Outside.{FaultCounts}
 
--- a reseed renders each metatile, kept or not; a seed those alone that aren't kept
-abbrev pub forces : JobKind → Bool
-forces Seed = false
-forces Reseed = true
-forces Truncate = false
-
 -- these visits, one after the other, led from s to u
-abbrev pub GoesThrough : Bool → State → List Visit → State → Type 0
+abbrev pub GoesThrough : Bool → State → List LoneVisit → State → Type 0
 GoesThrough force s [] u = u ≡ s
 GoesThrough force s (v ∷ vs) u = (t : State) × IsVisited force s v t × GoesThrough force t vs u
-
--- THE TALLY
-
-abbrev pub is_done : PlaceEnd → Bool
-is_done Done = true
-is_done (Failed cause) = false
-
--- how many places were visited, how many of them are done, and how many failed
-abbrev pub tally_of : List Visit → Tally
-tally_of visits = record { places = length visits; done = count_by (λ v. is_done v.end) visits; failed = count_by (λ v. not (is_done v.end)) visits }
 
 -- FAULTS
 
@@ -59,15 +41,15 @@ failed_by which Done = 0
 failed_by which (Failed cause) = one_where (which cause)
 
 -- how many places failed by the source
-abbrev pub source_faults : List Visit → ℕ
+abbrev pub source_faults : List LoneVisit → ℕ
 source_faults visits = sum_by (λ v. failed_by is_source v.end) visits
 
 -- how many faults of the disk a visit names: those of its chances, and that of a cut that was not made
-abbrev pub disk_faults_at : Visit → ℕ
+abbrev pub disk_faults_at : LoneVisit → ℕ
 disk_faults_at v =
     disk_faults_in v.chances.asking + disk_faults_in v.chances.rendering + disk_faults_in v.chances.ending + failed_by is_disk v.end
 
-abbrev pub disk_faults : List Visit → ℕ
+abbrev pub disk_faults : List LoneVisit → ℕ
 disk_faults visits = sum_by disk_faults_at visits
 
 -- WHAT IS PROMISED OF IT
@@ -76,7 +58,7 @@ disk_faults visits = sum_by disk_faults_at visits
 -- faults to another. Each place of the job was visited once, in order. No more places failed by the source than its count rose by, and the
 -- visits name no more faults of the disk than its count rose by. Where the source is modelled as the catalogue's, a sound cabinet stays
 -- sound: what is kept is the picture of its number.
-pub record IsRun (told : Option ℕ) (renders disk : FaultCounts) (job : Job) (visits : List Visit) (s u : State) : Type 0 where
+pub record IsRun (told : Option ℕ) (renders disk : FaultCounts) (job : Job) (visits : List LoneVisit) (s u : State) : Type 0 where
   pub each : map (λ v. v.place) visits ≡ places s.catalogue job
   pub goes : GoesThrough (forces job.kind) s visits u
   pub failed : RoseBy (source_faults visits) renders.before renders.after

@@ -1,17 +1,17 @@
--- A visit to a place of a job: its metatile is refreshed, or its cut is made.
+-- A visit to a place of a job, by a thread that has the cabinet for itself, as the events of its metatile, or the row of its cut.
 use Rattle.std.specs.Prelude.{◌≡◌, Bool, Result, Ok, Err}
 use Rattle.std.specs.declared.alloc.AllocError.{AllocError}
 use Rattle.cabinet.specs.Commands.{Cuts}
 use Rattle.cabinet.specs.declared.replies.CutReply.{CutReply}
-use Rattle.cabinet.specs.declared.replies.CutReply.TheVariants as cut
 use Rattle.cabinet.specs.State.{State}
 use Rattle.cache_core.specs.declared.outcome.TileOutcome.{TileOutcome}
 use Rattle.cache_core.specs.declared.outcome.TileOutcome.TheVariants as outcome
 use Rattle.cache_core.specs.Steps.{Stepped, began, ends}
+use Rattle.job_places.specs.declared.place.PlaceEnd.{PlaceEnd}
+use Rattle.job_places.specs.declared.place.PlaceEnd.TheVariants.{Done, Failed}
+use Rattle.job_places.specs.declared.place.PlaceFault.TheVariants as fault
+use Rattle.job_places.specs.Ends.{end_of_cut}
 use Rattle.job_forms.specs.Places.{Place, Metatile, Cut}
-use Rattle.job_words.specs.declared.place.PlaceEnd.{PlaceEnd}
-use Rattle.job_words.specs.declared.place.PlaceEnd.TheVariants.{Done, Failed}
-use Rattle.job_words.specs.declared.place.PlaceFault.TheVariants as fault
 use Rattle.metatile_plan.specs.declared.metatile.MetaKey.{MetaKey}
 use Rattle.raster_field.specs.Blocks.{first_tile}
 use Rattle.tile_requests.specs.Requests.{Chance, further}
@@ -44,14 +44,6 @@ IsRefreshed force s m c e u = (o : TileOutcome) × (refreshed force s m c ≡ en
 
 -- A CUT
 
--- how the reply of the one cut ends the place
-abbrev pub end_of_cut : Result CutReply AllocError → PlaceEnd
-end_of_cut (Ok (cut.Done number)) = Done
-end_of_cut (Ok cut.Full) = Failed fault.CutsFull
-end_of_cut (Ok (cut.DiskFault before after)) = Failed fault.Disk
-end_of_cut (Ok cut.Spent) = Failed fault.Spent
-end_of_cut (Err failed) = Failed fault.Memory
-
 -- the cabinet cuts, or memory runs out, and then nothing changes
 abbrev pub CutsOnce : State → Cover → Result CutReply AllocError → State → Type 0
 CutsOnce s cover (Ok reply) u = Cuts s cover reply u
@@ -68,12 +60,12 @@ abbrev pub IsVisitedAt : Bool → State → Place → Chances → PlaceEnd → S
 IsVisitedAt force s (Metatile m) c e u = IsRefreshed force s m c e u
 IsVisitedAt force s (Cut cover) c e u = IsCut s cover e u
 
--- a place, what happened there by chance, and how it ended
-pub record Visit : Type 0 where
+-- by a thread that has the cabinet for itself: a place, what happened there by chance, and how it ended
+pub record LoneVisit : Type 0 where
   pub place : Place
   pub chances : Chances
   pub end : PlaceEnd
 
 -- from s the place was visited so, to u
-abbrev pub IsVisited : Bool → State → Visit → State → Type 0
+abbrev pub IsVisited : Bool → State → LoneVisit → State → Type 0
 IsVisited force s v u = IsVisitedAt force s v.place v.chances v.end u

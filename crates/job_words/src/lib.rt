@@ -3,20 +3,14 @@
 //! Promises: each place of the job is visited once, in order, and what a visit comes to is fixed but for what happens there by chance
 //! (`specs/Run.antt`, `specs/Visit.antt`); each end of the word has its cause (`specs/Ends.antt`); at every moment of it a crash leaves a
 //! cache that answers for every truncation that was in force, and at its end for the cut that it counts as done.
-//! Stands on job_forms for jobs and their places, on cache_access, by which it refreshes a metatile, on cache_core, in whose events a visit is told,
-//! on opened_cache, by which it opens the cache, saves the uses of what is kept and closes it, and on command_status for how the word ends.
+//! Stands on job_forms for jobs and their places, on job_places for what is done at one, on cache_core, in whose events a visit is told, on
+//! opened_cache, by which it opens the cache, saves the uses of what is kept and closes it, and on command_status for how the word ends.
 #![tactic(auto)]
 
-mod cutting;
 mod input;
-mod place;
-mod refreshing;
 mod running;
-mod tally;
 mod text;
 mod word;
 
-pub use place::{PlaceEnd, PlaceFault};
 pub use running::run_places;
-pub use tally::Tally;
 pub use word::run_job;

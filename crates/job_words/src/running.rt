@@ -1,46 +1,25 @@
 //! The places of a job, visited in order.
-ghost use Rattle.std.specs.Prelude.{◌≡◌, ◌≢◌, ◌<◌, ◌≤◌, ◌+◌, List, Some, length, slice_get};
+ghost use Rattle.std.specs.Prelude.{◌≡◌, ◌<◌, ◌≤◌, ◌+◌, List, Some, length, map, slice_get};
 ghost use Rattle.cache_core.specs.Lasting.{Lasting};
 ghost use Rattle.catalog.specs.Valid.{IsValid};
 ghost use Rattle.job_forms.specs.Job.{Fits};
 ghost use Rattle.job_forms.specs.Places.{Place, places};
+ghost use Rattle.job_places.specs.Tallies.{tally_of};
+ghost use Rattle.job_places.specs.Visits.{forces};
 ghost use Rattle.job_words.specs.Coming.{ComesTo};
-ghost use Rattle.job_words.specs.Run.{IsRun, forces, tally_of};
-ghost use Rattle.job_words.specs.Visit.{Visit};
+ghost use Rattle.job_words.specs.Run.{IsRun};
+ghost use Rattle.job_words.specs.Visit.{LoneVisit};
 ghost use Rattle.sessions.specs.Outside.{counts};
 ghost use Rattle.tile_service.specs.Session.{IsAtRest};
 
-use crate::cutting::cut;
-use crate::place::PlaceEnd;
-use crate::refreshing::refresh;
-use crate::tally::Tally;
 use cabinet::Keeper;
+use cache_access::Alone;
 use cache_core::laws_of_lasting;
-use job_forms::{Job, JobKind, count, nth};
+use job_forms::{Job, count, laws_of_places};
+use job_places::{PlaceEnd, Tally};
 use source_render::Source;
 use std::alloc::Global;
-
-/// Refreshes the metatile at a place of a seed or a reseed.
-fn refresh_at<C: Keeper, S: Source>(
-    alloc: Global,
-    cabinet: &mut C,
-    source: &mut S,
-    job: &Job,
-    place: u64,
-    with_force: bool,
-) -> PlaceEnd
-    requires valid { IsValid (C.state cabinet.old).catalogue }
-    requires fits { Fits (C.state cabinet.old).catalogue job.now }
-    requires kind { job.now.kind ≢ JobKind.Truncate }
-    requires place { place < length (places (C.state cabinet.old).catalogue job.now) }
-    requires rest { IsAtRest (C.state cabinet.old) }
-    ensures comes { (p : Place) × (slice_get (places (C.state cabinet.old).catalogue job.now) place ≡ Some p) × ComesTo (S.told source.old) (counts (S.faults source.old) (S.faults source.new)) (counts (C.faults cabinet.old) (C.faults cabinet.new)) with_force (C.state cabinet.old) p result (C.state cabinet.new) }
-    ensures told { S.told source.new ≡ S.told source.old }
-    ensures lasts { Lasting (C.outlasts cabinet.old cabinet.new) (C.state cabinet.old) (C.state cabinet.new) }
-{
-    let meta = nth(cabinet.catalogue(), job, place);
-    refresh(alloc, cabinet, source, &meta, with_force)
-}
+use tile_requests::laws_of_lone_threads;
 
 /// Visits the place of this number: its metatile is refreshed, by force in a reseed, or its cut is made.
 fn visit<C: Keeper, S: Source>(
@@ -58,11 +37,10 @@ fn visit<C: Keeper, S: Source>(
     ensures told { S.told source.new ≡ S.told source.old }
     ensures lasts { Lasting (C.outlasts cabinet.old cabinet.new) (C.state cabinet.old) (C.state cabinet.new) }
 {
-    match job.kind {
-        JobKind::Seed => refresh_at(alloc, cabinet, source, job, place, false),
-        JobKind::Reseed => refresh_at(alloc, cabinet, source, job, place, true),
-        JobKind::Truncate => cut(alloc, cabinet, &job.cover),
-    }
+    laws_of_lone_threads();
+    laws_of_places();
+    let way = Alone::new();
+    job_places::visit(&way, alloc, cabinet, source, job, place)
 }
 
 /// Runs a job in a cabinet in which no render runs: visits each of its places once, in order, and counts how they end. The memory that it
@@ -76,7 +54,7 @@ pub fn run_places<C: Keeper, S: Source>(
     requires valid { IsValid (C.state cabinet.old).catalogue }
     requires fits { Fits (C.state cabinet.old).catalogue job.now }
     requires rest { IsAtRest (C.state cabinet.old) }
-    ensures runs { (visits : List Visit) × (result ≡ tally_of visits)
+    ensures runs { (visits : List LoneVisit) × (result ≡ tally_of (map (λ v. v.end) visits))
         × IsRun (S.told source.old) (counts (S.faults source.old) (S.faults source.new)) (counts (C.faults cabinet.old) (C.faults cabinet.new)) job.now visits (C.state cabinet.old) (C.state cabinet.new) }
     ensures adds_up { result.done + result.failed ≡ result.places }
     ensures later { C.faults cabinet.old ≤ C.faults cabinet.new }
@@ -85,16 +63,10 @@ pub fn run_places<C: Keeper, S: Source>(
 {
     laws_of_lasting::<C>();
     let places = count(cabinet.catalogue(), job);
-    let mut done = 0;
+    let mut tally = Tally::new();
     'visiting: for place in 0..places {
-        match visit(alloc, cabinet, source, job, place) {
-            PlaceEnd::Done => done += 1,
-            PlaceEnd::Failed(_) => {}
-        }
+        let end = visit(alloc, cabinet, source, job, place);
+        tally = tally.and(end.is_done());
     }
-    Tally {
-        places,
-        done,
-        failed: places - done,
-    }
+    tally
 }

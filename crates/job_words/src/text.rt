@@ -5,11 +5,11 @@ ghost use Rattle.job_words.specs.Ends.{job_text, kind_text};
 ghost use Rattle.opened_cache.specs.Texts.{Sends};
 ghost use Rattle.sessions.specs.Outside.{OutputChange, counts};
 
-use crate::tally::Tally;
 use arrayvec::ArrayVec;
 use command_status::Status;
 use http_wire::ByteSink;
 use job_forms::JobKind;
+use job_places::Tally;
 use opened_cache::written;
 use tile_requests::{add, add_number};
 

@@ -1,12 +1,12 @@
 //! The word that runs a job on the cache of a disk.
-ghost use Rattle.std.specs.Prelude.{ℕ, ◌≡◌, ◌≤◌, IsTrue, List};
+ghost use Rattle.std.specs.Prelude.{ℕ, ◌≡◌, ◌≤◌, IsTrue, List, map};
 ghost use Rattle.cache_core.specs.Lasting.{Lasting};
 ghost use Rattle.catalog.specs.Valid.{IsValid};
 ghost use Rattle.durable_cabinet.specs.Images.{IsOurs};
 ghost use Rattle.job_forms.specs.Job.{Fits};
+ghost use Rattle.job_places.specs.Tallies.{tally_of};
 ghost use Rattle.job_words.specs.Ends.{IsDoneSo, RunsAndSaves, RunsJob};
-ghost use Rattle.job_words.specs.Run.{tally_of};
-ghost use Rattle.job_words.specs.Visit.{Visit};
+ghost use Rattle.job_words.specs.Visit.{LoneVisit};
 ghost use Rattle.opened_cache.specs.Change.{DiskChange};
 ghost use Rattle.opened_cache.specs.Crash.{LastsThrough};
 ghost use Rattle.sessions.specs.Outside.{InputChange, Outside, counts};
@@ -14,7 +14,6 @@ ghost use Rattle.tile_service.specs.Session.{IsAtRest};
 
 use crate::input::job_in;
 use crate::running::run_places;
-use crate::tally::Tally;
 use crate::text::told_tally;
 use base::Clock;
 use cabinet::Keeper;
@@ -24,6 +23,7 @@ use command_status::{Status, status_of_opening};
 use disk_model::Disk;
 use http_wire::{ByteSink, ByteSource};
 use job_forms::Job;
+use job_places::Tally;
 use opened_cache::{Loan, closed, opened, save_all};
 use source_render::Source;
 use std::alloc::Global;
@@ -68,7 +68,7 @@ fn run_and_save<C: Keeper, S: Source>(
     requires valid { IsValid (C.state cabinet.old).catalogue }
     requires fits { Fits (C.state cabinet.old).catalogue job.now }
     requires rest { IsAtRest (C.state cabinet.old) }
-    ensures runs { (before : ℕ) → before ≤ C.faults cabinet.old → (visits : List Visit) × (result ≡ tally_of visits)
+    ensures runs { (before : ℕ) → before ≤ C.faults cabinet.old → (visits : List LoneVisit) × (result ≡ tally_of (map (λ v. v.end) visits))
         × RunsAndSaves (S.told source.old) (counts (S.faults source.old) (S.faults source.new)) (counts before (C.faults cabinet.new)) job.now visits (C.state cabinet.old) (C.state cabinet.new) }
     ensures lasts { Lasting (C.outlasts cabinet.old cabinet.new) (C.state cabinet.old) (C.state cabinet.new) }
 {

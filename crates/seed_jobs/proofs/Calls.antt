@@ -1,32 +1,72 @@
--- One visit, from what the call at its place did.
-use Rattle.std.proofs.Common.{ℕ, zero, suc, ◌≡◌, ◌<◌, arith, length, Bool, List, [], ◌∷◌, Some, refl, ap, subst, ◌∙◌}
-use Rattle.std.specs.Prelude.{slice_get}
-use Rattle.cache_hall.specs.Turned.{HallPass}
+-- A visit over any access, by a pass of a hall.
+use Rattle.std.proofs.Common.{ℕ, ◌≡◌, Bool, true, List, Some, Result, Ok, Err}
+use Rattle.cabinet.specs.declared.replies.Finished.{Finished}
+use Rattle.cabinet_chest.specs.declared.shown.Note.{Note}
+use Rattle.cache_access.specs.declared.fault.GetFault.{GetFault}
+use Rattle.cache_access.specs.declared.fault.GetFault.TheVariants as got
+use Rattle.cache_access.specs.declared.refreshed.Refreshed.{Refreshed}
+use Rattle.cache_access.specs.declared.refreshed.Refreshed.TheVariants.{AlreadyKept, Made as Remade, Unkept}
+use Rattle.cache_access.specs.Refreshes.{BecameOf, CameTo, IsRendered}
+use Rattle.cache_hall.specs.Turned.{Gains, HallPass}
 use Rattle.catalog.specs.declared.catalogue.Catalogue.{Catalogue}
+use Rattle.job_places.specs.declared.place.PlaceEnd.{PlaceEnd}
+use Rattle.job_places.specs.Visits.{IsVisit, IsWorkAt, Visit, Visits}
 use Rattle.job_forms.specs.declared.job.Job.{Job}
 use Rattle.job_forms.specs.declared.job.JobKind.{JobKind}
-use Rattle.job_forms.specs.declared.job.JobKind.TheVariants as kind
-use Rattle.job_forms.specs.Places.{Cut, Place, places, places_of}
-use Rattle.truncation_list.specs.declared.cover.Cover.{Cover}
-use Rattle.seed_jobs.specs.Visited.{HasCut, HasVisited}
+use Rattle.job_forms.specs.Places.{Cut, Metatile, Place}
+use Rattle.metatile_plan.specs.declared.metatile.MetaKey.{MetaKey}
+use Rattle.truncation_list.specs.declared.book.FrontedBook.{FrontedBook}
+use Rattle.turnstile.specs.declared.view.Made.{Made}
+use Rattle.seed_jobs.specs.Visited.{HasVisited}
 
--- the one place of a truncation is its cut
-first_is_cut : (cover : Cover) (place : ℕ) → place < 1 → slice_get (Cut cover ∷ []) place ≡ Some (Cut cover)
-first_is_cut cover zero within = refl
-first_is_cut cover (suc place) within = absurd (omega (arith, within))
+-- what makes a blob true may be known by less
+module _ (c : Catalogue) (P Q : Type 0) (less : Q → P) where
+  rendered_if : (m : MetaKey) (force : Bool) (ask : Made Note) (ends : List (Made Note)) (k : ℕ) (r : Finished) → IsRendered c P m force ask ends k r → IsRendered c Q m force ask ends k r
+  rendered_if m force ask ends k r h = record {
+    ticket = h.ticket;
+    number = h.number;
+    meta = h.meta;
+    answer = h.answer;
+    blob = h.blob;
+    long = h.long;
+    truth = λ q. h.truth (less q);
+    end = h.end;
+    handed = h.handed;
+    one = h.one;
+  }
 
--- a cut is the visit of a truncation's place
-pub visit_of_cut : (c : Catalogue) (job : Job) (place : ℕ) (p q : HallPass) (count : ℕ) (is_done : Bool) → job.kind ≡ kind.Truncate → place < length (places c job) → HasCut c job.cover p q is_done → HasVisited c job place count count p q is_done
-visit_of_cut c job place p q count is_done is within h =
-    let there : places c job ≡ Cut job.cover ∷ [] = ap (λ (k : JobKind). places_of c k job.cover) is in
-    let first : place < 1 = subst (λ (ps : List Place). place < length ps) there within in
-    record {
-      gained = h.gained;
-      is = h.gains.is;
-      visit = record {
-        at = Cut job.cover;
-        is_place = ap (λ (ps : List Place). slice_get ps place) there ∙ first_is_cut job.cover place first;
-        work = (h.cut, refl);
-        turns = h.gains.turns;
-      };
-    }
+  became_if : (m : MetaKey) (force : Bool) (ask : Made Note) (ends : List (Made Note)) (x : Refreshed) → BecameOf c P m force ask ends x → BecameOf c Q m force ask ends x
+  became_if m force ask ends (AlreadyKept k) h = h
+  became_if m force ask ends (Remade k) h = rendered_if m force ask ends k _ h
+  became_if m force ask ends (Unkept k) h = (h.0, h.1, rendered_if m force ask ends k h.0 h.2)
+
+  came_if : (m : MetaKey) (force : Bool) (seen : FrontedBook) (gained : List (Made Note)) (r : Result Refreshed GetFault) → CameTo c P m force seen gained r → CameTo c Q m force seen gained r
+  came_if m force seen gained (Ok x) h = record {
+    busy = h.busy;
+    ask = h.ask;
+    ends = h.ends;
+    all = h.all;
+    waited = h.waited;
+    became = became_if m force h.ask h.ends x h.became;
+    newer_than_seen = h.newer_than_seen;
+    newer_than_found = h.newer_than_found;
+  }
+  came_if m force seen gained (Err got.SourceFault) h = h
+  came_if m force seen gained (Err got.Spent) h = h
+  came_if m force seen gained (Err got.OutOfMemory) h = h
+
+  work_if : (kind : JobKind) (at : Place) (v : Visit) → IsWorkAt c P kind at v → IsWorkAt c Q kind at v
+  work_if kind (Metatile m) v h = record { answer = h.answer; came_to = came_if m _ v.seen v.gained h.answer h.came_to; ended = h.ended; later = h.later; cause = h.cause }
+  work_if kind (Cut cover) v h = h
+
+  visit_if : (job : Job) (v : Visit) → IsVisit c P job v → IsVisit c Q job v
+  visit_if job v h = record { at = h.at; is_place = h.is_place; work = work_if job.kind h.at v h.work }
+
+-- if the pass tells a sound cabinet, the source is the catalogue's
+pub visited_so : (c : Catalogue) (Told : Type 0) (job : Job) (place before after : ℕ) (p q : HallPass) (end : PlaceEnd) → (p.told ≡ true → Told)
+    → Visits (Gains c) c ((p.told ≡ true) × Told) job place p.book q.book before after p q end → HasVisited c job place before after p q end
+visited_so c Told job place before after p q end owes h = record {
+  gained = h.gained;
+  is = h.gains.is;
+  visit = record { visit = visit_if c ((p.told ≡ true) × Told) (p.told ≡ true) (λ tells. (tells, owes tells)) job _ h.visit; turns = h.gains.turns };
+}

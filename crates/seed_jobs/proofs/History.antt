@@ -4,11 +4,11 @@ use Rattle.std.specs.Prelude.{slice_get}
 use Rattle.std.proofs.lemmas.List.{append-nil, append_assoc}
 use Rattle.std.proofs.lemmas.Option.{none-some, slice_get-get_or}
 use Rattle.catalog.specs.declared.catalogue.Catalogue.{Catalogue}
+use Rattle.job_places.specs.declared.tally.Tally.{Tally}
 use Rattle.job_board.specs.declared.progress.Progress.{Progress}
 use Rattle.job_board.specs.SheetCalls.{HasEnded}
 use Rattle.job_board.specs.Hands.{Holding, Sheet}
 use Rattle.job_forms.specs.declared.job.Job.{Job}
-use Rattle.seed_jobs.specs.declared.tally.Tally.{Tally}
 use Rattle.seed_jobs.specs.Crews.{SeesEnd, total_of}
 use Rattle.truncation_list.specs.declared.book.FrontedBook.{FrontedBook}
 use Rattle.truncation_list.specs.Books.{AnswersForFronted}

@@ -5,11 +5,11 @@ use Rattle.std.proofs.lemmas.List.Elements.{All-append, All-cons, All-head, All-
 use Rattle.atomic_table.specs.Seated.{TableId}
 use Rattle.cache_hall.specs.Turned.{HallPass}
 use Rattle.catalog.specs.declared.catalogue.Catalogue.{Catalogue}
+use Rattle.job_places.specs.declared.tally.Tally.{Tally}
 use Rattle.job_board.specs.declared.standing.Account.{Account}
 use Rattle.job_board.specs.Hands.{AreFresh, Holding, Sheet, fresh_holding, own}
 use Rattle.job_board.specs.Standings.{fresh}
 use Rattle.job_forms.specs.declared.job.Job.{Job}
-use Rattle.seed_jobs.specs.declared.tally.Tally.{Tally}
 use Rattle.seed_jobs.specs.Crews.{HaveWorked, hands_of}
 use Rattle.seed_jobs.specs.Workers.{MayWork, Worker}
 use Rattle.seed_jobs.specs.Works.{Works}

@@ -1,22 +1,24 @@
 -- The places of a crew are shared out.
-use Rattle.std.specs.Prelude.{IfSome}
+use Rattle.std.specs.Prelude.{IfSome, not}
 use Rattle.std.proofs.Common.{ℕ, zero, suc, ◌≡◌, ◌≢◌, ◌+◌, ◌<◌, ◌≤◌, All, List, [], ◌∷◌, ◌++◌, length, get_or, replicate, slice_get, Option, Some, None, sum_by, refl, sym, ap, subst, ◌∙◌, arith}
 use Rattle.std.proofs.lemmas.List.Sums.{sum_by-cons}
 use Rattle.atomic_table.specs.Seated.{TableId}
 use Rattle.catalog.specs.declared.catalogue.Catalogue.{Catalogue}
+use Rattle.job_places.specs.declared.tally.Tally.{Tally}
+use Rattle.job_places.specs.Ends.{is_done}
 use Rattle.job_board.specs.declared.standing.Account.{Account}
 use Rattle.job_board.specs.declared.standing.End.TheVariants.{Open}
 use Rattle.job_board.specs.SheetCalls.{claimed_by, done_by, failed_by}
 use Rattle.job_board.specs.Hands.{AreFresh, Holding, Sheet, fresh_holding, own}
 use Rattle.job_board.specs.Standings.{fresh}
 use Rattle.job_forms.specs.declared.job.Job.{Job}
-use Rattle.seed_jobs.specs.declared.tally.Tally.{Tally}
 use Rattle.seed_jobs.specs.Crews.{AreShared, HaveWorked, SeesEnd, hands_of, total_of}
 use Rattle.seed_jobs.specs.Gathered.{AreAlike, AreAll, IsAlike}
 use Rattle.seed_jobs.specs.Totals.{HasFew}
-use Rattle.seed_jobs.specs.Visits.{visited}
 use Rattle.seed_jobs.specs.Workers.{MayWork, Worker}
 use Rattle.seed_jobs.specs.Works.{Works}
+use Rattle.seed_jobs.specs.Visits.{visited}
+use Rattle.seed_jobs.proofs.Working.{as_many, passing_counted}
 
 some_same : {X : Type 0} {a b : X} → Some a ≡ Some b → a ≡ b
 some_same e = cc
@@ -77,7 +79,7 @@ module _ (c : Catalogue) (job : Job) where
         let places = ap (λ (s : Sheet). s.places) may.of_sheet in
         let within = works.within in
         let all = works.adds_up in
-        record { claimed = omega (arith, within, places, most); done = omega (arith, within, places, most, all); failed = omega (arith, within, places, most, all) }
+        record { places = omega (arith, within, places, most); done = omega (arith, within, places, most, all); failed = omega (arith, within, places, most, all) }
 
     -- each tally counts no more than all places
     pub few : (before after : List Worker) (ts : List Tally) → sheet.places ≤ 10000000 → HaveWorked c job before after ts → All (MayWork table c sheet) before → All HasFew ts
@@ -106,14 +108,14 @@ module _ (c : Catalogue) (job : Job) where
     reported : own was ≡ fresh → (own h).done + (own h).failed ≡ length (own h).claimed
 
   -- what a hand that had claimed nothing has claimed, and reported, is its tally
-  counted : (b a : Worker) (t : Tally) → Works c job b a t → own b.hand ≡ fresh → (length (own a.hand).claimed ≡ t.claimed) × ((own a.hand).done ≡ t.done) × ((own a.hand).failed ≡ t.failed)
+  counted : (b a : Worker) (t : Tally) → Works c job b a t → own b.hand ≡ fresh → (length (own a.hand).claimed ≡ t.places) × ((own a.hand).done ≡ t.done) × ((own a.hand).failed ≡ t.failed)
   counted b a t works none =
       let vs = works.worked.visits in
       let is = works.worked.gains.account in
       let counts = works.worked.counts in (
-        ap (λ (x : Account). length x.claimed) is ∙ ap (λ (x : Account). length (x.claimed ++ visited vs)) none ∙ sym (ap (λ (x : Tally). x.claimed) counts),
-        omega (arith, ap (λ (x : Account). x.done) is, ap (λ (x : Account). x.done) none, ap (λ (x : Tally). x.done) counts),
-        omega (arith, ap (λ (x : Account). x.failed) is, ap (λ (x : Account). x.failed) none, ap (λ (x : Tally). x.failed) counts),
+        ap (λ (x : Account). length x.claimed) is ∙ ap (λ (x : Account). length (x.claimed ++ visited vs)) none ∙ sym (as_many vs) ∙ sym (ap (λ (x : Tally). x.places) counts),
+        omega (arith, ap (λ (x : Account). x.done) is, ap (λ (x : Account). x.done) none, ap (λ (x : Tally). x.done) counts, passing_counted is_done vs),
+        omega (arith, ap (λ (x : Account). x.failed) is, ap (λ (x : Account). x.failed) none, ap (λ (x : Tally). x.failed) counts, passing_counted (λ e. not (is_done e)) vs),
       )
 
   reported_one : (b a : Worker) (t : Tally) → Works c job b a t → own b.hand ≡ fresh → (own a.hand).done + (own a.hand).failed ≡ length (own a.hand).claimed
@@ -184,8 +186,8 @@ module _ (c : Catalogue) (job : Job) where
       none_yet : (n : ℕ) (h : Holding) → slice_get (hands_of before) n ≡ Some h → own h ≡ fresh
       none_yet n h e = (fresh_at (hands_of before) all n h e).1
 
-      claimed_sum : claimed_by (hands_of after) ≡ (total_of ts).claimed
-      claimed_sum = sum_of (λ (x : Account). length x.claimed) (λ (x : Tally). x.claimed) (λ b a t w none. (counted b a t w none).0) before after ts works none_yet
+      claimed_sum : claimed_by (hands_of after) ≡ (total_of ts).places
+      claimed_sum = sum_of (λ (x : Account). length x.claimed) (λ (x : Tally). x.places) (λ b a t w none. (counted b a t w none).0) before after ts works none_yet
 
       done_sum : done_by (hands_of after) ≡ (total_of ts).done
       done_sum = sum_of (λ (x : Account). x.done) (λ (x : Tally). x.done) (λ b a t w none. (counted b a t w none).1) before after ts works none_yet
@@ -193,9 +195,9 @@ module _ (c : Catalogue) (job : Job) where
       failed_sum : failed_by (hands_of after) ≡ (total_of ts).failed
       failed_sum = sum_of (λ (x : Account). x.failed) (λ (x : Tally). x.failed) (λ b a t w none. (counted b a t w none).2) before after ts works none_yet
 
-    pub shared_at_last : (before after : List Worker) (ts : List Tally) (total : Tally) → HaveWorked c job before after ts → AreFresh sheet (hands_of before) → AreShared sheet (hands_of after) (claimed_by (hands_of after)) → total ≡ total_of ts → AreShared sheet (hands_of after) total.claimed
+    pub shared_at_last : (before after : List Worker) (ts : List Tally) (total : Tally) → HaveWorked c job before after ts → AreFresh sheet (hands_of before) → AreShared sheet (hands_of after) (claimed_by (hands_of after)) → total ≡ total_of ts → AreShared sheet (hands_of after) total.places
     shared_at_last before after ts total works all shared is =
-        subst (λ (n : ℕ). AreShared sheet (hands_of after) n) (claimed_sum before after ts works all ∙ sym (ap (λ (x : Tally). x.claimed) is)) shared
+        subst (λ (n : ℕ). AreShared sheet (hands_of after) n) (claimed_sum before after ts works all ∙ sym (ap (λ (x : Tally). x.places) is)) shared
 
     pub ended_at_last : (before after : List Worker) (ts : List Tally) (total : Tally) (watch : Option Holding) → HaveWorked c job before after ts → AreFresh sheet (hands_of before)
         → IfSome watch (λ (w : Holding). SeesEnd sheet (done_by (hands_of after)) (failed_by (hands_of after)) w) → total ≡ total_of ts → IfSome watch (λ (w : Holding). SeesEnd sheet total.done total.failed w)

@@ -2,8 +2,8 @@
 use Rattle.std.proofs.Common.{ℕ, zero, suc, ◌+◌, ◌<◌, ◌≤◌, ◌^◌, All, List, [], ◌∷◌, length, get_or, take, arith}
 use Rattle.std.specs.List.{sum_by}
 use Rattle.std.proofs.lemmas.List.Sums.{sum_by-le, sum_by_more_le}
+use Rattle.job_places.specs.declared.tally.Tally.{Tally}
 use Rattle.seed_jobs.specs.declared.member.Member.{Member}
-use Rattle.seed_jobs.specs.declared.tally.Tally.{Tally}
 use Rattle.seed_jobs.specs.Members.{tallies_of}
 
 module _ {K S G : Type 0} (count : Tally → ℕ) where

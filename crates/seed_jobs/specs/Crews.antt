@@ -1,11 +1,11 @@
 -- What a crew does: each of its workers works, and their places are shared out.
 use Rattle.std.specs.Prelude.{◌≡◌, ℕ, List, [], ◌∷◌, map, sum_by, Contains, ⊤}
 use Rattle.catalog.specs.declared.catalogue.Catalogue.{Catalogue}
+use Rattle.job_places.specs.declared.tally.Tally.{Tally}
 use Rattle.job_board.specs.declared.standing.End.TheVariants.{AllClaimed}
 use Rattle.job_board.specs.SheetCalls.{HasEnded, ShareOut, claimed_by}
 use Rattle.job_board.specs.Hands.{Holding, Sheet, own, watching}
 use Rattle.job_forms.specs.declared.job.Job.{Job}
-use Rattle.seed_jobs.specs.declared.tally.Tally.{Tally}
 use Rattle.seed_jobs.specs.Workers.{Worker}
 use Rattle.seed_jobs.specs.Works.{Works}
 
@@ -20,7 +20,7 @@ HaveWorked c job (b ∷ before) (a ∷ after) [] = ⊥
 
 -- the counts of all together
 abbrev pub total_of : List Tally → Tally
-total_of ts = record { claimed = sum_by (λ (t : Tally). t.claimed) ts; done = sum_by (λ (t : Tally). t.done) ts; failed = sum_by (λ (t : Tally). t.failed) ts }
+total_of ts = record { places = sum_by (λ (t : Tally). t.places) ts; done = sum_by (λ (t : Tally). t.done) ts; failed = sum_by (λ (t : Tally). t.failed) ts }
 
 abbrev pub hands_of : List Worker → List Holding
 hands_of ws = map (λ w. w.hand) ws

@@ -1,7 +1,7 @@
 -- The members of a crew as workers.
 use Rattle.std.specs.Prelude.{ℕ, List, map, Option}
+use Rattle.job_places.specs.declared.tally.Tally.{Tally}
 use Rattle.seed_jobs.specs.declared.member.Member.{Member}
-use Rattle.seed_jobs.specs.declared.tally.Tally.{Tally}
 use Rattle.seed_jobs.specs.Workers.{Worker}
 
 -- by which number a source tells, and how often it has failed

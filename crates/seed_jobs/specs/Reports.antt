@@ -1,10 +1,9 @@
 -- What a worker's steps on its sheet do to its hand.
 -- A tie between the code and its definitions: the promise can be read without it.
-use Rattle.std.specs.Prelude.{◌≡◌, ℕ, ◌+◌, Bool, true, false, not, List, [], ◌∷◌, ◌++◌}
+use Rattle.std.specs.Prelude.{◌≡◌, ℕ, Bool, true, false, not, List, [], ◌∷◌, ◌++◌}
 use Rattle.job_board.specs.declared.standing.Account.{Account}
 use Rattle.job_board.specs.SheetCalls.{one_done, one_failed}
 use Rattle.job_board.specs.Hands.{Holding, own}
-use Rattle.seed_jobs.specs.declared.tally.Tally.{Tally}
 
 -- the account after a report
 abbrev pub reporting : Bool → Account → Account
@@ -23,8 +22,3 @@ pub record Reports (before after : Holding) (place : ℕ) (is_done : Bool) : Typ
   pub account : own after ≡ reporting is_done (own before)
   pub done : after.done ≡ before.done ++ place_if is_done place
   pub failed : after.failed ≡ before.failed ++ place_if (not is_done) place
-
--- a tally with one more place
-abbrev pub one_more : Bool → Tally → Tally
-one_more true t = record { claimed = t.claimed + 1; done = t.done + 1; failed = t.failed }
-one_more false t = record { claimed = t.claimed + 1; done = t.done; failed = t.failed + 1 }

@@ -1,6 +1,7 @@
 -- The jobs that a runner takes from a board, and what becomes of each.
 use Rattle.std.specs.Prelude.{◌≡◌, ◌⊎◌, Bool, true, false, List, [], ◌∷◌, ◌++◌, length, map, reverse, Some, None}
 use Rattle.catalog.specs.declared.catalogue.Catalogue.{Catalogue}
+use Rattle.job_places.specs.declared.tally.Tally.{Tally}
 use Rattle.job_board.specs.declared.posted.Posted.{Posted}
 use Rattle.job_board.specs.declared.posted.WatchedJob.{WatchedJob}
 use Rattle.job_board.specs.declared.shown.Command.TheVariants as command
@@ -13,7 +14,6 @@ use Rattle.job_board.specs.Hands.{Holding, Sheet}
 use Rattle.job_forms.specs.declared.job.Job.{Job}
 use Rattle.job_forms.specs.Job.{Fits}
 use Rattle.job_forms.specs.Places.{places}
-use Rattle.seed_jobs.specs.declared.tally.Tally.{Tally}
 use Rattle.seed_jobs.specs.Crews.{AreShared, HaveWorked, SeesEnd, hands_of, total_of}
 use Rattle.seed_jobs.specs.Workers.{Worker}
 use Rattle.truncation_list.specs.Books.{AnswersForFronted}
@@ -38,7 +38,7 @@ pub record IsRun (c : Catalogue) (job : Job) (sheet : Sheet) (hands : List Holdi
   pub are : after ≡ others ++ reverse (map without_hand crew_after)
   pub hands_are : hands_of crew ≡ hands
   pub worked : HaveWorked c job crew crew_after tallies
-  pub shared : AreShared sheet (hands_of crew_after) (total_of tallies).claimed
+  pub shared : AreShared sheet (hands_of crew_after) (total_of tallies).places
 
 -- The board was told of the end of this job, in a turn that found it there, by a watch of its sheet which has seen the end: so many places
 -- done, and so many failed. From then on it is over, with these numbers

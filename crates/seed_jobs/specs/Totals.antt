@@ -1,10 +1,10 @@
 -- How large the counts of one member can be.
 -- A tie between the code and its definitions: the promise can be read without it.
 use Rattle.std.specs.Prelude.{◌≤◌}
-use Rattle.seed_jobs.specs.declared.tally.Tally.{Tally}
+use Rattle.job_places.specs.declared.tally.Tally.{Tally}
 
 -- each count is one of the places of a job
 pub record HasFew (t : Tally) : Type 0 where
-  pub claimed : t.claimed ≤ 10000000
+  pub places : t.places ≤ 10000000
   pub done : t.done ≤ 10000000
   pub failed : t.failed ≤ 10000000

@@ -1,14 +1,16 @@
 -- What a worker does: it visits the places that its hand claims, until that meets None.
-use Rattle.std.specs.Prelude.{◌≡◌, ◌≢◌, ◌+◌, ◌≤◌, List, ◌++◌, length}
+use Rattle.std.specs.Prelude.{◌≡◌, ◌≢◌, ◌+◌, ◌≤◌, List, ◌++◌, length, map}
 use Rattle.catalog.specs.declared.catalogue.Catalogue.{Catalogue}
+use Rattle.job_places.specs.declared.tally.Tally.{Tally}
+use Rattle.job_places.specs.Tallies.{tally_of}
+use Rattle.job_places.specs.Visits.{Visit}
 use Rattle.job_board.specs.declared.standing.Account.{Account}
 use Rattle.job_board.specs.declared.standing.End.{End}
 use Rattle.job_board.specs.declared.standing.End.TheVariants.{Open}
 use Rattle.job_board.specs.Hands.{Holding, own}
 use Rattle.job_forms.specs.declared.job.Job.{Job}
 use Rattle.turnstile.specs.Passes.{seen_by}
-use Rattle.seed_jobs.specs.declared.tally.Tally.{Tally}
-use Rattle.seed_jobs.specs.Visits.{AreVisits, Visit, done_of, failed_of, tally_of, turns_of, visited}
+use Rattle.seed_jobs.specs.Visits.{AreVisits, done_of, failed_of, turns_of, visited}
 use Rattle.seed_jobs.specs.Workers.{Worker}
 
 -- an account that gained these visits and then stands so
@@ -29,7 +31,7 @@ pub record HasWorked (c : Catalogue) (job : Job) (before after : Worker) (tally 
   pub made : after.pass ≡ seen_by before.pass after.pass.book (turns_of visits)
   pub are_visits : AreVisits c before.pass.told job before.pass.book before.faults visits after.pass.book after.faults
   pub gains : HandGains before.hand after.hand visits end
-  pub counts : tally ≡ tally_of visits
+  pub counts : tally ≡ tally_of (map (λ v. v.end) visits)
   pub same_source : after.source ≡ before.source
 
 -- THE WHOLE: the hand has met None; what is done and what failed is all that it claimed, and no more than all places
@@ -37,5 +39,5 @@ pub record Works (c : Catalogue) (job : Job) (before after : Worker) (tally : Ta
   pub end : End
   pub met_none : end ≢ Open
   pub worked : HasWorked c job before after tally end
-  pub adds_up : tally.done + tally.failed ≡ tally.claimed
-  pub within : tally.claimed ≤ before.hand.sheet.places
+  pub adds_up : tally.done + tally.failed ≡ tally.places
+  pub within : tally.places ≤ before.hand.sheet.places

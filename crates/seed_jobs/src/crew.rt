@@ -12,13 +12,13 @@ ghost use Rattle.seed_jobs.specs.Works.{Works};
 use crate::gate::Gate;
 use crate::gathering::gather;
 use crate::member::Member;
-use crate::tally::Tally;
 use crate::totals::total;
 use crate::worker::work;
 use cabinet::Keeper;
 use cache_hall::Hall;
 use job_board::{Hand, JobSheet};
 use job_forms::Job;
+use job_places::Tally;
 use source_render::Source;
 use std::alloc::Global;
 use std::sync::Wait;
@@ -116,7 +116,7 @@ pub fn run_seed<R: Threads + Wait + Sync, K: Keeper + Send, S: Source + Send, G:
         (workers_of S.told S.faults crew.old) (workers_of S.told S.faults crew.new) (tallies_of crew.new) }
     ensures total { result.total ≡ total_of (tallies_of crew.new) }
     ensures shared { AreFresh sheet.now (hands_of (workers_of S.told S.faults crew.old))
-        → AreShared sheet.now (hands_of (workers_of S.told S.faults crew.new)) result.total.claimed }
+        → AreShared sheet.now (hands_of (workers_of S.told S.faults crew.new)) result.total.places }
     ensures ended { AreFresh sheet.now (hands_of (workers_of S.told S.faults crew.old))
         → IfSome result.watch (λ w. SeesEnd sheet.now result.total.done result.total.failed w) }
     ensures none { IfNone result.watch (crew.old ≡ []) }

@@ -14,11 +14,11 @@ use crate::crew::{CrewEnd, run_seed};
 use crate::gates::JobGate;
 use crate::member::Member;
 use crate::runner::IdleMember;
-use crate::tally::Tally;
 use cabinet::Keeper;
 use cache_hall::Hall;
 use job_board::{Hand, JobSheet};
 use job_forms::Job;
+use job_places::Tally;
 use source_render::Source;
 use std::alloc::Global;
 use std::sync::Wait;
@@ -95,7 +95,7 @@ fn crew_works<R: Threads + Wait + Sync, K: Keeper + Send, S: Source + Send, G: J
     requires fresh { AreFresh sheet.now (hands_of (workers_of S.told S.faults crew.old.items)) }
     ensures worked { HaveWorked hall.now.catalogue job.now
         (workers_of S.told S.faults crew.old.items) (workers_of S.told S.faults crew.new.items) (tallies_of crew.new.items) }
-    ensures shared { AreShared sheet.now (hands_of (workers_of S.told S.faults crew.new.items)) (total_of (tallies_of crew.new.items)).claimed }
+    ensures shared { AreShared sheet.now (hands_of (workers_of S.told S.faults crew.new.items)) (total_of (tallies_of crew.new.items)).places }
     ensures ended { SeesEnd sheet.now (total_of (tallies_of crew.new.items)).done (total_of (tallies_of crew.new.items)).failed result }
     ensures room { vec_capacity crew.new ≡ vec_capacity crew.old }
 {

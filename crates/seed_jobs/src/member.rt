@@ -1,9 +1,9 @@
 //! A member of a crew.
 use crate::gate::Gate;
-use crate::tally::Tally;
 use cabinet::Keeper;
 use cabinet_chest::CabinetChest;
 use job_board::Hand;
+use job_places::Tally;
 use source_render::Source;
 use turnstile::Pass;
 

@@ -6,8 +6,8 @@ ghost use Rattle.seed_jobs.specs.Totals.{HasFew};
 
 use crate::gate::Gate;
 use crate::member::Member;
-use crate::tally::Tally;
 use cabinet::Keeper;
+use job_places::Tally;
 use source_render::Source;
 
 /// The counts of all members together.
@@ -16,16 +16,16 @@ pub(crate) fn total<K: Keeper, S: Source, G: Gate>(crew: &[Member<K, S, G>]) -> 
     requires few { All HasFew (tallies_of crew.now) }
     ensures { result ≡ total_of (tallies_of crew.now) }
 {
-    let mut claimed = 0;
+    let mut places = 0;
     let mut done = 0;
     let mut failed = 0;
     'adding: for member in crew {
-        claimed += member.tally.claimed;
+        places += member.tally.places;
         done += member.tally.done;
         failed += member.tally.failed;
     }
     Tally {
-        claimed,
+        places,
         done,
         failed,
     }

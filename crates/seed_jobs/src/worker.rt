@@ -8,13 +8,13 @@ ghost use Rattle.seed_jobs.specs.Works.{Works};
 
 use crate::gate::Gate;
 use crate::reporting::report;
-use crate::tally::Tally;
-use crate::visiting::is_done;
+use crate::visiting::visit;
 use cabinet::Keeper;
 use cabinet_chest::CabinetChest;
 use cache_hall::Hall;
 use job_board::{Hand, JobSheet};
 use job_forms::Job;
+use job_places::Tally;
 use source_render::Source;
 use std::alloc::Global;
 use std::sync::Wait;
@@ -47,7 +47,7 @@ pub fn work<R: Wait, K: Keeper, S: Source, G: Gate>(
     'working: while let Some(place) = sheet.claim(hand) {
         hand.laws();
         gate.at(place);
-        let is_done = is_done(rt, alloc, hall, job, place, pass, source);
+        let is_done = visit(rt, alloc, hall, job, place, pass, source).is_done();
         report(sheet, hand, place, is_done);
         tally = tally.and(is_done);
     }

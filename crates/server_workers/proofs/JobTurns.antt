@@ -11,13 +11,14 @@ use Rattle.catalog.specs.declared.catalogue.Catalogue.{Catalogue}
 use Rattle.job_board.specs.declared.shown.Note as board
 use Rattle.job_board.specs.declared.shown.Reply.{Reply}
 use Rattle.job_board.specs.declared.shown.Reply.TheVariants as reply
+use Rattle.job_places.specs.declared.tally.Tally.{Tally}
+use Rattle.job_places.specs.Visits.{Visit}
 use Rattle.seed_jobs.specs.Idles.{Idle, MayJoin, Standby, passes_of, without_hand}
 use Rattle.seed_jobs.specs.Runs.{AreRun, DoesAfter, IsRun, Round}
 use Rattle.job_board.specs.Hands.{Holding, Sheet}
 use Rattle.job_forms.specs.declared.job.Job.{Job}
-use Rattle.seed_jobs.specs.declared.tally.Tally.{Tally}
 use Rattle.seed_jobs.specs.Crews.{HaveWorked}
-use Rattle.seed_jobs.specs.Visits.{AreVisits, Visit, turns_of}
+use Rattle.seed_jobs.specs.Visits.{AreVisits, turns_of}
 use Rattle.seed_jobs.specs.Workers.{Worker}
 use Rattle.truncation_list.specs.declared.book.FrontedBook.{FrontedBook}
 use Rattle.turnstile.specs.declared.view.Made.{Made}

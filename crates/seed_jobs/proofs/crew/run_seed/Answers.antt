@@ -1,5 +1,5 @@
 use Rattle.std.proofs.Common.{arith, subst, sym, All, List}
-use Rattle.seed_jobs.specs.declared.tally.Tally.{Tally}
+use Rattle.job_places.specs.declared.tally.Tally.{Tally}
 use Rattle.seed_jobs.specs.Crews.{HaveWorked}
 use Rattle.seed_jobs.specs.Members.{tallies_of, workers_of}
 use Rattle.seed_jobs.specs.Totals.{HasFew}

@@ -2,10 +2,10 @@ use Rattle.std.proofs.Common.{arith, ap}
 use Rattle.seed_jobs.proofs.Sums.{fits}
 use Rattle.seed_jobs.proofs.totals.total.Goals as goal
 
-pub overflow_add-claimed : goal.overflow_add-claimed
-overflow_add-claimed g c =
-    let all = fits (λ t. t.claimed) c.args.crew.now c.requires.size (λ k d below. (c.requires.few k d below).claimed) c.adding.member-index c.member-item.result c.adding-test.true in
-    let item = ap (λ m. m.tally.claimed) c.member-item.is in
+pub overflow_add-places : goal.overflow_add-places
+overflow_add-places g c =
+    let all = fits (λ t. t.places) c.args.crew.now c.requires.size (λ k d below. (c.requires.few k d below).places) c.adding.member-index c.member-item.result c.adding-test.true in
+    let item = ap (λ m. m.tally.places) c.member-item.is in
     rw c.adding.invariant.0 (rw item (omega (arith, all)))
 
 pub overflow_add-done : goal.overflow_add-done

@@ -1,4 +1,6 @@
 //! How a place of a job ends.
+ghost use Rattle.std.specs.Prelude.{◌≡◌};
+ghost use Rattle.job_places.specs.Ends.{is_done};
 
 /// Why a place failed.
 #[derive(Clone, Copy, PartialEq, Eq)]
@@ -22,4 +24,16 @@ pub enum PlaceEnd {
     Done,
     /// It was left undone.
     Failed(PlaceFault),
+}
+
+impl PlaceEnd {
+    /// Whether a place that ended so is done.
+    pub fn is_done(&self) -> bool
+        ensures { result ≡ is_done self.now }
+    {
+        match self {
+            PlaceEnd::Done => true,
+            PlaceEnd::Failed(_) => false,
+        }
+    }
 }
