@@ -34,11 +34,25 @@ use Rattle.tile_requests.specs.declared.outcome.Plain.TheVariants as plain
 use Rattle.tile_requests.specs.declared.request.Request.{Request}
 use Rattle.tile_requests.specs.declared.request.Request.TheVariants as request
 use Rattle.tile_requests.specs.Counted.{AreAllCounts, AreCounts, IsCount, IsCounted}
-use Rattle.tile_requests.specs.Immediate.{IsBoth, IsImmediate, IsWritten}
-use Rattle.tile_requests.specs.Requests.{cut_at, cut_by, dropped, expired_in, told_at, told_usage}
+use Rattle.tile_requests.specs.Immediate.{IsImmediate}
+use Rattle.tile_requests.specs.Requests.{Chance, cut_at, cut_by, dropped, expired_in, tile_of, told_at, told_usage}
 use Rattle.tile_requests.specs.Requests as requests
 use Rattle.tile_requests.specs.Served.{IsCutServed, IsExpiryServed, IsServedAtOnce, IsUsageServed, outcome_of_cut, outcome_of_expiry}
 use Rattle.tile_requests.specs.Texts.{counted_text, layer_counts, usage_text}
+
+-- WHAT IS SAID OF AN OUTCOME
+
+-- this is what the cabinet came to, and the outcome
+abbrev pub IsBoth : State × Outcome → Outcome → State → Type 0
+IsBoth done o t = (t ≡ done.0) × (o ≡ done.1)
+
+-- this it came to where what it was to write went unwritten or not, as the disk's count of faults rose or not
+abbrev pub IsWritten : ℕ → ℕ → (Bool → State × Outcome) → Outcome → State → Type 0
+IsWritten before after done o t = (unwritten : Bool) × RoseBy (one_where unwritten) before after × IsBoth (done unwritten) o t
+
+-- memory is left or not for what such a request needs, and what it was to write goes unwritten or not
+abbrev chance_of : Bool → Bool → Chance
+chance_of left unwritten = record { read = true; ask = left; moment = 0; unread = false; work = left; bytes = None; unwritten = unwritten; left = true }
 
 -- TESTS
 
@@ -219,16 +233,25 @@ module _ (x y : Shown) where
 
   -- ANY REQUEST
 
-  nothing : (gained : List (Made Note)) (o told : Outcome) → AreSteps c x gained y → (gained ≡ []) × (o ≡ told) → IsBoth (x.state, told) o y.state
-  nothing gained o told steps (none, is) = let st = subst (λ (ms : List (Made Note)). AreSteps c x ms y) none steps in (st.0, is)
+  both_made : (done : State × Outcome) (o : Outcome) → IsBoth done o y.state → done ≡ (y.state, o)
+  both_made done o is = rw (is.0, is.1) refl
+
+  written : (r : Request) (o : Outcome) → tile_of r ≡ None → (left : Bool) × IsWritten x.faults y.faults (λ unwritten. requests.at_once x.state (chance_of left unwritten) r) o y.state → IsImmediate x.faults y.faults x.state r o y.state
+  written r o other (left, (unwritten, rose, is)) =
+      record { chance = chance_of left unwritten; other = other; faults = omega (arith, rose); made = both_made (requests.at_once x.state (chance_of left unwritten) r) o is }
+
+  looked : (gained : List (Made Note)) (r : Request) (o : Outcome) → AreSteps c x gained y → tile_of r ≡ None → (left : Bool) × IsBoth (requests.at_once x.state (chance_of left false) r) o y.state → IsImmediate x.faults y.faults x.state r o y.state
+  looked gained r o steps other (left, is) = written r o other (left, (false, none_risen x.faults y.faults (steps_later c gained x y steps), is))
+
+  -- one that makes no turn
+  untouched : (gained : List (Made Note)) (r : Request) (o told : Outcome) → AreSteps c x gained y → tile_of r ≡ None → requests.at_once x.state (chance_of true false) r ≡ (x.state, told) → (gained ≡ []) × (o ≡ told) → IsImmediate x.faults y.faults x.state r o y.state
+  untouched gained r o told steps other made (none, is) =
+      let st = subst (λ (ms : List (Made Note)). AreSteps c x ms y) none steps in
+      looked gained r o steps other (true, subst (λ (done : State × Outcome). IsBoth done o y.state) (sym made) (st.0, is))
 
   pub at_once : (gained : List (Made Note)) (r : Request) (o : Outcome) → AreSteps c x gained y → IsServedAtOnce c r gained o → IsImmediate x.faults y.faults x.state r o y.state
-  at_once gained (request.Tile a) o steps h = h
-  at_once gained request.Capabilities o steps h = nothing gained o outcome.Document steps h
-  at_once gained (request.Refused code locator) o steps h = nothing gained o (outcome.Refused code locator) steps h
-  at_once gained request.NotFound o steps h = nothing gained o (outcome.Plain plain.NotFound) steps h
-  at_once gained request.WrongMethod o steps h = nothing gained o (outcome.Plain plain.WrongMethod) steps h
-  at_once gained request.Usage o steps h = usage_served gained o steps h
-  at_once gained (request.Truncation cover) o steps h = cut_served cover gained o steps h
-  at_once gained (request.Unformed fault) o steps h = nothing gained o (outcome.Unformed fault) steps h
-  at_once gained request.Expiry o steps h = expiry_served gained o steps h
+  at_once gained (request.Tile a) o steps h = absurd h
+  at_once gained request.Usage o steps h = looked gained request.Usage o steps refl (usage_served gained o steps h)
+  at_once gained (request.Truncation cover) o steps h = written (request.Truncation cover) o refl (cut_served cover gained o steps h)
+  at_once gained request.Expiry o steps h = written request.Expiry o refl (expiry_served gained o steps h)
+  at_once gained r o steps h = untouched gained r o _ steps refl refl h

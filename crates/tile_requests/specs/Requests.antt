@@ -143,6 +143,21 @@ expired_in s left (Some scope) false = dropped s left (victim_in s scope)
 abbrev pub expired : State → Bool → Bool → State × Outcome
 expired s left unwritten = expired_in s left (scope_exceeded s) unwritten
 
+-- WHAT IS ANSWERED WITHOUT A RENDER
+
+-- What a request that asks for no tile comes to, by the chance of its line: the cabinet after it, and the outcome. The line of a tile is
+-- never looked up: its request comes to the events above.
+abbrev pub at_once : State → Chance → Request → State × Outcome
+at_once s c (request.Tile a) = (s, outcome.Plain plain.NoMemory)
+at_once s c request.Capabilities = (s, outcome.Document)
+at_once s c (request.Refused code locator) = (s, outcome.Refused code locator)
+at_once s c request.NotFound = (s, outcome.Plain plain.NotFound)
+at_once s c request.WrongMethod = (s, outcome.Plain plain.WrongMethod)
+at_once s c request.Usage = (s, told_usage s c.work)
+at_once s c (request.Truncation cover) = cut s cover c.ask c.unwritten
+at_once s c (request.Unformed fault) = (s, outcome.Unformed fault)
+at_once s c request.Expiry = expired s c.work c.unwritten
+
 -- WHAT IS SAID OF REQUESTS
 
 -- 1 where the source failed at the render of this actor, and it is yet to be answered
@@ -156,39 +171,18 @@ owed (Failed t) = 1
 -- the tile that a request asks for
 abbrev pub tile_of : Request → Option Address
 tile_of (request.Tile a) = Some a
-tile_of request.Capabilities = None
-tile_of (request.Refused code locator) = None
-tile_of request.NotFound = None
-tile_of request.WrongMethod = None
-tile_of request.Usage = None
-tile_of (request.Truncation cover) = None
-tile_of (request.Unformed fault) = None
-tile_of request.Expiry = None
+tile_of other = None
 
 -- the number of a tile that is answered, and the encoded tile
 abbrev pub tile_in : Outcome → Option (ℕ × List ℕ)
 tile_in (outcome.Tile hit k text) = Some (k, text)
-tile_in outcome.Document = None
-tile_in (outcome.Refused code locator) = None
-tile_in (outcome.Plain p) = None
-tile_in outcome.SourceFailed = None
-tile_in (outcome.Usage text) = None
-tile_in (outcome.Cut number) = None
-tile_in (outcome.Unformed fault) = None
-tile_in (outcome.Dropped text) = None
-tile_in (outcome.Job text) = None
+tile_in other = None
 
 -- a tile that is asked for is of the catalogue, and the cover of a truncation
 abbrev pub IsOf : Catalogue → Request → Type 0
 IsOf c (request.Tile a) = IsTile c a
-IsOf c request.Capabilities = ⊤
-IsOf c (request.Refused code locator) = ⊤
-IsOf c request.NotFound = ⊤
-IsOf c request.WrongMethod = ⊤
-IsOf c request.Usage = ⊤
 IsOf c (request.Truncation cover) = IsCoverOf c cover
-IsOf c (request.Unformed fault) = ⊤
-IsOf c request.Expiry = ⊤
+IsOf c other = ⊤
 
 -- the bytes of a tile that is answered are the encoded tile of its number
 abbrev pub IsTrueTile : Catalogue → Address → Outcome → Type 0

@@ -35,6 +35,6 @@ pub use request::{Mode, Request, outcome_of, outcome_of_get};
 pub use request_events::events;
 pub use response::{bare, parts_of};
 pub use response_head::head;
-pub use routes::{Route, path_of, read_request};
+pub use routes::{path_of, read_request};
 pub use small_text::{add, add_number, send_behind};
 pub use usage::usage_text;

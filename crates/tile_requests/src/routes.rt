@@ -5,9 +5,10 @@ ghost use Rattle.catalog.specs.Valid.{IsValid};
 ghost use Rattle.catalog.specs.declared.catalogue.Catalogue.{Catalogue};
 ghost use Rattle.job_forms.specs.Cover.{cover_of};
 ghost use Rattle.tile_requests.specs.Requests.{IsOf};
-ghost use Rattle.tile_requests.specs.Routes.{path_of, query_of, by_get, by_post, route_of, request_of, request_or_none, truncation_of, request_at, request_for};
+ghost use Rattle.tile_requests.specs.Routes.{path_of, query_of, by_get, by_post, request_of, request_or_none, truncation_of, request_for};
 ghost use Rattle.tile_requests.specs.Shown.{shown_message};
-ghost use Rattle.wmts_kvp.specs.Reading.{IsOfCatalogue};
+ghost use Rattle.wmts_kvp.specs.Reading.{IsOfCatalogue, query_reading};
+ghost use Rattle.wmts_rest.specs.Paths.{path_reading};
 
 use crate::message_ref::MessageRef;
 use crate::request::Request;
@@ -17,25 +18,6 @@ use job_forms::{JobFault, read_cover};
 use std::alloc::{AllocError, Global};
 use wmts_kvp::{Query, read_query};
 use wmts_rest::RestTable;
-
-/// Where the path of a message leads.
-#[derive(Clone, Copy, PartialEq, Eq)]
-pub enum Route {
-    /// To the reading of the query.
-    Query,
-    /// To the reading of the path.
-    Path,
-    /// To the text of what is kept.
-    Usage,
-    /// To the truncation by the cover of the body.
-    Truncate,
-    /// To an expiry.
-    Expire,
-    /// Nowhere.
-    NotFound,
-    /// To what takes another method.
-    WrongMethod,
-}
 
 /// How many bytes the path of a target has.
 fn path_len(target: &[u8]) -> usize
@@ -69,49 +51,6 @@ fn query_of(target: &[u8]) -> &[u8]
         [] => behind,
         [_, query @ ..] => query,
     }
-}
-
-/// Where a path leads that takes GET.
-fn by_get(method: Method, found: Route) -> Route
-    ensures { result ≡ by_get method found }
-{
-    match method {
-        Method::Get => found,
-        Method::Post | Method::Delete | Method::Other => Route::WrongMethod,
-    }
-}
-
-/// Where a path leads that takes POST.
-fn by_post(method: Method, found: Route) -> Route
-    ensures { result ≡ by_post method found }
-{
-    match method {
-        Method::Post => found,
-        Method::Get | Method::Delete | Method::Other => Route::WrongMethod,
-    }
-}
-
-/// Where a path leads by a method.
-#[tactic(auto, unfolding(crate::specs::Routes::route_of))]
-fn route_of(method: Method, path: &[u8]) -> Route
-    ensures { result ≡ route_of method path.now }
-{
-    if path == b"/wmts".as_slice() {
-        return by_get(method, Route::Query);
-    }
-    if path.starts_with(b"/rest/wmts/") {
-        return by_get(method, Route::Path);
-    }
-    if path == b"/usage".as_slice() {
-        return by_get(method, Route::Usage);
-    }
-    if path == b"/truncate".as_slice() {
-        return by_post(method, Route::Truncate);
-    }
-    if path == b"/expire".as_slice() {
-        return by_post(method, Route::Expire);
-    }
-    Route::NotFound
 }
 
 /// What the reading of a query asks for.
@@ -150,36 +89,85 @@ fn truncation_of(alloc: Global, catalogue: &Catalogue, text: &[u8]) -> Result<Re
     }
 }
 
-/// What a message asks for where its path leads there. `AllocError` where memory runs out.
-fn request_at(
+/// What is asked for at a path that takes GET.
+fn by_get(method: Method, asked: Request) -> Request
+    ensures value { result ≡ by_get method asked }
+    ensures of { (c : Catalogue) → IsOf c asked → IsOf c result }
+{
+    match method {
+        Method::Get => asked,
+        Method::Post | Method::Delete | Method::Other => Request::WrongMethod,
+    }
+}
+
+/// What is asked for at a path that takes POST.
+fn by_post(method: Method, asked: Request) -> Request
+    ensures value { result ≡ by_post method asked }
+    ensures of { (c : Catalogue) → IsOf c asked → IsOf c result }
+{
+    match method {
+        Method::Post => asked,
+        Method::Get | Method::Delete | Method::Other => Request::WrongMethod,
+    }
+}
+
+/// What is asked for by the query of a target. `AllocError` where memory runs out.
+fn by_query(
+    alloc: Global,
+    catalogue: &Catalogue,
+    message: &MessageRef<'_>,
+) -> Result<Request, AllocError>
+    requires { IsValid catalogue.now }
+    ensures value { IfOk result (λ r. r ≡ by_get message.now.method (request_of (query_reading catalogue.now (query_of message.now.target.now)))) }
+    ensures of { IfOk result (λ r. IsOf catalogue.now r) }
+{
+    match message.method {
+        Method::Get => {
+            let query = read_query(alloc, catalogue, query_of(message.target))?;
+            Ok(request_of(query))
+        }
+        Method::Post | Method::Delete | Method::Other => Ok(Request::WrongMethod),
+    }
+}
+
+/// What is asked for by the path of a target. `AllocError` where memory runs out.
+fn by_path(
     alloc: Global,
     catalogue: &Catalogue,
     rest: &RestTable,
     message: &MessageRef<'_>,
-    route: Route,
 ) -> Result<Request, AllocError>
     requires { IsValid catalogue.now }
-    ensures value { IfOk result (λ r. r ≡ request_at catalogue.now message.now.target.now message.now.body.now route) }
+    ensures value { IfOk result (λ r. r ≡ by_get message.now.method (request_or_none (path_reading catalogue.now (path_of message.now.target.now)))) }
     ensures of { IfOk result (λ r. IsOf catalogue.now r) }
 {
-    match route {
-        Route::Query => {
-            let query = read_query(alloc, catalogue, query_of(message.target))?;
-            Ok(request_of(query))
-        }
-        Route::Path => {
+    match message.method {
+        Method::Get => {
             let reading = rest.read_path(alloc, catalogue, path_of(message.target))?;
             Ok(request_or_none(reading))
         }
-        Route::Usage => Ok(Request::Usage),
-        Route::Truncate => truncation_of(alloc, catalogue, message.body),
-        Route::Expire => Ok(Request::Expiry),
-        Route::NotFound => Ok(Request::NotFound),
-        Route::WrongMethod => Ok(Request::WrongMethod),
+        Method::Post | Method::Delete | Method::Other => Ok(Request::WrongMethod),
+    }
+}
+
+/// What is asked for by the cover of a body. `AllocError` where memory runs out.
+fn by_cover(
+    alloc: Global,
+    catalogue: &Catalogue,
+    message: &MessageRef<'_>,
+) -> Result<Request, AllocError>
+    requires { IsValid catalogue.now }
+    ensures value { IfOk result (λ r. r ≡ by_post message.now.method (truncation_of (cover_of catalogue.now message.now.body.now))) }
+    ensures of { IfOk result (λ r. IsOf catalogue.now r) }
+{
+    match message.method {
+        Method::Post => truncation_of(alloc, catalogue, message.body),
+        Method::Get | Method::Delete | Method::Other => Ok(Request::WrongMethod),
     }
 }
 
 /// What a message asks for, by the table of paths. `AllocError` where memory runs out.
+#[tactic(auto, unfolding(crate::specs::Routes::request_at))]
 pub fn read_request(
     alloc: Global,
     catalogue: &Catalogue,
@@ -190,6 +178,21 @@ pub fn read_request(
     ensures value { IfOk result (λ r. r ≡ request_for catalogue.now (shown_message message.now)) }
     ensures of { IfOk result (λ r. IsOf catalogue.now r) }
 {
-    let route = route_of(message.method, path_of(message.target));
-    request_at(alloc, catalogue, rest, message, route)
+    let path = path_of(message.target);
+    if path == b"/wmts".as_slice() {
+        return by_query(alloc, catalogue, message);
+    }
+    if path.starts_with(b"/rest/wmts/") {
+        return by_path(alloc, catalogue, rest, message);
+    }
+    if path == b"/usage".as_slice() {
+        return Ok(by_get(message.method, Request::Usage));
+    }
+    if path == b"/truncate".as_slice() {
+        return by_cover(alloc, catalogue, message);
+    }
+    if path == b"/expire".as_slice() {
+        return Ok(by_post(message.method, Request::Expiry));
+    }
+    Ok(Request::NotFound)
 }

@@ -30,14 +30,7 @@ some_same a b e = cc
 
 pub is_tile : (r : Request) (a : Address) → tile_of r ≡ Some a → request.Tile a ≡ r
 is_tile (request.Tile b) a e = ap request.Tile (sym (some_same b a e))
-is_tile request.Capabilities a e = absurd (cc)
-is_tile (request.Refused code locator) a e = absurd (cc)
-is_tile request.NotFound a e = absurd (cc)
-is_tile request.WrongMethod a e = absurd (cc)
-is_tile request.Usage a e = absurd (cc)
-is_tile (request.Truncation cover) a e = absurd (cc)
-is_tile (request.Unformed fault) a e = absurd (cc)
-is_tile request.Expiry a e = absurd (cc)
+is_tile other a e = absurd (cc)
 
 -- a get failed by its source only if the outcome says so
 failed_so : (before after : ℕ) (o : Outcome) (result : Result Tile GetFault) → o ≡ outcome_of_get result → (o ≡ outcome.SourceFailed → Rose before after) → IfErr result (λ e. e ≡ fault.SourceFault → Rose before after)

@@ -2,6 +2,9 @@ pub mod FirstLine
 pub mod Seating
 pub mod Telling
 pub mod AtRest
+pub mod LaterCabinets
+pub mod WithoutBlobs
+pub mod AtOnce
 pub mod Immediately
 pub mod Performed
 pub mod Served
@@ -17,3 +20,4 @@ pub mod Replaying
 pub mod Shapes
 pub mod Faultless
 pub mod Answering
+pub mod AnswersSent

@@ -179,9 +179,9 @@ module _ (told : Option ℕ) (disk : FaultCounts) (s : State) (document : List �
   pub unread_performs : (count : ℕ) → disk.before ≤ disk.after → Performs told count count disk s document seats n action s seats (Answers (record { actor = i; start = n; outcome = outcome.Plain plain.NoMemory }))
   unread_performs count later = told_performs count None (s, outcome.Plain plain.NoMemory) (λ left. with_ends calm false left) (λ left. omega arith) (same_stays s (outcome.Plain plain.NoMemory) refl) tt (λ busy h left. goes busy h (with_ends calm false left))
 
-  immediate_performs : (count : ℕ) (r : Request) (o : Outcome) (t : State) → disk.before ≤ disk.after → r ≡ asks → IsImmediate disk.before disk.after s r o t → Performs told count count disk s document seats n action t seats (Answers (record { actor = i; start = n; outcome = o }))
-  immediate_performs count r o t later e k =
-      let d = immediate_told disk later s r o t k in
+  immediate_performs : (count : ℕ) (r : Request) (o : Outcome) (t : State) → r ≡ asks → IsImmediate disk.before disk.after s r o t → Performs told count count disk s document seats n action t seats (Answers (record { actor = i; start = n; outcome = o }))
+  immediate_performs count r o t e k =
+      let d = immediate_told disk s r o t k in
       told_performs count (Some r) (t, o) (λ left. with_ends d.chance true left) (λ left. d.faults) d.stays d.other (λ busy h left. reads busy h d.chance r left e ∙ ap Some (d.made document busy n mode i m left))
 
   tile_performs : (before after : ℕ) (a : Address) (step : Step) (t : State) → request.Tile a ≡ asks → Opens told before after disk.before disk.after s a mode step t
@@ -200,7 +200,7 @@ module _ (told : Option ℕ) (disk : FaultCounts) (s : State) (document : List �
 
   pub asked_performs : (before after : ℕ) (t : State) (seats' : List Seat) (end : ActionEnd) (r : Request) → r ≡ asks → IsAsked told before after disk s seats n mode i r t seats' end → Performs told before after disk s document seats n action t seats' end
   asked_performs before after t seats' end r e (inl k) = rw (k.4, k.5) (tile_performs before after k.0 k.1 t (sym k.2 ∙ e) k.3)
-  asked_performs before after t seats' end r e (inr k) = rw (k.2, k.3, k.4) (immediate_performs before r k.0 t k.5 e k.1)
+  asked_performs before after t seats' end r e (inr k) = rw (k.2, k.3, k.4) (immediate_performs before r k.0 t e k.1)
 
 -- A STEP
 

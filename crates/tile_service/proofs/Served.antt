@@ -52,9 +52,9 @@ module _ (told : Option ℕ) (disk : FaultCounts) (document : List ℕ) (s : Sta
         rests = rest;
       }
 
-  pub immediate_serves : (count : ℕ) (r : Request) (o : Outcome) (t : State) → disk.before ≤ disk.after → r ≡ asks → IsImmediate disk.before disk.after s r o t → Serves told count count disk document s m o t
-  immediate_serves count r o t later e k =
-      let d = immediate_told disk later s r o t k in
+  pub immediate_serves : (count : ℕ) (r : Request) (o : Outcome) (t : State) → r ≡ asks → IsImmediate disk.before disk.after s r o t → Serves told count count disk document s m o t
+  immediate_serves count r o t e k =
+      let d = immediate_told disk s r o t k in
       record {
         request = Some r;
         chance = λ left. with_ends d.chance true left;
@@ -103,7 +103,7 @@ module _ (told : Option ℕ) (disk : FaultCounts) (document : List ℕ) (s : Sta
       by_case : (x : Option Address) → tile_of r ≡ x → Serves told before after disk document s m o t
       by_case None is =
           let k = subst (λ (x : Option Address). MatchOption x (IsImmediate disk.before disk.after s r o t × (after ≡ before) × (disk.before ≤ disk.after)) (λ a. IsGot told before after disk s a o t)) is h in
-          subst (λ (n : ℕ). Serves told before n disk document s m o t) (sym k.1) (immediate_serves before r o t k.2 e k.0)
+          subst (λ (n : ℕ). Serves told before n disk document s m o t) (sym k.1) (immediate_serves before r o t e k.0)
       by_case (Some a) is =
           let k = subst (λ (x : Option Address). MatchOption x (IsImmediate disk.before disk.after s r o t × (after ≡ before) × (disk.before ≤ disk.after)) (λ a. IsGot told before after disk s a o t)) is h in
           got_serves before after a o t (is_tile r a is ∙ e) k

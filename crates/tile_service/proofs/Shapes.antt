@@ -1,12 +1,11 @@
 -- What a run comes to without the bytes that came by chance: its world but for the texts of blobs and tiles.
 use Rattle.std.proofs.Common.{◌≡◌, ℕ, ◌+◌, Bool, true, false, List, [], ◌∷◌, length, map, replicate, slice_get, slice_set, Option, Some, None, refl, sym, ap, ◌∙◌}
-use Rattle.std.specs.Prelude.{if◌then◌else◌, nat_le, nat_lt}
+use Rattle.std.specs.Prelude.{if◌then◌else◌, nat_le}
 use Rattle.std.specs.Option.{option_map}
 use Rattle.std.proofs.lemmas.List.{length-replicate, map-set}
 use Rattle.std.proofs.lemmas.Option.{slice_get-map}
 use Rattle.cabinet.specs.declared.kept.Kept.{Kept}
-use Rattle.cabinet.specs.Commands.{answering, others, place_for, kept_at, book_before}
-use Rattle.cabinet.specs.Counted.{scope_exceeded, victim_in}
+use Rattle.cabinet.specs.Commands.{answering, others, place_for, kept_at}
 use Rattle.cabinet.specs.History.{next, stored_entry}
 use Rattle.cabinet.specs.State.{State, asked_at, now, with_entry}
 use Rattle.cache_core.specs.declared.actor.Actor.{Actor}
@@ -17,30 +16,26 @@ use Rattle.cache_core.specs.declared.outcome.Tile.{Tile}
 use Rattle.cache_core.specs.Fits.{place_of}
 use Rattle.cache_core.specs.Steps.{Stepped, advanced, began, ended, given, off, stored, unless_busy, unless_kept, unless_overtaken, unless_unread, with_room}
 use Rattle.cache_core.proofs.Alike.{blob_long}
-use Rattle.catalog.specs.declared.catalogue.Scope.{Scope}
 use Rattle.http_wire.specs.declared.message.Message.{Message}
 use Rattle.matrix_geometry.specs.declared.address.Address.{Address}
 use Rattle.metatile_locks.specs.declared.render.Render.{Render}
 use Rattle.metatile_locks.specs.Running.{render_of, running_for}
 use Rattle.metatile_locks.specs.Tickets.{Ticketed}
-use Rattle.metatile_plan.specs.declared.metatile.MetaKey.{MetaKey}
 use Rattle.raster_field.specs.Blocks.{block_of}
-use Rattle.truncation_list.specs.declared.cover.Cover.{Cover}
 use Rattle.tile_requests.specs.declared.request.Mode.{Mode}
 use Rattle.tile_requests.specs.declared.request.Mode.TheVariants.{Gets, Asks, Forces}
 use Rattle.tile_requests.specs.declared.request.Request.{Request}
 use Rattle.tile_requests.specs.declared.request.Request.TheVariants as request
 use Rattle.tile_service.specs.Lines.{Action, Nothing, Sends, Steps, action_in}
-use Rattle.tile_requests.specs.Requests.{Chance, is_at_work, further, carried_on, events, cut, cut_at, cut_by, dropped, expired_in}
+use Rattle.tile_requests.specs.Requests.{Chance, at_once, is_at_work, further, carried_on, events, cut}
 use Rattle.tile_requests.specs.Routes.{request_for}
 use Rattle.tile_service.specs.Run.{PendingRequest, World, Answer, Run, seat_after, settled, started, resumed, asked, sent, if_free, stepped, line_done, goes_on, first_of, rest_of, run}
 use Rattle.tile_service.specs.Session.{session}
 use Rattle.tile_service.specs.Alike.{without_bytes, any_bytes}
+use Rattle.tile_service.proofs.AtOnce.{holds}
+use Rattle.tile_service.proofs.WithoutBlobs.{plain}
 
 -- CABINETS
-
-abbrev plain : State → State
-plain s = record s { blobs = None }
 
 abbrev plain_tile : Tile → Tile
 plain_tile t = record { hit = t.hit; number = t.number; bytes = [] }
@@ -207,31 +202,6 @@ settled_like w n i c b d r q e same =
     ap (slice_set (map plain_seat w.seats) i) (same (plain_actor r.actor) (marked r.outcome) ∙ ap (λ x. seat_after d x.actor x.outcome) e) in
     ap (λ x. world_with w x.cabinet (map plain_seat (slice_set w.seats i (seat_after b r.actor r.outcome)))) e ∙ ap (world_with w (plain q.cabinet)) (one ∙ mid ∙ sym two)
 
-cut_at_like : (s : State) (cover : Cover) (t : ℕ) (unwritten : Bool) → plain (cut_at s cover t unwritten).0 ≡ plain (cut_at (plain s) cover t unwritten).0
-cut_at_like s cover t true = refl
-cut_at_like s cover t false = refl
-
-cut_like : (s : State) (cover : Cover) (left unwritten : Bool) → plain (cut s cover left unwritten).0 ≡ plain (cut (plain s) cover left unwritten).0
-cut_like s cover false unwritten = refl
-cut_like s cover true unwritten = by_number (next s.opening (now s))
-  where
-    by_room : (t : ℕ) (b : Bool) → nat_lt (length (book_before s cover).cuts) s.catalogue.cut_limit ≡ b → plain (cut_by s cover unwritten (Some t)).0 ≡ plain (cut_by (plain s) cover unwritten (Some t)).0
-    by_room t true e = rw e (cut_at_like s cover t unwritten)
-    by_room t false e = rw e refl
-
-    by_number : (x : Option ℕ) → plain (cut_by s cover unwritten x).0 ≡ plain (cut_by (plain s) cover unwritten x).0
-    by_number None = refl
-    by_number (Some t) = by_room t (nat_lt (length (book_before s cover).cuts) s.catalogue.cut_limit) refl
-
-dropped_like : (s : State) (left : Bool) (m : Option MetaKey) → plain (dropped s left m).0 ≡ plain (dropped (plain s) left m).0
-dropped_like s left None = refl
-dropped_like s left (Some m) = refl
-
-expired_like : (s : State) (left : Bool) (x : Option Scope) (unwritten : Bool) → plain (expired_in s left x unwritten).0 ≡ plain (expired_in (plain s) left x unwritten).0
-expired_like s left None unwritten = refl
-expired_like s left (Some scope) true = refl
-expired_like s left (Some scope) false = dropped_like s left (victim_in s scope)
-
 -- LINES
 
 abbrev world_in : World × List Answer → World
@@ -239,16 +209,7 @@ world_in d = plain_world d.0
 
 asked_like : (w : World) (n : ℕ) (c : Chance) (mode : Mode) (i : ℕ) (m : Message) (r : Request) → world_in (asked w n c mode i m r) ≡ world_in (asked (plain_world w) n (without_bytes c) mode i m r)
 asked_like w n c mode i m (request.Tile a) = settled_like w n i c (started w n m a) (started (plain_world w) n m a) (events mode w.cabinet a c) (events mode (plain w.cabinet) a (without_bytes c)) (events_like mode w.cabinet a c) (λ x o. refl)
-asked_like w n c mode i m request.Capabilities = same_seats w w.cabinet (plain w.cabinet) refl
-asked_like w n c mode i m (request.Refused code locator) = same_seats w w.cabinet (plain w.cabinet) refl
-asked_like w n c mode i m request.NotFound = same_seats w w.cabinet (plain w.cabinet) refl
-asked_like w n c mode i m request.WrongMethod = same_seats w w.cabinet (plain w.cabinet) refl
-asked_like w n c mode i m request.Usage = same_seats w w.cabinet (plain w.cabinet) refl
-asked_like w n c mode i m (request.Truncation cover) = same_seats w (cut w.cabinet cover c.ask c.unwritten).0 (cut (plain w.cabinet) cover c.ask c.unwritten).0 (cut_like w.cabinet cover c.ask c.unwritten)
-asked_like w n c mode i m (request.Unformed fault) = same_seats w w.cabinet (plain w.cabinet) refl
-asked_like w n c mode i m request.Expiry =
-    let x = scope_exceeded w.cabinet in
-    same_seats w (expired_in w.cabinet c.work x c.unwritten).0 (expired_in (plain w.cabinet) c.work x c.unwritten).0 (expired_like w.cabinet c.work x c.unwritten)
+asked_like w n c mode i m other = same_seats w (at_once w.cabinet c other).0 (at_once (plain w.cabinet) c other).0 (holds w.cabinet c other).like
 
 either_like : (b : Bool) (d e f g : World × List Answer) → world_in d ≡ world_in f → world_in e ≡ world_in g → world_in (if b then d else e) ≡ world_in (if b then f else g)
 either_like true d e f g h k = h

@@ -1,30 +1,22 @@
 -- While numbers are left, a request for a tile is answered with the tile, unless memory ran out or the source failed.
-use Rattle.std.proofs.Common.{◌≡◌, ℕ, ◌+◌, ◌<◌, ◌≤◌, Bool, true, false, List, [], ◌∷◌, ◌++◌, length, slice_get, Option, Some, None, inl, inr, refl, sym, subst, ◌∙◌, arith, if◌then◌else◌}
+use Rattle.std.proofs.Common.{◌≡◌, ℕ, ◌+◌, ◌<◌, Bool, true, false, List, [], ◌∷◌, ◌++◌, length, slice_get, Option, Some, None, inl, inr, refl, arith, if◌then◌else◌}
 use Rattle.std.specs.Prelude.{nat_le, nat_lt, ⊤}
 use Rattle.std.specs.List.{AllByRecursion}
 use Rattle.std.proofs.lemmas.Bool.Decides.{nat_tests}
-use Rattle.cabinet.specs.Commands.{answering, book_before, others, place_for}
-use Rattle.cabinet.specs.Counted.{scope_exceeded, victim_in}
-use Rattle.cabinet.specs.declared.entry.Entry.{Entry}
-use Rattle.cabinet.specs.declared.entry.Entry.TheVariants as entry
+use Rattle.cabinet.specs.Commands.{answering, others, place_for}
 use Rattle.cabinet.specs.declared.kept.Kept.{Kept}
-use Rattle.cabinet.specs.declared.kept.KeptBlob.{KeptBlob}
-use Rattle.cabinet.specs.History.{Standing, after, last_number, next}
-use Rattle.cabinet.specs.State.{State, asked_at, grown, now}
-use Rattle.cabinet.proofs.Rows.{now_more}
+use Rattle.cabinet.specs.History.{last_number, next}
+use Rattle.cabinet.specs.State.{State, asked_at, now}
 use Rattle.cache_core.specs.declared.actor.Actor.{Actor}
 use Rattle.cache_core.specs.declared.actor.Actor.TheVariants as actor
 use Rattle.cache_core.specs.declared.outcome.TileOutcome as cached
 use Rattle.cache_core.specs.declared.outcome.TileOutcome.TheVariants as core
 use Rattle.cache_core.specs.Steps.{Stepped, abandoned, advanced, asked, began, ended, finished, given, off, render_wanted, rendered, stored, unless_busy, unless_kept, unless_overtaken, unless_unread, with_room}
-use Rattle.catalog.specs.declared.catalogue.Catalogue.{Catalogue}
-use Rattle.catalog.specs.declared.catalogue.Scope.{Scope}
 use Rattle.http_wire.specs.declared.message.Message.{Message}
 use Rattle.matrix_geometry.specs.declared.address.Address.{Address}
 use Rattle.metatile_locks.specs.declared.render.Render.{Render}
 use Rattle.metatile_locks.specs.Running.{render_of, running_for}
 use Rattle.metatile_locks.specs.Tickets.{Ticketed}
-use Rattle.metatile_plan.specs.declared.metatile.MetaKey.{MetaKey}
 use Rattle.raster_field.specs.Blocks.{block_of}
 use Rattle.tile_requests.specs.declared.outcome.Outcome.TheVariants as outcome
 use Rattle.tile_requests.specs.declared.outcome.Plain.TheVariants as plain
@@ -32,48 +24,15 @@ use Rattle.tile_requests.specs.declared.request.Mode.{Mode}
 use Rattle.tile_requests.specs.declared.request.Mode.TheVariants.{Gets, Asks, Forces}
 use Rattle.tile_requests.specs.declared.request.Request.{Request}
 use Rattle.tile_requests.specs.declared.request.Request.TheVariants as request
-use Rattle.tile_requests.specs.Requests.{Chance, further, events, cut_at, cut_by, cut, dropped, expired_in, expired, is_at_work}
+use Rattle.tile_requests.specs.Requests.{Chance, further, events, is_at_work}
 use Rattle.tile_requests.specs.Routes.{request_for}
 use Rattle.tile_service.specs.Lines as lines
 use Rattle.tile_service.specs.Lines.{Action, action_in}
 use Rattle.tile_service.specs.Run as runs
 use Rattle.tile_service.specs.Run.{Answer, HasNumbers, IsAnsweredTile, PendingRequest, Run, World, answers_after, first_of, goes_on, if_free, line_done, rest_of, resumed, run, sent, settled, started, stepped}
 use Rattle.tile_service.specs.Session.{session}
-use Rattle.truncation_list.specs.declared.cover.Cover.{Cover}
-
--- LATER CABINETS
-
--- the same opening, and no number that was given is taken back
-pub record IsLater (s t : State) : Type 0 where
-  pub opening : t.opening ≡ s.opening
-  pub front : (now s).front ≤ (now t).front
-
-same : (s : State) → IsLater s s
-same s = record { opening = refl; front = omega arith }
-
-later : (s t u : State) → IsLater s t → IsLater t u → IsLater s u
-later s t u a b = record { opening = b.opening ∙ a.opening; front = let i = a.front in let j = b.front in omega arith }
-
--- so where numbers are left, they were before
-before : (s t : State) → IsLater s t → HasNumbers t → HasNumbers s
-before s t a left = let i = a.front in let j : (now t).front < last_number s.opening = subst (λ o. (now t).front < last_number o) a.opening left in omega arith
-
-front_after : (c : Catalogue) (s : Standing) (e : Entry) → s.front ≤ (after c s e).front
-front_after c s (entry.At n) = omega arith
-front_after c s (entry.Started k m) = omega arith
-front_after c s (entry.Cut t cover) = omega arith
-front_after c s (entry.Missed t) = omega arith
-front_after c s (entry.Stored k m place long n uses) = omega arith
-front_after c s (entry.Counted m u) = omega arith
-front_after c s (entry.Ended k) = omega arith
-front_after c s (entry.Used m) = omega arith
-front_after c s (entry.Dropped m) = omega arith
-
-grows : (s : State) (e : Entry) (blobs : Option (List KeptBlob)) → IsLater s (grown s e blobs)
-grows s e blobs = record { opening = refl; front = subst (λ (x : Standing). (now s).front ≤ x.front) (sym (now_more s e blobs)) (front_after s.catalogue (now s) e) }
-
-asked_later : (s : State) (n : ℕ) → IsLater s (asked_at n s)
-asked_later s n = let g = grows s (entry.At n) s.blobs in record { opening = refl; front = g.front }
+use Rattle.tile_service.proofs.AtOnce.{holds}
+use Rattle.tile_service.proofs.LaterCabinets.{IsLater, asked_later, before, grows, later, same}
 
 -- EVENTS
 
@@ -175,36 +134,6 @@ events_fair Gets s a c = further_fair c s _ (further_fair c s _ (began_fair s a 
 events_fair Asks s a c = began_fair s a false c.ask c.moment c.unread c.bytes
 events_fair Forces s a c = began_fair s a true c.ask c.moment c.unread c.bytes
 
--- COMMANDS
-
-cut_later : (s : State) (cover : Cover) (left unwritten : Bool) → IsLater s (cut s cover left unwritten).0
-cut_later s cover false unwritten = same s
-cut_later s cover true unwritten = by_number (next s.opening (now s))
-  where
-    at : (t : ℕ) (unwritten : Bool) → IsLater s (cut_at s cover t unwritten).0
-    at t true = grows s _ _
-    at t false = grows s _ _
-
-    chosen : (t : ℕ) (b : Bool) → IsLater s (if b then cut_at s cover t unwritten else (s, outcome.Plain plain.CutsFull)).0
-    chosen t true = at t unwritten
-    chosen t false = same s
-
-    by_number : (n : Option ℕ) → IsLater s (cut_by s cover unwritten n).0
-    by_number None = same s
-    by_number (Some t) = chosen t (nat_lt (length (book_before s cover).cuts) s.catalogue.cut_limit)
-
-expired_later : (s : State) (left unwritten : Bool) → IsLater s (expired s left unwritten).0
-expired_later s left unwritten = of_scope (scope_exceeded s) unwritten
-  where
-    of_victim : (m : Option MetaKey) → IsLater s (dropped s left m).0
-    of_victim None = same s
-    of_victim (Some m) = grows s _ _
-
-    of_scope : (o : Option Scope) (unwritten : Bool) → IsLater s (expired_in s left o unwritten).0
-    of_scope None unwritten = same s
-    of_scope (Some scope) true = same s
-    of_scope (Some scope) false = of_victim (victim_in s scope)
-
 -- LINES AND MESSAGES
 
 -- what comes of a cabinet: it is later, and while numbers are left there, the requests for tiles are answered so
@@ -226,14 +155,7 @@ settled_answered w n c i b r f = (f.later, after_event n i c.left b r.outcome r.
 
 request_answered : (w : World) (n : ℕ) (c : Chance) (mode : Mode) (i : ℕ) (m : Message) (r : Request) → AreAnswered w.cabinet (runs.asked w n c mode i m r).0.cabinet (runs.asked w n c mode i m r).1
 request_answered w n c mode i m (request.Tile a) = settled_answered w n c i (started w n m a) (events mode w.cabinet a c) (events_fair mode w.cabinet a c)
-request_answered w n c mode i m request.Capabilities = (same w.cabinet, λ left. (tt, tt))
-request_answered w n c mode i m (request.Refused code locator) = (same w.cabinet, λ left. (tt, tt))
-request_answered w n c mode i m request.NotFound = (same w.cabinet, λ left. (tt, tt))
-request_answered w n c mode i m request.WrongMethod = (same w.cabinet, λ left. (tt, tt))
-request_answered w n c mode i m request.Usage = (same w.cabinet, λ left. (tt, tt))
-request_answered w n c mode i m (request.Truncation cover) = (cut_later w.cabinet cover c.ask c.unwritten, λ left. (tt, tt))
-request_answered w n c mode i m (request.Unformed why) = (same w.cabinet, λ left. (tt, tt))
-request_answered w n c mode i m request.Expiry = (expired_later w.cabinet c.work c.unwritten, λ left. (tt, tt))
+request_answered w n c mode i m other = ((holds w.cabinet c other).later, λ left. (tt, tt))
 
 message_answered : (w : World) (n : ℕ) (c : Chance) (mode : Mode) (i : ℕ) (m : Message) → AreAnswered w.cabinet (sent w n c mode i m).0.cabinet (sent w n c mode i m).1
 message_answered w n c mode i m = chosen c.read

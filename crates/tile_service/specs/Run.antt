@@ -12,14 +12,14 @@ use Rattle.catalog.specs.declared.catalogue.Catalogue.{Catalogue}
 use Rattle.http_wire.specs.declared.message.Message.{Message}
 use Rattle.matrix_geometry.specs.declared.address.Address.{Address}
 use Rattle.tile_requests.specs.declared.outcome.Outcome.{Outcome}
-use Rattle.tile_requests.specs.declared.outcome.Outcome.TheVariants.{Tile, Document, Refused, SourceFailed, Usage, Cut, Unformed, Dropped, Job, Plain}
-use Rattle.tile_requests.specs.declared.outcome.Plain.TheVariants.{NotFound, WrongMethod, NoMemory}
+use Rattle.tile_requests.specs.declared.outcome.Outcome.TheVariants.{SourceFailed, Plain}
+use Rattle.tile_requests.specs.declared.outcome.Plain.TheVariants.{NoMemory}
 use Rattle.tile_requests.specs.declared.request.Mode.{Mode}
 use Rattle.tile_requests.specs.declared.request.Request.{Request}
 use Rattle.tile_requests.specs.declared.request.Request.TheVariants as request
 use Rattle.tile_service.specs.declared.seats.TheConstants.{ACTORS}
 use Rattle.tile_service.specs.Lines.{Action, Nothing, Sends, Steps, action_in}
-use Rattle.tile_requests.specs.Requests.{owed, Chance, calm, disk_faults_in, events, outcome_of, answered_at, told_usage, cut, expired, tile_in, tile_of, IsTrueAnswer, IsFreshAnswer}
+use Rattle.tile_requests.specs.Requests.{owed, Chance, at_once, calm, disk_faults_in, events, outcome_of, answered_at, tile_in, tile_of, IsTrueAnswer, IsFreshAnswer}
 use Rattle.tile_requests.specs.Response.{answered}
 use Rattle.tile_requests.specs.Routes.{request_for}
 
@@ -106,14 +106,7 @@ resumed w b = record { start = b.start; message = b.message; address = b.address
 -- a tile is asked for; anything else is answered immediately
 abbrev pub asked : World → ℕ → Chance → Mode → ℕ → Message → Request → World × List Answer
 asked w n c mode i m (request.Tile a) = settled w n c i (started w n m a) (events mode w.cabinet a c)
-asked w n c mode i m request.Capabilities = told_in w n c i m (Some request.Capabilities) (w.cabinet, Document)
-asked w n c mode i m (request.Refused code locator) = told_in w n c i m (Some (request.Refused code locator)) (w.cabinet, Refused code locator)
-asked w n c mode i m request.NotFound = told_in w n c i m (Some request.NotFound) (w.cabinet, Plain NotFound)
-asked w n c mode i m request.WrongMethod = told_in w n c i m (Some request.WrongMethod) (w.cabinet, Plain WrongMethod)
-asked w n c mode i m request.Usage = told_in w n c i m (Some request.Usage) (w.cabinet, told_usage w.cabinet c.work)
-asked w n c mode i m (request.Truncation cover) = told_in w n c i m (Some (request.Truncation cover)) (cut w.cabinet cover c.ask c.unwritten)
-asked w n c mode i m (request.Unformed fault) = told_in w n c i m (Some (request.Unformed fault)) (w.cabinet, Unformed fault)
-asked w n c mode i m request.Expiry = told_in w n c i m (Some request.Expiry) (expired w.cabinet c.work c.unwritten)
+asked w n c mode i m other = told_in w n c i m (Some other) (at_once w.cabinet c other)
 
 -- a message is answered; memory may run out before it is read
 abbrev pub sent : World → ℕ → Chance → Mode → ℕ → Message → World × List Answer
@@ -175,16 +168,8 @@ abbrev pub output_of : List ℕ → Run → List ℕ
 output_of document r = flat_map (answer_text document) r.answers
 
 abbrev pub is_failed : Outcome → Bool
-is_failed (Tile hit number text) = false
-is_failed Document = false
-is_failed (Refused code locator) = false
-is_failed (Plain p) = false
 is_failed SourceFailed = true
-is_failed (Usage text) = false
-is_failed (Cut number) = false
-is_failed (Unformed fault) = false
-is_failed (Dropped text) = false
-is_failed (Job text) = false
+is_failed other = false
 
 -- how many answers say that the source failed
 abbrev pub failures : List Answer → ℕ

@@ -1,12 +1,16 @@
-//! What the bytes of renderings have no part in, and what a cabinet without a disk has no part in.
+//! What the bytes of renderings have no part in, what a cabinet without a disk has no part in, and what a session has sent by its answers.
 ghost use Rattle.std.specs.List.{AllByRecursion};
-ghost use Rattle.std.specs.Prelude.{List, ℕ, map, ◌≡◌};
+ghost use Rattle.std.specs.Prelude.{List, Option, ℕ, map, ◌≡◌};
 ghost use Rattle.base.specs.Causes.{RoseBy};
 ghost use Rattle.http_wire.specs.declared.message.Message.{Message};
+ghost use Rattle.sessions.specs.Outside.{InputChange, OutputChange};
+ghost use Rattle.sessions.specs.SessionEnds.{Ends};
+ghost use Rattle.sessions.specs.declared.session.SessionEnd.{SessionEnd};
 ghost use Rattle.tile_requests.specs.Requests.{Chance};
 ghost use Rattle.tile_service.specs.Alike.{without_bytes};
-ghost use Rattle.tile_service.specs.Run.{IsFaultless, World, disk_faults, run};
-ghost use Rattle.tile_service.specs.Session.{session};
+ghost use Rattle.tile_service.specs.Replays.{EndsIn};
+ghost use Rattle.tile_service.specs.Run.{Answer, IsFaultless, World, disk_faults, run};
+ghost use Rattle.tile_service.specs.Session.{responses, session};
 
 /// The history after a run or a session, and so what is kept, and the line that is refused follow from the lines or messages,
 /// from the memory that ran out, from the moments that the clock gave and from which renderings failed: not from which bytes they gave.
@@ -20,4 +24,10 @@ pub fn laws_of_runs()
 /// runs names one.
 pub fn laws_of_memory()
     ensures { (chances : List Chance) → RoseBy (disk_faults chances) 0 0 → AllByRecursion IsFaultless chances }
+{}
+
+/// How a session ended, said of the texts of its responses (`Ends`), says the same of its answers: what went out is the responses to them, and
+/// of the last alone, where a write failed, a part.
+pub fn laws_of_replays()
+    ensures { (i : InputChange) (o : OutputChange) (document : List ℕ) (messages : List Message) (answers : List Answer) (held : List ℕ) (rest : Option (List ℕ)) (end : SessionEnd) → Ends i o messages (responses document answers) held rest end → EndsIn i o document messages answers held rest end }
 {}

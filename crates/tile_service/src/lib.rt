@@ -32,7 +32,7 @@ pub use action_end::{ActionEnd, Answer};
 pub use answer::write_answer;
 pub use cache_tally::{CacheResult, CacheTally, result_of};
 pub use counter::Counter;
-pub use laws::{laws_of_memory, laws_of_runs};
+pub use laws::{laws_of_memory, laws_of_replays, laws_of_runs};
 pub use lines::{Action, action_in, split_line};
 pub use one_line::{LineEnd, run_line};
 pub use schedule::{ScheduleEnd, run_schedule};
