@@ -19,7 +19,7 @@ use Rattle.cabinet_chest.specs.declared.shown.Shown.{Shown}
 use Rattle.cabinet_chest.specs.Counts.{counts_in_all, counts_in_layer, counts_of}
 use Rattle.cabinet_chest.specs.Replies.{IsReplyTo, MayReply}
 use Rattle.cache_access.specs.Alone.{AreSteps, IsStep}
-use Rattle.cache_access.proofs.LoneUpkeep.{steps_split}
+use Rattle.cache_access.proofs.LoneUpkeep.{steps_later, steps_split}
 use Rattle.catalog.specs.declared.catalogue.Catalogue.{Catalogue}
 use Rattle.catalog.specs.declared.catalogue.Scope.{Scope}
 use Rattle.catalog.specs.declared.layer.Layer.{Layer}
