@@ -29,5 +29,5 @@ pub fn laws_of_memory()
 /// How a session ended, said of the texts of its responses (`Ends`), says the same of its answers: what went out is the responses to them, and
 /// of the last alone, where a write failed, a part.
 pub fn laws_of_replays()
-    ensures { (i : InputChange) (o : OutputChange) (document : List ℕ) (messages : List Message) (answers : List Answer) (held : List ℕ) (rest : Option (List ℕ)) (end : SessionEnd) → Ends i o messages (responses document answers) held rest end → EndsIn i o document messages answers held rest end }
+    ensures ends { (i : InputChange) (o : OutputChange) (document : List ℕ) (messages : List Message) (answers : List Answer) (held : List ℕ) (rest : Option (List ℕ)) (end : SessionEnd) → Ends i o messages (responses document answers) held rest end → EndsIn i o document messages answers held rest end }
 {}
