@@ -50,6 +50,8 @@ def colour(value, sums, order):
 
 
 def main():
+    if len(sys.argv) != 2 or not sys.argv[1].isdigit():
+        sys.exit(__doc__)
     sums = heights(int(sys.argv[1]))
     order = sorted(range(256), key=sums.__getitem__)
     print(json.dumps([colour(value, sums, order) for value in range(256)], separators=(",", ":")))

@@ -1,11 +1,13 @@
 #!/usr/bin/env python3
-"""Names the places in a catalogue that a refusal of it can mean.
+"""Names the places in a catalogue that a refusal of it can mean, or its members that nobody knows.
 
     python3 examples/where.py CATALOGUE 'catalogue <kind> <field> <index>'
+    python3 examples/where.py CATALOGUE
 
 The line is the one that tile_server wrote to standard error. It tells the place of an object in its list and not which grid or
 layer the list is of; this script lists every path that fits, as $.layers[2].styles[0].breaks, with what stands there, and leaves
-out those where that mistake can't be: a member that is there isn't missing.
+out those where that mistake can't be: a member that is there isn't missing. Without a line it lists the members that the program ignores
+since it has none of that name, and ends with 1 if there are any: most are misspelt.
 """
 import json
 import sys
@@ -85,6 +87,14 @@ def described(place, field, member):
     return f"{path}  {('of ' + ' '.join(names) + ': ') if names else ''}{text if len(text) <= 80 else text[:77] + '...'}"
 
 
+def unknown_members(whole):
+    """The paths of the members that no field is of."""
+    known = {}
+    for owner, member in FIELDS.values():
+        known.setdefault(owner, set()).add(member)
+    return [f"{place.path}.{member}" for owner in known for place in places_of(owner, whole) for member in place.value if member not in known[owner]]
+
+
 def explain_text(path):
     """Says what is wrong with a file that is no JSON object."""
     try:
@@ -96,7 +106,21 @@ def explain_text(path):
         "Python reads this file as a JSON object: look for NaN, Infinity, a lone surrogate or very deep lists"
 
 
+def object_of(path):
+    """The catalogue's one object."""
+    with open(path, encoding="utf-8") as file:
+        value = json.load(file)
+    if not isinstance(value, dict):
+        sys.exit("the file is JSON, but its value is no object")
+    return Place(value)
+
+
 def main(words):
+    if len(words) == 1:
+        found = unknown_members(object_of(words[0]))
+        for path in found:
+            print(f"{path}  is ignored: there is no such member")
+        sys.exit(1 if found else 0)
     if len(words) != 2:
         sys.exit(__doc__)
     told = words[1].split()
@@ -105,8 +129,7 @@ def main(words):
         return
     if len(told) != 4 or told[0] != "catalogue" or told[2] not in FIELDS or not told[3].isdigit():
         sys.exit("the line is not of the form: catalogue <kind> <field> <index>")
-    with open(words[0], encoding="utf-8") as file:
-        whole = Place(json.load(file))
+    whole = object_of(words[0])
     _, kind, field, index = told
     owner, member = FIELDS[field]
     found = [place for place in places_of(owner, whole) if place.index == int(index) and can_be(place, kind, field, member)]
