@@ -1,0 +1,3 @@
+pub mod Digits
+pub mod Heads
+pub mod Tiles

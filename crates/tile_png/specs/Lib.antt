@@ -1,0 +1,3 @@
+pub mod Pixmap
+pub mod Reading
+pub mod Tiles
