@@ -1,11 +1,14 @@
 #!/usr/bin/env python3
 """Writes a capabilities document (OGC 07-057r7) that follows a catalogue, to begin one's own with.
 
-    python3 examples/capabilities.py TITLE ADDRESS GRID=CRS[,WEST,SOUTH,EAST,NORTH] .. < catalogue.json > capabilities.xml
+    python3 examples/capabilities.py [--png] TITLE ADDRESS GRID=CRS[,WEST,SOUTH,EAST,NORTH] .. < catalogue.json > capabilities.xml
 
 ADDRESS is where clients reach the server, as http://localhost:8080. For each grid of the catalogue it takes the name of its
 coordinate system, one whose first axis points east, and the extent in degrees that its layers are told to have: the whole world
 where none is given. The titles of layers and styles are their identifiers; mend them by hand.
+
+With --png it offers each tile as PNG, too, before PPM, since some clients take the first format; and GetTile by paths alone, since a query
+asks for PPM.
 """
 import json
 import sys
@@ -13,7 +16,9 @@ from decimal import Decimal, getcontext
 from fractions import Fraction
 from xml.sax.saxutils import escape, quoteattr
 
-IMAGE = "image/x-portable-pixmap"
+# The formats of a tile: the media type, what the path begins with, and what it ends with.
+PPM = ("image/x-portable-pixmap", "rest/wmts", ".ppm")
+PNG = ("image/png", "png", ".png")
 PIXEL = Fraction(28, 100000)
 HEAD = '''<?xml version="1.0" encoding="UTF-8"?>
 <Capabilities xmlns="http://www.opengis.net/wmts/1.0" xmlns:ows="http://www.opengis.net/ows/1.1" \
@@ -74,8 +79,8 @@ def write_box(page, grid):
     page.leaf("ows:UpperCorner", f"{decimal(left + width)} {decimal(top)}")
 
 
-def write_layer(page, layer, grids, address, systems):
-    """A layer, with its styles, its dimensions, its grids and the template of its paths."""
+def write_layer(page, layer, grids, address, systems, formats):
+    """A layer, with its styles, its dimensions, its grids and the templates of its paths."""
     page.leaf("ows:Title", layer["id"])
     extents = [systems[grid][1] for grid in layer["grids"]]
     west, south = (min((extent[i] for extent in extents), key=Decimal) for i in (0, 1))
@@ -88,15 +93,17 @@ def write_layer(page, layer, grids, address, systems):
             page.within(f"ows:BoundingBox crs={quoteattr(systems[grid['id']][0])}", lambda: write_box(page, grid))
     for number, style in enumerate(layer["styles"]):
         page.within('Style isDefault="true"' if number == 0 else "Style", lambda: page.leaf("ows:Identifier", style["id"]))
-    page.leaf("Format", IMAGE)
+    for media_type, _, _ in formats:
+        page.leaf("Format", media_type)
     for dimension in layer.get("dimensions", []):
         page.within("Dimension", lambda: write_dimension(page, layer, dimension))
     for grid in layer["grids"]:
         page.within("TileMatrixSetLink", lambda: page.leaf("TileMatrixSet", grid))
     parts = ["Style"] + [dimension["id"] for dimension in layer.get("dimensions", [])]
     parts += ["TileMatrixSet", "TileMatrix", "TileRow", "TileCol"]
-    template = "/".join([address, "rest/wmts", layer["id"]] + ["{%s}" % part for part in parts]) + ".ppm"
-    page.line(f'<ResourceURL format="{IMAGE}" resourceType="tile" template={quoteattr(template)}/>')
+    for media_type, front, ending in formats:
+        template = "/".join([address, front, layer["id"]] + ["{%s}" % part for part in parts]) + ending
+        page.line(f'<ResourceURL format="{media_type}" resourceType="tile" template={quoteattr(template)}/>')
 
 
 def write_dimension(page, layer, dimension):
@@ -128,16 +135,17 @@ def write_grid(page, grid, system):
         page.within("TileMatrix", lambda: write_matrix(page, grid, matrix))
 
 
-def write_contents(page, catalogue, address, systems):
+def write_contents(page, catalogue, address, systems, formats):
     for layer in catalogue["layers"]:
-        page.within("Layer", lambda: write_layer(page, layer, catalogue["grids"], address, systems))
+        page.within("Layer", lambda: write_layer(page, layer, catalogue["grids"], address, systems, formats))
     for grid in catalogue["grids"]:
         page.within("TileMatrixSet", lambda: write_grid(page, grid, systems[grid["id"]][0]))
 
 
-def write_document(page, title, address, catalogue, systems):
+def write_document(page, title, address, catalogue, systems, formats):
     """The whole document."""
     kvp, document = (f"{address}/wmts?", "KVP"), f"{address}/rest/wmts/WMTSCapabilities.xml"
+    by_query = [kvp] if formats == [PPM] else []
     page.line(HEAD)
     page.depth = 1
     page.within("ows:ServiceIdentification", lambda: (
@@ -146,14 +154,17 @@ def write_document(page, title, address, catalogue, systems):
         page.leaf("ows:ProviderName", "The operator of this server"), page.line("<ows:ServiceContact/>")))
     page.within("ows:OperationsMetadata", lambda: (
         write_operation(page, "GetCapabilities", [kvp, (document, "RESTful")]),
-        write_operation(page, "GetTile", [kvp, (f"{address}/rest/wmts/", "RESTful")])))
-    page.within("Contents", lambda: write_contents(page, catalogue, address, systems))
+        write_operation(page, "GetTile", by_query + [(f"{address}/rest/wmts/", "RESTful")])))
+    page.within("Contents", lambda: write_contents(page, catalogue, address, systems, formats))
     page.line(f"<ServiceMetadataURL xlink:href={quoteattr(document)}/>")
     page.depth = 0
     page.line("</Capabilities>")
 
 
 def main(words):
+    formats = [PPM]
+    if words[:1] == ["--png"]:
+        words, formats = words[1:], [PNG, PPM]
     if len(words) < 3 or not all("=" in word for word in words[2:]):
         sys.exit(__doc__)
     systems = {}
@@ -165,7 +176,7 @@ def main(words):
     for grid in catalogue["grids"]:
         if grid["id"] not in systems:
             sys.exit(f"no coordinate system is given for the grid {grid['id']}")
-    write_document(Page(), words[0], words[1].rstrip("/"), catalogue, systems)
+    write_document(Page(), words[0], words[1].rstrip("/"), catalogue, systems, formats)
 
 
 if __name__ == "__main__":

@@ -118,7 +118,7 @@ def operators_proxy(folder, port, served_port):
 def page_proxy(folder, port, served_port):
     """The page and the configuration of examples/browser, with these ports, and with nginx's own files in this folder."""
     folder.mkdir(parents=True, exist_ok=True)
-    for name in ("index.html", "tiles.js"):
+    for name in ("index.html", "parts.html", "page.css", "view.js", "map.js", "tiles.js"):
         shutil.copy(PAGE / name, folder)
     text = replaced((PAGE / "nginx.conf").read_text(), ("127.0.0.1:8080", f"127.0.0.1:{served_port}"), ("listen 8000;", f"listen {port};"))
     return Proxy(folder, port, text.replace("/tmp/tile_browser", f"{folder}/nginx"))

@@ -1,4 +1,4 @@
-"""The page of examples/browser in Chromium, driven by chromedriver over WebDriver."""
+"""The pages of examples/browser with Leaflet in Chromium, driven by chromedriver over WebDriver."""
 import base64
 import http.client
 import json
@@ -12,13 +12,19 @@ from pixels import SIDE, Failed, of_png, without_alpha
 ELEMENT = "element-6066-11e4-a52e-4f735466cecf"
 ARGUMENTS = ["--headless=new", "--no-sandbox", "--disable-dev-shm-usage", "--disable-gpu", "--hide-scrollbars", "--force-color-profile=srgb",
              "--force-device-scale-factor=1", "--window-size=1280,1000"]
-# The tiles of the page's layer: their places, what their labels say, and the pixels of their canvases.
+# The tiles of a page's layer: their places, what their labels say, and their pixels. One page has canvases, the other PNG images.
 TILES = """return Object.entries(tiles._tiles).filter(([, it]) => it.current).map(([place, it]) => {
-  const canvas = it.el.querySelector("canvas"), data = canvas.getContext("2d").getImageData(0, 0, canvas.width, canvas.height).data;
+  const isImage = it.el instanceof Image, canvas = isImage ? document.createElement("canvas") : it.el.querySelector("canvas");
+  if (isImage) {
+    canvas.width = it.el.naturalWidth;
+    canvas.height = it.el.naturalHeight;
+    canvas.getContext("2d").drawImage(it.el, 0, 0);
+  }
+  const data = canvas.getContext("2d").getImageData(0, 0, canvas.width, canvas.height).data;
   let text = "";
   for (let at = 0; at < data.length; at += 8192) text += String.fromCharCode(...data.subarray(at, at + 8192));
   const box = it.el.getBoundingClientRect(), map = document.getElementById("map").getBoundingClientRect();
-  const label = it.el.querySelector(".render").textContent;
+  const label = (isImage ? labels.get(it.el) : it.el.querySelector(".render")).textContent;
   return [place, label, canvas.width, canvas.height, btoa(text), box.x - map.x, box.y - map.y, box.width, box.height];
 });"""
 BARE = """const style = document.head.appendChild(document.createElement("style"));
@@ -76,10 +82,26 @@ class Page:
     def __init__(self, report, world, driver):
         self.report, self.world, self.driver, self.seen = report, world, driver, []
 
+    def walk(self, name, address, served):
+        """Looks at the map, goes nearer, truncates what is in view, and looks at what isn't."""
+        self.driver.ask("POST", "/url", {"url": address})
+        self.tiles(f"{name}, level 2", 2)
+        for zoom in (3, 4, 5):
+            self.driver.click(".leaflet-control-zoom-in")
+            self.settle(zoom)
+        before = self.tiles(f"{name}, level 5", 5)
+        self.screen(f"{name}, level 5, the screen")
+        beside = served.number("islands", "relief", 5, 0, 0)
+        self.truncate(f"{name}, after its button", 5, before)
+        self.screen(f"{name}, after its button, the screen")
+        is_kept = served.number("islands", "relief", 5, 0, 0) == beside
+        self.report.demand("Leaflet", f"{name}, after its button", is_kept, "a tile beside the view was truncated")
+
     def settle(self, zoom):
         """Waits until all tiles in view are painted at this level."""
         self.driver.wait(f"return map.getZoom() === {zoom} && !map._animatingZoom && !tiles.isLoading() && tiles._tileZoom === {zoom} && "
-                         "Object.keys(tiles._tiles).length > 0;")
+                         "Object.keys(tiles._tiles).length > 0 && [...document.querySelectorAll('.render')].every((it) => it.textContent) && "
+                         f"Object.values(tiles._tiles).every((it) => !it.current || it.el.getBoundingClientRect().width === {SIDE});")
 
     def tiles(self, way, zoom):
         """Compares the canvas of each tile in view. The numbers by their places."""
@@ -123,22 +145,13 @@ class Page:
 
 
 def page(report, world, folder, port, address, served):
-    """Looks at the map, goes nearer, truncates what is in view, and looks at what isn't."""
+    """Walks through the page of PNG images and through that of canvases."""
     driver = Driver(folder, port)
     try:
-        driver.ask("POST", "/url", {"url": address + "/?parts=islands"})
+        driver.ask("POST", "/url", {"url": address + "/"})
         report.versions["Leaflet"] += f" (says {driver.script('return L.version;')}), Chromium {driver.version}"
         it = Page(report, world, driver)
-        it.tiles("page, level 2", 2)
-        for zoom in (3, 4, 5):
-            driver.click(".leaflet-control-zoom-in")
-            it.settle(zoom)
-        before = it.tiles("page, level 5", 5)
-        it.screen("page, level 5, the screen")
-        beside = served.number("islands", "relief", 5, 0, 0)
-        it.truncate("page, after its button", 5, before)
-        it.screen("page, after its button, the screen")
-        is_kept = served.number("islands", "relief", 5, 0, 0) == beside
-        report.demand("Leaflet", "page, after its button", is_kept, "a tile beside the view was truncated")
+        it.walk("PNG", address + "/", served)
+        it.walk("canvases", address + "/parts.html?parts=islands", served)
     finally:
         driver.stop()

@@ -137,7 +137,7 @@ def owslib(report, world, way, served, folder, address, python="/usr/bin/python3
         (folder / layer).mkdir(parents=True)
         names = ["/".join(map(str, it)) for it in places]
         told = ran(python, script, address, way.partition(",")[0].lower(), layer, style, str(folder / layer), *names)[0].split()
-        report.demand("OWSLib", way, told[1:] == [b"islands", b"world"], f"the layers {told[1:]}")
+        report.demand("OWSLib", way, told[1:] == [b"islands", b"roads", b"world"], f"the layers {told[1:]}")
         for zoom, row, col in places:
             pixels = of_ppm((folder / layer / f"{zoom}-{row}-{col}.ppm").read_bytes())[2]
             number = served.number(layer, style, zoom, row, col)

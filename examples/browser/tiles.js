@@ -1,23 +1,29 @@
 "use strict";
 
 /**
- * The parts that a map can have, from the top down, each a layer and a style of examples/web. A part is seen through where it has the
- * colour of its key: red, green and blue. The last one has none.
+ * The maps that the page can show: a grid whose matrices are the levels of the usual web map, how many of them there are behind the first, and the
+ * parts from the top down, each a layer and a style. A part is seen through where it has the colour of its key: red, green and blue. The last
+ * one has none.
  */
-const ALL_PARTS = [
-  { layer: "roads", style: "overlay", key: [255, 0, 255] },
-  { layer: "islands", style: "relief" },
-];
+const MAPS = {
+  web: {
+    grid: "web",
+    zooms: 18,
+    parts: [
+      { layer: "roads", style: "overlay", key: [255, 0, 255] },
+      { layer: "islands", style: "relief" },
+    ],
+  },
+  mapserver: { grid: "EPSG:3857", zooms: 12, parts: [{ layer: "countries", style: "plain" }] },
+};
 
-/** Those that the page's address names, as ?parts=islands does; all where it names none. */
-const NAMED = new URLSearchParams(location.search).get("parts");
-const PARTS = NAMED === null ? ALL_PARTS : ALL_PARTS.filter(({ layer }) => NAMED.split(",").includes(layer));
+/** The one that the page's address names, as ?map=mapserver does: that of examples/web where it names none. */
+const ADDRESS = new URLSearchParams(location.search);
+const GRID = MAPS[ADDRESS.get("map") ?? "web"];
 
-/** The grid of all parts. Its matrices are the levels of the usual web map. */
-const GRID = { grid: "web", zooms: 18 };
-
-/** Half the side of the web map's world, in meters. */
-const HALF_WORLD = 20037508.342789244;
+/** The parts that the address names, as ?parts=islands does; all where it names none. */
+const NAMED = ADDRESS.get("parts");
+const PARTS = NAMED === null ? GRID.parts : GRID.parts.filter(({ layer }) => NAMED.split(",").includes(layer));
 
 /** The pixels of a binary PPM image: its width, its height, and red, green, blue and opacity of each pixel, which is 0 where it is the key. */
 function decoded(bytes, key) {
@@ -71,12 +77,7 @@ const tiles = new PpmLayer({ noWrap: true, bounds: [[-85.06, -180], [85.06, 180]
 
 /** What is in view of a layer, as a cover of all zooms. */
 function coverInView(layer) {
-  const corner = (place) => L.CRS.EPSG3857.project(place);
-  const within = (meters) => Math.max(-HALF_WORLD, Math.min(HALF_WORLD, meters)).toFixed(3);
-  const view = map.getBounds();
-  const [least, greatest] = [corner(view.getSouthWest()), corner(view.getNorthEast())];
-  const bounds = [least.x, least.y, greatest.x, greatest.y].map(within);
-  return { layer, grid: GRID.grid, zoomStart: 0, zoomStop: GRID.zooms, bounds };
+  return { layer, grid: GRID.grid, zoomStart: 0, zoomStop: GRID.zooms, bounds: boundsInView(map) };
 }
 
 const chosen = document.getElementById("layer");
