@@ -4,13 +4,14 @@ ghost use Rattle.base.specs.Causes.{HasCause};
 ghost use Rattle.disk_model.specs.Content.{bytes_at, Same};
 ghost use Rattle.disk_model.specs.Images.{Steps};
 
-use disk_model::{Disk, Failed};
+use disk_model::{BlobPart, Disk, Failed};
 use metatile_plan::Span;
 
-/// Reads a part of the blob at a place, which is of the length of `into`. Its end is below 2^62. `Failed` only where the
-/// disk's count of faults rose. The disk is only read.
+/// Reads a part of the blob of the render of this number at a place, which is of the length of `into`. Its end is below 2^62. `Failed`
+/// only where the disk's count of faults rose. The disk is only read.
 pub fn read_tile<D: Disk>(
     disk: &mut D,
+    number: u64,
     place: u64,
     span: &Span,
     into: &mut [u8],
@@ -27,5 +28,9 @@ pub fn read_tile<D: Disk>(
     ensures cause { HasCause (D.faults disk.old) (D.faults disk.new) result }
 {
     let start = u64::from(span.start);
-    disk.read(place + start, into)
+    let part = BlobPart {
+        number,
+        from: span.start,
+    };
+    disk.read_of(part, place + start, into)
 }

@@ -29,7 +29,7 @@ use Rattle.metatile_locks.specs.Running.{IsLeast, Locked, has_number, render_of,
 use Rattle.metatile_locks.specs.Tickets.{Ticketed}
 use Rattle.metatile_locks.proofs.Lists.{all_filter, all_map, all_weaker, found}
 use Rattle.metatile_locks.proofs.Runs.{one}
-use Rattle.cabinet.specs.declared.entry.Entry.TheVariants as entry
+use Rattle.cabinet.specs.declared.entry.HistoryEntry.TheVariants as entry
 use Rattle.cabinet.specs.declared.judged.Admitted.TheVariants as admitted
 use Rattle.cabinet.specs.declared.judged.Judged.{Judged}
 use Rattle.cabinet.specs.declared.judged.Judged.TheVariants as judged
@@ -46,8 +46,8 @@ use Rattle.cabinet.specs.Counted.{kept_in, part_of, scope_exceeded, unsaved_in, 
 use Rattle.cabinet.specs.Counted as counts
 use Rattle.cabinet.specs.Fresh.{ApartBy, limit_for}
 use Rattle.cabinet.specs.Gaps.{gap_for}
-use Rattle.cabinet.specs.History.{History, Standing, but, first, first_entries, is_of, kept_of, least_of, lesser, next, numbers, last_number, whole}
-use Rattle.cabinet.specs.Shelved.{GoesOn, IsUnsavedOn, JudgesOn, listed, scope_above, use_on}
+use Rattle.cabinet.specs.History.{History, CabinetStanding, but, first, first_entries, is_of, kept_of, least_of, lesser, next, numbers, last_number, whole}
+use Rattle.cabinet.specs.Shelved.{IsFirstToGo, IsUnsavedOn, JudgesOn, listed, scope_above, use_on}
 use Rattle.cabinet.specs.State.{IsPictured, IsKnown, IsSound, State, blobs_counted, blobs_with, blobs_without, now, with_blob, with_counted, with_dropped, with_entry}
 use Rattle.cabinet.specs.Steps.{Admits, GoesFirst, IsUnsavedFirst, Judges}
 use Rattle.cabinet.specs.Turns.{IsTaken, IsTurn, Progress}
@@ -113,7 +113,7 @@ module _ (p : Parts) (h : History) (k : IsConsistent p h) where
   kept_are = k.known.blobs
 
   out_are : p.renders ≡ (now here).out
-  out_are = ap (λ (x : Standing). x.out) (sym k.stands)
+  out_are = ap (λ (x : CabinetStanding). x.out) (sym k.stands)
 
   -- HITS
 
@@ -121,7 +121,7 @@ module _ (p : Parts) (h : History) (k : IsConsistent p h) where
   listed_of m o e = ap (find (is_of m)) (sym kept_are) ∙ find_map (λ (x : KeptBlob). x.kept) (is_of m) p.shelf.blobs ∙ ap (option_map (λ (x : KeptBlob). x.kept)) e
 
   moment_is : (now here).moment ≡ p.moment
-  moment_is = ap (λ (x : Standing). x.moment) k.stands
+  moment_is = ap (λ (x : CabinetStanding). x.moment) k.stands
 
   -- what is kept answers where it is within its limit at the moment
   answers : (a : Address) (t : Kept) (limit : Option ℕ) (v : Bool) → find (is_of (block_of p.shelf.catalogue a)) (listed p.shelf.blobs) ≡ Some t → limit ≡ limit_for p.shelf.catalogue a → is_within limit t.moment p.moment ≡ v
@@ -258,7 +258,7 @@ module _ (p : Parts) (h : History) (k : IsConsistent p h) where
       → purged (Some cover) least listed' ≡ purged (Some cover) (least_of (numbers (now here).out (now here).kept)) (now here).book
   before_is cover least listed' l b =
       let whole : least ≡ least_of (numbers (now here).out (now here).kept) = l ∙ (λ i. least_of (numbers (out_are i) (kept_are i))) in
-      let there : listed' ≡ (now here).book = b ∙ ap (λ (x : Standing). x.book) (sym k.stands) in
+      let there : listed' ≡ (now here).book = b ∙ ap (λ (x : CabinetStanding). x.book) (sym k.stands) in
       λ i. purged (Some cover) (whole i) (there i)
 
   module _ (cover : Cover) (least : Option ℕ) (book : Book) (number : ℕ) (next_is : next p.opening (now here) ≡ Some number) (low : least ≡ least_of (numbers p.renders (listed p.shelf.blobs))) (same : book ≡ p.book) where
@@ -292,7 +292,7 @@ module _ (p : Parts) (h : History) (k : IsConsistent p h) where
       let apart = uses_apart (use_of (whole p.opening h)) (λ n. refl) (now here).kept (once p.shelf.catalogue p.opening h k.known.possible.opens) in
       sym (one_victim p.shelf.catalogue.policy scope (uses_of here) (Some m) apart (subst (λ (f : MetaKey → Option Use). IsVictim p.shelf.catalogue.policy scope f (Some m)) (λ j n. uses_are n j) goes))
 
-  pub goes_row : (o : Option Kept) → GoesOn p.shelf o → GoesFirst here o
+  pub goes_row : (o : Option Kept) → IsFirstToGo p.shelf o → GoesFirst here o
   goes_row None x = scope_is None x
   goes_row (Some t) x = (x.0, scope_is (Some x.0) x.1, victim_is x.0 t.meta x.2, ap (find (is_of t.meta)) (sym kept_are) ∙ x.3)
 

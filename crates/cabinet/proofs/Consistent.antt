@@ -19,8 +19,8 @@ use Rattle.metatile_locks.specs.Running.{IsAboveAll, Locked, begun, has_number, 
 use Rattle.metatile_locks.specs.Tickets.{Ticketed}
 use Rattle.metatile_locks.proofs.Lists.{all_filter, all_weaker, few, fewer}
 use Rattle.metatile_locks.proofs.Runs.{both}
-use Rattle.cabinet.specs.declared.entry.Entry.{Entry}
-use Rattle.cabinet.specs.declared.entry.Entry.TheVariants as entry
+use Rattle.cabinet.specs.declared.entry.HistoryEntry.{HistoryEntry}
+use Rattle.cabinet.specs.declared.entry.HistoryEntry.TheVariants as entry
 use Rattle.cabinet.specs.declared.kept.Kept.{Kept}
 use Rattle.cabinet.specs.declared.replies.Forced.{Forced}
 use Rattle.cabinet.specs.declared.turns.Turn.{Turn}
@@ -30,8 +30,8 @@ use Rattle.cabinet.specs.Counted.{clock, clock_after, use_of, uses}
 use Rattle.cabinet.specs.Gaps.{gap_for}
 use Rattle.cabinet.specs.Hits.{hits_of}
 use Rattle.served_covers.specs.OfCatalogue.{IsCoverOf}
-use Rattle.cabinet.specs.History.{History, Standing, after, but, is_of, kept_after, kept_of, least_of, next, numbers, first_entries, last_number, whole, bare_opening, with_uses}
-use Rattle.cabinet.specs.Fresh.{Holds, HoldsOfRender, May, cuts_of}
+use Rattle.cabinet.specs.History.{History, CabinetStanding, after, but, is_of, kept_after, kept_of, least_of, next, numbers, first_entries, last_number, whole, bare_opening, with_uses}
+use Rattle.cabinet.specs.Fresh.{HoldsAfterCuts, HoldsOfRender, May, cuts_of}
 use Rattle.cabinet.specs.Shelved.{Forgets, IsAlike, IsBare, Keeps, Marks, Shelved, Sifts, Touches, listed, use_on, with_forgotten, with_kept, with_saved, with_spared, with_used}
 use Rattle.cabinet.specs.declared.kept.KeptBlob.{KeptBlob}
 use Rattle.cabinet.specs.State.{IsKnown, IsLong, State, asked_at, fresh_state, now, grown}
@@ -85,8 +85,8 @@ left_key true o u = refl
 left_key false o u = refl
 
 module _ (p : Parts) (h : History) (k : IsConsistent p h) where
-  holding : Holds p.shelf.catalogue (cuts_of (whole p.opening h)) (stood p)
-  holding = subst (Holds p.shelf.catalogue (cuts_of (whole p.opening h))) k.stands (holds_of p.shelf.catalogue p.opening h k.known.possible)
+  holding : HoldsAfterCuts p.shelf.catalogue (cuts_of (whole p.opening h)) (stood p)
+  holding = subst (HoldsAfterCuts p.shelf.catalogue (cuts_of (whole p.opening h))) k.stands (holds_of p.shelf.catalogue p.opening h k.known.possible)
 
   -- a number above the last one is above all that run, and above all listed cuts
   pub above_out : (n : ℕ) → p.last < n → IsAboveAll n p.renders
@@ -96,20 +96,20 @@ module _ (p : Parts) (h : History) (k : IsConsistent p h) where
   above_cuts n l = above_listed p.shelf.catalogue (cuts_of (whole p.opening h)) (stood p) n holding l
 
   pub front_left : p.last ≤ last_number p.opening
-  front_left = subst (λ (x : Standing). x.front ≤ last_number p.opening) k.stands k.known.left
+  front_left = subst (λ (x : CabinetStanding). x.front ≤ last_number p.opening) k.stands k.known.left
 
   -- one entry more
-  one_entry : (e : Entry) (g : History) (q : Parts) → g ≡ h ++ e ∷ [] → q.opening ≡ p.opening → q.shelf.catalogue ≡ p.shelf.catalogue → May p.shelf.catalogue (stood p) e → after p.shelf.catalogue (stood p) e ≡ stood q
+  one_entry : (e : HistoryEntry) (g : History) (q : Parts) → g ≡ h ++ e ∷ [] → q.opening ≡ p.opening → q.shelf.catalogue ≡ p.shelf.catalogue → May p.shelf.catalogue (stood p) e → after p.shelf.catalogue (stood p) e ≡ stood q
       → AllByRecursion (IsLong p.shelf.catalogue) q.shelf.blobs → q.last ≤ last_number p.opening → q.shelf.clock ≡ clock_after (clock (whole p.opening h)) e → ((m : MetaKey) → use_on q.shelf m ≡ option_map (λ t. use_of (whole p.opening h ++ e ∷ []) m) (kept_after p.shelf.catalogue m (kept_of m (stood p)) e))
       → length q.renders ≤ q.shelf.room → IsConsistent q g
   one_entry e g q is opens same may gives long left count uses room =
-      let gone : after p.shelf.catalogue (now (seen p h)) e ≡ stood q = ap (λ (x : Standing). after p.shelf.catalogue x e) k.stands ∙ gives in
+      let gone : after p.shelf.catalogue (now (seen p h)) e ≡ stood q = ap (λ (x : CabinetStanding). after p.shelf.catalogue x e) k.stands ∙ gives in
       let past : whole q.opening g ≡ whole p.opening h ++ e ∷ [] = (λ i. whole (opens i) (is i)) ∙ sym (append_assoc (first_entries p.opening) h (e ∷ [])) in
       let there : seen q g ≡ clocked q.clock (grown (seen p h) e (Some q.shelf.blobs)) = (λ i. record { catalogue = same i; opening = opens i; history = past i; since = is i; blobs = Some q.shelf.blobs; clock = q.clock }) in
       record {
         known = subst IsKnown (sym there)
-            (any_clock q.clock (grown (seen p h) e (Some q.shelf.blobs)) (one_more_known (seen p h) e (Some q.shelf.blobs) k.known (subst (λ (x : Standing). May p.shelf.catalogue x e) (sym k.stands) may) (sym (ap (λ (x : Standing). x.kept) gone)) long
-            (subst (λ (x : Standing). x.front ≤ last_number p.opening) (sym gone) left)));
+            (any_clock q.clock (grown (seen p h) e (Some q.shelf.blobs)) (one_more_known (seen p h) e (Some q.shelf.blobs) k.known (subst (λ (x : CabinetStanding). May p.shelf.catalogue x e) (sym k.stands) may) (sym (ap (λ (x : CabinetStanding). x.kept) gone)) long
+            (subst (λ (x : CabinetStanding). x.front ≤ last_number p.opening) (sym gone) left)));
         stands = ap now there ∙ now_more (seen p h) e (Some q.shelf.blobs) ∙ gone;
         clock_is = count ∙ sym (clock_more (whole p.opening h) e) ∙ ap clock (sym past);
         uses = λ m. uses m ∙ (λ i. option_map (λ t. use_of (sym past i) m) ((sym (kept_step p.shelf.catalogue m (stood p) e) ∙ ap (kept_of m) gives) i));
@@ -121,7 +121,7 @@ module _ (p : Parts) (h : History) (k : IsConsistent p h) where
   all_left_as e a = subst (AllByRecursion (IsLong p.shelf.catalogue)) (sym e) a
 
   -- the uses of what is kept are those of before, where the entry uses nothing
-  as_before : (e : Entry) → ((m : MetaKey) → use_of (whole p.opening h ++ e ∷ []) m ≡ use_of (whole p.opening h) m) → (m : MetaKey) → use_on p.shelf m ≡ option_map (λ t. use_of (whole p.opening h ++ e ∷ []) m) (kept_of m (stood p))
+  as_before : (e : HistoryEntry) → ((m : MetaKey) → use_of (whole p.opening h ++ e ∷ []) m ≡ use_of (whole p.opening h) m) → (m : MetaKey) → use_on p.shelf m ≡ option_map (λ t. use_of (whole p.opening h ++ e ∷ []) m) (kept_of m (stood p))
   as_before e same m = k.uses m ∙ ap (λ (u : Use). option_map (λ t. u) (kept_of m (stood p))) (sym (same m))
 
   -- ASKED OR FORCED, at a moment of the clock

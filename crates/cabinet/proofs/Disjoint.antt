@@ -19,12 +19,12 @@ use Rattle.metatile_plan.specs.Texts.{blob_len, tile_len}
 use Rattle.matrix_geometry.specs.declared.matrix.Matrix.{Matrix}
 use Rattle.raster_field.proofs.Metas.{its_plan, parts, size_is}
 use Rattle.raster_field.specs.Blocks.{IsMeta, blob_size, factors_at}
-use Rattle.cabinet.specs.declared.entry.Entry.{Entry}
-use Rattle.cabinet.specs.declared.entry.Entry.TheVariants as entry
+use Rattle.cabinet.specs.declared.entry.HistoryEntry.{HistoryEntry}
+use Rattle.cabinet.specs.declared.entry.HistoryEntry.TheVariants as entry
 use Rattle.cabinet.specs.declared.kept.Kept.{Kept}
 use Rattle.cabinet.specs.Fresh.{Follows, May, Possible}
 use Rattle.cabinet.specs.Gaps.{AreDisjoint, HaveRegions, gap_for, region, regions}
-use Rattle.cabinet.specs.History.{History, Opening, Standing, after, but, first, is_of, standing}
+use Rattle.cabinet.specs.History.{CabinetOpening, CabinetStanding, History, after, but, first, is_of, standing}
 use Rattle.cabinet.specs.Hits.{hits_of}
 use Rattle.cabinet.proofs.Lists.{all_found, all_push}
 use Rattle.cabinet.proofs.Regions.{all_regions, gap_some}
@@ -121,7 +121,7 @@ stored c kept t h some gap =
           (all_filter (λ (x : Kept). AreApart (region x) (region t)) (λ x. not (is_of t.meta x)) kept (all_regions (λ q. AreApart q (region t)) kept free.1));
     }
 
-regions_after : (c : Catalogue) (s : Standing) (e : Entry) → IsValid c → Rooted (λ k m. IsMeta c m) s → May c s e → HaveRegions c.blob_bytes s.kept → HaveRegions c.blob_bytes (after c s e).kept
+regions_after : (c : Catalogue) (s : CabinetStanding) (e : HistoryEntry) → IsValid c → Rooted (λ k m. IsMeta c m) s → May c s e → HaveRegions c.blob_bytes s.kept → HaveRegions c.blob_bytes (after c s e).kept
 regions_after c s (entry.At n) valid r may h = h
 regions_after c s (entry.Started k m) valid r may h = h
 regions_after c s (entry.Cut t cover) valid r may h = fewer c.blob_bytes (λ x. not (hits_of c cover x.meta)) s.kept h
@@ -134,10 +134,10 @@ regions_after c s (entry.Ended k) valid r may h = h
 regions_after c s (entry.Used m) valid r may h = h
 regions_after c s (entry.Dropped m) valid r may h = fewer c.blob_bytes (λ x. not (is_of m x)) s.kept h
 
-regions_run : (c : Catalogue) (s : Standing) (h : History) → IsValid c → Rooted (λ k m. IsMeta c m) s → Follows c s h → HaveRegions c.blob_bytes s.kept → HaveRegions c.blob_bytes (standing c s h).kept
+regions_run : (c : Catalogue) (s : CabinetStanding) (h : History) → IsValid c → Rooted (λ k m. IsMeta c m) s → Follows c s h → HaveRegions c.blob_bytes s.kept → HaveRegions c.blob_bytes (standing c s h).kept
 regions_run c s [] valid r may a = a
 regions_run c s (e ∷ es) valid r may a =
     regions_run c (after c s e) es valid (rooted_after (λ k m. IsMeta c m) c s e (is_meta c s e may.0) r may.0) may.1 (regions_after c s e valid r may.0 a)
 
-pub regions_are : (c : Catalogue) (o : Opening) (h : History) → IsValid c → Possible c o h → HaveRegions c.blob_bytes (standing c (first o) h).kept
+pub regions_are : (c : Catalogue) (o : CabinetOpening) (h : History) → IsValid c → Possible c o h → HaveRegions c.blob_bytes (standing c (first o) h).kept
 regions_are c o h valid may = regions_run c (first o) h valid (record { kept = may.opens.metas; out = tt }) may.follows may.opens.regions

@@ -23,15 +23,15 @@ use Rattle.quota_ledger.specs.Accounts.{Accounts, added}
 use Rattle.raster_field.specs.Blocks.{IsMeta}
 use Rattle.truncation_list.specs.declared.book.Book.{Book}
 use Rattle.truncation_list.specs.declared.book.Cut.{Cut}
-use Rattle.cabinet.specs.declared.entry.Entry.TheVariants as entry
+use Rattle.cabinet.specs.declared.entry.HistoryEntry.TheVariants as entry
 use Rattle.cabinet.specs.declared.kept.Kept.{Kept}
 use Rattle.cabinet.specs.declared.kept.KeptBlob.{KeptBlob}
 use Rattle.cabinet.specs.Consistent.{IsConsistent, seen}
 use Rattle.cabinet.specs.Counted.{clock, use_of}
 use Rattle.cabinet.specs.Entered.{AreEntered, CanBeEntered, CanEnter, Enters, with_entered}
-use Rattle.cabinet.specs.Fresh.{IsOfLength, Opens}
+use Rattle.cabinet.specs.Fresh.{IsOfLength, MayBeginWith}
 use Rattle.cabinet.specs.Gaps.{AreDisjoint, region, regions}
-use Rattle.cabinet.specs.History.{History, Opening, but, first_entries, is_of, stored_entry, whole}
+use Rattle.cabinet.specs.History.{CabinetOpening, History, but, first_entries, is_of, stored_entry, whole}
 use Rattle.cabinet.specs.Shelved.{IsAlike, IsBare, IsShelved, LeavesUses, Shelved, listed, use_on}
 use Rattle.cabinet.specs.Started.{away, opened_state}
 use Rattle.cabinet.specs.State.{IsKnown, IsLong, State, blobs_without, now}
@@ -194,13 +194,13 @@ cuts_use : (m : MetaKey) (ks : List Cut) (h : History) → use_of (map (λ k. en
 cuts_use m [] h = refl
 cuts_use m (k ∷ ks) h = cuts_use m ks h
 
-pub opens_entered : (c : Catalogue) (o : Opening) → Opens c o → CanBeEntered c o.kept
+pub opens_entered : (c : Catalogue) (o : CabinetOpening) → MayBeginWith c o → CanBeEntered c o.kept
 opens_entered c o x = record { once = x.once; metas = x.metas; regions = x.regions; lengths = x.lengths; few = x.few }
 
 all_long : (c : Catalogue) (ts : List Kept) → AllByRecursion (IsOfLength c) ts → AllByRecursion (IsLong c) (map away ts)
 all_long c ts a = all_map away (IsLong c) ts (all_weaker (IsOfLength c) (λ t. IsLong c (away t)) (λ t e. (length-replicate t.length 0, e)) ts a)
 
-pub at_opening : (c : Catalogue) (o : Opening) (shelf : Shelved) (clock' : Readings) (last : ℕ) (renders : List Render) (book : Book) (h : History) → IsValid c → o.number < 2 ^ 24 → Opens c o → AreEntered c o.kept shelf → last ≡ o.number * 2 ^ 40 → renders ≡ []
+pub at_opening : (c : Catalogue) (o : CabinetOpening) (shelf : Shelved) (clock' : Readings) (last : ℕ) (renders : List Render) (book : Book) (h : History) → IsValid c → o.number < 2 ^ 24 → MayBeginWith c o → AreEntered c o.kept shelf → last ≡ o.number * 2 ^ 40 → renders ≡ []
     → book ≡ o.book → h ≡ [] → IsConsistent (record { opening = o; shelf = shelf; last = last; moment = 0; clock = clock'; renders = renders; book = book }) h
 at_opening c o shelf clock' last renders book h valid small opens r front none same new =
     let start : State = opened_state c o clock' in

@@ -8,11 +8,11 @@ use Rattle.metatile_plan.proofs.Same.{same_meta_is}
 use Rattle.raster_field.specs.Blocks.{block_of, block_text}
 use Rattle.raster_field.specs.TileText.{tile_text}
 use Rattle.metatile_locks.proofs.Lists.{found}
-use Rattle.cabinet.specs.declared.entry.Entry.TheVariants as entry
+use Rattle.cabinet.specs.declared.entry.HistoryEntry.TheVariants as entry
 use Rattle.cabinet.specs.declared.kept.Kept.{Kept}
 use Rattle.cabinet.specs.declared.kept.KeptBlob.{KeptBlob}
 use Rattle.cabinet.specs.declared.replies.Asked.{Asked}
-use Rattle.cabinet.specs.declared.shelving.Found.{Found}
+use Rattle.cabinet.specs.declared.shelving.FoundTile.{FoundTile}
 use Rattle.cabinet.specs.Commands.{IsHit, IsUnkept, answering, where_within}
 use Rattle.cabinet.specs.Fresh.{limit_for}
 use Rattle.cabinet.specs.History.{is_of, kept_of}
@@ -44,7 +44,7 @@ module _ (s : State) (k : IsKnown s) (a : Address) where
   answers n t e = ap (option_and_then (where_within (limit_for s.catalogue a) (now (asked_at n s)).moment)) (kept_then n (Some t) e)
 
   -- what was read is handed out, where what is kept answers
-  pub hit_of : (n : ℕ) (f : Found) (new : State) → FindsIn s a (Some f) → IsSome (answering (asked_at n s) a) → new ≡ with_entry (asked_at n s) (entry.Used (block_of s.catalogue a)) → IsHit (asked_at n s) a f.number f.text new
+  pub hit_of : (n : ℕ) (f : FoundTile) (new : State) → FindsIn s a (Some f) → IsSome (answering (asked_at n s) a) → new ≡ with_entry (asked_at n s) (entry.Used (block_of s.catalogue a)) → IsHit (asked_at n s) a f.number f.text new
   hit_of n f new x some is =
       let b = x.2.0 in
       let kept = kept_is x.0 (Some b) x.1 x.2.1 in
@@ -62,7 +62,7 @@ module _ (s : State) (k : IsKnown s) (a : Address) where
       }
 
   -- and is the encoded tile, where the cabinet is sound
-  pub hit_true : (f : Found) → FindsIn s a (Some f) → IsSound s → f.text ≡ tile_text s.catalogue f.number a
+  pub hit_true : (f : FoundTile) → FindsIn s a (Some f) → IsSound s → f.text ≡ tile_text s.catalogue f.number a
   hit_true f x sound =
       let b = x.2.0 in
       let pictured : AllByRecursion (IsPictured s.catalogue) x.0 = subst (λ (o : Option (List KeptBlob)). IsSomeAnd o (λ blobs. AllByRecursion (IsPictured s.catalogue) blobs)) x.1 sound in
@@ -75,5 +75,5 @@ module _ (s : State) (k : IsKnown s) (a : Address) where
   none_unkept n x = ap (option_and_then (where_within (limit_for s.catalogue a) (now (asked_at n s)).moment)) (kept_then n None (kept_is x.0 None x.1 x.2))
 
   -- what was read of the tile is kept
-  pub some_kept : (f : Found) → FindsIn s a (Some f) → IsSome (kept_of (block_of s.catalogue a) (now s))
+  pub some_kept : (f : FoundTile) → FindsIn s a (Some f) → IsSome (kept_of (block_of s.catalogue a) (now s))
   some_kept f x = rw (kept_is x.0 (Some x.2.0) x.1 x.2.1) refl

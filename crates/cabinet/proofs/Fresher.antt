@@ -11,11 +11,11 @@ use Rattle.matrix_geometry.specs.declared.address.Address.{Address}
 use Rattle.raster_field.specs.Blocks.{block_of}
 use Rattle.truncation_list.specs.declared.book.Cut.{Cut}
 use Rattle.metatile_locks.proofs.Lists.{all_weaker}
-use Rattle.cabinet.specs.declared.entry.Entry.TheVariants as entry
+use Rattle.cabinet.specs.declared.entry.HistoryEntry.TheVariants as entry
 use Rattle.cabinet.specs.declared.kept.Kept.{Kept}
 use Rattle.cabinet.specs.Commands.{is_within}
 use Rattle.cabinet.specs.Hits.{hits_of}
-use Rattle.cabinet.specs.History.{History, Opening, first, kept_of, standing, whole}
+use Rattle.cabinet.specs.History.{CabinetOpening, History, first, kept_of, standing, whole}
 use Rattle.cabinet.specs.Fresh.{Possible, IsCurrent, IsFresh, IsNoOlder, IsNewer, HoldsOfKept, cuts_of, limit_for, moment}
 use Rattle.cabinet.proofs.Holding.{holds_of, kept_has, all_no_older}
 use Rattle.cabinet.proofs.Lists.{all_push, all_take}
@@ -25,7 +25,7 @@ use Rattle.cabinet.proofs.Rooted.{begins_left, begins_right, kept_begins}
 
 -- CURRENT
 
-pub kept_current : (c : Catalogue) (o : Opening) (h : History) (p : ℕ) (a : Address) (t : Kept) → IsValid c → IsTile c a → Possible c o h → kept_of (block_of c a) (standing c (first o) h) ≡ Some t → IsCurrent c (whole o h) p a t.number
+pub kept_current : (c : Catalogue) (o : CabinetOpening) (h : History) (p : ℕ) (a : Address) (t : Kept) → IsValid c → IsTile c a → Possible c o h → kept_of (block_of c a) (standing c (first o) h) ≡ Some t → IsCurrent c (whole o h) p a t.number
 kept_current c o h p a t valid tile may e =
     let s = standing c (first o) h in
     let k = kept_has (HoldsOfKept c (cuts_of (whole o h)) s.front s.book.floor) (block_of c a) (standing c (first o) h) t (holds_of c o h may).kept e in
@@ -33,7 +33,7 @@ kept_current c o h p a t valid tile may e =
     record { begins = kept_begins c o h (block_of c a) t may e; above = all_take (IsNoOlder c t.number a) p (whole o h) (all_no_older c (whole o h) a t.number valid tile newer) }
 
 -- the number after the front is newer than each cut before
-begun_current : (c : Catalogue) (o : Opening) (h : History) (p : ℕ) (a : Address) (k : ℕ) → IsValid c → IsTile c a → Possible c o h → k ≡ (standing c (first o) h).front + 1
+begun_current : (c : Catalogue) (o : CabinetOpening) (h : History) (p : ℕ) (a : Address) (k : ℕ) → IsValid c → IsTile c a → Possible c o h → k ≡ (standing c (first o) h).front + 1
     → IsCurrent c (whole o h ++ entry.Started k (block_of c a) ∷ []) p a k
 begun_current c o h p a k valid tile may is =
     let s = standing c (first o) h in
@@ -65,7 +65,7 @@ within_now (Some limit) n = grind (arith, nat_tests)
 -- FRESH
 
 -- what is kept and within its age limit at the moment that stands at place p is fresh there
-pub kept_fresh : (c : Catalogue) (o : Opening) (h : History) (p n : ℕ) (a : Address) (t : Kept) → IsValid c → IsTile c a → Possible c o h → kept_of (block_of c a) (standing c (first o) h) ≡ Some t
+pub kept_fresh : (c : Catalogue) (o : CabinetOpening) (h : History) (p n : ℕ) (a : Address) (t : Kept) → IsValid c → IsTile c a → Possible c o h → kept_of (block_of c a) (standing c (first o) h) ≡ Some t
     → slice_get (whole o h) p ≡ Some (entry.At n) → is_within (limit_for c a) t.moment n ≡ true → IsFresh c (whole o h) p a t.number
 kept_fresh c o h p n a t valid tile may e here within =
     let k = kept_has (λ (x : Kept). moment (whole o h) x.number ≡ Some x.moment) (block_of c a) (standing c (first o) h) t (moments_are c o h may) e in
@@ -77,7 +77,7 @@ got_longer (y ∷ xs) ys zero x e = e
 got_longer (y ∷ xs) ys (suc i) x e = got_longer xs ys i x e
 
 -- what was just begun is fresh at the ask or force at whose moment it was begun
-pub begun_fresh : (c : Catalogue) (o : Opening) (h : History) (p n : ℕ) (a : Address) (k : ℕ) → IsValid c → IsTile c a → Possible c o h → k ≡ (standing c (first o) h).front + 1
+pub begun_fresh : (c : Catalogue) (o : CabinetOpening) (h : History) (p n : ℕ) (a : Address) (k : ℕ) → IsValid c → IsTile c a → Possible c o h → k ≡ (standing c (first o) h).front + 1
     → (standing c (first o) h).moment ≡ n → slice_get (whole o h) p ≡ Some (entry.At n) → IsFresh c (whole o h ++ entry.Started k (block_of c a) ∷ []) p a k
 begun_fresh c o h p n a k valid tile may is moment_is here =
     let begun : moment (whole o h ++ entry.Started k (block_of c a) ∷ []) k ≡ Some n = subst (λ (b : ℕ). moment (whole o h ++ entry.Started k (block_of c a) ∷ []) k ≡ Some b) moment_is (moment_given c o h may k (block_of c a) is) in

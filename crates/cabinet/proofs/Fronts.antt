@@ -5,14 +5,14 @@ use Rattle.truncation_list.specs.declared.book.Cut.{Cut}
 use Rattle.truncation_list.specs.Books.{AnswersForFronted}
 use Rattle.truncation_list.proofs.Answering.{answers_itself, fronted_itself}
 use Rattle.truncation_list.proofs.Remaining.{added_answers}
-use Rattle.cabinet.specs.declared.entry.Entry.{Entry}
-use Rattle.cabinet.specs.declared.entry.Entry.TheVariants as entry
-use Rattle.cabinet.specs.Fresh.{Holds, May}
-use Rattle.cabinet.specs.History.{Standing, after, least_of, numbers}
+use Rattle.cabinet.specs.declared.entry.HistoryEntry.{HistoryEntry}
+use Rattle.cabinet.specs.declared.entry.HistoryEntry.TheVariants as entry
+use Rattle.cabinet.specs.Fresh.{HoldsAfterCuts, May}
+use Rattle.cabinet.specs.History.{CabinetStanding, after, least_of, numbers}
 use Rattle.cabinet.specs.State.{fronted}
 use Rattle.cabinet.proofs.Holding.{above_listed}
 
-pub fronted_after : (c : Catalogue) (cuts : List Cut) (s : Standing) (e : Entry) → Holds c cuts s → May c s e → AnswersForFronted (fronted (after c s e)) (fronted s)
+pub fronted_after : (c : Catalogue) (cuts : List Cut) (s : CabinetStanding) (e : HistoryEntry) → HoldsAfterCuts c cuts s → May c s e → AnswersForFronted (fronted (after c s e)) (fronted s)
 fronted_after c cuts s (entry.At n) h may = fronted_itself (fronted s)
 fronted_after c cuts s (entry.Started k m) h may = record { book = answers_itself s.book; front = omega arith }
 fronted_after c cuts s (entry.Cut t cover) h may = record {

@@ -23,17 +23,17 @@ use Rattle.metatile_locks.specs.declared.render.Render.{Render}
 use Rattle.metatile_locks.specs.Running.{marked, unmarked, without, has_number, render_of, is_render_of}
 use Rattle.metatile_locks.proofs.Lists.{all_joined, all_weaker, all_map, all_passed, all_filter, found}
 use Rattle.std.proofs.lemmas.Grind.{fold-append}
-use Rattle.cabinet.specs.declared.entry.Entry.{Entry}
-use Rattle.cabinet.specs.declared.entry.Entry.TheVariants as entry
+use Rattle.cabinet.specs.declared.entry.HistoryEntry.{HistoryEntry}
+use Rattle.cabinet.specs.declared.entry.HistoryEntry.TheVariants as entry
 use Rattle.cabinet.specs.declared.kept.Kept.{Kept}
 use Rattle.cabinet.specs.Hits.{hits_of}
-use Rattle.cabinet.specs.History.{History, Opening, Standing, after, bare_opening, but, first, is_of, kept_of, least_of, lesser, numbers, standing, stored_entry, whole}
-use Rattle.cabinet.specs.Fresh.{Follows, May, Possible, cuts_after, cuts_of, IsNewer, HoldsOfKept, HoldsOfRender, Holds, IsNoOlder, Opens}
+use Rattle.cabinet.specs.History.{CabinetOpening, CabinetStanding, History, after, bare_opening, but, first, is_of, kept_of, least_of, lesser, numbers, standing, stored_entry, whole}
+use Rattle.cabinet.specs.Fresh.{Follows, May, Possible, cuts_after, cuts_of, IsNewer, HoldsOfKept, HoldsOfRender, HoldsAfterCuts, IsNoOlder, MayBeginWith}
 use Rattle.cabinet.proofs.Hits.{covered_hit}
 use Rattle.cabinet.proofs.Lists.{all_push, all_left, all_right, all_found, all_contained, all_both, all_of_map}
 use Rattle.cabinet.proofs.WithUses.{all_set}
 
-pub holds_bare : (c : Catalogue) (e : ℕ) → Holds c [] (first (bare_opening e))
+pub holds_bare : (c : Catalogue) (e : ℕ) → HoldsAfterCuts c [] (first (bare_opening e))
 holds_bare c e = record {
   given = tt;
   floor_given = omega arith;
@@ -56,7 +56,7 @@ given_higher : (front more : ℕ) → front ≤ more → (k : Cut) → k.number 
 given_higher front more le k h = omega arith
 
 -- what is said of a standing doesn't speak of its moment
-higher : (c : Catalogue) (cuts : List Cut) (s : Standing) (more n : ℕ) → s.front ≤ more → Holds c cuts s → Holds c cuts (record { front = more; moment = n; kept = s.kept; out = s.out; book = s.book })
+higher : (c : Catalogue) (cuts : List Cut) (s : CabinetStanding) (more n : ℕ) → s.front ≤ more → HoldsAfterCuts c cuts s → HoldsAfterCuts c cuts (record { front = more; moment = n; kept = s.kept; out = s.out; book = s.book })
 higher c cuts s more n le h = record {
   given = all_weaker (λ (k : Cut). k.number ≤ s.front) (λ k. k.number ≤ more) (given_higher s.front more le) cuts h.given;
   floor_given = let g = h.floor_given in omega arith;
@@ -72,7 +72,7 @@ higher c cuts s more n le h = record {
 newest : (c : Catalogue) (m : MetaKey) (n : ℕ) (cuts : List Cut) → AllByRecursion (λ k. k.number < n) cuts → IsNewer c cuts n m
 newest c m n cuts a = all_weaker (λ (k : Cut). k.number < n) (λ k. IsTrue (hits_of c k.cover m) → k.number < n) (λ k l _. l) cuts a
 
-started : (c : Catalogue) (cuts : List Cut) (s : Standing) (k : ℕ) (m : MetaKey) → Holds c cuts s → k ≡ s.front + 1 → Holds c cuts (after c s (entry.Started k m))
+started : (c : Catalogue) (cuts : List Cut) (s : CabinetStanding) (k : ℕ) (m : MetaKey) → HoldsAfterCuts c cuts s → k ≡ s.front + 1 → HoldsAfterCuts c cuts (after c s (entry.Started k m))
 started c cuts s k m h is =
     let le : s.front ≤ max s.front k = omega arith in
     let u = higher c cuts s (max s.front k) s.moment le h in
@@ -154,7 +154,7 @@ out_marked_at c cuts front more floor floor' t cover le r false e h = record {
   newer = λ none. all_push (λ (k : Cut). IsTrue (hits_of c k.cover r.meta) → k.number < r.number) cuts (record { number = t; cover = cover }) (h.0.newer none) (λ hit. absurd (let f : true ≡ false = sym hit ∙ e in cc));
 }
 
-pub above_listed : (c : Catalogue) (cuts : List Cut) (s : Standing) (t : ℕ) → Holds c cuts s → s.front < t → IsAbove t s.book.cuts
+pub above_listed : (c : Catalogue) (cuts : List Cut) (s : CabinetStanding) (t : ℕ) → HoldsAfterCuts c cuts s → s.front < t → IsAbove t s.book.cuts
 above_listed c cuts s t h l =
     All-from_recursion (λ (k : Cut). k.number < t) s.book.cuts
     (all_weaker (Contains cuts) (λ k. k.number < t) (λ k a. let g = all_contained (λ (j : Cut). j.number ≤ s.front) cuts k h.given a in omega arith) s.book.cuts h.listed)
@@ -171,7 +171,7 @@ under_both : (floor : ℕ) (out : List Render) (kept : List Kept) → AllByRecur
 under_both floor out kept a b =
     all_joined (λ n. floor < n) (map (λ r. r.number) out) (map (λ t. t.number) kept) (all_map (λ (r : Render). r.number) (λ n. floor < n) out a) (all_map (λ (t : Kept). t.number) (λ n. floor < n) kept b)
 
-cut : (c : Catalogue) (cuts : List Cut) (s : Standing) (t : ℕ) (cover : Cover) → Holds c cuts s → t ≡ s.front + 1 → IsWithinReach cover → Holds c (cuts ++ record { number = t; cover = cover } ∷ []) (after c s (entry.Cut t cover))
+cut : (c : Catalogue) (cuts : List Cut) (s : CabinetStanding) (t : ℕ) (cover : Cover) → HoldsAfterCuts c cuts s → t ≡ s.front + 1 → IsWithinReach cover → HoldsAfterCuts c (cuts ++ record { number = t; cover = cover } ∷ []) (after c s (entry.Cut t cover))
 cut c cuts s t cover h is reach =
     let le : s.front ≤ max s.front t = omega arith in
     let least = least_of (numbers s.out s.kept) in
@@ -209,8 +209,8 @@ out_without c cuts front floor k out a = all_filter (HoldsOfRender c cuts front 
 kept_but : (c : Catalogue) (cuts : List Cut) (front floor : ℕ) (m : MetaKey) (kept : List Kept) → AllByRecursion (HoldsOfKept c cuts front floor) kept → AllByRecursion (HoldsOfKept c cuts front floor) (but m kept)
 kept_but c cuts front floor m kept a = all_filter (HoldsOfKept c cuts front floor) (λ t. not (is_of m t)) kept a
 
-stored : (c : Catalogue) (cuts : List Cut) (s : Standing) (k : ℕ) (m : MetaKey) (place length n uses : ℕ) → Holds c cuts s → render_of (record { number = k; meta = m }) s.out ≡ Some (unmarked k m n)
-    → Holds c cuts (after c s (entry.Stored k m place length n uses))
+stored : (c : Catalogue) (cuts : List Cut) (s : CabinetStanding) (k : ℕ) (m : MetaKey) (place length n uses : ℕ) → HoldsAfterCuts c cuts s → render_of (record { number = k; meta = m }) s.out ≡ Some (unmarked k m n)
+    → HoldsAfterCuts c cuts (after c s (entry.Stored k m place length n uses))
 stored c cuts s k m place length n uses h was =
     let r = all_found (HoldsOfRender c cuts s.front s.book.floor) (is_render_of (record { number = k; meta = m })) s.out (unmarked k m n) h.out was in
     record {
@@ -224,7 +224,7 @@ stored c cuts s k m place length n uses h was =
       out = out_without c cuts s.front s.book.floor k s.out h.out;
     }
 
-counted : (c : Catalogue) (cuts : List Cut) (s : Standing) (m : MetaKey) (u : ℕ) → Holds c cuts s → Holds c cuts (after c s (entry.Counted m u))
+counted : (c : Catalogue) (cuts : List Cut) (s : CabinetStanding) (m : MetaKey) (u : ℕ) → HoldsAfterCuts c cuts s → HoldsAfterCuts c cuts (after c s (entry.Counted m u))
 counted c cuts s m u h = record {
   given = h.given;
   floor_given = h.floor_given;
@@ -235,20 +235,20 @@ counted c cuts s m u h = record {
   out = h.out;
 }
 
-ended : (c : Catalogue) (cuts : List Cut) (s : Standing) (k : ℕ) → Holds c cuts s → Holds c cuts (after c s (entry.Ended k))
+ended : (c : Catalogue) (cuts : List Cut) (s : CabinetStanding) (k : ℕ) → HoldsAfterCuts c cuts s → HoldsAfterCuts c cuts (after c s (entry.Ended k))
 ended c cuts s k h = record { given = h.given; floor_given = h.floor_given; listed = h.listed; order = h.order; answers = h.answers; kept = h.kept; out = out_without c cuts s.front s.book.floor k s.out h.out }
 
-dropped : (c : Catalogue) (cuts : List Cut) (s : Standing) (m : MetaKey) → Holds c cuts s → Holds c cuts (after c s (entry.Dropped m))
+dropped : (c : Catalogue) (cuts : List Cut) (s : CabinetStanding) (m : MetaKey) → HoldsAfterCuts c cuts s → HoldsAfterCuts c cuts (after c s (entry.Dropped m))
 dropped c cuts s m h = record { given = h.given; floor_given = h.floor_given; listed = h.listed; order = h.order; answers = h.answers; kept = kept_but c cuts s.front s.book.floor m s.kept h.kept; out = h.out }
 
 -- AN OPENING WITH NOTHING IN IT
 
-pub bare_opens : (c : Catalogue) (e : ℕ) → Opens c (bare_opening e)
+pub bare_opens : (c : Catalogue) (e : ℕ) → MayBeginWith c (bare_opening e)
 bare_opens c e = record { holds = holds_bare c e; numbers = tt; once = tt; metas = tt; regions = record { some = tt; within = tt; disjoint = tt }; lengths = tt; covers = tt; few = omega arith; few_cuts = omega arith }
 
 -- HISTORIES
 
-pub holds_step : (c : Catalogue) (cuts : List Cut) (s : Standing) (e : Entry) → Holds c cuts s → May c s e → Holds c (cuts_after cuts e) (after c s e)
+pub holds_step : (c : Catalogue) (cuts : List Cut) (s : CabinetStanding) (e : HistoryEntry) → HoldsAfterCuts c cuts s → May c s e → HoldsAfterCuts c (cuts_after cuts e) (after c s e)
 holds_step c cuts s (entry.At n) h may = higher c cuts s s.front n (omega arith) h
 holds_step c cuts s (entry.Started k m) h may = started c cuts s k m h may.0
 holds_step c cuts s (entry.Cut t cover) h may = cut c cuts s t cover h may.0 may.1.reach
@@ -259,7 +259,7 @@ holds_step c cuts s (entry.Ended k) h may = ended c cuts s k h
 holds_step c cuts s (entry.Used m) h may = h
 holds_step c cuts s (entry.Dropped m) h may = dropped c cuts s m h
 
-pub holds_run : (c : Catalogue) (cuts : List Cut) (s : Standing) (h : History) → Holds c cuts s → Follows c s h → Holds c (fold cuts_after cuts h) (standing c s h)
+pub holds_run : (c : Catalogue) (cuts : List Cut) (s : CabinetStanding) (h : History) → HoldsAfterCuts c cuts s → Follows c s h → HoldsAfterCuts c (fold cuts_after cuts h) (standing c s h)
 holds_run c cuts s [] hold may = hold
 holds_run c cuts s (e ∷ es) hold may = holds_run c (cuts_after cuts e) (after c s e) es (holds_step c cuts s e hold may.0) may.1
 
@@ -272,21 +272,21 @@ no_cuts : (before : List Cut) (ts : List Kept) → fold cuts_after before (map s
 no_cuts before [] = refl
 no_cuts before (t ∷ ts) = no_cuts before ts
 
-cuts_whole : (o : Opening) (later : History) → cuts_of (whole o later) ≡ fold cuts_after o.book.cuts later
+cuts_whole : (o : CabinetOpening) (later : History) → cuts_of (whole o later) ≡ fold cuts_after o.book.cuts later
 cuts_whole o later = rw fold-append (ap (λ (ks : List Cut). fold cuts_after ks later) (cuts_run [] o.book.cuts (map stored_entry o.kept) ∙ no_cuts o.book.cuts o.kept))
 
-pub holds_of : (c : Catalogue) (o : Opening) (later : History) → Possible c o later → Holds c (cuts_of (whole o later)) (standing c (first o) later)
+pub holds_of : (c : Catalogue) (o : CabinetOpening) (later : History) → Possible c o later → HoldsAfterCuts c (cuts_of (whole o later)) (standing c (first o) later)
 holds_of c o later may =
-    subst (λ (ks : List Cut). Holds c ks (standing c (first o) later)) (sym (cuts_whole o later)) (holds_run c o.book.cuts (first o) later may.opens.holds may.follows)
+    subst (λ (ks : List Cut). HoldsAfterCuts c ks (standing c (first o) later)) (sym (cuts_whole o later)) (holds_run c o.book.cuts (first o) later may.opens.holds may.follows)
 
 -- WHAT IS FRESH
 
 -- what is kept of a metatile has what each kept one has, and is of that metatile
-pub kept_has : (P : Kept → Type 0) (m : MetaKey) (s : Standing) (t : Kept) → AllByRecursion P s.kept → kept_of m s ≡ Some t → P t × (t.meta ≡ m)
+pub kept_has : (P : Kept → Type 0) (m : MetaKey) (s : CabinetStanding) (t : Kept) → AllByRecursion P s.kept → kept_of m s ≡ Some t → P t × (t.meta ≡ m)
 kept_has P m s t a e = let f = found (is_of m) P s.kept t a e in (f.1, same_meta_is t.meta m f.0)
 
 -- an entry that is a cut has it
-abbrev pub IfCut : (Cut → Type 0) → Entry → Type 0
+abbrev pub IfCut : (Cut → Type 0) → HistoryEntry → Type 0
 IfCut P (entry.At n) = Unit {0}
 IfCut P (entry.Started j n) = Unit {0}
 IfCut P (entry.Cut t cover) = P (record { number = t; cover = cover })
@@ -297,7 +297,7 @@ IfCut P (entry.Ended j) = Unit {0}
 IfCut P (entry.Used n) = Unit {0}
 IfCut P (entry.Dropped n) = Unit {0}
 
-cuts_before : (P : Cut → Type 0) (cuts : List Cut) (e : Entry) → AllByRecursion P (cuts_after cuts e) → AllByRecursion P cuts × IfCut P e
+cuts_before : (P : Cut → Type 0) (cuts : List Cut) (e : HistoryEntry) → AllByRecursion P (cuts_after cuts e) → AllByRecursion P cuts × IfCut P e
 cuts_before P cuts (entry.At n) a = (a, tt)
 cuts_before P cuts (entry.Started j n) a = (a, tt)
 cuts_before P cuts (entry.Cut t cover) a = (all_left P cuts (record { number = t; cover = cover } ∷ []) a, (all_right P cuts (record { number = t; cover = cover } ∷ []) a).0)
@@ -312,7 +312,7 @@ pub cuts_both : (P : Cut → Type 0) (cuts : List Cut) (h : History) → AllByRe
 cuts_both P cuts [] a = (a, tt)
 cuts_both P cuts (e ∷ es) a = let r = cuts_both P (cuts_after cuts e) es a in let x = cuts_before P cuts e r.0 in (x.0, (x.1, r.1))
 
-no_older : (c : Catalogue) (k : ℕ) (a : Address) → IsValid c → IsTile c a → (e : Entry) → IfCut (λ x. IsTrue (hits_of c x.cover (block_of c a)) → x.number < k) e → IsNoOlder c k a e
+no_older : (c : Catalogue) (k : ℕ) (a : Address) → IsValid c → IsTile c a → (e : HistoryEntry) → IfCut (λ x. IsTrue (hits_of c x.cover (block_of c a)) → x.number < k) e → IsNoOlder c k a e
 no_older c k a valid tile (entry.At n) h = tt
 no_older c k a valid tile (entry.Started j m) h = tt
 no_older c k a valid tile (entry.Cut i cover) h = λ covered. h (covered_hit c cover a valid tile covered)

@@ -8,11 +8,11 @@ use Rattle.truncation_list.specs.declared.book.Cut.{Cut}
 use Rattle.truncation_list.specs.declared.cover.Cover.{Cover}
 use Rattle.truncation_list.specs.Purge.{goes, purged, remaining}
 use Rattle.metatile_locks.proofs.Lists.{all_filter, few}
-use Rattle.cabinet.specs.declared.entry.Entry.{Entry}
-use Rattle.cabinet.specs.declared.entry.Entry.TheVariants as entry
+use Rattle.cabinet.specs.declared.entry.HistoryEntry.{HistoryEntry}
+use Rattle.cabinet.specs.declared.entry.HistoryEntry.TheVariants as entry
 use Rattle.cabinet.specs.declared.kept.Kept.{Kept}
 use Rattle.cabinet.specs.Hits.{hits_of}
-use Rattle.cabinet.specs.History.{History, Opening, Standing, after, but, first, is_of, least_of, numbers, standing, with_uses}
+use Rattle.cabinet.specs.History.{CabinetOpening, CabinetStanding, History, after, but, first, is_of, least_of, numbers, standing, with_uses}
 use Rattle.cabinet.specs.Fresh.{Follows, IsOfLength, May, Possible}
 use Rattle.cabinet.proofs.Lists.{all_push}
 use Rattle.cabinet.proofs.WithUses.{all_set}
@@ -27,20 +27,20 @@ all_remaining P cover least (cut ∷ later) a = chosen (goes cover least later c
     chosen false rest = (a.0, rest)
 
 -- what each standing keeps to
-record IsLimited (c : Catalogue) (s : Standing) : Type 0 where
+record IsLimited (c : Catalogue) (s : CabinetStanding) : Type 0 where
   pub lengths : AllByRecursion (IsOfLength c) s.kept
   pub few : length s.kept ≤ c.kept_limit
   pub covers : AllByRecursion (λ k. IsCoverOf c k.cover) s.book.cuts
   pub few_cuts : length s.book.cuts ≤ c.cut_limit
 
 -- what is kept, and no more of it
-fewer : (c : Catalogue) (s t : Standing) (p : Kept → Bool) → t.kept ≡ filter p s.kept → t.book ≡ s.book → IsLimited c s → IsLimited c t
+fewer : (c : Catalogue) (s t : CabinetStanding) (p : Kept → Bool) → t.kept ≡ filter p s.kept → t.book ≡ s.book → IsLimited c s → IsLimited c t
 fewer c s t p kept book l =
     let n = few p s.kept in
     let m = l.few in
     rw (kept, book) (record { lengths = all_filter (IsOfLength c) p s.kept l.lengths; few = omega arith; covers = l.covers; few_cuts = l.few_cuts })
 
-limited_after : (c : Catalogue) (s : Standing) (e : Entry) → May c s e → IsLimited c s → IsLimited c (after c s e)
+limited_after : (c : Catalogue) (s : CabinetStanding) (e : HistoryEntry) → May c s e → IsLimited c s → IsLimited c (after c s e)
 limited_after c s (entry.At n) may l = record { lengths = l.lengths; few = l.few; covers = l.covers; few_cuts = l.few_cuts }
 limited_after c s (entry.Started k m) may l = record { lengths = l.lengths; few = l.few; covers = l.covers; few_cuts = l.few_cuts }
 limited_after c s (entry.Cut t cover) may l =
@@ -75,11 +75,11 @@ limited_after c s (entry.Ended k) may l = record { lengths = l.lengths; few = l.
 limited_after c s (entry.Used m) may l = l
 limited_after c s (entry.Dropped m) may l = fewer c s (after c s (entry.Dropped m)) (λ x. not (is_of m x)) refl refl l
 
-limited_run : (c : Catalogue) (s : Standing) (h : History) → Follows c s h → IsLimited c s → IsLimited c (standing c s h)
+limited_run : (c : Catalogue) (s : CabinetStanding) (h : History) → Follows c s h → IsLimited c s → IsLimited c (standing c s h)
 limited_run c s [] may l = l
 limited_run c s (e ∷ es) may l = limited_run c (after c s e) es may.1 (limited_after c s e may.0 l)
 
-module _ (c : Catalogue) (o : Opening) (h : History) (p : Possible c o h) where
+module _ (c : Catalogue) (o : CabinetOpening) (h : History) (p : Possible c o h) where
   limited : IsLimited c (standing c (first o) h)
   limited = limited_run c (first o) h p.follows (record { lengths = p.opens.lengths; few = p.opens.few; covers = p.opens.covers; few_cuts = p.opens.few_cuts })
 

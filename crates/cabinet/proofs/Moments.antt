@@ -10,12 +10,12 @@ use Rattle.metatile_locks.specs.declared.render.Render.{Render}
 use Rattle.metatile_locks.specs.Running.{has_number, is_render_of, marked, unmarked}
 use Rattle.metatile_locks.proofs.Lists.{all_filter, all_map, all_weaker}
 use Rattle.metatile_locks.proofs.Runs.{marked_is}
-use Rattle.cabinet.specs.declared.entry.Entry.{Entry}
-use Rattle.cabinet.specs.declared.entry.Entry.TheVariants as entry
+use Rattle.cabinet.specs.declared.entry.HistoryEntry.{HistoryEntry}
+use Rattle.cabinet.specs.declared.entry.HistoryEntry.TheVariants as entry
 use Rattle.cabinet.specs.declared.kept.Kept.{Kept}
-use Rattle.cabinet.specs.Fresh.{ApartBy, Beginning, Follows, HoldsOfKept, May, Opens, Possible, begun_after, moment}
+use Rattle.cabinet.specs.Fresh.{ApartBy, Beginning, Follows, HoldsOfKept, May, MayBeginWith, Possible, begun_after, moment}
 use Rattle.cabinet.specs.Hits.{hits_of}
-use Rattle.cabinet.specs.History.{History, Opening, Standing, after, but, first, first_entries, is_of, standing, stored_entry, whole}
+use Rattle.cabinet.specs.History.{CabinetOpening, CabinetStanding, History, after, but, first, first_entries, is_of, standing, stored_entry, whole}
 use Rattle.cabinet.proofs.Lists.{all_both, all_found, all_push, fold_more}
 use Rattle.cabinet.proofs.WithUses.{all_set}
 
@@ -28,7 +28,7 @@ or_known : (o more : Option ℕ) (n : ℕ) → o ≡ Some n → option_or o more
 or_known None more n e = absurd (cc)
 or_known (Some m) more n e = e
 
-known_step : (k : ℕ) (was : Beginning) (e : Entry) (n : ℕ) → was.begun ≡ Some n → (begun_after k was e).begun ≡ Some n
+known_step : (k : ℕ) (was : Beginning) (e : HistoryEntry) (n : ℕ) → was.begun ≡ Some n → (begun_after k was e).begun ≡ Some n
 known_step k was (entry.At b) n is = is
 known_step k was (entry.Started j m) n is = or_known was.begun (cond (j == k) (Some was.moment) None) n is
 known_step k was (entry.Cut t cover) n is = is
@@ -66,20 +66,20 @@ RunsAt beginnings r = (beginnings r.number).begun ≡ Some r.moment
 
 -- the beginnings of all numbers: what is kept and runs was begun at the moments that it tells, each beginning has the moment that
 -- stands, and no number above the front has begun
-record AreKnown (s : Standing) (beginnings : ℕ → Beginning) : Type 0 where
+record AreKnown (s : CabinetStanding) (beginnings : ℕ → Beginning) : Type 0 where
   pub kept : AllByRecursion (KeptAt beginnings) s.kept
   pub out : AllByRecursion (RunsAt beginnings) s.out
   pub moment : (k : ℕ) → (beginnings k).moment ≡ s.moment
   pub above : (k : ℕ) → s.front < k → (beginnings k).begun ≡ None
 
 -- the beginnings after one more entry, and after a history
-abbrev going_on : (ℕ → Beginning) → Entry → ℕ → Beginning
+abbrev going_on : (ℕ → Beginning) → HistoryEntry → ℕ → Beginning
 going_on beginnings e k = begun_after k (beginnings k) e
 
 abbrev run : (ℕ → Beginning) → History → ℕ → Beginning
 run beginnings h k = fold (begun_after k) (beginnings k) h
 
-module _ (bs : ℕ → Beginning) (e : Entry) where
+module _ (bs : ℕ → Beginning) (e : HistoryEntry) where
   kept_then : (ts : List Kept) → AllByRecursion (KeptAt bs) ts → AllByRecursion (KeptAt (going_on bs e)) ts
   kept_then ts a = all_weaker (KeptAt bs) (KeptAt (going_on bs e)) (λ t is. known_step t.number (bs t.number) e t.moment is) ts a
 
@@ -94,7 +94,7 @@ above_stored : (bs : ℕ → Beginning) (front k n j b : ℕ) → (bs k).begun �
 above_stored bs front k n j b is above over =
     or_other (bs j).begun k j b (above j over) (λ same. let e : (bs k).begun ≡ None = subst (λ (i : ℕ). (bs i).begun ≡ None) (sym same) (above j over) in absurd (cc))
 
-known_after : (c : Catalogue) (s : Standing) (bs : ℕ → Beginning) (e : Entry) → AreKnown s bs → May c s e → AreKnown (after c s e) (going_on bs e)
+known_after : (c : Catalogue) (s : CabinetStanding) (bs : ℕ → Beginning) (e : HistoryEntry) → AreKnown s bs → May c s e → AreKnown (after c s e) (going_on bs e)
 known_after c s bs (entry.At n) k may = record { kept = k.kept; out = k.out; moment = λ j. refl; above = k.above }
 known_after c s bs (entry.Started i m) k may =
     let is : i ≡ s.front + 1 = may.0 in
@@ -138,7 +138,7 @@ known_after c s bs (entry.Dropped m) k may = record {
   above = k.above;
 }
 
-known_on : (c : Catalogue) (s : Standing) (bs : ℕ → Beginning) (h : History) → AreKnown s bs → Follows c s h → AreKnown (standing c s h) (run bs h)
+known_on : (c : Catalogue) (s : CabinetStanding) (bs : ℕ → Beginning) (h : History) → AreKnown s bs → Follows c s h → AreKnown (standing c s h) (run bs h)
 known_on c s bs [] k may = k
 known_on c s bs (e ∷ es) k may = known_on c (after c s e) (going_on bs e) es (known_after c s bs e k may.0) may.1
 
@@ -183,7 +183,7 @@ off_above c cuts front floor k ts over a = all_weaker (HoldsOfKept c cuts front 
 abbrev beginning : History → ℕ → Beginning
 beginning h k = fold (begun_after k) unbegun h
 
-known_first : (c : Catalogue) (o : Opening) → Opens c o → AreKnown (first o) (beginning (first_entries o))
+known_first : (c : Catalogue) (o : CabinetOpening) → MayBeginWith c o → AreKnown (first o) (beginning (first_entries o))
 known_first c o opens =
     let start : (k : ℕ) → beginning (map stored_entry o.kept) k ≡ beginning (first_entries o) k = λ k. sym (first_cuts k unbegun o.book.cuts (map stored_entry o.kept)) in
     record {
@@ -196,10 +196,10 @@ known_first c o opens =
 
 -- HISTORIES
 
-whole_is : (o : Opening) (h : History) (k : ℕ) → run (beginning (first_entries o)) h k ≡ beginning (whole o h) k
+whole_is : (o : CabinetOpening) (h : History) (k : ℕ) → run (beginning (first_entries o)) h k ≡ beginning (whole o h) k
 whole_is o h k = sym (fold_more (begun_after k) unbegun (first_entries o) h)
 
-module _ (c : Catalogue) (o : Opening) (h : History) (may : Possible c o h) where
+module _ (c : Catalogue) (o : CabinetOpening) (h : History) (may : Possible c o h) where
   known : AreKnown (standing c (first o) h) (run (beginning (first_entries o)) h)
   known = known_on c (first o) (beginning (first_entries o)) h (known_first c o may.opens) may.follows
 

@@ -14,12 +14,12 @@ use Rattle.metatile_locks.specs.Running.{overtaken, marked, unmarked, without, h
 use Rattle.metatile_locks.specs.Tickets.{Ticketed}
 use Rattle.metatile_locks.proofs.Lists.{all_weaker, all_map, all_passed, all_filter, find_filter, found}
 use Rattle.metatile_locks.proofs.Runs.{both, one, Differs, marked_is, none_runs, one_begun, one_filter, one_overtaken}
-use Rattle.cabinet.specs.declared.entry.Entry.{Entry}
-use Rattle.cabinet.specs.declared.entry.Entry.TheVariants as entry
+use Rattle.cabinet.specs.declared.entry.HistoryEntry.{HistoryEntry}
+use Rattle.cabinet.specs.declared.entry.HistoryEntry.TheVariants as entry
 use Rattle.cabinet.specs.declared.kept.Kept.{Kept}
 use Rattle.cabinet.specs.Hits.{hits_of}
-use Rattle.cabinet.specs.History.{History, Opening, Running, Standing, after, but, first, first_entries, is_of, of_meta, render, render_after, spared, standing, stored_entry, ticket_render, whole, with_render, with_uses}
-use Rattle.cabinet.specs.Fresh.{Follows, May, Possible, cuts_after, Holds, HoldsOfRender, HoldsOfKept, ApartBy, Differ}
+use Rattle.cabinet.specs.History.{CabinetOpening, CabinetStanding, History, Running, after, but, first, first_entries, is_of, of_meta, render, render_after, spared, standing, stored_entry, ticket_render, whole, with_render, with_uses}
+use Rattle.cabinet.specs.Fresh.{Follows, May, Possible, cuts_after, HoldsAfterCuts, HoldsOfRender, HoldsOfKept, ApartBy, Differ}
 use Rattle.cabinet.proofs.Holding.{holds_step}
 use Rattle.cabinet.proofs.Lists.{all_push, all_found, all_both, either_same, fold_more}
 use Rattle.cabinet.proofs.WithUses.{all_set, apart_set}
@@ -71,7 +71,7 @@ stored_both t kept out a =
     (λ r h. all_push (λ (x : Kept). r.number ≢ x.number) kept t h.0 h.1) (without t.number out)
     (all_both (λ (r : Render). OffKept kept r.number) (λ r. r.number ≢ t.number) (without t.number out) a numbers)
 
-differ_started : (c : Catalogue) (cuts : List Cut) (s : Standing) (k : ℕ) (m : MetaKey) → Holds c cuts s → Differ s → May c s (entry.Started k m) → Differ (after c s (entry.Started k m))
+differ_started : (c : Catalogue) (cuts : List Cut) (s : CabinetStanding) (k : ℕ) (m : MetaKey) → HoldsAfterCuts c cuts s → Differ s → May c s (entry.Started k m) → Differ (after c s (entry.Started k m))
 differ_started c cuts s k m h d may = record {
   out = apart_push (λ (r : Render). r.number) s.out (unmarked k m s.moment) d.out
       (all_weaker (HoldsOfRender c cuts s.front s.book.floor) (λ r. r.number ≢ k) (λ r x e. let g = x.given in let i = may.0 in absurd (omega arith)) s.out h.out);
@@ -81,7 +81,7 @@ differ_started c cuts s k m h d may = record {
   one_runs = one_begun k m s.moment s.out (none_runs m s.out may.1) d.one_runs;
 }
 
-differ_stored : (c : Catalogue) (s : Standing) (t : Kept) → Differ s → May c s (stored_entry t) → Differ (after c s (stored_entry t))
+differ_stored : (c : Catalogue) (s : CabinetStanding) (t : Kept) → Differ s → May c s (stored_entry t) → Differ (after c s (stored_entry t))
 differ_stored c s t d may =
     let r = all_found (λ (r : Render). OffKept s.kept r.number) (is_render_of (record { number = t.number; meta = t.meta })) s.out (unmarked t.number t.meta t.moment) d.both may.0 in
     let fewer = each_fewer (λ x. not (is_of t.meta x)) s.kept (without t.number s.out) (all_filter (λ (r : Render). OffKept s.kept r.number) (λ r. not (has_number t.number r)) s.out d.both) in
@@ -93,7 +93,7 @@ differ_stored c s t d may =
       one_runs = one_filter (λ r. not (has_number t.number r)) s.out d.one_runs;
     }
 
-differ_step : (c : Catalogue) (cuts : List Cut) (s : Standing) (e : Entry) → Holds c cuts s → Differ s → May c s e → Differ (after c s e)
+differ_step : (c : Catalogue) (cuts : List Cut) (s : CabinetStanding) (e : HistoryEntry) → HoldsAfterCuts c cuts s → Differ s → May c s e → Differ (after c s e)
 differ_step c cuts s (entry.At n) h d may = record { out = d.out; kept = d.kept; both = d.both; one_runs = d.one_runs }
 differ_step c cuts s (entry.Started k m) h d may = differ_started c cuts s k m h d may
 differ_step c cuts s (entry.Cut t cover) h d may = record {
@@ -124,11 +124,11 @@ differ_step c cuts s (entry.Dropped m) h d may = record {
   one_runs = d.one_runs;
 }
 
-differ_run : (c : Catalogue) (cuts : List Cut) (s : Standing) (h : History) → Holds c cuts s → Differ s → Follows c s h → Differ (standing c s h)
+differ_run : (c : Catalogue) (cuts : List Cut) (s : CabinetStanding) (h : History) → HoldsAfterCuts c cuts s → Differ s → Follows c s h → Differ (standing c s h)
 differ_run c cuts s [] hold d may = d
 differ_run c cuts s (e ∷ es) hold d may = differ_run c (cuts_after cuts e) (after c s e) es (holds_step c cuts s e hold may.0) (differ_step c cuts s e hold d may.0) may.1
 
-pub differ_is : (c : Catalogue) (o : Opening) (h : History) → Possible c o h → Differ (standing c (first o) h)
+pub differ_is : (c : Catalogue) (o : CabinetOpening) (h : History) → Possible c o h → Differ (standing c (first o) h)
 differ_is c o h may = differ_run c o.book.cuts (first o) h may.opens.holds (record { out = tt; kept = may.opens.numbers; both = tt; one_runs = tt }) may.follows
 
 -- BY NUMBER
@@ -159,13 +159,13 @@ without_is : (k j : ℕ) (rs : List Render) → find (has_number k) (without j r
 without_is k j rs = find_filter (has_number k) (λ r. not (has_number j r)) (not (j == k)) (λ r is. let n : r.number ≡ k = one r.number k is in grind (arith, nat_tests)) rs ∙ off_at (j == k) (find (has_number k) rs)
 
 -- the moment that stands, and the render of a number
-abbrev at_number : ℕ → Standing → Running
+abbrev at_number : ℕ → CabinetStanding → Running
 at_number k s = record { moment = s.moment; render = find (has_number k) s.out }
 
 abbrev unbegun : Running
 unbegun = record { moment = 0; render = None }
 
-render_step : (c : Catalogue) (cuts : List Cut) (k : ℕ) (s : Standing) (e : Entry) → Holds c cuts s → May c s e → at_number k (after c s e) ≡ render_after c k (at_number k s) e
+render_step : (c : Catalogue) (cuts : List Cut) (k : ℕ) (s : CabinetStanding) (e : HistoryEntry) → HoldsAfterCuts c cuts s → May c s e → at_number k (after c s e) ≡ render_after c k (at_number k s) e
 render_step c cuts k s (entry.At n) h may = refl
 render_step c cuts k s (entry.Started j m) h may =
     let none : (j == k) ≡ true → find (has_number k) s.out ≡ None =
@@ -180,7 +180,7 @@ render_step c cuts k s (entry.Ended j) h may = ap (λ (o : Option Render). with_
 render_step c cuts k s (entry.Used m) h may = refl
 render_step c cuts k s (entry.Dropped m) h may = refl
 
-render_run : (c : Catalogue) (cuts : List Cut) (k : ℕ) (s : Standing) (h : History) → Holds c cuts s → Follows c s h → at_number k (standing c s h) ≡ fold (render_after c k) (at_number k s) h
+render_run : (c : Catalogue) (cuts : List Cut) (k : ℕ) (s : CabinetStanding) (h : History) → HoldsAfterCuts c cuts s → Follows c s h → at_number k (standing c s h) ≡ fold (render_after c k) (at_number k s) h
 render_run c cuts k s [] hold may = refl
 render_run c cuts k s (e ∷ es) hold may =
     render_run c (cuts_after cuts e) k (after c s e) es (holds_step c cuts s e hold may.0) may.1 ∙ ap (λ (r : Running). fold (render_after c k) r es) (render_step c cuts k s e hold may.0)
@@ -194,12 +194,12 @@ no_first_kept : (c : Catalogue) (k : ℕ) (ts : List Kept) → fold (render_afte
 no_first_kept c k [] = refl
 no_first_kept c k (t ∷ ts) = ap (λ (o : Option Render). fold (render_after c k) (with_render unbegun o) (map stored_entry ts)) (either_same None (t.number == k)) ∙ no_first_kept c k ts
 
-render_whole : (c : Catalogue) (o : Opening) (later : History) (k : ℕ) → render c (whole o later) k ≡ (fold (render_after c k) unbegun later).render
+render_whole : (c : Catalogue) (o : CabinetOpening) (later : History) (k : ℕ) → render c (whole o later) k ≡ (fold (render_after c k) unbegun later).render
 render_whole c o later k =
     ap (λ (r : Running). r.render) (fold_more (render_after c k) unbegun (first_entries o) later)
     ∙ ap (λ (r : Running). (fold (render_after c k) r later).render) (no_first_cut c k o.book.cuts (map stored_entry o.kept) ∙ no_first_kept c k o.kept)
 
-pub render_is : (c : Catalogue) (o : Opening) (h : History) (k : ℕ) → Possible c o h → find (has_number k) (standing c (first o) h).out ≡ render c (whole o h) k
+pub render_is : (c : Catalogue) (o : CabinetOpening) (h : History) (k : ℕ) → Possible c o h → find (has_number k) (standing c (first o) h).out ≡ render c (whole o h) k
 render_is c o h k may = ap (λ (r : Running). r.render) (render_run c o.book.cuts k (first o) h may.opens.holds may.follows) ∙ sym (render_whole c o h k)
 
 -- BY NUMBER AND METATILE
@@ -223,7 +223,7 @@ by_number : (t : Ticketed) (rs : List Render) → ApartBy (λ r. r.number) rs �
 by_number t [] a = refl
 by_number t (r ∷ rs) a = render_at t r rs (has_number t.number r) (same_meta r.meta t.meta) refl refl a.0 (by_number t rs a.1)
 
-pub ticket_is : (c : Catalogue) (o : Opening) (h : History) (t : Ticketed) → Possible c o h → render_of t (standing c (first o) h).out ≡ ticket_render c (whole o h) t
+pub ticket_is : (c : Catalogue) (o : CabinetOpening) (h : History) (t : Ticketed) → Possible c o h → render_of t (standing c (first o) h).out ≡ ticket_render c (whole o h) t
 ticket_is c o h t may = by_number t (standing c (first o) h).out (differ_is c o h may).out ∙ ap (option_and_then (of_meta t.meta)) (render_is c o h t.number may)
 
 -- BY METATILE
@@ -250,7 +250,7 @@ found_runs m k n (x ∷ xs) o e = at (has_number k x) (runs_for m x) refl refl (
         absurd (a (subst (λ (y : MetaKey). same_meta m y ≡ true) (sym same) (same_meta_self m)) (none_is x.mark p.1) refl)
     at false false j r ih e = ih e
 
-pub running_is : (c : Catalogue) (o : Opening) (h : History) (m : MetaKey) (k n : ℕ) → Possible c o h → render c (whole o h) k ≡ Some (unmarked k m n) → running_for m (standing c (first o) h).out ≡ Some k
+pub running_is : (c : Catalogue) (o : CabinetOpening) (h : History) (m : MetaKey) (k n : ℕ) → Possible c o h → render c (whole o h) k ≡ Some (unmarked k m n) → running_for m (standing c (first o) h).out ≡ Some k
 running_is c o h m k n may e = found_runs m k n (standing c (first o) h).out (differ_is c o h may).one_runs (render_is c o h k may ∙ e)
 
 -- the first render that passes is the first with its number
@@ -284,5 +284,5 @@ runs_found m k rs a e = at (find (runs_for m) rs) refl e
         let there = number_of (runs_for m) rs r a f ∙ ap Some (unmarked_is m r (found (runs_for m) (λ (x : Render). Unit {0}) rs r (each_unit rs) f).0) in
         (r.moment, subst (λ (j : ℕ). find (has_number j) rs ≡ Some (unmarked j m r.moment)) number there)
 
-pub runs_is : (c : Catalogue) (o : Opening) (h : History) (m : MetaKey) (k : ℕ) → Possible c o h → running_for m (standing c (first o) h).out ≡ Some k → (n : ℕ) × (render c (whole o h) k ≡ Some (unmarked k m n))
+pub runs_is : (c : Catalogue) (o : CabinetOpening) (h : History) (m : MetaKey) (k : ℕ) → Possible c o h → running_for m (standing c (first o) h).out ≡ Some k → (n : ℕ) × (render c (whole o h) k ≡ Some (unmarked k m n))
 runs_is c o h m k may e = let r = runs_found m k (standing c (first o) h).out (differ_is c o h may).out e in (r.0, sym (render_is c o h k may) ∙ r.1)

@@ -6,12 +6,12 @@ use Rattle.metatile_plan.specs.declared.metatile.MetaKey.{MetaKey}
 use Rattle.metatile_plan.specs.Keys.{same_meta}
 use Rattle.metatile_plan.proofs.Same.{same_meta_is, same_meta_self}
 use Rattle.metatile_locks.proofs.Lists.{all_map, all_passed, all_weaker}
-use Rattle.cabinet.specs.declared.entry.Entry.{Entry}
-use Rattle.cabinet.specs.declared.entry.Entry.TheVariants as entry
+use Rattle.cabinet.specs.declared.entry.HistoryEntry.{HistoryEntry}
+use Rattle.cabinet.specs.declared.entry.HistoryEntry.TheVariants as entry
 use Rattle.cabinet.specs.declared.kept.Kept.{Kept}
-use Rattle.cabinet.specs.Fresh.{ApartBy, Opens}
+use Rattle.cabinet.specs.Fresh.{ApartBy, MayBeginWith}
 use Rattle.cabinet.specs.Hits.{hits_of}
-use Rattle.cabinet.specs.History.{History, Opening, Standing, after, but, first, is_of, standing}
+use Rattle.cabinet.specs.History.{CabinetOpening, CabinetStanding, History, after, but, first, is_of, standing}
 use Rattle.cabinet.proofs.Lists.{all_of, all_of_map, all_right}
 use Rattle.cabinet.proofs.Numbers.{apart_filter, apart_push}
 use Rattle.cabinet.proofs.WithUses.{apart_set}
@@ -45,7 +45,7 @@ but_apart m kept = all_passed (λ (t : Kept). Unit {0}) (λ t. t.meta ≢ m) (λ
 abbrev pub AreOnce : List Kept → Type 0
 AreOnce kept = ApartBy (λ t. t.meta) kept
 
-once_after : (c : Catalogue) (s : Standing) (e : Entry) → AreOnce s.kept → AreOnce (after c s e).kept
+once_after : (c : Catalogue) (s : CabinetStanding) (e : HistoryEntry) → AreOnce s.kept → AreOnce (after c s e).kept
 once_after c s (entry.At n) a = a
 once_after c s (entry.Started k m) a = a
 once_after c s (entry.Cut t cover) a = apart_filter (λ (x : Kept). x.meta) (λ x. not (hits_of c cover x.meta)) s.kept a
@@ -57,11 +57,11 @@ once_after c s (entry.Ended k) a = a
 once_after c s (entry.Used m) a = a
 once_after c s (entry.Dropped m) a = apart_filter (λ (x : Kept). x.meta) (λ x. not (is_of m x)) s.kept a
 
-once_run : (c : Catalogue) (s : Standing) (h : History) → AreOnce s.kept → AreOnce (standing c s h).kept
+once_run : (c : Catalogue) (s : CabinetStanding) (h : History) → AreOnce s.kept → AreOnce (standing c s h).kept
 once_run c s [] a = a
 once_run c s (e ∷ es) a = once_run c (after c s e) es (once_after c s e a)
 
-pub once : (c : Catalogue) (o : Opening) (h : History) → Opens c o → AreOnce (standing c (first o) h).kept
+pub once : (c : Catalogue) (o : CabinetOpening) (h : History) → MayBeginWith c o → AreOnce (standing c (first o) h).kept
 once c o h opens = once_run c (first o) h opens.once
 
 -- THE OTHERS OF ONE

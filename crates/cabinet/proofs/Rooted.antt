@@ -8,11 +8,11 @@ use Rattle.metatile_locks.specs.declared.render.Render.{Render}
 use Rattle.metatile_locks.specs.Running.{marked, unmarked, has_number, is_render_of}
 use Rattle.metatile_locks.proofs.Lists.{all_weaker, all_map, all_filter}
 use Rattle.metatile_locks.proofs.Runs.{marked_is}
-use Rattle.cabinet.specs.declared.entry.Entry.{Entry}
-use Rattle.cabinet.specs.declared.entry.Entry.TheVariants as entry
+use Rattle.cabinet.specs.declared.entry.HistoryEntry.{HistoryEntry}
+use Rattle.cabinet.specs.declared.entry.HistoryEntry.TheVariants as entry
 use Rattle.cabinet.specs.declared.kept.Kept.{Kept}
 use Rattle.cabinet.specs.Hits.{hits_of}
-use Rattle.cabinet.specs.History.{History, Opening, Standing, first, first_entries, is_of, but, after, standing, stored_entry, kept_of, whole}
+use Rattle.cabinet.specs.History.{History, CabinetOpening, CabinetStanding, first, first_entries, is_of, but, after, standing, stored_entry, kept_of, whole}
 use Rattle.cabinet.specs.Fresh.{Begins, Follows, May, Possible}
 use Rattle.cabinet.proofs.Holding.{kept_has}
 use Rattle.cabinet.proofs.Lists.{all_push, all_found}
@@ -28,7 +28,7 @@ begins_right k m [] more s = s
 begins_right k m (e ∷ es) more s = inr (begins_right k m es more s)
 
 -- what is said of numbers and metatiles holds of all that is kept or runs
-pub record Rooted (P : ℕ → MetaKey → Type 0) (s : Standing) : Type 0 where
+pub record Rooted (P : ℕ → MetaKey → Type 0) (s : CabinetStanding) : Type 0 where
   pub kept : AllByRecursion (λ t. P t.number t.meta) s.kept
   pub out : AllByRecursion (λ r. P r.number r.meta) s.out
 
@@ -37,7 +37,7 @@ module _ (P : ℕ → MetaKey → Type 0) where
   marked_has is_hit t r h = subst (λ (n : ℕ). P n (marked is_hit t r).meta) (sym (marked_is is_hit t r).number) (subst (λ (m : MetaKey). P r.number m) (sym (marked_is is_hit t r).meta) h)
 
   -- an entry but Started leaves what is rooted so
-  pub rooted_after : (c : Catalogue) (s : Standing) (e : Entry) → ((k : ℕ) (m : MetaKey) → e ≡ entry.Started k m → P k m) → Rooted P s → May c s e → Rooted P (after c s e)
+  pub rooted_after : (c : Catalogue) (s : CabinetStanding) (e : HistoryEntry) → ((k : ℕ) (m : MetaKey) → e ≡ entry.Started k m → P k m) → Rooted P s → May c s e → Rooted P (after c s e)
   rooted_after c s (entry.At n) new r may = record { kept = r.kept; out = r.out }
   rooted_after c s (entry.Started k m) new r may = record { kept = r.kept; out = all_push (λ (x : Render). P x.number x.meta) s.out (unmarked k m s.moment) r.out (new k m refl) }
   rooted_after c s (entry.Cut t cover) new r may = record {
@@ -57,16 +57,16 @@ module _ (P : ℕ → MetaKey → Type 0) where
 
 -- BEGUN
 
-longer : (h : History) (e : Entry) (s : Standing) → Rooted (λ k m. Begins k m h) s → Rooted (λ k m. Begins k m (h ++ e ∷ [])) s
+longer : (h : History) (e : HistoryEntry) (s : CabinetStanding) → Rooted (λ k m. Begins k m h) s → Rooted (λ k m. Begins k m (h ++ e ∷ [])) s
 longer h e s r = record {
   kept = all_weaker (λ (t : Kept). Begins t.number t.meta h) (λ t. Begins t.number t.meta (h ++ e ∷ [])) (λ t x. begins_left t.number t.meta h (e ∷ []) x) s.kept r.kept;
   out = all_weaker (λ (t : Render). Begins t.number t.meta h) (λ t. Begins t.number t.meta (h ++ e ∷ [])) (λ t x. begins_left t.number t.meta h (e ∷ []) x) s.out r.out;
 }
 
-begun_run : (c : Catalogue) (past : History) (s : Standing) (h : History) → Rooted (λ k m. Begins k m past) s → Follows c s h → Rooted (λ k m. Begins k m (past ++ h)) (standing c s h)
+begun_run : (c : Catalogue) (past : History) (s : CabinetStanding) (h : History) → Rooted (λ k m. Begins k m past) s → Follows c s h → Rooted (λ k m. Begins k m (past ++ h)) (standing c s h)
 begun_run c past s [] r may = subst (λ (h : History). Rooted (λ k m. Begins k m h) s) (sym (append-nil past)) r
 begun_run c past s (e ∷ es) r may =
-    let started : (k : ℕ) (m : MetaKey) → e ≡ entry.Started k m → Begins k m (past ++ e ∷ []) = λ k m is. subst (λ (x : Entry). Begins k m (past ++ x ∷ [])) (sym is) (begins_right k m past (entry.Started k m ∷ []) (inl (refl, refl))) in
+    let started : (k : ℕ) (m : MetaKey) → e ≡ entry.Started k m → Begins k m (past ++ e ∷ []) = λ k m is. subst (λ (x : HistoryEntry). Begins k m (past ++ x ∷ [])) (sym is) (begins_right k m past (entry.Started k m ∷ []) (inl (refl, refl))) in
     subst (λ (h : History). Rooted (λ k m. Begins k m h) (standing c (after c s e) es)) (append_assoc past (e ∷ []) es)
     (begun_run c (past ++ e ∷ []) (after c s e) es (rooted_after (λ k m. Begins k m (past ++ e ∷ [])) c s e started (longer past e s r) may.0) may.1)
 
@@ -78,7 +78,7 @@ stored_begin (t ∷ ts) = (
   all_weaker (λ (x : Kept). Begins x.number x.meta (map stored_entry ts)) (λ x. Begins x.number x.meta (map stored_entry (t ∷ ts))) (λ x b. inr b) ts (stored_begin ts),
 )
 
-first_begin : (o : Opening) → Rooted (λ k m. Begins k m (first_entries o)) (first o)
+first_begin : (o : CabinetOpening) → Rooted (λ k m. Begins k m (first_entries o)) (first o)
 first_begin o = record {
   kept = all_weaker (λ (x : Kept). Begins x.number x.meta (map stored_entry o.kept)) (λ x. Begins x.number x.meta (first_entries o))
       (λ x b. begins_right x.number x.meta (map (λ k. entry.Cut k.number k.cover) o.book.cuts) (map stored_entry o.kept) b) o.kept (stored_begin o.kept);
@@ -86,7 +86,7 @@ first_begin o = record {
 }
 
 -- what is kept of a metatile was begun
-pub kept_begins : (c : Catalogue) (o : Opening) (h : History) (m : MetaKey) (t : Kept) → Possible c o h → kept_of m (standing c (first o) h) ≡ Some t → Begins t.number m (whole o h)
+pub kept_begins : (c : Catalogue) (o : CabinetOpening) (h : History) (m : MetaKey) (t : Kept) → Possible c o h → kept_of m (standing c (first o) h) ≡ Some t → Begins t.number m (whole o h)
 kept_begins c o h m t may e =
     let r = begun_run c (first_entries o) (first o) h (first_begin o) may.follows in
     let k = kept_has (λ (x : Kept). Begins x.number x.meta (whole o h)) m (standing c (first o) h) t r.kept e in
@@ -94,12 +94,12 @@ kept_begins c o h m t may e =
 
 -- METATILES
 
-pub is_meta : (c : Catalogue) (s : Standing) (e : Entry) → May c s e → (k : ℕ) (m : MetaKey) → e ≡ entry.Started k m → IsMeta c m
-is_meta c s e may k m is = (subst (λ (x : Entry). May c s x) is may).2
+pub is_meta : (c : Catalogue) (s : CabinetStanding) (e : HistoryEntry) → May c s e → (k : ℕ) (m : MetaKey) → e ≡ entry.Started k m → IsMeta c m
+is_meta c s e may k m is = (subst (λ (x : HistoryEntry). May c s x) is may).2
 
-metas_run : (c : Catalogue) (s : Standing) (h : History) → Rooted (λ k m. IsMeta c m) s → Follows c s h → Rooted (λ k m. IsMeta c m) (standing c s h)
+metas_run : (c : Catalogue) (s : CabinetStanding) (h : History) → Rooted (λ k m. IsMeta c m) s → Follows c s h → Rooted (λ k m. IsMeta c m) (standing c s h)
 metas_run c s [] r may = r
 metas_run c s (e ∷ es) r may = metas_run c (after c s e) es (rooted_after (λ k m. IsMeta c m) c s e (is_meta c s e may.0) r may.0) may.1
 
-pub metas_of : (c : Catalogue) (o : Opening) (h : History) → Possible c o h → Rooted (λ k m. IsMeta c m) (standing c (first o) h)
+pub metas_of : (c : Catalogue) (o : CabinetOpening) (h : History) → Possible c o h → Rooted (λ k m. IsMeta c m) (standing c (first o) h)
 metas_of c o h may = metas_run c (first o) h (record { kept = may.opens.metas; out = tt }) may.follows

@@ -22,8 +22,8 @@ use Rattle.truncation_list.proofs.Answering.{fronted_itself}
 use Rattle.metatile_locks.specs.Running.{unmarked}
 use Rattle.metatile_locks.specs.Tickets.{Ticketed}
 use Rattle.metatile_locks.proofs.Lists.{all_filter}
-use Rattle.cabinet.specs.declared.entry.Entry.{Entry}
-use Rattle.cabinet.specs.declared.entry.Entry.TheVariants as entry
+use Rattle.cabinet.specs.declared.entry.HistoryEntry.{HistoryEntry}
+use Rattle.cabinet.specs.declared.entry.HistoryEntry.TheVariants as entry
 use Rattle.cabinet.specs.declared.kept.Kept.{Kept}
 use Rattle.cabinet.specs.declared.kept.KeptBlob.{KeptBlob}
 use Rattle.cabinet.specs.declared.replies.Expired.{Expired}
@@ -40,10 +40,10 @@ use Rattle.cabinet.specs.declared.replies.CutReply.{CutReply}
 use Rattle.cabinet.specs.declared.replies.CutReply.TheVariants as reply
 use Rattle.cabinet.specs.Hits.{hits_of}
 use Rattle.served_covers.specs.OfCatalogue.{IsCoverOf}
-use Rattle.cabinet.specs.History.{History, Opening, Standing, after, but, first, first_entries, is_of, kept_of, last_number, next, render, spared, standing, stored_entry, whole, with_uses}
+use Rattle.cabinet.specs.History.{CabinetOpening, CabinetStanding, History, after, but, first, first_entries, is_of, kept_of, last_number, next, render, spared, standing, stored_entry, whole, with_uses}
 use Rattle.cabinet.specs.Fresh.{Follows, IsFresh, May, cuts_of, limit_for}
 use Rattle.cabinet.specs.State.{IsKnown, IsKnownAs, IsLong, State, blobs_counted, blobs_spared, blobs_with, blobs_without, asked_at, fronted, grown, now, with_entry}
-use Rattle.cabinet.specs.Commands.{Asks, Forces, Finishes, Abandons, Cuts, Expires, Saves, IsAskedOf, IsBusy, IsForcedOf, IsGiven, IsHit, IsFreshReply, IsFreshForced, answering, is_within, kept_at, where_within}
+use Rattle.cabinet.specs.Commands.{Asks, Forces, Finishes, Abandons, Cuts, Expires, Saves, IsAskedOf, IsBusy, IsForcedOf, IsTicketGiven, IsHit, IsFreshReply, IsFreshForced, answering, is_within, kept_at, where_within}
 use Rattle.cabinet.proofs.Fronts.{fronted_after}
 use Rattle.cabinet.proofs.Holding.{holds_of}
 use Rattle.cabinet.proofs.Fresher.{begun_fresh, kept_fresh, still_fresh}
@@ -53,15 +53,15 @@ use Rattle.cabinet.proofs.Modelled.{if_some_made, if_some_so}
 use Rattle.cabinet.proofs.Numbers.{runs_is}
 use Rattle.cabinet.proofs.WithUses.{blobs_set, listed_set}
 
-follows_more : (c : Catalogue) (s : Standing) (h : History) (e : Entry) → Follows c s h → May c (standing c s h) e → Follows c s (h ++ e ∷ [])
+follows_more : (c : Catalogue) (s : CabinetStanding) (h : History) (e : HistoryEntry) → Follows c s h → May c (standing c s h) e → Follows c s (h ++ e ∷ [])
 follows_more c s [] e a b = (b, tt)
 follows_more c s (x ∷ xs) e a b = (a.0, follows_more c (after c s x) xs e a.1 b)
 
-pub stood_more : (c : Catalogue) (s : Standing) (h : History) (e : Entry) → standing c s (h ++ e ∷ []) ≡ after c (standing c s h) e
+pub stood_more : (c : Catalogue) (s : CabinetStanding) (h : History) (e : HistoryEntry) → standing c s (h ++ e ∷ []) ≡ after c (standing c s h) e
 stood_more c s h e = rw fold-append refl
 
 -- what stands in a cabinet after one more entry
-pub now_more : (s : State) (e : Entry) (blobs : Option (List KeptBlob)) → now (grown s e blobs) ≡ after s.catalogue (now s) e
+pub now_more : (s : State) (e : HistoryEntry) (blobs : Option (List KeptBlob)) → now (grown s e blobs) ≡ after s.catalogue (now s) e
 now_more s e blobs = stood_more s.catalogue (first s.opening) s.since e
 
 -- NUMBERS
@@ -74,7 +74,7 @@ next_at : (front top k : ℕ) (v : Bool) → nat_lt front top ≡ v → cond v (
 next_at front top k true is e = let d : front + 1 ≡ k = cc in let l : front < top = grind (arith, nat_tests) in record { number = sym d; left = omega arith }
 next_at front top k false is e = absurd (cc)
 
-pub next_is : (o : Opening) (s : Standing) (k : ℕ) → next o s ≡ Some k → IsNext s.front (last_number o) k
+pub next_is : (o : CabinetOpening) (s : CabinetStanding) (k : ℕ) → next o s ≡ Some k → IsNext s.front (last_number o) k
 next_is o s k h = next_at s.front (last_number o) k (nat_lt s.front (last_number o)) refl h
 
 -- KNOWN
@@ -82,13 +82,13 @@ next_is o s k h = next_at s.front (last_number o) k (nat_lt s.front (last_number
 the_same : (s t : State) → IsKnown s → t ≡ s → IsKnownAs s t
 the_same s t k is = rw is (record { known = k; same_catalogue = refl; same_opening = refl; answers = fronted_itself (fronted (now s)) })
 
-answers_more : (s : State) (e : Entry) (blobs : Option (List KeptBlob)) → IsKnown s → May s.catalogue (now s) e → AnswersForFronted (fronted (now (grown s e blobs))) (fronted (now s))
+answers_more : (s : State) (e : HistoryEntry) (blobs : Option (List KeptBlob)) → IsKnown s → May s.catalogue (now s) e → AnswersForFronted (fronted (now (grown s e blobs))) (fronted (now s))
 answers_more s e blobs k may =
-    subst (λ (x : Standing). AnswersForFronted (fronted x) (fronted (now s))) (sym (now_more s e blobs))
+    subst (λ (x : CabinetStanding). AnswersForFronted (fronted x) (fronted (now s))) (sym (now_more s e blobs))
     (fronted_after s.catalogue (cuts_of (whole s.opening s.since)) (now s) e (holds_of s.catalogue s.opening s.since k.possible) may)
 
 -- one entry more, and what is kept then
-pub one_more_known : (s : State) (e : Entry) (blobs : Option (List KeptBlob)) → IsKnown s → May s.catalogue (now s) e → IfSome blobs (λ blobs. map (λ b. b.kept) blobs ≡ (after s.catalogue (now s) e).kept)
+pub one_more_known : (s : State) (e : HistoryEntry) (blobs : Option (List KeptBlob)) → IsKnown s → May s.catalogue (now s) e → IfSome blobs (λ blobs. map (λ b. b.kept) blobs ≡ (after s.catalogue (now s) e).kept)
     → IfSome blobs (λ blobs. AllByRecursion (IsLong s.catalogue) blobs) → (after s.catalogue (now s) e).front ≤ last_number s.opening → IsKnown (grown s e blobs)
 one_more_known s e blobs k may kept long left =
     let stood = now_more s e blobs in
@@ -97,24 +97,24 @@ one_more_known s e blobs k may kept long left =
       number = k.number;
       whole = ap (λ (h : History). h ++ e ∷ []) k.whole ∙ append_assoc (first_entries s.opening) s.since (e ∷ []);
       possible = record { opens = k.possible.opens; follows = follows_more s.catalogue (first s.opening) s.since e k.possible.follows may };
-      blobs = if_some_so (λ (bs : List KeptBlob) is. is ∙ ap (λ (x : Standing). x.kept) (sym stood)) blobs kept;
+      blobs = if_some_so (λ (bs : List KeptBlob) is. is ∙ ap (λ (x : CabinetStanding). x.kept) (sym stood)) blobs kept;
       lengths = long;
-      left = subst (λ (x : Standing). x.front ≤ last_number s.opening) (sym stood) left;
+      left = subst (λ (x : CabinetStanding). x.front ≤ last_number s.opening) (sym stood) left;
     }
 
-known_more : (s t : State) (e : Entry) (blobs : Option (List KeptBlob)) → IsKnown s → May s.catalogue (now s) e → IfSome blobs (λ blobs. map (λ b. b.kept) blobs ≡ (after s.catalogue (now s) e).kept)
+known_more : (s t : State) (e : HistoryEntry) (blobs : Option (List KeptBlob)) → IsKnown s → May s.catalogue (now s) e → IfSome blobs (λ blobs. map (λ b. b.kept) blobs ≡ (after s.catalogue (now s) e).kept)
     → IfSome blobs (λ blobs. AllByRecursion (IsLong s.catalogue) blobs) → (after s.catalogue (now s) e).front ≤ last_number s.opening → t ≡ grown s e blobs → IsKnownAs s t
 known_more s t e blobs k may kept long left is =
     rw is (record { known = one_more_known s e blobs k may kept long left; same_catalogue = refl; same_opening = refl; answers = answers_more s e blobs k may })
 
 -- an entry that keeps and drops nothing
-entered : (s t : State) (e : Entry) → IsKnown s → May s.catalogue (now s) e → (after s.catalogue (now s) e).kept ≡ (now s).kept → (after s.catalogue (now s) e).front ≤ last_number s.opening → t ≡ with_entry s e → IsKnownAs s t
+entered : (s t : State) (e : HistoryEntry) → IsKnown s → May s.catalogue (now s) e → (after s.catalogue (now s) e).kept ≡ (now s).kept → (after s.catalogue (now s) e).front ≤ last_number s.opening → t ≡ with_entry s e → IsKnownAs s t
 entered s t e k may kept left is = known_more s t e s.blobs k may (if_some_so (λ (bs : List KeptBlob) is. is ∙ sym kept) s.blobs k.blobs) k.lengths left is
 
 ended : (s t : State) (n : ℕ) → IsKnown s → t ≡ with_entry s (entry.Ended n) → IsKnownAs s t
 ended s t n k is = entered s t (entry.Ended n) k tt refl k.left is
 
-given : (s : State) (m : MetaKey) (ticket : Ticketed) (t : State) → IsKnown s → IsMeta s.catalogue m → IsGiven s m ticket t → IsKnownAs s t
+given : (s : State) (m : MetaKey) (ticket : Ticketed) (t : State) → IsKnown s → IsMeta s.catalogue m → IsTicketGiven s m ticket t → IsKnownAs s t
 given s m ticket t k meta g =
     let n = next_is s.opening (now s) ticket.number g.number in
     let l = n.left in let f = k.left in
@@ -138,7 +138,7 @@ since_ask s t n k = record {
   known = k.known;
   same_catalogue = k.same_catalogue;
   same_opening = k.same_opening;
-  answers = subst (λ (x : Standing). AnswersForFronted (fronted (now t)) (fronted x)) (now_asked s n) k.answers;
+  answers = subst (λ (x : CabinetStanding). AnswersForFronted (fronted (now t)) (fronted x)) (now_asked s n) k.answers;
 }
 
 -- a kept metatile that answers is kept, and within its age limit
@@ -280,9 +280,9 @@ module _ (s : State) (n : ℕ) (k : IsKnown s) where
   here = subst (λ (h : History). slice_get h (length s.history) ≡ Some (entry.At n)) (asked_known s n k).whole (got_last s.history (entry.At n))
 
   moment_is : (now (asked_at n s)).moment ≡ n
-  moment_is = ap (λ (x : Standing). x.moment) (now_asked s n)
+  moment_is = ap (λ (x : CabinetStanding). x.moment) (now_asked s n)
 
-given_fresh : (s : State) (n : ℕ) (a : Address) (ticket : Ticketed) (t : State) → IsKnown s → IsTile s.catalogue a → IsGiven (asked_at n s) (block_of s.catalogue a) ticket t
+given_fresh : (s : State) (n : ℕ) (a : Address) (ticket : Ticketed) (t : State) → IsKnown s → IsTile s.catalogue a → IsTicketGiven (asked_at n s) (block_of s.catalogue a) ticket t
     → IsFresh s.catalogue t.history (length s.history) a ticket.number
 given_fresh s n a ticket t k tile g =
     let after_ask = asked_known s n k in

@@ -9,13 +9,13 @@ use Rattle.metatile_plan.specs.declared.metatile.MetaKey.{MetaKey}
 use Rattle.metatile_plan.specs.Keys.{same_meta}
 use Rattle.metatile_plan.proofs.Same.{same_meta_is}
 use Rattle.metatile_locks.proofs.Lists.{find_filter}
-use Rattle.cabinet.specs.declared.entry.Entry.{Entry}
-use Rattle.cabinet.specs.declared.entry.Entry.TheVariants as entry
+use Rattle.cabinet.specs.declared.entry.HistoryEntry.{HistoryEntry}
+use Rattle.cabinet.specs.declared.entry.HistoryEntry.TheVariants as entry
 use Rattle.cabinet.specs.declared.kept.Kept.{Kept}
-use Rattle.cabinet.specs.Fresh.{ApartBy, Opens}
+use Rattle.cabinet.specs.Fresh.{ApartBy, MayBeginWith}
 use Rattle.cabinet.specs.Hits.{hits_of}
 use Rattle.truncation_list.specs.declared.book.Cut.{Cut}
-use Rattle.cabinet.specs.History.{History, Opening, Standing, after, but, first, first_entries, is_of, kept, kept_after, kept_of, standing, stored_entry, whole}
+use Rattle.cabinet.specs.History.{CabinetOpening, CabinetStanding, History, after, but, first, first_entries, is_of, kept, kept_after, kept_of, standing, stored_entry, whole}
 use Rattle.cabinet.proofs.Lists.{either_same}
 use Rattle.cabinet.proofs.WithUses.{found_set}
 
@@ -41,7 +41,7 @@ stored_at t false (Some x) = refl
 pub but_is : (m n : MetaKey) (ts : List Kept) → find (is_of m) (but n ts) ≡ cond (not (same_meta n m)) (find (is_of m) ts) None
 but_is m n ts = find_filter (is_of m) (λ t. not (is_of n t)) (not (same_meta n m)) (λ t at. ap not (at_both t.meta m n at)) ts
 
-pub kept_step : (c : Catalogue) (m : MetaKey) (s : Standing) (e : Entry) → kept_of m (after c s e) ≡ kept_after c m (kept_of m s) e
+pub kept_step : (c : Catalogue) (m : MetaKey) (s : CabinetStanding) (e : HistoryEntry) → kept_of m (after c s e) ≡ kept_after c m (kept_of m s) e
 kept_step c m s (entry.At n) = refl
 kept_step c m s (entry.Started k n) = refl
 kept_step c m s (entry.Cut t cover) =
@@ -57,7 +57,7 @@ kept_step c m s (entry.Ended k) = refl
 kept_step c m s (entry.Used n) = refl
 kept_step c m s (entry.Dropped n) = but_is m n s.kept ∙ off_at (same_meta n m) (find (is_of m) s.kept)
 
-kept_run : (c : Catalogue) (m : MetaKey) (s : Standing) (h : History) → kept_of m (standing c s h) ≡ fold (kept_after c m) (kept_of m s) h
+kept_run : (c : Catalogue) (m : MetaKey) (s : CabinetStanding) (h : History) → kept_of m (standing c s h) ≡ fold (kept_after c m) (kept_of m s) h
 kept_run c m s [] = refl
 kept_run c m s (e ∷ es) = kept_run c m (after c s e) es ∙ ap (λ (o : Option Kept). fold (kept_after c m) o es) (kept_step c m s e)
 
@@ -90,10 +90,10 @@ or_none : (o : Option Kept) → option_or o None ≡ o
 or_none None = refl
 or_none (Some t) = refl
 
-first_is : (c : Catalogue) (o : Opening) (m : MetaKey) → Opens c o → kept c (first_entries o) m ≡ kept_of m (first o)
+first_is : (c : Catalogue) (o : CabinetOpening) (m : MetaKey) → MayBeginWith c o → kept c (first_entries o) m ≡ kept_of m (first o)
 first_is c o m opens = first_cuts c m o.book.cuts (map stored_entry o.kept) ∙ first_kept c m None o.kept opens.once ∙ or_none (find (is_of m) o.kept)
 
-pub kept_is : (c : Catalogue) (o : Opening) (h : History) (m : MetaKey) → Opens c o → kept_of m (standing c (first o) h) ≡ kept c (whole o h) m
+pub kept_is : (c : Catalogue) (o : CabinetOpening) (h : History) (m : MetaKey) → MayBeginWith c o → kept_of m (standing c (first o) h) ≡ kept c (whole o h) m
 kept_is c o h m opens =
     let end : kept c (whole o h) m ≡ fold (kept_after c m) (kept c (first_entries o) m) h = rw fold-append refl in
     kept_run c m (first o) h ∙ sym (end ∙ ap (λ (was : Option Kept). fold (kept_after c m) was h) (first_is c o m opens))

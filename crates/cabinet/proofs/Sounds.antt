@@ -7,8 +7,8 @@ use Rattle.metatile_locks.specs.Tickets.{Ticketed}
 use Rattle.metatile_plan.specs.declared.metatile.MetaKey.{MetaKey}
 use Rattle.raster_field.specs.Blocks.{block_of}
 use Rattle.truncation_list.specs.declared.cover.Cover.{Cover}
-use Rattle.cabinet.specs.declared.entry.Entry.{Entry}
-use Rattle.cabinet.specs.declared.entry.Entry.TheVariants as entry
+use Rattle.cabinet.specs.declared.entry.HistoryEntry.{HistoryEntry}
+use Rattle.cabinet.specs.declared.entry.HistoryEntry.TheVariants as entry
 use Rattle.cabinet.specs.declared.replies.Asked.{Asked}
 use Rattle.cabinet.specs.declared.replies.Asked.TheVariants as asked
 use Rattle.cabinet.specs.declared.replies.CutReply.{CutReply}
@@ -23,7 +23,7 @@ use Rattle.cabinet.proofs.Modelled.{some_and_made}
 same : (s t : State) → t ≡ s → IsSound s → IsSound t
 same s t is sound = subst IsSound (sym is) sound
 
-entered : (s t : State) (e : Entry) → t ≡ with_entry s e → IsSound s → IsSound t
+entered : (s t : State) (e : HistoryEntry) → t ≡ with_entry s e → IsSound s → IsSound t
 entered s t e is sound = subst IsSound (sym is) sound
 
 asked_sound : (before after : ℕ) (s t : State) (a : Address) (r : Asked) → Asks before after s a r t → IsSound s → IsSound t

@@ -6,15 +6,15 @@ use Rattle.expiry_policy.specs.Victims.{all_saved, one_more, used_at}
 use Rattle.metatile_plan.specs.declared.metatile.MetaKey.{MetaKey}
 use Rattle.metatile_plan.specs.Keys.{same_meta}
 use Rattle.metatile_plan.proofs.Same.{same_meta_is, same_meta_self}
-use Rattle.cabinet.specs.declared.entry.Entry.{Entry}
-use Rattle.cabinet.specs.declared.entry.Entry.TheVariants as entry
+use Rattle.cabinet.specs.declared.entry.HistoryEntry.{HistoryEntry}
+use Rattle.cabinet.specs.declared.entry.HistoryEntry.TheVariants as entry
 use Rattle.cabinet.specs.Counted.{Times, clock, clock_after, last_use, saved, saved_after, times_after, use_of, uses, uses_after}
 use Rattle.cabinet.specs.History.{History}
 use Rattle.cabinet.proofs.Sentences.{at_both}
 
 -- ONE ENTRY MORE
 
-pub clock_more : (h : History) (e : Entry) → clock (h ++ e ∷ []) ≡ clock_after (clock h) e
+pub clock_more : (h : History) (e : HistoryEntry) → clock (h ++ e ∷ []) ≡ clock_after (clock h) e
 clock_more h e = rw fold-append refl
 
 -- the count of times is the clock
@@ -36,20 +36,20 @@ at_first = record { count = 0; last = 0 }
 abbrev times : History → MetaKey → Times
 times h m = fold (times_after m) at_first h
 
-times_more : (h : History) (e : Entry) (m : MetaKey) → times (h ++ e ∷ []) m ≡ times_after m (times h m) e
+times_more : (h : History) (e : HistoryEntry) (m : MetaKey) → times (h ++ e ∷ []) m ≡ times_after m (times h m) e
 times_more h e m = rw fold-append refl
 
-uses_more : (h : History) (e : Entry) (m : MetaKey) → uses (h ++ e ∷ []) m ≡ uses_after m (uses h m) e
+uses_more : (h : History) (e : HistoryEntry) (m : MetaKey) → uses (h ++ e ∷ []) m ≡ uses_after m (uses h m) e
 uses_more h e m = rw fold-append refl
 
-saved_more : (h : History) (e : Entry) (m : MetaKey) → saved (h ++ e ∷ []) m ≡ saved_after m (saved h m) e
+saved_more : (h : History) (e : HistoryEntry) (m : MetaKey) → saved (h ++ e ∷ []) m ≡ saved_after m (saved h m) e
 saved_more h e m = rw fold-append refl
 
 -- the use after one more entry
-abbrev use_then : History → Entry → MetaKey → Use
+abbrev use_then : History → HistoryEntry → MetaKey → Use
 use_then h e m = record { meta = m; uses = uses_after m (uses h m) e; saved = saved_after m (saved h m) e; last = (times_after m (times h m) e).last }
 
-pub use_more : (h : History) (e : Entry) (m : MetaKey) → use_of (h ++ e ∷ []) m ≡ use_then h e m
+pub use_more : (h : History) (e : HistoryEntry) (m : MetaKey) → use_of (h ++ e ∷ []) m ≡ use_then h e m
 use_more h e m = λ i. record { meta = m; uses = uses_more h e m i; saved = saved_more h e m i; last = (times_more h e m i).last }
 
 -- the last use, where an entry is one of a metatile
@@ -88,7 +88,7 @@ counted_more h o m u are = use_more h (entry.Counted o u) m ∙ chosen (same_met
 -- A STORED ONE
 
 module _ (h : History) (k : ℕ) (o : MetaKey) (place length b u : ℕ) where
-  abbrev storing : Entry
+  abbrev storing : HistoryEntry
   storing = entry.Stored k o place length b u
 
   pub stored_then : (m : MetaKey) (v : Bool) → same_meta o m ≡ v → use_of (h ++ storing ∷ []) m ≡ record { meta = m; uses = cond v u (uses h m); saved = cond v u (saved h m); last = cond v (one_more (clock h)) (last_use h m) }

@@ -24,7 +24,7 @@ use Rattle.cabinet.specs.declared.kept.Kept.{Kept}
 use Rattle.cabinet.specs.declared.ranking.Ranked.{Ranked}
 use Rattle.cabinet.specs.Consistent.{IsConsistent, Parts, seen}
 use Rattle.cabinet.specs.Counted.{last_use, use_of}
-use Rattle.cabinet.specs.History.{History, Standing, is_of, whole}
+use Rattle.cabinet.specs.History.{CabinetStanding, History, is_of, whole}
 use Rattle.cabinet.specs.Shelved.{UsesByKey, listed, use_on}
 use Rattle.cabinet.specs.Writing.{IsInOrderBy, IsInWritingOrder, comes_before, last_of, rank_of, rank_on, ranked_by, writing_rank}
 use Rattle.cabinet.specs.State.{State}
@@ -199,6 +199,6 @@ cabinet_order p h k kept moves order = strict_order (seen p h) kept distinct wea
 
     distinct : IsDistinct same_meta (map (λ t. t.meta) kept)
     distinct =
-        let each_once = subst AreOnce (ap (λ (x : Standing). x.kept) k.stands) (once p.shelf.catalogue p.opening h k.known.possible.opens) in
+        let each_once = subst AreOnce (ap (λ (x : CabinetStanding). x.kept) k.stands) (once p.shelf.catalogue p.opening h k.known.possible.opens) in
         IsDistinct-IsPermutation same_meta same_swap (map (λ (t : Kept). t.meta) (listed p.shelf.blobs)) (map (λ (t : Kept). t.meta) kept) (IsPermutation-map (λ (t : Kept). t.meta) (listed p.shelf.blobs) kept moves)
         (distinct_of (listed p.shelf.blobs) each_once)

@@ -14,7 +14,7 @@ use Rattle.raster_field.specs.TileText.{tile_text}
 use Rattle.truncation_list.specs.declared.book.Book.{Book}
 use Rattle.truncation_list.specs.declared.cover.Cover.{Cover}
 use Rattle.truncation_list.specs.Purge.{purged}
-use Rattle.cabinet.specs.declared.entry.Entry.TheVariants as entry
+use Rattle.cabinet.specs.declared.entry.HistoryEntry.TheVariants as entry
 use Rattle.cabinet.specs.declared.kept.Kept.{Kept}
 use Rattle.cabinet.specs.declared.replies.Asked.{Asked}
 use Rattle.cabinet.specs.declared.replies.Asked.TheVariants as asked
@@ -40,7 +40,7 @@ use Rattle.cabinet.specs.State.{State, now, asked_at, with_entry, with_blob, wit
 -- after that entry, s.
 
 -- no render of the metatile runs, and the next number is given for it
-pub record IsGiven (s : State) (m : MetaKey) (t : Ticketed) (new : State) : Type 0 where
+pub record IsTicketGiven (s : State) (m : MetaKey) (t : Ticketed) (new : State) : Type 0 where
   pub none_runs : running_for m (now s).out ≡ None
   pub number : next s.opening (now s) ≡ Some t.number
   pub meta : t.meta ≡ m
@@ -90,12 +90,12 @@ abbrev pub IsAskedOf : ℕ → ℕ → State → Address → Asked → State →
 IsAskedOf before after s a (asked.Hit k bytes) new = IsHit s a k bytes new
 IsAskedOf before after s a (asked.Busy k) new = IsUnread before after s a × IsBusy s (block_of s.catalogue a) k new
 IsAskedOf before after s a asked.Spent new = IsUnread before after s a × IsSpent s (block_of s.catalogue a) new
-IsAskedOf before after s a (asked.Ticket t) new = IsUnread before after s a × IsGiven s (block_of s.catalogue a) t new
+IsAskedOf before after s a (asked.Ticket t) new = IsUnread before after s a × IsTicketGiven s (block_of s.catalogue a) t new
 
 abbrev pub IsForcedOf : State → MetaKey → Forced → State → Type 0
 IsForcedOf s m (forced.Busy k) new = IsBusy s m k new
 IsForcedOf s m forced.Spent new = IsSpent s m new
-IsForcedOf s m (forced.Ticket t) new = IsGiven s m t new
+IsForcedOf s m (forced.Ticket t) new = IsTicketGiven s m t new
 
 -- the clock was read once, and gave the moment that it shows afterwards
 abbrev pub Asks : ℕ → ℕ → State → Address → Asked → State → Type 0

@@ -9,8 +9,8 @@ use Rattle.metatile_plan.specs.declared.metatile.MetaKey.{MetaKey}
 use Rattle.metatile_plan.specs.Keys.{same_meta}
 use Rattle.quota_ledger.specs.Accounts.{Part, accounts, exceeded}
 use Rattle.quota_ledger.specs.Accounts as ledger
-use Rattle.cabinet.specs.declared.entry.Entry.{Entry}
-use Rattle.cabinet.specs.declared.entry.Entry.TheVariants.{At, Started, Cut, Missed, Stored, Counted, Ended, Used, Dropped}
+use Rattle.cabinet.specs.declared.entry.HistoryEntry.{HistoryEntry}
+use Rattle.cabinet.specs.declared.entry.HistoryEntry.TheVariants.{At, Started, Cut, Missed, Stored, Counted, Ended, Used, Dropped}
 use Rattle.cabinet.specs.declared.kept.Kept.{Kept}
 use Rattle.cabinet.specs.History.{History}
 use Rattle.cabinet.specs.State.{State, now}
@@ -42,7 +42,7 @@ scope_exceeded s = exceeded (accounts s.catalogue (parts_of s))
 -- THE USES of a metatile in a history
 
 -- the count of entries that keep or use a metatile, up to the greatest number of 64 bits
-abbrev pub clock_after : ℕ → Entry → ℕ
+abbrev pub clock_after : ℕ → HistoryEntry → ℕ
 clock_after n (At t) = n
 clock_after n (Started k m) = n
 clock_after n (Cut t cover) = n
@@ -57,7 +57,7 @@ abbrev pub clock : History → ℕ
 clock h = fold clock_after 0 h
 
 -- the uses of a metatile: those that counted when it was kept last, and those since then
-abbrev pub uses_after : MetaKey → ℕ → Entry → ℕ
+abbrev pub uses_after : MetaKey → ℕ → HistoryEntry → ℕ
 uses_after m n (At t) = n
 uses_after m n (Started k o) = n
 uses_after m n (Cut t cover) = n
@@ -72,7 +72,7 @@ abbrev pub uses : History → MetaKey → ℕ
 uses h m = fold (uses_after m) 0 h
 
 -- the uses that are saved: those of its last Stored or Counted
-abbrev pub saved_after : MetaKey → ℕ → Entry → ℕ
+abbrev pub saved_after : MetaKey → ℕ → HistoryEntry → ℕ
 saved_after m n (At t) = n
 saved_after m n (Started k o) = n
 saved_after m n (Cut t cover) = n
@@ -94,7 +94,7 @@ pub record Times : Type 0 where
 abbrev pub at_next : MetaKey → MetaKey → Times → Times
 at_next m o t = record { count = one_more t.count; last = if same_meta o m then one_more t.count else t.last }
 
-abbrev pub times_after : MetaKey → Times → Entry → Times
+abbrev pub times_after : MetaKey → Times → HistoryEntry → Times
 times_after m t (At n) = t
 times_after m t (Started k o) = t
 times_after m t (Cut n cover) = t

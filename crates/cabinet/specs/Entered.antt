@@ -14,7 +14,7 @@ use Rattle.cabinet.specs.Counted.{clock, use_of}
 use Rattle.cabinet.specs.Fresh.{ApartBy, IsOfLength}
 use Rattle.cabinet.specs.Gaps.{HaveRegions, region, regions}
 use Rattle.cabinet.specs.History.{is_of, stored_entry}
-use Rattle.cabinet.specs.Shelved.{Leaves, Shelved, UsesByKey, listed, use_on}
+use Rattle.cabinet.specs.Shelved.{LeavesShelf, Shelved, UsesByKey, listed, use_on}
 use Rattle.cabinet.specs.Started.{away}
 
 -- ONE IS ENTERED
@@ -25,7 +25,7 @@ with_entered t count uses n = if same_meta n t.meta then Some (record { meta = t
 
 -- one is kept behind the others, with a blob that lies elsewhere
 abbrev pub Enters : Kept → Shelved → Shelved → Type 0
-Enters t s new = Leaves s (s.blobs ++ away t ∷ []) (one_more s.clock) (with_entered t (one_more s.clock) (use_on s)) new
+Enters t s new = LeavesShelf s (s.blobs ++ away t ∷ []) (one_more s.clock) (with_entered t (one_more s.clock) (use_on s)) new
 
 -- it is of the catalogue, its region has its blob's length and is free, none is kept of its metatile, and fewer are kept than may be
 pub record CanEnter (c : Catalogue) (blobs : List KeptBlob) (t : Kept) : Type 0 where

@@ -13,18 +13,18 @@ use Rattle.raster_field.specs.Blocks.{block_of, blob_size, IsMeta}
 use Rattle.truncation_list.specs.declared.book.Cut.{Cut}
 use Rattle.truncation_list.specs.Books.{AnswersFor}
 use Rattle.truncation_list.specs.Purge.{IsInOrder, purged}
-use Rattle.cabinet.specs.declared.entry.Entry.{Entry}
-use Rattle.cabinet.specs.declared.entry.Entry.TheVariants as entry
+use Rattle.cabinet.specs.declared.entry.HistoryEntry.{HistoryEntry}
+use Rattle.cabinet.specs.declared.entry.HistoryEntry.TheVariants as entry
 use Rattle.cabinet.specs.declared.kept.Kept.{Kept}
 use Rattle.cabinet.specs.Gaps.{HaveRegions, gap_for}
-use Rattle.cabinet.specs.History.{History, Opening, Standing, after, but, first, kept_of, least_of, numbers}
+use Rattle.cabinet.specs.History.{CabinetOpening, CabinetStanding, History, after, but, first, kept_of, least_of, numbers}
 use Rattle.cabinet.specs.Hits.{hits_of, covers_in}
 use Rattle.served_covers.specs.OfCatalogue.{IsCoverOf}
 
 -- WHICH HISTORIES ARE POSSIBLE
 
 -- the entry comes where the commands let it
-abbrev pub May : Catalogue → Standing → Entry → Type 0
+abbrev pub May : Catalogue → CabinetStanding → HistoryEntry → Type 0
 May c s (entry.At n) = ⊤
 May c s (entry.Started k m) = (k ≡ s.front + 1) × (running_for m s.out ≡ None) × IsMeta c m
 May c s (entry.Cut t cover) = (t ≡ s.front + 1) × IsCoverOf c cover × (length (purged (Some cover) (least_of (numbers s.out s.kept)) s.book).cuts < c.cut_limit)
@@ -38,13 +38,13 @@ May c s (entry.Used m) = IsSome (kept_of m s)
 May c s (entry.Dropped m) = IsSome (kept_of m s)
 
 -- from what stands on, each of the entries does
-abbrev pub Follows : Catalogue → Standing → History → Type 0
+abbrev pub Follows : Catalogue → CabinetStanding → History → Type 0
 Follows c s [] = ⊤
 Follows c s (e ∷ es) = May c s e × Follows c (after c s e) es
 
 -- THE CUTS of a history, purged ones too
 
-abbrev pub cuts_after : List Cut → Entry → List Cut
+abbrev pub cuts_after : List Cut → HistoryEntry → List Cut
 cuts_after cuts (entry.At n) = cuts
 cuts_after cuts (entry.Started k m) = cuts
 cuts_after cuts (entry.Cut t cover) = cuts ++ record { number = t; cover = cover } ∷ []
@@ -76,7 +76,7 @@ pub record HoldsOfRender (c : Catalogue) (cuts : List Cut) (front floor : ℕ) (
 
 -- what stands after a history with these cuts: each kept number, and each running one that is not overtaken, is above
 -- every cut that hits its metatile, purged ones too; the floor is below them all; and the book answers for every cut
-pub record Holds (c : Catalogue) (cuts : List Cut) (s : Standing) : Type 0 where
+pub record HoldsAfterCuts (c : Catalogue) (cuts : List Cut) (s : CabinetStanding) : Type 0 where
   pub given : AllByRecursion (λ k. k.number ≤ s.front) cuts
   pub floor_given : s.book.floor ≤ s.front
   pub listed : AllByRecursion (λ k. Contains cuts k) s.book.cuts
@@ -91,7 +91,7 @@ ApartBy f [] = ⊤
 ApartBy f (x ∷ xs) = AllByRecursion (λ y. f x ≢ f y) xs × ApartBy f xs
 
 -- kept and running numbers differ, and of the renders of one metatile at most one is not overtaken
-pub record Differ (s : Standing) : Type 0 where
+pub record Differ (s : CabinetStanding) : Type 0 where
   pub out : ApartBy (λ r. r.number) s.out
   pub kept : ApartBy (λ t. t.number) s.kept
   pub both : AllByRecursion (λ r. AllByRecursion (λ t. r.number ≢ t.number) s.kept) s.out
@@ -106,8 +106,8 @@ IsOfLength c t = t.length ≡ blob_size c t.meta
 -- what a cabinet may begin with: its kept list and its book keep to what each history keeps to, each metatile is kept once, under
 -- a number and in a region of its own, of its blob's length, and is of the catalogue, as each cover of the book is, and no more are kept or
 -- listed than may be
-pub record Opens (c : Catalogue) (o : Opening) : Type 0 where
-  pub holds : Holds c o.book.cuts (first o)
+pub record MayBeginWith (c : Catalogue) (o : CabinetOpening) : Type 0 where
+  pub holds : HoldsAfterCuts c o.book.cuts (first o)
   pub numbers : ApartBy (λ t. t.number) o.kept
   pub once : ApartBy (λ t. t.meta) o.kept
   pub metas : AllByRecursion (λ t. IsMeta c t.meta) o.kept
@@ -119,14 +119,14 @@ pub record Opens (c : Catalogue) (o : Opening) : Type 0 where
 
 -- the history of an opening and these later entries: the first entries are the opening's, and each later one comes where the
 -- commands let it
-pub record Possible (c : Catalogue) (o : Opening) (later : History) : Type 0 where
-  pub opens : Opens c o
+pub record Possible (c : Catalogue) (o : CabinetOpening) (later : History) : Type 0 where
+  pub opens : MayBeginWith c o
   pub follows : Follows c (first o) later
 
 -- FRESH
 
 -- the entry begins or keeps the render k of the metatile
-abbrev pub IsRenderOf : ℕ → MetaKey → Entry → Type 0
+abbrev pub IsRenderOf : ℕ → MetaKey → HistoryEntry → Type 0
 IsRenderOf k m (entry.At n) = ⊥
 IsRenderOf k m (entry.Started j n) = (j ≡ k) × (n ≡ m)
 IsRenderOf k m (entry.Cut t cover) = ⊥
@@ -142,7 +142,7 @@ Begins k m [] = ⊥
 Begins k m (e ∷ es) = IsRenderOf k m e ⊎ Begins k m es
 
 -- the render k is newer than the entry, where the entry is a truncation that covers the tile
-abbrev pub IsNoOlder : Catalogue → ℕ → Address → Entry → Type 0
+abbrev pub IsNoOlder : Catalogue → ℕ → Address → HistoryEntry → Type 0
 IsNoOlder c k a (entry.At n) = ⊤
 IsNoOlder c k a (entry.Started j n) = ⊤
 IsNoOlder c k a (entry.Cut t cover) = IsTrue (covers_in c cover a) → t < k
@@ -163,7 +163,7 @@ abbrev pub begun_or : Beginning → Option ℕ → Beginning
 begun_or was begun = record { moment = was.moment; begun = option_or was.begun begun }
 
 -- a render is begun at the moment of the last At before its Started; one that was kept before the opening tells its moment
-abbrev pub begun_after : ℕ → Beginning → Entry → Beginning
+abbrev pub begun_after : ℕ → Beginning → HistoryEntry → Beginning
 begun_after k was (entry.At n) = record { moment = n; begun = was.begun }
 begun_after k was (entry.Started j m) = begun_or was (if j == k then Some was.moment else None)
 begun_after k was (entry.Cut t cover) = was

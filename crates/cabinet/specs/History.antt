@@ -11,19 +11,19 @@ use Rattle.metatile_plan.specs.Keys.{same_meta}
 use Rattle.truncation_list.specs.declared.book.Book.{Book}
 use Rattle.truncation_list.specs.declared.cover.Cover.{Cover}
 use Rattle.truncation_list.specs.Purge.{empty_book, added}
-use Rattle.cabinet.specs.declared.entry.Entry.{Entry}
-use Rattle.cabinet.specs.declared.entry.Entry.TheVariants.{At, Started, Cut, Missed, Stored, Counted, Ended, Used, Dropped}
+use Rattle.cabinet.specs.declared.entry.HistoryEntry.{HistoryEntry}
+use Rattle.cabinet.specs.declared.entry.HistoryEntry.TheVariants.{At, Started, Cut, Missed, Stored, Counted, Ended, Used, Dropped}
 use Rattle.cabinet.specs.declared.kept.Kept.{Kept}
 use Rattle.cabinet.specs.Hits.{hits_of}
 
 abbrev pub History : Type 0
-History = List Entry
+History = List HistoryEntry
 
 -- WHAT STANDS
 
 -- the greatest number that was given, the moment of the last ask or force, what is kept, the renders that run with the last cut
 -- that hit each, and the book
-pub record Standing : Type 0 where
+pub record CabinetStanding : Type 0 where
   pub front : ℕ
   pub moment : ℕ
   pub kept : List Kept
@@ -33,36 +33,36 @@ pub record Standing : Type 0 where
 -- AN OPENING
 
 -- what a cabinet begins with: the number of the opening, what is kept, and the book with its floor
-pub record Opening : Type 0 where
+pub record CabinetOpening : Type 0 where
   pub number : ℕ
   pub kept : List Kept
   pub book : Book
 
 -- an opening with nothing in it; a cabinet in memory is opening 0
-abbrev pub bare_opening : ℕ → Opening
+abbrev pub bare_opening : ℕ → CabinetOpening
 bare_opening e = record { number = e; kept = []; book = empty_book }
 
 -- the numbers of the opening e are e * 2^40 + c, with c from 1 to 2^40 - 1
-abbrev pub first_front : Opening → ℕ
+abbrev pub first_front : CabinetOpening → ℕ
 first_front o = o.number * 2 ^ 40
 
-abbrev pub last_number : Opening → ℕ
+abbrev pub last_number : CabinetOpening → ℕ
 last_number o = o.number * 2 ^ 40 + (2 ^ 40 - 1)
 
 -- what stands at first
-abbrev pub first : Opening → Standing
+abbrev pub first : CabinetOpening → CabinetStanding
 first o = record { front = first_front o; moment = 0; kept = o.kept; out = []; book = o.book }
 
 -- the entry that keeps it
-abbrev pub stored_entry : Kept → Entry
+abbrev pub stored_entry : Kept → HistoryEntry
 stored_entry t = Stored t.number t.meta t.place t.length t.moment t.uses
 
 -- the entries that a history begins with: the cuts of the book by number, then what is kept, in its order
-abbrev pub first_entries : Opening → History
+abbrev pub first_entries : CabinetOpening → History
 first_entries o = map (λ k. Cut k.number k.cover) o.book.cuts ++ map stored_entry o.kept
 
 -- the history that these later entries make
-abbrev pub whole : Opening → History → History
+abbrev pub whole : CabinetOpening → History → History
 whole o later = first_entries o ++ later
 
 -- WHAT ENTRIES DO
@@ -94,7 +94,7 @@ abbrev pub with_uses : MetaKey → ℕ → Kept → Kept
 with_uses m uses t = if is_of m t then record { number = t.number; meta = t.meta; place = t.place; length = t.length; moment = t.moment; uses = uses } else t
 
 -- what one entry does
-abbrev pub after : Catalogue → Standing → Entry → Standing
+abbrev pub after : Catalogue → CabinetStanding → HistoryEntry → CabinetStanding
 after c s (At n) = record { front = s.front; moment = n; kept = s.kept; out = s.out; book = s.book }
 after c s (Started k m) = record { front = max s.front k; moment = s.moment; kept = s.kept; out = begun k m s.moment s.out; book = s.book }
 after c s (Cut t cover) =
@@ -107,22 +107,22 @@ after c s (Ended k) = record { front = s.front; moment = s.moment; kept = s.kept
 after c s (Used m) = s
 after c s (Dropped m) = record { front = s.front; moment = s.moment; kept = but m s.kept; out = s.out; book = s.book }
 
-abbrev pub standing : Catalogue → Standing → History → Standing
+abbrev pub standing : Catalogue → CabinetStanding → History → CabinetStanding
 standing c s h = fold (after c) s h
 
 -- what is kept of a metatile
-abbrev pub kept_of : MetaKey → Standing → Option Kept
+abbrev pub kept_of : MetaKey → CabinetStanding → Option Kept
 kept_of m s = find (is_of m) s.kept
 
 -- the next number of the opening, while one of its 2^40 - 1 is left
-abbrev pub next : Opening → Standing → Option ℕ
+abbrev pub next : CabinetOpening → CabinetStanding → Option ℕ
 next o s = if nat_lt s.front (last_number o) then Some (s.front + 1) else None
 
 -- ONE METATILE AND ONE NUMBER, a sentence each
 
 -- a metatile is kept from its Stored on, until a later Stored or Dropped of it or a later Cut that hits it; a Counted of it tells its
 -- uses anew
-abbrev pub kept_after : Catalogue → MetaKey → Option Kept → Entry → Option Kept
+abbrev pub kept_after : Catalogue → MetaKey → Option Kept → HistoryEntry → Option Kept
 kept_after c m was (At n) = was
 kept_after c m was (Started k n) = was
 kept_after c m was (Cut t cover) = if hits_of c cover m then None else was
@@ -146,7 +146,7 @@ with_render r x = record { moment = r.moment; render = x }
 
 -- a render runs from its Started on, begun at the moment of the last At before, until its Stored or Ended, with the last Cut since
 -- then that hit it
-abbrev pub render_after : Catalogue → ℕ → Running → Entry → Running
+abbrev pub render_after : Catalogue → ℕ → Running → HistoryEntry → Running
 render_after c k was (At n) = record { moment = n; render = was.render }
 render_after c k was (Started j m) = with_render was (if j == k then Some (unmarked k m was.moment) else was.render)
 render_after c k was (Cut t cover) = with_render was (option_map (marked (hits_of c cover) t) was.render)

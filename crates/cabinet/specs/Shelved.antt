@@ -24,7 +24,7 @@ use Rattle.cabinet.specs.declared.judged.Judged.TheVariants as judged
 use Rattle.cabinet.specs.declared.judged.Unsaved.{Unsaved}
 use Rattle.cabinet.specs.declared.kept.Kept.{Kept}
 use Rattle.cabinet.specs.declared.kept.KeptBlob.{KeptBlob}
-use Rattle.cabinet.specs.declared.shelving.Found.{Found}
+use Rattle.cabinet.specs.declared.shelving.FoundTile.{FoundTile}
 use Rattle.cabinet.specs.Fresh.{ApartBy}
 use Rattle.cabinet.specs.Gaps.{gap_for, regions}
 use Rattle.cabinet.specs.History.{but, is_of}
@@ -115,7 +115,7 @@ pub record LeavesUses (old : Counts) (count : ℕ) (by_key : UsesByKey) (new : C
 
 -- the number, the moment and the tile's part of the blob that is kept of the tile's metatile, which is the encoded tile where the blob is the
 -- metatile's; or nothing is kept of it
-abbrev pub Reads : Catalogue → List KeptBlob → Address → Option Found → Type 0
+abbrev pub Reads : Catalogue → List KeptBlob → Address → Option FoundTile → Type 0
 Reads c blobs a None = find (λ b. is_of (block_of c a) b.kept) blobs ≡ None
 Reads c blobs a (Some f) =
     (b : KeptBlob) × (find (λ b. is_of (block_of c a) b.kept) blobs ≡ Some b) × (f.number ≡ b.kept.number) × (f.moment ≡ b.kept.moment) × (f.text ≡ tile_part c a b.text)
@@ -131,7 +131,7 @@ pub record IsBare (c : Catalogue) (s : Shelved) : Type 0 where
   pub uses : (m : MetaKey) → use_on s m ≡ None
 
 -- the shelf after it has the catalogue, these blobs, so many entries counted that kept or used, and these uses
-pub record Leaves (s : Shelved) (blobs_then : List KeptBlob) (count : ℕ) (by_key : UsesByKey) (new : Shelved) : Type 0 where
+pub record LeavesShelf (s : Shelved) (blobs_then : List KeptBlob) (count : ℕ) (by_key : UsesByKey) (new : Shelved) : Type 0 where
   pub catalogue : new.catalogue ≡ s.catalogue
   pub blobs : new.blobs ≡ blobs_then
   pub clock : new.clock ≡ count
@@ -139,27 +139,27 @@ pub record Leaves (s : Shelved) (blobs_then : List KeptBlob) (count : ℕ) (by_k
 
 -- all but its room is as before
 abbrev pub IsAlike : Shelved → Shelved → Type 0
-IsAlike s new = Leaves s s.blobs s.clock (use_on s) new
+IsAlike s new = LeavesShelf s s.blobs s.clock (use_on s) new
 
 -- a metatile is used
 abbrev pub Touches : MetaKey → Shelved → Shelved → Type 0
-Touches m s new = Leaves s s.blobs (one_more s.clock) (with_used m (one_more s.clock) (use_on s)) new
+Touches m s new = LeavesShelf s s.blobs (one_more s.clock) (with_used m (one_more s.clock) (use_on s)) new
 
 -- a blob is kept, in the place of its metatile's older one
 abbrev pub Keeps : Kept → List ℕ → Shelved → Shelved → Type 0
-Keeps t text s new = Leaves s (blobs_with t text s.blobs) (one_more s.clock) (with_kept t.meta (one_more s.clock) (use_on s)) new
+Keeps t text s new = LeavesShelf s (blobs_with t text s.blobs) (one_more s.clock) (with_kept t.meta (one_more s.clock) (use_on s)) new
 
 -- what a cover hits is dropped
 abbrev pub Sifts : Cover → Shelved → Shelved → Type 0
-Sifts cover s new = Leaves s (blobs_spared s.catalogue cover s.blobs) s.clock (with_spared s.catalogue cover (use_on s)) new
+Sifts cover s new = LeavesShelf s (blobs_spared s.catalogue cover s.blobs) s.clock (with_spared s.catalogue cover (use_on s)) new
 
 -- one metatile is dropped
 abbrev pub Forgets : MetaKey → Shelved → Shelved → Type 0
-Forgets m s new = Leaves s (blobs_without m s.blobs) s.clock (with_forgotten m (use_on s)) new
+Forgets m s new = LeavesShelf s (blobs_without m s.blobs) s.clock (with_forgotten m (use_on s)) new
 
 -- all uses of one metatile are saved, and they are so many
 abbrev pub Marks : MetaKey → ℕ → Shelved → Shelved → Type 0
-Marks m u s new = Leaves s (blobs_counted m u s.blobs) s.clock (with_saved m (use_on s)) new
+Marks m u s new = LeavesShelf s (blobs_counted m u s.blobs) s.clock (with_saved m (use_on s)) new
 
 -- what is to come of a ticket's render that was begun at this moment and was not overtaken: as many others are kept as may be, or no gap
 -- has room for its blob, or it fits
@@ -177,9 +177,9 @@ abbrev pub scope_above : Shelved → Option Scope
 scope_above s = exceeded (accounts s.catalogue (map part_of (listed s.blobs)))
 
 -- the first metatile to go of the scope whose quota is exceeded, none exactly where no quota is
-abbrev pub GoesOn : Shelved → Option Kept → Type 0
-GoesOn s None = scope_above s ≡ None
-GoesOn s (Some t) = (scope : Scope) × (scope_above s ≡ Some scope) × IsVictim s.catalogue.policy scope (use_on s) (Some t.meta) × (find (is_of t.meta) (listed s.blobs) ≡ Some t)
+abbrev pub IsFirstToGo : Shelved → Option Kept → Type 0
+IsFirstToGo s None = scope_above s ≡ None
+IsFirstToGo s (Some t) = (scope : Scope) × (scope_above s ≡ Some scope) × IsVictim s.catalogue.policy scope (use_on s) (Some t.meta) × (find (is_of t.meta) (listed s.blobs) ≡ Some t)
 
 -- the metatile of the least key of those with uses that are not all saved, and how many uses it has, none exactly where all are
 abbrev pub IsUnsavedOn : Shelved → Option Unsaved → Type 0

@@ -10,12 +10,12 @@ use Rattle.raster_field.specs.Blocks.{block_text, blob_size}
 use Rattle.truncation_list.specs.declared.book.FrontedBook.{FrontedBook}
 use Rattle.truncation_list.specs.declared.cover.Cover.{Cover}
 use Rattle.truncation_list.specs.Books.{AnswersForFronted}
-use Rattle.cabinet.specs.declared.entry.Entry.{Entry}
-use Rattle.cabinet.specs.declared.entry.Entry.TheVariants as entry
+use Rattle.cabinet.specs.declared.entry.HistoryEntry.{HistoryEntry}
+use Rattle.cabinet.specs.declared.entry.HistoryEntry.TheVariants as entry
 use Rattle.cabinet.specs.declared.kept.Kept.{Kept}
 use Rattle.cabinet.specs.declared.kept.KeptBlob.{KeptBlob}
 use Rattle.cabinet.specs.Fresh.{Possible}
-use Rattle.cabinet.specs.History.{History, Opening, Standing, bare_opening, first, is_of, last_number, standing, stored_entry, with_uses}
+use Rattle.cabinet.specs.History.{CabinetOpening, CabinetStanding, History, bare_opening, first, is_of, last_number, standing, stored_entry, with_uses}
 use Rattle.cabinet.specs.History as histories
 use Rattle.cabinet.specs.Hits.{hits_of}
 
@@ -23,18 +23,18 @@ use Rattle.cabinet.specs.Hits.{hits_of}
 -- these are modelled, and what its clock has given
 pub record State : Type 0 where
   pub catalogue : Catalogue
-  pub opening : Opening
+  pub opening : CabinetOpening
   pub history : History
   pub since : History
   pub blobs : Option (List KeptBlob)
   pub clock : Readings
 
 -- what stands now: what stood at the opening, and what happened since
-abbrev pub now : State → Standing
+abbrev pub now : State → CabinetStanding
 now s = standing s.catalogue (first s.opening) s.since
 
 -- the book of what stands, with the greatest number that was given
-abbrev pub fronted : Standing → FrontedBook
+abbrev pub fronted : CabinetStanding → FrontedBook
 fronted s = record { book = s.book; front = s.front }
 
 -- a cabinet in memory with a clock, in which nothing has happened
@@ -66,7 +66,7 @@ blobs_counted m u blobs = map (λ b. record { kept = with_uses m u b.kept; text 
 -- WHAT BECOMES OF THE CABINET
 
 -- the cabinet after one more entry, with these blobs
-abbrev pub grown : State → Entry → Option (List KeptBlob) → State
+abbrev pub grown : State → HistoryEntry → Option (List KeptBlob) → State
 grown s e blobs = record { catalogue = s.catalogue; opening = s.opening; history = s.history ++ e ∷ []; since = s.since ++ e ∷ []; blobs = blobs; clock = s.clock }
 
 -- the cabinet after its clock gave a moment to the ask or force that begins there
@@ -74,7 +74,7 @@ abbrev pub asked_at : ℕ → State → State
 asked_at n s = record { catalogue = s.catalogue; opening = s.opening; history = s.history ++ entry.At n ∷ []; since = s.since ++ entry.At n ∷ []; blobs = s.blobs; clock = read n s.clock }
 
 -- the cabinet after an entry that keeps and drops no blob
-abbrev pub with_entry : State → Entry → State
+abbrev pub with_entry : State → HistoryEntry → State
 with_entry s e = grown s e s.blobs
 
 -- the cabinet after a blob is kept

@@ -7,7 +7,7 @@ use Rattle.metatile_locks.specs.Tickets.{Ticketed}
 use Rattle.raster_field.specs.Blocks.{block_of, blob_size}
 use Rattle.truncation_list.specs.declared.cover.Cover.{Cover}
 use Rattle.truncation_list.specs.Listed.{HasRoomFor, Room}
-use Rattle.cabinet.specs.declared.entry.Entry.TheVariants as entry
+use Rattle.cabinet.specs.declared.entry.HistoryEntry.TheVariants as entry
 use Rattle.cabinet.specs.declared.kept.Kept.{Kept}
 use Rattle.cabinet.specs.declared.judged.Judged.{Judged}
 use Rattle.cabinet.specs.declared.judged.Judged.TheVariants as judged

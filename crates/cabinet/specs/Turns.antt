@@ -4,11 +4,11 @@ use Rattle.matrix_geometry.specs.declared.address.Address.{Address}
 use Rattle.metatile_locks.specs.declared.render.Render.{Render}
 use Rattle.metatile_locks.specs.Running.{IsAboveAll, Locked, begun, running_for}
 use Rattle.metatile_plan.specs.declared.metatile.MetaKey.{MetaKey}
-use Rattle.cabinet.specs.declared.entry.Entry.TheVariants as entry
+use Rattle.cabinet.specs.declared.entry.HistoryEntry.TheVariants as entry
 use Rattle.cabinet.specs.declared.kept.KeptBlob.{KeptBlob}
 use Rattle.cabinet.specs.declared.replies.Forced.{Forced}
 use Rattle.cabinet.specs.declared.replies.Forced.TheVariants as forced
-use Rattle.cabinet.specs.declared.shelving.Found.{Found}
+use Rattle.cabinet.specs.declared.shelving.FoundTile.{FoundTile}
 use Rattle.cabinet.specs.declared.turns.Turn.{Turn}
 use Rattle.cabinet.specs.declared.turns.Turn.TheVariants as turn
 use Rattle.cabinet.specs.History.{History}
@@ -16,7 +16,7 @@ use Rattle.cabinet.specs.Shelved.{Reads, Shelved}
 use Rattle.cabinet.specs.State.{State}
 
 -- what was read of the tile in a cabinet whose blobs are modelled, or that nothing is kept of its metatile
-abbrev pub FindsIn : State → Address → Option Found → Type 0
+abbrev pub FindsIn : State → Address → Option FoundTile → Type 0
 FindsIn s a found = (blobs : List KeptBlob) × (s.blobs ≡ Some blobs) × Reads s.catalogue blobs a found
 
 -- a render of the metatile runs that is not overtaken, or no number is left, or one is given, with room for one more render that is

@@ -7,7 +7,7 @@ ghost use Rattle.raster_field.specs.Blocks.{IsMeta, blob_size, block_text};
 use crate::cabinet_core::Core;
 use crate::judged::{Admitted, Judged};
 use crate::replies::{Asked, CutReply, Expired, Finished, Forced, Saved};
-use crate::shelving::Found;
+use crate::shelving::FoundTile;
 use crate::text::Text;
 use crate::turns::as_asked;
 use base::{Clock, SharedText};
@@ -108,7 +108,7 @@ impl Cabinet {
         &mut self,
         alloc: Global,
         address: &Address,
-        found: Found,
+        found: FoundTile,
     ) -> Result<Asked, AllocError>
         requires tile { IsTile self.old.catalogue address.now }
         requires found { FindsIn self.old address.now (Some found) }

@@ -1,6 +1,7 @@
 //! The core of a cabinet: what is kept, what runs, which cuts are in force, and the history, without the place where blobs lie. Each
 //! command is in two steps: what is to come of it is told first, and then it is done, in steps that can't fail. So a cabinet on a
 //! disk writes it down in between.
+ghost use Rattle.std.specs.List.Sorted.{IsPermutation};
 ghost use Rattle.std.specs.Prelude.{IfOk, IsSome, None, OnErr, Some, find, length, ℕ, ◌<◌, ◌^◌, ◌≡◌, ◌≤◌};
 ghost use Rattle.cabinet.specs.History.{bare_opening, last_number};
 ghost use Rattle.catalog.specs.LookUp.{IsTile};
@@ -8,16 +9,17 @@ ghost use Rattle.catalog.specs.Valid.{IsValid};
 ghost use Rattle.raster_field.specs.Blocks.{IsMeta, block_of};
 
 use crate::ages::{is_within, limit_for};
-use crate::entry::Entry;
+use crate::entry::HistoryEntry;
 use crate::hitting::overtake;
 use crate::judged::{Admitted, Judged, Unsaved};
 use crate::kept::Kept;
+use crate::ranking::KeptRanking;
 use crate::replies::Forced;
-use crate::shelf::Shelf;
-use crate::shelving::Found;
-use crate::start::Start;
+use crate::shelf::KeptShelf;
+use crate::shelving::FoundTile;
+use crate::start::TracedOpening;
 use crate::text::Text;
-use crate::turns::{taken, turn_for, turn_where};
+use crate::turns::{take_turn, turn_for, turn_where};
 use base::{Clock, Trace};
 use catalog::Catalogue;
 use matrix_geometry::Address;
@@ -43,15 +45,15 @@ fn last_number(opening: u32) -> u64
 /// lies elsewhere is seen as zeros of its length, and the room of its list of cuts.
 #[derive(Drop)]
 pub struct Core {
-    pub(crate) shelf: Shelf,
-    pub(crate) start: Start,
+    pub(crate) shelf: KeptShelf,
+    pub(crate) start: TracedOpening,
     pub(crate) last: u64,
     /// The moment of the last ask or force, in seconds.
     pub(crate) moment: u64,
     pub(crate) clock: Clock,
     pub(crate) locks: Locks,
     pub(crate) cuts: CutList,
-    pub(crate) past: Trace<Entry>,
+    pub(crate) past: Trace<HistoryEntry>,
 }
 
 impl Model for Core {
@@ -71,8 +73,8 @@ impl Model for Core {
 impl Core {
     ghost use Rattle.cabinet.specs.Commands.{Abandons, Forces, place_for};
     ghost use Rattle.cabinet.specs.Counted.{uses};
-    ghost use Rattle.cabinet.specs.Fresh.{Opens};
-    ghost use Rattle.cabinet.specs.History.{Opening, kept_of, next};
+    ghost use Rattle.cabinet.specs.Fresh.{MayBeginWith};
+    ghost use Rattle.cabinet.specs.History.{CabinetOpening, kept_of, next};
     ghost use Rattle.cabinet.specs.Started.{opened_state};
     ghost use Rattle.cabinet.specs.State.{IsKnown, fresh_state, now, with_blob, with_counted, with_cut, with_dropped, with_entry};
     ghost use Rattle.cabinet.specs.Steps.{Admits, AsksKept, GoesFirst, IsReadyFor, IsSame, IsUnsavedFirst, Judges};
@@ -86,10 +88,10 @@ impl Core {
     {
         let locks = Locks::new(alloc)?;
         let cuts = CutList::new(alloc)?;
-        let shelf = Shelf::new(alloc, catalogue)?;
+        let shelf = KeptShelf::new(alloc, catalogue)?;
         Ok(Core {
             shelf,
-            start: Start::bare(),
+            start: TracedOpening::bare(),
             last: 0,
             moment: 0,
             clock,
@@ -101,7 +103,7 @@ impl Core {
 
     /// The core of a cabinet that is opened under a number, with what is kept and the cuts in force. Its blobs lie elsewhere.
     /// `AllocError` where memory runs out.
-    pub fn opened(
+    pub fn from_opening(
         alloc: Global,
         catalogue: Catalogue,
         clock: Clock,
@@ -111,12 +113,12 @@ impl Core {
     ) -> Result<Core, AllocError>
         requires valid { IsValid catalogue }
         requires number { number < 2 ^ 24 }
-        requires opens { Opens catalogue (record { number = number; kept = kept.items; book = cuts.book }) }
+        requires opens { MayBeginWith catalogue (record { number = number; kept = kept.items; book = cuts.book }) }
         ensures { IfOk result (λ c. c.state ≡ opened_state catalogue (record { number = number; kept = kept.items; book = cuts.book }) clock) }
     {
-        let start = Start::of(number, kept.as_slice(), &cuts);
+        let start = TracedOpening::of(number, kept.as_slice(), &cuts);
         let locks = Locks::new(alloc)?;
-        let shelf = Shelf::restored(alloc, catalogue, kept.as_slice())?;
+        let shelf = KeptShelf::of_kept(alloc, catalogue, kept.as_slice())?;
         Ok(Core {
             shelf,
             start,
@@ -176,7 +178,7 @@ impl Core {
     }
 
     /// Reads a tile out of what is kept of its metatile; `None` exactly where nothing is. `AllocError` where memory runs out.
-    pub fn read(&self, alloc: Global, address: &Address) -> Result<Option<Found>, AllocError>
+    pub fn read(&self, alloc: Global, address: &Address) -> Result<Option<FoundTile>, AllocError>
         requires { IsTile self.now.state.catalogue address.now }
         ensures { IfOk result (FindsIn self.now.state address.now) }
     {
@@ -203,14 +205,14 @@ impl Core {
         let next = self.next();
         let turn = turn_where(limit, alloc, &mut self.shelf, &mut self.locks, &meta, next)?;
         self.moment = self.clock.now();
-        self.past = self.past.and(&Entry::At(self.moment));
+        self.past = self.past.and(&HistoryEntry::At(self.moment));
         if is_within(limit, kept.moment, self.moment) {
             self.shelf.touch(&meta);
-            self.past = self.past.and(&Entry::Used(meta));
+            self.past = self.past.and(&HistoryEntry::Used(meta));
             return Ok(None);
         }
         let Some(turn) = turn else { unreachable!() };
-        let forced = taken(
+        let forced = take_turn(
             &meta,
             self.moment,
             turn,
@@ -231,8 +233,8 @@ impl Core {
         let next = self.next();
         let turn = turn_for(alloc, &mut self.shelf, &mut self.locks, meta, next)?;
         self.moment = self.clock.now();
-        self.past = self.past.and(&Entry::At(self.moment));
-        Ok(taken(
+        self.past = self.past.and(&HistoryEntry::At(self.moment));
+        Ok(take_turn(
             meta,
             self.moment,
             turn,
@@ -267,7 +269,7 @@ impl Core {
     {
         let _ended = self.locks.end(ticket);
         self.shelf.keep(kept, text);
-        self.past = self.past.and(&Entry::Stored(
+        self.past = self.past.and(&HistoryEntry::Stored(
             kept.number,
             kept.meta,
             kept.place,
@@ -287,7 +289,7 @@ impl Core {
             End::Overtaken(_) => {}
             End::Whole(_) => {}
         }
-        self.past = self.past.and(&Entry::Ended(number));
+        self.past = self.past.and(&HistoryEntry::Ended(number));
     }
 
     /// What is to come of a truncation, with room made where it may be done. That no number is left is told before any memory is
@@ -329,16 +331,16 @@ impl Core {
         overtake(&mut self.locks, self.shelf.catalogue(), cover, number);
         self.cuts.add(number, cover, least);
         self.last = number;
-        self.past = self.past.and(&Entry::Cut(number, *cover));
+        self.past = self.past.and(&HistoryEntry::Cut(number, *cover));
     }
 
     /// Spends the next number for a truncation that was not written down.
     pub fn miss(&mut self, number: u64)
         requires { next self.old.state.opening (now self.old.state) ≡ Some number }
-        ensures { self.new.state ≡ with_entry self.old.state (Entry.Missed number) }
+        ensures { self.new.state ≡ with_entry self.old.state (HistoryEntry.Missed number) }
     {
         self.last = number;
-        self.past = self.past.and(&Entry::Missed(number));
+        self.past = self.past.and(&HistoryEntry::Missed(number));
     }
 
     /// The first metatile to go of the scope whose quota is exceeded; `None` exactly where no quota is.
@@ -354,7 +356,7 @@ impl Core {
         ensures { self.new.state ≡ with_dropped self.old.state meta.now }
     {
         self.shelf.drop_kept(meta);
-        self.past = self.past.and(&Entry::Dropped(*meta));
+        self.past = self.past.and(&HistoryEntry::Dropped(*meta));
     }
 
     /// The kept metatile of the least key, field by field, of those with uses that aren't all saved; `None` exactly where all are.
@@ -370,6 +372,66 @@ impl Core {
         ensures { self.new.state ≡ with_counted self.old.state meta.now (uses self.old.state.history meta.now) }
     {
         let uses = self.shelf.save(meta);
-        self.past = self.past.and(&Entry::Counted(*meta, uses));
+        self.past = self.past.and(&HistoryEntry::Counted(*meta, uses));
+    }
+}
+
+impl Core {
+    ghost use Rattle.cabinet.specs.Counted.{kept_in, used, used_all};
+    ghost use Rattle.cabinet.specs.State.{now};
+    ghost use Rattle.cabinet.specs.Writing.{IsInWritingOrder};
+
+    /// The bytes that the kept metatiles of a layer take.
+    pub fn used(&self, layer: u32) -> u64
+        requires { layer < length self.now.state.catalogue.layers }
+        ensures { result ≡ used self.now.state layer }
+    {
+        self.shelf.used(layer)
+    }
+
+    /// The bytes that all kept metatiles take.
+    pub fn used_all(&self) -> u64
+        ensures { result ≡ used_all self.now.state }
+    {
+        self.shelf.used_all()
+    }
+
+    /// How many metatiles of a layer are kept.
+    pub fn kept_in(&self, layer: u32) -> u32
+        ensures { result ≡ kept_in self.now.state layer }
+    {
+        self.shelf.kept_in(layer)
+    }
+
+    /// How many metatiles are kept.
+    pub fn kept(&self) -> u32
+        ensures { result ≡ length (now self.now.state).kept }
+    {
+        self.shelf.count()
+    }
+
+    /// How many renders run.
+    pub fn running(&self) -> usize
+        ensures { result ≡ length (now self.now.state).out }
+    {
+        self.locks.count()
+    }
+
+    /// The cuts in force, with the floor.
+    pub fn cuts(&self) -> &CutList
+        ensures { result.now.book ≡ (now self.now.state).book }
+    {
+        &self.cuts
+    }
+
+    /// Lists what is kept, in the order of its last use and then of its key, field by field, in the place of what the list has. The
+    /// list has room for it, so that no memory is taken.
+    pub fn list_kept(&self, list: &mut KeptRanking)
+        requires { length (now self.now.state).kept ≤ list.old.room }
+        ensures all { IsPermutation list.new.kept (now self.now.state).kept }
+        ensures order { IsInWritingOrder self.now.state list.new.kept }
+        ensures room { list.new.room ≡ list.old.room }
+    {
+        self.shelf.list_kept(list)
     }
 }

@@ -4,7 +4,7 @@ use truncation_list::Cover;
 
 /// What happened in a cabinet.
 #[derive(Clone, Copy, PartialEq, Eq)]
-pub enum Entry {
+pub enum HistoryEntry {
     /// The clock gave this moment, in seconds, to the ask or force that begins here.
     At(u64),
     /// A ticket with this number was given for the metatile.

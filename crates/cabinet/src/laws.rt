@@ -2,9 +2,9 @@
 ghost use Rattle.std.specs.List.{AllByRecursion};
 ghost use Rattle.std.specs.Prelude.{Contains, List, Some, find, length, ℕ, ◌++◌, ◌≡◌, ◌≤◌};
 ghost use Rattle.cabinet.specs.Commands.{Abandons, Asks, Cuts, Expires, Finishes, Forces, IsBusy, IsFreshForced, IsFreshReply, Saves};
-ghost use Rattle.cabinet.specs.Fresh.{ApartBy, Differ, Holds, IsCurrent, IsFresh, IsOfLength, Opens, Possible, cuts_of, moment};
+ghost use Rattle.cabinet.specs.Fresh.{ApartBy, Differ, HoldsAfterCuts, IsCurrent, IsFresh, IsOfLength, MayBeginWith, Possible, cuts_of, moment};
 ghost use Rattle.cabinet.specs.Gaps.{HaveRegions};
-ghost use Rattle.cabinet.specs.History.{History, Opening, bare_opening, first, kept, kept_of, render, standing, ticket_render, whole};
+ghost use Rattle.cabinet.specs.History.{CabinetOpening, History, bare_opening, first, kept, kept_of, render, standing, ticket_render, whole};
 ghost use Rattle.cabinet.specs.State.{IsKnown, IsKnownAs, State};
 ghost use Rattle.cabinet.specs.declared.kept.Kept.{Kept};
 ghost use Rattle.cabinet.specs.declared.replies.Asked.{Asked};
@@ -33,24 +33,24 @@ ghost use Rattle.truncation_list.specs.declared.cover.Cover.{Cover};
 /// every cut that there was, and numbers differ. Each metatile is kept once, in a region of its own of the blobs' bytes, which has
 /// its blob's length; no more are kept, and no more cuts listed, than may be, and each listed cover is of the catalogue.
 pub fn laws_of_histories()
-    ensures bare { (c : Catalogue) (e : ℕ) → Opens c (bare_opening e) }
-    ensures kept_is { (c : Catalogue) (o : Opening) (h : History) (m : MetaKey) → Opens c o → kept_of m (standing c (first o) h) ≡ kept c (whole o h) m }
-    ensures render_is { (c : Catalogue) (o : Opening) (h : History) (k : ℕ) → Possible c o h → find (has_number k) (standing c (first o) h).out ≡ render c (whole o h) k }
-    ensures ticket_is { (c : Catalogue) (o : Opening) (h : History) (t : Ticketed) → Possible c o h → render_of t (standing c (first o) h).out ≡ ticket_render c (whole o h) t }
-    ensures running_is { (c : Catalogue) (o : Opening) (h : History) (m : MetaKey) (k n : ℕ) → Possible c o h → render c (whole o h) k ≡ Some (unmarked k m n) → running_for m (standing c (first o) h).out ≡ Some k }
-    ensures runs { (c : Catalogue) (o : Opening) (h : History) (m : MetaKey) (k : ℕ) → Possible c o h → running_for m (standing c (first o) h).out ≡ Some k → (n : ℕ) × (render c (whole o h) k ≡ Some (unmarked k m n)) }
-    ensures current { (c : Catalogue) (o : Opening) (h : History) (p : ℕ) (a : Address) (t : Kept) → IsValid c → IsTile c a → Possible c o h → kept_of (block_of c a) (standing c (first o) h) ≡ Some t → IsCurrent c (whole o h) p a t.number }
-    ensures moments { (c : Catalogue) (o : Opening) (h : History) → Possible c o h → AllByRecursion (λ t. moment (whole o h) t.number ≡ Some t.moment) (standing c (first o) h).kept }
+    ensures bare { (c : Catalogue) (e : ℕ) → MayBeginWith c (bare_opening e) }
+    ensures kept_is { (c : Catalogue) (o : CabinetOpening) (h : History) (m : MetaKey) → MayBeginWith c o → kept_of m (standing c (first o) h) ≡ kept c (whole o h) m }
+    ensures render_is { (c : Catalogue) (o : CabinetOpening) (h : History) (k : ℕ) → Possible c o h → find (has_number k) (standing c (first o) h).out ≡ render c (whole o h) k }
+    ensures ticket_is { (c : Catalogue) (o : CabinetOpening) (h : History) (t : Ticketed) → Possible c o h → render_of t (standing c (first o) h).out ≡ ticket_render c (whole o h) t }
+    ensures running_is { (c : Catalogue) (o : CabinetOpening) (h : History) (m : MetaKey) (k n : ℕ) → Possible c o h → render c (whole o h) k ≡ Some (unmarked k m n) → running_for m (standing c (first o) h).out ≡ Some k }
+    ensures runs { (c : Catalogue) (o : CabinetOpening) (h : History) (m : MetaKey) (k : ℕ) → Possible c o h → running_for m (standing c (first o) h).out ≡ Some k → (n : ℕ) × (render c (whole o h) k ≡ Some (unmarked k m n)) }
+    ensures current { (c : Catalogue) (o : CabinetOpening) (h : History) (p : ℕ) (a : Address) (t : Kept) → IsValid c → IsTile c a → Possible c o h → kept_of (block_of c a) (standing c (first o) h) ≡ Some t → IsCurrent c (whole o h) p a t.number }
+    ensures moments { (c : Catalogue) (o : CabinetOpening) (h : History) → Possible c o h → AllByRecursion (λ t. moment (whole o h) t.number ≡ Some t.moment) (standing c (first o) h).kept }
     ensures later { (c : Catalogue) (h : History) (more : History) (p : ℕ) (a : Address) (k : ℕ) → p ≤ length h → IsFresh c h p a k → IsFresh c (h ++ more) p a k }
-    ensures holds { (c : Catalogue) (o : Opening) (h : History) → Possible c o h → Holds c (cuts_of (whole o h)) (standing c (first o) h) }
-    ensures answers { (c : Catalogue) (o : Opening) (h : History) (cut : Cut) → Possible c o h → Contains (cuts_of (whole o h)) cut → AnswersFor (standing c (first o) h).book cut }
-    ensures differ { (c : Catalogue) (o : Opening) (h : History) → Possible c o h → Differ (standing c (first o) h) }
-    ensures once { (c : Catalogue) (o : Opening) (h : History) → Opens c o → ApartBy (λ t. t.meta) (standing c (first o) h).kept }
-    ensures lengths { (c : Catalogue) (o : Opening) (h : History) → Possible c o h → AllByRecursion (IsOfLength c) (standing c (first o) h).kept }
-    ensures few { (c : Catalogue) (o : Opening) (h : History) → Possible c o h → length (standing c (first o) h).kept ≤ c.kept_limit }
-    ensures covers { (c : Catalogue) (o : Opening) (h : History) → Possible c o h → AllByRecursion (λ k. IsCoverOf c k.cover) (standing c (first o) h).book.cuts }
-    ensures few_cuts { (c : Catalogue) (o : Opening) (h : History) → Possible c o h → length (standing c (first o) h).book.cuts ≤ c.cut_limit }
-    ensures regions { (c : Catalogue) (o : Opening) (h : History) → IsValid c → Possible c o h → HaveRegions c.blob_bytes (standing c (first o) h).kept }
+    ensures holds { (c : Catalogue) (o : CabinetOpening) (h : History) → Possible c o h → HoldsAfterCuts c (cuts_of (whole o h)) (standing c (first o) h) }
+    ensures answers { (c : Catalogue) (o : CabinetOpening) (h : History) (cut : Cut) → Possible c o h → Contains (cuts_of (whole o h)) cut → AnswersFor (standing c (first o) h).book cut }
+    ensures differ { (c : Catalogue) (o : CabinetOpening) (h : History) → Possible c o h → Differ (standing c (first o) h) }
+    ensures once { (c : Catalogue) (o : CabinetOpening) (h : History) → MayBeginWith c o → ApartBy (λ t. t.meta) (standing c (first o) h).kept }
+    ensures lengths { (c : Catalogue) (o : CabinetOpening) (h : History) → Possible c o h → AllByRecursion (IsOfLength c) (standing c (first o) h).kept }
+    ensures few { (c : Catalogue) (o : CabinetOpening) (h : History) → Possible c o h → length (standing c (first o) h).kept ≤ c.kept_limit }
+    ensures covers { (c : Catalogue) (o : CabinetOpening) (h : History) → Possible c o h → AllByRecursion (λ k. IsCoverOf c k.cover) (standing c (first o) h).book.cuts }
+    ensures few_cuts { (c : Catalogue) (o : CabinetOpening) (h : History) → Possible c o h → length (standing c (first o) h).book.cuts ≤ c.cut_limit }
+    ensures regions { (c : Catalogue) (o : CabinetOpening) (h : History) → IsValid c → Possible c o h → HaveRegions c.blob_bytes (standing c (first o) h).kept }
 {}
 
 /// Each row of a command leaves a known cabinet with the catalogue and the opening of before, whose book answers for the

@@ -24,11 +24,11 @@ pub struct Ranked {
 
 /// A list of what is kept, with room for more. Contracts see the list, and how many it has room for in all.
 #[derive(Drop)]
-pub struct Ranking {
+pub struct KeptRanking {
     ranked: Vec<Ranked>,
 }
 
-impl Model for Ranking {
+impl Model for KeptRanking {
     ghost use Rattle.std.specs.Prelude.{map, vec_capacity};
     ghost use Rattle.cabinet.specs.Started.{Listing};
 
@@ -75,7 +75,7 @@ fn last_use(uses: &Uses, meta: &MetaKey) -> u64
 }
 
 /// Puts all that is kept behind what a list has. It takes no memory.
-pub fn rank(store: &Store, uses: &Uses, list: &mut Ranking)
+pub fn rank(store: &Store, uses: &Uses, list: &mut KeptRanking)
     requires none { list.old.ranked ≡ [] }
     requires room { length store.now.blobs ≤ list.old.room }
     ensures ranked { list.new.ranked ≡ map (ranked_by (λ m. use_of uses.now m)) (listed store.now.held) }
@@ -88,12 +88,12 @@ pub fn rank(store: &Store, uses: &Uses, list: &mut Ranking)
     }
 }
 
-impl Ranking {
+impl KeptRanking {
     /// A list with nothing in it.
-    pub fn new(alloc: Global) -> Ranking
+    pub fn new(alloc: Global) -> KeptRanking
         ensures { result.kept ≡ [] }
     {
-        Ranking {
+        KeptRanking {
             ranked: Vec::new(alloc),
         }
     }

@@ -13,11 +13,11 @@ ghost use Rattle.served_covers.specs.OfCatalogue.{IsCoverOf};
 use crate::blob::blob_bytes;
 use crate::judged::{Judged, Unsaved};
 use crate::kept::Kept;
-use crate::ranking::{Ranking, rank};
-use crate::shelving::Found;
+use crate::ranking::{KeptRanking, rank};
+use crate::shelving::FoundTile;
 use crate::sifting::sift;
 use crate::store::Store;
-use crate::tally::Tally;
+use crate::tally::KeptTally;
 use crate::text::Text;
 use catalog::Catalogue;
 use matrix_geometry::Address;
@@ -29,13 +29,13 @@ use truncation_list::Cover;
 /// Keeps metatiles of a catalogue, each once, within its limits, and counts what they take up. Contracts see the catalogue,
 /// what is kept with its blobs, the uses, the count of entries that kept or used, and for how many more there is room.
 #[derive(Drop)]
-pub struct Shelf {
+pub struct KeptShelf {
     catalogue: Catalogue,
     store: Store,
-    tally: Tally,
+    tally: KeptTally,
 }
 
-impl Model for Shelf {
+impl Model for KeptShelf {
     ghost use Rattle.std.specs.Prelude.{min};
     ghost use Rattle.cabinet.specs.Shelved.{IsShelved, Shelved};
 
@@ -46,18 +46,18 @@ impl Model for Shelf {
     ghost invariant = { λ s. IsShelved s.catalogue s.store.blobs s.tally.extents s.tally.ledger s.tally.uses };
 }
 
-impl Shelf {
+impl KeptShelf {
     ghost use Rattle.cabinet.specs.Entered.{CanEnter, Enters};
-    ghost use Rattle.cabinet.specs.Shelved.{Forgets, GoesOn, IsAlike, IsBare, IsUnsavedOn, JudgesOn, Keeps, Marks, Reads, Sifts, Touches, listed, use_on, used_on, used_on_all};
+    ghost use Rattle.cabinet.specs.Shelved.{Forgets, IsAlike, IsBare, IsFirstToGo, IsUnsavedOn, JudgesOn, Keeps, Marks, Reads, Sifts, Touches, listed, use_on, used_on, used_on_all};
     ghost use Rattle.cabinet.specs.Writing.{IsInOrderBy, rank_on};
 
     /// A shelf on which nothing is kept. `AllocError` where memory runs out.
-    pub fn new(alloc: Global, catalogue: Catalogue) -> Result<Shelf, AllocError>
+    pub fn new(alloc: Global, catalogue: Catalogue) -> Result<KeptShelf, AllocError>
         requires { IsValid catalogue }
         ensures { IfOk result (λ shelf. IsBare catalogue shelf) }
     {
-        let tally = Tally::new(alloc, &catalogue)?;
-        Ok(Shelf {
+        let tally = KeptTally::new(alloc, &catalogue)?;
+        Ok(KeptShelf {
             catalogue,
             store: Store::new(alloc),
             tally,
@@ -91,7 +91,7 @@ impl Shelf {
     }
 
     /// Reads a tile out of what is kept of its metatile; `None` exactly where nothing is. `AllocError` where memory runs out.
-    pub fn read(&self, alloc: Global, address: &Address) -> Result<Option<Found>, AllocError>
+    pub fn read(&self, alloc: Global, address: &Address) -> Result<Option<FoundTile>, AllocError>
         requires { IsTile self.now.catalogue address.now }
         ensures { IfOk result (λ found. Reads self.now.catalogue self.now.blobs address.now found) }
     {
@@ -178,7 +178,7 @@ impl Shelf {
 
     /// The first metatile to go of the scope whose quota is exceeded; `None` exactly where no quota is.
     pub fn first_to_go(&self) -> Option<Kept>
-        ensures { GoesOn self.now result }
+        ensures { IsFirstToGo self.now result }
     {
         let scope = match self.tally.ledger.exceeded() {
             None => return None,
@@ -237,7 +237,7 @@ impl Shelf {
 
     /// Lists what is kept, in the order of its last use and then of its key, field by field, in the place of what the list has. It
     /// takes no memory.
-    pub fn list_kept(&self, list: &mut Ranking)
+    pub fn list_kept(&self, list: &mut KeptRanking)
         requires { length self.now.blobs ≤ list.old.room }
         ensures all { IsPermutation list.new.kept (listed self.now.blobs) }
         ensures order { IsInOrderBy (rank_on self.now) list.new.kept }
@@ -287,7 +287,7 @@ impl Shelf {
 }
 
 /// Makes room for one metatile, and enters it. `AllocError` where memory runs out.
-fn enter_one(alloc: Global, shelf: &mut Shelf, kept: Kept) -> Result<(), AllocError>
+fn enter_one(alloc: Global, shelf: &mut KeptShelf, kept: Kept) -> Result<(), AllocError>
     requires { CanEnter shelf.old.catalogue shelf.old.blobs kept }
     ensures { OnOk result (Enters kept shelf.old shelf.new) }
 {
@@ -300,7 +300,7 @@ fn enter_one(alloc: Global, shelf: &mut Shelf, kept: Kept) -> Result<(), AllocEr
 }
 
 /// Enters all of a list on a shelf on which nothing is kept. `AllocError` where memory runs out.
-fn restore(alloc: Global, shelf: &mut Shelf, kept: &[Kept]) -> Result<(), AllocError>
+fn restore(alloc: Global, shelf: &mut KeptShelf, kept: &[Kept]) -> Result<(), AllocError>
     requires bare { IsBare shelf.old.catalogue shelf.old }
     requires fit { CanBeEntered shelf.old.catalogue kept.now }
     ensures { OnOk result (AreEntered shelf.old.catalogue kept.now shelf.new) }
@@ -314,14 +314,18 @@ fn restore(alloc: Global, shelf: &mut Shelf, kept: &[Kept]) -> Result<(), AllocE
     Ok(())
 }
 
-impl Shelf {
+impl KeptShelf {
     /// A shelf on which all of a list is kept, with blobs that lie elsewhere. `AllocError` where memory runs out.
-    pub fn restored(alloc: Global, catalogue: Catalogue, kept: &[Kept]) -> Result<Shelf, AllocError>
+    pub fn of_kept(
+        alloc: Global,
+        catalogue: Catalogue,
+        kept: &[Kept],
+    ) -> Result<KeptShelf, AllocError>
         requires valid { IsValid catalogue }
         requires fit { CanBeEntered catalogue kept.now }
         ensures { IfOk result (λ shelf. AreEntered catalogue kept.now shelf) }
     {
-        let mut shelf = Shelf::new(alloc, catalogue)?;
+        let mut shelf = KeptShelf::new(alloc, catalogue)?;
         match restore(alloc, &mut shelf, kept) {
             Err(fault) => return Err(fault),
             Ok(()) => {}

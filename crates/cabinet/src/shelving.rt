@@ -4,7 +4,7 @@ use base::SharedText;
 
 /// What is read of a kept metatile.
 #[derive(Drop)]
-pub struct Found {
+pub struct FoundTile {
     /// The number of its render.
     pub number: u64,
     /// When that was begun, in seconds.

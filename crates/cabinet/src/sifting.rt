@@ -7,13 +7,13 @@ ghost use Rattle.expiry_policy.specs.Victims.{use_of};
 ghost use Rattle.served_covers.specs.OfCatalogue.{IsCoverOf};
 
 use crate::store::Store;
-use crate::tally::Tally;
+use crate::tally::KeptTally;
 use catalog::Catalogue;
 use truncation_list::Cover;
 
 /// Drops each kept metatile of which the cover is for a tile. Each is dropped before the next one is looked for, from the chunk on in
 /// which it was found.
-pub fn sift(store: &mut Store, tally: &mut Tally, catalogue: &Catalogue, cover: &Cover)
+pub fn sift(store: &mut Store, tally: &mut KeptTally, catalogue: &Catalogue, cover: &Cover)
     requires cover { IsCoverOf catalogue.now cover.now }
     requires shelved { IsShelved catalogue.now store.old.blobs tally.old.extents tally.old.ledger tally.old.uses }
     ensures spared { store.new.blobs ≡ filter (λ b. not (hits_of catalogue.now cover.now b.kept.meta)) store.old.blobs }

@@ -8,7 +8,7 @@ use truncation_list::{Cut, CutList};
 /// The opening of a cabinet: its number and its floor, and what was kept and which cuts were in force then, which contracts alone
 /// read.
 #[derive(Drop)]
-pub struct Start {
+pub struct TracedOpening {
     pub number: u32,
     pub floor: u64,
     pub kept: Trace<Kept>,
@@ -16,7 +16,7 @@ pub struct Start {
 }
 
 /// A trace of what is kept.
-fn noted(kept: &[Kept]) -> Trace<Kept>
+fn trace_of_kept(kept: &[Kept]) -> Trace<Kept>
     ensures { result.entries ≡ kept.now }
 {
     let mut notes = Trace::new();
@@ -36,7 +36,7 @@ fn cut_of(cuts: &CutList, at: u32) -> Cut
 }
 
 /// A trace of the cuts in force.
-fn noted_cuts(cuts: &CutList) -> Trace<Cut>
+fn trace_of_cuts(cuts: &CutList) -> Trace<Cut>
     ensures { result.entries ≡ cuts.now.book.cuts }
 {
     let mut notes = Trace::new();
@@ -46,15 +46,15 @@ fn noted_cuts(cuts: &CutList) -> Trace<Cut>
     notes
 }
 
-impl Start {
+impl TracedOpening {
     /// An opening with nothing in it, under the number 0.
-    pub fn bare() -> Start
+    pub fn bare() -> TracedOpening
         ensures number { result.number ≡ 0 }
         ensures floor { result.floor ≡ 0 }
         ensures kept { result.kept.entries ≡ [] }
         ensures cuts { result.cuts.entries ≡ [] }
     {
-        Start {
+        TracedOpening {
             number: 0,
             floor: 0,
             kept: Trace::new(),
@@ -63,17 +63,17 @@ impl Start {
     }
 
     /// An opening under a number, with what is kept and the cuts in force.
-    pub fn of(number: u32, kept: &[Kept], cuts: &CutList) -> Start
+    pub fn of(number: u32, kept: &[Kept], cuts: &CutList) -> TracedOpening
         ensures number { result.number ≡ number }
         ensures floor { result.floor ≡ cuts.now.book.floor }
         ensures kept { result.kept.entries ≡ kept.now }
         ensures cuts { result.cuts.entries ≡ cuts.now.book.cuts }
     {
-        Start {
+        TracedOpening {
             number,
             floor: cuts.floor(),
-            kept: noted(kept),
-            cuts: noted_cuts(cuts),
+            kept: trace_of_kept(kept),
+            cuts: trace_of_cuts(cuts),
         }
     }
 }

@@ -18,7 +18,7 @@ ghost use Rattle.served_covers.specs.OfCatalogue.{IsCoverOf};
 use crate::held::{Held, blob_of, drop_of, kept_at, kept_in, put, recount};
 use crate::hitting::{factors_of, grid_of};
 use crate::kept::{Blob, Kept};
-use crate::shelving::{Found, KeptHit};
+use crate::shelving::{FoundTile, KeptHit};
 use crate::text::Text;
 use base::Trace;
 use catalog::Catalogue;
@@ -132,7 +132,7 @@ impl Store {
         alloc: Global,
         catalogue: &Catalogue,
         address: &Address,
-    ) -> Result<Option<Found>, AllocError>
+    ) -> Result<Option<FoundTile>, AllocError>
         requires valid { IsValid catalogue.now }
         requires tile { IsTile catalogue.now address.now }
         requires lengths { AllByRecursion (IsLong catalogue.now) self.now.blobs }
@@ -144,7 +144,7 @@ impl Store {
             Some(blob) => {
                 let (number, moment) = (blob.number, blob.moment);
                 let text = blob.text.tile(alloc, catalogue, address)?;
-                Ok(Some(Found {
+                Ok(Some(FoundTile {
                     number,
                     moment,
                     text,

@@ -18,7 +18,7 @@ use std::alloc::{AllocError, Global};
 
 /// What is taken up by what is kept.
 #[derive(Drop)]
-pub struct Tally {
+pub struct KeptTally {
     /// The regions of the blobs.
     pub extents: Extents,
     /// The bytes of each layer.
@@ -59,16 +59,16 @@ fn count_out(ledger: &mut Ledger, older: Option<Kept>)
     }
 }
 
-impl Tally {
+impl KeptTally {
     /// The tally of a shelf on which nothing is kept. `AllocError` where memory runs out.
-    pub fn new(alloc: Global, catalogue: &Catalogue) -> Result<Tally, AllocError>
+    pub fn new(alloc: Global, catalogue: &Catalogue) -> Result<KeptTally, AllocError>
         requires { IsValid catalogue.now }
         ensures shelved { IfOk result (λ tally. IsShelved catalogue.now [] tally.extents tally.ledger tally.uses) }
         ensures uses { IfOk result (λ tally. (m : MetaKey) → use_of tally.uses m ≡ None) }
         ensures clock { IfOk result (λ tally. tally.uses.now ≡ 0) }
     {
         let layers = catalogue.layers.len() as u32;
-        Ok(Tally {
+        Ok(KeptTally {
             extents: Extents::new(alloc, catalogue.blob_bytes)?,
             ledger: Ledger::new(alloc, catalogue)?,
             uses: Uses::new(alloc, catalogue.policy, layers)?,

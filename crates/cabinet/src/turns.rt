@@ -8,9 +8,9 @@ ghost use Rattle.catalog.specs.declared.catalogue.Catalogue.{Catalogue};
 ghost use Rattle.matrix_geometry.specs.declared.address.Address.{Address};
 ghost use Rattle.raster_field.specs.Blocks.{block_of};
 
-use crate::entry::Entry;
+use crate::entry::HistoryEntry;
 use crate::replies::{Asked, Forced};
-use crate::shelf::Shelf;
+use crate::shelf::KeptShelf;
 use base::Trace;
 use metatile_locks::{Begin, Locks};
 use metatile_plan::MetaKey;
@@ -29,7 +29,7 @@ pub enum Turn {
 
 /// Makes room for one more render, and for each running one and that one to be kept. `AllocError` where memory runs out;
 /// what is kept and runs is then as before, and no room is lost.
-fn make_room(alloc: Global, shelf: &mut Shelf, locks: &mut Locks) -> Result<(), AllocError>
+fn make_room(alloc: Global, shelf: &mut KeptShelf, locks: &mut Locks) -> Result<(), AllocError>
     ensures shelf { IsAlike shelf.old shelf.new }
     ensures renders { locks.new.renders ≡ locks.old.renders }
     ensures no_less { shelf.old.room ≤ shelf.new.room }
@@ -51,7 +51,7 @@ fn make_room(alloc: Global, shelf: &mut Shelf, locks: &mut Locks) -> Result<(), 
 /// `AllocError` where memory runs out; what is kept and runs is then as before, and no room is lost.
 pub fn turn_for(
     alloc: Global,
-    shelf: &mut Shelf,
+    shelf: &mut KeptShelf,
     locks: &mut Locks,
     meta: &MetaKey,
     next: Option<u64>,
@@ -78,7 +78,7 @@ pub fn turn_for(
 pub fn turn_where(
     limit: Option<u32>,
     alloc: Global,
-    shelf: &mut Shelf,
+    shelf: &mut KeptShelf,
     locks: &mut Locks,
     meta: &MetaKey,
     next: Option<u64>,
@@ -100,13 +100,13 @@ pub fn turn_where(
 
 /// Takes a turn at a moment: begins a render where a number is given for it, which becomes the last one and an entry of the
 /// history. It takes no memory.
-pub fn taken(
+pub fn take_turn(
     meta: &MetaKey,
     moment: u64,
     turn: Turn,
     locks: &mut Locks,
     last: &mut u64,
-    past: &mut Trace<Entry>,
+    past: &mut Trace<HistoryEntry>,
 ) -> Forced
     requires { IsReady meta.now locks.old turn }
     ensures { IsTaken meta.now moment (record { renders = locks.old.renders; last = last.old; past = past.old.entries }) turn result (record { renders = locks.new.renders; last = last.new; past = past.new.entries }) }
@@ -118,7 +118,7 @@ pub fn taken(
             Begin::Busy(_) => unreachable!(),
             Begin::Ticket(ticket) => {
                 *last = number;
-                *past = past.and(&Entry::Started(number, *meta));
+                *past = past.and(&HistoryEntry::Started(number, *meta));
                 Forced::Ticket(ticket)
             }
         },

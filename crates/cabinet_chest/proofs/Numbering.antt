@@ -20,7 +20,7 @@ use Rattle.truncation_list.specs.Covers.{covers}
 use Rattle.truncation_list.specs.Purge.{added, purged}
 use Rattle.truncation_list.proofs.Answering.{answers_for_cut, of_any}
 use Rattle.truncation_list.proofs.Boxes.{outer_covers}
-use Rattle.cabinet.specs.declared.entry.Entry.TheVariants as entry
+use Rattle.cabinet.specs.declared.entry.HistoryEntry.TheVariants as entry
 use Rattle.cabinet.specs.declared.kept.Kept.{Kept}
 use Rattle.cabinet.specs.declared.replies.Asked.{Asked}
 use Rattle.cabinet.specs.declared.replies.Asked.TheVariants as asked

@@ -18,7 +18,7 @@ use Rattle.record_text.proofs.Decoded.{same_entry}
 use Rattle.cabinet_records.specs.Played.{IsPlayed, replayed_of}
 use Rattle.cabinet_records.specs.Replay.{AreRecordsOf, IsBadAt, IsLastCut, IsRecordOf, MayFollow, Replayed, Replays, is_cut, replayed, unplayed}
 use Rattle.cabinet_records.specs.Shows.{IsCutAt, IsFirstLate, IsLateAt, StandsAt, early_only, first_bad, first_of, is_late, of_version}
-use Rattle.cabinet_records.specs.declared.replay.progress.Progress.{Progress}
+use Rattle.cabinet_records.specs.declared.replay.progress.ReplayProgress.{ReplayProgress}
 use Rattle.cabinet.proofs.Lists.{all_push}
 
 abbrev Records : Type 0
@@ -219,17 +219,17 @@ module _ (c : Catalogue) where
   both_bad records slot bad s l h false is e = let d : bad ≡ s = cc in subst (IsBadAt c unplayed (map early_only records)) d (bad_first unplayed records slot bad l h (grind (arith, nat_tests)))
 
   -- in version 1
-  first_is : (records : Records) (p : Progress) (bad later : Option ℕ) (s : ℕ) → StandsAt c records p bad → IsLateAt records later → first_of bad later ≡ Some s → IsBadAt c unplayed (map early_only records) s
+  first_is : (records : Records) (p : ReplayProgress) (bad later : Option ℕ) (s : ℕ) → StandsAt c records p bad → IsLateAt records later → first_of bad later ≡ Some s → IsBadAt c unplayed (map early_only records) s
   first_is records p None None s st l e = absurd (cc)
   first_is records p None (Some slot) s st l e = let d : slot ≡ s = cc in subst (IsBadAt c unplayed (map early_only records)) d (late_bad unplayed records slot (replayed_of p) l st.0)
   first_is records p (Some bad) None s st l e = let d : bad ≡ s = cc in subst (λ (rs : Records). IsBadAt c unplayed rs s) (sym (all_early records l)) (subst (IsBadAt c unplayed records) d st)
   first_is records p (Some bad) (Some slot) s st l e = both_bad records slot bad s l st (nat_lt slot bad) refl e
 
-  as_it_is : (records : Records) (p : Progress) (bad : Option ℕ) (s : ℕ) → StandsAt c records p bad → bad ≡ Some s → IsBadAt c unplayed records s
+  as_it_is : (records : Records) (p : ReplayProgress) (bad : Option ℕ) (s : ℕ) → StandsAt c records p bad → bad ≡ Some s → IsBadAt c unplayed records s
   as_it_is records p None s st e = absurd (cc)
   as_it_is records p (Some bad) s st e = let d : bad ≡ s = cc in subst (IsBadAt c unplayed records) d st
 
-  pub is_first_bad : (version : ℕ) (records : Records) (p : Progress) (bad later : Option ℕ) (s : ℕ) → StandsAt c records p bad → IsLateAt records later → first_bad version bad later ≡ Some s → IsBadAt c unplayed (of_version version records) s
+  pub is_first_bad : (version : ℕ) (records : Records) (p : ReplayProgress) (bad later : Option ℕ) (s : ℕ) → StandsAt c records p bad → IsLateAt records later → first_bad version bad later ≡ Some s → IsBadAt c unplayed (of_version version records) s
   is_first_bad version records p bad later s st l e = chosen (version == 1) e
     where
       chosen : (v : Bool) → cond v (first_of bad later) bad ≡ Some s → IsBadAt c unplayed (cond v (map early_only records) records) s
@@ -237,12 +237,12 @@ module _ (c : Catalogue) where
       chosen false e = as_it_is records p bad s st e
 
   -- where there is none, all are of the version, and they come to what is held
-  pub record IsWhole (version : ℕ) (records : Records) (p : Progress) : Type 0 where
+  pub record IsWhole (version : ℕ) (records : Records) (p : ReplayProgress) : Type 0 where
     pub version_is : of_version version records ≡ records
     pub replays : Replays c unplayed records (replayed_of p)
     pub played : IsPlayed c (length records) p
 
-  none_in : (records : Records) (p : Progress) (bad later : Option ℕ) → StandsAt c records p bad → IsLateAt records later → first_of bad later ≡ None → (bad ≡ None) × (map early_only records ≡ records)
+  none_in : (records : Records) (p : ReplayProgress) (bad later : Option ℕ) → StandsAt c records p bad → IsLateAt records later → first_of bad later ≡ None → (bad ≡ None) × (map early_only records ≡ records)
   none_in records p None None st l e = (refl, all_early records l)
   none_in records p None (Some slot) st l e = absurd (cc)
   none_in records p (Some bad) None st l e = absurd (cc)
@@ -252,10 +252,10 @@ module _ (c : Catalogue) where
       chosen true e = cc
       chosen false e = cc
 
-  stands_none : (records : Records) (p : Progress) (bad : Option ℕ) → StandsAt c records p bad → bad ≡ None → Replays c unplayed records (replayed_of p) × IsPlayed c (length records) p
+  stands_none : (records : Records) (p : ReplayProgress) (bad : Option ℕ) → StandsAt c records p bad → bad ≡ None → Replays c unplayed records (replayed_of p) × IsPlayed c (length records) p
   stands_none records p bad st e = subst (StandsAt c records p) e st
 
-  pub none_bad : (version : ℕ) (records : Records) (p : Progress) (bad later : Option ℕ) → StandsAt c records p bad → IsLateAt records later → first_bad version bad later ≡ None → IsWhole version records p
+  pub none_bad : (version : ℕ) (records : Records) (p : ReplayProgress) (bad later : Option ℕ) → StandsAt c records p bad → IsLateAt records later → first_bad version bad later ≡ None → IsWhole version records p
   none_bad version records p bad later st l e = chosen (version == 1) refl e
     where
       chosen : (v : Bool) → (version == 1) ≡ v → cond v (first_of bad later) bad ≡ None → IsWhole version records p

@@ -14,7 +14,7 @@ use Rattle.truncation_list.specs.declared.book.Book.{Book}
 use Rattle.truncation_list.specs.declared.book.Cut.{Cut}
 use Rattle.cabinet.specs.declared.kept.Kept.{Kept}
 use Rattle.cabinet.specs.declared.kept.KeptBlob.{KeptBlob}
-use Rattle.cabinet_records.specs.declared.replay.progress.Progress.{Progress}
+use Rattle.cabinet_records.specs.declared.replay.progress.ReplayProgress.{ReplayProgress}
 use Rattle.cabinet.specs.Fresh.{ApartBy}
 use Rattle.cabinet.specs.Gaps.{region, regions}
 use Rattle.cabinet.specs.History.{but, is_of}
@@ -37,7 +37,7 @@ replays_push c r (None ∷ records) t x h may = absurd h
 replays_push c r (Some y ∷ records) t x h may = (h.0, replays_push c (replayed c r y) records t x h.1 may)
 
 -- what is held after it
-pub played_from : (c : Catalogue) (next : ℕ) (old new : Progress) (x : Record) → IsPlayed c next old → MayFollow c (replayed_of old) x → replayed_of new ≡ replayed c (replayed_of old) x → AreTiedIn (next + 1) new
+pub played_from : (c : Catalogue) (next : ℕ) (old new : ReplayProgress) (x : Record) → IsPlayed c next old → MayFollow c (replayed_of old) x → replayed_of new ≡ replayed c (replayed_of old) x → AreTiedIn (next + 1) new
     → new.regions.size ≡ c.blob_bytes → new.cuts.book.floor ≡ 0 → length new.out.items ≡ 0 → length new.store.blobs ≤ vec_capacity new.out → IsPlayed c (next + 1) new
 played_from c next old new x p may same tied size floor none room = record {
   reached = (p.reached.0 ++ Some x ∷ [], subst (Replays c unplayed (p.reached.0 ++ Some x ∷ [])) (sym same) (replays_push c unplayed p.reached.0 (replayed_of old) x p.reached.1 may));
@@ -49,10 +49,10 @@ played_from c next old new x p may same tied size floor none room = record {
 }
 
 -- all is as before
-pub same_replayed : (old new : Progress) → LeavesAll old new → replayed_of new ≡ replayed_of old
+pub same_replayed : (old new : ReplayProgress) → LeavesAll old new → replayed_of new ≡ replayed_of old
 same_replayed old new s = λ i. record { opening = s.opening i; floor = s.floor i; kept = listed (s.blobs i); cuts = (s.cuts i).cuts }
 
-pub still_played : (c : Catalogue) (next : ℕ) (old new : Progress) → IsPlayed c next old → LeavesAll old new → IsPlayed c next new
+pub still_played : (c : Catalogue) (next : ℕ) (old new : ReplayProgress) → IsPlayed c next old → LeavesAll old new → IsPlayed c next new
 still_played c next old new p s = record {
   reached = (p.reached.0, subst (Replays c unplayed p.reached.0) (sym (same_replayed old new s)) p.reached.1);
   tied = record {

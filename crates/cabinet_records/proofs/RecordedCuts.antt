@@ -19,12 +19,12 @@ use Rattle.truncation_list.specs.Purge.{IsByNumber, added, is_old, is_outdone_am
 use Rattle.truncation_list.proofs.Filters.{filter_keeps}
 use Rattle.truncation_list.proofs.Remaining.{all_remaining, floor_rises, some_of}
 use Rattle.truncation_list.proofs.Rule.{remaining_is_by_rule}
-use Rattle.cabinet.specs.declared.entry.Entry.TheVariants as entry
+use Rattle.cabinet.specs.declared.entry.HistoryEntry.TheVariants as entry
 use Rattle.cabinet.specs.declared.replies.CutReply.TheVariants as reply
 use Rattle.cabinet.specs.Commands.{Cuts}
 use Rattle.cabinet.specs.Fresh.{cuts_of}
 use Rattle.cabinet.specs.Hits.{hits_of}
-use Rattle.cabinet.specs.History.{Opening, Standing, last_number, least_of, numbers, spared}
+use Rattle.cabinet.specs.History.{CabinetOpening, CabinetStanding, last_number, least_of, numbers, spared}
 use Rattle.cabinet_records.specs.Recorded.{IsAccounted, IsFloorOf, IsRecordedIn}
 use Rattle.cabinet_records.specs.Replay.{MayCut, opening_of, replayed, unplayed}
 use Rattle.cabinet.specs.State.{IsKnown, State, now, with_cut}
@@ -92,7 +92,7 @@ outdone_by new k l c = let test : nat_lt k.number new.number ≡ true = grind (a
 
 -- A CUT
 
-module _ (c : Catalogue) (o : Opening) (past : List Cut) (s : Standing) (records : List (Option Record)) (t : ℕ) (cover : Cover) (least : Option ℕ) (known : Stands c o past s) (r : IsRecorded c o past s.kept s.book records)
+module _ (c : Catalogue) (o : CabinetOpening) (past : List Cut) (s : CabinetStanding) (records : List (Option Record)) (t : ℕ) (cover : Cover) (least : Option ℕ) (known : Stands c o past s) (r : IsRecorded c o past s.kept s.book records)
     (of : IsCoverOf c cover) (is : t ≡ s.front + 1) (left : t ≤ last_number o) where
   abbrev newest : Cut
   newest = record { number = t; cover = cover }

@@ -16,7 +16,7 @@ use Rattle.record_text.specs.declared.entries.Record.TheVariants as record_of
 use Rattle.truncation_list.specs.declared.book.Book.{Book}
 use Rattle.truncation_list.specs.declared.book.Cut.{Cut}
 use Rattle.extent_map.specs.Parts.{AreApart}
-use Rattle.cabinet.specs.declared.entry.Entry.TheVariants as entry
+use Rattle.cabinet.specs.declared.entry.HistoryEntry.TheVariants as entry
 use Rattle.cabinet.specs.declared.kept.Kept.{Kept}
 use Rattle.cabinet.specs.declared.replies.Expired.TheVariants as expired
 use Rattle.cabinet.specs.declared.replies.Finished.TheVariants as finished
@@ -25,7 +25,7 @@ use Rattle.cabinet.specs.Commands.{Expires, Finishes, Saves, kept_at}
 use Rattle.cabinet.specs.Counted.{uses}
 use Rattle.cabinet.specs.Fresh.{ApartBy, HoldsOfKept, IsNewer, IsOfLength, cuts_of}
 use Rattle.cabinet.specs.Gaps.{AreDisjoint, region}
-use Rattle.cabinet.specs.History.{Opening, Standing, after, but, first_front, is_of, kept_of, stored_entry, with_uses}
+use Rattle.cabinet.specs.History.{CabinetOpening, CabinetStanding, after, but, first_front, is_of, kept_of, stored_entry, with_uses}
 use Rattle.cabinet.specs.Hits.{hits_of}
 use Rattle.cabinet_records.specs.Recorded.{IsRecordedIn, stored_record}
 use Rattle.cabinet_records.specs.Replay.{IsKeptUnder, MayStore, opening_of, replayed, unplayed}
@@ -40,11 +40,11 @@ use Rattle.cabinet.proofs.Rows.{finishes_known}
 -- A NUMBER ABOVE ALL CUTS THAT HIT
 
 -- one that was given since the opening is above each cut that hits its metatile where it is above those of the history
-above_each : (c : Catalogue) (o : Opening) (past : List Cut) (n : ℕ) (m : MetaKey) → first_front o < n → IsNewer c past n m → (k : Cut) → IsBefore o past k → IsTrue (hits_of c k.cover m) → k.number < n
+above_each : (c : Catalogue) (o : CabinetOpening) (past : List Cut) (n : ℕ) (m : MetaKey) → first_front o < n → IsNewer c past n m → (k : Cut) → IsBefore o past k → IsTrue (hits_of c k.cover m) → k.number < n
 above_each c o past n m since newer k (inl has) hit = all_contained (λ (x : Cut). IsTrue (hits_of c x.cover m) → x.number < n) past k newer has hit
 above_each c o past n m since newer k (inr low) hit = omega arith
 
-pub newer_of : (c : Catalogue) (o : Opening) (past : List Cut) (n : ℕ) (m : MetaKey) (cuts : List Cut) → first_front o < n → IsNewer c past n m → AllByRecursion (IsBefore o past) cuts → IsNewer c cuts n m
+pub newer_of : (c : Catalogue) (o : CabinetOpening) (past : List Cut) (n : ℕ) (m : MetaKey) (cuts : List Cut) → first_front o < n → IsNewer c past n m → AllByRecursion (IsBefore o past) cuts → IsNewer c cuts n m
 newer_of c o past n m cuts since newer before =
     all_weaker (IsBefore o past) (λ k. IsTrue (hits_of c k.cover m) → k.number < n) (above_each c o past n m since newer) cuts before
 
@@ -59,9 +59,9 @@ apart_last (u ∷ us) t a = (other_side (all_right (λ x. AreApart (region u) (r
     other_side (inl h) = inr h
     other_side (inr h) = inl h
 
-module _ (c : Catalogue) (o : Opening) (past : List Cut) (old : List Kept) (book : Book) (records : List (Option Record)) (r : IsRecorded c o past old book records) where
+module _ (c : Catalogue) (o : CabinetOpening) (past : List Cut) (old : List Kept) (book : Book) (records : List (Option Record)) (r : IsRecorded c o past old book records) where
   -- what stands when one is kept says that its record may follow
-  may_store : (new : Standing) (t : Kept) → Stands c o past new → new.kept ≡ but t.meta old ++ t ∷ [] → new.book ≡ book → first_front o < t.number → MayStore c r.reached t
+  may_store : (new : CabinetStanding) (t : Kept) → Stands c o past new → new.kept ≡ but t.meta old ++ t ∷ [] → new.book ≡ book → first_front o < t.number → MayStore c r.reached t
   may_store new t s is same since =
       let others = but t.meta r.reached.kept in
       let order : IsPermutation (but t.meta old) others = IsPermutation-sym others (but t.meta old) (permuted_filter (λ x. not (is_of t.meta x)) r.reached.kept old r.same_kept) in
@@ -88,7 +88,7 @@ module _ (c : Catalogue) (o : Opening) (past : List Cut) (old : List Kept) (book
         few = omega arith;
       }
 
-  pub kept_recorded : (new : Standing) (t : Kept) → Stands c o past new → new.kept ≡ but t.meta old ++ t ∷ [] → new.book ≡ book → first_front o < t.number → IsRecorded c o past (but t.meta old ++ t ∷ []) book (records ++ Some (stored_record t) ∷ [])
+  pub kept_recorded : (new : CabinetStanding) (t : Kept) → Stands c o past new → new.kept ≡ but t.meta old ++ t ∷ [] → new.book ≡ book → first_front o < t.number → IsRecorded c o past (but t.meta old ++ t ∷ []) book (records ++ Some (stored_record t) ∷ [])
   kept_recorded new t s is same since = record {
     reached = replayed c r.reached (stored_record t);
     replays = replays_one c unplayed records r.reached (stored_record t) r.replays (may_store new t s is same since);
@@ -130,7 +130,7 @@ same_found m t xs ts p a e = chosen (find (is_of m) xs) refl
 
 -- DROPPED, AND USES
 
-module _ (c : Catalogue) (o : Opening) (past : List Cut) (s : Standing) (records : List (Option Record)) (known : Stands c o past s) (r : IsRecorded c o past s.kept s.book records) (m : MetaKey) (t : Kept) (is : kept_of m s ≡ Some t) where
+module _ (c : Catalogue) (o : CabinetOpening) (past : List Cut) (s : CabinetStanding) (records : List (Option Record)) (known : Stands c o past s) (r : IsRecorded c o past s.kept s.book records) (m : MetaKey) (t : Kept) (is : kept_of m s ≡ Some t) where
   kept_under : IsKeptUnder c r.reached t.number m
   kept_under =
       let k = kept_has (λ x. IsMeta c x.meta) m s t known.metas is in

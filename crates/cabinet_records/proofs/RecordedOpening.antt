@@ -20,10 +20,10 @@ use Rattle.truncation_list.specs.declared.book.Cut.{Cut}
 use Rattle.truncation_list.specs.Purge.{IsByNumber, is_old}
 use Rattle.truncation_list.proofs.Remaining.{all_remaining, floor_rises}
 use Rattle.cabinet.specs.declared.kept.Kept.{Kept}
-use Rattle.cabinet.specs.Fresh.{ApartBy, HoldsOfKept, IsNewer, IsOfLength, Opens, cuts_of}
+use Rattle.cabinet.specs.Fresh.{ApartBy, HoldsOfKept, IsNewer, IsOfLength, MayBeginWith, cuts_of}
 use Rattle.cabinet.specs.Gaps.{AreDisjoint, region}
 use Rattle.cabinet.specs.Hits.{hits_of}
-use Rattle.cabinet.specs.History.{History, Opening, Standing, but, first, first_front, is_of, least_of, standing}
+use Rattle.cabinet.specs.History.{CabinetOpening, CabinetStanding, History, but, first, first_front, is_of, least_of, standing}
 use Rattle.cabinet_records.specs.Recorded.{IsAccounted, IsRecordedIn, compacted, stored_record}
 use Rattle.cabinet_records.specs.Replay.{MayOpen, Replayed, Replays, book_after, opening_after, opening_number, opening_of, replayed, unplayed}
 use Rattle.cabinet.specs.State.{IsKnown, State, now}
@@ -51,7 +51,7 @@ later_than : (o : Option ℕ) → IfSome o (λ before. before < option_map_or (�
 later_than None = tt
 later_than (Some e) = omega arith
 
-module _ (c : Catalogue) (past : List Cut) (records : List (Option Record)) (r : Replayed) (valid : IsValid c) (h : Replays c unplayed records r) (opens : Opens c (opening_after r)) where
+module _ (c : Catalogue) (past : List Cut) (records : List (Option Record)) (r : Replayed) (valid : IsValid c) (h : Replays c unplayed records r) (opens : MayBeginWith c (opening_after r)) where
   sound : IsSound c r
   sound = sound_is c records r valid h
 
@@ -97,11 +97,11 @@ pub opened_recorded : (s : State) (r : Replayed) (records : List (Option Record)
 opened_recorded s r records k h is none =
     let c = s.catalogue in
     let past = cuts_of s.history in
-    let new : Opening → List (Option Record) = λ o. records ++ Some (record_of.Opened o.number o.book.floor) ∷ [] in
+    let new : CabinetOpening → List (Option Record) = λ o. records ++ Some (record_of.Opened o.number o.book.floor) ∷ [] in
     recorded_in s (new s.opening)
     (subst (λ (es : History). IsRecorded c s.opening past (standing c (first s.opening) es).kept (standing c (first s.opening) es).book (new s.opening)) (sym none)
-    (subst (λ (o : Opening). IsRecorded c o past o.kept o.book (new o)) (sym is)
-    (opening_recorded c past records r k.valid h (subst (Opens c) is k.possible.opens))))
+    (subst (λ (o : CabinetOpening). IsRecorded c o past o.kept o.book (new o)) (sym is)
+    (opening_recorded c past records r k.valid h (subst (MayBeginWith c) is k.possible.opens))))
 
 -- A COMPACTION: the cuts
 
@@ -179,7 +179,7 @@ kept_replay c e floor cuts done (t ∷ ts) good two few =
 
 -- A COMPACTION
 
-module _ (c : Catalogue) (o : Opening) (past : List Cut) (s : Standing) (kept : List Kept) (known : Stands c o past s) (order : IsPermutation kept s.kept) where
+module _ (c : Catalogue) (o : CabinetOpening) (past : List Cut) (s : CabinetStanding) (kept : List Kept) (known : Stands c o past s) (order : IsPermutation kept s.kept) where
   abbrev cuts : List Cut
   cuts = s.book.cuts
 

@@ -16,7 +16,7 @@ use Rattle.truncation_list.proofs.Remaining.{by_number_remaining, floor_rises}
 use Rattle.truncation_list.proofs.Rule.{remaining_is_by_rule}
 use Rattle.cabinet.specs.declared.kept.Kept.{Kept}
 use Rattle.cabinet.specs.Fresh.{HoldsOfKept, cuts_of}
-use Rattle.cabinet.specs.History.{Opening, Standing, least_of}
+use Rattle.cabinet.specs.History.{CabinetOpening, CabinetStanding, least_of}
 use Rattle.cabinet_records.specs.Recorded.{IsAccounted, IsRecordedIn}
 use Rattle.cabinet_records.specs.Replay.{Replayed, Replays, book_after, unplayed}
 use Rattle.cabinet.specs.State.{IsKnown, State, now}
@@ -83,7 +83,7 @@ left_listed P false outdone low f stays (inr (inr h)) = absurd (let e = f h in c
 
 -- AT THE NEXT OPENING
 
-module _ (c : Catalogue) (o : Opening) (past : List Cut) (s : Standing) (records : List (Option Record)) (known : Stands c o past s) (r : IsRecorded c o past s.kept s.book records) where
+module _ (c : Catalogue) (o : CabinetOpening) (past : List Cut) (s : CabinetStanding) (records : List (Option Record)) (known : Stands c o past s) (r : IsRecorded c o past s.kept s.book records) where
   abbrev numbers : List ℕ
   numbers = map (λ (t : Kept). t.number) r.reached.kept
 

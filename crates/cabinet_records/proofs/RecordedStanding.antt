@@ -17,13 +17,13 @@ use Rattle.record_text.specs.declared.entries.Record.{Record}
 use Rattle.served_covers.specs.OfCatalogue.{IsCoverOf}
 use Rattle.truncation_list.specs.declared.book.Book.{Book}
 use Rattle.truncation_list.specs.declared.book.Cut.{Cut}
-use Rattle.cabinet.specs.declared.entry.Entry.{Entry}
-use Rattle.cabinet.specs.declared.entry.Entry.TheVariants as entry
+use Rattle.cabinet.specs.declared.entry.HistoryEntry.{HistoryEntry}
+use Rattle.cabinet.specs.declared.entry.HistoryEntry.TheVariants as entry
 use Rattle.cabinet.specs.declared.kept.Kept.{Kept}
 use Rattle.cabinet.specs.declared.kept.KeptBlob.{KeptBlob}
-use Rattle.cabinet.specs.Fresh.{ApartBy, Differ, Follows, Holds, IsOfLength, May, cuts_after, cuts_of}
+use Rattle.cabinet.specs.Fresh.{ApartBy, Differ, Follows, HoldsAfterCuts, IsOfLength, May, cuts_after, cuts_of}
 use Rattle.cabinet.specs.Gaps.{HaveRegions}
-use Rattle.cabinet.specs.History.{History, Opening, Standing, after, first, first_front, last_number, standing}
+use Rattle.cabinet.specs.History.{CabinetOpening, CabinetStanding, History, after, first, first_front, last_number, standing}
 use Rattle.cabinet.specs.Hits.{hits_of}
 use Rattle.cabinet_records.specs.Recorded.{IsAccounted, IsFloorOf, IsRecordedIn}
 use Rattle.cabinet_records.specs.Replay.{MayFollow, Replayed, Replays, opening_number, opening_of, replayed, unplayed}
@@ -40,11 +40,11 @@ use Rattle.cabinet.proofs.Rows.{now_more}
 -- WHAT RECORDS SAY
 
 -- the cut is of the history, or its number was given before the opening
-abbrev pub IsBefore : Opening → List Cut → Cut → Type 0
+abbrev pub IsBefore : CabinetOpening → List Cut → Cut → Type 0
 IsBefore o past k = Contains past k ⊎ (k.number ≤ first_front o)
 
 -- of a catalogue, an opening, the cuts of a history, what is kept and a book
-pub record IsRecorded (c : Catalogue) (o : Opening) (past : List Cut) (kept : List Kept) (book : Book) (records : List (Option Record)) : Type 0 where
+pub record IsRecorded (c : Catalogue) (o : CabinetOpening) (past : List Cut) (kept : List Kept) (book : Book) (records : List (Option Record)) : Type 0 where
   pub reached : Replayed
   pub replays : Replays c unplayed records reached
   pub opening_is : reached.opening ≡ Some o.number
@@ -87,19 +87,19 @@ pub recorded_alike : (s new : State) (records : List (Option Record)) → IsReco
 recorded_alike s new records r catalogue opening kept book past =
     recorded_in new records
     (subst (λ (c : Catalogue). IsRecorded c new.opening (cuts_of new.history) (now new).kept (now new).book records) (sym catalogue)
-    (subst (λ (o : Opening). IsRecorded s.catalogue o (cuts_of new.history) (now new).kept (now new).book records) (sym opening)
+    (subst (λ (o : CabinetOpening). IsRecorded s.catalogue o (cuts_of new.history) (now new).kept (now new).book records) (sym opening)
     (subst (λ (ks : List Cut). IsRecorded s.catalogue s.opening ks (now new).kept (now new).book records) (sym past)
     (subst (λ (ts : List Kept). IsRecorded s.catalogue s.opening (cuts_of s.history) ts (now new).book records) (sym kept)
     (subst (λ (b : Book). IsRecorded s.catalogue s.opening (cuts_of s.history) (now s).kept b records) (sym book) (recorded_of s records r))))))
 
 -- a cabinet after one more entry
-pub recorded_more : (s : State) (e : Entry) (blobs : Option (List KeptBlob)) (records : List (Option Record))
+pub recorded_more : (s : State) (e : HistoryEntry) (blobs : Option (List KeptBlob)) (records : List (Option Record))
     → IsRecorded s.catalogue s.opening (cuts_after (cuts_of s.history) e) (after s.catalogue (now s) e).kept (after s.catalogue (now s) e).book records → IsRecordedIn (grown s e blobs) records
 recorded_more s e blobs records r =
     let past : cuts_of (s.history ++ e ∷ []) ≡ cuts_after (cuts_of s.history) e = rw fold-append refl in
     recorded_in (grown s e blobs) records
     (subst (λ (ks : List Cut). IsRecorded s.catalogue s.opening ks (now (grown s e blobs)).kept (now (grown s e blobs)).book records) (sym past)
-    (subst (λ (x : Standing). IsRecorded s.catalogue s.opening (cuts_after (cuts_of s.history) e) x.kept x.book records) (sym (now_more s e blobs)) r))
+    (subst (λ (x : CabinetStanding). IsRecorded s.catalogue s.opening (cuts_after (cuts_of s.history) e) x.kept x.book records) (sym (now_more s e blobs)) r))
 
 -- ONE MORE RECORD, AND MORE OF THEM
 
@@ -125,19 +125,19 @@ given_up_to n e d some most = elim (cases_lt e (n / d)) [
   | inr over ↦ over
 ]
 
-pub given_by : (o : Opening) (n : ℕ) → n ≤ last_number o → opening_of n ≤ o.number
+pub given_by : (o : CabinetOpening) (n : ℕ) → n ≤ last_number o → opening_of n ≤ o.number
 given_by o n most = given_up_to n o.number (2 ^ 40) (omega arith) most
 
-pub number_is : (r : Replayed) (o : Opening) → r.opening ≡ Some o.number → opening_number r ≡ o.number
+pub number_is : (r : Replayed) (o : CabinetOpening) → r.opening ≡ Some o.number → opening_number r ≡ o.number
 number_is r o e = ap (λ (x : Option ℕ). option_map_or (λ n. n) x 0) e
 
 -- EACH RUNNING RENDER WAS BEGUN SINCE THE OPENING
 
-record IsSince (n : ℕ) (s : Standing) : Type 0 where
+record IsSince (n : ℕ) (s : CabinetStanding) : Type 0 where
   pub front : n ≤ s.front
   pub out : AllByRecursion (λ r. n < r.number) s.out
 
-since_after : (n : ℕ) (c : Catalogue) (s : Standing) (e : Entry) → May c s e → IsSince n s → IsSince n (after c s e)
+since_after : (n : ℕ) (c : Catalogue) (s : CabinetStanding) (e : HistoryEntry) → May c s e → IsSince n s → IsSince n (after c s e)
 since_after n c s (entry.At m) may h = record { front = h.front; out = h.out }
 since_after n c s (entry.Started k m) may h =
     let f = h.front in
@@ -155,15 +155,15 @@ since_after n c s (entry.Ended k) may h = record { front = h.front; out = all_fi
 since_after n c s (entry.Used m) may h = h
 since_after n c s (entry.Dropped m) may h = record { front = h.front; out = h.out }
 
-since_run : (n : ℕ) (c : Catalogue) (s : Standing) (h : History) → Follows c s h → IsSince n s → IsSince n (standing c s h)
+since_run : (n : ℕ) (c : Catalogue) (s : CabinetStanding) (h : History) → Follows c s h → IsSince n s → IsSince n (standing c s h)
 since_run n c s [] may h = h
 since_run n c s (e ∷ es) may h = since_run n c (after c s e) es may.1 (since_after n c s e may.0 h)
 
 -- WHAT IS KNOWN OF WHAT STANDS
 
-pub record Stands (c : Catalogue) (o : Opening) (past : List Cut) (s : Standing) : Type 0 where
+pub record Stands (c : Catalogue) (o : CabinetOpening) (past : List Cut) (s : CabinetStanding) : Type 0 where
   pub valid : IsValid c
-  pub holds : Holds c past s
+  pub holds : HoldsAfterCuts c past s
   pub differ : Differ s
   pub front : first_front o ≤ s.front
   pub top : s.front ≤ last_number o
@@ -182,7 +182,7 @@ stands_in s k =
     let since = since_run (first_front s.opening) c (first s.opening) s.since k.possible.follows (record { front = omega arith; out = tt }) in
     record {
       valid = k.valid;
-      holds = subst (λ (h : History). Holds c (cuts_of h) (now s)) (sym k.whole) (holds_of c s.opening s.since k.possible);
+      holds = subst (λ (h : History). HoldsAfterCuts c (cuts_of h) (now s)) (sym k.whole) (holds_of c s.opening s.since k.possible);
       differ = differ_is c s.opening s.since k.possible;
       front = since.front;
       top = k.left;
@@ -197,8 +197,8 @@ stands_in s k =
     }
 
 -- after one more entry that is no cut
-pub stands_more : (s : State) (e : Entry) (blobs : Option (List KeptBlob)) → IsKnown (grown s e blobs) → cuts_after (cuts_of s.history) e ≡ cuts_of s.history → Stands s.catalogue s.opening (cuts_of s.history) (after s.catalogue (now s) e)
+pub stands_more : (s : State) (e : HistoryEntry) (blobs : Option (List KeptBlob)) → IsKnown (grown s e blobs) → cuts_after (cuts_of s.history) e ≡ cuts_of s.history → Stands s.catalogue s.opening (cuts_of s.history) (after s.catalogue (now s) e)
 stands_more s e blobs k none =
     let past : cuts_of (s.history ++ e ∷ []) ≡ cuts_of s.history = rw fold-append none in
-    subst (λ (x : Standing). Stands s.catalogue s.opening (cuts_of s.history) x) (now_more s e blobs)
+    subst (λ (x : CabinetStanding). Stands s.catalogue s.opening (cuts_of s.history) x) (now_more s e blobs)
     (subst (λ (ks : List Cut). Stands s.catalogue s.opening ks (now (grown s e blobs))) past (stands_in (grown s e blobs) k))

@@ -16,7 +16,7 @@ use Rattle.truncation_list.specs.Books.{AnswersFor}
 use Rattle.truncation_list.specs.Purge.{IsAbove, IsByNumber, purged, raised, remaining}
 use Rattle.truncation_list.proofs.Remaining.{all_remaining, by_number_with, floor_below_above, floor_below_least, in_order_remaining, purged_answers}
 use Rattle.cabinet.specs.declared.kept.Kept.{Kept}
-use Rattle.cabinet.specs.Fresh.{Holds, HoldsOfKept, IsOfLength, Opens}
+use Rattle.cabinet.specs.Fresh.{HoldsAfterCuts, HoldsOfKept, IsOfLength, MayBeginWith}
 use Rattle.cabinet.specs.Hits.{hits_of}
 use Rattle.cabinet.specs.History.{first, least_of}
 use Rattle.cabinet_records.specs.Replay.{MayFollow, Replayed, Replays, book_after, opening_after, opening_number, opening_of, replayed, unplayed}
@@ -77,7 +77,7 @@ kept_holds c r t h = record {
   newer = all_left (λ k. IsTrue (hits_of c k.cover t.meta) → k.number < t.number) r h.0.newer;
 }
 
-opening_holds : (c : Catalogue) (r : Replayed) → IsSound c r → Holds c (book_after r).cuts (first (opening_after r))
+opening_holds : (c : Catalogue) (r : Replayed) → IsSound c r → HoldsAfterCuts c (book_after r).cuts (first (opening_after r))
 opening_holds c r s =
     let least = least_of (map (λ t. t.number) r.kept) in
     let below = all_weaker (λ (k : Cut). opening_of k.number ≤ opening_number r) (λ k. k.number < front r) (λ k given. below_front r k.number given) r.cuts s.cuts_given in
@@ -93,7 +93,7 @@ opening_holds c r s =
       out = tt;
     }
 
-opening_is : (c : Catalogue) (r : Replayed) → IsSound c r → length (book_after r).cuts ≤ c.cut_limit → Opens c (opening_after r)
+opening_is : (c : Catalogue) (r : Replayed) → IsSound c r → length (book_after r).cuts ≤ c.cut_limit → MayBeginWith c (opening_after r)
 opening_is c r s few_cuts =
     let P = IsSoundIn c r in
     record {
@@ -112,7 +112,7 @@ opening_is c r s few_cuts =
       few_cuts = few_cuts;
     }
 
-pub opens_after : (c : Catalogue) (records : List (Option Record)) (r : Replayed) → IsValid c → Replays c unplayed records r → length (book_after r).cuts ≤ c.cut_limit → Opens c (opening_after r)
+pub opens_after : (c : Catalogue) (records : List (Option Record)) (r : Replayed) → IsValid c → Replays c unplayed records r → length (book_after r).cuts ≤ c.cut_limit → MayBeginWith c (opening_after r)
 opens_after c records r valid h few_cuts = opening_is c r (sound_is c records r valid h) few_cuts
 
 -- EVERY CUT IS ANSWERED FOR

@@ -13,7 +13,7 @@ use Rattle.truncation_list.specs.declared.block.Block.{Block}
 use Rattle.truncation_list.specs.declared.book.Cut.{Cut}
 use Rattle.truncation_list.specs.Covers.{hits}
 use Rattle.cabinet.specs.declared.kept.Kept.{Kept}
-use Rattle.cabinet_records.specs.declared.replay.progress.Progress.{Progress}
+use Rattle.cabinet_records.specs.declared.replay.progress.ReplayProgress.{ReplayProgress}
 use Rattle.cabinet.specs.Fresh.{IsNewer}
 use Rattle.cabinet.specs.Gaps.{region}
 use Rattle.cabinet.specs.History.{but}
@@ -22,14 +22,14 @@ use Rattle.cabinet_records.specs.Replay.{MayFollow, Replayed, Replays, opening_n
 use Rattle.cabinet.specs.Shelved.{listed}
 
 -- what the records came to
-abbrev pub replayed_of : Progress → Replayed
+abbrev pub replayed_of : ReplayProgress → Replayed
 replayed_of p = record { opening = p.opening; floor = p.floor; kept = listed p.store.blobs; cuts = p.cuts.book.cuts }
 
-abbrev pub AreTiedIn : ℕ → Progress → Type 0
+abbrev pub AreTiedIn : ℕ → ReplayProgress → Type 0
 AreTiedIn next p = AreTied next (listed p.store.blobs) p.regions (place_in p.places.entries)
 
 -- what is held is what some records come to; the next one has this place among all records. There is room to list what is kept
-pub record IsPlayed (c : Catalogue) (next : ℕ) (p : Progress) : Type 0 where
+pub record IsPlayed (c : Catalogue) (next : ℕ) (p : ReplayProgress) : Type 0 where
   pub reached : (records : List (Option Record)) × Replays c unplayed records (replayed_of p)
   pub tied : AreTiedIn next p
   pub size : p.regions.size ≡ c.blob_bytes
@@ -52,7 +52,7 @@ pub record MayKeep (c : Catalogue) (r : Replayed) (t : Kept) : Type 0 where
   pub few : length (but t.meta r.kept) < c.kept_limit
 
 -- all is as before, and there is no less room
-pub record LeavesAll (old new : Progress) : Type 0 where
+pub record LeavesAll (old new : ReplayProgress) : Type 0 where
   pub opening : new.opening ≡ old.opening
   pub floor : new.floor ≡ old.floor
   pub blobs : new.store.blobs ≡ old.store.blobs
@@ -65,14 +65,14 @@ pub record LeavesAll (old new : Progress) : Type 0 where
   pub room : vec_capacity old.out ≤ vec_capacity new.out
 
 -- one more can be kept with no memory taken
-pub record HasRoom (p : Progress) : Type 0 where
+pub record HasRoom (p : ReplayProgress) : Type 0 where
   pub store : 1 ≤ p.store.spare
   pub regions : 1 ≤ p.regions.spare
   pub places : 0 < spare p.places
   pub out : length p.store.blobs < vec_capacity p.out
 
 -- the region of what was kept before, if anything was, was given back, and the part was taken where it was free then
-pub record Claims (old : Space) (older : Option Kept) (p : Part) (is : Bool) (new : Space) : Type 0 where
+pub record ClaimsRegion (old : Space) (older : Option Kept) (p : Part) (is : Bool) (new : Space) : Type 0 where
   pub given : Space
   pub back : IfSome older (λ t. IsTaken given (region t) old)
   pub left : IfNone older (given ≡ old)
@@ -87,12 +87,12 @@ places_but None places n = places n
 places_but (Some t) places n = if t.number == n then None else places n
 
 -- the record was played, or no cache has it here
-abbrev pub Plays : Catalogue → ℕ → Progress → Record → Bool → Progress → Type 0
+abbrev pub Plays : Catalogue → ℕ → ReplayProgress → Record → Bool → ReplayProgress → Type 0
 Plays c next old x true new = MayFollow c (replayed_of old) x × (replayed_of new ≡ replayed c (replayed_of old) x) × IsPlayed c (next + 1) new
 Plays c next old x false new = MayFollow c (replayed_of old) x → ⊥
 
 -- or memory ran out, and what is held is as before
-pub record Steps (c : Catalogue) (next : ℕ) (old : Progress) (x : Record) (result : Result Bool AllocError) (new : Progress) : Type 0 where
+pub record PlaysOrLacks (c : Catalogue) (next : ℕ) (old : ReplayProgress) (x : Record) (result : Result Bool AllocError) (new : ReplayProgress) : Type 0 where
   pub played : IfOk result (λ is. Plays c next old x is new)
   pub same : OnErr result (replayed_of new ≡ replayed_of old)
   pub kept : OnErr result (IsPlayed c next new)

@@ -19,7 +19,7 @@ use Rattle.truncation_list.specs.Purge.{purged}
 use Rattle.cabinet.specs.declared.kept.Kept.{Kept}
 use Rattle.cabinet.specs.Fresh.{IsNewer}
 use Rattle.cabinet.specs.Gaps.{region}
-use Rattle.cabinet.specs.History.{Opening, but, is_of, least_of, spared, with_uses}
+use Rattle.cabinet.specs.History.{CabinetOpening, but, is_of, least_of, spared, with_uses}
 
 -- what the records so far come to: the number of the last opening, none before the first, the floor, what is kept, and every cut
 pub record Replayed : Type 0 where
@@ -137,7 +137,7 @@ abbrev pub book_after : Replayed → Book
 book_after r = purged None (least_of (map (λ t. t.number) r.kept)) (record { cuts = r.cuts; floor = r.floor })
 
 -- the opening that follows the records
-abbrev pub opening_after : Replayed → Opening
+abbrev pub opening_after : Replayed → CabinetOpening
 opening_after r = record { number = opening_number r + 1; kept = r.kept; book = book_after r }
 
 -- what the bodies of a journal of this version are restored to: the number of their last opening, none before the first, what is kept,
@@ -161,6 +161,6 @@ abbrev pub IsRefusedAt : Catalogue → List (Option Record) → ℕ → Type 0
 IsRefusedAt c records slot = IsBadAt c unplayed records slot ⊎ (AreTooMany c records × IsLastCut records slot)
 
 -- what contracts see of a replay: the catalogue, and the bodies that it was shown
-pub record Shown : Type 0 where
+pub record ShownReplay : Type 0 where
   pub catalogue : Catalogue
   pub bodies : List (List ℕ)

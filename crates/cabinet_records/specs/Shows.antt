@@ -5,7 +5,7 @@ use Rattle.catalog.specs.declared.catalogue.Catalogue.{Catalogue}
 use Rattle.catalog.specs.Valid.{IsValid}
 use Rattle.record_text.specs.declared.entries.Record.{Record}
 use Rattle.record_text.specs.declared.entries.Record.TheVariants.{Opened, Stored, Dropped, Cut, Uses}
-use Rattle.cabinet_records.specs.declared.replay.progress.Progress.{Progress}
+use Rattle.cabinet_records.specs.declared.replay.progress.ReplayProgress.{ReplayProgress}
 use Rattle.cabinet_records.specs.Played.{IsPlayed, replayed_of}
 use Rattle.cabinet_records.specs.Replay.{AreRecordsOf, IsBadAt, IsLastCut, Replays, is_cut, unplayed}
 
@@ -45,7 +45,7 @@ first_bad version bad later = if version == 1 then first_of bad later else bad
 -- WHAT IS KNOWN OF THE RECORDS
 
 -- what is held is what they come to, or the first that no cache has is known
-abbrev pub StandsAt : Catalogue → List (Option Record) → Progress → Option ℕ → Type 0
+abbrev pub StandsAt : Catalogue → List (Option Record) → ReplayProgress → Option ℕ → Type 0
 StandsAt c records p None = Replays c unplayed records (replayed_of p) × IsPlayed c (length records) p
 StandsAt c records p (Some slot) = IsBadAt c unplayed records slot
 
@@ -58,7 +58,7 @@ IsCutAt records None = AllByRecursion (λ r. is_cut r ≡ false) records
 IsCutAt records (Some slot) = IsLastCut records slot
 
 -- all of it
-pub record IsShown (c : Catalogue) (bodies : List (List ℕ)) (records : List (Option Record)) (p : Progress) (count : ℕ) (bad later last_cut : Option ℕ) : Type 0 where
+pub record IsShown (c : Catalogue) (bodies : List (List ℕ)) (records : List (Option Record)) (p : ReplayProgress) (count : ℕ) (bad later last_cut : Option ℕ) : Type 0 where
   pub valid : IsValid c
   pub bodies_are : AreRecordsOf 2 bodies records
   pub counted : count ≡ length records
@@ -67,7 +67,7 @@ pub record IsShown (c : Catalogue) (bodies : List (List ℕ)) (records : List (O
   pub cut : IsCutAt records last_cut
 
 -- what is held at the end is what the records come to
-pub record IsFinished (c : Catalogue) (records : List (Option Record)) (p : Progress) (limit : ℕ) (last_cut : Option ℕ) : Type 0 where
+pub record IsReplayFinished (c : Catalogue) (records : List (Option Record)) (p : ReplayProgress) (limit : ℕ) (last_cut : Option ℕ) : Type 0 where
   pub replays : Replays c unplayed records (replayed_of p)
   pub played : IsPlayed c (length records) p
   pub cut : IsCutAt records last_cut

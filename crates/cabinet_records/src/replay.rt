@@ -23,7 +23,7 @@ mod sparing;
 use crate::replay::beginning::begin;
 use crate::replay::finishing::finish;
 use crate::replay::judging::{cut_after, first_bad, judge, late_after};
-use crate::replay::progress::Progress;
+use crate::replay::progress::ReplayProgress;
 use crate::restored::Restored;
 use base::Trace;
 use catalog::Catalogue;
@@ -36,7 +36,7 @@ use std::marker::Model;
 #[derive(Drop)]
 pub struct Replay<'a> {
     catalogue: &'a Catalogue,
-    progress: Progress,
+    progress: ReplayProgress,
     /// How many bodies it was shown.
     count: u64,
     /// The slot of the first record that no cache has. Once there is one, what is held means nothing any more.
@@ -49,10 +49,10 @@ pub struct Replay<'a> {
 }
 
 impl<'a> Model for Replay<'a> {
-    ghost use Rattle.cabinet_records.specs.Replay.{Shown};
+    ghost use Rattle.cabinet_records.specs.Replay.{ShownReplay};
     ghost use Rattle.cabinet_records.specs.Shows.{IsShown};
 
-    ghost Value = { Shown };
+    ghost Value = { ShownReplay };
 
     ghost view = { λ r. record { catalogue = r.catalogue.now; bodies = r.bodies.entries } };
 
@@ -82,7 +82,7 @@ impl<'a> Replay<'a> {
 
     /// What the bodies are restored to, in a journal of version 1 or 2; or the slot, counted from 0, of the first one that no cache
     /// has, or of the last cut where more are left than may be.
-    pub fn restored(self, version: u8) -> Result<Restored, u64>
+    pub fn restore(self, version: u8) -> Result<Restored, u64>
         ensures ok { IfOk result (λ r. (records : List (Option Entry)) × AreRecordsOf version self.entry.bodies records × IsRestored self.entry.catalogue records r.opening r.kept.items r.cuts.book) }
         ensures err { IfErr result (λ slot. (records : List (Option Entry)) × AreRecordsOf version self.entry.bodies records × IsRefusedAt self.entry.catalogue records slot) }
     {

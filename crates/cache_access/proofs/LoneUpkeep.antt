@@ -20,7 +20,7 @@ use Rattle.turnstile.specs.declared.view.Made.{Made}
 use Rattle.cache_access.specs.declared.upkept.Upkept.{Upkept}
 use Rattle.cache_access.specs.declared.upkept.Upkept.TheVariants.{Done, DiskFault, Stopped}
 use Rattle.cache_access.specs.Alone.{AreSteps, IsStep}
-use Rattle.cache_access.specs.KeepsUp.{AreDone, Chore, EndsAs, KeepsUp, dropping, saving}
+use Rattle.cache_access.specs.KeepsUp.{AreDone, Chore, KeepsUp, UpkeepEndsAs, dropping, saving}
 use Rattle.cache_access.specs.Stepping.{unsure}
 use Rattle.cache_access.specs.Turned.{IsOf}
 
@@ -75,7 +75,7 @@ Says c chore most many z y (Done n) = (n ≡ many) × IsLast c chore.does chore.
 Says c chore most many z y (DiskFault n) = (n ≡ many) × ((b : ℕ) × (a : ℕ) × IsLast c chore.does (chore.failed b a) z y)
 Says c chore most many z y Stopped = (many ≡ most) × (y.state ≡ z.state)
 
-says : (c : Catalogue) (chore : Chore) (most many : ℕ) (ends : List (Made Note)) (r : Upkept) (z y : Shown) → EndsAs chore most many ends r → AreSteps c z ends y → Says c chore most many z y r
+says : (c : Catalogue) (chore : Chore) (most many : ℕ) (ends : List (Made Note)) (r : Upkept) (z y : Shown) → UpkeepEndsAs chore most many ends r → AreSteps c z ends y → Says c chore most many z y r
 says c chore most many ends (Done n) z y (same, (m, one, is)) steps = (same, last_of c chore.does chore.nothing z y m ends one is steps)
 says c chore most many ends (DiskFault n) z y (same, (m, b, a, one, is)) steps = (same, (b, a, last_of c chore.does (chore.failed b a) z y m ends one is steps))
 says c chore most many ends Stopped z y (is, none) steps = let st = subst (λ (ms : List (Made Note)). AreSteps c z ms y) none steps in (is, st.0)

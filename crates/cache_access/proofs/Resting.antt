@@ -2,10 +2,10 @@
 use Rattle.std.proofs.Common.{ℕ, ◌≡◌, List, [], ◌∷◌, ◌++◌, length, Option, Some, None, Ok, inl, inr, refl, sym, ap, subst, ◌∙◌}
 use Rattle.std.specs.Prelude.{⊤}
 use Rattle.std.proofs.lemmas.Bool.{eq-eqb}
-use Rattle.cabinet.specs.Commands.{Abandons, Asks, Cuts, Expires, Finishes, Forces, IsBusy, IsGiven, Saves, kept_at}
+use Rattle.cabinet.specs.Commands.{Abandons, Asks, Cuts, Expires, Finishes, Forces, IsBusy, IsTicketGiven, Saves, kept_at}
 use Rattle.cabinet.specs.Counted.{uses}
-use Rattle.cabinet.specs.declared.entry.Entry.{Entry}
-use Rattle.cabinet.specs.declared.entry.Entry.TheVariants as entry
+use Rattle.cabinet.specs.declared.entry.HistoryEntry.{HistoryEntry}
+use Rattle.cabinet.specs.declared.entry.HistoryEntry.TheVariants as entry
 use Rattle.cabinet.specs.declared.kept.KeptBlob.{KeptBlob}
 use Rattle.cabinet.specs.declared.replies.Asked.{Asked}
 use Rattle.cabinet.specs.declared.replies.Asked.TheVariants as asked
@@ -37,13 +37,13 @@ use Rattle.cache_access.specs.Waits.{IsForceSettled, IsSettled}
 -- ENTRIES
 
 -- the renders that run after one entry more
-pub runs_after : (s : State) (e : Entry) (blobs : Option (List KeptBlob)) → (now (grown s e blobs)).out ≡ (after s.catalogue (now s) e).out
+pub runs_after : (s : State) (e : HistoryEntry) (blobs : Option (List KeptBlob)) → (now (grown s e blobs)).out ≡ (after s.catalogue (now s) e).out
 runs_after s e blobs = ap (λ x. x.out) (now_more s e blobs)
 
 pub asked_rests : (s : State) (n : ℕ) → IsAtRest s → IsAtRest (asked_at n s)
 asked_rests s n rest = runs_after s (entry.At n) None ∙ rest
 
-entry_rests : (s t : State) (e : Entry) → (after s.catalogue (now s) e).out ≡ (now s).out → t ≡ with_entry s e → IsAtRest s → IsAtRest t
+entry_rests : (s t : State) (e : HistoryEntry) → (after s.catalogue (now s) e).out ≡ (now s).out → t ≡ with_entry s e → IsAtRest s → IsAtRest t
 entry_rests s t e same is rest = subst IsAtRest (sym is) (runs_after s e s.blobs ∙ same ∙ rest)
 
 -- AN ASK AND A FORCE
@@ -52,7 +52,7 @@ module _ (s t : State) (n : ℕ) (m : MetaKey) (rest : IsAtRest s) where
   never_busy : (k : ℕ) → IsBusy (asked_at n s) m k t → ⊥
   never_busy k busy = let e : None ≡ Some k = sym (ap (running_for m) (asked_rests s n rest)) ∙ busy.0 in cc
 
-  given_runs : (k : Ticketed) → IsGiven (asked_at n s) m k t → IsOnlyRender t k
+  given_runs : (k : Ticketed) → IsTicketGiven (asked_at n s) m k t → IsOnlyRender t k
   given_runs k given =
       let u = asked_at n s in
       let started : (now (with_entry u (entry.Started k.number m))).out ≡ unmarked k.number m (now u).moment ∷ [] = runs_after u (entry.Started k.number m) u.blobs ∙ ap (λ rs. rs ++ unmarked k.number m (now u).moment ∷ []) (asked_rests s n rest) in

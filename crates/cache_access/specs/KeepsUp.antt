@@ -34,10 +34,10 @@ abbrev pub AreDone : Chore → List (Made Note) → Type 0
 AreDone chore turns = AllByRecursion (λ m. (k : MetaKey) × IsOf chore.does (chore.done k) m) turns
 
 -- after so many of them the last turn, if there is one, and why there is none after it
-abbrev pub EndsAs : Chore → ℕ → ℕ → List (Made Note) → Upkept → Type 0
-EndsAs chore most many ends (Done n) = (n ≡ many) × ((m : Made Note) × (ends ≡ m ∷ []) × IsOf chore.does chore.nothing m)
-EndsAs chore most many ends (DiskFault n) = (n ≡ many) × ((m : Made Note) × (b : ℕ) × (a : ℕ) × (ends ≡ m ∷ []) × IsOf chore.does (chore.failed b a) m)
-EndsAs chore most many ends Stopped = (many ≡ most) × (ends ≡ [])
+abbrev pub UpkeepEndsAs : Chore → ℕ → ℕ → List (Made Note) → Upkept → Type 0
+UpkeepEndsAs chore most many ends (Done n) = (n ≡ many) × ((m : Made Note) × (ends ≡ m ∷ []) × IsOf chore.does chore.nothing m)
+UpkeepEndsAs chore most many ends (DiskFault n) = (n ≡ many) × ((m : Made Note) × (b : ℕ) × (a : ℕ) × (ends ≡ m ∷ []) × IsOf chore.does (chore.failed b a) m)
+UpkeepEndsAs chore most many ends Stopped = (many ≡ most) × (ends ≡ [])
 
 -- THE WHOLE: the turns that upkeep made, of which so many may be made, and what it came to
 module _ {C : Type 0} (leads : C → C → List (Made Note) → Type 0) where
@@ -46,5 +46,5 @@ module _ {C : Type 0} (leads : C → C → List (Made Note) → Type 0) where
     pub ends : List (Made Note)
     pub gains : leads before after (turns ++ ends)
     pub done : AreDone chore turns
-    pub over : EndsAs chore most (length turns) ends result
+    pub over : UpkeepEndsAs chore most (length turns) ends result
     pub few : length turns + length ends ≤ most

@@ -9,7 +9,7 @@ ghost use Rattle.catalog.specs.Valid.{IsValid};
 
 use crate::access::Access;
 use crate::fault::GetFault;
-use cache_core::{RenderFault, Sliced, Tile, painted};
+use cache_core::{RenderFault, Sliced, Tile, paint};
 use matrix_geometry::Address;
 use metatile_locks::Ticket;
 use raster_field::laws_of_metatiles;
@@ -41,7 +41,7 @@ pub(crate) fn make<A: Access, S: Source>(
     ensures told { S.told source.new ≡ S.told source.old }
 {
     laws_of_metatiles();
-    match painted(alloc, access.catalogue(cache), source, &ticket, address) {
+    match paint(alloc, access.catalogue(cache), source, &ticket, address) {
         Ok(Sliced { blob, bytes }) => {
             let number = ticket.number();
             let _ = access.finish(cache, ticket, blob);

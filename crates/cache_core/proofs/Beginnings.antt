@@ -2,9 +2,9 @@
 use Rattle.std.proofs.Common.{◌≡◌, ◌≤◌, ℕ, Bool, true, false, List, [], ◌∷◌, length, Option, Some, None, inl, inr, refl, sym, ◌∙◌, ap, subst, append_assoc, arith}
 use Rattle.std.specs.Prelude.{IfSome}
 use Rattle.std.specs.Option.{option_map_or}
-use Rattle.cabinet.specs.Commands.{IsBusy, IsGiven, IsHit, IsSpent, IsUnread}
-use Rattle.cabinet.specs.declared.entry.Entry.{Entry}
-use Rattle.cabinet.specs.declared.entry.Entry.TheVariants as entry
+use Rattle.cabinet.specs.Commands.{IsBusy, IsHit, IsSpent, IsTicketGiven, IsUnread}
+use Rattle.cabinet.specs.declared.entry.HistoryEntry.{HistoryEntry}
+use Rattle.cabinet.specs.declared.entry.HistoryEntry.TheVariants as entry
 use Rattle.cabinet.specs.Fresh.{IsFresh}
 use Rattle.cabinet.specs.State.{State, asked_at, kept_text, with_entry, IsSound}
 use Rattle.base.specs.Causes.{RoseBy}
@@ -20,7 +20,7 @@ use Rattle.cache_core.specs.declared.actor.Step.{Step}
 use Rattle.cache_core.specs.declared.outcome.TileOutcome.{TileOutcome}
 use Rattle.cache_core.specs.declared.outcome.TileOutcome.TheVariants as outcome
 use Rattle.cache_core.specs.Begun.{Begins}
-use Rattle.cache_core.specs.Fits.{IsFit, IsAtWork, IsTrueActor, IsTrueOutcome, IsFreshActor, IsFreshOutcome, Extends}
+use Rattle.cache_core.specs.Fits.{IsFit, IsAtWork, IsTrueActor, IsTrueOutcome, IsFreshActor, IsFreshOutcome, ExtendsHistory}
 use Rattle.cache_core.specs.Shown.{shown, IsFailed}
 use Rattle.cache_core.specs.Steps.{asked, began, blob_of, disk_faults, unless_kept, render_wanted, unless_busy, given, goes_on, ends, hit, ticket_for, tile_at}
 use Rattle.cache_core.proofs.Endings.{byte_of, bytes_of_blob}
@@ -30,13 +30,13 @@ shown_as step t actor o e f = rw e (rw f refl)
 
 -- ONE ENTRY AFTER THE MOMENT of an ask or a force
 
-entry_sound : (s t : State) (n : ℕ) (e : Entry) → t ≡ with_entry (asked_at n s) e → IsSound s → IsSound t
+entry_sound : (s t : State) (n : ℕ) (e : HistoryEntry) → t ≡ with_entry (asked_at n s) e → IsSound s → IsSound t
 entry_sound s t n e h sound = subst IsSound (sym h) sound
 
-entry_grows : (s t : State) (n : ℕ) (e : Entry) → t ≡ with_entry (asked_at n s) e → Extends s.history t.history
+entry_grows : (s t : State) (n : ℕ) (e : HistoryEntry) → t ≡ with_entry (asked_at n s) e → ExtendsHistory s.history t.history
 entry_grows s t n e h = (entry.At n ∷ e ∷ [], ap (λ u. u.history) h ∙ append_assoc s.history (entry.At n ∷ []) (e ∷ []))
 
-entry_catalogue : (s t : State) (n : ℕ) (e : Entry) → t ≡ with_entry (asked_at n s) e → t.catalogue ≡ s.catalogue
+entry_catalogue : (s t : State) (n : ℕ) (e : HistoryEntry) → t ≡ with_entry (asked_at n s) e → t.catalogue ≡ s.catalogue
 entry_catalogue s t n e h = ap (λ u. u.catalogue) h
 
 -- NOTHING THAT IS KEPT ANSWERS
@@ -123,7 +123,7 @@ module _ (before after : ℕ) (later : before ≤ after) (s t : State) (n : ℕ)
 
 -- A TICKET
 
-module _ (before after : ℕ) (later : before ≤ after) (s t : State) (n : ℕ) (a : Address) (k : Ticketed) (step : Step) (tile : IsTile s.catalogue a) (is_given : IsGiven (asked_at n s) (block_of s.catalogue a) k t) (actor : step.actor ≡ Holding k a) (no_outcome : step.outcome ≡ None) (fresh : IsFresh s.catalogue t.history (length s.history) a k.number) where
+module _ (before after : ℕ) (later : before ≤ after) (s t : State) (n : ℕ) (a : Address) (k : Ticketed) (step : Step) (tile : IsTile s.catalogue a) (is_given : IsTicketGiven (asked_at n s) (block_of s.catalogue a) k t) (actor : step.actor ≡ Holding k a) (no_outcome : step.outcome ≡ None) (fresh : IsFresh s.catalogue t.history (length s.history) a k.number) where
   ticket_is : ticket_for (asked_at n s) a k.number ≡ k
   ticket_is = rw (sym is_given.meta) refl
 

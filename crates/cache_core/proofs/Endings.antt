@@ -5,7 +5,7 @@ use Rattle.std.proofs.lemmas.Bool.Decides.{nat_tests}
 use Rattle.std.proofs.lemmas.List.{ext_get_or}
 use Rattle.std.proofs.lemmas.List.FromFn.{get_or-map-range_with_len, length-map-range_with_len}
 use Rattle.cabinet.specs.Commands.{Abandons, Finishes, IsCountedFinished, kept_at, others, place_for}
-use Rattle.cabinet.specs.declared.entry.Entry.TheVariants as entry
+use Rattle.cabinet.specs.declared.entry.HistoryEntry.TheVariants as entry
 use Rattle.cabinet.specs.declared.replies.Finished.{Finished}
 use Rattle.cabinet.specs.declared.replies.Finished.TheVariants as finished
 use Rattle.cabinet.specs.Fresh.{IsFresh}
@@ -23,21 +23,21 @@ use Rattle.cache_core.specs.declared.actor.Actor.TheVariants.{Failed, Idle, Hold
 use Rattle.cache_core.specs.declared.actor.Step.{Step}
 use Rattle.cache_core.specs.declared.outcome.TileOutcome.{TileOutcome}
 use Rattle.cache_core.specs.Advanced.{Advances}
-use Rattle.cache_core.specs.Fits.{IsFit, IsAtWork, IsTrueActor, IsTrueOutcome, IsFreshActor, IsFreshOutcome, Extends, place_of}
+use Rattle.cache_core.specs.Fits.{IsFit, IsAtWork, IsTrueActor, IsTrueOutcome, IsFreshActor, IsFreshOutcome, ExtendsHistory, place_of}
 use Rattle.cache_core.specs.Shown.{IsFailed}
 use Rattle.cache_core.specs.Steps.{advanced, blob_of, disk_faults, ended, ends, holds, stored, tile_at, with_room}
 use Rattle.cache_core.specs.Steps as steps
 
 -- HISTORIES GO ON
 
-same_history : (s t : State) → t ≡ s → Extends s.history t.history
+same_history : (s t : State) → t ≡ s → ExtendsHistory s.history t.history
 same_history s t e = ([], ap (λ u. u.history) e ∙ sym (append-nil s.history))
 
-pub abandons_grow : (s t : State) (k : Ticketed) → Abandons s k t → Extends s.history t.history
+pub abandons_grow : (s t : State) (k : Ticketed) → Abandons s k t → ExtendsHistory s.history t.history
 abandons_grow s t k (inl h) = same_history s t h.1
 abandons_grow s t k (inr h) = (entry.Ended k.number ∷ [], ap (λ u. u.history) h.1)
 
-pub finishes_grow : (s t : State) (k : Ticketed) (blob : List ℕ) (r : Finished) → Finishes s k blob r t → Extends s.history t.history
+pub finishes_grow : (s t : State) (k : Ticketed) (blob : List ℕ) (r : Finished) → Finishes s k blob r t → ExtendsHistory s.history t.history
 finishes_grow s t k blob finished.Stranger h = same_history s t h.1
 finishes_grow s t k blob (finished.Overtaken cut) h = (entry.Ended k.number ∷ [], ap (λ u. u.history) h.2)
 finishes_grow s t k blob finished.Full h = (entry.Ended k.number ∷ [], ap (λ u. u.history) h.3)
@@ -45,7 +45,7 @@ finishes_grow s t k blob finished.NoRoom h = (entry.Ended k.number ∷ [], ap (�
 finishes_grow s t k blob (finished.DiskFault b a) h = (entry.Ended k.number ∷ [], ap (λ u. u.history) h.5)
 finishes_grow s t k blob finished.Kept h = (stored_entry (kept_at k h.0 h.3.0 (length blob)) ∷ [], ap (λ u. u.history) h.3.2)
 
-pub extends_fresh : (c : Catalogue) (h g : History) (p : ℕ) (a : Address) (k : ℕ) → Extends h g → p ≤ length h → IsFresh c h p a k → IsFresh c g p a k
+pub extends_fresh : (c : Catalogue) (h g : History) (p : ℕ) (a : Address) (k : ℕ) → ExtendsHistory h g → p ≤ length h → IsFresh c h p a k → IsFresh c g p a k
 extends_fresh c h g p a k more within fresh = let P : History → Type 0 = λ x. IsFresh c x p a k in subst P (sym more.1) (still_fresh c h more.0 p a k within fresh)
 
 -- THE CATALOGUE STAYS
@@ -103,7 +103,7 @@ finish_cause before after s t k blob finished.Kept later h counted = omega arith
 -- THE LAST EVENT, in which no clock is read
 
 pub ending : (told : Option ℕ) (before after disk_before disk_after : ℕ) → before ≤ after → disk_before ≤ disk_after → (s t : State) (actor : Actor) (step : Step) (o : TileOutcome) (left unwritten : Bool)
-    → RoseBy (disk_faults false unwritten) disk_before disk_after → step.actor ≡ Idle → step.outcome ≡ Some o → ends t o ≡ advanced s actor left 0 false None unwritten → Extends s.history t.history → t.catalogue ≡ s.catalogue
+    → RoseBy (disk_faults false unwritten) disk_before disk_after → step.actor ≡ Idle → step.outcome ≡ Some o → ends t o ≡ advanced s actor left 0 false None unwritten → ExtendsHistory s.history t.history → t.catalogue ≡ s.catalogue
     → (told ≡ Some s.catalogue.source → IsSound s → IsTrueActor s.catalogue actor → IsSound t)
     → ((a : Address) → IsFit s.catalogue a actor → IsTrueActor s.catalogue actor → IsTrueOutcome s.catalogue a (Some o))
     → ((a : Address) (p : ℕ) → IsFit s.catalogue a actor → p ≤ length s.history → IsFreshActor s.catalogue s.history p a actor → IsFreshOutcome s.catalogue t.history (place_of actor (length s.history) p) a (Some o))

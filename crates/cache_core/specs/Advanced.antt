@@ -5,7 +5,7 @@ use Rattle.base.specs.Causes.{Rose, RoseBy}
 use Rattle.matrix_geometry.specs.declared.address.Address.{Address}
 use Rattle.cache_core.specs.declared.actor.Actor.{Actor}
 use Rattle.cache_core.specs.declared.actor.Step.{Step}
-use Rattle.cache_core.specs.Fits.{IsFit, IsTrueActor, IsTrueOutcome, IsFreshActor, IsFreshOutcome, Extends, place_of}
+use Rattle.cache_core.specs.Fits.{IsFit, IsTrueActor, IsTrueOutcome, IsFreshActor, IsFreshOutcome, ExtendsHistory, place_of}
 use Rattle.cache_core.specs.Shown.{shown, IsFailed}
 use Rattle.cache_core.specs.Steps.{advanced, disk_faults}
 
@@ -32,5 +32,5 @@ pub record Advances (told : Option ℕ) (before after disk_before disk_after : �
   pub truth : (a : Address) → IsFit s.catalogue a actor → told ≡ Some s.catalogue.source → IsSound s → IsTrueActor s.catalogue actor → IsTrueOutcome s.catalogue a step.outcome
   pub held_fresh : (a : Address) (p : ℕ) → IsFit s.catalogue a actor → p ≤ length s.history → IsFreshActor s.catalogue s.history p a actor → IsFreshActor s.catalogue t.history (place_of actor (length s.history) p) a step.actor
   pub fresh : (a : Address) (p : ℕ) → IsFit s.catalogue a actor → p ≤ length s.history → IsFreshActor s.catalogue s.history p a actor → IsFreshOutcome s.catalogue t.history (place_of actor (length s.history) p) a step.outcome
-  pub grows : Extends s.history t.history
+  pub grows : ExtendsHistory s.history t.history
   pub catalogue : t.catalogue ≡ s.catalogue

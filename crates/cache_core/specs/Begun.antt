@@ -4,7 +4,7 @@ use Rattle.cabinet.specs.State.{State, IsSound}
 use Rattle.base.specs.Causes.{RoseBy}
 use Rattle.matrix_geometry.specs.declared.address.Address.{Address}
 use Rattle.cache_core.specs.declared.actor.Step.{Step}
-use Rattle.cache_core.specs.Fits.{IsFit, IsTrueActor, IsTrueOutcome, IsFreshActor, IsFreshOutcome, Extends}
+use Rattle.cache_core.specs.Fits.{IsFit, IsTrueActor, IsTrueOutcome, IsFreshActor, IsFreshOutcome, ExtendsHistory}
 use Rattle.cache_core.specs.Shown.{shown, IsFailed}
 use Rattle.cache_core.specs.Steps.{began, disk_faults}
 
@@ -27,5 +27,5 @@ pub record Begins (before after : ℕ) (s : State) (a : Address) (force : Bool) 
   pub truth : IsSound s → IsTrueOutcome s.catalogue a step.outcome
   pub held_fresh : IsFreshActor s.catalogue t.history (length s.history) a step.actor
   pub fresh : IsFreshOutcome s.catalogue t.history (length s.history) a step.outcome
-  pub grows : Extends s.history t.history
+  pub grows : ExtendsHistory s.history t.history
   pub catalogue : t.catalogue ≡ s.catalogue

@@ -71,8 +71,8 @@ IsFreshOutcome c h p a (Some outcome.NoMemory) = ⊤
 
 -- HISTORIES GO ON
 
-abbrev pub Extends : History → History → Type 0
-Extends h g = (more : History) × (g ≡ h ++ more)
+abbrev pub ExtendsHistory : History → History → Type 0
+ExtendsHistory h g = (more : History) × (g ≡ h ++ more)
 
 -- the place of a request after an event: that of its last ask or force
 abbrev pub place_of : Actor → ℕ → ℕ → ℕ

@@ -14,5 +14,5 @@ mod steps;
 pub use actor::{Actor, Step};
 pub use laws::{laws_of_finishes, laws_of_lasting};
 pub use outcome::{Tile, TileOutcome};
-pub use render::{RenderFault, Sliced, blob_of, painted};
+pub use render::{RenderFault, Sliced, blob_of, paint};
 pub use steps::{advance, begin, give_up};

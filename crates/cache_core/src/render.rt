@@ -88,7 +88,7 @@ pub struct Sliced {
 
 /// Renders the blob of a ticket's metatile, in the picture of the ticket's number where the source is modelled, and cuts out its tile.
 /// `Source` only where the source's count of faults rose; `Memory` where memory runs out.
-pub fn painted<S: Source>(
+pub fn paint<S: Source>(
     alloc: Global,
     catalogue: &Catalogue,
     source: &mut S,

@@ -12,7 +12,7 @@ ghost use Rattle.matrix_geometry.specs.declared.address.Address.{Address};
 use crate::actor::{Actor, Step};
 use crate::laws::laws_of_lasting;
 use crate::outcome::{Tile, TileOutcome};
-use crate::render::{RenderFault, Sliced, painted};
+use crate::render::{RenderFault, Sliced, paint};
 use base::SharedText;
 use cabinet::{Asked, Forced, Keeper, laws_of_rows};
 use matrix_geometry::Address;
@@ -151,7 +151,7 @@ fn render<C: Keeper, S: Source>(
 {
     laws_of_lasting::<C>();
     cabinet.known();
-    match painted(alloc, cabinet.catalogue(), source, &ticket, address) {
+    match paint(alloc, cabinet.catalogue(), source, &ticket, address) {
         Ok(Sliced { blob, bytes }) => {
             let number = ticket.number();
             let tile = Tile {

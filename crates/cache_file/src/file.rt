@@ -69,10 +69,10 @@ impl<D: Disk> CacheFile<D> {
         }
     }
 
-    /// Puts a blob at a place of the blobs, in place of what stood there. Its end on the disk is below 2^62. After `Ok` each image
-    /// of the disk has it. The records stay, and so does each blob that the range doesn't meet. `Failed` only where the disk's
-    /// count of faults rose; the range may then hold any bytes.
-    pub fn put(&mut self, place: u64, blob: &[u8]) -> Result<(), Failed>
+    /// Puts the blob of the render of this number at a place of the blobs, in place of what stood there. Its tiles are of `piece` bytes
+    /// each, and its end on the disk is below 2^62. After `Ok` each image of the disk has it. The records stay, and so does each blob that
+    /// the range doesn't meet. `Failed` only where the disk's count of faults rose; the range may then hold any bytes.
+    pub fn put(&mut self, number: u64, piece: u32, place: u64, blob: &[u8]) -> Result<(), Failed>
         requires settled { IsSettled self.old.journal }
         requires end { self.old.start + place + length blob.now < 2 ^ 62 }
         requires sound { IsTrue (D.told self.old.disk) → IsSound self.old.journal (D.state self.old.disk) }
@@ -84,12 +84,18 @@ impl<D: Disk> CacheFile<D> {
         ensures holds { IsTrue (D.told self.old.disk) → OnOk result (HoldsBlob self.old.start place blob.now (D.state self.new.disk)) }
         ensures cause { HasCause (D.faults self.old.disk) (D.faults self.new.disk) result }
     {
-        blob_store::put(&mut self.disk, self.start + place, blob)
+        blob_store::put(&mut self.disk, number, piece, self.start + place, blob)
     }
 
-    /// Reads a part of the blob at a place, which is of the length of `into`; its end on the disk is below 2^62. The file may be
-    /// unsettled. `Failed` only where the disk's count of faults rose. The disk is only read.
-    pub fn read(&mut self, place: u64, span: &Span, into: &mut [u8]) -> Result<(), Failed>
+    /// Reads a part of the blob of the render of this number at a place, which is of the length of `into`; its end on the disk is below
+    /// 2^62. The file may be unsettled. `Failed` only where the disk's count of faults rose. The disk is only read.
+    pub fn read(
+        &mut self,
+        number: u64,
+        place: u64,
+        span: &Span,
+        into: &mut [u8],
+    ) -> Result<(), Failed>
         requires size { length into.old ≡ span.now.length }
         requires end { self.old.start + place + span.now.start + span.now.length < 2 ^ 62 }
         requires sound { IsTrue (D.told self.old.disk) → IsSound self.old.journal (D.state self.old.disk) }
@@ -102,7 +108,7 @@ impl<D: Disk> CacheFile<D> {
             self.old.journal (D.state self.old.disk) (D.state self.new.disk) }
         ensures cause { HasCause (D.faults self.old.disk) (D.faults self.new.disk) result }
     {
-        blob_store::read_tile(&mut self.disk, self.start + place, span, into)
+        blob_store::read_tile(&mut self.disk, number, self.start + place, span, into)
     }
 
     /// Settles the journal, where it isn't settled. The records are as before.

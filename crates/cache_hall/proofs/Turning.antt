@@ -14,7 +14,7 @@ use Rattle.truncation_list.specs.Books.{AnswersForFronted}
 use Rattle.truncation_list.proofs.Answering.{fronted_itself}
 use Rattle.turnstile.specs.declared.view.Made.{Made}
 use Rattle.turnstile.specs.Passes.{Stays, Turned, Unturned, seen_by}
-use Rattle.cache_hall.specs.Turned.{Gains, GainsOne, HallPass, IsPassOf}
+use Rattle.cache_hall.specs.Turned.{GainsOne, GainsTurns, HallPass, IsPassOf}
 
 -- THE PASS
 
@@ -60,7 +60,7 @@ module _ {C : Type 0} (state : C → State) (faults : C → ℕ) where
         of = record { command = refl; reply = refl };
       }
 
-  pub no_turn : (as_before : C → C → Type 0) (c : Catalogue) (before after : HallPass) → Unturned the_charter the_sound the_book as_before before after → Gains c before after []
+  pub no_turn : (as_before : C → C → Type 0) (c : Catalogue) (before after : HallPass) → Unturned the_charter the_sound the_book as_before before after → GainsTurns c before after []
   no_turn as_before c before after t =
       let book : after.book ≡ the_book t.found = ap (λ (p : HallPass). p.book) t.is in
       record {

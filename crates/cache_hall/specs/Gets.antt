@@ -8,7 +8,7 @@ use Rattle.catalog.specs.declared.catalogue.Catalogue.{Catalogue}
 use Rattle.matrix_geometry.specs.declared.address.Address.{Address}
 use Rattle.truncation_list.specs.declared.book.FrontedBook.{FrontedBook}
 use Rattle.turnstile.specs.declared.view.Made.{Made}
-use Rattle.cache_hall.specs.Turned.{Gains, HallPass}
+use Rattle.cache_hall.specs.Turned.{GainsTurns, HallPass}
 
 -- THE TILE of a get by a pass that had seen this book, and what the pass made; its bytes are the encoded tile's, if the pass is told that
 -- the cabinet is sound
@@ -21,4 +21,4 @@ IsGot c told a seen gained result = IsGotIf c (told ≡ true) a seen gained resu
 
 -- THE WHOLE: what a get did to its pass, and came to
 abbrev pub Gets : Catalogue → Address → HallPass → HallPass → Result Tile GetFault → Type 0
-Gets c a before after result = GetsBy (Gains c) c (before.told ≡ true) a before.book before after result
+Gets c a before after result = GetsBy (GainsTurns c) c (before.told ≡ true) a before.book before after result

@@ -8,7 +8,7 @@ use Rattle.catalog.specs.declared.catalogue.Catalogue.{Catalogue}
 use Rattle.metatile_plan.specs.declared.metatile.MetaKey.{MetaKey}
 use Rattle.truncation_list.specs.declared.book.FrontedBook.{FrontedBook}
 use Rattle.turnstile.specs.declared.view.Made.{Made}
-use Rattle.cache_hall.specs.Turned.{Gains, HallPass}
+use Rattle.cache_hall.specs.Turned.{GainsTurns, HallPass}
 
 -- what a pass made for a refresh that came to this; the blob that is handed in is the metatile's, if the pass is told that the cabinet is
 -- sound
@@ -17,4 +17,4 @@ CameTo c told m force seen gained result = CameToIf c (told ≡ true) m force se
 
 -- THE WHOLE: what a refresh did to its pass, and came to
 abbrev pub Refreshes : Catalogue → MetaKey → Bool → HallPass → HallPass → Result Refreshed GetFault → Type 0
-Refreshes c m force before after result = RefreshesBy (Gains c) c (before.told ≡ true) m force before.book before after result
+Refreshes c m force before after result = RefreshesBy (GainsTurns c) c (before.told ≡ true) m force before.book before after result

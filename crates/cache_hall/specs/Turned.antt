@@ -19,10 +19,10 @@ pub record IsPassOf (table : TableId) (c : Catalogue) (pass : HallPass) : Type 0
   pub charter : pass.charter ≡ Some c
 
 -- what a call did to its pass: it made these turns
-pub record Gains (c : Catalogue) (before after : HallPass) (gained : List (Made Note)) : Type 0 where
+pub record GainsTurns (c : Catalogue) (before after : HallPass) (gained : List (Made Note)) : Type 0 where
   pub is : after ≡ seen_by before after.book gained
   pub turns : AreTurns c before.told before.book gained after.book
 
 -- a call made one turn, of this command and with this reply
 abbrev pub GainsOne : Catalogue → HallPass → HallPass → Command → Reply → Type 0
-GainsOne c before after does answer = GainsOneBy (Gains c) before after does answer
+GainsOne c before after does answer = GainsOneBy (GainsTurns c) before after does answer

@@ -28,7 +28,7 @@ pub struct Shared<'a, R: Wait, K: Keeper> {
 impl<'a, R: Wait, K: Keeper> Access for Shared<'a, R, K> {
     ghost use Rattle.std.specs.Prelude.{◌≡◌, true, ⊤};
     ghost use Rattle.cache_hall.specs.Gained.{gained_turns, gains_more, gains_none};
-    ghost use Rattle.cache_hall.specs.Turned.{Gains, IsPassOf};
+    ghost use Rattle.cache_hall.specs.Turned.{GainsTurns, IsPassOf};
 
     type Cache = Pass<CabinetChest<K>>;
 
@@ -46,7 +46,7 @@ impl<'a, R: Wait, K: Keeper> Access for Shared<'a, R, K> {
 
     ghost seen = { λ s p. p.book };
 
-    ghost gains = { λ s p q gained. Gains s.hall.now.catalogue p q gained };
+    ghost gains = { λ s p q gained. GainsTurns s.hall.now.catalogue p q gained };
 
     ghost lasts = { λ s p q. ⊤ };
 

@@ -1,6 +1,6 @@
 //! Single asks and forces at the cabinet of a hall.
 ghost use Rattle.std.specs.Prelude.{[], IfOk, OnErr};
-ghost use Rattle.cache_hall.specs.Turned.{Gains, GainsOne, IsPassOf};
+ghost use Rattle.cache_hall.specs.Turned.{GainsOne, GainsTurns, IsPassOf};
 ghost use Rattle.catalog.specs.LookUp.{IsTile};
 ghost use Rattle.raster_field.specs.Blocks.{IsMeta};
 ghost use Rattle.turnstile.specs.Passes.{Stays};
@@ -25,7 +25,7 @@ pub(crate) fn ask<R: Wait, K: Keeper>(
     requires of { IsPassOf hall.now.turnstile.table hall.now.catalogue pass.old }
     requires tile { IsTile hall.now.catalogue address.now }
     ensures done { IfOk result (λ asked. GainsOne hall.now.catalogue pass.old pass.new (Command.Ask address.now) (Reply.Asked asked)) }
-    ensures refused { OnErr result (Gains hall.now.catalogue pass.old pass.new []) }
+    ensures refused { OnErr result (GainsTurns hall.now.catalogue pass.old pass.new []) }
     ensures stays { Stays pass.old pass.new }
 {
     match hall.turnstile.turn(rt, alloc, pass, Command::Ask(*address)) {
@@ -46,7 +46,7 @@ pub(crate) fn force<R: Wait, K: Keeper>(
     requires of { IsPassOf hall.now.turnstile.table hall.now.catalogue pass.old }
     requires meta { IsMeta hall.now.catalogue meta.now }
     ensures done { IfOk result (λ forced. GainsOne hall.now.catalogue pass.old pass.new (Command.Force meta.now) (Reply.Forced forced)) }
-    ensures refused { OnErr result (Gains hall.now.catalogue pass.old pass.new []) }
+    ensures refused { OnErr result (GainsTurns hall.now.catalogue pass.old pass.new []) }
     ensures stays { Stays pass.old pass.new }
 {
     match hall.turnstile.turn(rt, alloc, pass, Command::Force(*meta)) {

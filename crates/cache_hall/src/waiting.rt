@@ -1,6 +1,6 @@
 //! How asks and forces wait while another render of their metatile runs.
 ghost use Rattle.cache_access.specs.Waits.{Waits, WaitsForced};
-ghost use Rattle.cache_hall.specs.Turned.{Gains, IsPassOf};
+ghost use Rattle.cache_hall.specs.Turned.{GainsTurns, IsPassOf};
 ghost use Rattle.catalog.specs.LookUp.{IsTile};
 ghost use Rattle.raster_field.specs.Blocks.{IsMeta};
 ghost use Rattle.turnstile.specs.Passes.{Stays};
@@ -26,7 +26,7 @@ pub(crate) fn ask_until<R: Wait, K: Keeper>(
 ) -> Result<Asked, AllocError>
     requires of { IsPassOf hall.now.turnstile.table hall.now.catalogue pass.old }
     requires tile { IsTile hall.now.catalogue address.now }
-    ensures waits { Waits (Gains hall.now.catalogue) address.now pass.old pass.new result }
+    ensures waits { Waits (GainsTurns hall.now.catalogue) address.now pass.old pass.new result }
     ensures stays { Stays pass.old pass.new }
 {
     'asking: for _ in rt.forever() {
@@ -53,7 +53,7 @@ pub(crate) fn force_until<R: Wait, K: Keeper>(
 ) -> Result<Forced, AllocError>
     requires of { IsPassOf hall.now.turnstile.table hall.now.catalogue pass.old }
     requires meta { IsMeta hall.now.catalogue meta.now }
-    ensures waits { WaitsForced (Gains hall.now.catalogue) meta.now pass.old pass.new result }
+    ensures waits { WaitsForced (GainsTurns hall.now.catalogue) meta.now pass.old pass.new result }
     ensures stays { Stays pass.old pass.new }
 {
     'forcing: for _ in rt.forever() {

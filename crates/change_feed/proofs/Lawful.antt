@@ -11,12 +11,12 @@ use Rattle.change_feed.specs.declared.mark.Mark.{Mark}
 use Rattle.change_feed.specs.Applies.{marked_cut}
 use Rattle.change_feed.specs.Files.{Stand}
 use Rattle.change_feed.specs.Marks.{last_of}
-use Rattle.change_feed.specs.Runs.{Event, IsCalled, IsCutIn, IsEither, MayBegin, Runs, Stores, called}
+use Rattle.change_feed.specs.Runs.{FeedAndCabinet, FeedEvent, IsCalled, IsCutIn, IsEither, MayBegin, Runs, called}
 use Rattle.change_feed.proofs.Running.{begins_next, called_answers, either_grows, next_number, runs_answer, runs_begin, runs_grow, runs_rise, runs_split}
 
 -- a run in which a change is answered as done
-module _ (s t : Stores) (before rest : List Event) (c : Change) (k : ℕ) (begins : MayBegin s) (runs : Runs s (before ++ (called c (applied.Done k) ∷ rest)) t) where
-  abbrev at : (m : Stores) × Runs s before m × Runs m (called c (applied.Done k) ∷ rest) t
+module _ (s t : FeedAndCabinet) (before rest : List FeedEvent) (c : Change) (k : ℕ) (begins : MayBegin s) (runs : Runs s (before ++ (called c (applied.Done k) ∷ rest)) t) where
+  abbrev at : (m : FeedAndCabinet) × Runs s before m × Runs m (called c (applied.Done k) ∷ rest) t
   at = runs_split s t before (called c (applied.Done k) ∷ rest) runs
 
   begins_at : MayBegin at.0
@@ -35,12 +35,12 @@ module _ (s t : Stores) (before rest : List Event) (c : Change) (k : ℕ) (begin
   none_undecided some = false≢true (subst (λ (x : Stand). IsSome x.undecided) at.2.1.row.stands some)
 
 -- and a further one is cut for behind it
-module _ (s t : Stores) (before between after : List Event) (c d : Change) (k : ℕ) (reply : Applied) (begins : MayBegin s)
+module _ (s t : FeedAndCabinet) (before between after : List FeedEvent) (c d : Change) (k : ℕ) (reply : Applied) (begins : MayBegin s)
     (runs : Runs s (before ++ (called c (applied.Done k) ∷ (between ++ (called d reply ∷ after)))) t) (cuts : IsSome (marked_cut reply)) where
-  abbrev rest : List Event
+  abbrev rest : List FeedEvent
   rest = between ++ (called d reply ∷ after)
 
-  abbrev first : Stores
+  abbrev first : FeedAndCabinet
   first = (at s t before rest c k begins runs).2.0
 
   first_begins : MayBegin first
@@ -49,7 +49,7 @@ module _ (s t : Stores) (before between after : List Event) (c d : Change) (k : 
   first_last : last_of first.stand.mark ≡ c.number
   first_last = last_then s t before rest c k begins runs
 
-  abbrev second : (m : Stores) × Runs first between m × Runs m (called d reply ∷ after) t
+  abbrev second : (m : FeedAndCabinet) × Runs first between m × Runs m (called d reply ∷ after) t
   second = runs_split first t between (called d reply ∷ after) (at s t before rest c k begins runs).2.2
 
   next : d.number ≡ last_of second.0.stand.mark + 1
@@ -65,7 +65,7 @@ module _ (s t : Stores) (before between after : List Event) (c d : Change) (k : 
   ]
 
 -- what was cut for is answered for
-pub cut_stands : (s t : Stores) (before after : List Event) (c : Change) (k : ℕ) (reply : Applied) → MayBegin s → Runs s (before ++ (called c reply ∷ after)) t → marked_cut reply ≡ Some k
+pub cut_stands : (s t : FeedAndCabinet) (before after : List FeedEvent) (c : Change) (k : ℕ) (reply : Applied) → MayBegin s → Runs s (before ++ (called c reply ∷ after)) t → marked_cut reply ≡ Some k
     → AnswersFor (now t.cabinet).book (record { number = k; cover = c.cover })
 cut_stands s t before after c k reply begins runs cuts =
     let at = runs_split s t before (called c reply ∷ after) runs in
@@ -74,7 +74,7 @@ cut_stands s t before after c k reply begins runs cuts =
     answers_for_cut (now t.cabinet).book (now m.cabinet).book (record { number = k; cover = c.cover }) (runs_answer m t after begun at.2.2) (called_answers at.0 m c reply k cuts at.2.1)
 
 -- where two are cut for of one number, the first call told a fault of the marks
-pub cut_again : (s t : Stores) (before between after : List Event) (c d : Change) (first reply : Applied) → MayBegin s → Runs s (before ++ (called c first ∷ (between ++ (called d reply ∷ after)))) t → IsSome (marked_cut first) → IsSome (marked_cut reply) → d.number ≤ c.number
+pub cut_again : (s t : FeedAndCabinet) (before between after : List FeedEvent) (c d : Change) (first reply : Applied) → MayBegin s → Runs s (before ++ (called c first ∷ (between ++ (called d reply ∷ after)))) t → IsSome (marked_cut first) → IsSome (marked_cut reply) → d.number ≤ c.number
     → (k : ℕ) × (first ≡ applied.FeedFault (Some k))
 cut_again s t before between after c d applied.Repeated reply begins runs cuts again same = absurd (false≢true cuts)
 cut_again s t before between after c d (applied.Gap n) reply begins runs cuts again same = absurd (false≢true cuts)

@@ -8,14 +8,14 @@ use Rattle.base.specs.Causes.{Rose}
 use Rattle.disk_model.specs.Content.{Content}
 use Rattle.change_feed.specs.declared.applied.Applied.{Applied}
 use Rattle.change_feed.specs.declared.applied.Applied.TheVariants as applied
-use Rattle.change_feed.specs.declared.applied.Judged.{Judged}
-use Rattle.change_feed.specs.declared.applied.Judged.TheVariants as judged
+use Rattle.change_feed.specs.declared.applied.JudgedChange.{JudgedChange}
+use Rattle.change_feed.specs.declared.applied.JudgedChange.TheVariants as judged
 use Rattle.change_feed.specs.declared.change.Change.{Change}
 use Rattle.change_feed.specs.declared.mark.Mark.{Mark}
 use Rattle.change_feed.specs.Files.{EndsIn, MayEndIn, Stand}
 use Rattle.change_feed.specs.Marks.{last_of}
 
-abbrev pub IsJudged : Option Mark → ℕ → Judged → Type 0
+abbrev pub IsJudged : Option Mark → ℕ → JudgedChange → Type 0
 IsJudged last number judged.Repeated = number ≤ last_of last
 IsJudged last number (judged.Gap k) = (last_of last + 1 < number) × (k ≡ last_of last)
 IsJudged last number judged.Next = number ≡ last_of last + 1

@@ -20,7 +20,7 @@ pub record Stand : Type 0 where
   pub undecided : Option Mark
 
 -- what contracts see of a feed
-pub record Shown (D : Type 0) : Type 0 where
+pub record ShownFeed (D : Type 0) : Type 0 where
   pub stand : Stand
   pub file : CacheFile D
 

@@ -14,21 +14,21 @@ use Rattle.change_feed.specs.Applies.{Applies, decided, marked_cut}
 use Rattle.change_feed.specs.Files.{IsBehind, Stand}
 
 -- a feed and a cabinet, as they stand
-pub record Stores : Type 0 where
+pub record FeedAndCabinet : Type 0 where
   pub stand : Stand
   pub cabinet : State
 
 -- what happens: a change is answered, or memory runs out in its call; the marks are opened from an image; the cabinet is opened from an
 -- image, or another of its commands is called
-pub data Event : Type 0 where
-  called : Change → Applied → Event
-  ran_out : Change → Event
-  marks_opened : Event
-  cabinet_opened : Event
-  commanded : Event
+pub data FeedEvent : Type 0 where
+  called : Change → Applied → FeedEvent
+  ran_out : Change → FeedEvent
+  marks_opened : FeedEvent
+  cabinet_opened : FeedEvent
+  commanded : FeedEvent
 
 -- a change was answered by its row, where its cover is of the cabinet's catalogue
-pub record IsCalled (s : Stores) (change : Change) (reply : Applied) (t : Stores) : Type 0 where
+pub record IsCalled (s : FeedAndCabinet) (change : Change) (reply : Applied) (t : FeedAndCabinet) : Type 0 where
   pub cover : IsCoverOf s.cabinet.catalogue change.cover
   -- how often the disks had failed, and had then
   pub faults : ℕ
@@ -42,30 +42,30 @@ abbrev pub IsEither : Stand → Option Mark → Type 0
 IsEither s found = (found ≡ s.mark) ⊎ (IsSome s.undecided × (found ≡ s.undecided))
 
 -- a known cabinet of the same catalogue, which answers for each truncation that was in force
-pub record GoesOn (s t : State) : Type 0 where
+pub record CabinetGoesOn (s t : State) : Type 0 where
   pub known : IsKnown t
   pub same_catalogue : t.catalogue ≡ s.catalogue
   pub answers : AnswersForBook (now t).book (now s).book
 
-abbrev pub IsEvent : Stores → Event → Stores → Type 0
+abbrev pub IsEvent : FeedAndCabinet → FeedEvent → FeedAndCabinet → Type 0
 IsEvent s (called change reply) t = IsCalled s change reply t
 IsEvent s (ran_out change) t = (t.stand ≡ decided s.stand) × (t.cabinet ≡ s.cabinet)
 IsEvent s marks_opened t = IsEither s.stand t.stand.mark × (t.stand.undecided ≡ None) × (t.cabinet ≡ s.cabinet)
-IsEvent s cabinet_opened t = (t.stand ≡ s.stand) × GoesOn s.cabinet t.cabinet
-IsEvent s commanded t = (t.stand ≡ s.stand) × GoesOn s.cabinet t.cabinet
+IsEvent s cabinet_opened t = (t.stand ≡ s.stand) × CabinetGoesOn s.cabinet t.cabinet
+IsEvent s commanded t = (t.stand ≡ s.stand) × CabinetGoesOn s.cabinet t.cabinet
 
 -- these events lead from the one to the other
-abbrev pub Runs : Stores → List Event → Stores → Type 0
+abbrev pub Runs : FeedAndCabinet → List FeedEvent → FeedAndCabinet → Type 0
 Runs s [] t = t ≡ s
-Runs s (event ∷ events) t = (next : Stores) × IsEvent s event next × Runs next events t
+Runs s (event ∷ events) t = (next : FeedAndCabinet) × IsEvent s event next × Runs next events t
 
 -- where a run may begin: what holds of each feed and of each cabinet
-pub record MayBegin (s : Stores) : Type 0 where
+pub record MayBegin (s : FeedAndCabinet) : Type 0 where
   pub behind : IsBehind s.stand.mark s.stand.undecided
   pub known : IsKnown s.cabinet
 
 -- the event cut for the change of this number
-abbrev pub CutsNumber : ℕ → Event → Type 0
+abbrev pub CutsNumber : ℕ → FeedEvent → Type 0
 CutsNumber n (called change reply) = (change.number ≡ n) × IsSome (marked_cut reply)
 CutsNumber n (ran_out change) = ⊥
 CutsNumber n marks_opened = ⊥
@@ -73,12 +73,12 @@ CutsNumber n cabinet_opened = ⊥
 CutsNumber n commanded = ⊥
 
 -- one of these events did
-abbrev pub IsCutIn : ℕ → List Event → Type 0
+abbrev pub IsCutIn : ℕ → List FeedEvent → Type 0
 IsCutIn n [] = ⊥
 IsCutIn n (event ∷ events) = CutsNumber n event ⊎ IsCutIn n events
 
 -- the event made this mark, for a change of this cover
-abbrev pub MakesMark : Mark → Cover → Event → Type 0
+abbrev pub MakesMark : Mark → Cover → FeedEvent → Type 0
 MakesMark m cover (called change reply) = (change.number ≡ m.number) × (change.cover ≡ cover) × (marked_cut reply ≡ Some m.cut)
 MakesMark m cover (ran_out change) = ⊥
 MakesMark m cover marks_opened = ⊥
@@ -86,6 +86,6 @@ MakesMark m cover cabinet_opened = ⊥
 MakesMark m cover commanded = ⊥
 
 -- one of these events did
-abbrev pub IsMadeIn : Mark → Cover → List Event → Type 0
+abbrev pub IsMadeIn : Mark → Cover → List FeedEvent → Type 0
 IsMadeIn m cover [] = ⊥
 IsMadeIn m cover (event ∷ events) = MakesMark m cover event ⊎ IsMadeIn m cover events

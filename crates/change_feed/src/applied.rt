@@ -2,7 +2,7 @@
 
 /// What a change comes to by its number.
 #[derive(Clone, Copy, PartialEq, Eq)]
-pub enum Judged {
+pub enum JudgedChange {
     /// It is at most the last one: it was made already.
     Repeated,
     /// It is above the last one, which has this number, by more than one: a change between them is missing.

@@ -9,7 +9,7 @@ ghost use Rattle.disk_model.specs.Images.{Every, Leaves};
 ghost use Rattle.gate_journal.specs.Sound.{digest_of};
 ghost use Rattle.served_covers.specs.OfCatalogue.{IsCoverOf};
 
-use crate::applied::{Applied, Judged};
+use crate::applied::{Applied, JudgedChange};
 use crate::change::Change;
 use crate::feed::Feed;
 use crate::mark::Mark;
@@ -132,9 +132,9 @@ impl<D: Disk> Feed<D> {
         ensures lasts { C.outlasts cabinet.old cabinet.new }
     {
         match self.judge(change.number) {
-            Judged::Repeated => Ok(Applied::Repeated),
-            Judged::Gap(last) => Ok(Applied::Gap(last)),
-            Judged::Next => self.apply_next(alloc, cabinet, change),
+            JudgedChange::Repeated => Ok(Applied::Repeated),
+            JudgedChange::Gap(last) => Ok(Applied::Gap(last)),
+            JudgedChange::Next => self.apply_next(alloc, cabinet, change),
         }
     }
 }

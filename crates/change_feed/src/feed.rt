@@ -16,9 +16,9 @@ pub struct Feed<D: Disk> {
 }
 
 impl<D: Disk> Model for Feed<D> {
-    ghost use Rattle.change_feed.specs.Files.{IsMarked, Shown};
+    ghost use Rattle.change_feed.specs.Files.{IsMarked, ShownFeed};
 
-    ghost Value = { Shown D };
+    ghost Value = { ShownFeed D };
 
     ghost view = { λ f. record { stand = record { mark = f.mark; undecided = f.undecided }; file = f.file } };
 

@@ -4,7 +4,7 @@ ghost use Rattle.cabinet.specs.State.{now};
 ghost use Rattle.change_feed.specs.Applies.{marked_cut};
 ghost use Rattle.change_feed.specs.Files.{EndsIn, IsMarksFile, MayEndIn, Stand};
 ghost use Rattle.change_feed.specs.Marks.{last_of};
-ghost use Rattle.change_feed.specs.Runs.{Event, IsCutIn, IsEither, IsMadeIn, MayBegin, Runs, Stores, called};
+ghost use Rattle.change_feed.specs.Runs.{FeedAndCabinet, FeedEvent, IsCutIn, IsEither, IsMadeIn, MayBegin, Runs, called};
 ghost use Rattle.change_feed.specs.declared.applied.Applied.TheVariants as applied;
 ghost use Rattle.change_feed.specs.declared.applied.Applied.{Applied};
 ghost use Rattle.change_feed.specs.declared.change.Change.{Change};
@@ -23,12 +23,12 @@ ghost use Rattle.truncation_list.specs.declared.cover.Cover.{Cover};
 /// run. Each mark that the feed then has, and that it hadn't at first, was made by a change of the run, whose cut is answered for so. Where
 /// a change is cut for twice, or one behind it of no greater number, its first call told a fault of the marks with the number of its cut.
 pub fn laws_of_feeds()
-    ensures once { (s t : Stores) (before between after : List Event) (c d : Change) (k : ℕ) (reply : Applied) → MayBegin s → Runs s (before ++ (called c (applied.Done k) ∷ (between ++ (called d reply ∷ after)))) t → IsSome (marked_cut reply) → c.number < d.number }
-    ensures kept { (s t : Stores) (before after : List Event) (c : Change) (k : ℕ) (found : Option Mark) → MayBegin s → Runs s (before ++ (called c (applied.Done k) ∷ after)) t → IsEither t.stand found → c.number ≤ last_of found }
-    ensures rises { (s t : Stores) (before between after : List Event) (c d : Change) (k i : ℕ) (reply : Applied) → MayBegin s → Runs s (before ++ (called c (applied.Done k) ∷ (between ++ (called d reply ∷ after)))) t → IsSome (marked_cut reply) → c.number < i → i < d.number → IsCutIn i between }
-    ensures stands { (s t : Stores) (before after : List Event) (c : Change) (k : ℕ) (reply : Applied) → MayBegin s → Runs s (before ++ (called c reply ∷ after)) t → marked_cut reply ≡ Some k → AnswersFor (now t.cabinet).book (record { number = k; cover = c.cover }) }
-    ensures made { (s t : Stores) (events : List Event) (m : Mark) → MayBegin s → Runs s events t → IsEither t.stand (Some m) → IsEither s.stand (Some m) ⊎ ((cover : Cover) × IsMadeIn m cover events × AnswersFor (now t.cabinet).book (record { number = m.cut; cover = cover })) }
-    ensures again { (s t : Stores) (before between after : List Event) (c d : Change) (first reply : Applied) → MayBegin s → Runs s (before ++ (called c first ∷ (between ++ (called d reply ∷ after)))) t → IsSome (marked_cut first) → IsSome (marked_cut reply) → d.number ≤ c.number → (k : ℕ) × (first ≡ applied.FeedFault (Some k)) }
+    ensures once { (s t : FeedAndCabinet) (before between after : List FeedEvent) (c d : Change) (k : ℕ) (reply : Applied) → MayBegin s → Runs s (before ++ (called c (applied.Done k) ∷ (between ++ (called d reply ∷ after)))) t → IsSome (marked_cut reply) → c.number < d.number }
+    ensures kept { (s t : FeedAndCabinet) (before after : List FeedEvent) (c : Change) (k : ℕ) (found : Option Mark) → MayBegin s → Runs s (before ++ (called c (applied.Done k) ∷ after)) t → IsEither t.stand found → c.number ≤ last_of found }
+    ensures rises { (s t : FeedAndCabinet) (before between after : List FeedEvent) (c d : Change) (k i : ℕ) (reply : Applied) → MayBegin s → Runs s (before ++ (called c (applied.Done k) ∷ (between ++ (called d reply ∷ after)))) t → IsSome (marked_cut reply) → c.number < i → i < d.number → IsCutIn i between }
+    ensures stands { (s t : FeedAndCabinet) (before after : List FeedEvent) (c : Change) (k : ℕ) (reply : Applied) → MayBegin s → Runs s (before ++ (called c reply ∷ after)) t → marked_cut reply ≡ Some k → AnswersFor (now t.cabinet).book (record { number = k; cover = c.cover }) }
+    ensures made { (s t : FeedAndCabinet) (events : List FeedEvent) (m : Mark) → MayBegin s → Runs s events t → IsEither t.stand (Some m) → IsEither s.stand (Some m) ⊎ ((cover : Cover) × IsMadeIn m cover events × AnswersFor (now t.cabinet).book (record { number = m.cut; cover = cover })) }
+    ensures again { (s t : FeedAndCabinet) (before between after : List FeedEvent) (c d : Change) (first reply : Applied) → MayBegin s → Runs s (before ++ (called c first ∷ (between ++ (called d reply ∷ after)))) t → IsSome (marked_cut first) → IsSome (marked_cut reply) → d.number ≤ c.number → (k : ℕ) × (first ≡ applied.FeedFault (Some k)) }
 {}
 
 /// What an image of the marks ends in, it ends in alone; so a feed that is opened from an image of another one has its last mark, or

@@ -21,7 +21,7 @@ mod opening;
 mod queries;
 mod reader;
 
-pub use applied::{Applied, Judged};
+pub use applied::{Applied, JudgedChange};
 pub use change::Change;
 pub use feed::Feed;
 pub use laws::{laws_of_feeds, laws_of_marks};

@@ -15,7 +15,7 @@ use cache_file::CacheFile;
 use disk_model::{Disk, Failed};
 
 /// Makes a file that ends in this mark ready for another one.
-fn readied<D: Disk>(file: &mut CacheFile<D>, mark: Option<Mark>) -> Result<(), Failed>
+fn make_ready<D: Disk>(file: &mut CacheFile<D>, mark: Option<Mark>) -> Result<(), Failed>
     requires slots { slots_of file.old.journal ≡ mark_slots }
     requires above { IsAboveZero mark }
     requires sound { IsTrue (D.told file.old.disk) → IsSound file.old.journal (D.state file.old.disk) }
@@ -34,7 +34,7 @@ fn readied<D: Disk>(file: &mut CacheFile<D>, mark: Option<Mark>) -> Result<(), F
 }
 
 /// Adds a mark to a file that is ready for one.
-fn recorded<D: Disk>(file: &mut CacheFile<D>, mark: Mark) -> Result<(), Failed>
+fn write_mark<D: Disk>(file: &mut CacheFile<D>, mark: Mark) -> Result<(), Failed>
     requires ready { IsReady file.old.journal }
     requires sound { IsTrue (D.told file.old.disk) → IsSound file.old.journal (D.state file.old.disk) }
     ensures told { D.told file.new.disk ≡ D.told file.old.disk }
@@ -60,7 +60,7 @@ impl<D: Disk> Feed<D> {
         ensures images { IsTrue (D.told self.old.file.disk) → Leaves (D.state self.old.file.disk) (D.state self.new.file.disk) (MayEndIn (digest_of self.old.file.journal) self.old.stand) }
         ensures cause { HasCause (D.faults self.old.file.disk) (D.faults self.new.file.disk) result }
     {
-        match readied(&mut self.file, self.mark) {
+        match make_ready(&mut self.file, self.mark) {
             Err(fault) => Err(fault),
             Ok(()) => {
                 self.undecided = None;
@@ -84,7 +84,7 @@ impl<D: Disk> Feed<D> {
         ensures done { IsTrue (D.told self.old.file.disk) → OnOk result (Every (D.state self.new.file.disk).may_leave (EndsIn (digest_of self.old.file.journal) (Some mark))) }
         ensures cause { HasCause (D.faults self.old.file.disk) (D.faults self.new.file.disk) result }
     {
-        match recorded(&mut self.file, mark) {
+        match write_mark(&mut self.file, mark) {
             Err(fault) => {
                 self.undecided = Some(mark);
                 Err(fault)

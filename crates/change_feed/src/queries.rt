@@ -7,7 +7,7 @@ ghost use Rattle.change_feed.specs.Marks.{last_of};
 ghost use Rattle.disk_model.specs.Images.{Every};
 ghost use Rattle.gate_journal.specs.Sound.{IsSettled, digest_of};
 
-use crate::applied::Judged;
+use crate::applied::JudgedChange;
 use crate::feed::Feed;
 use crate::reader::number_of;
 use disk_model::Disk;
@@ -31,17 +31,17 @@ impl<D: Disk> Feed<D> {
     }
 
     /// What a change of this number comes to: it was made already, a change before it wasn't, or it is the next.
-    pub fn judge(&self, number: u64) -> Judged
+    pub fn judge(&self, number: u64) -> JudgedChange
         ensures { IsJudged self.now.stand.mark number result }
     {
         let last = self.last();
         if number <= last {
-            return Judged::Repeated;
+            return JudgedChange::Repeated;
         }
         if number - last > 1 {
-            return Judged::Gap(last);
+            return JudgedChange::Gap(last);
         }
-        Judged::Next
+        JudgedChange::Next
     }
 
     /// How often the disk of its marks has failed.

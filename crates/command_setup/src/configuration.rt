@@ -52,7 +52,10 @@ pub fn source_number(alloc: Global, text: &[u8]) -> Result<u32, AllocError>
 }
 
 /// Reads the catalogue that a command works on.
-pub fn configured<I: ByteSource>(alloc: Global, input: &mut I) -> Result<Catalogue, Unconfigured>
+pub fn read_configuration<I: ByteSource>(
+    alloc: Global,
+    input: &mut I,
+) -> Result<Catalogue, Unconfigured>
     ensures configures { Configures (record { reads = record { before = I.faults input.old; after = I.faults input.new }; from = I.left input.old; to = I.left input.new }) result }
     ensures valid { IfOk result (λ c. IsValid c) }
 {

@@ -11,7 +11,7 @@ use std::alloc::Global;
 const CAPABILITIES_LIMIT: usize = 4_194_304;
 
 /// Reads the capabilities document, as it is.
-pub fn described<I: ByteSource>(alloc: Global, input: &mut I) -> Result<Words, InputEnd>
+pub fn read_description<I: ByteSource>(alloc: Global, input: &mut I) -> Result<Words, InputEnd>
     ensures { Describes (record { reads = record { before = I.faults input.old; after = I.faults input.new }; from = I.left input.old; to = I.left input.new }) result }
 {
     match read_all(alloc, input, CAPABILITIES_LIMIT) {

@@ -11,7 +11,7 @@ mod description;
 mod preparation;
 mod refusals;
 
-pub use configuration::{CATALOGUE_LIMIT, Unconfigured, configured, source_number};
-pub use description::described;
-pub use preparation::{both_read, prepared};
+pub use configuration::{CATALOGUE_LIMIT, Unconfigured, read_configuration, source_number};
+pub use description::read_description;
+pub use preparation::{both_read, prepare};
 pub use refusals::status_of_refusal;

@@ -6,16 +6,16 @@ ghost use Rattle.command_setup.specs.Setup.{AreRead, IsPrepared, IsRefused, refu
 ghost use Rattle.sessions.specs.Outside.{InputChange};
 ghost use Rattle.tile_service.specs.Session.{IsAtRest};
 
-use crate::configuration::{Unconfigured, configured};
-use crate::description::described;
+use crate::configuration::{Unconfigured, read_configuration};
+use crate::description::read_description;
 use base::Clock;
 use cabinet::Cabinet;
 use catalog::Catalogue;
 use exact_ratio::Words;
 use http_wire::{ByteSource, InputEnd};
 use std::alloc::{AllocError, Global};
+use tile_requests::Tables;
 use tile_service::Counter;
-use wmts_rest::RestTable;
 
 /// A cabinet in memory of a catalogue with a clock, beside the capabilities document.
 fn counter_of(
@@ -28,13 +28,13 @@ fn counter_of(
     ensures { IfOk result (λ c. (c.cabinet ≡ fresh_state catalogue clock) × (c.capabilities ≡ capabilities)) }
 {
     let cabinet = Cabinet::memory(alloc, catalogue, clock)?;
-    let Ok(rest) = RestTable::new(alloc) else {
+    let Ok(tables) = Tables::new(alloc) else {
         drop(cabinet);
         return Err(AllocError);
     };
     Ok(Counter {
         cabinet,
-        rest,
+        tables,
         capabilities,
     })
 }
@@ -66,18 +66,18 @@ pub fn both_read<I: ByteSource>(
         (capabilities.new ≡ capabilities.old) refusal) }
     ensures valid { IfOk result (λ both. IsValid both.0) }
 {
-    let catalogue = match configured(alloc, catalogue) {
+    let catalogue = match read_configuration(alloc, catalogue) {
         Ok(catalogue) => catalogue,
         Err(refusal) => return Err(refusal),
     };
-    match described(alloc, capabilities) {
+    match read_description(alloc, capabilities) {
         Ok(capabilities) => Ok((catalogue, capabilities)),
         Err(end) => Err(refusal_of(end)),
     }
 }
 
 /// A cabinet in memory of the catalogue that is read, with a clock, beside the capabilities document, which is read after it.
-pub fn prepared<I: ByteSource>(
+pub fn prepare<I: ByteSource>(
     alloc: Global,
     catalogue: &mut I,
     capabilities: &mut I,

@@ -18,7 +18,7 @@ use Rattle.tile_service.specs.Lines.{lines_of}
 use Rattle.sessions.specs.Outside.{InputChange}
 use Rattle.compose_words.specs.declared.end.ComposeEnd.{ComposeEnd}
 use Rattle.compose_words.specs.declared.end.ComposeEnd.TheVariants as end
-use Rattle.compose_words.specs.declared.lines.LinesEnd.TheVariants as lines_end
+use Rattle.compose_words.specs.declared.lines.CompositionLinesEnd.TheVariants as lines_end
 use Rattle.compose_words.specs.Complete.{HasText, IsComplete, IsComposition, IsInOrder, NothingFails}
 use Rattle.compose_words.specs.Ends.{ComposeChange, ComposeTells, HasRunText, InputEnds, IsNoRecipe, IsText, Stays, TextEnds, end_of_refusal, quiet, recipe_line, rest_of}
 use Rattle.compose_words.specs.Orders.{order_of}

@@ -5,7 +5,7 @@ use Rattle.std.specs.List.{AllByRecursion}
 use Rattle.std.proofs.lemmas.List.{length-append, map-append}
 use Rattle.cabinet.specs.State.{IsSound, State}
 use Rattle.catalog.specs.declared.catalogue.Catalogue.{Catalogue}
-use Rattle.composite_layers.specs.Parts.{Moment, moment}
+use Rattle.composite_layers.specs.Parts.{CompositionMoment, moment}
 use Rattle.http_wire.proofs.TakesOn.{rose_before}
 use Rattle.layer_recipes.specs.declared.recipe.Part.{Part}
 use Rattle.tile_requests.specs.Sent.{AppendsFront}
@@ -13,16 +13,16 @@ use Rattle.tile_requests.proofs.Known.{appends_more, appends_nothing}
 use Rattle.tile_service.specs.Lines.{lines_of}
 use Rattle.sessions.specs.Outside.{counts}
 use Rattle.tile_service.specs.Session.{IsAtRest}
-use Rattle.compose_words.specs.declared.line.LineEnd.TheVariants as line_end
-use Rattle.compose_words.specs.declared.lines.LinesEnd.TheVariants as lines_end
-use Rattle.compose_words.specs.declared.orders.Order.{Order}
-use Rattle.compose_words.specs.declared.orders.Order.TheVariants as order
-use Rattle.compose_words.specs.declared.reply.Reply.{Reply}
-use Rattle.compose_words.specs.declared.reply.Reply.TheVariants as reply
+use Rattle.compose_words.specs.declared.line.CompositionLineEnd.TheVariants as line_end
+use Rattle.compose_words.specs.declared.lines.CompositionLinesEnd.TheVariants as lines_end
+use Rattle.compose_words.specs.declared.orders.CompositionOrder.{CompositionOrder}
+use Rattle.compose_words.specs.declared.orders.CompositionOrder.TheVariants as order
+use Rattle.compose_words.specs.declared.reply.CompositionReply.{CompositionReply}
+use Rattle.compose_words.specs.declared.reply.CompositionReply.TheVariants as reply
 use Rattle.compose_words.specs.Ends.{HasRunLines, Outer}
-use Rattle.compose_words.specs.OneLine.{GoesOn, RunsLine}
+use Rattle.compose_words.specs.OneLine.{MomentGoesOn, RunsLine}
 use Rattle.compose_words.specs.Orders.{order_of}
-use Rattle.compose_words.specs.Run.{Answers, AreOrders, Follow, IsPictured, IsPicturedAs, Step, answers_from, answers_of}
+use Rattle.compose_words.specs.Run.{Answers, AreOrders, CompositionStep, Follow, IsPictured, IsPicturedAs, answers_from, answers_of}
 use Rattle.compose_words.specs.Texts.{answer_text}
 use Rattle.compose_words.specs.Written.{OutputChange}
 use Rattle.compose_words.proofs.Leaving.{goes_then}
@@ -30,30 +30,30 @@ use Rattle.compose_words.proofs.Newness.{newer_all}
 
 -- ONE STEP MORE
 
-abbrev step_of : Order → Reply → Moment → Step
+abbrev step_of : CompositionOrder → CompositionReply → CompositionMoment → CompositionStep
 step_of o r n = record { order = o; reply = r; after = n }
 
-follow_more : (told : Option ℕ) (parts : List Part) (s m n : Moment) (steps : List Step) (o : Order) (r : Reply) → Follow told parts s steps m → Answers told parts m o r n → Follow told parts s (steps ++ step_of o r n ∷ []) n
-follow_more told parts s m n [] o r f row = subst (λ (x : Moment). Answers told parts x o r n × (n ≡ n)) f (row, refl)
+follow_more : (told : Option ℕ) (parts : List Part) (s m n : CompositionMoment) (steps : List CompositionStep) (o : CompositionOrder) (r : CompositionReply) → Follow told parts s steps m → Answers told parts m o r n → Follow told parts s (steps ++ step_of o r n ∷ []) n
+follow_more told parts s m n [] o r f row = subst (λ (x : CompositionMoment). Answers told parts x o r n × (n ≡ n)) f (row, refl)
 follow_more told parts s m n (step ∷ steps) o r f row = (f.0, follow_more told parts step.after m n steps o r f.1 row)
 
-abbrev order_in : Step → Option Order
+abbrev order_in : CompositionStep → Option CompositionOrder
 order_in step = Some step.order
 
-orders_more : (c : Catalogue) (grid : ℕ) (lines : List (List ℕ)) (steps : List Step) (line : List ℕ) (step : Step) → AreOrders c grid lines steps → order_of c grid line ≡ Some step.order → AreOrders c grid (lines ++ line ∷ []) (steps ++ step ∷ [])
+orders_more : (c : Catalogue) (grid : ℕ) (lines : List (List ℕ)) (steps : List CompositionStep) (line : List ℕ) (step : CompositionStep) → AreOrders c grid lines steps → order_of c grid line ≡ Some step.order → AreOrders c grid (lines ++ line ∷ []) (steps ++ step ∷ [])
 orders_more c grid lines steps line step orders reads =
     map-append (order_of c grid) lines (line ∷ [])
-    ∙ ap (λ (xs : List (Option Order)). xs ++ order_of c grid line ∷ []) orders
-    ∙ ap (λ (x : Option Order). map order_in steps ++ x ∷ []) reads
+    ∙ ap (λ (xs : List (Option CompositionOrder)). xs ++ order_of c grid line ∷ []) orders
+    ∙ ap (λ (x : Option CompositionOrder). map order_in steps ++ x ∷ []) reads
     ∙ sym (map-append order_in steps (step ∷ []))
 
-answers_last : (n k : ℕ) (steps : List Step) (step : Step) → k ≡ n + length steps → answers_from n (steps ++ step ∷ []) ≡ answers_from n steps ++ answer_text k step.reply
+answers_last : (n k : ℕ) (steps : List CompositionStep) (step : CompositionStep) → k ≡ n + length steps → answers_from n (steps ++ step ∷ []) ≡ answers_from n steps ++ answer_text k step.reply
 answers_last n k [] step is = append-nil (answer_text n step.reply) ∙ ap (λ (j : ℕ). answer_text j step.reply) (omega (arith, is))
 answers_last n k (first ∷ steps) step is =
     ap (λ (xs : List ℕ). answer_text n first.reply ++ xs) (answers_last (n + 1) k steps step (omega (arith, is)))
     ∙ sym (append_assoc (answer_text n first.reply) (answers_from (n + 1) steps) (answer_text k step.reply))
 
-answers_more : (a b d : Option (List ℕ)) (steps : List Step) (step : Step) → Appends a b (answers_of steps) → Appends b d (answer_text (length steps + 2) step.reply) → Appends a d (answers_of (steps ++ step ∷ []))
+answers_more : (a b d : Option (List ℕ)) (steps : List CompositionStep) (step : CompositionStep) → Appends a b (answers_of steps) → Appends b d (answer_text (length steps + 2) step.reply) → Appends a d (answers_of (steps ++ step ∷ []))
 answers_more a b d steps step written more =
     subst (Appends a d) (sym (answers_last 2 (length steps + 2) steps step (omega arith)))
     (appends_more a b d (answers_of steps) (answer_text (length steps + 2) step.reply) written more)
@@ -63,7 +63,7 @@ all_more P [] x all p = (p, tt)
 all_more P (y ∷ ys) x all p = (all.0, all_more P ys x all.1 p)
 
 -- a tile of a sound cabinet is pictured
-pictured_one : (told : Option ℕ) (parts : List Part) (m : Moment) (o : Order) (r : Reply) (n : Moment) → Answers told parts m o r n → told ≡ Some m.cabinet.catalogue.source → IsSound m.cabinet → IsPicturedAs m.cabinet.catalogue parts o r
+pictured_one : (told : Option ℕ) (parts : List Part) (m : CompositionMoment) (o : CompositionOrder) (r : CompositionReply) (n : CompositionMoment) → Answers told parts m o r n → told ≡ Some m.cabinet.catalogue.source → IsSound m.cabinet → IsPicturedAs m.cabinet.catalogue parts o r
 pictured_one told parts m (order.Get place) (reply.Tile tile) n row tells sound = row.truth tells sound
 pictured_one told parts m (order.Get place) reply.Fault n row tells sound = tt
 pictured_one told parts m (order.Get place) reply.Spent n row tells sound = tt
@@ -74,9 +74,9 @@ pictured_one told parts m (order.Truncate cover) r n row tells sound = tt
 -- HOW FAR
 
 -- since the start, of a sound cabinet s in which no render ran, so many lines of the input are done, and the rest is not
-pub record SoFar (told : Option ℕ) (grid : ℕ) (parts : List Part) (taken taken_now : Option (List ℕ)) (lines : List (List ℕ)) (s m : Moment) (number : ℕ) (rest : List ℕ) : Type 0 where
+pub record SoFar (told : Option ℕ) (grid : ℕ) (parts : List Part) (taken taken_now : Option (List ℕ)) (lines : List (List ℕ)) (s m : CompositionMoment) (number : ℕ) (rest : List ℕ) : Type 0 where
   pub before : List (List ℕ)
-  pub steps : List Step
+  pub steps : List CompositionStep
   pub split : lines ≡ before ++ lines_of rest
   pub counted : number ≡ length before + 1
   pub as_many : length steps ≡ length before
@@ -85,10 +85,10 @@ pub record SoFar (told : Option ℕ) (grid : ℕ) (parts : List Part) (taken tak
   pub written : Appends taken taken_now (answers_of steps)
   pub pictured : told ≡ Some s.cabinet.catalogue.source → AllByRecursion (IsPictured s.cabinet.catalogue parts) steps
   pub no_disk : AllByRecursion (λ step. step.after.disk ≡ 0) steps
-  pub goes : GoesOn told s m
+  pub goes : MomentGoesOn told s m
   pub sound : told ≡ Some s.cabinet.catalogue.source → IsSound m.cabinet
 
-pub far_start : (told : Option ℕ) (grid : ℕ) (parts : List Part) (taken : Option (List ℕ)) (text : List ℕ) (s : Moment) → IsAtRest s.cabinet → IsSound s.cabinet → SoFar told grid parts taken taken (lines_of text) s s 1 text
+pub far_start : (told : Option ℕ) (grid : ℕ) (parts : List Part) (taken : Option (List ℕ)) (text : List ℕ) (s : CompositionMoment) → IsAtRest s.cabinet → IsSound s.cabinet → SoFar told grid parts taken taken (lines_of text) s s 1 text
 far_start told grid parts taken text s rest sound = record {
   before = [];
   steps = [];
@@ -109,7 +109,7 @@ no_rest [] e = refl
 no_rest (b ∷ bs) e = absurd (omega arith)
 
 -- no line is left
-pub far_done : (x : Outer) (grid : ℕ) (parts : List Part) (lines : List (List ℕ)) (s : State) (m : Moment) (number : ℕ) (rest : List ℕ) → SoFar x.told grid parts x.output.from x.output.to lines (moment s x.renders.before 0) m number rest → m.renders ≡ x.renders.after → length rest ≡ 0
+pub far_done : (x : Outer) (grid : ℕ) (parts : List Part) (lines : List (List ℕ)) (s : State) (m : CompositionMoment) (number : ℕ) (rest : List ℕ) → SoFar x.told grid parts x.output.from x.output.to lines (moment s x.renders.before 0) m number rest → m.renders ≡ x.renders.after → length rest ≡ 0
     → HasRunLines x s grid parts lines lines_end.Done
 far_done x grid parts lines s m number rest f last none =
     let all : lines ≡ f.before = f.split ∙ ap (λ (xs : List (List ℕ)). f.before ++ xs) (no_rest rest none) ∙ append-nil f.before in
@@ -124,9 +124,9 @@ far_done x grid parts lines s m number rest f last none =
       no_disk = f.no_disk;
     }
 
-module _ (told : Option ℕ) (grid : ℕ) (parts : List Part) (taken taken_mid taken_now : Option (List ℕ)) (faults mid_faults now_faults : ℕ) (lines : List (List ℕ)) (line rest next : List ℕ) (first : State) (renders : ℕ) (m n : Moment) (number : ℕ) (Stays : Type 0)
-    (f : SoFar told grid parts taken taken_mid lines (moment first renders 0) m number rest) (split : lines_of rest ≡ line ∷ lines_of next) (goes : GoesOn told m n) (none : n.disk ≡ 0) where
-  abbrev s : Moment
+module _ (told : Option ℕ) (grid : ℕ) (parts : List Part) (taken taken_mid taken_now : Option (List ℕ)) (faults mid_faults now_faults : ℕ) (lines : List (List ℕ)) (line rest next : List ℕ) (first : State) (renders : ℕ) (m n : CompositionMoment) (number : ℕ) (Stays : Type 0)
+    (f : SoFar told grid parts taken taken_mid lines (moment first renders 0) m number rest) (split : lines_of rest ≡ line ∷ lines_of next) (goes : MomentGoesOn told m n) (none : n.disk ≡ 0) where
+  abbrev s : CompositionMoment
   s = moment first renders 0
 
   abbrev o_line : OutputChange
@@ -139,13 +139,13 @@ module _ (told : Option ℕ) (grid : ℕ) (parts : List Part) (taken taken_mid t
   split_here = f.split ∙ ap (λ (xs : List (List ℕ)). f.before ++ xs) split
 
   -- the same order, of the catalogue of the start
-  reads_first : (o : Option Order) → order_of m.cabinet.catalogue grid line ≡ o → order_of first.catalogue grid line ≡ o
+  reads_first : (o : Option CompositionOrder) → order_of m.cabinet.catalogue grid line ≡ o → order_of first.catalogue grid line ≡ o
   reads_first o reads = subst (λ (c : Catalogue). order_of c grid line ≡ o) f.goes.same_catalogue reads
 
   tells_here : told ≡ Some first.catalogue.source → told ≡ Some m.cabinet.catalogue.source
   tells_here tells = tells ∙ sym (ap (λ (c : Catalogue). Some c.source) f.goes.same_catalogue)
 
-  module _ (o : Order) (r : Reply) (reads : order_of m.cabinet.catalogue grid line ≡ Some o) (row : Answers told parts m o r n) where
+  module _ (o : CompositionOrder) (r : CompositionReply) (reads : order_of m.cabinet.catalogue grid line ≡ Some o) (row : Answers told parts m o r n) where
     step_orders : AreOrders first.catalogue grid (f.before ++ line ∷ []) (f.steps ++ step_of o r n ∷ [])
     step_orders = orders_more first.catalogue grid f.before f.steps line (step_of o r n) f.orders (reads_first (Some o) reads)
 
@@ -186,7 +186,7 @@ module _ (told : Option ℕ) (grid : ℕ) (parts : List Part) (taken taken_mid t
   far_cut later ran =
       let o = ran.0 in
       let r = ran.2.0 in
-      let made : Step = step_of o r n in
+      let made : CompositionStep = step_of o r n in
       record {
         steps = f.steps ++ made ∷ [];
         last = n;

@@ -4,7 +4,7 @@ use Rattle.std.specs.Prelude.{IfErr, IfOk, OnErr}
 use Rattle.cabinet.proofs.Rows.{now_more}
 use Rattle.cabinet.proofs.Sounds.{cuts_sound}
 use Rattle.cabinet.specs.Commands.{Cuts}
-use Rattle.cabinet.specs.declared.entry.Entry.TheVariants as entry
+use Rattle.cabinet.specs.declared.entry.HistoryEntry.TheVariants as entry
 use Rattle.cabinet.specs.declared.replies.CutReply.{CutReply}
 use Rattle.cabinet.specs.declared.replies.CutReply.TheVariants as cut
 use Rattle.cabinet.specs.Hits.{hits_of}
@@ -15,25 +15,25 @@ use Rattle.cache_core.specs.declared.outcome.TileOutcome.TheVariants as core
 use Rattle.catalog.specs.declared.catalogue.Catalogue.{Catalogue}
 use Rattle.base.specs.Causes.{Rose}
 use Rattle.composite_layers.specs.Composes.{Composes, HasStopped, Stops, fault_of}
-use Rattle.composite_layers.specs.Parts.{AreGot, IsGot, Moment, moment, numbers_of, place_of}
+use Rattle.composite_layers.specs.Parts.{AreGot, CompositionMoment, IsPartGot, moment, numbers_of, place_of}
 use Rattle.http_wire.proofs.TakesOn.{rose_before}
 use Rattle.layer_recipes.specs.declared.composed.Composed.{Composed}
 use Rattle.layer_recipes.specs.declared.composed.ComposeFault.{ComposeFault}
 use Rattle.layer_recipes.specs.declared.composed.ComposeFault.TheVariants as fault
-use Rattle.layer_recipes.specs.declared.place.Place.{Place}
+use Rattle.layer_recipes.specs.declared.place.TilePlace.{TilePlace}
 use Rattle.layer_recipes.specs.declared.recipe.Part.{Part}
 use Rattle.matrix_geometry.specs.declared.address.Address.{Address}
 use Rattle.metatile_locks.specs.Running.{overtaken}
 use Rattle.tile_service.specs.Session.{IsAtRest}
 use Rattle.truncation_list.specs.declared.cover.Cover.{Cover}
-use Rattle.compose_words.specs.OneLine.{GoesOn}
+use Rattle.compose_words.specs.OneLine.{MomentGoesOn}
 
 -- CHAINS
 
-goes_nowhere : (told : Option ℕ) (m : Moment) → IsAtRest m.cabinet → GoesOn told m m
+goes_nowhere : (told : Option ℕ) (m : CompositionMoment) → IsAtRest m.cabinet → MomentGoesOn told m m
 goes_nowhere told m rest = record { later = omega arith; same_catalogue = refl; rests = rest; sound = λ tells sound. sound }
 
-pub goes_then : (told : Option ℕ) (m k n : Moment) → GoesOn told m k → GoesOn told k n → GoesOn told m n
+pub goes_then : (told : Option ℕ) (m k n : CompositionMoment) → MomentGoesOn told m k → MomentGoesOn told k n → MomentGoesOn told m n
 goes_then told m k n f g = record {
   later = let a = f.later in let b = g.later in omega (arith, a, b);
   same_catalogue = g.same_catalogue ∙ f.same_catalogue;
@@ -43,68 +43,68 @@ goes_then told m k n f g = record {
 
 -- A COMPOSITE
 
-got_goes : (told : Option ℕ) (m n : Moment) (a : Address) (ended : TileOutcome) → IsGot told m a ended n → GoesOn told m n
+got_goes : (told : Option ℕ) (m n : CompositionMoment) (a : Address) (ended : TileOutcome) → IsPartGot told m a ended n → MomentGoesOn told m n
 got_goes told m n a ended got = record { later = got.later; same_catalogue = got.catalogue; rests = got.rests; sound = got.sound }
 
-are_got_goes : (told : Option ℕ) (place : Place) (m : Moment) (ps : List Part) (tiles : List Tile) (n : Moment) → AreGot told place m ps tiles n → IsAtRest m.cabinet → GoesOn told m n
-are_got_goes told place m [] [] n got rest = subst (λ (x : Moment). GoesOn told m x) (sym got) (goes_nowhere told m rest)
+are_got_goes : (told : Option ℕ) (place : TilePlace) (m : CompositionMoment) (ps : List Part) (tiles : List Tile) (n : CompositionMoment) → AreGot told place m ps tiles n → IsAtRest m.cabinet → MomentGoesOn told m n
+are_got_goes told place m [] [] n got rest = subst (λ (x : CompositionMoment). MomentGoesOn told m x) (sym got) (goes_nowhere told m rest)
 are_got_goes told place m [] (t ∷ ts) n got rest = absurd got
 are_got_goes told place m (p ∷ ps) [] n got rest = absurd got
 are_got_goes told place m (p ∷ ps) (t ∷ ts) n got rest = goes_then told m got.0 n (got_goes told m got.0 _ (core.Tile t) got.1) (are_got_goes told place got.0 ps ts n got.2 got.1.rests)
 
-stops_goes : (told : Option ℕ) (place : Place) (m : Moment) (part : Part) (stop : ComposeFault) (n : Moment) → Stops told place m part stop n → GoesOn told m n
+stops_goes : (told : Option ℕ) (place : TilePlace) (m : CompositionMoment) (part : Part) (stop : ComposeFault) (n : CompositionMoment) → Stops told place m part stop n → MomentGoesOn told m n
 stops_goes told place m part stop n (inl s) = got_goes told m n _ s.0 s.1
 stops_goes told place m part stop n (inr s) = got_goes told m n _ (core.Tile s.0) s.1
 
-stopped_goes : (told : Option ℕ) (place : Place) (m : Moment) (ps : List Part) (stop : ComposeFault) (n : Moment) → HasStopped told place m ps stop n → IsAtRest m.cabinet → GoesOn told m n
+stopped_goes : (told : Option ℕ) (place : TilePlace) (m : CompositionMoment) (ps : List Part) (stop : ComposeFault) (n : CompositionMoment) → HasStopped told place m ps stop n → IsAtRest m.cabinet → MomentGoesOn told m n
 stopped_goes told place m ps stop n h rest = goes_then told m h.mid n (are_got_goes told place m h.above h.tiles h.mid h.got rest) (stops_goes told place h.mid h.part stop n h.stops)
 
-pub composes_goes : (told : Option ℕ) (place : Place) (m : Moment) (ps : List Part) (r : Result Composed ComposeFault) (n : Moment) → Composes told place m ps r n → IsAtRest m.cabinet → GoesOn told m n
+pub composes_goes : (told : Option ℕ) (place : TilePlace) (m : CompositionMoment) (ps : List Part) (r : Result Composed ComposeFault) (n : CompositionMoment) → Composes told place m ps r n → IsAtRest m.cabinet → MomentGoesOn told m n
 composes_goes told place m ps (Ok composed) n h rest = are_got_goes told place m ps h.tiles n h.got rest
 composes_goes told place m ps (Err stop) n (inl h) rest = stopped_goes told place m ps stop n h rest
-composes_goes told place m ps (Err stop) n (inr h) rest = subst (λ (x : Moment). GoesOn told m x) (sym h.1) (goes_nowhere told m rest)
+composes_goes told place m ps (Err stop) n (inr h) rest = subst (λ (x : CompositionMoment). MomentGoesOn told m x) (sym h.1) (goes_nowhere told m rest)
 
 -- A FAULT OF THE SOURCE
 
-outcome_rose : (m n : Moment) (ended : TileOutcome) → fault_of ended ≡ Some fault.SourceFault → (ended ≡ core.SourceFailed → Rose m.renders n.renders) → Rose m.renders n.renders
+outcome_rose : (m n : CompositionMoment) (ended : TileOutcome) → fault_of ended ≡ Some fault.SourceFault → (ended ≡ core.SourceFailed → Rose m.renders n.renders) → Rose m.renders n.renders
 outcome_rose m n (core.Tile t) is failed = absurd (cc)
 outcome_rose m n core.SourceFailed is failed = failed refl
 outcome_rose m n core.Spent is failed = absurd (cc)
 outcome_rose m n core.NoMemory is failed = absurd (cc)
 
-stops_rose : (told : Option ℕ) (place : Place) (m : Moment) (part : Part) (n : Moment) → Stops told place m part fault.SourceFault n → Rose m.renders n.renders
+stops_rose : (told : Option ℕ) (place : TilePlace) (m : CompositionMoment) (part : Part) (n : CompositionMoment) → Stops told place m part fault.SourceFault n → Rose m.renders n.renders
 stops_rose told place m part n (inl s) = outcome_rose m n s.0 s.2 s.1.failed
 stops_rose told place m part n (inr s) = absurd (let e = s.2 in cc)
 
-stopped_rose : (told : Option ℕ) (place : Place) (m : Moment) (ps : List Part) (n : Moment) → HasStopped told place m ps fault.SourceFault n → IsAtRest m.cabinet → Rose m.renders n.renders
+stopped_rose : (told : Option ℕ) (place : TilePlace) (m : CompositionMoment) (ps : List Part) (n : CompositionMoment) → HasStopped told place m ps fault.SourceFault n → IsAtRest m.cabinet → Rose m.renders n.renders
 stopped_rose told place m ps n h rest =
     rose_before (2 ^ 64 - 1) m.renders h.mid.renders n.renders (are_got_goes told place m h.above h.tiles h.mid h.got rest).later (stops_rose told place h.mid h.part n h.stops)
 
 -- NUMBERS
 
 -- a tile has a number for each part
-got_count : (told : Option ℕ) (place : Place) (m : Moment) (ps : List Part) (tiles : List Tile) (n : Moment) → AreGot told place m ps tiles n → length (numbers_of tiles) ≡ length ps
+got_count : (told : Option ℕ) (place : TilePlace) (m : CompositionMoment) (ps : List Part) (tiles : List Tile) (n : CompositionMoment) → AreGot told place m ps tiles n → length (numbers_of tiles) ≡ length ps
 got_count told place m [] [] n got = refl
 got_count told place m [] (t ∷ ts) n got = absurd got
 got_count told place m (p ∷ ps) [] n got = absurd got
 got_count told place m (p ∷ ps) (t ∷ ts) n got = ap suc (got_count told place got.0 ps ts n got.2)
 
-pub composes_few : (told : Option ℕ) (place : Place) (m : Moment) (ps : List Part) (r : Result Composed ComposeFault) (n : Moment) → Composes told place m ps r n → length ps ≤ 8 → IfOk r (λ composed. length composed.numbers.items ≤ 8)
+pub composes_few : (told : Option ℕ) (place : TilePlace) (m : CompositionMoment) (ps : List Part) (r : Result Composed ComposeFault) (n : CompositionMoment) → Composes told place m ps r n → length ps ≤ 8 → IfOk r (λ composed. length composed.numbers.items ≤ 8)
 composes_few told place m ps (Ok composed) n h few = let count = ap length h.numbered ∙ got_count told place m ps h.tiles n h.got in omega (arith, count, few)
 composes_few told place m ps (Err stop) n h few = tt
 
-pub composes_rose : (told : Option ℕ) (place : Place) (m : Moment) (ps : List Part) (r : Result Composed ComposeFault) (n : Moment) → Composes told place m ps r n → IsAtRest m.cabinet → IfErr r (λ e. e ≡ fault.SourceFault → Rose m.renders n.renders)
+pub composes_rose : (told : Option ℕ) (place : TilePlace) (m : CompositionMoment) (ps : List Part) (r : Result Composed ComposeFault) (n : CompositionMoment) → Composes told place m ps r n → IsAtRest m.cabinet → IfErr r (λ e. e ≡ fault.SourceFault → Rose m.renders n.renders)
 composes_rose told place m ps (Ok composed) n h rest = tt
 composes_rose told place m ps (Err stop) n (inl h) rest = λ is. stopped_rose told place m ps n (subst (λ (s : ComposeFault). HasStopped told place m ps s n) is h) rest
 composes_rose told place m ps (Err stop) n (inr h) rest = λ is. absurd (let e = h.0 in cc)
 
 -- a fault of the source is that of a part
-pub source_stopped : (told : Option ℕ) (place : Place) (m : Moment) (ps : List Part) (stop : ComposeFault) (n : Moment) → stop ≡ fault.SourceFault → Composes told place m ps (Err stop) n → HasStopped told place m ps fault.SourceFault n
+pub source_stopped : (told : Option ℕ) (place : TilePlace) (m : CompositionMoment) (ps : List Part) (stop : ComposeFault) (n : CompositionMoment) → stop ≡ fault.SourceFault → Composes told place m ps (Err stop) n → HasStopped told place m ps fault.SourceFault n
 source_stopped told place m ps stop n is (inl h) = subst (λ (s : ComposeFault). HasStopped told place m ps s n) is h
 source_stopped told place m ps stop n is (inr h) = absurd (let e = h.0 in cc)
 
 -- a place by its numbers
-pub place_same : (place : Place) (grid : ℕ) → place.grid ≡ grid → place_of grid place.z place.row place.col ≡ place
+pub place_same : (place : TilePlace) (grid : ℕ) → place.grid ≡ grid → place_of grid place.z place.row place.col ≡ place
 place_same place grid is = ap (λ (g : ℕ). place_of g place.z place.row place.col) (sym is)
 
 -- A TRUNCATION
@@ -129,7 +129,7 @@ cut_keeps : {E : Type 0} (s t : State) (cover : Cover) (r : Result CutReply E) �
 cut_keeps s t cover (Ok reply) row none rest = row_keeps s t cover reply row rest
 cut_keeps s t cover (Err e) row none rest = keeps_same s t none rest
 
-pub cut_goes : {E : Type 0} (s t : State) (cover : Cover) (r : Result CutReply E) → IfOk r (λ x. Cuts s cover x t) → OnErr r (t ≡ s) → IsAtRest s → (told : Option ℕ) (renders : ℕ) → GoesOn told (moment s renders 0) (moment t renders 0)
+pub cut_goes : {E : Type 0} (s t : State) (cover : Cover) (r : Result CutReply E) → IfOk r (λ x. Cuts s cover x t) → OnErr r (t ≡ s) → IsAtRest s → (told : Option ℕ) (renders : ℕ) → MomentGoesOn told (moment s renders 0) (moment t renders 0)
 cut_goes s t cover r row none rest told renders =
     let keeps = cut_keeps s t cover r row none rest in
     record { later = omega arith; same_catalogue = keeps.same_catalogue; rests = keeps.rests; sound = λ tells sound. cuts_sound s t cover r row none sound }

@@ -8,7 +8,7 @@ use Rattle.layer_recipes.specs.Recipes.{recipe_of}
 use Rattle.schedule_text.specs.declared.line.TheConstants.{LINE_LIMIT}
 use Rattle.compose_words.specs.declared.end.ComposeEnd.{ComposeEnd}
 use Rattle.compose_words.specs.declared.end.ComposeEnd.TheVariants as end
-use Rattle.compose_words.specs.declared.lines.LinesEnd.TheVariants as lines_end
+use Rattle.compose_words.specs.declared.lines.CompositionLinesEnd.TheVariants as lines_end
 use Rattle.compose_words.specs.Ends.{HasRunLines, IsNoRecipe, Outer}
 
 -- a line is this recipe

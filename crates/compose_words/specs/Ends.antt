@@ -9,7 +9,7 @@ use Rattle.base.specs.Readings.{Readings}
 use Rattle.command_setup.specs.declared.configuration.Unconfigured.{Unconfigured}
 use Rattle.command_setup.specs.declared.configuration.Unconfigured.TheVariants as unconfigured
 use Rattle.command_setup.specs.Setup.{Configures, IsRead}
-use Rattle.composite_layers.specs.Parts.{Moment, moment}
+use Rattle.composite_layers.specs.Parts.{CompositionMoment, moment}
 use Rattle.layer_recipes.specs.declared.fault.RecipeFault.{RecipeFault}
 use Rattle.layer_recipes.specs.declared.fault.RecipeFault.TheVariants as fault
 use Rattle.layer_recipes.specs.declared.recipe.Part.{Part}
@@ -19,9 +19,9 @@ use Rattle.tile_service.specs.Lines.{lines_of}
 use Rattle.sessions.specs.Outside.{FaultCounts, InputChange}
 use Rattle.compose_words.specs.declared.end.ComposeEnd.{ComposeEnd}
 use Rattle.compose_words.specs.declared.end.ComposeEnd.TheVariants as end
-use Rattle.compose_words.specs.declared.lines.LinesEnd.{LinesEnd}
-use Rattle.compose_words.specs.declared.lines.LinesEnd.TheVariants as lines_end
-use Rattle.compose_words.specs.Run.{AreNewer, Ends, Follow, IsPictured, Step}
+use Rattle.compose_words.specs.declared.lines.CompositionLinesEnd.{CompositionLinesEnd}
+use Rattle.compose_words.specs.declared.lines.CompositionLinesEnd.TheVariants as lines_end
+use Rattle.compose_words.specs.Run.{AreNewer, CompositionEndsAs, CompositionStep, Follow, IsPictured}
 use Rattle.compose_words.specs.Written.{OutputChange}
 
 -- what was seen of the source and of the output: the number of the source, where it is modelled, its faults, and the output
@@ -36,12 +36,12 @@ pub record Outer : Type 0 where
 -- source was counted in it. Where the source is modelled as the catalogue's, each tile is the composite of the pictures of its numbers. Each number of
 -- a tile is above every truncation of a line before it that covers its part. A cabinet in memory has no disk that could fail, so that what is kept
 -- is always read, and what was rendered is kept where there is room.
-pub record HasRunLines (x : Outer) (s : State) (grid : ℕ) (parts : List Part) (lines : List (List ℕ)) (e : LinesEnd) : Type 0 where
-  pub steps : List Step
-  pub last : Moment
+pub record HasRunLines (x : Outer) (s : State) (grid : ℕ) (parts : List Part) (lines : List (List ℕ)) (e : CompositionLinesEnd) : Type 0 where
+  pub steps : List CompositionStep
+  pub last : CompositionMoment
   pub follow : Follow x.told parts (moment s x.renders.before 0) steps last
   pub counted : last.renders ≤ x.renders.after
-  pub ends : Ends s.catalogue grid lines x.output steps e
+  pub ends : CompositionEndsAs s.catalogue grid lines x.output steps e
   pub pictured : x.told ≡ Some s.catalogue.source → AllByRecursion (IsPictured s.catalogue parts) steps
   pub newer : AreNewer s.catalogue parts [] steps
   pub no_disk : AllByRecursion (λ step. step.after.disk ≡ 0) steps
@@ -61,7 +61,7 @@ abbrev pub recipe_line : List ℕ → List ℕ
 recipe_line text = first_of (lines_of text)
 
 -- the first line of the text is a recipe, and the lines behind it were run on a cabinet in which nothing had happened
-pub record HasRunText (x : Outer) (c : Catalogue) (clock : Readings) (text : List ℕ) (e : LinesEnd) : Type 0 where
+pub record HasRunText (x : Outer) (c : Catalogue) (clock : Readings) (text : List ℕ) (e : CompositionLinesEnd) : Type 0 where
   pub grid : ℕ
   pub parts : List Part
   pub short : length (recipe_line text) ≤ LINE_LIMIT
@@ -157,7 +157,7 @@ ComposeTells h stays clock true e =
     ⊎ ((c : Catalogue) × IsRead h.catalogue (Ok c) × InputEnds h.input h.outer (quiet stays) c clock e)
 
 -- the end of a composition whose lines ended so
-abbrev pub end_of_lines : LinesEnd → ComposeEnd
+abbrev pub end_of_lines : CompositionLinesEnd → ComposeEnd
 end_of_lines lines_end.Done = end.Done
 end_of_lines (lines_end.Line n) = end.Line n
 end_of_lines lines_end.WriteFault = end.WriteFault

@@ -5,17 +5,17 @@ use Rattle.std.specs.Str.Parse.{digits_value}
 use Rattle.catalog.specs.declared.catalogue.Catalogue.{Catalogue}
 use Rattle.job_forms.specs.Cover.{cover_of}
 use Rattle.job_forms.specs.Outcome.{Outcome}
-use Rattle.layer_recipes.specs.declared.place.Place.{Place}
+use Rattle.layer_recipes.specs.declared.place.TilePlace.{TilePlace}
 use Rattle.layer_recipes.specs.OfCatalogue.{IsPlaceIn}
 use Rattle.schedule_text.specs.declared.line.TheConstants.{LINE_LIMIT}
 use Rattle.schedule_text.specs.Line.{digits_len}
 use Rattle.served_covers.specs.OfCatalogue.{IsCoverOf}
 use Rattle.truncation_list.specs.declared.cover.Cover.{Cover}
 use Rattle.wmts_kvp.specs.Rows.{below, is_number}
-use Rattle.compose_words.specs.declared.orders.Order.{Order}
-use Rattle.compose_words.specs.declared.orders.Order.TheVariants as order
-use Rattle.compose_words.specs.declared.orders.Unread.{Unread}
-use Rattle.compose_words.specs.declared.orders.Unread.TheVariants as unread
+use Rattle.compose_words.specs.declared.orders.CompositionOrder.{CompositionOrder}
+use Rattle.compose_words.specs.declared.orders.CompositionOrder.TheVariants as order
+use Rattle.compose_words.specs.declared.orders.UnreadOrder.{UnreadOrder}
+use Rattle.compose_words.specs.declared.orders.UnreadOrder.TheVariants as unread
 
 infixl 10 ◌>>=◌
 abbrev ◌>>=◌ : {A B : Type 0} → Option A → (A → Option B) → Option B
@@ -29,7 +29,7 @@ abbrev pub number_below : ℕ → List ℕ → Option ℕ
 number_below limit digits = if nat_le (length digits) 10 && is_number digits then below limit (digits_value 10 digits) else None
 
 -- the place that three texts name: the number of a matrix of the grid, and a row and a column of that matrix
-unfoldable pub place_in : Catalogue → ℕ → List ℕ → List ℕ → List ℕ → Option Place
+unfoldable pub place_in : Catalogue → ℕ → List ℕ → List ℕ → List ℕ → Option TilePlace
 place_in c grid z row col = do
   g ← slice_get c.grids grid
   z ← number_below (length g.matrices) z
@@ -43,7 +43,7 @@ abbrev pub digits_and_rest : List ℕ → Option (List ℕ × List ℕ)
 digits_and_rest text = if slice_index text (digits_len text) == 32 then Some (take (digits_len text) text, drop (digits_len text + 1) text) else None
 
 -- three numbers with one blank between them
-unfoldable pub place_of : Catalogue → ℕ → List ℕ → Option Place
+unfoldable pub place_of : Catalogue → ℕ → List ℕ → Option TilePlace
 place_of c grid text = do
   first ← digits_and_rest text
   second ← digits_and_rest first.1
@@ -56,28 +56,28 @@ abbrev pub behind : List ℕ → List ℕ → Option (List ℕ)
 behind word line = if starts_with nat_eq line word then Some (drop (length word) line) else None
 
 -- the truncation by a cover, unless that was refused
-abbrev pub truncation : Outcome Cover → Option Order
+abbrev pub truncation : Outcome Cover → Option CompositionOrder
 truncation (Ok cover) = Some (order.Truncate cover)
 truncation (Err fault) = None
 
 -- by what stands behind `GET `, where that stands in front, or else by what stands behind `TRUNCATE `
-abbrev pub order_by : Catalogue → ℕ → Option (List ℕ) → Option (List ℕ) → Option Order
+abbrev pub order_by : Catalogue → ℕ → Option (List ℕ) → Option (List ℕ) → Option CompositionOrder
 order_by c grid (Some place) cover = option_map order.Get (place_of c grid place)
 order_by c grid None (Some cover) = truncation (cover_of c cover)
 order_by c grid None None = None
 
 -- What a line orders, for a recipe on the grid of this number: `GET` and a place, or `TRUNCATE` and a cover, in no more bytes than a line of
 -- a schedule may have; none where a line isn't of this form.
-unfoldable pub order_of : Catalogue → ℕ → List ℕ → Option Order
+unfoldable pub order_of : Catalogue → ℕ → List ℕ → Option CompositionOrder
 order_of c grid line = if nat_lt LINE_LIMIT (length line) then None else order_by c grid (behind (codes "GET ") line) (behind (codes "TRUNCATE ") line)
 
 -- the order is for this catalogue and this grid
-abbrev pub IsOrderOf : Catalogue → ℕ → Order → Type 0
+abbrev pub IsOrderOf : Catalogue → ℕ → CompositionOrder → Type 0
 IsOrderOf c grid (order.Get place) = (place.grid ≡ grid) × IsPlaceIn c place
 IsOrderOf c grid (order.Truncate cover) = IsCoverOf c cover
 
 -- what a reading gave is that, unless memory ran out
-abbrev pub IsReadAs : Option Order → Result Order Unread → Type 0
+abbrev pub IsReadAs : Option CompositionOrder → Result CompositionOrder UnreadOrder → Type 0
 IsReadAs o (Ok given) = o ≡ Some given
 IsReadAs o (Err unread.Refused) = o ≡ None
 IsReadAs o (Err unread.OutOfMemory) = ⊤

@@ -1,7 +1,7 @@
 -- What is written of an answer.
 use Rattle.std.specs.Prelude.{ℕ, ◌≤◌, List, [], ◌∷◌, ◌++◌, codes, decimal, flat_map, length, ⊤}
-use Rattle.compose_words.specs.declared.reply.Reply.{Reply}
-use Rattle.compose_words.specs.declared.reply.Reply.TheVariants as reply
+use Rattle.compose_words.specs.declared.reply.CompositionReply.{CompositionReply}
+use Rattle.compose_words.specs.declared.reply.CompositionReply.TheVariants as reply
 
 -- a label and the number of a line
 unfoldable pub one_number : List ℕ → ℕ → List ℕ
@@ -25,7 +25,7 @@ abbrev pub tile_text : ℕ → List ℕ → List ℕ → List ℕ
 tile_text n numbers bytes = tile_head n numbers (length bytes) ++ bytes
 
 -- the answer to the line of this number
-abbrev pub answer_text : ℕ → Reply → List ℕ
+abbrev pub answer_text : ℕ → CompositionReply → List ℕ
 answer_text n (reply.Tile tile) = tile_text n tile.numbers.items tile.bytes.items
 answer_text n reply.Fault = one_number (codes "fault ") n
 answer_text n reply.Spent = one_number (codes "spent ") n
@@ -33,7 +33,7 @@ answer_text n (reply.Cut k) = two_numbers (codes "cut ") n k
 answer_text n reply.Full = one_number (codes "full ") n
 
 -- a tile has no more parts than a recipe
-abbrev pub HasFewParts : Reply → Type 0
+abbrev pub HasFewParts : CompositionReply → Type 0
 HasFewParts (reply.Tile tile) = length tile.numbers.items ≤ 8
 HasFewParts reply.Fault = ⊤
 HasFewParts reply.Spent = ⊤

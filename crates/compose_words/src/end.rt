@@ -2,7 +2,7 @@
 ghost use Rattle.std.specs.Prelude.{◌≡◌};
 ghost use Rattle.compose_words.specs.Ends.{end_of_lines, end_of_refusal};
 
-use crate::lines::LinesEnd;
+use crate::lines::CompositionLinesEnd;
 use catalog::CatalogueFault;
 use command_setup::Unconfigured;
 use command_status::Status;
@@ -107,13 +107,13 @@ pub(crate) fn end_of_refusal(refusal: Unconfigured) -> ComposeEnd
 }
 
 /// The end of a composition whose lines ended so.
-pub(crate) fn end_of_lines(end: LinesEnd) -> ComposeEnd
+pub(crate) fn end_of_lines(end: CompositionLinesEnd) -> ComposeEnd
     ensures { result ≡ end_of_lines end }
 {
     match end {
-        LinesEnd::Done => ComposeEnd::Done,
-        LinesEnd::Line(n) => ComposeEnd::Line(n),
-        LinesEnd::WriteFault => ComposeEnd::WriteFault,
-        LinesEnd::OutOfMemory => ComposeEnd::OutOfMemory,
+        CompositionLinesEnd::Done => ComposeEnd::Done,
+        CompositionLinesEnd::Line(n) => ComposeEnd::Line(n),
+        CompositionLinesEnd::WriteFault => ComposeEnd::WriteFault,
+        CompositionLinesEnd::OutOfMemory => ComposeEnd::OutOfMemory,
     }
 }

@@ -21,8 +21,8 @@ mod word;
 mod words;
 
 pub use end::ComposeEnd;
-pub use line::LineEnd;
-pub use lines::LinesEnd;
-pub use orders::{Order, Unread};
-pub use reply::Reply;
+pub use line::CompositionLineEnd;
+pub use lines::CompositionLinesEnd;
+pub use orders::{CompositionOrder, UnreadOrder};
+pub use reply::CompositionReply;
 pub use word::run_compose;

@@ -3,33 +3,33 @@ ghost use Rattle.std.specs.Prelude.{◌≡◌, ◌≤◌, length, IfErr, IfOk, L
 ghost use Rattle.base.specs.Causes.{Rose};
 ghost use Rattle.cabinet.specs.Commands.{Cuts, IsCountedCut};
 ghost use Rattle.catalog.specs.Valid.{IsValid};
-ghost use Rattle.compose_words.specs.OneLine.{GoesOn, IsToldAs, RunsLine, RunsOrder};
+ghost use Rattle.compose_words.specs.OneLine.{IsToldAs, MomentGoesOn, RunsLine, RunsOrder};
 ghost use Rattle.compose_words.specs.Orders.{IsOrderOf};
 ghost use Rattle.compose_words.specs.Run.{Answers};
 ghost use Rattle.compose_words.specs.Texts.{HasFewParts};
 ghost use Rattle.compose_words.specs.Written.{OutputChange};
 ghost use Rattle.composite_layers.specs.Composes.{Composes};
-ghost use Rattle.composite_layers.specs.Parts.{Moment, moment};
+ghost use Rattle.composite_layers.specs.Parts.{CompositionMoment, moment};
 ghost use Rattle.layer_recipes.specs.OfCatalogue.{IsPlaceIn, IsRecipeOf};
 ghost use Rattle.layer_recipes.specs.declared.recipe.Part.{Part};
 ghost use Rattle.served_covers.specs.OfCatalogue.{IsCoverOf};
 ghost use Rattle.sessions.specs.Outside.{counts};
 ghost use Rattle.tile_service.specs.Session.{IsAtRest};
 
-use crate::orders::{Order, Unread, read_order};
-use crate::reply::Reply;
+use crate::orders::{CompositionOrder, UnreadOrder, read_order};
+use crate::reply::CompositionReply;
 use crate::text::send_answer;
 use cabinet::{Cabinet, CutReply};
 use composite_layers::compose_plain;
 use http_wire::ByteSink;
-use layer_recipes::{ComposeFault, Composed, Place, Recipe};
+use layer_recipes::{ComposeFault, Composed, Recipe, TilePlace};
 use source_render::Source;
 use std::alloc::{AllocError, Global};
 use truncation_list::Cover;
 
 /// How a line ended.
 #[derive(Clone, Copy, PartialEq, Eq)]
-pub enum LineEnd {
+pub enum CompositionLineEnd {
     /// Its order was answered, and the answer went out.
     Told,
     /// It gives no order, and nothing happened.
@@ -46,7 +46,7 @@ fn compose_at<S: Source>(
     cabinet: &mut Cabinet,
     source: &mut S,
     recipe: &Recipe,
-    place: &Place,
+    place: &TilePlace,
 ) -> Result<Composed, ComposeFault>
     requires valid { IsValid cabinet.old.catalogue }
     requires recipe { IsRecipeOf cabinet.old.catalogue recipe.now }
@@ -56,7 +56,7 @@ fn compose_at<S: Source>(
     ensures composes { Composes (S.told source.old) place.now (moment cabinet.old (S.faults source.old) 0) recipe.now.parts.items result (moment cabinet.new (S.faults source.new) 0) }
     ensures few { IfOk result (λ composed. length composed.numbers.items ≤ 8) }
     ensures cause { IfErr result (λ e. e ≡ ComposeFault.SourceFault → Rose (S.faults source.old) (S.faults source.new)) }
-    ensures goes { GoesOn (S.told source.old) (moment cabinet.old (S.faults source.old) 0) (moment cabinet.new (S.faults source.new) 0) }
+    ensures goes { MomentGoesOn (S.told source.old) (moment cabinet.old (S.faults source.old) 0) (moment cabinet.new (S.faults source.new) 0) }
     ensures told { S.told source.new ≡ S.told source.old }
 {
     compose_plain(
@@ -70,22 +70,22 @@ fn get<S: Source>(
     cabinet: &mut Cabinet,
     source: &mut S,
     recipe: &Recipe,
-    place: &Place,
-) -> Result<Reply, AllocError>
+    place: &TilePlace,
+) -> Result<CompositionReply, AllocError>
     requires valid { IsValid cabinet.old.catalogue }
     requires recipe { IsRecipeOf cabinet.old.catalogue recipe.now }
     requires grid { place.now.grid ≡ recipe.now.grid }
     requires place { IsPlaceIn cabinet.old.catalogue place.now }
     requires rest { IsAtRest cabinet.old }
-    ensures answers { IfOk result (λ reply. Answers (S.told source.old) recipe.now.parts.items (moment cabinet.old (S.faults source.old) 0) (Order.Get place.now) reply (moment cabinet.new (S.faults source.new) 0)) }
+    ensures answers { IfOk result (λ reply. Answers (S.told source.old) recipe.now.parts.items (moment cabinet.old (S.faults source.old) 0) (CompositionOrder.Get place.now) reply (moment cabinet.new (S.faults source.new) 0)) }
     ensures few { IfOk result HasFewParts }
-    ensures goes { GoesOn (S.told source.old) (moment cabinet.old (S.faults source.old) 0) (moment cabinet.new (S.faults source.new) 0) }
+    ensures goes { MomentGoesOn (S.told source.old) (moment cabinet.old (S.faults source.old) 0) (moment cabinet.new (S.faults source.new) 0) }
     ensures told { S.told source.new ≡ S.told source.old }
 {
     match compose_at(alloc, cabinet, source, recipe, place) {
-        Ok(composed) => Ok(Reply::Tile(composed)),
-        Err(ComposeFault::SourceFault) => Ok(Reply::Fault),
-        Err(ComposeFault::Spent) => Ok(Reply::Spent),
+        Ok(composed) => Ok(CompositionReply::Tile(composed)),
+        Err(ComposeFault::SourceFault) => Ok(CompositionReply::Fault),
+        Err(ComposeFault::Spent) => Ok(CompositionReply::Spent),
         Err(ComposeFault::OutOfMemory) => Err(AllocError),
     }
 }
@@ -96,23 +96,27 @@ fn cut(alloc: Global, cabinet: &mut Cabinet, cover: &Cover) -> Result<CutReply, 
     requires rest { IsAtRest cabinet.old }
     ensures cuts { IfOk result (λ reply. Cuts cabinet.old cover.now reply cabinet.new) }
     ensures counted { IfOk result (IsCountedCut 0 0) }
-    ensures goes { (told : Option ℕ) (renders : ℕ) → GoesOn told (moment cabinet.old renders 0) (moment cabinet.new renders 0) }
+    ensures goes { (told : Option ℕ) (renders : ℕ) → MomentGoesOn told (moment cabinet.old renders 0) (moment cabinet.new renders 0) }
 {
     cabinet.cut(alloc, cover)
 }
 
 /// Answers the order of a truncation. A cabinet in memory has no disk that could fail.
-fn truncate(alloc: Global, cabinet: &mut Cabinet, cover: &Cover) -> Result<Reply, AllocError>
+fn truncate(
+    alloc: Global,
+    cabinet: &mut Cabinet,
+    cover: &Cover,
+) -> Result<CompositionReply, AllocError>
     requires cover { IsCoverOf cabinet.old.catalogue cover.now }
     requires rest { IsAtRest cabinet.old }
-    ensures answers { (told : Option ℕ) (parts : List Part) (renders : ℕ) → IfOk result (λ reply. Answers told parts (moment cabinet.old renders 0) (Order.Truncate cover.now) reply (moment cabinet.new renders 0)) }
+    ensures answers { (told : Option ℕ) (parts : List Part) (renders : ℕ) → IfOk result (λ reply. Answers told parts (moment cabinet.old renders 0) (CompositionOrder.Truncate cover.now) reply (moment cabinet.new renders 0)) }
     ensures few { IfOk result HasFewParts }
-    ensures goes { (told : Option ℕ) (renders : ℕ) → GoesOn told (moment cabinet.old renders 0) (moment cabinet.new renders 0) }
+    ensures goes { (told : Option ℕ) (renders : ℕ) → MomentGoesOn told (moment cabinet.old renders 0) (moment cabinet.new renders 0) }
 {
     match cut(alloc, cabinet, cover) {
-        Ok(CutReply::Done(number)) => Ok(Reply::Cut(number)),
-        Ok(CutReply::Full) => Ok(Reply::Full),
-        Ok(CutReply::Spent) => Ok(Reply::Spent),
+        Ok(CutReply::Done(number)) => Ok(CompositionReply::Cut(number)),
+        Ok(CutReply::Full) => Ok(CompositionReply::Full),
+        Ok(CutReply::Spent) => Ok(CompositionReply::Spent),
         Ok(CutReply::DiskFault(_, _)) => unreachable!(),
         Err(fault) => Err(fault),
     }
@@ -124,33 +128,33 @@ fn answer<S: Source>(
     cabinet: &mut Cabinet,
     source: &mut S,
     recipe: &Recipe,
-    order: Order,
-) -> Result<Reply, AllocError>
+    order: CompositionOrder,
+) -> Result<CompositionReply, AllocError>
     requires valid { IsValid cabinet.old.catalogue }
     requires recipe { IsRecipeOf cabinet.old.catalogue recipe.now }
     requires order { IsOrderOf cabinet.old.catalogue recipe.now.grid order }
     requires rest { IsAtRest cabinet.old }
     ensures answers { IfOk result (λ reply. Answers (S.told source.old) recipe.now.parts.items (moment cabinet.old (S.faults source.old) 0) order reply (moment cabinet.new (S.faults source.new) 0)) }
     ensures few { IfOk result HasFewParts }
-    ensures goes { GoesOn (S.told source.old) (moment cabinet.old (S.faults source.old) 0) (moment cabinet.new (S.faults source.new) 0) }
+    ensures goes { MomentGoesOn (S.told source.old) (moment cabinet.old (S.faults source.old) 0) (moment cabinet.new (S.faults source.new) 0) }
     ensures told { S.told source.new ≡ S.told source.old }
 {
     match order {
-        Order::Get(place) => get(alloc, cabinet, source, recipe, &place),
-        Order::Truncate(cover) => truncate(alloc, cabinet, &cover),
+        CompositionOrder::Get(place) => get(alloc, cabinet, source, recipe, &place),
+        CompositionOrder::Truncate(cover) => truncate(alloc, cabinet, &cover),
     }
 }
 
 /// Tells what an order of the line of a number was answered.
-fn tell<O: ByteSink>(output: &mut O, number: u64, reply: &Reply) -> LineEnd
+fn tell<O: ByteSink>(output: &mut O, number: u64, reply: &CompositionReply) -> CompositionLineEnd
     requires { HasFewParts reply.now }
     ensures tells { IsToldAs (record { writes = counts (O.faults output.old) (O.faults output.new); from = O.taken output.old; to = O.taken output.new }) number reply.now result }
     ensures later { O.faults output.old ≤ O.faults output.new }
 {
     if send_answer(output, number, reply) {
-        LineEnd::Told
+        CompositionLineEnd::Told
     } else {
-        LineEnd::WriteFault
+        CompositionLineEnd::WriteFault
     }
 }
 
@@ -162,8 +166,8 @@ fn run_order<S: Source, O: ByteSink>(
     source: &mut S,
     recipe: &Recipe,
     number: u64,
-    order: Order,
-) -> LineEnd
+    order: CompositionOrder,
+) -> CompositionLineEnd
     requires valid { IsValid cabinet.old.catalogue }
     requires recipe { IsRecipeOf cabinet.old.catalogue recipe.now }
     requires order { IsOrderOf cabinet.old.catalogue recipe.now.grid order }
@@ -171,13 +175,13 @@ fn run_order<S: Source, O: ByteSink>(
     ensures runs { RunsOrder (S.told source.old) recipe.now.parts.items
         (record { writes = counts (O.faults output.old) (O.faults output.new); from = O.taken output.old; to = O.taken output.new })
         (output.new ≡ output.old) number (moment cabinet.old (S.faults source.old) 0) order (moment cabinet.new (S.faults source.new) 0) result }
-    ensures goes { GoesOn (S.told source.old) (moment cabinet.old (S.faults source.old) 0) (moment cabinet.new (S.faults source.new) 0) }
+    ensures goes { MomentGoesOn (S.told source.old) (moment cabinet.old (S.faults source.old) 0) (moment cabinet.new (S.faults source.new) 0) }
     ensures told { S.told source.new ≡ S.told source.old }
     ensures later { O.faults output.old ≤ O.faults output.new }
 {
     match answer(alloc, cabinet, source, recipe, order) {
         Ok(reply) => tell(output, number, &reply),
-        Err(_) => LineEnd::OutOfMemory,
+        Err(_) => CompositionLineEnd::OutOfMemory,
     }
 }
 
@@ -190,20 +194,20 @@ pub(crate) fn run_line<S: Source, O: ByteSink>(
     recipe: &Recipe,
     number: u64,
     line: &[u8],
-) -> LineEnd
+) -> CompositionLineEnd
     requires valid { IsValid cabinet.old.catalogue }
     requires recipe { IsRecipeOf cabinet.old.catalogue recipe.now }
     requires rest { IsAtRest cabinet.old }
     ensures runs { RunsLine (S.told source.old) recipe.now.grid recipe.now.parts.items
         (record { writes = counts (O.faults output.old) (O.faults output.new); from = O.taken output.old; to = O.taken output.new })
         (output.new ≡ output.old) number line.now (moment cabinet.old (S.faults source.old) 0) (moment cabinet.new (S.faults source.new) 0) result }
-    ensures goes { GoesOn (S.told source.old) (moment cabinet.old (S.faults source.old) 0) (moment cabinet.new (S.faults source.new) 0) }
+    ensures goes { MomentGoesOn (S.told source.old) (moment cabinet.old (S.faults source.old) 0) (moment cabinet.new (S.faults source.new) 0) }
     ensures told { S.told source.new ≡ S.told source.old }
     ensures later { O.faults output.old ≤ O.faults output.new }
 {
     match read_order(alloc, cabinet.catalogue(), recipe.grid, line) {
         Ok(order) => run_order(alloc, cabinet, output, source, recipe, number, order),
-        Err(Unread::Refused) => LineEnd::Refused,
-        Err(Unread::OutOfMemory) => LineEnd::OutOfMemory,
+        Err(UnreadOrder::Refused) => CompositionLineEnd::Refused,
+        Err(UnreadOrder::OutOfMemory) => CompositionLineEnd::OutOfMemory,
     }
 }

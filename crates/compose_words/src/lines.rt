@@ -8,7 +8,7 @@ ghost use Rattle.sessions.specs.Outside.{counts};
 ghost use Rattle.tile_service.specs.Lines.{lines_of};
 ghost use Rattle.tile_service.specs.Session.{IsAtRest};
 
-use crate::line::{LineEnd, run_line};
+use crate::line::{CompositionLineEnd, run_line};
 use cabinet::Cabinet;
 use http_wire::ByteSink;
 use layer_recipes::Recipe;
@@ -18,7 +18,7 @@ use tile_service::split_line;
 
 /// How the lines behind a recipe ended.
 #[derive(Clone, Copy, PartialEq, Eq)]
-pub enum LinesEnd {
+pub enum CompositionLinesEnd {
     /// Each line was answered.
     Done,
     /// This line gives no order, counted from 1 with the recipe's line; the lines before it were answered.
@@ -37,7 +37,7 @@ pub(crate) fn run_lines<S: Source, O: ByteSink>(
     source: &mut S,
     recipe: &Recipe,
     text: &[u8],
-) -> LinesEnd
+) -> CompositionLinesEnd
     requires valid { IsValid cabinet.old.catalogue }
     requires recipe { IsRecipeOf cabinet.old.catalogue recipe.now }
     requires rest { IsAtRest cabinet.old }
@@ -53,12 +53,12 @@ pub(crate) fn run_lines<S: Source, O: ByteSink>(
         let (line, next) = split_line(rest);
         number += 1;
         match run_line(alloc, cabinet, output, source, recipe, number, line) {
-            LineEnd::Told => {}
-            LineEnd::Refused => return LinesEnd::Line(number),
-            LineEnd::WriteFault => return LinesEnd::WriteFault,
-            LineEnd::OutOfMemory => return LinesEnd::OutOfMemory,
+            CompositionLineEnd::Told => {}
+            CompositionLineEnd::Refused => return CompositionLinesEnd::Line(number),
+            CompositionLineEnd::WriteFault => return CompositionLinesEnd::WriteFault,
+            CompositionLineEnd::OutOfMemory => return CompositionLinesEnd::OutOfMemory,
         }
         rest = next;
     }
-    LinesEnd::Done
+    CompositionLinesEnd::Done
 }

@@ -8,7 +8,7 @@ ghost use Rattle.served_covers.specs.OfCatalogue.{IsCoverOf};
 
 use catalog::Catalogue;
 use job_forms::{JobFault, read_cover};
-use layer_recipes::Place;
+use layer_recipes::TilePlace;
 use schedule_text::{LINE_LIMIT, digits_len};
 use std::alloc::Global;
 use truncation_list::Cover;
@@ -16,16 +16,16 @@ use wmts_kvp::{below, is_number};
 
 /// What a line orders.
 #[derive(Clone, Copy)]
-pub enum Order {
+pub enum CompositionOrder {
     /// The composite at a place of the recipe's grid.
-    Get(Place),
+    Get(TilePlace),
     /// The truncation of what a cover is for.
     Truncate(Cover),
 }
 
 /// Why a line gives no order.
 #[derive(Clone, Copy, PartialEq, Eq)]
-pub enum Unread {
+pub enum UnreadOrder {
     /// It has the form of no order, names no place of the grid, or its cover is refused.
     Refused,
     /// Memory ran out.
@@ -48,7 +48,7 @@ fn number_below(limit: u32, digits: &[u8]) -> Option<u32>
 
 /// The place of the grid of this number that three texts name: its matrix, its row and its column.
 #[tactic(auto, unfolding(crate::specs::Orders::place_in))]
-fn place_in(catalogue: &Catalogue, grid: u32, z: &[u8], row: &[u8], col: &[u8]) -> Option<Place>
+fn place_in(catalogue: &Catalogue, grid: u32, z: &[u8], row: &[u8], col: &[u8]) -> Option<TilePlace>
     requires { IsValid catalogue.now }
     ensures value { result ≡ place_in catalogue.now grid z.now row.now col.now }
     ensures of { IfSome result (λ place. (place.grid ≡ grid) × IsPlaceIn catalogue.now place) }
@@ -58,7 +58,7 @@ fn place_in(catalogue: &Catalogue, grid: u32, z: &[u8], row: &[u8], col: &[u8]) 
     let matrix = *found.matrices.get(z as usize)?;
     let row = number_below(matrix.rows, row)?;
     let col = number_below(matrix.cols, col)?;
-    Some(Place { grid, z, row, col })
+    Some(TilePlace { grid, z, row, col })
 }
 
 /// The digits that a text begins with, and what stands behind the blank after them; `None` where no blank stands there.
@@ -74,7 +74,7 @@ fn digits_and_rest(text: &[u8]) -> Option<(&[u8], &[u8])>
 
 /// The place of a grid that a text names: three numbers with one blank between them.
 #[tactic(auto, unfolding(crate::specs::Orders::place_of))]
-fn place_of(catalogue: &Catalogue, grid: u32, text: &[u8]) -> Option<Place>
+fn place_of(catalogue: &Catalogue, grid: u32, text: &[u8]) -> Option<TilePlace>
     requires { IsValid catalogue.now }
     ensures value { result ≡ place_of catalogue.now grid text.now }
     ensures of { IfSome result (λ place. (place.grid ≡ grid) × IsPlaceIn catalogue.now place) }
@@ -96,14 +96,14 @@ fn behind<'a>(word: &[u8], line: &'a [u8]) -> Option<&'a [u8]>
 }
 
 /// The order of a composite at the place that a text names.
-fn read_get(catalogue: &Catalogue, grid: u32, text: &[u8]) -> Result<Order, Unread>
+fn read_get(catalogue: &Catalogue, grid: u32, text: &[u8]) -> Result<CompositionOrder, UnreadOrder>
     requires { IsValid catalogue.now }
-    ensures reads { IsReadAs (option_map Order.Get (place_of catalogue.now grid text.now)) result }
+    ensures reads { IsReadAs (option_map CompositionOrder.Get (place_of catalogue.now grid text.now)) result }
     ensures of { IfOk result (IsOrderOf catalogue.now grid) }
 {
     match place_of(catalogue, grid, text) {
-        Some(place) => Ok(Order::Get(place)),
-        None => Err(Unread::Refused),
+        Some(place) => Ok(CompositionOrder::Get(place)),
+        None => Err(UnreadOrder::Refused),
     }
 }
 
@@ -113,15 +113,15 @@ fn read_truncation(
     catalogue: &Catalogue,
     grid: u32,
     text: &[u8],
-) -> Result<Order, Unread>
+) -> Result<CompositionOrder, UnreadOrder>
     requires { IsValid catalogue.now }
     ensures reads { IsReadAs (truncation (cover_of catalogue.now text.now)) result }
     ensures of { IfOk result (IsOrderOf catalogue.now grid) }
 {
     match read_cover(alloc, catalogue, text) {
-        Ok(cover) => Ok(Order::Truncate(cover)),
-        Err(JobFault::OutOfMemory) => Err(Unread::OutOfMemory),
-        Err(_) => Err(Unread::Refused),
+        Ok(cover) => Ok(CompositionOrder::Truncate(cover)),
+        Err(JobFault::OutOfMemory) => Err(UnreadOrder::OutOfMemory),
+        Err(_) => Err(UnreadOrder::Refused),
     }
 }
 
@@ -132,19 +132,19 @@ pub(crate) fn read_order(
     catalogue: &Catalogue,
     grid: u32,
     line: &[u8],
-) -> Result<Order, Unread>
+) -> Result<CompositionOrder, UnreadOrder>
     requires { IsValid catalogue.now }
     ensures reads { IsReadAs (order_of catalogue.now grid line.now) result }
     ensures of { IfOk result (IsOrderOf catalogue.now grid) }
 {
     if line.len() > LINE_LIMIT {
-        return Err(Unread::Refused);
+        return Err(UnreadOrder::Refused);
     }
     match behind(b"GET ", line) {
         Some(place) => read_get(catalogue, grid, place),
         None => match behind(b"TRUNCATE ", line) {
             Some(cover) => read_truncation(alloc, catalogue, grid, cover),
-            None => Err(Unread::Refused),
+            None => Err(UnreadOrder::Refused),
         },
     }
 }

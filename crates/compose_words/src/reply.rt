@@ -3,7 +3,7 @@ use layer_recipes::Composed;
 
 /// What an order is answered.
 #[derive(Drop)]
-pub enum Reply {
+pub enum CompositionReply {
     /// The composite was made.
     Tile(Composed),
     /// The source failed at the rendering of a part.

@@ -5,13 +5,13 @@ ghost use Rattle.compose_words.specs.Texts.{HasFewParts, answer_text, joined, on
 ghost use Rattle.compose_words.specs.Written.{IsSent, OutputChange};
 ghost use Rattle.sessions.specs.Outside.{counts};
 
-use crate::reply::Reply;
+use crate::reply::CompositionReply;
 use arrayvec::ArrayVec;
 use http_wire::ByteSink;
 use tile_requests::{add, add_number, send_behind};
 
 /// A label and a number after it.
-fn labelled(label: &[u8], number: u64) -> ArrayVec<u8, 1024>
+fn label_number(label: &[u8], number: u64) -> ArrayVec<u8, 1024>
     requires { length label.now ≤ 100 }
     ensures items { result.items ≡ label.now ++ decimal number }
     ensures short { array_vec_len result ≤ 120 }
@@ -23,7 +23,7 @@ fn labelled(label: &[u8], number: u64) -> ArrayVec<u8, 1024>
 }
 
 /// Sends a text in two parts; whether all of it went out, or a write failed.
-fn sent<O: ByteSink>(output: &mut O, front: ArrayVec<u8, 1024>, rest: &[u8]) -> bool
+fn send_text<O: ByteSink>(output: &mut O, front: ArrayVec<u8, 1024>, rest: &[u8]) -> bool
     requires { array_vec_len front ≤ 512 }
     ensures sent { IsSent (record { writes = counts (O.faults output.old) (O.faults output.new); from = O.taken output.old; to = O.taken output.new }) (front.items ++ rest.now) result }
     ensures later { O.faults output.old ≤ O.faults output.new }
@@ -41,7 +41,7 @@ fn send_one<O: ByteSink>(output: &mut O, label: &[u8], number: u64) -> bool
     ensures sent { IsSent (record { writes = counts (O.faults output.old) (O.faults output.new); from = O.taken output.old; to = O.taken output.new }) (one_number label.now number) result }
     ensures later { O.faults output.old ≤ O.faults output.new }
 {
-    sent(output, labelled(label, number), b"\n")
+    send_text(output, label_number(label, number), b"\n")
 }
 
 /// Sends a label with the number of a line and another number.
@@ -51,10 +51,10 @@ fn send_two<O: ByteSink>(output: &mut O, label: &[u8], number: u64, other: u64) 
     ensures sent { IsSent (record { writes = counts (O.faults output.old) (O.faults output.new); from = O.taken output.old; to = O.taken output.new }) (two_numbers label.now number other) result }
     ensures later { O.faults output.old ≤ O.faults output.new }
 {
-    let mut text = labelled(label, number);
+    let mut text = label_number(label, number);
     add(&mut text, b" ");
     add_number(&mut text, other);
-    sent(output, text, b"\n")
+    send_text(output, text, b"\n")
 }
 
 /// Adds numbers, a comma in front of each.
@@ -91,7 +91,7 @@ fn tile_head(number: u64, numbers: &[u64], count: u64) -> ArrayVec<u8, 1024>
     ensures items { result.items ≡ tile_head number numbers.now count }
     ensures short { array_vec_len result ≤ 512 }
 {
-    let mut text = labelled(b"tile ", number);
+    let mut text = label_number(b"tile ", number);
     add(&mut text, b" ");
     add_joined(&mut text, numbers);
     add(&mut text, b" ");
@@ -106,7 +106,7 @@ fn send_tile<O: ByteSink>(output: &mut O, number: u64, numbers: &[u64], bytes: &
     ensures sent { IsSent (record { writes = counts (O.faults output.old) (O.faults output.new); from = O.taken output.old; to = O.taken output.new }) (tile_text number numbers.now bytes.now) result }
     ensures later { O.faults output.old ≤ O.faults output.new }
 {
-    sent(
+    send_text(
         output,
         tile_head(number, numbers, bytes.len() as u64),
         bytes,
@@ -114,13 +114,17 @@ fn send_tile<O: ByteSink>(output: &mut O, number: u64, numbers: &[u64], bytes: &
 }
 
 /// Sends the answer to the line of a number; whether all of it went out, or a write failed.
-pub(crate) fn send_answer<O: ByteSink>(output: &mut O, number: u64, reply: &Reply) -> bool
+pub(crate) fn send_answer<O: ByteSink>(
+    output: &mut O,
+    number: u64,
+    reply: &CompositionReply,
+) -> bool
     requires { HasFewParts reply.now }
     ensures sent { IsSent (record { writes = counts (O.faults output.old) (O.faults output.new); from = O.taken output.old; to = O.taken output.new }) (answer_text number reply.now) result }
     ensures later { O.faults output.old ≤ O.faults output.new }
 {
     match reply {
-        Reply::Tile(tile) => {
+        CompositionReply::Tile(tile) => {
             send_tile(
                 output,
                 number,
@@ -128,9 +132,9 @@ pub(crate) fn send_answer<O: ByteSink>(output: &mut O, number: u64, reply: &Repl
                 tile.bytes.as_slice(),
             )
         }
-        Reply::Fault => send_one(output, b"fault ", number),
-        Reply::Spent => send_one(output, b"spent ", number),
-        Reply::Cut(cut) => send_two(output, b"cut ", number, *cut),
-        Reply::Full => send_one(output, b"full ", number),
+        CompositionReply::Fault => send_one(output, b"fault ", number),
+        CompositionReply::Spent => send_one(output, b"spent ", number),
+        CompositionReply::Cut(cut) => send_two(output, b"cut ", number, *cut),
+        CompositionReply::Full => send_one(output, b"full ", number),
     }
 }

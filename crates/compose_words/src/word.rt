@@ -9,7 +9,7 @@ use crate::composing::compose_input;
 use crate::end::{ComposeEnd, end_of_refusal};
 use crate::words::is_compose;
 use base::Clock;
-use command_setup::configured;
+use command_setup::read_configuration;
 use exact_ratio::Words;
 use http_wire::{ByteSink, ByteSource};
 use source_render::Source;
@@ -34,7 +34,7 @@ fn compose<S: Source, I: ByteSource, O: ByteSink>(
         (record { catalogue = (catalogue.new ≡ catalogue.old); input = (input.new ≡ input.old); output = (output.new ≡ output.old); source = (source.new ≡ source.old) })
         clock true result }
 {
-    match configured(alloc, catalogue) {
+    match read_configuration(alloc, catalogue) {
         Ok(read) => compose_input(alloc, read, input, output, source, clock),
         Err(refusal) => end_of_refusal(refusal),
     }

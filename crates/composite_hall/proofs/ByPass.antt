@@ -7,11 +7,11 @@ use Rattle.cache_access.specs.Gets.{IsGot}
 use Rattle.cache_core.specs.declared.outcome.Tile.{Tile}
 use Rattle.cache_hall.specs.Gained.{same_told}
 use Rattle.cache_hall.specs.Gets.{Gets}
-use Rattle.cache_hall.specs.Turned.{Gains, HallPass}
+use Rattle.cache_hall.specs.Turned.{GainsTurns, HallPass}
 use Rattle.catalog.specs.declared.catalogue.Catalogue.{Catalogue}
 use Rattle.layer_recipes.specs.declared.composed.Composed.{Composed}
 use Rattle.layer_recipes.specs.declared.composed.ComposeFault.{ComposeFault}
-use Rattle.layer_recipes.specs.declared.place.Place.{Place}
+use Rattle.layer_recipes.specs.declared.place.TilePlace.{TilePlace}
 use Rattle.layer_recipes.specs.declared.recipe.Part.{Part}
 use Rattle.layer_recipes.specs.OfCatalogue.{tile_at}
 use Rattle.matrix_geometry.specs.declared.address.Address.{Address}
@@ -38,9 +38,9 @@ got_if c P Q a seen gained (Err got.SourceFault) less h = h
 got_if c P Q a seen gained (Err got.Spent) less h = h
 got_if c P Q a seen gained (Err got.OutOfMemory) less h = h
 
-module _ (told : Option ℕ) (c : Catalogue) (place : Place) where
+module _ (told : Option ℕ) (c : Catalogue) (place : TilePlace) where
   abbrev gets : Address → MomentOf HallPass → MomentOf HallPass → Result Tile GetFault → Type 0
-  gets = GetsAt {C = HallPass} (λ p q gained. Gains c p q gained) (λ p. p.told ≡ true) (λ p. p.book) told c
+  gets = GetsAt {C = HallPass} (λ p q gained. GainsTurns c p q gained) (λ p. p.told ≡ true) (λ p. p.book) told c
 
   -- if the pass tells a sound cabinet, the source is the catalogue's
   abbrev Owes : MomentOf HallPass → Type 0
@@ -86,5 +86,5 @@ module _ (told : Option ℕ) (c : Catalogue) (place : Place) where
   came_so m ps (Err stop) n owes (inr h) = inr (h.0, ap (λ (x : MomentOf HallPass). x.cache) h.1)
 
   pub composes_so : (m : MomentOf HallPass) (ps : List Part) (r : Result Composed ComposeFault) (n : MomentOf HallPass) → Owes m
-      → ComposesAt {C = HallPass} (λ p q gained. Gains c p q gained) (λ p. p.told ≡ true) (λ p. p.book) told c place m ps r n → ComposesOver c place m.cache ps r n.cache
+      → ComposesAt {C = HallPass} (λ p q gained. GainsTurns c p q gained) (λ p. p.told ≡ true) (λ p. p.book) told c place m ps r n → ComposesOver c place m.cache ps r n.cache
   composes_so m ps r n owes h = record { gained = h.gained; gains = h.gains; came_to = came_so m ps r n owes h.came_to }

@@ -2,16 +2,16 @@
 -- composition over any access, by a pass.
 use Rattle.std.specs.Prelude.{◌≡◌, true, List, Result}
 use Rattle.cache_hall.specs.Gets.{Gets}
-use Rattle.cache_hall.specs.Turned.{Gains, HallPass}
+use Rattle.cache_hall.specs.Turned.{GainsTurns, HallPass}
 use Rattle.catalog.specs.declared.catalogue.Catalogue.{Catalogue}
 use Rattle.layer_recipes.specs.declared.composed.Composed.{Composed}
 use Rattle.layer_recipes.specs.declared.composed.ComposeFault.{ComposeFault}
-use Rattle.layer_recipes.specs.declared.place.Place.{Place}
+use Rattle.layer_recipes.specs.declared.place.TilePlace.{TilePlace}
 use Rattle.layer_recipes.specs.declared.recipe.Part.{Part}
 use Rattle.composite_layers.specs.OverAccess.{Composes}
 
 -- What a composition did to its pass: all the turns that it made, and what it came to. Each part is got by the turns of one get of the pass,
 -- as the part before it left it; between the turns other passes have theirs. The text is the composite of the pictures of the numbers, if
 -- the pass tells a sound cabinet.
-abbrev pub ComposesOver : Catalogue → Place → HallPass → List Part → Result Composed ComposeFault → HallPass → Type 0
-ComposesOver c place before parts result after = Composes (Gains c) (Gets c) c (before.told ≡ true) before.book place before parts result after
+abbrev pub ComposesOver : Catalogue → TilePlace → HallPass → List Part → Result Composed ComposeFault → HallPass → Type 0
+ComposesOver c place before parts result after = Composes (GainsTurns c) (Gets c) c (before.told ≡ true) before.book place before parts result after

@@ -8,10 +8,10 @@ use Rattle.cache_core.specs.declared.outcome.Tile.{Tile}
 use Rattle.matrix_geometry.specs.declared.address.Address.{Address}
 use Rattle.raster_field.specs.declared.colour.Colour.{Colour}
 use Rattle.layer_recipes.specs.declared.composed.ComposeFault.{ComposeFault}
-use Rattle.layer_recipes.specs.declared.place.Place.{Place}
+use Rattle.layer_recipes.specs.declared.place.TilePlace.{TilePlace}
 use Rattle.layer_recipes.specs.declared.recipe.Part.{Part}
 use Rattle.layer_recipes.specs.OfCatalogue.{tile_at}
-use Rattle.layer_recipes.specs.Overlaid.{Lays, Sheet}
+use Rattle.layer_recipes.specs.Overlaid.{Lays, OverlaySheet}
 use Rattle.composite_layers.specs.OverAccess.{AreGot, AreLaidSoFar, HasStopped, IsLaid, Stops}
 use Rattle.composite_layers.specs.Parts.{keyed, numbers_of}
 
@@ -19,7 +19,7 @@ numbers_more : (tiles : List Tile) (tile : Tile) → numbers_of (tiles ++ tile �
 numbers_more [] tile = refl
 numbers_more (t ∷ ts) tile = ap (λ (xs : List ℕ). t.number ∷ xs) (numbers_more ts tile)
 
-module _ {C : Type 0} (gets : Address → C → C → Result Tile GetFault → Type 0) (place : Place) where
+module _ {C : Type 0} (gets : Address → C → C → Result Tile GetFault → Type 0) (place : TilePlace) where
   -- ONE PART MORE
 
   got_more : (m : C) (ps : List Part) (tiles : List Tile) (n k : C) (p : Part) (tile : Tile) → AreGot gets place m ps tiles n → gets (tile_at place p) n k (Ok tile) → AreGot gets place m (ps ++ p ∷ []) (tiles ++ tile ∷ []) k
@@ -34,10 +34,10 @@ module _ {C : Type 0} (gets : Address → C → C → Result Tile GetFault → T
   keyed_more m (q ∷ ps) [] n p tile so_far = absurd so_far
   keyed_more m (q ∷ ps) (t ∷ ts) n p tile so_far = ap (λ (xs : List (Colour × List ℕ)). (q.key, t.bytes) ∷ xs) (keyed_more so_far.0 ps ts n p tile so_far.2)
 
-  pub none_laid : (m : C) (sheet : Sheet) (numbers : List ℕ) → Lays sheet [] → numbers ≡ [] → AreLaidSoFar gets place m [] sheet sheet numbers m
+  pub none_laid : (m : C) (sheet : OverlaySheet) (numbers : List ℕ) → Lays sheet [] → numbers ≡ [] → AreLaidSoFar gets place m [] sheet sheet numbers m
   none_laid m sheet numbers lays none = record { tiles = []; got = refl; matrix = refl; lays = lays; numbered = none }
 
-  pub more_laid : (m n k : C) (ps qs : List Part) (p : Part) (first sheet sheet' : Sheet) (numbers numbers' : List ℕ) → qs ≡ ps ++ p ∷ []
+  pub more_laid : (m n k : C) (ps qs : List Part) (p : Part) (first sheet sheet' : OverlaySheet) (numbers numbers' : List ℕ) → qs ≡ ps ++ p ∷ []
       → AreLaidSoFar gets place m ps first sheet numbers n → IsLaid gets place n p sheet sheet' numbers numbers' k → AreLaidSoFar gets place m qs first sheet' numbers' k
   more_laid m n k ps qs p first sheet sheet' numbers numbers' are so_far is =
       subst (λ (xs : List Part). AreLaidSoFar gets place m xs first sheet' numbers' k) (sym are) (record {
@@ -49,7 +49,7 @@ module _ {C : Type 0} (gets : Address → C → C → Result Tile GetFault → T
       })
 
   -- a part stopped it
-  pub stopped_at : (m n k : C) (ps above below : List Part) (p : Part) (first sheet : Sheet) (numbers : List ℕ) (stop : ComposeFault) → ps ≡ above ++ p ∷ below
+  pub stopped_at : (m n k : C) (ps above below : List Part) (p : Part) (first sheet : OverlaySheet) (numbers : List ℕ) (stop : ComposeFault) → ps ≡ above ++ p ∷ below
       → AreLaidSoFar gets place m above first sheet numbers n → Stops gets place n p stop k → HasStopped gets place m ps stop k
   stopped_at m n k ps above below p first sheet numbers stop all so_far stops =
       record { above = above; part = p; below = below; all = all; tiles = so_far.tiles; mid = n; got = so_far.got; stops = stops }

@@ -16,11 +16,11 @@ use Rattle.raster_field.specs.TileText.{tile_text}
 use Rattle.layer_recipes.specs.declared.composed.Composed.{Composed}
 use Rattle.layer_recipes.specs.declared.composed.ComposeFault.{ComposeFault}
 use Rattle.layer_recipes.specs.declared.composed.ComposeFault.TheVariants as fault
-use Rattle.layer_recipes.specs.declared.place.Place.{Place}
+use Rattle.layer_recipes.specs.declared.place.TilePlace.{TilePlace}
 use Rattle.layer_recipes.specs.declared.recipe.Part.{Part}
 use Rattle.layer_recipes.specs.Composite.{composite, laid_over, told_parts}
 use Rattle.layer_recipes.specs.OfCatalogue.{tile_at}
-use Rattle.layer_recipes.specs.Overlaid.{Lays, Sheet}
+use Rattle.layer_recipes.specs.Overlaid.{Lays, OverlaySheet}
 use Rattle.truncation_list.proofs.Answering.{answers_for_cut, fronted_itself, fronted_through}
 use Rattle.truncation_list.specs.declared.book.FrontedBook.{FrontedBook}
 use Rattle.truncation_list.specs.Books.{AnswersForFronted}
@@ -38,7 +38,7 @@ turns_answer c seen left (m ∷ ms) turns = fronted_through left (left_by m) see
 older : (c : Catalogue) (a : Address) (number : ℕ) (seen later : FrontedBook) → AnswersForFronted later seen → IsNewerThanBook c a number later → IsNewerThanBook c a number seen
 older c a number seen later answers newer = λ cut covers listed. newer cut covers (answers_for_cut later.book seen.book cut answers.book listed)
 
-module _ {C : Type 0} (leads : C → C → List (Made Note) → Type 0) (sound : C → Type 0) (seen : C → FrontedBook) (told : Option ℕ) (c : Catalogue) (place : Place) where
+module _ {C : Type 0} (leads : C → C → List (Made Note) → Type 0) (sound : C → Type 0) (seen : C → FrontedBook) (told : Option ℕ) (c : Catalogue) (place : TilePlace) where
   abbrev gets : Address → MomentOf C → MomentOf C → Result Tile GetFault → Type 0
   gets = GetsAt leads sound seen told c
 
@@ -70,7 +70,7 @@ module _ {C : Type 0} (leads : C → C → List (Made Note) → Type 0) (sound :
         newer_than on book got.0 ps ts n (fronted_through (seen got.0.cache) (seen m.cache) book (on m.cache got.0.cache got.1.gets.gained got.1.gets.gains) answers) got.2,
       )
 
-  composed_of : ((x y : C) (gained : List (Made Note)) → leads x y gained → AnswersForFronted (seen y) (seen x)) → (m n : MomentOf C) (ps : List Part) (x : Matrix) (first sheet : Sheet) (numbers bytes : List ℕ)
+  composed_of : ((x y : C) (gained : List (Made Note)) → leads x y gained → AnswersForFronted (seen y) (seen x)) → (m n : MomentOf C) (ps : List Part) (x : Matrix) (first sheet : OverlaySheet) (numbers bytes : List ℕ)
       → ((parts : List Part) (numbers : List ℕ) → laid_over x (told_parts c place parts numbers) ≡ composite c place parts numbers)
       → matrix_in c place.grid place.z ≡ Some x → first.matrix ≡ x → AreLaidSoFar gets place m ps first sheet numbers n
       → ((parts : List (Colour × List ℕ)) → Lays sheet parts → bytes ≡ laid_over sheet.matrix parts) → HasComposed gets c (Sound m) (seen m.cache) place m ps numbers bytes n
@@ -111,7 +111,7 @@ module _ {C : Type 0} (leads : C → C → List (Made Note) → Type 0) (sound :
 
     -- THE WHOLE
 
-    pub composes_of : ((x y : C) (gained : List (Made Note)) → leads x y gained → AnswersForFronted (seen y) (seen x)) → (m n : MomentOf C) (ps : List Part) (x : Matrix) (first sheet : Sheet) (composed : Composed)
+    pub composes_of : ((x y : C) (gained : List (Made Note)) → leads x y gained → AnswersForFronted (seen y) (seen x)) → (m n : MomentOf C) (ps : List Part) (x : Matrix) (first sheet : OverlaySheet) (composed : Composed)
         → ((parts : List Part) (numbers : List ℕ) → laid_over x (told_parts c place parts numbers) ≡ composite c place parts numbers)
         → matrix_in c place.grid place.z ≡ Some x → first.matrix ≡ x → AreLaidSoFar gets place m ps first sheet composed.numbers.items n
         → ((parts : List (Colour × List ℕ)) → Lays sheet parts → composed.bytes.items ≡ laid_over sheet.matrix parts) → ComposesAt leads sound seen told c place m ps (Ok composed) n

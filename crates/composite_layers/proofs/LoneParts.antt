@@ -18,7 +18,7 @@ use Rattle.catalog.specs.LookUp.{IsTile, matrix_in}
 use Rattle.base.specs.Causes.{Rose, RoseBy}
 use Rattle.matrix_geometry.specs.declared.address.Address.{Address}
 use Rattle.tile_requests.specs.declared.request.Mode.TheVariants.{Gets}
-use Rattle.tile_requests.specs.Events.{Opens, ended_by, ended_so, failing}
+use Rattle.tile_requests.specs.Events.{BeginsByLine, ended_by, ended_so, failing}
 use Rattle.tile_service.specs.Session.{IsAtRest}
 use Rattle.tile_service.proofs.AtRest.{IsDone, get_done}
 use Rattle.truncation_list.specs.declared.book.FrontedBook.{FrontedBook}
@@ -27,25 +27,25 @@ use Rattle.layer_recipes.specs.declared.composed.Composed.{Composed}
 use Rattle.layer_recipes.specs.declared.composed.ComposeFault.{ComposeFault}
 use Rattle.layer_recipes.specs.declared.composed.ComposeFault.TheVariants as fault
 use Rattle.layer_recipes.specs.Composite.{composite, laid_over}
-use Rattle.layer_recipes.specs.declared.place.Place.{Place}
+use Rattle.layer_recipes.specs.declared.place.TilePlace.{TilePlace}
 use Rattle.layer_recipes.specs.declared.recipe.Part.{Part}
 use Rattle.layer_recipes.specs.OfCatalogue.{tile_at}
 use Rattle.composite_layers.specs.OverAccess as over
 use Rattle.composite_layers.specs.OverAccess.{ComposesAt, GetsAt, MomentOf}
 use Rattle.composite_layers.specs.Composes.{Composes, HasComposed, HasStopped, Stops, fault_of}
-use Rattle.composite_layers.specs.Parts.{AreGot, IsGot, Moment, keyed, moment}
+use Rattle.composite_layers.specs.Parts.{AreGot, CompositionMoment, IsPartGot, keyed, moment}
 
 -- ONE PART
 
-done_of : (told : Option ℕ) (before after disk_before disk_after : ℕ) (s : State) (a : Address) (ended : TileOutcome) (t : State) → IsAtRest s → Opens told before after disk_before disk_after s a Gets (ended_so ended) t → IsDone (shown (ended_so ended) t)
+done_of : (told : Option ℕ) (before after disk_before disk_after : ℕ) (s : State) (a : Address) (ended : TileOutcome) (t : State) → IsAtRest s → BeginsByLine told before after disk_before disk_after s a Gets (ended_so ended) t → IsDone (shown (ended_so ended) t)
 done_of told before after disk_before disk_after s a ended t rest h = let P : Stepped → Type 0 = IsDone in subst P (sym h.made) (get_done a h.chance s rest)
 
 no_more : (n : ℕ) → RoseBy (0 + 0) n n
 no_more n = omega arith
 
 -- the events of a request that has its outcome
-got_of : (told : Option ℕ) (before after disk_before disk_after : ℕ) (s : State) (a : Address) (ended : TileOutcome) (t : State) → IsAtRest s → Opens told before after disk_before disk_after s a Gets (ended_so ended) t
-    → IsGot told (moment s before disk_before) a ended (moment t after disk_after)
+got_of : (told : Option ℕ) (before after disk_before disk_after : ℕ) (s : State) (a : Address) (ended : TileOutcome) (t : State) → IsAtRest s → BeginsByLine told before after disk_before disk_after s a Gets (ended_so ended) t
+    → IsPartGot told (moment s before disk_before) a ended (moment t after disk_after)
 got_of told before after disk_before disk_after s a ended t rest h = record {
   chance = h.chance;
   made = sym h.made;
@@ -66,14 +66,14 @@ Known = (told : Option ℕ) (x y : Shown) (a : Address) (before after : ℕ) (ga
     → IsTile x.state.catalogue a → IsAtRest x.state → AreSteps x.state.catalogue x gained y
     → IsGotBy x.state.catalogue (IsSound x.state × (told ≡ Some x.state.catalogue.source)) a (fronted (now x.state)) gained result
     → before ≤ after → IfErr result (λ e. e ≡ got.SourceFault → Rose before after) → (told ≡ Some x.state.catalogue.source → IsSound x.state → IsSound y.state)
-    → Opens told before after x.faults y.faults x.state a Gets (ended_so (ended_by result)) y.state
+    → BeginsByLine told before after x.faults y.faults x.state a Gets (ended_so (ended_by result)) y.state
 
 faults_same : (e : GetFault) → fault_of (ended_by (Err e)) ≡ Some (over.fault_of e)
 faults_same got.SourceFault = refl
 faults_same got.Spent = refl
 faults_same got.OutOfMemory = refl
 
-module _ {C : Type 0} (state : C → State) (disk : C → ℕ) (told : Option ℕ) (c : Catalogue) (place : Place) (known : Known) where
+module _ {C : Type 0} (state : C → State) (disk : C → ℕ) (told : Option ℕ) (c : Catalogue) (place : TilePlace) (known : Known) where
   abbrev leads : C → C → List (Made Note) → Type 0
   leads x y gained = AreSteps (state x).catalogue (seen (disk x) (state x)) gained (seen (disk y) (state y))
 
@@ -87,10 +87,10 @@ module _ {C : Type 0} (state : C → State) (disk : C → ℕ) (told : Option �
   gets = GetsAt leads sound book told c
 
   -- the same moment, of the cabinet
-  abbrev of : MomentOf C → Moment
+  abbrev of : MomentOf C → CompositionMoment
   of m = moment (state m.cache) m.faults (disk m.cache)
 
-  part_got : (a : Address) (m n : MomentOf C) (r : Result Tile GetFault) → (state m.cache).catalogue ≡ c → IsAtRest (state m.cache) → gets a m n r → IsGot told (of m) a (ended_by r) (of n)
+  part_got : (a : Address) (m n : MomentOf C) (r : Result Tile GetFault) → (state m.cache).catalogue ≡ c → IsAtRest (state m.cache) → gets a m n r → IsPartGot told (of m) a (ended_by r) (of n)
   part_got a m n r same rest h =
       let s = state m.cache in
       let t = state n.cache in

@@ -12,18 +12,18 @@ use Rattle.matrix_geometry.specs.declared.address.Address.{Address}
 use Rattle.layer_recipes.specs.declared.composed.Composed.{Composed}
 use Rattle.layer_recipes.specs.declared.composed.ComposeFault.{ComposeFault}
 use Rattle.layer_recipes.specs.declared.composed.ComposeFault.TheVariants as fault
-use Rattle.layer_recipes.specs.declared.place.Place.{Place}
+use Rattle.layer_recipes.specs.declared.place.TilePlace.{TilePlace}
 use Rattle.layer_recipes.specs.declared.recipe.Part.{Part}
 use Rattle.layer_recipes.specs.Composite.{composite, laid_over}
 use Rattle.layer_recipes.specs.OfCatalogue.{tile_at}
-use Rattle.layer_recipes.specs.Overlaid.{Lays, Sheet}
+use Rattle.layer_recipes.specs.Overlaid.{Lays, OverlaySheet}
 use Rattle.raster_field.specs.declared.colour.Colour.{Colour}
 use Rattle.truncation_list.specs.declared.book.FrontedBook.{FrontedBook}
 use Rattle.turnstile.specs.declared.view.Made.{Made}
 use Rattle.composite_layers.specs.Parts.{keyed, numbers_of}
 
 -- each number is above that of each truncation that covers its part's tile and for which the book answers
-abbrev pub AreNewer : Catalogue → Place → FrontedBook → List Part → List Tile → Type 0
+abbrev pub AreNewer : Catalogue → TilePlace → FrontedBook → List Part → List Tile → Type 0
 AreNewer c place seen [] tiles = ⊤
 AreNewer c place seen (p ∷ ps) [] = ⊤
 AreNewer c place seen (p ∷ ps) (tile ∷ tiles) = IsNewerThanBook c (tile_at place p) tile.number seen × AreNewer c place seen ps tiles
@@ -38,7 +38,7 @@ fault_of got.OutOfMemory = fault.OutOfMemory
 module _ {C : Type 0} (gets : Address → C → C → Result Tile GetFault → Type 0) where
   -- The parts were got one after the other, the first one first, each with this tile: each by a get of its own, from where the part before
   -- it left the cache.
-  abbrev pub AreGot : Place → C → List Part → List Tile → C → Type 0
+  abbrev pub AreGot : TilePlace → C → List Part → List Tile → C → Type 0
   AreGot place before [] [] after = after ≡ before
   AreGot place before [] (tile ∷ tiles) after = ⊥
   AreGot place before (p ∷ ps) [] after = ⊥
@@ -47,7 +47,7 @@ module _ {C : Type 0} (gets : Address → C → C → Result Tile GetFault → T
   -- All parts were got, and the numbers are those of their tiles. The text is that of the tiles laid over each other; if the cache is sound, it
   -- is the composite of the pictures of these numbers. Each number is above every truncation that covers its part and for which the book
   -- that was seen at the call answers.
-  pub record HasComposed (c : Catalogue) (Sound : Type 0) (seen : FrontedBook) (place : Place) (before : C) (parts : List Part) (numbers bytes : List ℕ) (after : C) : Type 0 where
+  pub record HasComposed (c : Catalogue) (Sound : Type 0) (seen : FrontedBook) (place : TilePlace) (before : C) (parts : List Part) (numbers bytes : List ℕ) (after : C) : Type 0 where
     pub tiles : List Tile
     pub got : AreGot place before parts tiles after
     pub numbered : numbers ≡ numbers_of tiles
@@ -56,13 +56,13 @@ module _ {C : Type 0} (gets : Address → C → C → Result Tile GetFault → T
     pub newer : AreNewer c place seen parts tiles
 
   -- the get of the part had this fault, or the part was got and memory ran out behind it
-  abbrev pub Stops : Place → C → Part → ComposeFault → C → Type 0
+  abbrev pub Stops : TilePlace → C → Part → ComposeFault → C → Type 0
   Stops place before part stop after =
       ((e : GetFault) × gets (tile_at place part) before after (Err e) × (fault_of e ≡ stop))
       ⊎ ((tile : Tile) × gets (tile_at place part) before after (Ok tile) × (stop ≡ fault.OutOfMemory))
 
   -- some parts from the top down were got, and the next one stopped it: none behind it was asked for
-  pub record HasStopped (place : Place) (before : C) (parts : List Part) (stop : ComposeFault) (after : C) : Type 0 where
+  pub record HasStopped (place : TilePlace) (before : C) (parts : List Part) (stop : ComposeFault) (after : C) : Type 0 where
     pub above : List Part
     pub part : Part
     pub below : List Part
@@ -73,14 +73,14 @@ module _ {C : Type 0} (gets : Address → C → C → Result Tile GetFault → T
     pub stops : Stops place mid part stop after
 
   -- if memory ran out, no part at all may have been asked for
-  abbrev pub CameTo : Catalogue → Type 0 → FrontedBook → Place → C → List Part → Result Composed ComposeFault → C → Type 0
+  abbrev pub CameTo : Catalogue → Type 0 → FrontedBook → TilePlace → C → List Part → Result Composed ComposeFault → C → Type 0
   CameTo c Sound seen place before parts (Ok composed) after = HasComposed c Sound seen place before parts composed.numbers.items composed.bytes.items after
   CameTo c Sound seen place before parts (Err stop) after = HasStopped place before parts stop after ⊎ ((stop ≡ fault.OutOfMemory) × (after ≡ before))
 
   -- A TIE between the code and these definitions: the promise can be read without it.
 
   -- one more part was got, and its tile laid under those before it
-  pub record IsLaid (place : Place) (before : C) (part : Part) (sheet sheet' : Sheet) (numbers numbers' : List ℕ) (after : C) : Type 0 where
+  pub record IsLaid (place : TilePlace) (before : C) (part : Part) (sheet sheet' : OverlaySheet) (numbers numbers' : List ℕ) (after : C) : Type 0 where
     pub tile : Tile
     pub got : gets (tile_at place part) before after (Ok tile)
     pub matrix : sheet'.matrix ≡ sheet.matrix
@@ -88,7 +88,7 @@ module _ {C : Type 0} (gets : Address → C → C → Result Tile GetFault → T
     pub numbered : numbers' ≡ numbers ++ tile.number ∷ []
 
   -- the parts so far were got and laid
-  pub record AreLaidSoFar (place : Place) (before : C) (parts : List Part) (sheet sheet' : Sheet) (numbers : List ℕ) (after : C) : Type 0 where
+  pub record AreLaidSoFar (place : TilePlace) (before : C) (parts : List Part) (sheet sheet' : OverlaySheet) (numbers : List ℕ) (after : C) : Type 0 where
     pub tiles : List Tile
     pub got : AreGot place before parts tiles after
     pub matrix : sheet'.matrix ≡ sheet.matrix
@@ -97,7 +97,7 @@ module _ {C : Type 0} (gets : Address → C → C → Result Tile GetFault → T
 
 -- THE WHOLE: all the turns that a composition made, and what it came to
 module _ {C : Type 0} (leads : C → C → List (Made Note) → Type 0) (gets : Address → C → C → Result Tile GetFault → Type 0) where
-  pub record Composes (c : Catalogue) (Sound : Type 0) (seen : FrontedBook) (place : Place) (before : C) (parts : List Part) (result : Result Composed ComposeFault) (after : C) : Type 0 where
+  pub record Composes (c : Catalogue) (Sound : Type 0) (seen : FrontedBook) (place : TilePlace) (before : C) (parts : List Part) (result : Result Composed ComposeFault) (after : C) : Type 0 where
     pub gained : List (Made Note)
     pub gains : leads before after gained
     pub came_to : CameTo gets c Sound seen place before parts result after
@@ -125,6 +125,6 @@ module _ {C : Type 0} (leads : C → C → List (Made Note) → Type 0) (sound :
     pub cause : IfErr result (λ e. e ≡ got.SourceFault → Rose before.faults after.faults)
 
   -- a composition whose parts are got so
-  abbrev pub ComposesAt : Place → MomentOf C → List Part → Result Composed ComposeFault → MomentOf C → Type 0
+  abbrev pub ComposesAt : TilePlace → MomentOf C → List Part → Result Composed ComposeFault → MomentOf C → Type 0
   ComposesAt place before parts result after =
       Composes (λ x y. leads x.cache y.cache) GetsAt c (sound before.cache × (told ≡ Some c.source)) (seen before.cache) place before parts result after

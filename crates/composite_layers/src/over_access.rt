@@ -11,7 +11,7 @@ ghost use Rattle.layer_recipes.specs.Overlaid.{Lays};
 
 use crate::part::lay_part;
 use cache_access::Access;
-use layer_recipes::{ComposeFault, Composed, Overlay, Part, Place, Recipe, laws_of_composites};
+use layer_recipes::{ComposeFault, Composed, Overlay, Part, Recipe, TilePlace, laws_of_composites};
 use source_render::Source;
 use std::alloc::Global;
 
@@ -21,7 +21,7 @@ fn lay_parts<A: Access, S: Source>(
     alloc: Global,
     cache: &mut A::Cache,
     source: &mut S,
-    place: &Place,
+    place: &TilePlace,
     parts: &[Part],
     overlay: &mut Overlay,
     numbers: &mut Vec<u64>,
@@ -84,7 +84,7 @@ pub fn compose<A: Access, S: Source>(
     ensures told { S.told source.new ≡ S.told source.old }
 {
     laws_of_composites();
-    let place = Place {
+    let place = TilePlace {
         grid: recipe.grid,
         z,
         row,

@@ -8,7 +8,7 @@ ghost use Rattle.layer_recipes.specs.OfCatalogue.{IsPartOf, IsPlaceIn, tile_at};
 
 use cache_access::{Access, GetFault, get};
 use cache_core::Tile;
-use layer_recipes::{ComposeFault, Overlay, Part, Place};
+use layer_recipes::{ComposeFault, Overlay, Part, TilePlace};
 use source_render::Source;
 use std::alloc::Global;
 
@@ -18,7 +18,7 @@ fn get_part<A: Access, S: Source>(
     alloc: Global,
     cache: &mut A::Cache,
     source: &mut S,
-    place: &Place,
+    place: &TilePlace,
     part: &Part,
 ) -> Result<Tile, GetFault>
     requires reaches { A.reaches access.now cache.old }
@@ -44,7 +44,7 @@ pub(crate) fn lay_part<A: Access, S: Source>(
     alloc: Global,
     cache: &mut A::Cache,
     source: &mut S,
-    place: &Place,
+    place: &TilePlace,
     part: &Part,
     overlay: &mut Overlay,
     numbers: &mut Vec<u64>,

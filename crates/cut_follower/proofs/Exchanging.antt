@@ -9,7 +9,7 @@ use Rattle.http_wire.proofs.TakesOn.{rose_before}
 use Rattle.cut_follower.specs.declared.ends.LinkEnd.{LinkEnd}
 use Rattle.cut_follower.specs.declared.ends.LinkEnd.TheVariants as link_end
 use Rattle.cut_follower.specs.declared.leading.Exchanged.TheVariants as exchanged
-use Rattle.cut_follower.specs.Leading.{Exchange, Exchanges, IsWaiting, LeadEnds, Leads, heard_in, sent_in}
+use Rattle.cut_follower.specs.Leading.{Exchanges, IsWaiting, LeadEnds, LeadsLink, PacketExchange, heard_in, sent_in}
 use Rattle.cut_follower.specs.Links.{HasSent, HasTaken, IsCutShort, LinkAt}
 use Rattle.cut_follower.specs.Steps.{ExchangesOne, IsUnheard}
 use Rattle.outbox.specs.declared.packet.Packet.{Packet}
@@ -19,7 +19,7 @@ use Rattle.outbox.specs.Posts.{Hears, Outgoing, next_of}
 
 -- ONE MORE
 
-follow_more : (s m : Outgoing) (xs : List Exchange) (x : Exchange) → Exchanges s xs m → next_of m ≡ Some x.sent → Hears m x.heard true x.after → Exchanges s (xs ++ x ∷ []) x.after
+follow_more : (s m : Outgoing) (xs : List PacketExchange) (x : PacketExchange) → Exchanges s xs m → next_of m ≡ Some x.sent → Hears m x.heard true x.after → Exchanges s (xs ++ x ∷ []) x.after
 follow_more s m [] x follow next hears = subst (λ (o : Outgoing). (next_of o ≡ Some x.sent) × Hears o x.heard true x.after × (x.after ≡ x.after)) follow (next, hears, refl)
 follow_more s m (y ∷ ys) x follow next hears = (follow.0, follow.1, follow_more y.after m ys x follow.2 next hears)
 
@@ -39,7 +39,7 @@ hears_undecided s t (packets.Seen i) h = ap (λ (o : Outgoing). o.undecided) h.2
 -- HOW FAR
 
 pub record SoFar (a m : LinkAt) (s u : Outgoing) : Type 0 where
-  pub exchanges : List Exchange
+  pub exchanges : List PacketExchange
   pub follow : Exchanges s exchanges u
   pub sent : HasSent a m (sent_in exchanges)
   pub taken : HasTaken a m (heard_in exchanges)
@@ -61,7 +61,7 @@ far_start a s = record {
 }
 
 -- each post was seen
-pub far_done : (a b : LinkAt) (s t : Outgoing) → SoFar a b s t → next_of t ≡ None → Leads a b s t link_end.Finished
+pub far_done : (a b : LinkAt) (s t : Outgoing) → SoFar a b s t → next_of t ≡ None → LeadsLink a b s t link_end.Finished
 far_done a b s t f none = record { exchanges = f.exchanges; follow = f.follow; ends = (none, f.sent, f.taken) }
 
 -- the first so many bytes of a text went out
@@ -82,12 +82,12 @@ cut_behind a m b first second later sent cut = record {
 module _ (a m b : LinkAt) (s u t : Outgoing) (post : Packet) (f : SoFar a m s u) (next : next_of u ≡ Some post) where
   pub far_next : ExchangesOne m b post u exchanged.Heard t → m.read_faults ≤ b.read_faults → m.write_faults ≤ b.write_faults → SoFar a b s t
   far_next one reads writes =
-      let x : Exchange = record { sent = post; heard = one.0; after = t } in
+      let x : PacketExchange = record { sent = post; heard = one.0; after = t } in
       record {
         exchanges = f.exchanges ++ x ∷ [];
         follow = follow_more s u f.exchanges x f.follow next one.3;
-        sent = subst (HasSent a b) (sym (joined (λ (y : Exchange). packet_text y.sent) f.exchanges x)) (Appends-trans a.taken m.taken b.taken (sent_in f.exchanges) (packet_text post) f.sent one.1);
-        taken = subst (HasTaken a b) (sym (joined (λ (y : Exchange). packet_text y.heard) f.exchanges x)) (Consumes-trans a.left m.left b.left (heard_in f.exchanges) (packet_text one.0) f.taken one.2);
+        sent = subst (HasSent a b) (sym (joined (λ (y : PacketExchange). packet_text y.sent) f.exchanges x)) (Appends-trans a.taken m.taken b.taken (sent_in f.exchanges) (packet_text post) f.sent one.1);
+        taken = subst (HasTaken a b) (sym (joined (λ (y : PacketExchange). packet_text y.heard) f.exchanges x)) (Consumes-trans a.left m.left b.left (heard_in f.exchanges) (packet_text one.0) f.taken one.2);
         posts = hears_posts u t one.0 one.3 ∙ f.posts;
         undecided = hears_undecided u t one.0 one.3 ∙ f.undecided;
         read_later = omega (arith, f.read_later, reads);
@@ -103,19 +103,19 @@ module _ (a m b : LinkAt) (s u t : Outgoing) (post : Packet) (f : SoFar a m s u)
     taken = Consumes-trans a.left m.left b.left (heard_in f.exchanges) bytes f.taken is.taken;
   }
 
-  leads_by : (e : LinkEnd) → t ≡ u → LeadEnds a b f.exchanges u e → Leads a b s t e
-  leads_by e same ends = subst (λ (o : Outgoing). Leads a b s o e) (sym same) (record { exchanges = f.exchanges; follow = f.follow; ends = ends })
+  leads_by : (e : LinkEnd) → t ≡ u → LeadEnds a b f.exchanges u e → LeadsLink a b s t e
+  leads_by e same ends = subst (λ (o : Outgoing). LeadsLink a b s o e) (sym same) (record { exchanges = f.exchanges; follow = f.follow; ends = ends })
 
-  pub far_truncated : ExchangesOne m b post u exchanged.Truncated t → Leads a b s t link_end.Truncated
+  pub far_truncated : ExchangesOne m b post u exchanged.Truncated t → LeadsLink a b s t link_end.Truncated
   far_truncated one = leads_by link_end.Truncated one.1.same (one.0, waiting one.0 one.1, one.2, one.3)
 
-  pub far_bad : ExchangesOne m b post u exchanged.BadPacket t → Leads a b s t link_end.BadPacket
+  pub far_bad : ExchangesOne m b post u exchanged.BadPacket t → LeadsLink a b s t link_end.BadPacket
   far_bad one = leads_by link_end.BadPacket one.1.same (one.0, waiting one.0 one.1, one.2)
 
-  pub far_unread : ExchangesOne m b post u exchanged.ReadFault t → Leads a b s t link_end.ReadFault
+  pub far_unread : ExchangesOne m b post u exchanged.ReadFault t → LeadsLink a b s t link_end.ReadFault
   far_unread one = leads_by link_end.ReadFault one.1.same (one.0, waiting one.0 one.1, one.2, rose_before (2 ^ 64 - 1) a.read_faults m.read_faults b.read_faults f.read_later one.3)
 
-  pub far_unsent : ExchangesOne m b post u exchanged.WriteFault t → Leads a b s t link_end.WriteFault
+  pub far_unsent : ExchangesOne m b post u exchanged.WriteFault t → LeadsLink a b s t link_end.WriteFault
   far_unsent one = leads_by link_end.WriteFault one.0 (
     post,
     next,

@@ -21,7 +21,7 @@ use Rattle.truncation_list.specs.declared.book.Cut.{Cut}
 use Rattle.truncation_list.specs.declared.cover.Cover.{Cover}
 use Rattle.served_covers.specs.OfCatalogue.{IsCoverOf}
 use Rattle.cut_follower.specs.InStep.{IsAcknowledged, IsFront, IsInStep, IsTrueOf, book_in, covers_of, last_in, tile_number}
-use Rattle.cut_follower.specs.Lossy.{Event, Happens, IsPosted, Lossy, Passes, applied_after, arrived, asked, cabinet_opened, commanded, cut_for, heard, marks_opened, next_sent, outbox_opened, packet_of, posted, ran_out}
+use Rattle.cut_follower.specs.Lossy.{Happens, IsPosted, LinkEvent, Lossy, Passes, applied_after, arrived, asked, cabinet_opened, commanded, cut_for, heard, marks_opened, next_sent, outbox_opened, packet_of, posted, ran_out}
 use Rattle.cut_follower.specs.Takes.{IsOfCatalogue}
 use Rattle.cut_follower.proofs.Feeds.{called_of}
 use Rattle.cut_follower.proofs.Fronts.{front_itself, front_some, front_through, got_all, got_below, got_front, got_last, got_map, some_is}
@@ -41,7 +41,7 @@ applied_grow cuts change applied.Full = front_itself cuts
 applied_grow cuts change (applied.DiskFault b a) = front_itself cuts
 applied_grow cuts change (applied.Done k) = (cut_for change k ∷ [], refl)
 
-cuts_stay : (l m : Lossy) (event : Event) → Happens l event m → IsFront l.applied m.applied
+cuts_stay : (l m : Lossy) (event : LinkEvent) → Happens l event m → IsFront l.applied m.applied
 cuts_stay l m (posted cover reply) is = front_same l.applied m.applied (ap (λ (x : Lossy). x.applied) is.rest)
 cuts_stay l m next_sent is = front_same l.applied m.applied (ap (λ (x : Lossy). x.applied) is)
 cuts_stay l m (heard n i news) is = front_same l.applied m.applied (ap (λ (x : Lossy). x.applied) is.2)
@@ -71,7 +71,7 @@ heard_stay : (s t : Outgoing) (i : ℕ) (news : Bool) → Hears s (packets.Seen 
 heard_stay s t i true is = front_same s.posts t.posts (ap (λ (o : Outgoing). o.posts) is.2)
 heard_stay s t i false is = front_same s.posts t.posts (ap (λ (o : Outgoing). o.posts) is.1)
 
-posts_stay : (l m : Lossy) (event : Event) → Happens l event m → IsFront l.out.posts m.out.posts
+posts_stay : (l m : Lossy) (event : LinkEvent) → Happens l event m → IsFront l.out.posts m.out.posts
 posts_stay l m (posted cover reply) is = posted_stay l m cover reply is
 posts_stay l m next_sent is = front_same l.out.posts m.out.posts (ap posts_of is)
 posts_stay l m (heard n i news) is = heard_stay l.out m.out i news is.1
@@ -89,17 +89,17 @@ posts_stay l m cabinet_opened is = front_same l.out.posts m.out.posts (ap posts_
 posts_stay l m commanded is = front_same l.out.posts m.out.posts (ap posts_of is.1)
 posts_stay l m (asked address reply) is = front_same l.out.posts m.out.posts (ap posts_of is.rest)
 
-pub all_cuts_stay : (l m : Lossy) (events : List Event) → Passes l events m → IsFront l.applied m.applied
+pub all_cuts_stay : (l m : Lossy) (events : List LinkEvent) → Passes l events m → IsFront l.applied m.applied
 all_cuts_stay l m [] is = front_same l.applied m.applied (ap (λ (x : Lossy). x.applied) is)
 all_cuts_stay l m (e ∷ es) is = front_through l.applied is.0.applied m.applied (cuts_stay l is.0 e is.1) (all_cuts_stay is.0 m es is.2)
 
-pub all_posts_stay : (l m : Lossy) (events : List Event) → Passes l events m → IsFront l.out.posts m.out.posts
+pub all_posts_stay : (l m : Lossy) (events : List LinkEvent) → Passes l events m → IsFront l.out.posts m.out.posts
 all_posts_stay l m [] is = front_same l.out.posts m.out.posts (ap posts_of is)
 all_posts_stay l m (e ∷ es) is = front_through l.out.posts is.0.out.posts m.out.posts (posts_stay l is.0 e is.1) (all_posts_stay is.0 m es is.2)
 
 -- WHAT IS ACKNOWLEDGED
 
-pub acknowledged_cut : (l mid m : Lossy) (events more : List Event) (i : ℕ) → IsInStep l → Passes l events mid → IsAcknowledged (i + 1) mid → Passes mid more m
+pub acknowledged_cut : (l mid m : Lossy) (events more : List LinkEvent) (i : ℕ) → IsInStep l → Passes l events mid → IsAcknowledged (i + 1) mid → Passes mid more m
     → (cut : Cut) × (slice_get mid.applied i ≡ Some cut) × (slice_get mid.out.posts i ≡ Some cut.cover) × (slice_get m.applied i ≡ Some cut) × AnswersFor (book_in m) cut
 acknowledged_cut l mid m events more i h first seen next =
     let at = steps_on l mid events h first in
@@ -125,7 +125,7 @@ above_of before m address (replies.Ticket t) k h is number =
     subst (IsAboveCovering before.stores.cabinet.catalogue (book_in before) address) (some_is t.number k number)
     (all_covering before.stores.cabinet.catalogue (book_in before) address t.number (asked_above is.faults is.then_faults before.stores.cabinet m.stores.cabinet address (replies.Ticket t) h.known is.tile is.row))
 
-pub tile_above : (l mid before m : Lossy) (events more : List Event) (i k : ℕ) (cut : Cut) (address : Address) (reply : Asked) → IsInStep l → Passes l events mid → slice_get mid.applied i ≡ Some cut → Passes mid more before
+pub tile_above : (l mid before m : Lossy) (events more : List LinkEvent) (i k : ℕ) (cut : Cut) (address : Address) (reply : Asked) → IsInStep l → Passes l events mid → slice_get mid.applied i ≡ Some cut → Passes mid more before
     → Happens before (asked address reply) m → tile_number reply ≡ Some k → IsTrue (covers_in before.stores.cabinet.catalogue cut.cover address) → cut.number < k
 tile_above l mid before m events more i k cut address reply h first there next is number covered =
     let at = steps_on mid before more (steps_on l mid events h first) next in
@@ -134,7 +134,7 @@ tile_above l mid before m events more i k cut address reply h first there next i
 
 -- POSTS
 
-pub arrived_posted : (l before m : Lossy) (events : List Event) (place : ℕ) (change : Change) (reply : Applied) → IsInStep l → Passes l events before → Happens before (arrived place change reply) m
+pub arrived_posted : (l before m : Lossy) (events : List LinkEvent) (place : ℕ) (change : Change) (reply : Applied) → IsInStep l → Passes l events before → Happens before (arrived place change reply) m
     → (i : ℕ) × (change.number ≡ i + 1) × (slice_get before.out.posts i ≡ Some change.cover)
 arrived_posted l before m events place change reply h first is =
     let at = steps_on l before events h first in
@@ -147,7 +147,7 @@ sent_served l place (packets.Change n cover) h there =
 sent_served l place (packets.Seen j) h there = tt
 
 -- the cut that was answered as done is that of its change
-pub done_applied : (l before m : Lossy) (events : List Event) (place k : ℕ) (change : Change) → IsInStep l → Passes l events before → Happens before (arrived place change (applied.Done k)) m
+pub done_applied : (l before m : Lossy) (events : List LinkEvent) (place k : ℕ) (change : Change) → IsInStep l → Passes l events before → Happens before (arrived place change (applied.Done k)) m
     → (i : ℕ) × (change.number ≡ i + 1) × (slice_get m.applied i ≡ Some (record { number = k; cover = change.cover }))
 done_applied l before m events place k change h first is =
     let at = steps_on l before events h first in

@@ -20,7 +20,7 @@ use Rattle.change_feed.specs.declared.mark.Mark.{Mark}
 use Rattle.change_feed.specs.Applies.{Pair, decided, mark_for}
 use Rattle.change_feed.specs.Files.{IsBehind, Stand}
 use Rattle.change_feed.specs.Marks.{last_of}
-use Rattle.change_feed.specs.Runs.{GoesOn, IsCalled, MayBegin, Stores}
+use Rattle.change_feed.specs.Runs.{CabinetGoesOn, FeedAndCabinet, IsCalled, MayBegin}
 use Rattle.change_feed.proofs.Running.{called_answers}
 use Rattle.outbox.specs.declared.packet.Packet.{Packet}
 use Rattle.outbox.specs.declared.packet.Packet.TheVariants as packets
@@ -28,7 +28,7 @@ use Rattle.outbox.specs.declared.posted.Posted.{Posted}
 use Rattle.outbox.specs.declared.posted.Posted.TheVariants as posts
 use Rattle.outbox.specs.Posts.{Hears, Outgoing}
 use Rattle.cut_follower.specs.InStep.{IsFront, IsInStep, IsLastOf, IsNextIn, IsTrueOf, book_in, covers_of, last_in}
-use Rattle.cut_follower.specs.Lossy.{Event, Happens, IsArrived, IsFound, IsOpenedFrom, IsPosted, Lossy, Passes, applied_after, arrived, asked, begun, cabinet_opened, commanded, heard, marks_opened, next_sent, outbox_opened, packet_of, posted, ran_out, unsure_after, with_cuts, with_out, with_sent, with_some, with_stores}
+use Rattle.cut_follower.specs.Lossy.{Happens, IsArrived, IsFound, IsOpenedFrom, IsPosted, LinkEvent, Lossy, Passes, applied_after, arrived, asked, begun, cabinet_opened, commanded, heard, marks_opened, next_sent, outbox_opened, packet_of, posted, ran_out, unsure_after, with_cuts, with_out, with_sent, with_some, with_stores}
 use Rattle.cut_follower.proofs.Feeds.{called_of, goes_asked, goes_called, goes_same}
 use Rattle.cut_follower.proofs.Fronts.{front_itself, front_next, front_through, got_all, got_front, some_weaker}
 
@@ -131,7 +131,7 @@ module _ (l : Lossy) (h : IsInStep l) where
 
 -- THE FOLLOWER
 
-module _ (l : Lossy) (h : IsInStep l) (t : Stores) (g : GoesOn l.stores.cabinet t.cabinet) where
+module _ (l : Lossy) (h : IsInStep l) (t : FeedAndCabinet) (g : CabinetGoesOn l.stores.cabinet t.cabinet) where
   abbrev Answered : Cut → Type 0
   Answered = AnswersFor (now t.cabinet).book
 
@@ -259,7 +259,7 @@ module _ (l m : Lossy) (h : IsInStep l) where
         | inr found ↦ subst IsInStep (sym found.2) (taken_up l.stores.stand.undecided found.0 h.undecided found.1 g is.opens.1)
       ]
     where
-      taken_up : (undecided : Option Mark) → IsSome undecided → IfSome undecided (IsNextIn l) → m.stores.stand.mark ≡ undecided → GoesOn l.stores.cabinet m.stores.cabinet → m.stores.stand.undecided ≡ None
+      taken_up : (undecided : Option Mark) → IsSome undecided → IfSome undecided (IsNextIn l) → m.stores.stand.mark ≡ undecided → CabinetGoesOn l.stores.cabinet m.stores.cabinet → m.stores.stand.undecided ≡ None
           → IsInStep (with_cuts (with_stores l m.stores) (with_some l.applied l.unsure) l.unsure)
       taken_up None some next mark g none = absurd (false≢true some)
       taken_up (Some u) some next mark g none =
@@ -268,7 +268,7 @@ module _ (l m : Lossy) (h : IsInStep l) where
 
 -- EACH EVENT
 
-pub step_on : (l m : Lossy) (event : Event) → IsInStep l → Happens l event m → IsInStep m
+pub step_on : (l m : Lossy) (event : LinkEvent) → IsInStep l → Happens l event m → IsInStep m
 step_on l m (posted cover reply) h is = subst IsInStep (sym is.rest) (posted_on l h m cover reply is)
 step_on l m next_sent h is = subst IsInStep (sym is) (sends_on l h (slice_get l.out.posts l.out.heard) refl)
 step_on l m (heard n i news) h is = subst IsInStep (sym is.2) (heard_on l h n i news m.out is.0 is.1)
@@ -280,7 +280,7 @@ step_on l m cabinet_opened h is = subst IsInStep (sym is.1) (stand_on l h m.stor
 step_on l m commanded h is = subst IsInStep (sym is.1) (stand_on l h m.stores is.0.1 is.0.0)
 step_on l m (asked address reply) h is = subst IsInStep (sym is.rest) (stand_on l h m.stores (goes_asked l m address reply h.known is) is.same_stand)
 
-pub steps_on : (l m : Lossy) (events : List Event) → IsInStep l → Passes l events m → IsInStep m
+pub steps_on : (l m : Lossy) (events : List LinkEvent) → IsInStep l → Passes l events m → IsInStep m
 steps_on l m [] h is = subst IsInStep (sym is) h
 steps_on l m (e ∷ es) h is = steps_on is.0 m es (step_on l is.0 e h is.1) is.2
 

@@ -9,7 +9,7 @@ use Rattle.change_feed.specs.declared.change.Change.{Change}
 use Rattle.change_feed.specs.Applies.{Pair, decided}
 use Rattle.change_feed.specs.Files.{MayEndIn, Stand}
 use Rattle.change_feed.specs.Marks.{last_of}
-use Rattle.change_feed.specs.Runs.{Event, Runs, Stores, called}
+use Rattle.change_feed.specs.Runs.{FeedAndCabinet, FeedEvent, Runs, called}
 use Rattle.cut_follower.specs.declared.ends.LinkEnd.{LinkEnd}
 use Rattle.cut_follower.specs.declared.ends.LinkEnd.TheVariants as link_end
 use Rattle.cut_follower.specs.declared.taken.Taken.TheVariants as taken
@@ -150,10 +150,10 @@ MayEndAlong digest s [] image = MayEndIn digest s image
 MayEndAlong digest s (x ∷ xs) image = MayEndIn digest s image ⊎ MayEndAlong digest x.after.stand xs image
 
 -- the arrivals as events of a run of the feed on the cabinet
-abbrev pub stores_of : Pair → Stores
+abbrev pub stores_of : Pair → FeedAndCabinet
 stores_of s = record { stand = s.stand; cabinet = s.cabinet }
 
-abbrev pub events_of : List Arrival → List Event
+abbrev pub events_of : List Arrival → List FeedEvent
 events_of xs = map (λ x. called x.change x.reply) xs
 
 -- From s the arrivals lead to the last pair, and end so, with t. At every moment an image of the marks ends in a mark of a stand that they

@@ -12,7 +12,7 @@ use Rattle.catalog.specs.LookUp.{IsTile}
 use Rattle.change_feed.specs.declared.applied.Applied.{Applied}
 use Rattle.change_feed.specs.declared.applied.Applied.TheVariants as applied
 use Rattle.change_feed.specs.declared.change.Change.{Change}
-use Rattle.change_feed.specs.Runs.{Stores}
+use Rattle.change_feed.specs.Runs.{FeedAndCabinet}
 use Rattle.change_feed.specs.Runs as feeds
 use Rattle.matrix_geometry.specs.declared.address.Address.{Address}
 use Rattle.outbox.specs.declared.packet.Packet.{Packet}
@@ -33,7 +33,7 @@ use Rattle.cut_follower.specs.Takes.{IsOfCatalogue, Takes}
 -- undecided; and all packets that were sent.
 pub record Lossy : Type 0 where
   pub out : Outgoing
-  pub stores : Stores
+  pub stores : FeedAndCabinet
   pub applied : List Cut
   pub unsure : Option Cut
   pub sent : List Packet
@@ -42,24 +42,24 @@ pub record Lossy : Type 0 where
 -- arrives at the leader, and is news or not; the outbox is opened from an image; the change at a place arrives at the follower and is
 -- answered, or memory runs out there; the marks, or the cabinet, are opened from an image; another command of the cabinet is called; a
 -- tile is asked of the follower
-pub data Event : Type 0 where
-  posted : Cover → Posted → Event
-  next_sent : Event
-  heard : ℕ → ℕ → Bool → Event
-  outbox_opened : Event
-  arrived : ℕ → Change → Applied → Event
-  ran_out : ℕ → Change → Event
-  marks_opened : Event
-  cabinet_opened : Event
-  commanded : Event
-  asked : Address → Asked → Event
+pub data LinkEvent : Type 0 where
+  posted : Cover → Posted → LinkEvent
+  next_sent : LinkEvent
+  heard : ℕ → ℕ → Bool → LinkEvent
+  outbox_opened : LinkEvent
+  arrived : ℕ → Change → Applied → LinkEvent
+  ran_out : ℕ → Change → LinkEvent
+  marks_opened : LinkEvent
+  cabinet_opened : LinkEvent
+  commanded : LinkEvent
+  asked : Address → Asked → LinkEvent
 
 -- WHAT CHANGES
 
 abbrev pub with_out : Lossy → Outgoing → Lossy
 with_out l out = record { out = out; stores = l.stores; applied = l.applied; unsure = l.unsure; sent = l.sent }
 
-abbrev pub with_stores : Lossy → Stores → Lossy
+abbrev pub with_stores : Lossy → FeedAndCabinet → Lossy
 with_stores l stores = record { out = l.out; stores = stores; applied = l.applied; unsure = l.unsure; sent = l.sent }
 
 abbrev pub with_cuts : Lossy → List Cut → Option Cut → Lossy
@@ -118,7 +118,7 @@ abbrev pub packet_of : Change → Packet
 packet_of change = packets.Change change.number change.cover
 
 -- a packet was taken by its row, where its cover is of the cabinet's catalogue
-pub record IsTaken (s : Stores) (packet : Packet) (reply : Taken) (t : Stores) : Type 0 where
+pub record IsTaken (s : FeedAndCabinet) (packet : Packet) (reply : Taken) (t : FeedAndCabinet) : Type 0 where
   pub cover : IsOfCatalogue s.cabinet.catalogue packet
   -- how often the disks had failed, and had then
   pub faults : ℕ
@@ -151,7 +151,7 @@ pub record IsAsked (l : Lossy) (address : Address) (reply : Asked) (m : Lossy) :
   pub same_stand : m.stores.stand ≡ l.stores.stand
   pub rest : m ≡ with_stores l m.stores
 
-abbrev pub Happens : Lossy → Event → Lossy → Type 0
+abbrev pub Happens : Lossy → LinkEvent → Lossy → Type 0
 Happens l (posted cover reply) m = IsPosted l cover reply m
 Happens l next_sent m = m ≡ with_sent l (with_some l.sent (next_of l.out))
 Happens l (heard n i news) m = (slice_get l.sent n ≡ Some (packets.Seen i)) × Hears l.out (packets.Seen i) news m.out × (m ≡ with_out l m.out)
@@ -164,7 +164,7 @@ Happens l commanded m = feeds.IsEvent l.stores feeds.commanded m.stores × (m �
 Happens l (asked address reply) m = IsAsked l address reply m
 
 -- these events lead from the one to the other
-abbrev pub Passes : Lossy → List Event → Lossy → Type 0
+abbrev pub Passes : Lossy → List LinkEvent → Lossy → Type 0
 Passes l [] m = m ≡ l
 Passes l (event ∷ events) m = (next : Lossy) × Happens l event next × Passes next events m
 

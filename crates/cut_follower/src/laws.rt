@@ -9,7 +9,7 @@ ghost use Rattle.change_feed.specs.declared.applied.Applied.TheVariants as appli
 ghost use Rattle.change_feed.specs.declared.applied.Applied.{Applied};
 ghost use Rattle.change_feed.specs.declared.change.Change.{Change};
 ghost use Rattle.cut_follower.specs.InStep.{IsAcknowledged, IsFront, IsInStep, book_in, covers_of, tile_number};
-ghost use Rattle.cut_follower.specs.Lossy.{Event, Happens, Lossy, Passes, arrived, asked, begun};
+ghost use Rattle.cut_follower.specs.Lossy.{Happens, LinkEvent, Lossy, Passes, arrived, asked, begun};
 ghost use Rattle.cut_follower.specs.Takes.{IsOfCatalogue};
 ghost use Rattle.matrix_geometry.specs.declared.address.Address.{Address};
 ghost use Rattle.outbox.specs.Posts.{Outgoing};
@@ -32,18 +32,18 @@ ghost use Rattle.truncation_list.specs.declared.book.Cut.{Cut};
 /// behind it of no greater number, its first call told a fault of the marks with the number of its cut.
 pub fn laws_of_lossy_links()
     ensures begins { (out : Outgoing) (cabinet : State) → IsKnown cabinet → AllByRecursion (IsCoverOf cabinet.catalogue) out.posts → IfSome out.undecided (IsCoverOf cabinet.catalogue) → out.heard ≡ 0 → IsInStep (begun out cabinet) }
-    ensures all { (l m : Lossy) (events : List Event) → IsInStep l → Passes l events m → IsInStep m }
-    ensures acknowledged { (l mid m : Lossy) (events more : List Event) (i : ℕ) → IsInStep l → Passes l events mid → IsAcknowledged (i + 1) mid → Passes mid more m
+    ensures all { (l m : Lossy) (events : List LinkEvent) → IsInStep l → Passes l events m → IsInStep m }
+    ensures acknowledged { (l mid m : Lossy) (events more : List LinkEvent) (i : ℕ) → IsInStep l → Passes l events mid → IsAcknowledged (i + 1) mid → Passes mid more m
         → (cut : Cut) × (slice_get mid.applied i ≡ Some cut) × (slice_get mid.out.posts i ≡ Some cut.cover) × (slice_get m.applied i ≡ Some cut) × AnswersFor (book_in m) cut }
-    ensures tiles { (l mid before m : Lossy) (events more : List Event) (i k : ℕ) (cut : Cut) (address : Address) (reply : Asked) → IsInStep l → Passes l events mid → slice_get mid.applied i ≡ Some cut → Passes mid more before
+    ensures tiles { (l mid before m : Lossy) (events more : List LinkEvent) (i k : ℕ) (cut : Cut) (address : Address) (reply : Asked) → IsInStep l → Passes l events mid → slice_get mid.applied i ≡ Some cut → Passes mid more before
         → Happens before (asked address reply) m → tile_number reply ≡ Some k → IsTrue (covers_in before.stores.cabinet.catalogue cut.cover address) → cut.number < k }
-    ensures prefix { (l m : Lossy) (events : List Event) → IsInStep l → Passes l events m → IsFront (covers_of m.applied) m.out.posts × IsFront l.applied m.applied × IsFront l.out.posts m.out.posts }
-    ensures posted { (l before m : Lossy) (events : List Event) (place : ℕ) (change : Change) (reply : Applied) → IsInStep l → Passes l events before → Happens before (arrived place change reply) m
+    ensures prefix { (l m : Lossy) (events : List LinkEvent) → IsInStep l → Passes l events m → IsFront (covers_of m.applied) m.out.posts × IsFront l.applied m.applied × IsFront l.out.posts m.out.posts }
+    ensures posted { (l before m : Lossy) (events : List LinkEvent) (place : ℕ) (change : Change) (reply : Applied) → IsInStep l → Passes l events before → Happens before (arrived place change reply) m
         → (i : ℕ) × (change.number ≡ i + 1) × (slice_get before.out.posts i ≡ Some change.cover) }
-    ensures done { (l before m : Lossy) (events : List Event) (place k : ℕ) (change : Change) → IsInStep l → Passes l events before → Happens before (arrived place change (applied.Done k)) m
+    ensures done { (l before m : Lossy) (events : List LinkEvent) (place k : ℕ) (change : Change) → IsInStep l → Passes l events before → Happens before (arrived place change (applied.Done k)) m
         → (i : ℕ) × (change.number ≡ i + 1) × (slice_get m.applied i ≡ Some (record { number = k; cover = change.cover })) }
     ensures served { (l : Lossy) (place : ℕ) (p : Packet) → IsInStep l → slice_get l.sent place ≡ Some p → IsOfCatalogue l.stores.cabinet.catalogue p }
-    ensures once { (l m : Lossy) (before between after : List Event) (p q k : ℕ) (c d : Change) (reply : Applied) → IsInStep l → Passes l (before ++ (arrived p c (applied.Done k) ∷ (between ++ (arrived q d reply ∷ after)))) m → IsSome (marked_cut reply) → c.number < d.number }
-    ensures again { (l m : Lossy) (before between after : List Event) (p q : ℕ) (c d : Change) (first reply : Applied) → IsInStep l → Passes l (before ++ (arrived p c first ∷ (between ++ (arrived q d reply ∷ after)))) m
+    ensures once { (l m : Lossy) (before between after : List LinkEvent) (p q k : ℕ) (c d : Change) (reply : Applied) → IsInStep l → Passes l (before ++ (arrived p c (applied.Done k) ∷ (between ++ (arrived q d reply ∷ after)))) m → IsSome (marked_cut reply) → c.number < d.number }
+    ensures again { (l m : Lossy) (before between after : List LinkEvent) (p q : ℕ) (c d : Change) (first reply : Applied) → IsInStep l → Passes l (before ++ (arrived p c first ∷ (between ++ (arrived q d reply ∷ after)))) m
         → IsSome (marked_cut first) → IsSome (marked_cut reply) → d.number ≤ c.number → (k : ℕ) × (first ≡ applied.FeedFault (Some k)) }
 {}

@@ -1,6 +1,6 @@
 //! The leader's side of a link: it sends what it has posted, one change after the other, and hears what was seen.
 ghost use Rattle.std.specs.Prelude.{◌≡◌, ◌↔◌, ◌≤◌, None, Some};
-ghost use Rattle.cut_follower.specs.Leading.{Leads};
+ghost use Rattle.cut_follower.specs.Leading.{LeadsLink};
 ghost use Rattle.cut_follower.specs.Links.{LinkAt};
 ghost use Rattle.cut_follower.specs.Steps.{ExchangesOne, HearsBytes};
 ghost use Rattle.cut_follower.specs.declared.ends.LinkEnd.TheVariants as link_end;
@@ -77,7 +77,7 @@ fn exchange<D: Disk, L: Link>(outbox: &mut Outbox<D>, link: &mut L, post: &Packe
 /// one that it waited for; `BadPacket` where 64 bytes are no `Seen`, or one below the post that was just sent or above the posts;
 /// `ReadFault` and `WriteFault` only where that count of the link rose.
 pub fn lead_link<D: Disk, L: Link>(outbox: &mut Outbox<D>, link: &mut L) -> LinkEnd
-    ensures leads { Leads
+    ensures leads { LeadsLink
         (record { left = L.left link.old; read_faults = L.ByteSource.faults link.old; taken = L.taken link.old; write_faults = L.ByteSink.faults link.old })
         (record { left = L.left link.new; read_faults = L.ByteSource.faults link.new; taken = L.taken link.new; write_faults = L.ByteSink.faults link.new })
         outbox.old.out outbox.new.out result }

@@ -4,6 +4,8 @@ ghost use Rattle.base.specs.Causes.{HasCause};
 ghost use Rattle.disk_model.specs.Content.{bytes_at, written, resized, TornWrite, TornCut, Same};
 ghost use Rattle.disk_model.specs.Images.{DiskState, Only, Steps, IsLawful};
 
+use crate::blob_part::BlobPart;
+
 /// A call of a disk failed.
 #[derive(Clone, Copy, Debug, PartialEq, Eq, Drop)]
 pub struct Failed;
@@ -31,9 +33,30 @@ pub trait Disk: Drop {
         ensures steps { IsTrue (told self.old) → Steps Same (state self.old) (state self.new) }
         ensures cause { HasCause (faults self.old) (faults self.new) result };
 
+    /// Reads a part of a blob, as `read` does. A disk that keeps more of a blob than its bytes fails where they aren't those that were
+    /// written as this part.
+    fn read_of(&mut self, part: BlobPart, at: u64, into: &mut [u8]) -> Result<(), Failed>
+        requires { at + length into.old ≤ 2 ^ 62 }
+        ensures told { told self.new ≡ told self.old }
+        ensures bytes { IsTrue (told self.old)
+            → OnOk result (into.new ≡ bytes_at (state self.old).seen at (length into.old)) }
+        ensures steps { IsTrue (told self.old) → Steps Same (state self.old) (state self.new) }
+        ensures cause { HasCause (faults self.old) (faults self.new) result };
+
     /// Writes from a place on. Until a sync, and also where the call failed, a crash may leave any bytes in the range and
     /// past the old end.
     fn write_at(&mut self, at: u64, bytes: &[u8]) -> Result<(), Failed>
+        requires { at + length bytes.now ≤ 2 ^ 62 }
+        ensures told { told self.new ≡ told self.old }
+        ensures written { IsTrue (told self.old)
+            → OnOk result ((state self.new).seen ≡ written at bytes.now (state self.old).seen) }
+        ensures steps { IsTrue (told self.old)
+            → Steps (TornWrite at (length bytes.now)) (state self.old) (state self.new) }
+        ensures cause { HasCause (faults self.old) (faults self.new) result };
+
+    /// Writes a part of a blob, as `write_at` does. It will be read in pieces of this length, in bytes, the first of which begins where the
+    /// part does.
+    fn write_of(&mut self, part: BlobPart, piece: u32, at: u64, bytes: &[u8]) -> Result<(), Failed>
         requires { at + length bytes.now ≤ 2 ^ 62 }
         ensures told { told self.new ≡ told self.old }
         ensures written { IsTrue (told self.old)
@@ -81,8 +104,22 @@ impl<D: Disk> Disk for &mut D {
         (**self).read(at, into)
     }
 
+    fn read_of(&mut self, part: BlobPart, at: u64, into: &mut [u8]) -> Result<(), Failed> {
+        (**self).read_of(part, at, into)
+    }
+
     fn write_at(&mut self, at: u64, bytes: &[u8]) -> Result<(), Failed> {
         (**self).write_at(at, bytes)
+    }
+
+    fn write_of(
+        &mut self,
+        part: BlobPart,
+        piece: u32,
+        at: u64,
+        bytes: &[u8],
+    ) -> Result<(), Failed> {
+        (**self).write_of(part, piece, at, bytes)
     }
 
     fn cut(&mut self, length: u64) -> Result<(), Failed> {

@@ -4,6 +4,7 @@ ghost use Rattle.std.specs.Prelude.{◌≡◌, false};
 ghost use Rattle.base.specs.Causes.{HasCause};
 ghost use Rattle.disk_model.specs.Images.{silent};
 
+use crate::blob_part::BlobPart;
 use crate::disk::{Disk, Failed};
 use base::one_more;
 use std::fs::File;
@@ -95,9 +96,25 @@ impl Disk for FileDisk {
         self.answer(done)
     }
 
+    // What was written of a blob is lost where the file ends before it.
+    fn read_of(&mut self, _part: BlobPart, at: u64, into: &mut [u8]) -> Result<(), Failed> {
+        let done = self.file.read_exact_at(into, at);
+        self.answer(done)
+    }
+
     fn write_at(&mut self, at: u64, bytes: &[u8]) -> Result<(), Failed> {
         let done = self.file.write_all_at(bytes, at);
         self.answer(done)
+    }
+
+    fn write_of(
+        &mut self,
+        _part: BlobPart,
+        _piece: u32,
+        at: u64,
+        bytes: &[u8],
+    ) -> Result<(), Failed> {
+        self.write_at(at, bytes)
     }
 
     fn cut(&mut self, length: u64) -> Result<(), Failed> {

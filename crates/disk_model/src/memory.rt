@@ -9,6 +9,7 @@ ghost use Rattle.disk_model.specs.Memory.{GoesBy, GoesWithMemory, IsUntouched, c
 ghost use Rattle.disk_model.specs.Replay.{first_of};
 
 use crate::attempt::{fail_cut, fail_write, read_into, resize, sync, write};
+use crate::blob_part::BlobPart;
 use crate::bytes;
 use crate::disk::{Disk, Failed};
 use crate::log::{Call, Log};
@@ -142,6 +143,16 @@ impl Disk for MemoryDisk {
         Ok(())
     }
 
+    fn read_of(&mut self, _part: BlobPart, at: u64, into: &mut [u8]) -> Result<(), Failed>
+        requires { at + length into.old ≤ 2 ^ 62 }
+        ensures bytes { OnOk result (into.new ≡ bytes_at (memory_state self.old).seen at (length into.old)) }
+        ensures steps { Steps Same (memory_state self.old) (memory_state self.new) }
+        ensures cause { HasCause (memory_faults self.old) (memory_faults self.new) result }
+        ensures script { GoesBy (script_of self.old) (script_of self.new) result }
+    {
+        self.read(at, into)
+    }
+
     fn write_at(&mut self, at: u64, bytes: &[u8]) -> Result<(), Failed>
         requires { at + length bytes.now ≤ 2 ^ 62 }
         ensures written { OnOk result ((memory_state self.new).seen ≡ written at bytes.now (memory_state self.old).seen) }
@@ -157,6 +168,23 @@ impl Disk for MemoryDisk {
         }
         let done = write(self.alloc, &mut self.log, at, bytes);
         self.answer(done)
+    }
+
+    fn write_of(
+        &mut self,
+        _part: BlobPart,
+        _piece: u32,
+        at: u64,
+        bytes: &[u8],
+    ) -> Result<(), Failed>
+        requires { at + length bytes.now ≤ 2 ^ 62 }
+        ensures written { OnOk result ((memory_state self.new).seen ≡ written at bytes.now (memory_state self.old).seen) }
+        ensures kept { OnErr result ((memory_state self.new).seen ≡ (memory_state self.old).seen) }
+        ensures steps { Steps (TornWrite at (length bytes.now)) (memory_state self.old) (memory_state self.new) }
+        ensures cause { HasCause (memory_faults self.old) (memory_faults self.new) result }
+        ensures script { GoesWithMemory (script_of self.old) (script_of self.new) result }
+    {
+        self.write_at(at, bytes)
     }
 
     fn cut(&mut self, length: u64) -> Result<(), Failed>

@@ -3,7 +3,7 @@ use Rattle.std.specs.Prelude.{IfSome, IsSome}
 use Rattle.std.proofs.Common.{ℕ, ◌≡◌, ◌≤◌, ◌<◌, ◌+◌, ◌^◌, ◌-◌, suc, Bool, true, false, not, cond, List, [], ◌∷◌, length, filter, find, Option, Some, None, arith, inr, refl, sym, subst}
 use Rattle.cabinet.specs.Commands.{Expires}
 use Rattle.cabinet.specs.Counted.{scope_exceeded}
-use Rattle.cabinet.specs.declared.entry.Entry.TheVariants as entry
+use Rattle.cabinet.specs.declared.entry.HistoryEntry.TheVariants as entry
 use Rattle.cabinet.specs.declared.kept.Kept.{Kept}
 use Rattle.cabinet.specs.declared.replies.Expired.TheVariants as expired
 use Rattle.cabinet.specs.History.{is_of}

@@ -6,11 +6,11 @@ use Rattle.tile_service.specs.declared.schedule.ScheduleEnd.{ScheduleEnd}
 use Rattle.tile_service.specs.declared.schedule.ScheduleEnd.TheVariants as schedule
 use Rattle.sessions.specs.declared.session.SessionEnd.{SessionEnd}
 use Rattle.sessions.specs.Outside.{InputChange, Outside}
-use Rattle.tile_service.specs.Run.{World}
+use Rattle.tile_service.specs.Run.{RunState}
 use Rattle.tile_service.specs.Schedules.{SchedulesThrough}
 
 module _ (P Q : State → Type 0) (onward : (x : State) → P x → Q x) (i : InputChange) (o : Outside) where
-  schedules_weaker : (U : Type 0) (w t : World) (e : ScheduleEnd) → SchedulesThrough P i o U w t e → SchedulesThrough Q i o U w t e
+  schedules_weaker : (U : Type 0) (w t : RunState) (e : ScheduleEnd) → SchedulesThrough P i o U w t e → SchedulesThrough Q i o U w t e
   schedules_weaker U w t schedule.Done h = (h.0, λ n. onward _ (h.1 n))
   schedules_weaker U w t (schedule.Line n) h = (h.0, λ n. onward _ (h.1 n))
   schedules_weaker U w t schedule.WriteFault h = (h.0, λ n. onward _ (h.1 n))

@@ -12,7 +12,7 @@ use Rattle.tile_service.specs.declared.run_lines.RunEnd.TheVariants as run_end
 use Rattle.tile_service.specs.declared.schedule.ScheduleEnd.{ScheduleEnd}
 use Rattle.tile_service.specs.declared.schedule.ScheduleEnd.TheVariants as schedule
 use Rattle.sessions.specs.Outside.{InputChange, Outside}
-use Rattle.tile_service.specs.Run.{PendingRequest, World, left_by, run}
+use Rattle.tile_service.specs.Run.{PendingRequest, RunState, left_by, run}
 use Rattle.tile_service.specs.Schedules.{Ends, HasRunAll, Schedules}
 
 -- who gives up keeps and drops no blob
@@ -35,16 +35,16 @@ all_left_sound : (s : State) (busy : List (Option PendingRequest)) → IsSound s
 all_left_sound s [] sound = sound
 all_left_sound s (b ∷ busy) sound = all_left_sound (left_by s b) busy (left_sound s b sound)
 
-module _ (i : InputChange) (o : Outside) (w t : World) where
-  ran_to : (lines : List (List ℕ)) (chances : List Chance) (last : World) (e : RunEnd) → Ends o w lines chances last e → last ≡ (run w 1 lines chances).world
+module _ (i : InputChange) (o : Outside) (w t : RunState) where
+  ran_to : (lines : List (List ℕ)) (chances : List Chance) (last : RunState) (e : RunEnd) → Ends o w lines chances last e → last ≡ (run w 1 lines chances).world
   ran_to lines chances last run_end.Done h = h.1
   ran_to lines chances last (run_end.Line n) h = h.1
   ran_to lines chances last run_end.WriteFault h = h.0
 
   all_sound : (e : RunEnd) → HasRunAll i o w t e → o.told ≡ Some w.cabinet.catalogue.source → IsSound w.cabinet → IsSound t.cabinet
   all_sound e h told sound =
-      let last : IsSound h.last.cabinet = subst (λ (x : World). IsSound x.cabinet) (sym (ran_to h.ran.lines h.ran.chances h.last e h.ran.ends)) (h.ran.upheld.sound told sound) in
-      subst (λ (x : World). IsSound x.cabinet) (sym h.closes) (all_left_sound h.last.cabinet h.last.seats last)
+      let last : IsSound h.last.cabinet = subst (λ (x : RunState). IsSound x.cabinet) (sym (ran_to h.ran.lines h.ran.chances h.last e h.ran.ends)) (h.ran.upheld.sound told sound) in
+      subst (λ (x : RunState). IsSound x.cabinet) (sym h.closes) (all_left_sound h.last.cabinet h.last.seats last)
 
   pub schedule_sound : (U : Type 0) → (U → t.cabinet ≡ w.cabinet) → (e : ScheduleEnd) → Schedules i o U w t e → o.told ≡ Some w.cabinet.catalogue.source → IsSound w.cabinet → IsSound t.cabinet
   schedule_sound U same schedule.Done h told sound = all_sound run_end.Done h told sound

@@ -14,7 +14,7 @@ use Rattle.tile_service.specs.declared.schedule.ScheduleEnd.TheVariants as sched
 use Rattle.sessions.specs.declared.session.SessionEnd.{SessionEnd}
 use Rattle.sessions.specs.declared.session.SessionEnd.TheVariants as session
 use Rattle.sessions.specs.Outside.{InputChange, Outside}
-use Rattle.tile_service.specs.Run.{World, free_seats, world_of}
+use Rattle.tile_service.specs.Run.{RunState, free_seats, run_state_of}
 use Rattle.tile_service.specs.Schedules.{SchedulesThrough}
 use Rattle.tile_service.specs.Replays.{HasSessionThrough}
 
@@ -27,8 +27,8 @@ use Rattle.tile_service.specs.Replays.{HasSessionThrough}
 -- nothing was run the cabinet is as it was before the saving. Where the source is modelled as the catalogue's, what the cabinet then keeps is the pictures
 -- of the numbers, if what was opened was.
 pub record RunsAndSaves (P : State → Type 0) (document : List ℕ) (i : InputChange) (o : Outside) (Stays : Type 0) (s u : State) (e : ScheduleEnd) : Type 0 where
-  pub world : World
-  pub schedules : SchedulesThrough P i o (Stays × (world.cabinet ≡ s)) (world_of s document free_seats) world e
+  pub world : RunState
+  pub schedules : SchedulesThrough P i o (Stays × (world.cabinet ≡ s)) (run_state_of s document free_seats) world e
   pub saves : SavesAll o.disk world.cabinet u
   pub sound : o.told ≡ Some s.catalogue.source → IsSound s → IsSound u
 

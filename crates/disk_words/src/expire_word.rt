@@ -17,7 +17,7 @@ use catalog::Catalogue;
 use command_status::{Status, status_of_opening};
 use disk_model::Disk;
 use http_wire::ByteSink;
-use opened_cache::{Loan, closed, numbered, opened, written};
+use opened_cache::{Loan, close_cache, number_text, open_cache, write_text};
 use std::alloc::Global;
 use std::marker::Brand;
 
@@ -62,7 +62,7 @@ fn told_dropped<O: ByteSink>(output: &mut O, dropped: Option<u32>) -> Status
     ensures { TellsDropped (record { writes = counts (O.faults output.old) (O.faults output.new); from = O.taken output.old; to = O.taken output.new }) (output.new ≡ output.old) dropped result }
 {
     match dropped {
-        Some(count) => written(output, numbered(b"dropped ", u64::from(count)), b"\n"),
+        Some(count) => write_text(output, number_text(b"dropped ", u64::from(count)), b"\n"),
         None => Status::DiskFault,
     }
 }
@@ -86,10 +86,10 @@ fn expire_over<'a, D: Disk, O: ByteSink, L: Loan>(
     ensures told { D.told result.0.now ≡ D.told disk.entry.now }
     ensures loan { result.0.ghost_name ≡ L.disk }
 {
-    match opened::<D, L>(alloc, catalogue, clock, disk) {
+    match open_cache::<D, L>(alloc, catalogue, clock, disk) {
         Ok(mut cabinet) => {
             let dropped = drop_all(&mut cabinet);
-            let disk = closed(cabinet);
+            let disk = close_cache(cabinet);
             (disk, told_dropped(output, dropped))
         }
         Err(refusal) => {

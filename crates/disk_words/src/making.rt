@@ -10,7 +10,7 @@ use catalog::Catalogue;
 use command_status::Status;
 use disk_model::Disk;
 use http_wire::ByteSink;
-use opened_cache::written;
+use opened_cache::write_text;
 
 /// Makes an empty cache on the disk, whatever stood there, and writes that it is made. Each end comes as `Makes` says. It takes no
 /// memory.
@@ -23,7 +23,7 @@ pub fn make<D: Disk, O: ByteSink>(catalogue: &Catalogue, disk: &mut D, output: &
     ensures told { D.told disk.new ≡ D.told disk.old }
 {
     match durable_cabinet::make(catalogue, disk) {
-        Ok(()) => written(output, ArrayVec::new(), b"made\n"),
+        Ok(()) => write_text(output, ArrayVec::new(), b"made\n"),
         Err(_) => Status::DiskFault,
     }
 }

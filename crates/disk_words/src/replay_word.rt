@@ -19,13 +19,13 @@ use command_status::{Status, status_of_opening, status_of_session};
 use disk_model::Disk;
 use exact_ratio::Words;
 use http_wire::{ByteSink, ByteSource};
-use opened_cache::{LentCabinet, Loan, closed, leaves_now, opened, save_all};
+use opened_cache::{LentCabinet, Loan, close_cache, leaves_now, open_cache, save_all};
 use sessions::SessionEnd;
 use source_render::Source;
 use std::alloc::Global;
 use std::marker::Brand;
+use tile_requests::Tables;
 use tile_service::{Counter, replay_streams};
-use wmts_rest::RestTable;
 
 /// Opens the cache of the disk, serves the bytes of the input as those of one connection with it, writes the responses, and saves the
 /// uses of what is kept. A fault of the disk ends it at the opening alone. Each end comes as `RunsSession` says. After each message there
@@ -50,13 +50,13 @@ pub fn replay<D: Disk, S: Source, I: ByteSource, O: ByteSink>(
     ensures lasts { LastsThrough catalogue (record { told = D.told disk.old; faults = counts (D.faults disk.old) (D.faults disk.new); from = D.state disk.old; to = D.state disk.new }) }
     ensures told { D.told disk.new ≡ D.told disk.old }
 {
-    match RestTable::new(alloc) {
-        Ok(rest) => {
+    match Tables::new(alloc) {
+        Ok(tables) => {
             replay_over::<D, S, I, O, Brand>(
                 alloc,
                 catalogue,
                 capabilities,
-                rest,
+                tables,
                 input,
                 clock,
                 disk,
@@ -96,7 +96,7 @@ fn replay_over<'a, D: Disk, S: Source, I: ByteSource, O: ByteSink, L: Loan>(
     alloc: Global,
     catalogue: Catalogue,
     capabilities: Words,
-    rest: RestTable,
+    tables: Tables,
     input: &mut I,
     clock: Clock,
     disk: &'a mut D,
@@ -115,26 +115,26 @@ fn replay_over<'a, D: Disk, S: Source, I: ByteSource, O: ByteSink, L: Loan>(
     ensures told { D.told result.0.now ≡ D.told disk.entry.now }
     ensures loan { result.0.ghost_name ≡ L.disk }
 {
-    match opened::<D, L>(alloc, catalogue, clock, disk) {
+    match open_cache::<D, L>(alloc, catalogue, clock, disk) {
         Ok(cabinet) => {
             leaves_now(&cabinet);
             let mut counter = Counter {
                 cabinet: LentCabinet { cabinet },
-                rest,
+                tables,
                 capabilities,
             };
             let end = serve_and_save(alloc, &mut counter, input, source, output);
             let Counter {
                 cabinet,
-                rest,
+                tables,
                 capabilities,
             } = counter;
-            drop(rest);
+            drop(tables);
             drop(capabilities);
-            (closed(cabinet.cabinet), status_of_session(end))
+            (close_cache(cabinet.cabinet), status_of_session(end))
         }
         Err(refusal) => {
-            drop(rest);
+            drop(tables);
             drop(capabilities);
             let (fault, disk) = refusal;
             (disk, status_of_opening(fault))

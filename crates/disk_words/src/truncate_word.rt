@@ -17,7 +17,7 @@ use command_status::{Status, status_of_opening};
 use disk_model::Disk;
 use gate_journal::OpenFault;
 use http_wire::{ByteSink, ByteSource};
-use opened_cache::{Loan, closed, numbered, opened, written};
+use opened_cache::{Loan, close_cache, number_text, open_cache, write_text};
 use std::alloc::{AllocError, Global};
 use std::marker::Brand;
 use truncation_list::Cover;
@@ -75,7 +75,7 @@ fn told_cut<O: ByteSink>(output: &mut O, reply: Result<CutReply, AllocError>) ->
     ensures { TellsCut (record { writes = counts (O.faults output.old) (O.faults output.new); from = O.taken output.old; to = O.taken output.new }) (output.new ≡ output.old) reply result }
 {
     match reply {
-        Ok(CutReply::Done(number)) => written(output, numbered(b"cut ", number), b"\n"),
+        Ok(CutReply::Done(number)) => write_text(output, number_text(b"cut ", number), b"\n"),
         Ok(CutReply::Full) => Status::CutsFull,
         Ok(CutReply::DiskFault(_, _)) => Status::DiskFault,
         Ok(CutReply::Spent) => Status::Cache(OpenFault::Spent),
@@ -104,10 +104,10 @@ fn truncate_over<'a, D: Disk, O: ByteSink, L: Loan>(
     ensures told { D.told result.0.now ≡ D.told disk.entry.now }
     ensures loan { result.0.ghost_name ≡ L.disk }
 {
-    match opened::<D, L>(alloc, catalogue, clock, disk) {
+    match open_cache::<D, L>(alloc, catalogue, clock, disk) {
         Ok(mut cabinet) => {
             let reply = Keeper::cut(&mut cabinet, alloc, cover);
-            let disk = closed(cabinet);
+            let disk = close_cache(cabinet);
             (disk, told_cut(output, reply))
         }
         Err(refusal) => {

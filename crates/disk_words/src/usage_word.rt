@@ -17,7 +17,7 @@ use command_status::{Status, status_of_opening};
 use disk_model::Disk;
 use exact_ratio::Words;
 use http_wire::ByteSink;
-use opened_cache::{Loan, closed, opened, written};
+use opened_cache::{Loan, close_cache, open_cache, write_text};
 use std::alloc::{AllocError, Global};
 use std::marker::Brand;
 use tile_requests::{laws_of_lone_threads, usage_text};
@@ -72,13 +72,13 @@ fn usage_over<'a, D: Disk, O: ByteSink, L: Loan>(
     ensures told { D.told result.0.now ≡ D.told disk.entry.now }
     ensures loan { result.0.ghost_name ≡ L.disk }
 {
-    match opened::<D, L>(alloc, catalogue, clock, disk) {
+    match open_cache::<D, L>(alloc, catalogue, clock, disk) {
         Ok(mut cabinet) => match told_usage(alloc, &mut cabinet) {
             Ok(text) => {
-                let disk = closed(cabinet);
-                (disk, written(output, ArrayVec::new(), text.bytes()))
+                let disk = close_cache(cabinet);
+                (disk, write_text(output, ArrayVec::new(), text.bytes()))
             }
-            Err(_) => (closed(cabinet), Status::OutOfMemory),
+            Err(_) => (close_cache(cabinet), Status::OutOfMemory),
         },
         Err(refusal) => {
             let (fault, disk) = refusal;

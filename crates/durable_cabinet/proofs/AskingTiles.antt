@@ -6,7 +6,7 @@ use Rattle.disk_model.specs.Content.{Content, bytes_at}
 use Rattle.matrix_geometry.specs.declared.address.Address.{Address}
 use Rattle.metatile_plan.specs.declared.metatile.MetaKey.{MetaKey}
 use Rattle.raster_field.specs.Blocks.{block_of}
-use Rattle.cabinet.specs.declared.entry.Entry.TheVariants as entry
+use Rattle.cabinet.specs.declared.entry.HistoryEntry.TheVariants as entry
 use Rattle.cabinet.specs.declared.kept.Kept.{Kept}
 use Rattle.cabinet.specs.declared.kept.KeptBlob.{KeptBlob}
 use Rattle.cabinet.specs.declared.replies.Forced.{Forced}
@@ -21,7 +21,7 @@ use Rattle.durable_cabinet.specs.Alike.{IsAlikeTo}
 use Rattle.durable_cabinet.specs.Drafts.{needed}
 use Rattle.durable_cabinet.specs.Filed.{on_disk}
 use Rattle.durable_cabinet.specs.Images.{blob_on, blobs_start}
-use Rattle.durable_cabinet.specs.Tiles.{IsPartOf}
+use Rattle.durable_cabinet.specs.Tiles.{IsTilePartOf}
 use Rattle.durable_cabinet.proofs.Forcing.{alike_then, as_alike, ask_alike, asked_entered, entry_alike, forced_alike, forced_needed, needed_as}
 use Rattle.durable_cabinet.proofs.Missing.{alike_itself}
 
@@ -88,7 +88,7 @@ module _ (s : State) (a : Address) where
       subst (λ (o : Option KeptBlob). IfSome (option_map (λ b. b.text) o) (λ text. blob ≡ text)) (sym at) (there refl)
   text_on false seen n t blob e there = tt
 
-  pub hit_on : (told : Bool) (seen : Content) (u : State) (n : ℕ) (t : Kept) (bytes : List ℕ) → kept_of (block_of s.catalogue a) (now s) ≡ Some t → IsPartOf told s.catalogue seen a t bytes → IsSome (answering (asked_at n s) a)
+  pub hit_on : (told : Bool) (seen : Content) (u : State) (n : ℕ) (t : Kept) (bytes : List ℕ) → kept_of (block_of s.catalogue a) (now s) ≡ Some t → IsTilePartOf told s.catalogue seen a t bytes → IsSome (answering (asked_at n s) a)
       → u ≡ used_at s n (block_of s.catalogue a) → IsHit (asked_at n (on_disk told seen s)) a t.number bytes (on_disk told seen u)
   hit_on told seen u n t bytes e p some is =
       let at = kept_then n (Some t) e in

@@ -24,10 +24,10 @@ use Rattle.cabinet_records.proofs.RecordedOpening.{compacts_recorded}
 use Rattle.catalog.specs.declared.catalogue.Catalogue.{Catalogue}
 use Rattle.cabinet.specs.declared.kept.Kept.{Kept}
 use Rattle.cache_file.specs.File.{Anywhere, Brings, HasHeld, HoldsBlob, held, readied}
-use Rattle.durable_cabinet.specs.Backing.{AreRegionsOf, Enters, IsRegionIn, IsWritten, Leads, Rests, Writes}
+use Rattle.durable_cabinet.specs.Backing.{AreRegionsOf, Enters, IsRegionIn, IsWritten, RecordLeads, Rests, WritesRecord}
 use Rattle.durable_cabinet.specs.Alike.{IsAlikeTo}
 use Rattle.durable_cabinet.specs.Drafts.{IsCompactionOf}
-use Rattle.durable_cabinet.specs.Filed.{IsFiled, IsHeldOn, IsKeptOn, IsRecordOf, on_disk}
+use Rattle.durable_cabinet.specs.Filed.{IsFiled, IsHeldOn, IsKeptOn, IsOpeningOf, on_disk}
 use Rattle.durable_cabinet.specs.Images.{IsBeside, IsLeft, Restores, blob_on, blobs_start, slots_for}
 use Rattle.durable_cabinet.specs.Missed.{HasMissed}
 use Rattle.durable_cabinet.proofs.Blobs.{AreHeld, all_same, same_on}
@@ -42,7 +42,7 @@ all_records : (rs : List Record) → AllByRecursion Fits rs → AreRecordsOf 2 (
 all_records [] fits = tt
 all_records (r ∷ rs) fits = ((fits.0, refl, λ one. absurd (omega (arith, one))), all_records rs fits.1)
 
-compaction_record : (s : State) → IsKnown s → (bodies : List (List ℕ)) → IsCompactionOf s bodies → IsRecordOf s (records 2 bodies)
+compaction_record : (s : State) → IsKnown s → (bodies : List (List ℕ)) → IsCompactionOf s bodies → IsOpeningOf s (records 2 bodies)
 compaction_record s known bodies c =
     let rs = compacted s.opening.number (now s).book c.kept in
     record {
@@ -54,15 +54,15 @@ compaction_record s known bodies c =
       recorded = compacts_recorded s c.kept known c.order;
     }
 
-pub readied_record : (s : State) → IsKnown s → (room : ℕ) (before : Opening) (bodies : List (List ℕ)) → (room ≡ 0 → IsCompactionOf s bodies) → IsRecordOf s before → IsRecordOf s (readied room before bodies)
+pub readied_record : (s : State) → IsKnown s → (room : ℕ) (before : Opening) (bodies : List (List ℕ)) → (room ≡ 0 → IsCompactionOf s bodies) → IsOpeningOf s before → IsOpeningOf s (readied room before bodies)
 readied_record s known zero before bodies compacts r = compaction_record s known bodies (compacts refl)
 readied_record s known (suc room) before bodies compacts r = r
 
 -- CALLS on the records, of a file that is tied to a cabinet, towards another cabinet or itself
 
 module _ {T E : Type 0} (told : Bool) (s u : State) (known : IsKnown s) (start : ℕ) (j : Journal) (old : DiskState) (filed : IsFiled s told start j old) (start' : ℕ) (j' : Journal) (new : DiskState) (same_start : start' ≡ start)
-    (alike : IsAlike j j') (version : version_of j ≡ 2 → version_of j' ≡ 2) (lead_known : IsKnown u) (is_beside : IsBeside s u) (after : Opening) (leads : IsTrue told → IsRecordOf u after)
-    (missed : State) (like : IsAlikeTo s missed) (misses : IsTrue told → IsRecordOf missed after ⊎ HasMissed (shown missed old) (shown u old)) (holds : IsTrue told → AreHeld s.catalogue old (now u).kept) (result : Result T E) (brings : IsTrue told → Brings result after start j j' old new) (settled : OnOk result (IsSettled j')) (reads : IsTrue told → new.may_leave new.seen) where
+    (alike : IsAlike j j') (version : version_of j ≡ 2 → version_of j' ≡ 2) (lead_known : IsKnown u) (is_beside : IsBeside s u) (after : Opening) (leads : IsTrue told → IsOpeningOf u after)
+    (missed : State) (like : IsAlikeTo s missed) (misses : IsTrue told → IsOpeningOf missed after ⊎ HasMissed (shown missed old) (shown u old)) (holds : IsTrue told → AreHeld s.catalogue old (now u).kept) (result : Result T E) (brings : IsTrue told → Brings result after start j j' old new) (settled : OnOk result (IsSettled j')) (reads : IsTrue told → new.may_leave new.seen) where
   call : IsTrue told → Brings result after (blobs_start s.catalogue) j j' old new
   call is = subst (λ (n : ℕ). Brings result after n j j' old new) filed.start_is (brings is)
 
@@ -127,10 +127,10 @@ pub ready_of : {T E : Type 0} (told : Bool) (s : State) (known : IsKnown s) (sta
     → (IsTrue told → Brings result (readied (room_of j) (held j old) bodies) start j j' old new) → (IsTrue told → new.may_leave new.seen) → IsFiled s told start' j' new × Rests told s j old new
 ready_of told s known start j old filed start' j' new same_start alike version bodies compacts result ok brings reads =
     let after = readied (room_of j) (held j old) bodies in
-    let leads : IsTrue told → IsRecordOf s after = λ is. readied_record s known (room_of j) (held j old) bodies compacts (filed.on is).recorded in
+    let leads : IsTrue told → IsOpeningOf s after = λ is. readied_record s known (room_of j) (held j old) bodies compacts (filed.on is).recorded in
     let holds : IsTrue told → AreHeld s.catalogue old (now s).kept = λ is. (filed.on is).holds in
     let settled : OnOk result (IsSettled j') = on_ok_weaker result (λ done. done.0) ok in
-    let own : IsTrue told → IsRecordOf s after ⊎ HasMissed (shown s old) (shown s old) = λ is. inl (leads is) in
+    let own : IsTrue told → IsOpeningOf s after ⊎ HasMissed (shown s old) (shown s old) = λ is. inl (leads is) in
     let w = written told s s known start j old filed start' j' new same_start alike version known (beside_itself s) after leads s (alike_itself s) own holds result brings settled reads in
     let images = call_images told s s known start j old filed start' j' new same_start alike version known (beside_itself s) after leads s (alike_itself s) own holds result brings settled reads in
     let keeps = call_keeps told s s known start j old filed start' j' new same_start alike version known (beside_itself s) after leads s (alike_itself s) own holds result brings settled reads in
@@ -154,11 +154,11 @@ compaction_few s known bodies c =
 pub enters_of : {T E : Type 0} (told : Bool) (s : State) (known : IsKnown s) (start : ℕ) (j : Journal) (old : DiskState) (filed : IsFiled s told start j old) (start' : ℕ) (j' : Journal) (new : DiskState) → start' ≡ start → IsAlike j j'
     → (version_of j ≡ 2 → version_of j' ≡ 2) → IsSettled j → (entry : Record) → Fits entry → (result : Result T E) → OnOk result (IsSettled j')
     → (IsTrue told → Brings result (records (version_of j) (kept j old.seen ++ spelling entry ∷ [])) start j j' old new) → (IsTrue told → new.may_leave new.seen)
-    → (missed u : State) → Leads s missed u entry → (IsTrue told → AreHeld s.catalogue old (now u).kept) → Enters result told s missed u start' j' old new
+    → (missed u : State) → RecordLeads s missed u entry → (IsTrue told → AreHeld s.catalogue old (now u).kept) → Enters result told s missed u start' j' old new
 enters_of told s known start j old filed start' j' new same_start alike version sure entry fits result settled brings reads missed u leads holds =
     let after = records (version_of j) (kept j old.seen ++ spelling entry ∷ []) in
-    let lead : IsTrue told → IsRecordOf u after = λ is. recorded_one s u (version_of j) (kept j old.seen) entry filed.version fits leads.recorded (filed.on is).recorded in
-    let misses : IsTrue told → IsRecordOf missed after ⊎ HasMissed (shown missed old) (shown u old) = λ is. inr (missed_now old.seen s missed u leads.known (leads.misses old.seen)) in
+    let lead : IsTrue told → IsOpeningOf u after = λ is. recorded_one s u (version_of j) (kept j old.seen) entry filed.version fits leads.recorded (filed.on is).recorded in
+    let misses : IsTrue told → IsOpeningOf missed after ⊎ HasMissed (shown missed old) (shown u old) = λ is. inr (missed_now old.seen s missed u leads.known (leads.misses old.seen)) in
     record {
       written = written told s u known start j old filed start' j' new same_start alike version leads.known leads.is_beside after lead missed leads.alike misses holds result brings settled reads;
       images = sure_images told s u known start j old filed start' j' new same_start alike version leads.known leads.is_beside after lead missed leads.alike misses holds result brings settled reads sure;
@@ -176,20 +176,20 @@ pub regions_held : (s u : State) (disk : DiskState) → AreRegionsOf s u → Are
 regions_held s u disk regions h =
     all_weaker (IsRegionIn (now s).kept) (IsHeldOn s.catalogue disk) (λ t r. region_held s.catalogue disk r.0 t r.2 r.3 (all_contained (IsHeldOn s.catalogue disk) (now s).kept r.0 h r.1)) (now u).kept regions
 
-module _ (told : Bool) (s missed u : State) (entry : Record) (start : ℕ) (j : Journal) (old : DiskState) (filed : IsFiled s told start j old) (leads : Leads s missed u entry) (regions : AreRegionsOf s u) (j1 : Journal) (mid : DiskState)
+module _ (told : Bool) (s missed u : State) (entry : Record) (start : ℕ) (j : Journal) (old : DiskState) (filed : IsFiled s told start j old) (leads : RecordLeads s missed u entry) (regions : AreRegionsOf s u) (j1 : Journal) (mid : DiskState)
     (rests : Rests told s j old mid) (reads : IsTrue told → mid.may_leave mid.seen) where
   same_before : on_disk told mid.seen u ≡ on_disk told old.seen u
   same_before = same_on told u old.seen mid.seen (λ is.
       subst (λ (c : Catalogue). map (blob_on c mid.seen) (now u).kept ≡ map (blob_on c old.seen) (now u).kept) (sym leads.is_beside.same_catalogue)
       (all_same s.catalogue old mid Anywhere (rests.keeps is) (reads is) (now u).kept (anywhere (now u).kept) (regions_held s u old regions (filed.on is).holds)))
 
-  pub writes_failed : {T E : Type 0} (start1 : ℕ) (fault : E) → IsFiled s told start1 j1 mid → Writes {T = T} {E = E} (Err fault) told s missed u start1 j j1 old mid
+  pub writes_failed : {T E : Type 0} (start1 : ℕ) (fault : E) → IsFiled s told start1 j1 mid → WritesRecord {T = T} {E = E} (Err fault) told s missed u start1 j j1 old mid
   writes_failed start1 fault then = record {
     written = record { ok = tt; err = filed_alike told s missed start1 j1 mid leads.alike then; same = rests.same; same_next = same_before };
     images = λ is. leaves_as old mid (IsLeft (on_disk told old.seen s) j old) (λ image. IsLeft (on_disk told old.seen s) j old image ⊎ Restores (on_disk told old.seen u) image) (rests.images is) (λ image left. inl left);
   }
 
-  pub writes_then : {T E : Type 0} (result : Result T E) (start2 : ℕ) (j2 : Journal) (new : DiskState) → Enters result told s missed u start2 j2 mid new → Writes result told s missed u start2 j j2 old new
+  pub writes_then : {T E : Type 0} (result : Result T E) (start2 : ℕ) (j2 : Journal) (new : DiskState) → Enters result told s missed u start2 j2 mid new → WritesRecord result told s missed u start2 j j2 old new
   writes_then result start2 j2 new e = record {
     written = record { ok = e.written.ok; err = e.written.err; same = e.written.same ∙ rests.same; same_next = e.written.same_next ∙ same_before };
     images = λ is. leaves_then old mid new (λ image. IsLeft (on_disk told old.seen s) j old image ⊎ Restores (on_disk told old.seen u) image)

@@ -14,7 +14,7 @@ use Rattle.cabinet.specs.State.{IsKnown, State, now}
 use Rattle.cabinet_records.proofs.RecordedStanding.{recorded_alike}
 use Rattle.cache_file.specs.File.{Anywhere, Brings, HasHeld, IsAmong, Stays, held, opens_to, unsure}
 use Rattle.durable_cabinet.specs.Alike.{IsAlikeTo}
-use Rattle.durable_cabinet.specs.Filed.{IsBesideOn, IsKeptOn, IsRecordOf}
+use Rattle.durable_cabinet.specs.Filed.{IsBesideOn, IsKeptOn, IsOpeningOf}
 use Rattle.durable_cabinet.specs.Missed.{HasMissed}
 use Rattle.durable_cabinet.specs.Images.{HasIn, HasUndecided, IsBeside, IsLeft, IsOneRecordOn, Restores, blob_on, blobs_start, slots_for}
 use Rattle.durable_cabinet.proofs.Blobs.{AreHeld, AreSpared, all_same, all_still, has_all, same_on}
@@ -28,7 +28,7 @@ module _ (s t : State) (alike : IsAlikeTo s t) (j : Journal) (disk : DiskState) 
   pub held_alike : (ts : List Kept) → AreHeld s.catalogue disk ts → AreHeld t.catalogue disk ts
   held_alike ts h = subst (λ (c : Catalogue). AreHeld c disk ts) (sym alike.catalogue) h
 
-  pub record_alike : (o : Opening) → IsRecordOf s o → IsRecordOf t o
+  pub record_alike : (o : Opening) → IsOpeningOf s o → IsOpeningOf t o
   record_alike o r = record { version = r.version; bodies = r.bodies; entries = r.entries; opens = r.opens; are = r.are; recorded = recorded_alike s t r.entries r.recorded alike.catalogue alike.opening alike.kept alike.book alike.cuts }
 
   pub beside_alike : (u : State) → IsBeside s u → IsBeside t u
@@ -40,7 +40,7 @@ module _ (s t : State) (alike : IsAlikeTo s t) (j : Journal) (disk : DiskState) 
   }
 
   -- what is undecided is still the cabinet, or the record of the same command
-  pub missed_alike : (next : State) (o : Opening) → IsRecordOf s o ⊎ HasMissed (shown s disk) (shown next disk) → IsRecordOf t o ⊎ HasMissed (shown t disk) (shown next disk)
+  pub missed_alike : (next : State) (o : Opening) → IsOpeningOf s o ⊎ HasMissed (shown s disk) (shown next disk) → IsOpeningOf t o ⊎ HasMissed (shown t disk) (shown next disk)
   missed_alike next o (inl own) = inl (record_alike o own)
   missed_alike next o (inr missed) = inr (missed_still disk.seen s t (shown next disk) alike missed)
 
@@ -49,7 +49,7 @@ module _ (s t : State) (alike : IsAlikeTo s t) (j : Journal) (disk : DiskState) 
 module _ (s : State) (j : Journal) (old : DiskState) (digest : digest_of j ≡ s.catalogue.digest) (slots : slots_of j ≡ slots_for s.catalogue) (spared : ℕ → ℕ → Type 0) (image : Content)
     (has : HasHeld (blobs_start s.catalogue) spared old image) where
   -- it restores a cabinet of the same catalogue, whose records it opens to
-  pub restores_as : (t : State) (o : Opening) → IsKnown t → t.catalogue ≡ s.catalogue → IsRecordOf t o → opens_to j image ≡ o → AreSpared spared (now t).kept → AreHeld s.catalogue old (now t).kept → Restores (shown t old) image
+  pub restores_as : (t : State) (o : Opening) → IsKnown t → t.catalogue ≡ s.catalogue → IsOpeningOf t o → opens_to j image ≡ o → AreSpared spared (now t).kept → AreHeld s.catalogue old (now t).kept → Restores (shown t old) image
   restores_as t o known same r opens free holds =
       restored t j o old image known (subst (λ (c : Catalogue). digest_of j ≡ c.digest) (sym same) digest) (subst (λ (c : Catalogue). slots_of j ≡ slots_for c) (sym same) slots) r opens
       (subst (λ (c : Catalogue). AllByRecursion (HasIn c image) (map (blob_on c old.seen) (now t).kept)) (sym same) (has_all s.catalogue old spared (now t).kept image has free holds))
@@ -74,8 +74,8 @@ module _ (s : State) (j : Journal) (old : DiskState) (digest : digest_of j ≡ s
 -- A CALL on the records
 
 module _ {T E : Type 0} (s u : State) (known : IsKnown s) (known_next : IsKnown u) (is_beside : IsBeside s u) (j j' : Journal) (old new : DiskState) (digest : digest_of j ≡ s.catalogue.digest) (slots : slots_of j ≡ slots_for s.catalogue)
-    (kept_on : IsKeptOn s j old) (after : Opening) (leads : IsRecordOf u after) (holds : AreHeld s.catalogue old (now u).kept) (missed : State) (alike : IsAlikeTo s missed)
-    (misses : IsRecordOf missed after ⊎ HasMissed (shown missed old) (shown u old)) (result : Result T E) (brings : Brings result after (blobs_start s.catalogue) j j' old new)
+    (kept_on : IsKeptOn s j old) (after : Opening) (leads : IsOpeningOf u after) (holds : AreHeld s.catalogue old (now u).kept) (missed : State) (alike : IsAlikeTo s missed)
+    (misses : IsOpeningOf missed after ⊎ HasMissed (shown missed old) (shown u old)) (result : Result T E) (brings : Brings result after (blobs_start s.catalogue) j j' old new)
     (reads : new.may_leave new.seen) where
   still : (ts : List Kept) → AreHeld s.catalogue old ts → AreHeld s.catalogue new ts
   still ts h = all_still s.catalogue old new Anywhere brings.keeps reads ts (anywhere ts) h
@@ -85,12 +85,12 @@ module _ {T E : Type 0} (s u : State) (known : IsKnown s) (known_next : IsKnown 
   reads_same t same h = same_on true t old.seen new.seen (λ is.
       subst (λ (c : Catalogue). map (blob_on c new.seen) (now t).kept ≡ map (blob_on c old.seen) (now t).kept) (sym same) (all_same s.catalogue old new Anywhere brings.keeps reads (now t).kept (anywhere (now t).kept) h))
 
-  missed_then : (o : Opening) → unsure j' new ≡ o → (t : State) → t.catalogue ≡ s.catalogue → AreHeld s.catalogue old (now t).kept → IsRecordOf missed o ⊎ HasMissed (shown missed old) (shown t old)
-      → IsRecordOf missed (unsure j' new) ⊎ HasMissed (shown missed new) (shown t new)
+  missed_then : (o : Opening) → unsure j' new ≡ o → (t : State) → t.catalogue ≡ s.catalogue → AreHeld s.catalogue old (now t).kept → IsOpeningOf missed o ⊎ HasMissed (shown missed old) (shown t old)
+      → IsOpeningOf missed (unsure j' new) ⊎ HasMissed (shown missed new) (shown t new)
   missed_then o is t same h (inl own) = inl (record_as missed o (unsure j' new) is own)
   missed_then o is t same h (inr m) = inr (missed_as (shown missed old) (shown missed new) (shown t old) (shown t new) (alike_same s missed old.seen new.seen alike (reads_same s refl kept_on.holds)) (reads_same t same h) m)
 
-  beside_as : (o : Opening) → unsure j' new ≡ o → (t : State) → IsKnown t → IsBeside s t → IsRecordOf t o → AreHeld s.catalogue old (now t).kept → IsRecordOf missed o ⊎ HasMissed (shown missed old) (shown t old) → IsBesideOn missed j' new
+  beside_as : (o : Opening) → unsure j' new ≡ o → (t : State) → IsKnown t → IsBeside s t → IsOpeningOf t o → AreHeld s.catalogue old (now t).kept → IsOpeningOf missed o ⊎ HasMissed (shown missed old) (shown t old) → IsBesideOn missed j' new
   beside_as o is t known_t beside r h m = record {
     beside = t;
     known = known_t;
@@ -178,7 +178,7 @@ module _ (s : State) (known : IsKnown s) (j : Journal) (old : DiskState) (digest
       reads_same t same t_free h = same_on true t old.seen new.seen (λ is.
           subst (λ (c : Catalogue). map (blob_on c new.seen) (now t).kept ≡ map (blob_on c old.seen) (now t).kept) (sym same) (all_same s.catalogue old new spared stays.keeps reads (now t).kept t_free h))
 
-      missed_then : IsRecordOf s (unsure j old) ⊎ HasMissed (shown s old) (shown kept_on.beside.beside old) → IsRecordOf s (unsure j new) ⊎ HasMissed (shown s new) (shown kept_on.beside.beside new)
+      missed_then : IsOpeningOf s (unsure j old) ⊎ HasMissed (shown s old) (shown kept_on.beside.beside old) → IsOpeningOf s (unsure j new) ⊎ HasMissed (shown s new) (shown kept_on.beside.beside new)
       missed_then (inl own) = inl (record_as s (unsure j old) (unsure j new) stays.same_unsure own)
       missed_then (inr m) =
           let b = kept_on.beside in

@@ -16,17 +16,17 @@ use Rattle.truncation_list.specs.declared.cover.Cover.{Cover}
 use Rattle.truncation_list.specs.Purge.{purged}
 use Rattle.truncation_list.proofs.Remaining.{no_more_remain}
 use Rattle.std.specs.Prelude.{Some}
-use Rattle.cabinet.specs.declared.entry.Entry.TheVariants as entry
+use Rattle.cabinet.specs.declared.entry.HistoryEntry.TheVariants as entry
 use Rattle.cabinet.specs.declared.judged.Admitted.TheVariants as admitted
 use Rattle.cabinet.specs.declared.replies.CutReply.TheVariants as reply
 use Rattle.cabinet.specs.Commands.{Cuts}
 use Rattle.cabinet.specs.Hits.{hits_of}
-use Rattle.cabinet.specs.History.{Standing, least_of, numbers, spared}
+use Rattle.cabinet.specs.History.{CabinetStanding, least_of, numbers, spared}
 use Rattle.cabinet.specs.State.{IsKnown, State, blobs_spared, now, with_cut, with_entry}
 use Rattle.cabinet.specs.Steps.{Admits}
 use Rattle.cabinet.proofs.Rows.{cuts_known, now_more}
 use Rattle.cabinet_records.proofs.RecordedCuts.{cuts_recorded}
-use Rattle.durable_cabinet.specs.Backing.{AreRegionsOf, Leads, Writes}
+use Rattle.durable_cabinet.specs.Backing.{AreRegionsOf, RecordLeads, WritesRecord}
 use Rattle.durable_cabinet.specs.Drafts.{needed}
 use Rattle.durable_cabinet.specs.Filed.{on_disk}
 use Rattle.durable_cabinet.specs.Images.{IsLeft, Lasts, Restores}
@@ -40,7 +40,7 @@ pub missed_alike : (s : State) (t : ℕ) → IsAlikeTo s (with_entry s (entry.Mi
 missed_alike s t = entry_alike s (entry.Missed t) (record { kept = refl; book = refl; cuts = refl })
 
 pub needed_missed : (s : State) (t : ℕ) → needed (with_entry s (entry.Missed t)) ≤ needed s
-needed_missed s t = subst (λ (n : Standing). 1 + length n.book.cuts + length n.kept + length n.out ≤ needed s) (sym (now_more s (entry.Missed t) s.blobs)) (omega arith)
+needed_missed s t = subst (λ (n : CabinetStanding). 1 + length n.book.cuts + length n.kept + length n.out ≤ needed s) (sym (now_more s (entry.Missed t) s.blobs)) (omega arith)
 
 module _ (s : State) (known : IsKnown s) (cover : Cover) (is_cover : IsCoverOf s.catalogue cover) (t : ℕ) (admits : Admits s cover (admitted.Number t)) where
   abbrev after_cut : State
@@ -52,7 +52,7 @@ module _ (s : State) (known : IsKnown s) (cover : Cover) (is_cover : IsCoverOf s
   cut_kept_is : (now after_cut).kept ≡ spared s.catalogue cover (now s).kept
   cut_kept_is = kept_more s (entry.Cut t cover) (option_map (blobs_spared s.catalogue cover) s.blobs)
 
-  pub cut_leads : Leads s (with_entry s (entry.Missed t)) after_cut (record_of.Cut t cover)
+  pub cut_leads : RecordLeads s (with_entry s (entry.Missed t)) after_cut (record_of.Cut t cover)
   cut_leads =
       let k = cuts_known s after_cut cover (reply.Done t) known is_cover cut_row in
       record {
@@ -71,7 +71,7 @@ module _ (s : State) (known : IsKnown s) (cover : Cover) (is_cover : IsCoverOf s
       let least = least_of (numbers (now s).out (now s).kept) in
       let left = purged (Some cover) least (now s).book in
       let new : Cut = record { number = t; cover = cover } in
-      subst (λ (n : Standing). 1 + length n.book.cuts + length n.kept + length n.out ≤ needed s + 1) (sym (now_more s (entry.Cut t cover) (option_map (blobs_spared s.catalogue cover) s.blobs)))
+      subst (λ (n : CabinetStanding). 1 + length n.book.cuts + length n.kept + length n.out ≤ needed s + 1) (sym (now_more s (entry.Cut t cover) (option_map (blobs_spared s.catalogue cover) s.blobs)))
       (omega (arith, length-append left.cuts (new ∷ []), no_more_remain (Some cover) least (now s).book.cuts, few (λ x. not (hits_of s.catalogue cover x.meta)) (now s).kept, length-map (now s).out (marked (hits_of s.catalogue cover) t)))
 
   -- ON A DISK
@@ -82,7 +82,7 @@ module _ (s : State) (known : IsKnown s) (cover : Cover) (is_cover : IsCoverOf s
   pub missed_row_on : (told : Bool) (old new : Content) (before after : ℕ) → Rose before after → on_disk told new s ≡ on_disk told old s → Cuts (on_disk told old s) cover (reply.DiskFault before after) (on_disk told new (with_entry s (entry.Missed t)))
   missed_row_on told old new before after rose same = (t, admits.0, admits.1, rose, entered_on told new s (entry.Missed t) refl ∙ ap (λ (x : State). with_entry x (entry.Missed t)) same)
 
-  pub cut_images : {T E : Type 0} (told : Bool) (old new : DiskState) (result : Result T E) (start : ℕ) (j j' : Journal) → Writes result told s (with_entry s (entry.Missed t)) after_cut start j j' old new → IsTrue told
+  pub cut_images : {T E : Type 0} (told : Bool) (old new : DiskState) (result : Result T E) (start : ℕ) (j j' : Journal) → WritesRecord result told s (with_entry s (entry.Missed t)) after_cut start j j' old new → IsTrue told
       → Lasts (on_disk told old.seen s) (λ u. (n : ℕ) × Cuts (on_disk told old.seen s) cover (reply.Done n) u) j old new
   cut_images told old new result start j j' w is =
       leaves_as old new (λ image. IsLeft (on_disk told old.seen s) j old image ⊎ Restores (on_disk told old.seen after_cut) image) _ (w.images is) (λ image left. moment image left)

@@ -12,7 +12,7 @@ use Rattle.cabinet.specs.declared.replies.Expired.TheVariants as expired
 use Rattle.cabinet.specs.Commands.{Expires}
 use Rattle.cabinet.specs.State.{State, with_dropped}
 use Rattle.cabinet.specs.Steps.{GoesFirst}
-use Rattle.durable_cabinet.specs.Backing.{Writes}
+use Rattle.durable_cabinet.specs.Backing.{WritesRecord}
 use Rattle.durable_cabinet.specs.Filed.{on_disk}
 use Rattle.durable_cabinet.specs.Images.{IsLeft, Lasts, Restores}
 use Rattle.durable_cabinet.proofs.Moving.{dropped_on}
@@ -27,7 +27,7 @@ module _ (told : Bool) (s : State) (t : Kept) (goes : GoesFirst s (Some t)) (old
   pub fault_row_on : (before after : ℕ) → Rose before after → on_disk told new.seen s ≡ before_drop → Expires before_drop (expired.DiskFault before after) (on_disk told new.seen s)
   fault_row_on before after rose same = (ap (λ o. is_some o) goes.1, rose, same)
 
-  pub drop_images : {T E : Type 0} (result : Result T E) (start : ℕ) (j j' : Journal) → Writes result told s s (with_dropped s t.meta) start j j' old new → IsTrue told
+  pub drop_images : {T E : Type 0} (result : Result T E) (start : ℕ) (j j' : Journal) → WritesRecord result told s s (with_dropped s t.meta) start j j' old new → IsTrue told
       → Lasts before_drop (λ u. (m : MetaKey) × Expires before_drop (expired.Dropped m) u) j old new
   drop_images result start j j' w is =
       leaves_as old new (λ image. IsLeft before_drop j old image ⊎ Restores (on_disk told old.seen (with_dropped s t.meta)) image) _ (w.images is) (λ image left. moment image left)

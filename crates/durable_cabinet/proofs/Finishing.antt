@@ -12,18 +12,18 @@ use Rattle.metatile_locks.specs.Running.{has_number, is_render_of}
 use Rattle.metatile_locks.specs.Tickets.{Ticketed}
 use Rattle.metatile_locks.proofs.Lists.{few, fewer}
 use Rattle.raster_field.specs.Blocks.{blob_size}
-use Rattle.cabinet.specs.declared.entry.Entry.TheVariants as entry
+use Rattle.cabinet.specs.declared.entry.HistoryEntry.TheVariants as entry
 use Rattle.cabinet.specs.declared.judged.Judged.TheVariants as judged
 use Rattle.cabinet.specs.declared.kept.Kept.{Kept}
 use Rattle.cabinet.specs.declared.replies.Finished.TheVariants as finished
 use Rattle.cabinet.specs.Commands.{Abandons, Finishes, kept_at, place_for}
-use Rattle.cabinet.specs.History.{Standing, but, is_of, stored_entry}
+use Rattle.cabinet.specs.History.{CabinetStanding, but, is_of, stored_entry}
 use Rattle.cabinet.specs.State.{IsKnown, State, blobs_with, now, with_blob, with_entry}
 use Rattle.cabinet.specs.Steps.{Judges}
 use Rattle.cabinet.proofs.Rows.{finishes_known, now_more}
 use Rattle.cabinet_records.specs.Recorded.{IsRecordedIn, stored_record}
 use Rattle.cabinet_records.proofs.RecordedKept.{finish_recorded}
-use Rattle.durable_cabinet.specs.Backing.{Leads, Stores, with_away}
+use Rattle.durable_cabinet.specs.Backing.{RecordLeads, StoresBlob, with_away}
 use Rattle.durable_cabinet.specs.Drafts.{needed}
 use Rattle.durable_cabinet.specs.Filed.{on_disk}
 use Rattle.durable_cabinet.specs.Images.{IsLeft, Lasts, Restores, blobs_start}
@@ -73,7 +73,7 @@ module _ (s : State) (known : IsKnown s) (t : Ticketed) (x : Kept) (fits : Judge
       let blob = bytes_at seen at x.length in
       inl (t, blob, kept_on_disk true seen blob (on_disk true seen (with_away s x)) (length-bytes_at seen at x.length ∙ long_is) (blob_there true seen s x zeros blob (λ is. refl)), entered_on true seen s (entry.Ended t.number) refl)
 
-  pub finish_leads : Leads s unkept (with_away s x) (stored_record x)
+  pub finish_leads : RecordLeads s unkept (with_away s x) (stored_record x)
   finish_leads =
       let k = finishes_known s (with_away s x) t zeros finished.Kept known zeros_long (row_of zeros zeros_long) in
       let same : kept_at t fits.0 x.place (length zeros) ≡ x = sym (fits.4 ∙ ap (λ (n : ℕ). kept_at t fits.0 x.place n) (sym zeros_long)) in
@@ -98,7 +98,7 @@ module _ (s : State) (known : IsKnown s) (t : Ticketed) (x : Kept) (fits : Judge
       let gone : length (filter (λ r. not (has_number x.number r)) (now s).out) + 1 ≤ length (now s).out =
       subst (λ (n : ℕ). length (filter (λ r. not (has_number n r)) (now s).out) + 1 ≤ length (now s).out) (sym number)
       (fewer (is_render_of t) (λ r. not (has_number t.number r)) (λ r is. ap not (both_true (r.number == t.number) _ is)) (now s).out _ fits.1) in
-      subst (λ (n : Standing). 1 + length n.book.cuts + length n.kept + length n.out ≤ needed s) (sym (now_more s (stored_entry x) (option_map (blobs_with x zeros) s.blobs)))
+      subst (λ (n : CabinetStanding). 1 + length n.book.cuts + length n.kept + length n.out ≤ needed s) (sym (now_more s (stored_entry x) (option_map (blobs_with x zeros) s.blobs)))
       (omega (arith, gone, length-append (but x.meta ks) (x ∷ []), few (λ y. not (is_of x.meta y)) ks))
 
   -- ON A DISK
@@ -115,7 +115,7 @@ module _ (s : State) (known : IsKnown s) (t : Ticketed) (x : Kept) (fits : Judge
     ap (on_disk told new) a.1 ∙ entered_on told new s (entry.Ended t.number) refl ∙ ap (λ (y : State). with_entry y (entry.Ended t.number)) same,
   )
 
-  pub finish_images : {T E : Type 0} (told : Bool) (blob : List ℕ) (old new : DiskState) (result : Result T E) (start : ℕ) (j j' : Journal) → length blob ≡ blob_size s.catalogue t.meta → Stores result told s unkept x blob start j j' old new → IsTrue told
+  pub finish_images : {T E : Type 0} (told : Bool) (blob : List ℕ) (old new : DiskState) (result : Result T E) (start : ℕ) (j j' : Journal) → length blob ≡ blob_size s.catalogue t.meta → StoresBlob result told s unkept x blob start j j' old new → IsTrue told
       → Lasts (on_disk told old.seen s) (λ u. Finishes (on_disk told old.seen s) t blob finished.Kept u) j old new
   finish_images told blob old new result start j j' long w is =
       leaves_as old new (λ image. IsLeft (on_disk told old.seen s) j old image ⊎ Restores (with_blob (on_disk told old.seen s) x blob) image) _ (w.images is) (λ image left. moment image left)

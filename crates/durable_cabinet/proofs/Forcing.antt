@@ -10,13 +10,13 @@ use Rattle.metatile_locks.specs.Running.{has_number, unmarked}
 use Rattle.metatile_locks.specs.Tickets.{Ticketed}
 use Rattle.metatile_locks.proofs.Lists.{few}
 use Rattle.metatile_plan.specs.declared.metatile.MetaKey.{MetaKey}
-use Rattle.cabinet.specs.declared.entry.Entry.{Entry}
-use Rattle.cabinet.specs.declared.entry.Entry.TheVariants as entry
+use Rattle.cabinet.specs.declared.entry.HistoryEntry.{HistoryEntry}
+use Rattle.cabinet.specs.declared.entry.HistoryEntry.TheVariants as entry
 use Rattle.cabinet.specs.declared.replies.Forced.{Forced}
 use Rattle.cabinet.specs.declared.replies.Forced.TheVariants as forced
 use Rattle.cabinet.specs.Commands.{Abandons, Forces, IsForcedOf}
 use Rattle.cabinet.specs.Fresh.{cuts_after, cuts_of}
-use Rattle.cabinet.specs.History.{Standing, after}
+use Rattle.cabinet.specs.History.{CabinetStanding, after}
 use Rattle.cabinet.specs.State.{State, asked_at, now, with_entry}
 use Rattle.cabinet.proofs.Rows.{now_asked, now_more}
 use Rattle.durable_cabinet.specs.Drafts.{needed}
@@ -38,17 +38,17 @@ filed_alike told s t start j disk alike f = record {
 
 -- AN ENTRY
 
-pub record IsQuiet (s : State) (e : Entry) : Type 0 where
+pub record IsQuiet (s : State) (e : HistoryEntry) : Type 0 where
   pub kept : (after s.catalogue (now s) e).kept ≡ (now s).kept
   pub book : (after s.catalogue (now s) e).book ≡ (now s).book
   pub cuts : cuts_after (cuts_of s.history) e ≡ cuts_of s.history
 
-pub entry_alike : (s : State) (e : Entry) → IsQuiet s e → IsAlikeTo s (with_entry s e)
+pub entry_alike : (s : State) (e : HistoryEntry) → IsQuiet s e → IsAlikeTo s (with_entry s e)
 entry_alike s e q = record {
   catalogue = refl;
   opening = refl;
-  kept = ap (λ (n : Standing). n.kept) (now_more s e s.blobs) ∙ q.kept;
-  book = ap (λ (n : Standing). n.book) (now_more s e s.blobs) ∙ q.book;
+  kept = ap (λ (n : CabinetStanding). n.kept) (now_more s e s.blobs) ∙ q.kept;
+  book = ap (λ (n : CabinetStanding). n.book) (now_more s e s.blobs) ∙ q.book;
   cuts = past;
   later = (e ∷ [], refl);
 }
@@ -60,8 +60,8 @@ pub ask_alike : (s : State) (n : ℕ) → IsAlikeTo s (asked_at n s)
 ask_alike s n = record {
   catalogue = refl;
   opening = refl;
-  kept = ap (λ (x : Standing). x.kept) (now_asked s n);
-  book = ap (λ (x : Standing). x.book) (now_asked s n);
+  kept = ap (λ (x : CabinetStanding). x.kept) (now_asked s n);
+  book = ap (λ (x : CabinetStanding). x.book) (now_asked s n);
   cuts = past;
   later = (entry.At n ∷ [], refl);
 }
@@ -77,9 +77,9 @@ alike_then s t u a b = alike_further s t u a b
 pub asked_on : (told : Bool) (seen : Content) (s : State) (n : ℕ) → on_disk told seen (asked_at n s) ≡ asked_at n (on_disk told seen s)
 asked_on told seen s n =
     ap (λ x. record { catalogue = s.catalogue; opening = s.opening; history = s.history ++ entry.At n ∷ []; since = s.since ++ entry.At n ∷ []; blobs = x; clock = read n s.clock })
-    (ap (blobs_on told s.catalogue seen) (ap (λ (x : Standing). x.kept) (now_asked s n)))
+    (ap (blobs_on told s.catalogue seen) (ap (λ (x : CabinetStanding). x.kept) (now_asked s n)))
 
-pub asked_entered : (told : Bool) (seen : Content) (s : State) (n : ℕ) (e : Entry) → (after s.catalogue (now (asked_at n s)) e).kept ≡ (now (asked_at n s)).kept → on_disk told seen (with_entry (asked_at n s) e) ≡ with_entry (asked_at n (on_disk told seen s)) e
+pub asked_entered : (told : Bool) (seen : Content) (s : State) (n : ℕ) (e : HistoryEntry) → (after s.catalogue (now (asked_at n s)) e).kept ≡ (now (asked_at n s)).kept → on_disk told seen (with_entry (asked_at n s) e) ≡ with_entry (asked_at n (on_disk told seen s)) e
 asked_entered told seen s n e same = entered_on told seen (asked_at n s) e same ∙ ap (λ x. with_entry x e) (asked_on told seen s n)
 
 pub forced_of_on : (told : Bool) (seen : Content) (s u : State) (n : ℕ) (m : MetaKey) (r : Forced) → IsForcedOf (asked_at n s) m r u → IsForcedOf (asked_at n (on_disk told seen s)) m r (on_disk told seen u)
@@ -100,11 +100,11 @@ forced_alike s u n m (forced.Ticket t) f =
     let a = asked_at n s in
     as_alike s (with_entry a (entry.Started t.number m)) u f.state (alike_then s a (with_entry a (entry.Started t.number m)) (ask_alike s n) (entry_alike a (entry.Started t.number m) (record { kept = refl; book = refl; cuts = refl })))
 
-abbrev room_of_standing : Standing → ℕ
+abbrev room_of_standing : CabinetStanding → ℕ
 room_of_standing n = 1 + length n.book.cuts + length n.kept + length n.out
 
-pub needed_as : (s u : State) (n : Standing) (most : ℕ) → now u ≡ n → room_of_standing n ≤ most → needed u ≤ most
-needed_as s u n most is le = subst (λ (x : Standing). room_of_standing x ≤ most) (sym is) le
+pub needed_as : (s u : State) (n : CabinetStanding) (most : ℕ) → now u ≡ n → room_of_standing n ≤ most → needed u ≤ most
+needed_as s u n most is le = subst (λ (x : CabinetStanding). room_of_standing x ≤ most) (sym is) le
 
 pub forced_needed : (s u : State) (n : ℕ) (m : MetaKey) (r : Forced) → IsForcedOf (asked_at n s) m r u → needed u ≤ needed s + 1
 forced_needed s u n m (forced.Busy k) f = needed_as s u (after s.catalogue (now s) (entry.At n)) (needed s + 1) (ap now f.1 ∙ now_asked s n) (omega arith)

@@ -11,7 +11,7 @@ use Rattle.metatile_locks.proofs.Lists.{all_weaker, found}
 use Rattle.metatile_plan.specs.declared.metatile.MetaKey.{MetaKey}
 use Rattle.raster_field.specs.Blocks.{block_of}
 use Rattle.truncation_list.specs.declared.cover.Cover.{Cover}
-use Rattle.cabinet.specs.declared.entry.Entry.TheVariants as entry
+use Rattle.cabinet.specs.declared.entry.HistoryEntry.TheVariants as entry
 use Rattle.cabinet.specs.declared.judged.Judged.TheVariants as judged
 use Rattle.cabinet.specs.declared.kept.Kept.{Kept}
 use Rattle.cabinet.specs.declared.kept.KeptBlob.{KeptBlob}
@@ -29,7 +29,7 @@ use Rattle.cabinet.proofs.Rows.{next_is}
 use Rattle.durable_cabinet.specs.Filed.{on_disk}
 use Rattle.durable_cabinet.specs.Hot.{HotTile, IsHot, IsHotTile, StaysHot, hot_tile}
 use Rattle.durable_cabinet.specs.Images.{blob_on, blobs_start}
-use Rattle.durable_cabinet.specs.Tiles.{IsPartOf}
+use Rattle.durable_cabinet.specs.Tiles.{IsTilePartOf}
 use Rattle.durable_cabinet.proofs.Warming.{Goes, asked_hot, grown_hot, hot_as, hot_itself, hot_then}
 
 -- ROWS
@@ -95,7 +95,7 @@ same_read s old new m t same at =
     ap (λ (b : KeptBlob). b.text) blob
 
 pub part_seen : (told : Bool) (s : State) (old new : Content) (a : Address) (t : Kept) (bytes : List ℕ) → on_disk told new s ≡ on_disk told old s → kept_of (block_of s.catalogue a) (now s) ≡ Some t
-    → IsPartOf told s.catalogue old a t bytes → IsPartOf told s.catalogue new a t bytes
+    → IsTilePartOf told s.catalogue old a t bytes → IsTilePartOf told s.catalogue new a t bytes
 part_seen true s old new a t bytes same at p = record { blob = p.blob; long = p.long; there = λ is. p.there is ∙ sym (same_read s old new (block_of s.catalogue a) t same at); part = p.part }
 part_seen false s old new a t bytes same at p = record { blob = p.blob; long = p.long; there = λ is. absurd (cc); part = p.part }
 
@@ -121,11 +121,11 @@ module _ (told : Bool) (s : State) where
 
   -- what the tier holds of what is kept is a part of it
   pub hot_part : (seen : Content) (tier : List HotTile) (a : Address) (t : Kept) (bytes : List ℕ) → IsHot told s seen tier → Contains tier (hot_tile a t.number bytes) → kept_of (block_of s.catalogue a) (now s) ≡ Some t
-      → IsPartOf told s.catalogue seen a t bytes
+      → IsTilePartOf told s.catalogue seen a t bytes
   hot_part seen tier a t bytes hot has at = (all_contained (IsHotTile told s.catalogue (now s) seen) tier (hot_tile a t.number bytes) hot has).part t at refl
 
   -- a part of what is kept may be put
-  pub part_hot : IsKnown s → (seen : Content) (a : Address) (t : Kept) (bytes : List ℕ) → kept_of (block_of s.catalogue a) (now s) ≡ Some t → IsPartOf told s.catalogue seen a t bytes
+  pub part_hot : IsKnown s → (seen : Content) (a : Address) (t : Kept) (bytes : List ℕ) → kept_of (block_of s.catalogue a) (now s) ≡ Some t → IsTilePartOf told s.catalogue seen a t bytes
       → IsHotTile told s.catalogue (now s) seen (hot_tile a t.number bytes)
   part_hot known seen a t bytes at part =
       let c = s.catalogue in
@@ -136,7 +136,7 @@ module _ (told : Bool) (s : State) where
         given = (found (is_of m) (HoldsOfKept c (cuts_of (whole s.opening s.since)) (now s).front (now s).book.floor) (now s).kept t holds.kept at).1.given;
         ended = all_weaker (λ (r : Render). AllByRecursion (λ x. r.number ≢ x.number) (now s).kept) (λ r. r.number ≢ t.number)
             (λ r off. (found (is_of m) (λ (x : Kept). r.number ≢ x.number) (now s).kept t off at).1) (now s).out apart.both;
-        part = λ u is number. subst (λ (x : Kept). IsPartOf told c seen a x bytes) (let same : t ≡ u = cc in same) part;
+        part = λ u is number. subst (λ (x : Kept). IsTilePartOf told c seen a x bytes) (let same : t ≡ u = cc in same) part;
       }
 
 -- after the file was written

@@ -9,7 +9,7 @@ use Rattle.catalog.specs.declared.catalogue.Catalogue.{Catalogue}
 use Rattle.truncation_list.specs.declared.book.Book.{Book}
 use Rattle.truncation_list.specs.Books.{AnswersForBook}
 use Rattle.truncation_list.proofs.Answering.{answers_through}
-use Rattle.cabinet.specs.History.{Opening}
+use Rattle.cabinet.specs.History.{CabinetOpening}
 use Rattle.cabinet.specs.State.{IsKnownAs, State, now}
 use Rattle.cabinet_records.specs.Replay.{Replayed, book_after, opening_number}
 use Rattle.durable_cabinet.specs.Images.{IsLeft, IsOurs, Lasts, OpensTo, Restores}
@@ -26,7 +26,7 @@ LeftOf s image = Left s.catalogue s.opening.number (now s).book image
 -- records that come to an opening of the same number
 no_less : (s u : State) (r : Replayed) → r.opening ≡ Some u.opening.number → u.opening ≡ s.opening → s.opening.number ≤ opening_number r
 no_less s u r is same =
-    let number : opening_number r ≡ s.opening.number = ap (λ (o : Option ℕ). option_map_or (λ e. e) o 0) is ∙ ap (λ (o : Opening). o.number) same in
+    let number : opening_number r ≡ s.opening.number = ap (λ (o : Option ℕ). option_map_or (λ e. e) o 0) is ∙ ap (λ (o : CabinetOpening). o.number) same in
     omega (arith, number)
 
 -- an image that restores a cabinet whose book answers for that of another one

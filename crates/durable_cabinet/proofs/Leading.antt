@@ -5,7 +5,7 @@ use Rattle.std.specs.Option.{option_map}
 use Rattle.metatile_locks.proofs.Lists.{all_filter, all_map}
 use Rattle.metatile_plan.specs.declared.metatile.MetaKey.{MetaKey}
 use Rattle.record_text.specs.declared.entries.Record.TheVariants as record_of
-use Rattle.cabinet.specs.declared.entry.Entry.TheVariants as entry
+use Rattle.cabinet.specs.declared.entry.HistoryEntry.TheVariants as entry
 use Rattle.cabinet.specs.declared.judged.Unsaved.{Unsaved}
 use Rattle.cabinet.specs.declared.kept.Kept.{Kept}
 use Rattle.cabinet.specs.declared.replies.Expired.TheVariants as expired
@@ -18,7 +18,7 @@ use Rattle.cabinet.specs.Steps.{GoesFirst, IsUnsavedFirst}
 use Rattle.cabinet.proofs.Lists.{all_of}
 use Rattle.cabinet.proofs.Rows.{expires_known, saves_known}
 use Rattle.cabinet_records.proofs.RecordedKept.{drop_recorded, save_recorded}
-use Rattle.durable_cabinet.specs.Backing.{AreRegionsOf, IsRegionIn, Leads}
+use Rattle.durable_cabinet.specs.Backing.{AreRegionsOf, IsRegionIn, RecordLeads}
 use Rattle.durable_cabinet.specs.Images.{IsBeside, IsOneRecordOn}
 use Rattle.durable_cabinet.proofs.Missing.{alike_itself}
 use Rattle.durable_cabinet.proofs.Moving.{counted_on, dropped_on, kept_more, with_there}
@@ -52,7 +52,7 @@ module _ (s : State) (known : IsKnown s) (t : Kept) (goes : GoesFirst s (Some t)
   drop_kept_is : (now after_drop).kept ≡ but t.meta (now s).kept
   drop_kept_is = kept_more s (entry.Dropped t.meta) (option_map (blobs_without t.meta) s.blobs)
 
-  pub drop_leads : Leads s s after_drop (record_of.Dropped t.number t.meta)
+  pub drop_leads : RecordLeads s s after_drop (record_of.Dropped t.number t.meta)
   drop_leads =
       let k = expires_known s after_drop (expired.Dropped t.meta) known drop_row in
       record {
@@ -78,10 +78,10 @@ module _ (s : State) (known : IsKnown s) (x : Unsaved) (first : IsUnsavedFirst s
   save_kept_is : (now after_save).kept ≡ map (with_uses x.kept.meta (uses s.history x.kept.meta)) (now s).kept
   save_kept_is = kept_more s (entry.Counted x.kept.meta (uses s.history x.kept.meta)) (option_map (blobs_counted x.kept.meta (uses s.history x.kept.meta)) s.blobs)
 
-  pub save_leads : Leads s s after_save (record_of.Uses x.kept.number x.kept.meta x.uses)
+  pub save_leads : RecordLeads s s after_save (record_of.Uses x.kept.number x.kept.meta x.uses)
   save_leads =
       let k = saves_known s after_save (saved.Done x.kept.meta) known save_row in
-      subst (λ (n : ℕ). Leads s s after_save (record_of.Uses x.kept.number x.kept.meta n)) (sym first.2)
+      subst (λ (n : ℕ). RecordLeads s s after_save (record_of.Uses x.kept.number x.kept.meta n)) (sym first.2)
       (record {
         known = k.known;
         is_beside = beside_of s after_save k (inr (inr (inr (inr (x.kept.meta, uses s.history x.kept.meta, save_kept_is)))));

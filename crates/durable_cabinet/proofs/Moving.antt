@@ -7,11 +7,11 @@ use Rattle.catalog.specs.declared.catalogue.Catalogue.{Catalogue}
 use Rattle.metatile_locks.proofs.Lists.{few}
 use Rattle.metatile_plan.specs.declared.metatile.MetaKey.{MetaKey}
 use Rattle.truncation_list.specs.declared.cover.Cover.{Cover}
-use Rattle.cabinet.specs.declared.entry.Entry.{Entry}
-use Rattle.cabinet.specs.declared.entry.Entry.TheVariants as entry
+use Rattle.cabinet.specs.declared.entry.HistoryEntry.{HistoryEntry}
+use Rattle.cabinet.specs.declared.entry.HistoryEntry.TheVariants as entry
 use Rattle.cabinet.specs.declared.kept.Kept.{Kept}
 use Rattle.cabinet.specs.declared.kept.KeptBlob.{KeptBlob}
-use Rattle.cabinet.specs.History.{Standing, after, but, is_of, spared, stored_entry, with_uses}
+use Rattle.cabinet.specs.History.{CabinetStanding, after, but, is_of, spared, stored_entry, with_uses}
 use Rattle.cabinet.specs.Hits.{hits_of}
 use Rattle.cabinet.specs.State.{State, blobs_counted, blobs_spared, blobs_with, blobs_without, grown, now, with_blob, with_counted, with_cut, with_dropped, with_entry}
 use Rattle.cabinet.proofs.Lists.{map_filter}
@@ -21,11 +21,11 @@ use Rattle.durable_cabinet.specs.Filed.{blobs_on, on_disk}
 use Rattle.durable_cabinet.specs.Images.{blob_on, blobs_start}
 
 -- what is kept after one more entry
-pub kept_more : (s : State) (e : Entry) (blobs : Option (List KeptBlob)) → (now (grown s e blobs)).kept ≡ (after s.catalogue (now s) e).kept
-kept_more s e blobs = ap (λ (n : Standing). n.kept) (now_more s e blobs)
+pub kept_more : (s : State) (e : HistoryEntry) (blobs : Option (List KeptBlob)) → (now (grown s e blobs)).kept ≡ (after s.catalogue (now s) e).kept
+kept_more s e blobs = ap (λ (n : CabinetStanding). n.kept) (now_more s e blobs)
 
 -- one more entry, with the blobs that are then kept
-pub moved : (told : Bool) (seen : Content) (s : State) (e : Entry) (b b' : Option (List KeptBlob)) → blobs_on told s.catalogue seen (after s.catalogue (now s) e).kept ≡ b' → on_disk told seen (grown s e b) ≡ grown (on_disk told seen s) e b'
+pub moved : (told : Bool) (seen : Content) (s : State) (e : HistoryEntry) (b b' : Option (List KeptBlob)) → blobs_on told s.catalogue seen (after s.catalogue (now s) e).kept ≡ b' → on_disk told seen (grown s e b) ≡ grown (on_disk told seen s) e b'
 moved told seen s e b b' same =
     ap (λ (x : Option (List KeptBlob)). record { catalogue = s.catalogue; opening = s.opening; history = s.history ++ e ∷ []; since = s.since ++ e ∷ []; blobs = x; clock = s.clock })
     (ap (blobs_on told s.catalogue seen) (kept_more s e b) ∙ same)
@@ -36,7 +36,7 @@ blobs_move true c seen ks later f same = ap (λ (x : List KeptBlob). Some x) (sa
 blobs_move false c seen ks later f same = refl
 
 -- an entry that keeps and drops nothing
-pub entered_on : (told : Bool) (seen : Content) (s : State) (e : Entry) → (after s.catalogue (now s) e).kept ≡ (now s).kept → on_disk told seen (with_entry s e) ≡ with_entry (on_disk told seen s) e
+pub entered_on : (told : Bool) (seen : Content) (s : State) (e : HistoryEntry) → (after s.catalogue (now s) e).kept ≡ (now s).kept → on_disk told seen (with_entry s e) ≡ with_entry (on_disk told seen s) e
 entered_on told seen s e same = moved told seen s e s.blobs (blobs_on told s.catalogue seen (now s).kept) (ap (blobs_on told s.catalogue seen) same)
 
 pub dropped_on : (told : Bool) (seen : Content) (s : State) (m : MetaKey) → on_disk told seen (with_dropped s m) ≡ with_dropped (on_disk told seen s) m
@@ -96,9 +96,9 @@ blob_there told seen s t away text there =
 pub needed_dropped : (s : State) (m : MetaKey) → needed (with_dropped s m) ≤ needed s
 needed_dropped s m =
     let n = now_more s (entry.Dropped m) (option_map (blobs_without m) s.blobs) in
-    subst (λ (x : Standing). 1 + length x.book.cuts + length x.kept + length x.out ≤ needed s) (sym n) (omega (arith, few (λ t. not (is_of m t)) (now s).kept))
+    subst (λ (x : CabinetStanding). 1 + length x.book.cuts + length x.kept + length x.out ≤ needed s) (sym n) (omega (arith, few (λ t. not (is_of m t)) (now s).kept))
 
 pub needed_counted : (s : State) (m : MetaKey) (u : ℕ) → needed (with_counted s m u) ≤ needed s
 needed_counted s m u =
     let n = now_more s (entry.Counted m u) (option_map (blobs_counted m u) s.blobs) in
-    subst (λ (x : Standing). 1 + length x.book.cuts + length x.kept + length x.out ≤ needed s) (sym n) (omega (arith, length-map (now s).kept (with_uses m u)))
+    subst (λ (x : CabinetStanding). 1 + length x.book.cuts + length x.kept + length x.out ≤ needed s) (sym n) (omega (arith, length-map (now s).kept (with_uses m u)))

@@ -4,7 +4,7 @@ use Rattle.std.specs.List.{AllByRecursion}
 use Rattle.std.specs.List.Sorted.{IsPermutation}
 use Rattle.std.specs.Option.{option_map_or}
 use Rattle.cabinet.specs.declared.kept.Kept.{Kept}
-use Rattle.cabinet.specs.History.{Opening}
+use Rattle.cabinet.specs.History.{CabinetOpening}
 use Rattle.cabinet.specs.Started.{opened_state}
 use Rattle.cabinet.specs.State.{State}
 use Rattle.cabinet_records.specs.Replay.{AreRecordsOf, Replayed, book_after, opening_after, opening_number}
@@ -22,7 +22,7 @@ use Rattle.truncation_list.specs.declared.book.Book.{Book}
 use Rattle.truncation_list.specs.Books.{AnswersForBook}
 use Rattle.durable_cabinet.specs.Filed.{IsHeldOn, OpensLike, on_disk, opened_as}
 use Rattle.durable_cabinet.specs.Images.{HasIn, IsOurs, OpensTo, blob_on, blobs_start}
-use Rattle.durable_cabinet.specs.Openings.{IsBegun, IsReplayed, OpensWith}
+use Rattle.durable_cabinet.specs.Openings.{IsOpeningBegun, IsReplayed, OpensWith}
 
 -- a region within the one image is held
 held_alone : (c : Catalogue) (disk : DiskState) (t : Kept) → Only disk.seen disk.may_leave → blobs_start c + t.place + t.length ≤ length disk.seen → IsHeldOn c disk t
@@ -40,7 +40,7 @@ module _ (told : Bool) (c : Catalogue) (clock : Readings) (number : ℕ) (disk :
   abbrev r : Replayed
   r = p.restored.replayed
 
-  abbrev o : Opening
+  abbrev o : CabinetOpening
   o = record { number = number; kept = ts; book = book }
 
   o_is : o ≡ opening_after r
@@ -54,7 +54,7 @@ module _ (told : Bool) (c : Catalogue) (clock : Readings) (number : ℕ) (disk :
   pub state_as : (s : State) (seen : Content) → s ≡ opened_state c o clock → on_disk told seen s ≡ opened_as told seen c clock r
   state_as s seen is = ap (on_disk told seen) is ∙ (λ i. on_disk told seen (opened_state c (o_is i) clock))
 
-  begun : (start : ℕ) → start ≡ journal_length (slots_of j) → (IsTrue told → IsOurs c disk.seen) → IsBegun told (opened_state c o clock) disk start j
+  begun : (start : ℕ) → start ≡ journal_length (slots_of j) → (IsTrue told → IsOurs c disk.seen) → IsOpeningBegun told (opened_state c o clock) disk start j
   begun start at ours = record {
     settled = p.settled;
     same_slots = p.same_slots;
@@ -70,16 +70,16 @@ module _ (told : Bool) (c : Catalogue) (clock : Readings) (number : ℕ) (disk :
     holds = λ is. subst (AllByRecursion (IsHeldOn c disk)) (sym p.restored.kept_is) (all_alone c disk r.kept (p.only is) (ours is r (opens_here is)).1);
   }
 
-  pub begun_as : (s : State) (start : ℕ) → s ≡ opened_state c o clock → start ≡ journal_length (slots_of j) → (IsTrue told → IsOurs c disk.seen) → IsBegun told s disk start j
-  begun_as s start is at ours = subst (λ (x : State). IsBegun told x disk start j) (sym is) (begun start at ours)
+  pub begun_as : (s : State) (start : ℕ) → s ≡ opened_state c o clock → start ≡ journal_length (slots_of j) → (IsTrue told → IsOurs c disk.seen) → IsOpeningBegun told s disk start j
+  begun_as s start is at ours = subst (λ (x : State). IsOpeningBegun told x disk start j) (sym is) (begun start at ours)
 
   abbrev Like : Content → Type 0
   Like image = (x : Replayed) × OpensTo c disk.seen x × OpensLike c x disk.seen image × IsOurs c image
 
   -- under the number of the records' last opening, or the next one
   numbered : (x : Replayed) → (opening_number x + 1 ≡ o.number) ⊎ (x.opening ≡ Some o.number) → (opening_number x ≡ opening_number r) ⊎ (x.opening ≡ Some (opening_number r + 1))
-  numbered x (inl before) = let next = ap (λ (y : Opening). y.number) o_is in inl (omega (arith, before, next))
-  numbered x (inr own) = inr (own ∙ ap (λ (y : Opening). Some y.number) o_is)
+  numbered x (inl before) = let next = ap (λ (y : CabinetOpening). y.number) o_is in inl (omega (arith, before, next))
+  numbered x (inr own) = inr (own ∙ ap (λ (y : CabinetOpening). Some y.number) o_is)
 
   like : (image : Content) → OpensWith (opened_state c o clock) disk.seen image → OpensLike c r disk.seen image
   like image w = record {

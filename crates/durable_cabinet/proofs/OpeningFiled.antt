@@ -4,7 +4,7 @@ use Rattle.std.specs.List.{AllByRecursion}
 use Rattle.std.specs.List.Sorted.{IsPermutation}
 use Rattle.std.proofs.lemmas.List.Sorted.{IsPermutation-refl}
 use Rattle.cabinet.specs.declared.kept.Kept.{Kept}
-use Rattle.cabinet.specs.History.{Opening as Begun, Standing, first}
+use Rattle.cabinet.specs.History.{CabinetOpening as Begun, CabinetStanding, first}
 use Rattle.cabinet.specs.State.{IsKnown, State, now}
 use Rattle.cabinet_records.specs.Replay.{Replayed, book_after, opening_after, opening_number, unplayed}
 use Rattle.cabinet_records.proofs.RecordedRestored.{records_restore}
@@ -21,9 +21,9 @@ use Rattle.gate_journal.specs.Opened.{Opening, opened}
 use Rattle.gate_journal.specs.Sound.{IsAlike, IsSettled, kept, version_of}
 use Rattle.truncation_list.specs.Books.{AnswersForBook}
 use Rattle.truncation_list.proofs.Answering.{answers_itself}
-use Rattle.durable_cabinet.specs.Filed.{IsFiled, IsHeldOn, IsKeptOn, IsRecordOf}
+use Rattle.durable_cabinet.specs.Filed.{IsFiled, IsHeldOn, IsKeptOn, IsOpeningOf}
 use Rattle.durable_cabinet.specs.Images.{HasIn, IsBeside, OpensTo, blob_on, blobs_start, slots_for}
-use Rattle.durable_cabinet.specs.Openings.{Enters, IsBegun, OpensWith}
+use Rattle.durable_cabinet.specs.Openings.{EntersOpening, IsOpeningBegun, OpensWith}
 use Rattle.durable_cabinet.proofs.Blobs.{all_same, has_all}
 use Rattle.durable_cabinet.proofs.Owning.{each_has, ours_of}
 use Rattle.durable_cabinet.proofs.OpeningWritten.{now_opened}
@@ -50,21 +50,21 @@ beside_itself : (s : State) → IsBeside s s
 beside_itself s = record { same_catalogue = refl; same_opening = refl; kept = inl refl; answers = answers_itself (now s).book }
 
 kept_on : (s : State) (o : Opening) (j : Journal) (old new : DiskState) {T E : Type 0} (result : Result T E) (start : ℕ) (j0 : Journal)
-    → start ≡ blobs_start s.catalogue → IsKnown s → IsSettled j → new.may_leave new.seen → held j new ≡ o → IsRecordOf s o
+    → start ≡ blobs_start s.catalogue → IsKnown s → IsSettled j → new.may_leave new.seen → held j new ≡ o → IsOpeningOf s o
     → AllByRecursion (IsHeldOn s.catalogue old) (now s).kept → Brings result o start j0 j old new → IsKeptOn s j new
 kept_on s o j old new result start j0 start_is known settled reads done is holds brings =
-    let unsure_is = subst (IsRecordOf s) (sym (settled_sure j new settled ∙ done)) is in
+    let unsure_is = subst (IsOpeningOf s) (sym (settled_sure j new settled ∙ done)) is in
     let after = all_held s.catalogue old new (now s).kept reads (subst (λ (n : ℕ). Every new.may_leave (HasHeld n Anywhere old)) start_is brings.keeps) holds in
     record {
       sound = brings.sound;
-      recorded = subst (IsRecordOf s) (sym done) is;
+      recorded = subst (IsOpeningOf s) (sym done) is;
       holds = after;
       beside = record { beside = s; known = known; is_beside = beside_itself s; recorded = unsure_is; holds = after; missed = inl unsure_is };
     }
 
 pub filed_now : (s : State) (told told' : Bool) (start start' : ℕ) (j j' : Journal) (old new : DiskState) {T E : Type 0} (result : Result T E)
-    → IsKnown s → IsBegun told s old start j → told' ≡ told → start' ≡ start → IsAlike j j' → version_of j' ≡ 2 → IsSettled j'
-    → (IsTrue told' → IsLawful new) → (entered : IsTrue told → Enters s result start j j' old new) → ((is : IsTrue told) → held j' new ≡ (entered is).written) → IsFiled s told' start' j' new
+    → IsKnown s → IsOpeningBegun told s old start j → told' ≡ told → start' ≡ start → IsAlike j j' → version_of j' ≡ 2 → IsSettled j'
+    → (IsTrue told' → IsLawful new) → (entered : IsTrue told → EntersOpening s result start j j' old new) → ((is : IsTrue told) → held j' new ≡ (entered is).written) → IsFiled s told' start' j' new
 filed_now s told told' start start' j j' old new result known b same_told same_start alike version settled lawful entered done = record {
   digest = alike.same_digest ∙ b.same_digest;
   slots = alike.same_slots ∙ b.same_slots;
@@ -76,7 +76,7 @@ filed_now s told told' start start' j j' old new result known b same_told same_s
 
 -- WHAT AN IMAGE OPENS TO
 
-module _ (told : Bool) (s : State) (start : ℕ) (j : Journal) (old : DiskState) (known : IsKnown s) (b : IsBegun told s old start j) (is : IsTrue told) where
+module _ (told : Bool) (s : State) (start : ℕ) (j : Journal) (old : DiskState) (known : IsKnown s) (b : IsOpeningBegun told s old start j) (is : IsTrue told) where
   by_own : (image : Content) (o : Opening) → opens_to j image ≡ o → opened s.catalogue.digest (slots_for s.catalogue) image ≡ o
   by_own image o e = (λ k. opened (sym b.same_digest k) (sym b.same_slots k) image) ∙ e
 
@@ -92,9 +92,9 @@ module _ (told : Bool) (s : State) (start : ℕ) (j : Journal) (old : DiskState)
         replayed = r;
         opens = to;
         opening = number;
-        kept = subst (λ (x : Standing). IsPermutation r.kept x.kept) stands order;
-        answers = subst (λ (x : Standing). AnswersForBook (book_after r) x.book) stands answers;
-        has = subst (λ (x : Standing). AllByRecursion (λ t. HasIn s.catalogue image (blob_on s.catalogue old.seen t)) x.kept) stands (each_has s.catalogue old.seen image (now s).kept (has_blobs image has));
+        kept = subst (λ (x : CabinetStanding). IsPermutation r.kept x.kept) stands order;
+        answers = subst (λ (x : CabinetStanding). AnswersForBook (book_after r) x.book) stands answers;
+        has = subst (λ (x : CabinetStanding). AllByRecursion (λ t. HasIn s.catalogue image (blob_on s.catalogue old.seen t)) x.kept) stands (each_has s.catalogue old.seen image (now s).kept (has_blobs image has));
         ours = ours_of s known old.seen image r to order (has_blobs image has) (subst (λ (n : ℕ). n ≤ length image) b.start_is has.whole);
       }
 
@@ -110,17 +110,17 @@ module _ (told : Bool) (s : State) (start : ℕ) (j : Journal) (old : DiskState)
         few_cuts = subst (λ (o : Begun). length o.book.cuts ≤ s.catalogue.cut_limit) b.opening known.possible.opens.few_cuts;
       } in
       let stood : first (opening_after b.replayed) ≡ now s = ap first (sym b.opening) ∙ sym (now_opened s b.since) in
-      with_blobs image b.replayed has to (inl (sym (ap (λ (o : Begun). o.number) b.opening))) (subst (λ (x : Standing). IsPermutation b.replayed.kept x.kept) stood (IsPermutation-refl b.replayed.kept))
-      (subst (λ (x : Standing). AnswersForBook (book_after b.replayed) x.book) stood (answers_itself (book_after b.replayed)))
+      with_blobs image b.replayed has to (inl (sym (ap (λ (o : Begun). o.number) b.opening))) (subst (λ (x : CabinetStanding). IsPermutation b.replayed.kept x.kept) stood (IsPermutation-refl b.replayed.kept))
+      (subst (λ (x : CabinetStanding). AnswersForBook (book_after b.replayed) x.book) stood (answers_itself (book_after b.replayed)))
 
-  opens_after : (image : Content) (o : Opening) → HasHeld start Anywhere old image → IsRecordOf s o → opens_to j image ≡ o → OpensWith s old.seen image
+  opens_after : (image : Content) (o : Opening) → HasHeld start Anywhere old image → IsOpeningOf s o → opens_to j image ≡ o → OpensWith s old.seen image
   opens_after image o has w e =
       let r = records_restore s w.entries known w.recorded in
       let to : OpensTo s.catalogue image r.0 = record { version = w.version; bodies = w.bodies; entries = w.entries; opens = by_own image o e ∙ w.opens; are = w.are; replays = r.1; few_cuts = r.3 } in
       let same : r.0 ≡ w.recorded.replayed = replays_once s.catalogue unplayed w.entries r.0 w.recorded.replayed r.1 w.recorded.replays in
       with_blobs image r.0 has to (inr (ap (λ (x : Replayed). x.opening) same ∙ w.recorded.opening)) r.2 r.4
 
-  pub images_with : {T E : Type 0} (result : Result T E) (j' : Journal) (new : DiskState) → Enters s result start j j' old new → Leaves old new (OpensWith s old.seen)
+  pub images_with : {T E : Type 0} (result : Result T E) (j' : Journal) (new : DiskState) → EntersOpening s result start j j' old new → Leaves old new (OpensWith s old.seen)
   images_with result j' new e = leaves_as old new (λ c. IsAmong j old e.written (opens_to j c) × HasHeld start Anywhere old c) (OpensWith s old.seen) e.brings.any_moment by_moment
     where
       among : (c : Content) → HasHeld start Anywhere old c → IsAmong j old e.written (opens_to j c) → OpensWith s old.seen c
@@ -132,6 +132,6 @@ module _ (told : Bool) (s : State) (start : ℕ) (j : Journal) (old : DiskState)
       by_moment c h = among c h.1 h.0
 
   -- its blobs read as before
-  pub seen_same : {T E : Type 0} (result : Result T E) (j' : Journal) (new : DiskState) → Enters s result start j j' old new → new.may_leave new.seen → map (blob_on s.catalogue new.seen) (now s).kept ≡ map (blob_on s.catalogue old.seen) (now s).kept
+  pub seen_same : {T E : Type 0} (result : Result T E) (j' : Journal) (new : DiskState) → EntersOpening s result start j j' old new → new.may_leave new.seen → map (blob_on s.catalogue new.seen) (now s).kept ≡ map (blob_on s.catalogue old.seen) (now s).kept
   seen_same result j' new e reads =
       all_same s.catalogue old new Anywhere (subst (λ (n : ℕ). Every new.may_leave (HasHeld n Anywhere old)) b.start_is e.brings.keeps) reads (now s).kept (anywhere (now s).kept) (b.holds is)

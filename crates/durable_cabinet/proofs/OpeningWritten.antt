@@ -3,7 +3,7 @@ use Rattle.std.proofs.Common.{ℕ, ◌≡◌, ◌<◌, List, [], ◌∷◌, ◌+
 use Rattle.std.specs.List.{AllByRecursion}
 use Rattle.std.proofs.lemmas.List.{length-map}
 use Rattle.std.proofs.lemmas.List.Sorted.{length_permutation}
-use Rattle.cabinet.specs.declared.entry.Entry.{Entry}
+use Rattle.cabinet.specs.declared.entry.HistoryEntry.{HistoryEntry}
 use Rattle.cabinet.specs.History.{first, standing}
 use Rattle.cabinet.specs.State.{IsKnown, State, now}
 use Rattle.cabinet_records.specs.Recorded.{IsRecordedIn, compacted, stored_record}
@@ -17,12 +17,12 @@ use Rattle.record_text.specs.declared.entries.Record.TheVariants as record_of
 use Rattle.record_text.specs.Fits.{Fits}
 use Rattle.record_text.specs.Spelling.{spelling}
 use Rattle.durable_cabinet.specs.Drafts.{IsCompactionOf, cut_record}
-use Rattle.durable_cabinet.specs.Filed.{IsRecordOf}
+use Rattle.durable_cabinet.specs.Filed.{IsOpeningOf}
 use Rattle.durable_cabinet.specs.Images.{slots_for}
 
 -- what was just opened stands as it was opened
 pub now_opened : (s : State) → s.since ≡ [] → now s ≡ first s.opening
-now_opened s none = ap (λ (es : List Entry). standing s.catalogue (first s.opening) es) none
+now_opened s none = ap (λ (es : List HistoryEntry). standing s.catalogue (first s.opening) es) none
 
 -- WRITTEN ANEW
 
@@ -43,7 +43,7 @@ spelled : (rs : List Record) → AllByRecursion Fits rs → AreRecordsOf 2 (map 
 spelled [] fit = tt
 spelled (r ∷ rs) fit = ((fit.0, refl, λ one. absurd (omega (arith, one))), spelled rs fit.1)
 
-pub written_anew : (s : State) (bodies : List (List ℕ)) → IsKnown s → IsCompactionOf s bodies → IsRecordOf s (records 2 bodies)
+pub written_anew : (s : State) (bodies : List (List ℕ)) → IsKnown s → IsCompactionOf s bodies → IsOpeningOf s (records 2 bodies)
 written_anew s bodies known is =
     let rs = compacted s.opening.number (now s).book is.kept in
     record {
@@ -59,7 +59,7 @@ written_anew s bodies known is =
 
 pub written_more : (s : State) (r : Replayed) (entries : List (Option Record)) (version : ℕ) (bodies : List (List ℕ)) (body : List ℕ) (e floor : ℕ)
     → IsKnown s → Replays s.catalogue unplayed entries r → s.opening ≡ opening_after r → s.since ≡ []
-    → version ≡ 2 → AreRecordsOf version bodies entries → e ≡ s.opening.number → floor ≡ (now s).book.floor → Fits (record_of.Opened e floor) → body ≡ spelling (record_of.Opened e floor) → IsRecordOf s (records version (bodies ++ body ∷ []))
+    → version ≡ 2 → AreRecordsOf version bodies entries → e ≡ s.opening.number → floor ≡ (now s).book.floor → Fits (record_of.Opened e floor) → body ≡ spelling (record_of.Opened e floor) → IsOpeningOf s (records version (bodies ++ body ∷ []))
 written_more s r entries version bodies body e floor known replays opening since two are number_is floor_is fits body_is =
     let new = record_of.Opened e floor in
     let same : record_of.Opened s.opening.number s.opening.book.floor ≡ new = λ i. record_of.Opened (sym number_is i) (sym (floor_is ∙ (λ k. (now_opened s since k).book.floor)) i) in

@@ -23,7 +23,7 @@ use Rattle.cache_file.specs.File.{Anywhere, HoldsBlob, Stays}
 use Rattle.durable_cabinet.specs.Backing.{Rests}
 use Rattle.durable_cabinet.specs.Filed.{IsFiled, IsHeldOn, on_disk}
 use Rattle.durable_cabinet.specs.Images.{IsLeft, blobs_start}
-use Rattle.durable_cabinet.specs.Tiles.{IsPartOf}
+use Rattle.durable_cabinet.specs.Tiles.{IsTilePartOf}
 use Rattle.durable_cabinet.proofs.Blobs.{AreHeld, all_same, same_on}
 use Rattle.durable_cabinet.proofs.Calling.{kept_stays, left_moment}
 use Rattle.durable_cabinet.proofs.Tying.{anywhere, shown}
@@ -85,7 +85,7 @@ module _ (s : State) (known : IsKnown s) (a : Address) (t : Kept) (is : kept_of 
   Reads start disk bytes = (blob : List ℕ) → HoldsBlob start t.place blob disk → span.start + span.length ≤ length blob → bytes ≡ take span.length (drop span.start blob)
 
   pub read_part_of : (told : Bool) (start : ℕ) (disk : DiskState) (bytes : List ℕ) → start ≡ blobs_start s.catalogue → (IsTrue told → AreHeld s.catalogue disk (now s).kept) → length bytes ≡ span.length → (IsTrue told → Reads start disk bytes)
-      → IsPartOf told s.catalogue disk.seen a t bytes
+      → IsTilePartOf told s.catalogue disk.seen a t bytes
   read_part_of true start disk bytes same holds long reads =
       let c = s.catalogue in
       let blob = bytes_at disk.seen (blobs_start c + t.place) t.length in

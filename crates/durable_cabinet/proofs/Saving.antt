@@ -12,7 +12,7 @@ use Rattle.cabinet.specs.Commands.{Saves}
 use Rattle.cabinet.specs.State.{State, with_counted}
 use Rattle.cabinet.specs.Counted.{uses}
 use Rattle.cabinet.specs.Steps.{IsUnsavedFirst}
-use Rattle.durable_cabinet.specs.Backing.{Writes}
+use Rattle.durable_cabinet.specs.Backing.{WritesRecord}
 use Rattle.durable_cabinet.specs.Filed.{on_disk}
 use Rattle.durable_cabinet.specs.Images.{IsLeft, Lasts, Restores}
 use Rattle.durable_cabinet.proofs.Moving.{counted_on}
@@ -27,7 +27,7 @@ module _ (told : Bool) (s : State) (t : Unsaved) (goes : IsUnsavedFirst s (Some 
   pub fault_row_on : (before after : ℕ) → Rose before after → on_disk told new.seen s ≡ before_save → Saves before_save (saved.DiskFault before after) (on_disk told new.seen s)
   fault_row_on before after rose same = ((t.kept.meta, goes.0), rose, same)
 
-  pub save_images : {T E : Type 0} (result : Result T E) (start : ℕ) (j j' : Journal) → Writes result told s s (with_counted s t.kept.meta (uses s.history t.kept.meta)) start j j' old new → IsTrue told
+  pub save_images : {T E : Type 0} (result : Result T E) (start : ℕ) (j j' : Journal) → WritesRecord result told s s (with_counted s t.kept.meta (uses s.history t.kept.meta)) start j j' old new → IsTrue told
       → Lasts before_save (λ u. (m : MetaKey) × Saves before_save (saved.Done m) u) j old new
   save_images result start j j' w is =
       leaves_as old new (λ image. IsLeft before_save j old image ⊎ Restores (on_disk told old.seen (with_counted s t.kept.meta (uses s.history t.kept.meta))) image) _ (w.images is) (λ image left. moment image left)

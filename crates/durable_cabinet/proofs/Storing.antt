@@ -11,7 +11,7 @@ use Rattle.cabinet.specs.History.{but, is_of, stored_entry}
 use Rattle.cabinet.specs.State.{IsKnown, State, blobs_with, now, with_blob}
 use Rattle.cache_file.specs.File.{HoldsBlob, Stays}
 use Rattle.durable_cabinet.specs.Alike.{IsAlikeTo}
-use Rattle.durable_cabinet.specs.Backing.{Enters, Rests, Stores, with_away}
+use Rattle.durable_cabinet.specs.Backing.{Enters, Rests, StoresBlob, with_away}
 use Rattle.durable_cabinet.specs.Filed.{IsFiled, IsHeldOn, on_disk}
 use Rattle.durable_cabinet.specs.Images.{IsLeft, Restores, blobs_start}
 use Rattle.std.specs.Option.{option_map}
@@ -76,11 +76,11 @@ module _ (told : Bool) (s missed : State) (alike : IsAlikeTo s missed) (t : Kept
       (leaves_as d0 d1 (IsLeft (on_disk told d0.seen s) j0 d0) AtStore (rests.images is) (λ image left. inl left))
       (leaves_as d1 d2 (Restores (on_disk told d1.seen s)) AtStore (images_put is) (λ image restores. inl (inl (subst (λ (x : State). Restores x image) rests.same restores))))
 
-  pub stores_failed : {T E : Type 0} (start : ℕ) (j : Journal) (fault : E) → IsFiled s told start j d2 → Stores {T = T} {E = E} (Err fault) told s missed t blob start j0 j d0 d2
+  pub stores_failed : {T E : Type 0} (start : ℕ) (j : Journal) (fault : E) → IsFiled s told start j d2 → StoresBlob {T = T} {E = E} (Err fault) told s missed t blob start j0 j d0 d2
   stores_failed start j fault then = record { ok = tt; err = filed_alike told s missed start j d2 alike then; same = same_put ∙ rests.same; there = tt; images = images_before }
 
   pub stores_then : {T E : Type 0} (result : Result T E) (start : ℕ) (j : Journal) (d3 : DiskState) → (IsTrue told → bytes_at d2.seen (blobs_start s.catalogue + t.place) t.length ≡ blob) → Enters result told s missed (with_away s t) start j d2 d3
-      → Stores result told s missed t blob start j0 j d0 d3
+      → StoresBlob result told s missed t blob start j0 j d0 d3
   stores_then result start j d3 stands e = record {
     ok = e.written.ok;
     err = e.written.err;
@@ -97,7 +97,7 @@ module _ (told : Bool) (s missed : State) (alike : IsAlikeTo s missed) (t : Kept
       later image (inr restores) = inr (subst (λ (x : State). Restores x image) then_there restores)
 
 -- a file that isn't ready
-pub stores_unready : {T E : Type 0} (told : Bool) (s missed : State) (t : Kept) (blob : List ℕ) (start : ℕ) (j0 j : Journal) (d0 d1 : DiskState) (fault : E) → IsAlikeTo s missed → Rests told s j0 d0 d1 → IsFiled s told start j d1 → Stores {T = T} {E = E} (Err fault) told s missed t blob start j0 j d0 d1
+pub stores_unready : {T E : Type 0} (told : Bool) (s missed : State) (t : Kept) (blob : List ℕ) (start : ℕ) (j0 j : Journal) (d0 d1 : DiskState) (fault : E) → IsAlikeTo s missed → Rests told s j0 d0 d1 → IsFiled s told start j d1 → StoresBlob {T = T} {E = E} (Err fault) told s missed t blob start j0 j d0 d1
 stores_unready told s missed t blob start j0 j d0 d1 fault alike rests then = record {
   ok = tt;
   err = filed_alike told s missed start j d1 alike then;

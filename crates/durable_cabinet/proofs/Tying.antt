@@ -20,7 +20,7 @@ use Rattle.cabinet_records.specs.Recorded.{IsRecordedIn}
 use Rattle.cabinet_records.specs.Replay.{AreRecordsOf, Replayed, unplayed}
 use Rattle.cabinet_records.proofs.RecordedRestored.{records_restore}
 use Rattle.cache_file.specs.File.{Anywhere, held, opens_to, unsure}
-use Rattle.durable_cabinet.specs.Filed.{IsBesideOn, IsRecordOf, on_disk}
+use Rattle.durable_cabinet.specs.Filed.{IsBesideOn, IsOpeningOf, on_disk}
 use Rattle.durable_cabinet.specs.Images.{HasIn, IsBeside, OpensTo, Restores, blob_on, blobs_start, slots_for}
 use Rattle.durable_cabinet.proofs.Blobs.{AreHeld, AreSpared}
 use Rattle.durable_cabinet.proofs.Once.{bodies_in, replays_once, version_in}
@@ -45,7 +45,7 @@ one_more version (body ∷ bodies) (e ∷ entries) entry fits old are = (are.0, 
 
 -- one more record that says what the cabinet then keeps
 pub recorded_one : (s u : State) (version : ℕ) (bodies : List (List ℕ)) (entry : Record) → version ≡ 2 → Fits entry → ((rs : List (Option Record)) → IsRecordedIn s rs → IsRecordedIn u (rs ++ Some entry ∷ []))
-    → IsRecordOf s (records version bodies) → IsRecordOf u (records version (bodies ++ spelling entry ∷ []))
+    → IsOpeningOf s (records version bodies) → IsOpeningOf u (records version (bodies ++ spelling entry ∷ []))
 recorded_one s u version bodies entry two fits leads r =
     let same : version ≡ r.version = ap version_in r.opens in
     record {
@@ -57,8 +57,8 @@ recorded_one s u version bodies entry two fits leads r =
       recorded = leads r.entries r.recorded;
     }
 
-pub record_as : (s : State) (o p : Opening) → p ≡ o → IsRecordOf s o → IsRecordOf s p
-record_as s o p same r = subst (IsRecordOf s) (sym same) r
+pub record_as : (s : State) (o p : Opening) → p ≡ o → IsOpeningOf s o → IsOpeningOf s p
+record_as s o p same r = subst (IsOpeningOf s) (sym same) r
 
 -- a settled journal has nothing undecided
 unsure_as : (standing : Standing) (gate : ℕ) (l : Layout) (seen : Content) → standing ≡ Settled → other_as standing gate l seen ≡ records l.version (kept_by l seen)
@@ -69,7 +69,7 @@ settled_unsure j disk settled = unsure_as j.standing j.gate (layout_of j) disk.s
 
 -- IMAGES
 
-pub restored : (s : State) (j : Journal) (o : Opening) (disk : DiskState) (image : Content) → IsKnown s → digest_of j ≡ s.catalogue.digest → slots_of j ≡ slots_for s.catalogue → IsRecordOf s o → opens_to j image ≡ o
+pub restored : (s : State) (j : Journal) (o : Opening) (disk : DiskState) (image : Content) → IsKnown s → digest_of j ≡ s.catalogue.digest → slots_of j ≡ slots_for s.catalogue → IsOpeningOf s o → opens_to j image ≡ o
     → AllByRecursion (HasIn s.catalogue image) (map (blob_on s.catalogue disk.seen) (now s).kept) → blobs_start s.catalogue ≤ length image → Restores (shown s disk) image
 restored s j o disk image known digest slots r opens has whole =
     let back = records_restore s r.entries known r.recorded in
@@ -97,5 +97,5 @@ restored s j o disk image known digest slots r opens has whole =
 pub beside_itself : (s : State) → IsBeside s s
 beside_itself s = record { same_catalogue = refl; same_opening = refl; kept = inl refl; answers = answers_itself (now s).book }
 
-abbrev pub beside_none : (s : State) (j : Journal) (disk : DiskState) → IsKnown s → unsure j disk ≡ held j disk → IsRecordOf s (held j disk) → AreHeld s.catalogue disk (now s).kept → IsBesideOn s j disk
+abbrev pub beside_none : (s : State) (j : Journal) (disk : DiskState) → IsKnown s → unsure j disk ≡ held j disk → IsOpeningOf s (held j disk) → AreHeld s.catalogue disk (now s).kept → IsBesideOn s j disk
 beside_none s j disk known none r holds = record { beside = s; known = known; is_beside = beside_itself s; recorded = record_as s (held j disk) (unsure j disk) none r; holds = holds; missed = inl (record_as s (held j disk) (unsure j disk) none r) }

@@ -12,12 +12,12 @@ use Rattle.metatile_locks.proofs.Runs.{marked_is}
 use Rattle.metatile_plan.specs.declared.metatile.MetaKey.{MetaKey}
 use Rattle.metatile_plan.specs.Keys.{same_meta}
 use Rattle.raster_field.specs.Blocks.{block_of}
-use Rattle.cabinet.specs.declared.entry.Entry.{Entry}
-use Rattle.cabinet.specs.declared.entry.Entry.TheVariants as entry
+use Rattle.cabinet.specs.declared.entry.HistoryEntry.{HistoryEntry}
+use Rattle.cabinet.specs.declared.entry.HistoryEntry.TheVariants as entry
 use Rattle.cabinet.specs.declared.kept.Kept.{Kept}
 use Rattle.cabinet.specs.declared.kept.KeptBlob.{KeptBlob}
 use Rattle.cabinet.specs.Hits.{hits_of}
-use Rattle.cabinet.specs.History.{Standing, after, kept_after, kept_of, with_uses}
+use Rattle.cabinet.specs.History.{CabinetStanding, after, kept_after, kept_of, with_uses}
 use Rattle.cabinet.specs.State.{State, asked_at, grown, now}
 use Rattle.cabinet.proofs.Lists.{all_push}
 use Rattle.cabinet.proofs.Rows.{now_asked, now_more}
@@ -25,10 +25,10 @@ use Rattle.cabinet.proofs.Sentences.{kept_step}
 use Rattle.cabinet.proofs.WithUses.{set_same}
 use Rattle.durable_cabinet.specs.Hot.{HotTile, IsHotTile, StaysHot}
 use Rattle.durable_cabinet.specs.Images.{blobs_start}
-use Rattle.durable_cabinet.specs.Tiles.{IsPartOf}
+use Rattle.durable_cabinet.specs.Tiles.{IsTilePartOf}
 
 -- A PART of what is kept is one of what is kept in the same region
-pub same_region : (told : Bool) (c : Catalogue) (seen : Content) (a : Address) (t u : Kept) (bytes : List ℕ) → t.place ≡ u.place → t.length ≡ u.length → IsPartOf told c seen a t bytes → IsPartOf told c seen a u bytes
+pub same_region : (told : Bool) (c : Catalogue) (seen : Content) (a : Address) (t u : Kept) (bytes : List ℕ) → t.place ≡ u.place → t.length ≡ u.length → IsTilePartOf told c seen a t bytes → IsTilePartOf told c seen a u bytes
 same_region told c seen a t u bytes place long p = record {
   blob = p.blob;
   long = p.long;
@@ -39,7 +39,7 @@ same_region told c seen a t u bytes place long p = record {
 -- ONE ENTRY
 
 -- it begins no render under a number of before, and keeps only one that runs
-abbrev pub Goes : Standing → Entry → Type 0
+abbrev pub Goes : CabinetStanding → HistoryEntry → Type 0
 Goes s (entry.At n) = Unit {0}
 Goes s (entry.Started k m) = s.front < k
 Goes s (entry.Cut t cover) = Unit {0}
@@ -50,17 +50,17 @@ Goes s (entry.Ended k) = Unit {0}
 Goes s (entry.Used m) = Unit {0}
 Goes s (entry.Dropped m) = Unit {0}
 
-module _ (told : Bool) (c : Catalogue) (s : Standing) (seen : Content) (x : HotTile) (h : IsHotTile told c s seen x) where
+module _ (told : Bool) (c : Catalogue) (s : CabinetStanding) (seen : Content) (x : HotTile) (h : IsHotTile told c s seen x) where
   abbrev m : MetaKey
   m = block_of c x.address
 
   abbrev IsPart : Kept → Type 0
-  IsPart t = IsPartOf told c seen x.address t x.bytes
+  IsPart t = IsTilePartOf told c seen x.address t x.bytes
 
   abbrev HasEnded : Render → Type 0
   HasEnded r = r.number ≢ x.number
 
-  given_after : (e : Entry) → x.number ≤ (after c s e).front
+  given_after : (e : HistoryEntry) → x.number ≤ (after c s e).front
   given_after (entry.At n) = h.given
   given_after (entry.Started k n) = omega (arith, h.given)
   given_after (entry.Cut t cover) = omega (arith, h.given)
@@ -71,7 +71,7 @@ module _ (told : Bool) (c : Catalogue) (s : Standing) (seen : Content) (x : HotT
   given_after (entry.Used n) = h.given
   given_after (entry.Dropped n) = h.given
 
-  ended_after : (e : Entry) → Goes s e → AllByRecursion HasEnded (after c s e).out
+  ended_after : (e : HistoryEntry) → Goes s e → AllByRecursion HasEnded (after c s e).out
   ended_after (entry.At n) goes = h.ended
   ended_after (entry.Started k n) goes = all_push HasEnded s.out (unmarked k n s.moment) h.ended (λ same. let g = h.given in absurd (omega (arith, same, g, goes)))
   ended_after (entry.Cut t cover) goes =
@@ -108,7 +108,7 @@ module _ (told : Bool) (c : Catalogue) (s : Standing) (seen : Content) (x : HotT
       (sym (set_same n u (λ (z : Kept). z.length) (λ z. refl) y) ∙ ap (λ (z : Kept). z.length) same)
       (h.part y at was)
 
-  part_after : (e : Entry) → Goes s e → (t : Kept) → kept_after c m (kept_of m s) e ≡ Some t → t.number ≡ x.number → IsPart t
+  part_after : (e : HistoryEntry) → Goes s e → (t : Kept) → kept_after c m (kept_of m s) e ≡ Some t → t.number ≡ x.number → IsPart t
   part_after (entry.At n) goes t is number = h.part t is number
   part_after (entry.Started k n) goes t is number = h.part t is number
   part_after (entry.Cut k cover) goes t is number = spared_part (hits_of c cover m) t is number
@@ -120,16 +120,16 @@ module _ (told : Bool) (c : Catalogue) (s : Standing) (seen : Content) (x : HotT
   part_after (entry.Used n) goes t is number = h.part t is number
   part_after (entry.Dropped n) goes t is number = spared_part (same_meta n m) t is number
 
-  pub tile_after : (e : Entry) → Goes s e → IsHotTile told c (after c s e) seen x
+  pub tile_after : (e : HistoryEntry) → Goes s e → IsHotTile told c (after c s e) seen x
   tile_after e goes = record { given = given_after e; ended = ended_after e goes; part = λ t is number. part_after e goes t (sym (kept_step c m s e) ∙ is) number }
 
 -- ENTRIES OF A CABINET
 
-pub grown_hot : (s : State) (e : Entry) (blobs : Option (List KeptBlob)) → Goes (now s) e → StaysHot s (grown s e blobs)
-grown_hot s e blobs goes told seen x h = subst (λ (n : Standing). IsHotTile told s.catalogue n seen x) (sym (now_more s e blobs)) (tile_after told s.catalogue (now s) seen x h e goes)
+pub grown_hot : (s : State) (e : HistoryEntry) (blobs : Option (List KeptBlob)) → Goes (now s) e → StaysHot s (grown s e blobs)
+grown_hot s e blobs goes told seen x h = subst (λ (n : CabinetStanding). IsHotTile told s.catalogue n seen x) (sym (now_more s e blobs)) (tile_after told s.catalogue (now s) seen x h e goes)
 
 pub asked_hot : (s : State) (n : ℕ) → StaysHot s (asked_at n s)
-asked_hot s n told seen x h = subst (λ (y : Standing). IsHotTile told s.catalogue y seen x) (sym (now_asked s n)) (tile_after told s.catalogue (now s) seen x h (entry.At n) tt)
+asked_hot s n told seen x h = subst (λ (y : CabinetStanding). IsHotTile told s.catalogue y seen x) (sym (now_asked s n)) (tile_after told s.catalogue (now s) seen x h (entry.At n) tt)
 
 pub hot_itself : (s : State) → StaysHot s s
 hot_itself s told seen x h = h

@@ -21,7 +21,7 @@ pub record Rests (told : Bool) (s : State) (j : Journal) (old new : DiskState) :
   pub images : IsTrue told → Leaves old new (IsLeft (on_disk told old.seen s) j old)
 
 -- a record leads from one cabinet to another, and where the disk fails its command leads to a third
-pub record Leads (s missed u : State) (entry : Record) : Type 0 where
+pub record RecordLeads (s missed u : State) (entry : Record) : Type 0 where
   pub known : IsKnown u
   pub is_beside : IsBeside s u
   pub recorded : (entries : List (Option Record)) → IsRecordedIn s entries → IsRecordedIn u (entries ++ Some entry ∷ [])
@@ -48,7 +48,7 @@ pub record Enters {T E : Type 0} (result : Result T E) (told : Bool) (s missed u
   pub images : IsTrue told → Leaves old new (λ image. Restores (on_disk told old.seen s) image ⊎ Restores (on_disk told old.seen u) image)
 
 -- A record was written in any file, or the disk failed.
-pub record Writes {T E : Type 0} (result : Result T E) (told : Bool) (s missed u : State) (start : ℕ) (before j : Journal) (old new : DiskState) : Type 0 where
+pub record WritesRecord {T E : Type 0} (result : Result T E) (told : Bool) (s missed u : State) (start : ℕ) (before j : Journal) (old new : DiskState) : Type 0 where
   pub written : IsWritten result told s missed u start j old new
   pub images : IsTrue told → Leaves old new (λ image. IsLeft (on_disk told old.seen s) before old image ⊎ Restores (on_disk told old.seen u) image)
 
@@ -57,7 +57,7 @@ abbrev pub with_away : State → Kept → State
 with_away s t = with_blob s t (replicate t.length 0)
 
 -- A blob was put into a gap and its record written, or the disk failed.
-pub record Stores {T E : Type 0} (result : Result T E) (told : Bool) (s missed : State) (t : Kept) (blob : List ℕ) (start : ℕ) (before j : Journal) (old new : DiskState) : Type 0 where
+pub record StoresBlob {T E : Type 0} (result : Result T E) (told : Bool) (s missed : State) (t : Kept) (blob : List ℕ) (start : ℕ) (before j : Journal) (old new : DiskState) : Type 0 where
   pub ok : OnOk result (IsFiled (with_away s t) told start j new)
   pub err : OnErr result (IsFiled missed told start j new)
   pub same : on_disk told new.seen s ≡ on_disk told old.seen s

@@ -34,14 +34,14 @@ abbrev pub on_disk : Bool → Content → State → State
 on_disk told seen s = record { catalogue = s.catalogue; opening = s.opening; history = s.history; since = s.since; blobs = blobs_on told s.catalogue seen (now s).kept; clock = s.clock }
 
 -- what contracts see: the cabinet, and its file
-pub record Shown (D : Type 0) : Type 0 where
+pub record ShownCabinet (D : Type 0) : Type 0 where
   pub state : State
   pub file : CacheFile D
 
 -- THE TIE
 
 -- an opening of a journal is that of records that say what a cabinet keeps
-pub record IsRecordOf (s : State) (o : Opening) : Type 0 where
+pub record IsOpeningOf (s : State) (o : Opening) : Type 0 where
   pub version : ℕ
   pub bodies : List (List ℕ)
   pub entries : List (Option Record)
@@ -59,13 +59,13 @@ pub record IsBesideOn (s : State) (j : Journal) (disk : DiskState) : Type 0 wher
   pub beside : State
   pub known : IsKnown beside
   pub is_beside : IsBeside s beside
-  pub recorded : IsRecordOf beside (unsure j disk)
+  pub recorded : IsOpeningOf beside (unsure j disk)
   pub holds : AllByRecursion (IsHeldOn s.catalogue disk) (now beside).kept
-  pub missed : IsRecordOf s (unsure j disk) ⊎ HasMissed (on_disk true disk.seen s) (on_disk true disk.seen beside)
+  pub missed : IsOpeningOf s (unsure j disk) ⊎ HasMissed (on_disk true disk.seen s) (on_disk true disk.seen beside)
 
 pub record IsKeptOn (s : State) (j : Journal) (disk : DiskState) : Type 0 where
   pub sound : IsSound j disk
-  pub recorded : IsRecordOf s (held j disk)
+  pub recorded : IsOpeningOf s (held j disk)
   pub holds : AllByRecursion (IsHeldOn s.catalogue disk) (now s).kept
   pub beside : IsBesideOn s j disk
 

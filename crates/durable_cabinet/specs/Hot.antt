@@ -2,13 +2,13 @@
 use Rattle.std.specs.Prelude.{ℕ, ◌≡◌, ◌≢◌, ◌≤◌, Bool, List, Some}
 use Rattle.std.specs.List.{AllByRecursion}
 use Rattle.cabinet.specs.declared.kept.Kept.{Kept}
-use Rattle.cabinet.specs.History.{Standing, kept_of}
+use Rattle.cabinet.specs.History.{CabinetStanding, kept_of}
 use Rattle.cabinet.specs.State.{State, now}
 use Rattle.catalog.specs.declared.catalogue.Catalogue.{Catalogue}
 use Rattle.disk_model.specs.Content.{Content}
 use Rattle.matrix_geometry.specs.declared.address.Address.{Address}
 use Rattle.raster_field.specs.Blocks.{block_of}
-use Rattle.durable_cabinet.specs.Tiles.{IsPartOf}
+use Rattle.durable_cabinet.specs.Tiles.{IsTilePartOf}
 use Rattle.durable_cabinet.specs.declared.texts.HotText.{HotText}
 use Rattle.durable_cabinet.specs.declared.texts.TileKey.{TileKey}
 
@@ -31,10 +31,10 @@ tile_of e = hot_tile (address_of e.0) e.1.number e.1.text
 
 -- The text's number was given, and its render has ended; and where that is the number of what is kept of the tile's metatile, the text
 -- is the tile's part of it.
-pub record IsHotTile (told : Bool) (c : Catalogue) (standing : Standing) (seen : Content) (x : HotTile) : Type 0 where
+pub record IsHotTile (told : Bool) (c : Catalogue) (standing : CabinetStanding) (seen : Content) (x : HotTile) : Type 0 where
   pub given : x.number ≤ standing.front
   pub ended : AllByRecursion (λ r. r.number ≢ x.number) standing.out
-  pub part : (t : Kept) → kept_of (block_of c x.address) standing ≡ Some t → t.number ≡ x.number → IsPartOf told c seen x.address t x.bytes
+  pub part : (t : Kept) → kept_of (block_of c x.address) standing ≡ Some t → t.number ≡ x.number → IsTilePartOf told c seen x.address t x.bytes
 
 -- THE TIER of a cabinet
 abbrev pub IsHot : Bool → State → Content → List HotTile → Type 0

@@ -18,7 +18,7 @@ use Rattle.gate_journal.specs.Sound.{IsSettled, IsSound, digest_of, kept, slots_
 use Rattle.record_text.specs.declared.entries.Record.{Record}
 use Rattle.truncation_list.specs.declared.book.Book.{Book}
 use Rattle.truncation_list.specs.Books.{AnswersForBook}
-use Rattle.durable_cabinet.specs.Filed.{IsHeldOn, IsRecordOf}
+use Rattle.durable_cabinet.specs.Filed.{IsHeldOn, IsOpeningOf}
 use Rattle.durable_cabinet.specs.Images.{HasIn, IsOurs, OpensTo, blob_on, blobs_start, slots_for}
 
 -- the disk after a step of an opening, which a refusal hands back
@@ -40,7 +40,7 @@ pub record IsReplayed (told : Bool) (c : Catalogue) (disk : DiskState) (j : Jour
   pub only : IsTrue told → Only disk.seen disk.may_leave
 
 -- A cabinet was just opened with what the records of its journal are restored to, and none of that was written yet.
-pub record IsBegun (told : Bool) (s : State) (disk : DiskState) (start : ℕ) (j : Journal) : Type 0 where
+pub record IsOpeningBegun (told : Bool) (s : State) (disk : DiskState) (start : ℕ) (j : Journal) : Type 0 where
   pub settled : IsSettled j
   pub same_slots : slots_of j ≡ slots_for s.catalogue
   pub same_digest : digest_of j ≡ s.catalogue.digest
@@ -55,10 +55,10 @@ pub record IsBegun (told : Bool) (s : State) (disk : DiskState) (start : ℕ) (j
   pub holds : IsTrue told → AllByRecursion (IsHeldOn s.catalogue disk) (now s).kept
 
 -- The opening was written down: its record was added, or other records, with it, are in place of the ones before.
-pub record Enters {T E : Type 0} (s : State) (result : Result T E) (start : ℕ) (j j' : Journal) (old new : DiskState) : Type 0 where
+pub record EntersOpening {T E : Type 0} (s : State) (result : Result T E) (start : ℕ) (j j' : Journal) (old new : DiskState) : Type 0 where
   pub written : Opening
   pub brings : Brings result written start j j' old new
-  pub recorded : IsRecordOf s written
+  pub recorded : IsOpeningOf s written
 
 -- an image opens under the number of the opening of a cabinet or the one before, to what the cabinet was opened with, and to a book that answers
 -- for its book, has the blobs of a content, and is the file of a cabinet

@@ -2,7 +2,7 @@
 use Rattle.std.specs.Prelude.{ℕ, ◌≡◌, ◌≤◌, ◌+◌, ◌-◌, ◌^◌, ◌⊎◌, Bool, IsTrue, min}
 use Rattle.std.proofs.Common.{refl, sym, ◌∙◌, subst, arith, inl, inr}
 use Rattle.cabinet_records.specs.Replay.{Replayed, book_after, opening_number}
-use Rattle.cabinet.specs.History.{Opening}
+use Rattle.cabinet.specs.History.{CabinetOpening}
 use Rattle.cabinet.specs.State.{State, now}
 use Rattle.catalog.specs.declared.catalogue.Catalogue.{Catalogue}
 use Rattle.base.specs.Causes.{Rose}
@@ -46,12 +46,12 @@ pub outlasts_itself : (told : Bool) (faults : ℕ) (s : State) (j : Journal) (di
 outlasts_itself told faults s j disk = record { same_told = refl; same_catalogue = refl; same_opening = refl; later = omega arith; settled = inr (λ h. h); images = λ is. leaves_none disk (Left s.catalogue s.opening.number (now s).book) }
 
 -- an image that answers for a book answers for each one that this book answers for
-as_before : (c d : Catalogue) (o p : Opening) (book before : Book) (image : Content) → d ≡ c → p ≡ o → AnswersForBook book before → Left d p.number book image → Left c o.number before image
+as_before : (c d : Catalogue) (o p : CabinetOpening) (book before : Book) (image : Content) → d ≡ c → p ≡ o → AnswersForBook book before → Left d p.number book image → Left c o.number before image
 as_before c d o p book before image same same_opening answers left = (
   record {
     replayed = left.0.replayed;
     opens = subst (λ x. OpensTo x image left.0.replayed) same left.0.opens;
-    later = subst (λ (x : Opening). x.number ≤ opening_number left.0.replayed) same_opening left.0.later;
+    later = subst (λ (x : CabinetOpening). x.number ≤ opening_number left.0.replayed) same_opening left.0.later;
     answers = answers_through (book_after left.0.replayed) book before left.0.answers answers;
   },
   subst (λ x. IsOurs x image) same left.1,

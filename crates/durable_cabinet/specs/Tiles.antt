@@ -8,7 +8,7 @@ use Rattle.raster_field.specs.Blocks.{blob_size, block_of, tile_part}
 use Rattle.durable_cabinet.specs.Images.{blobs_start}
 
 -- these bytes are the tile's part of a blob of its metatile's length, which is the one that stands in the region where the disk is modelled
-pub record IsPartOf (told : Bool) (c : Catalogue) (seen : Content) (a : Address) (t : Kept) (bytes : List ℕ) : Type 0 where
+pub record IsTilePartOf (told : Bool) (c : Catalogue) (seen : Content) (a : Address) (t : Kept) (bytes : List ℕ) : Type 0 where
   pub blob : List ℕ
   pub long : length blob ≡ blob_size c (block_of c a)
   pub there : IsTrue told → blob ≡ bytes_at seen (blobs_start c + t.place) t.length

@@ -10,7 +10,7 @@ ghost use Rattle.durable_cabinet.specs.Backing.{Rests};
 ghost use Rattle.durable_cabinet.specs.Drafts.{needed};
 ghost use Rattle.durable_cabinet.specs.Filed.{IsFiled, on_disk};
 ghost use Rattle.durable_cabinet.specs.Hot.{IsHot, StaysHot};
-ghost use Rattle.durable_cabinet.specs.Tiles.{IsPartOf};
+ghost use Rattle.durable_cabinet.specs.Tiles.{IsTilePartOf};
 ghost use Rattle.raster_field.specs.Blocks.{block_of};
 
 use crate::hot::HotTier;
@@ -52,7 +52,7 @@ fn ask_read(
 ) -> Result<Asked, AllocError>
     requires tile { IsTile core.old.state.catalogue address.now }
     requires kept { kept_of (block_of core.old.state.catalogue address.now) (now core.old.state) ≡ Some kept }
-    ensures asked { IfOk result (λ asked. (told : Bool) (seen : Content) (before after : ℕ) → IsPartOf told core.old.state.catalogue seen address.now kept text
+    ensures asked { IfOk result (λ asked. (told : Bool) (seen : Content) (before after : ℕ) → IsTilePartOf told core.old.state.catalogue seen address.now kept text
         → Asks before after (on_disk told seen core.old.state) address.now asked (on_disk told seen core.new.state)) }
     ensures err { OnErr result (core.new.state ≡ core.old.state) }
     ensures alike { IsAlikeTo core.old.state core.new.state }
@@ -82,11 +82,11 @@ fn ask_warming(
 ) -> Result<Asked, AllocError>
     requires tile { IsTile core.old.state.catalogue address.now }
     requires kept { kept_of (block_of core.old.state.catalogue address.now) (now core.old.state) ≡ Some kept }
-    ensures asked { IfOk result (λ asked. (told : Bool) (seen : Content) (before after : ℕ) → IsPartOf told core.old.state.catalogue seen address.now kept bytes.items
+    ensures asked { IfOk result (λ asked. (told : Bool) (seen : Content) (before after : ℕ) → IsTilePartOf told core.old.state.catalogue seen address.now kept bytes.items
         → Asks before after (on_disk told seen core.old.state) address.now asked (on_disk told seen core.new.state)) }
     ensures err { OnErr result (core.new.state ≡ core.old.state) }
     ensures alike { IsAlikeTo core.old.state core.new.state }
-    ensures hot { (told : Bool) (seen : Content) → IsPartOf told core.old.state.catalogue seen address.now kept bytes.items → IsHot told core.old.state seen hot.old → IsHot told core.new.state seen hot.new }
+    ensures hot { (told : Bool) (seen : Content) → IsTilePartOf told core.old.state.catalogue seen address.now kept bytes.items → IsHot told core.old.state seen hot.old → IsHot told core.new.state seen hot.new }
     ensures room { needed core.new.state ≤ needed core.old.state + 1 }
 {
     core.known();

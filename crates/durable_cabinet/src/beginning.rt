@@ -5,10 +5,10 @@ ghost use Rattle.base.specs.Causes.{HasCause};
 ghost use Rattle.cabinet.specs.State.{now};
 ghost use Rattle.durable_cabinet.specs.Drafts.{HasRoom, most_left};
 ghost use Rattle.durable_cabinet.specs.Images.{slots_for};
-ghost use Rattle.durable_cabinet.specs.Openings.{Enters, IsBegun};
+ghost use Rattle.durable_cabinet.specs.Openings.{EntersOpening, IsOpeningBegun};
 ghost use Rattle.gate_journal.specs.Sound.{IsAlike, IsSettled, room_of, slots_of, version_of};
 
-use crate::draft::{Draft, opened_body};
+use crate::draft::{CompactionDraft, opened_body};
 use crate::replaying::slots_for;
 use cabinet::Core;
 use cache_file::CacheFile;
@@ -31,11 +31,11 @@ pub(crate) fn number_after(opening: Option<u32>) -> Option<u32>
 }
 
 /// A draft with room for a compaction of a core that was just opened.
-pub(crate) fn drafted(alloc: Global, core: &Core) -> Result<Draft, AllocError>
+pub(crate) fn draft_of(alloc: Global, core: &Core) -> Result<CompactionDraft, AllocError>
     requires { core.now.state.since ≡ [] }
     ensures { IfOk result (HasRoom core.now.state) }
 {
-    let mut draft = Draft::new(alloc)?;
+    let mut draft = CompactionDraft::new(alloc)?;
     let count = 1 + core.cuts().count() as usize + core.kept() as usize;
     draft.reserve(alloc, count)?;
     Ok(draft)
@@ -76,10 +76,10 @@ fn is_to_move<D: Disk>(core: &Core, file: &CacheFile<D>) -> bool
 /// written anew, with the opening as its first record; else the record of the opening is added.
 pub(crate) fn write_opening<D: Disk>(
     core: &Core,
-    draft: &mut Draft,
+    draft: &mut CompactionDraft,
     file: &mut CacheFile<D>,
 ) -> Result<(), Failed>
-    requires begun { IsBegun (D.told file.old.disk) core.now.state (D.state file.old.disk) file.old.start file.old.journal }
+    requires begun { IsOpeningBegun (D.told file.old.disk) core.now.state (D.state file.old.disk) file.old.start file.old.journal }
     requires room { HasRoom core.now.state draft.old }
     ensures told { D.told file.new.disk ≡ D.told file.old.disk }
     ensures start { file.new.start ≡ file.old.start }
@@ -87,7 +87,7 @@ pub(crate) fn write_opening<D: Disk>(
     ensures version { OnOk result (version_of file.new.journal ≡ 2) }
     ensures ok { OnOk result (IsSettled file.new.journal) }
     ensures room { HasRoom core.now.state draft.new }
-    ensures enters { IsTrue (D.told file.old.disk) → Enters core.now.state result file.old.start file.old.journal file.new.journal (D.state file.old.disk) (D.state file.new.disk) }
+    ensures enters { IsTrue (D.told file.old.disk) → EntersOpening core.now.state result file.old.start file.old.journal file.new.journal (D.state file.old.disk) (D.state file.new.disk) }
     ensures cause { HasCause (D.faults file.old.disk) (D.faults file.new.disk) result }
 {
     core.known();

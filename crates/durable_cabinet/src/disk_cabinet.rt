@@ -12,7 +12,7 @@ ghost use Rattle.catalog.specs.LookUp.{IsTile};
 ghost use Rattle.catalog.specs.Valid.{IsValid};
 ghost use Rattle.disk_model.specs.Images.{Every, Leaves};
 ghost use Rattle.durable_cabinet.specs.Ends.{disk_of};
-ghost use Rattle.durable_cabinet.specs.Filed.{IsRefusedAs, OpensLike, opened_as, Shown};
+ghost use Rattle.durable_cabinet.specs.Filed.{IsRefusedAs, OpensLike, opened_as, ShownCabinet};
 ghost use Rattle.durable_cabinet.specs.Images.{IsOurs, OpensTo, blobs_start, HasUndecided, IsLeft, IsSoundImage, Restores, Lasts};
 ghost use Rattle.durable_cabinet.specs.Missed.{IsPicture};
 ghost use Rattle.durable_cabinet.specs.Outlasting.{StaysSettled};
@@ -23,9 +23,9 @@ ghost use Rattle.served_covers.specs.OfCatalogue.{IsCoverOf};
 
 use crate::asking::ask_tile;
 use crate::backing::{keep, write};
-use crate::draft::Draft;
+use crate::draft::CompactionDraft;
 use crate::entering::begin;
-use crate::entries::{dropped, truncated, used};
+use crate::entries::{record_of_cut, record_of_drop, record_of_uses};
 use crate::hot::HotTier;
 use crate::parts::Parts;
 use crate::replaying::{replay, slots_for};
@@ -50,17 +50,17 @@ pub struct Cabinet<D: Disk> {
     pub(crate) core: Core,
     pub(crate) file: CacheFile<D>,
     /// The room for the records of a compaction.
-    pub(crate) draft: Draft,
+    pub(crate) draft: CompactionDraft,
     /// The texts of the tiles that were read lately.
     pub(crate) hot: HotTier,
 }
 
 impl<D: Disk> Model for Cabinet<D> {
     ghost use Rattle.durable_cabinet.specs.Drafts.{HasRoom};
-    ghost use Rattle.durable_cabinet.specs.Filed.{IsFiled, Shown, on_disk};
+    ghost use Rattle.durable_cabinet.specs.Filed.{IsFiled, ShownCabinet, on_disk};
     ghost use Rattle.durable_cabinet.specs.Hot.{IsHot};
 
-    ghost Value = { Shown D };
+    ghost Value = { ShownCabinet D };
 
     ghost view = { λ a. record { state = on_disk (D.told a.file.disk) (D.state a.file.disk).seen a.core.state; file = a.file } };
 
@@ -266,7 +266,7 @@ impl<D: Disk> Cabinet<D> {
                 Ok(Admitted::Full) => Ok(CutReply::Full),
                 Ok(Admitted::Spent) => Ok(CutReply::Spent),
                 Ok(Admitted::Number(number)) => {
-                    let entry = truncated(self.core.catalogue(), number, *cover);
+                    let entry = record_of_cut(self.core.catalogue(), number, *cover);
                     match write(&self.core, &mut self.file, &mut self.draft, &entry) {
                         Err(_) => {
                             self.core.miss(number);
@@ -297,7 +297,7 @@ impl<D: Disk> Cabinet<D> {
         match self.core.first_to_go() {
             None => Expired::Within,
             Some(kept) => {
-                let entry = dropped(&self.core, kept);
+                let entry = record_of_drop(&self.core, kept);
                 match write(&self.core, &mut self.file, &mut self.draft, &entry) {
                     Err(_) => Expired::DiskFault(before, self.file.fault_count()),
                     Ok(()) => {
@@ -326,7 +326,7 @@ impl<D: Disk> Cabinet<D> {
             None => Saved::Within,
             Some(found) => {
                 let kept = found.kept;
-                let entry = used(&self.core, kept, found.uses);
+                let entry = record_of_uses(&self.core, kept, found.uses);
                 match write(&self.core, &mut self.file, &mut self.draft, &entry) {
                     Err(_) => Saved::DiskFault(before, self.file.fault_count()),
                     Ok(()) => {

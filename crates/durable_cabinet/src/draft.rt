@@ -10,8 +10,8 @@ ghost use Rattle.record_text.specs.Spelling.{spelling};
 ghost use Rattle.record_text.specs.declared.entries.Record.TheVariants as record_of;
 ghost use Rattle.served_covers.specs.OfCatalogue.{IsCoverOf};
 
-use crate::entries::{stored, truncated};
-use cabinet::{Core, Ranking};
+use crate::entries::{record_of_cut, record_of_keep};
+use cabinet::{Core, KeptRanking};
 use catalog::Catalogue;
 use record_text::{Record, encode};
 use std::alloc::{AllocError, Global};
@@ -20,12 +20,12 @@ use truncation_list::{Cover, CutList};
 
 /// The bodies of a compaction. Contracts see those that were written last, and for how many there is room.
 #[derive(Drop)]
-pub struct Draft {
-    ranking: Ranking,
+pub struct CompactionDraft {
+    ranking: KeptRanking,
     bodies: Vec<[u8; 63]>,
 }
 
-impl Model for Draft {
+impl Model for CompactionDraft {
     ghost use Rattle.std.specs.Prelude.{min, vec_capacity};
     ghost use Rattle.durable_cabinet.specs.Drafts.{Drafted};
 
@@ -53,13 +53,13 @@ fn put_cuts(bodies: &mut Vec<[u8; 63]>, catalogue: &Catalogue, cuts: &CutList)
 {
     'putting: for at in 0..cuts.count() {
         let (number, cover) = cuts.cut_at(at);
-        let entry = truncated(catalogue, number, cover);
+        let entry = record_of_cut(catalogue, number, cover);
         bodies.push_reserved(encode(&entry));
     }
 }
 
 /// Puts the bodies of what is kept behind others, in its order. It takes no memory.
-fn put_kept(bodies: &mut Vec<[u8; 63]>, catalogue: &Catalogue, ranking: &Ranking)
+fn put_kept(bodies: &mut Vec<[u8; 63]>, catalogue: &Catalogue, ranking: &KeptRanking)
     requires valid { IsValid catalogue.now }
     requires metas { AllByRecursion (λ t. IsMeta catalogue.now t.meta) ranking.now.kept }
     requires room { length bodies.old.items + length ranking.now.kept ≤ vec_capacity bodies.old }
@@ -69,18 +69,18 @@ fn put_kept(bodies: &mut Vec<[u8; 63]>, catalogue: &Catalogue, ranking: &Ranking
 {
     'putting: for at in 0..ranking.len() {
         let kept = ranking.get(at);
-        let entry = stored(catalogue, kept);
+        let entry = record_of_keep(catalogue, kept);
         bodies.push_reserved(encode(&entry));
     }
 }
 
-impl Draft {
+impl CompactionDraft {
     /// A draft without a body. `AllocError` where memory runs out.
-    pub fn new(alloc: Global) -> Result<Draft, AllocError>
+    pub fn new(alloc: Global) -> Result<CompactionDraft, AllocError>
         ensures { IfOk result (λ d. d.bodies ≡ []) }
     {
-        Ok(Draft {
-            ranking: Ranking::new(alloc),
+        Ok(CompactionDraft {
+            ranking: KeptRanking::new(alloc),
             bodies: Vec::new(alloc),
         })
     }

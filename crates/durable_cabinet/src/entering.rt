@@ -9,12 +9,12 @@ ghost use Rattle.durable_cabinet.specs.Drafts.{HasRoom};
 ghost use Rattle.durable_cabinet.specs.Ends.{disk_of};
 ghost use Rattle.durable_cabinet.specs.Filed.{IsRefusedAs, OpensLike, on_disk, opened_as};
 ghost use Rattle.durable_cabinet.specs.Images.{IsOurs, OpensTo};
-ghost use Rattle.durable_cabinet.specs.Openings.{IsBegun, IsReplayed, OpensWith};
+ghost use Rattle.durable_cabinet.specs.Openings.{IsOpeningBegun, IsReplayed, OpensWith};
 ghost use Rattle.gate_journal.specs.Sound.{IsSettled};
 
-use crate::beginning::{drafted, number_after, write_opening};
+use crate::beginning::{draft_of, number_after, write_opening};
 use crate::disk_cabinet::Cabinet;
-use crate::draft::Draft;
+use crate::draft::CompactionDraft;
 use crate::hot::HotTier;
 use base::Clock;
 use cabinet::Core;
@@ -28,11 +28,11 @@ use std::alloc::Global;
 /// Makes the opening of a core durable, and ties it to its file, with nothing in the hot tier.
 fn enter<D: Disk>(
     core: Core,
-    draft: Draft,
+    draft: CompactionDraft,
     hot: HotTier,
     file: CacheFile<D>,
 ) -> Result<Cabinet<D>, (OpenFault, D)>
-    requires begun { IsBegun (D.told file.disk) core.state (D.state file.disk) file.start file.journal }
+    requires begun { IsOpeningBegun (D.told file.disk) core.state (D.state file.disk) file.start file.journal }
     requires room { HasRoom core.state draft }
     requires cold { hot ≡ [] }
     ensures told { D.told (disk_of result) ≡ D.told file.disk }
@@ -95,9 +95,9 @@ pub(crate) fn begin<D: Disk>(
             return Err((OpenFault::Spent, file.into_disk()));
         }
     };
-    match Core::opened(alloc, catalogue, clock, number, kept, cuts) {
+    match Core::from_opening(alloc, catalogue, clock, number, kept, cuts) {
         Err(_) => Err((OpenFault::OutOfMemory, file.into_disk())),
-        Ok(core) => match drafted(alloc, &core) {
+        Ok(core) => match draft_of(alloc, &core) {
             Err(_) => {
                 drop(core);
                 Err((OpenFault::OutOfMemory, file.into_disk()))

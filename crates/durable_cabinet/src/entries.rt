@@ -53,7 +53,7 @@ fn edges(bounds: Option<Box9>)
 }
 
 /// That a kept metatile is dropped.
-pub(crate) fn dropped(core: &Core, kept: Kept) -> Record
+pub(crate) fn record_of_drop(core: &Core, kept: Kept) -> Record
     requires { kept_of kept.meta (now core.now.state) ≡ Some kept }
     ensures is { result ≡ record_of.Dropped kept.number kept.meta }
     ensures fits { Fits result }
@@ -67,7 +67,7 @@ pub(crate) fn dropped(core: &Core, kept: Kept) -> Record
 }
 
 /// That a kept metatile was used so often.
-pub(crate) fn used(core: &Core, kept: Kept, uses: u64) -> Record
+pub(crate) fn record_of_uses(core: &Core, kept: Kept, uses: u64) -> Record
     requires { kept_of kept.meta (now core.now.state) ≡ Some kept }
     ensures is { result ≡ record_of.Uses kept.number kept.meta uses }
     ensures fits { Fits result }
@@ -81,7 +81,7 @@ pub(crate) fn used(core: &Core, kept: Kept, uses: u64) -> Record
 }
 
 /// That a metatile is kept.
-pub(crate) fn stored(catalogue: &Catalogue, kept: Kept) -> Record
+pub(crate) fn record_of_keep(catalogue: &Catalogue, kept: Kept) -> Record
     requires valid { IsValid catalogue.now }
     requires meta { IsMeta catalogue.now kept.meta }
     ensures is { result ≡ stored_record kept }
@@ -106,7 +106,7 @@ pub(crate) fn stored(catalogue: &Catalogue, kept: Kept) -> Record
 }
 
 /// A truncation.
-pub(crate) fn truncated(catalogue: &Catalogue, number: u64, cover: Cover) -> Record
+pub(crate) fn record_of_cut(catalogue: &Catalogue, number: u64, cover: Cover) -> Record
     requires valid { IsValid catalogue.now }
     requires cover { IsCoverOf catalogue.now cover }
     ensures is { result ≡ record_of.Cut number cover }

@@ -6,7 +6,7 @@ ghost use Rattle.cabinet.specs.State.{now};
 ghost use Rattle.catalog.specs.LookUp.{IsTile};
 ghost use Rattle.durable_cabinet.specs.Backing.{Rests};
 ghost use Rattle.durable_cabinet.specs.Filed.{IsFiled};
-ghost use Rattle.durable_cabinet.specs.Tiles.{IsPartOf};
+ghost use Rattle.durable_cabinet.specs.Tiles.{IsTilePartOf};
 ghost use Rattle.raster_field.specs.Blocks.{block_of};
 
 use cabinet::{Core, Kept, tile_span};
@@ -31,7 +31,7 @@ pub(crate) fn read_part<D: Disk>(
     ensures filed { IsFiled core.now.state (D.told file.new.disk) file.new.start file.new.journal (D.state file.new.disk) }
     ensures journal { file.new.journal ≡ file.old.journal }
     ensures rests { Rests (D.told file.old.disk) core.now.state file.old.journal (D.state file.old.disk) (D.state file.new.disk) }
-    ensures part { IfOk result (λ text. IfSome text (λ bytes. IsPartOf (D.told file.old.disk) core.now.state.catalogue (D.state file.old.disk).seen address.now kept bytes.items)) }
+    ensures part { IfOk result (λ text. IfSome text (λ bytes. IsTilePartOf (D.told file.old.disk) core.now.state.catalogue (D.state file.old.disk).seen address.now kept bytes.items)) }
     ensures failed { IfOk result (λ text. text ≡ None → Rose (D.faults file.old.disk) (D.faults file.new.disk)) }
     ensures later { D.faults file.old.disk ≤ D.faults file.new.disk }
 {
@@ -41,7 +41,7 @@ pub(crate) fn read_part<D: Disk>(
         Err(fault) => return Err(fault),
         Ok(bytes) => bytes,
     };
-    match file.read(kept.place, &span, bytes.as_mut_slice()) {
+    match file.read(kept.number, kept.place, &span, bytes.as_mut_slice()) {
         Err(_) => Ok(None),
         Ok(()) => Ok(Some(bytes)),
     }

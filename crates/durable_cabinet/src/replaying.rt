@@ -58,7 +58,7 @@ pub(crate) fn replay<D: Disk>(
             drop(replay);
             Err((asked_for(&catalogue.digest, fault), disk))
         }
-        Ok(file) => match replay.restored(file.version()) {
+        Ok(file) => match replay.restore(file.version()) {
             Ok(restored) => Ok((file, restored)),
             Err(slot) => Err((OpenFault::BadRecord(slot), file.into_disk())),
         },

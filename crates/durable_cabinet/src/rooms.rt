@@ -2,7 +2,7 @@
 ghost use Rattle.std.specs.Prelude.{IfOk, OnOk, ◌+◌, ◌≤◌};
 ghost use Rattle.durable_cabinet.specs.Drafts.{needed};
 
-use crate::draft::Draft;
+use crate::draft::CompactionDraft;
 use cabinet::Core;
 use std::alloc::{AllocError, Global};
 
@@ -23,7 +23,7 @@ fn one_more(core: &Core) -> Result<usize, AllocError>
 pub(crate) fn reserve_one_more(
     alloc: Global,
     core: &Core,
-    draft: &mut Draft,
+    draft: &mut CompactionDraft,
 ) -> Result<(), AllocError>
     ensures no_less { draft.old.room ≤ draft.new.room }
     ensures room { OnOk result (needed core.now.state + 1 ≤ draft.new.room) }

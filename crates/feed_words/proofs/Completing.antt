@@ -23,7 +23,7 @@ use Rattle.opened_cache.proofs.Refusing.{not_opened}
 use Rattle.opened_cache.specs.Change.{DiskChange}
 use Rattle.tile_service.specs.Lines.{lines_of}
 use Rattle.sessions.specs.Outside.{InputChange}
-use Rattle.feed_words.specs.declared.lines.LinesEnd.TheVariants as lines_end
+use Rattle.feed_words.specs.declared.lines.FeedLinesEnd.TheVariants as lines_end
 use Rattle.feed_words.specs.declared.words.FeedWord.{FeedWord}
 use Rattle.feed_words.specs.declared.words.FeedWord.TheVariants as feed
 use Rattle.feed_words.specs.Complete.{DoOpen, HasCatalogue, HasChanges, IsComplete, IsInOrder, NothingFails}

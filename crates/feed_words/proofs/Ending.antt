@@ -15,16 +15,16 @@ use Rattle.command_status.specs.declared.status.Status.{Status}
 use Rattle.command_setup.specs.Refusals.{status_of_refusal}
 use Rattle.command_status.specs.Statuses.{status_of_opening}
 use Rattle.opened_cache.specs.Opened.{HasOpened, RefusalLeaves}
-use Rattle.feed_words.specs.declared.lines.LinesEnd.{LinesEnd}
-use Rattle.feed_words.specs.declared.lines.LinesEnd.TheVariants as lines_end
+use Rattle.feed_words.specs.declared.lines.FeedLinesEnd.{FeedLinesEnd}
+use Rattle.feed_words.specs.declared.lines.FeedLinesEnd.TheVariants as lines_end
 use Rattle.feed_words.specs.declared.words.FeedWord.{FeedWord}
 use Rattle.feed_words.specs.declared.words.FeedWord.TheVariants as feed
 use Rattle.feed_words.specs.Ends.{Feeds, FeedsOn, HasFed, HasFedLines, HasFedNone, Stays, WordEnds}
-use Rattle.feed_words.specs.Run.{Step}
+use Rattle.feed_words.specs.Run.{FeedStep}
 
 -- FAULTS COUNTED FROM BEFORE THE OPENING
 
-fed_wider : (c : Catalogue) (before mid after : ℕ) (m : DiskChange) (s u : State) (steps : List Step) → before ≤ mid → HasFed c (counts mid after) m s u steps → HasFed c (counts before after) m s u steps
+fed_wider : (c : Catalogue) (before mid after : ℕ) (m : DiskChange) (s u : State) (steps : List FeedStep) → before ≤ mid → HasFed c (counts mid after) m s u steps → HasFed c (counts before after) m s u steps
 fed_wider c before mid after m s u steps later fed = record {
   first = fed.first;
   opens = fed.opens;
@@ -44,7 +44,7 @@ fed_wider c before mid after m s u steps later fed = record {
 }
 
 module _ (c : Catalogue) (before mid after : ℕ) (i : InputChange) (o : OutputChange) (m : DiskChange) (InputStays OutputStays : Type 0) (s u : State) (later : before ≤ mid) where
-  lines_wider : (e : LinesEnd) → HasFedLines c (counts mid after) i o m s u e → HasFedLines c (counts before after) i o m s u e
+  lines_wider : (e : FeedLinesEnd) → HasFedLines c (counts mid after) i o m s u e → HasFedLines c (counts before after) i o m s u e
   lines_wider e fed = (fed.0, fed_wider c before mid after m s u fed.0 later fed.1, fed.2)
 
   none_wider : HasFedNone c (counts mid after) m s u → HasFedNone c (counts before after) m s u

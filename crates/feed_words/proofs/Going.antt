@@ -19,47 +19,47 @@ use Rattle.sessions.specs.Outside.{OutputChange, counts}
 use Rattle.served_covers.specs.OfCatalogue.{IsCoverOf}
 use Rattle.tile_requests.proofs.Known.{appends_more, appends_nothing}
 use Rattle.tile_service.specs.Lines.{lines_of}
-use Rattle.feed_words.specs.declared.line.LineEnd.TheVariants as line_end
-use Rattle.feed_words.specs.declared.lines.LinesEnd.TheVariants as lines_end
+use Rattle.feed_words.specs.declared.line.FeedLineEnd.TheVariants as line_end
+use Rattle.feed_words.specs.declared.lines.FeedLinesEnd.TheVariants as lines_end
 use Rattle.feed_words.specs.Fed.{HasRunLines}
 use Rattle.feed_words.specs.OneLine.{GoesTo, RunsLine}
 use Rattle.feed_words.specs.Orders.{change_in}
-use Rattle.feed_words.specs.Run.{Follow, IsLeftAs, MayEndAlong, Order, Step, answer_of, answers_of}
+use Rattle.feed_words.specs.Run.{FeedStep, Follow, IsLeftAs, MayEndAlong, Order, answer_of, answers_of}
 
 -- ONE STEP MORE
 
-follow_more : (s m t : Pair) (steps : List Step) (change : Change) (reply : Applied) → Follow s steps m → IsCoverOf m.cabinet.catalogue change.cover → Applies m change reply t
+follow_more : (s m t : Pair) (steps : List FeedStep) (change : Change) (reply : Applied) → Follow s steps m → IsCoverOf m.cabinet.catalogue change.cover → Applies m change reply t
     → Follow s (steps ++ record { change = change; reply = reply; after = t } ∷ []) t
 follow_more s m t [] change reply f cover row = subst (λ (x : Pair). IsCoverOf x.cabinet.catalogue change.cover × Applies x change reply t × (t ≡ t)) f (cover, row, refl)
 follow_more s m t (step ∷ steps) change reply f cover row = (f.0, f.1, follow_more step.after m t steps change reply f.2 cover row)
 
-abbrev change_of : Step → Option Change
+abbrev change_of : FeedStep → Option Change
 change_of step = Some step.change
 
-order_more : (c : Catalogue) (lines : List (List ℕ)) (steps : List Step) (line : List ℕ) (step : Step) → Order c lines steps → change_in c line ≡ Some step.change → Order c (lines ++ line ∷ []) (steps ++ step ∷ [])
+order_more : (c : Catalogue) (lines : List (List ℕ)) (steps : List FeedStep) (line : List ℕ) (step : FeedStep) → Order c lines steps → change_in c line ≡ Some step.change → Order c (lines ++ line ∷ []) (steps ++ step ∷ [])
 order_more c lines steps line step order reads =
     map-append (change_in c) lines (line ∷ [])
     ∙ ap (λ (xs : List (Option Change)). xs ++ change_in c line ∷ []) order
     ∙ ap (λ (x : Option Change). map change_of steps ++ x ∷ []) reads
     ∙ sym (map-append change_of steps (step ∷ []))
 
-answers_more : (a b d : Option (List ℕ)) (steps : List Step) (step : Step) → Appends a b (answers_of steps) → Appends b d (answer_of step) → Appends a d (answers_of (steps ++ step ∷ []))
+answers_more : (a b d : Option (List ℕ)) (steps : List FeedStep) (step : FeedStep) → Appends a b (answers_of steps) → Appends b d (answer_of step) → Appends a d (answers_of (steps ++ step ∷ []))
 answers_more a b d steps step written more =
     subst (Appends a d) (sym (flat_map-append answer_of steps (step ∷ [])))
     (appends_more a b d (answers_of steps) (answers_of (step ∷ [])) written (subst (Appends b d) (sym (append-nil (answer_of step))) more))
 
 -- IMAGES
 
-along_more : (digest : List ℕ) (s : Stand) (steps : List Step) (step : Step) (image : Content) → MayEndAlong digest s steps image → MayEndAlong digest s (steps ++ step ∷ []) image
+along_more : (digest : List ℕ) (s : Stand) (steps : List FeedStep) (step : FeedStep) (image : Content) → MayEndAlong digest s steps image → MayEndAlong digest s (steps ++ step ∷ []) image
 along_more digest s [] step image may = inl may
 along_more digest s (first ∷ steps) step image (inl may) = inl may
 along_more digest s (first ∷ steps) step image (inr may) = inr (along_more digest first.after.stand steps step image may)
 
-along_here : (digest : List ℕ) (s m : Pair) (steps : List Step) (image : Content) → Follow s steps m → MayEndIn digest m.stand image → MayEndAlong digest s.stand steps image
+along_here : (digest : List ℕ) (s m : Pair) (steps : List FeedStep) (image : Content) → Follow s steps m → MayEndIn digest m.stand image → MayEndAlong digest s.stand steps image
 along_here digest s m [] image f may = subst (λ (x : Pair). MayEndIn digest x.stand image) f may
 along_here digest s m (first ∷ steps) image f may = inr (along_here digest first.after m steps image f.2 may)
 
-along_next : (digest : List ℕ) (s : Stand) (steps : List Step) (step : Step) (image : Content) → MayEndIn digest step.after.stand image → MayEndAlong digest s (steps ++ step ∷ []) image
+along_next : (digest : List ℕ) (s : Stand) (steps : List FeedStep) (step : FeedStep) (image : Content) → MayEndIn digest step.after.stand image → MayEndAlong digest s (steps ++ step ∷ []) image
 along_next digest s [] step image may = inr may
 along_next digest s (first ∷ steps) step image may = inr (along_next digest first.after.stand steps step image may)
 
@@ -75,7 +75,7 @@ decided_in digest s t image (inr same) may = elim (subst (λ (x : Stand). MayEnd
 -- since the start so many lines of the text are done, and the rest is not
 pub record SoFar (told : Bool) (digest : List ℕ) (from mid : DiskState) (taken taken_now : Option (List ℕ)) (text : List ℕ) (s m : Pair) (lines : ℕ) (rest : List ℕ) : Type 0 where
   pub before : List (List ℕ)
-  pub steps : List Step
+  pub steps : List FeedStep
   pub split : lines_of text ≡ before ++ lines_of rest
   pub counted : lines ≡ length before
   pub order : Order s.cabinet.catalogue before steps
@@ -137,7 +137,7 @@ module _ (told told' : Bool) (digest digest' : List ℕ) (from mid to : DiskStat
   reads_first change reads = subst (λ (c : Catalogue). change_in c line ≡ change) f.same_catalogue reads
 
   module _ (change : Change) (reply : Applied) (reads : change_in m.cabinet.catalogue line ≡ Some change) (cover : IsCoverOf m.cabinet.catalogue change.cover) (row : Applies m change reply t) where
-    abbrev step : Step
+    abbrev step : FeedStep
     step = record { change = change; reply = reply; after = t }
 
     step_images : IsTrue told → Leaves from to (MayEndAlong digest s.stand (f.steps ++ step ∷ []))
@@ -176,7 +176,7 @@ module _ (told told' : Bool) (digest digest' : List ℕ) (from mid to : DiskStat
   far_cut later ran =
       let change = ran.0 in
       let reply = ran.2.0 in
-      let made : Step = record { change = change; reply = reply; after = t } in
+      let made : FeedStep = record { change = change; reply = reply; after = t } in
       record {
         steps = f.steps ++ made ∷ [];
         last = t;

@@ -18,14 +18,14 @@ use Rattle.command_status.specs.declared.status.Status.TheVariants as status
 use Rattle.command_status.specs.Statuses.{status_of_opening}
 use Rattle.tile_service.specs.Lines.{lines_of}
 use Rattle.feed_words.proofs.Going.{decided_in}
-use Rattle.feed_words.specs.declared.lines.LinesEnd.{LinesEnd}
-use Rattle.feed_words.specs.declared.lines.LinesEnd.TheVariants as lines_end
+use Rattle.feed_words.specs.declared.lines.FeedLinesEnd.{FeedLinesEnd}
+use Rattle.feed_words.specs.declared.lines.FeedLinesEnd.TheVariants as lines_end
 use Rattle.feed_words.specs.Ends.{AreQuiet, FeedsOn, HasFed, HasFedLines, HasFedNone}
 use Rattle.feed_words.specs.Fed.{HasRunLines, HasRunNone, HasRunText, RunsInput, end_of_lines}
-use Rattle.feed_words.specs.Run.{Ends, Follow, MayEndAlong, Step, events_of, stores_of}
+use Rattle.feed_words.specs.Run.{FeedEndsAs, FeedStep, Follow, MayEndAlong, events_of, stores_of}
 
 -- the steps as events
-follow_runs : (s t : Pair) (steps : List Step) → Follow s steps t → Runs (stores_of s) (events_of steps) (stores_of t)
+follow_runs : (s t : Pair) (steps : List FeedStep) → Follow s steps t → Runs (stores_of s) (events_of steps) (stores_of t)
 follow_runs s t [] f = ap stores_of f
 follow_runs s t (step ∷ steps) f = (
   stores_of step.after,
@@ -35,7 +35,7 @@ follow_runs s t (step ∷ steps) f = (
 
 -- THE INPUT
 
-pub runs_input : (i : InputChange) (o : OutputChange) (Stays : Type 0) (told : Bool) (digest : List ℕ) (from to : DiskState) (s t : Pair) (e : LinesEnd) → HasRunText i o told digest from to s t e → RunsInput i o Stays told digest from to s t (end_of_lines e)
+pub runs_input : (i : InputChange) (o : OutputChange) (Stays : Type 0) (told : Bool) (digest : List ℕ) (from to : DiskState) (s t : Pair) (e : FeedLinesEnd) → HasRunText i o told digest from to s t e → RunsInput i o Stays told digest from to s t (end_of_lines e)
 runs_input i o Stays told digest from to s t lines_end.Done ran = ran
 runs_input i o Stays told digest from to s t (lines_end.Line n) ran = ran
 runs_input i o Stays told digest from to s t lines_end.WriteFault ran = ran
@@ -49,16 +49,16 @@ module _ (c : Catalogue) (cabinet : FaultCounts) (i : InputChange) (o : OutputCh
       (same_told : told' ≡ m.told) (same_digest : digest' ≡ c.digest)
       (left : IsTrue m.told → Every m.to.may_leave (MayEndIn c.digest t.stand))
       (before : m.faults.before ≤ s.faults) (after : t.faults ≤ m.faults.after) (cabinet_before : cabinet.before ≤ s.cabinet_faults) (cabinet_after : t.cabinet_faults ≤ cabinet.after) where
-    was_there : (steps : List Step) (image : Content) → After Same m.from.may_leave image → m.from.may_leave image ⊎ MayEndAlong c.digest s.stand steps image
+    was_there : (steps : List FeedStep) (image : Content) → After Same m.from.may_leave image → m.from.may_leave image ⊎ MayEndAlong c.digest s.stand steps image
     was_there steps image after = inl (subst m.from.may_leave (sym after.2) after.1)
 
-    all_images : (steps : List Step) → (IsTrue told' → Leaves mid m.to (MayEndAlong digest' s.stand steps)) → IsTrue m.told → Leaves m.from m.to (λ image. m.from.may_leave image ⊎ MayEndAlong c.digest s.stand steps image)
+    all_images : (steps : List FeedStep) → (IsTrue told' → Leaves mid m.to (MayEndAlong digest' s.stand steps)) → IsTrue m.told → Leaves m.from m.to (λ image. m.from.may_leave image ⊎ MayEndAlong c.digest s.stand steps image)
     all_images steps images is =
         leaves_then m.from mid m.to (λ image. m.from.may_leave image ⊎ MayEndAlong c.digest s.stand steps image)
         (leaves_as m.from mid (After Same m.from.may_leave) (λ image. m.from.may_leave image ⊎ MayEndAlong c.digest s.stand steps image) (quiet is).any_moment (was_there steps))
         (leaves_as mid m.to (MayEndAlong digest' s.stand steps) (λ image. m.from.may_leave image ⊎ MayEndAlong c.digest s.stand steps image) (images (subst IsTrue (sym same_told) is)) (λ image may. inr (subst (λ (d : List ℕ). MayEndAlong d s.stand steps image) same_digest may)))
 
-    fed_lines : (text : List ℕ) (e : LinesEnd) → (run : HasRunLines told' digest' mid m.to o text s t e) → HasFed c cabinet m s.cabinet t.cabinet run.steps
+    fed_lines : (text : List ℕ) (e : FeedLinesEnd) → (run : HasRunLines told' digest' mid m.to o text s t e) → HasFed c cabinet m s.cabinet t.cabinet run.steps
     fed_lines text e run = record {
       first = s;
       opens = opens;
@@ -96,8 +96,8 @@ module _ (c : Catalogue) (cabinet : FaultCounts) (i : InputChange) (o : OutputCh
       left = λ is image may. subst (λ (x : Pair). MayEndIn c.digest x.stand image) run.same (left is image may);
     }
 
-    fed_text : (e : LinesEnd) → HasRunText i o told' digest' mid m.to s t e → c ≡ s.cabinet.catalogue → HasFedLines c cabinet i o m s.cabinet t.cabinet e
-    fed_text e ran same = (ran.2.steps, fed_lines ran.0 e ran.2, (ran.0, ran.1, subst (λ (x : Catalogue). Ends x (lines_of ran.0) o ran.2.steps e) (sym same) ran.2.ends))
+    fed_text : (e : FeedLinesEnd) → HasRunText i o told' digest' mid m.to s t e → c ≡ s.cabinet.catalogue → HasFedLines c cabinet i o m s.cabinet t.cabinet e
+    fed_text e ran same = (ran.2.steps, fed_lines ran.0 e ran.2, (ran.0, ran.1, subst (λ (x : Catalogue). FeedEndsAs x (lines_of ran.0) o ran.2.steps e) (sym same) ran.2.ends))
 
     pub feeds_on : (e : Status) → RunsInput i o OutputStays told' digest' mid m.to s t e → c ≡ s.cabinet.catalogue → FeedsOn c cabinet i o m InputStays OutputStays s.cabinet t.cabinet e
     feeds_on status.Done ran same = fed_text lines_end.Done ran same

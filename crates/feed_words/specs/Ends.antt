@@ -23,11 +23,11 @@ use Rattle.sessions.specs.Outside.{FaultCounts, InputChange, OutputChange}
 use Rattle.opened_cache.specs.Crash.{LastsThrough, OpeningLeaves}
 use Rattle.opened_cache.specs.Opened.{HasOpened, IsRefused, RefusalLeaves}
 use Rattle.tile_service.specs.Lines.{lines_of}
-use Rattle.feed_words.specs.declared.lines.LinesEnd.{LinesEnd}
-use Rattle.feed_words.specs.declared.lines.LinesEnd.TheVariants as lines_end
+use Rattle.feed_words.specs.declared.lines.FeedLinesEnd.{FeedLinesEnd}
+use Rattle.feed_words.specs.declared.lines.FeedLinesEnd.TheVariants as lines_end
 use Rattle.feed_words.specs.declared.words.FeedWord.{FeedWord}
 use Rattle.feed_words.specs.declared.words.FeedWord.TheVariants as feed
-use Rattle.feed_words.specs.Run.{Ends, Follow, MayEndAlong, Step, events_of, stores_of}
+use Rattle.feed_words.specs.Run.{FeedEndsAs, FeedStep, Follow, MayEndAlong, events_of, stores_of}
 use Rattle.command_setup.specs.Refusals.{status_of_refusal}
 use Rattle.feed_words.specs.Texts.{made_text}
 
@@ -72,7 +72,7 @@ AreRefused c m fault.OutOfMemory = ⊥
 -- The marks were opened, where they are modelled at the mark that their content ends in, and the steps led on from there, with the
 -- cabinet from s to u, which is sound where it was. Each fault that a step tells of a disk was counted in it. At every moment an image of
 -- the marks is one of those at entry, or ends in a mark of a stand that the steps led through; at the end each does in one of the last.
-pub record HasFed (c : Catalogue) (cabinet : FaultCounts) (m : DiskChange) (s u : State) (steps : List Step) : Type 0 where
+pub record HasFed (c : Catalogue) (cabinet : FaultCounts) (m : DiskChange) (s u : State) (steps : List FeedStep) : Type 0 where
   pub first : Pair
   pub opens : IsTrue m.told → EndsIn c.digest first.stand.mark m.from.seen
   pub sure : first.stand.undecided ≡ None
@@ -102,8 +102,8 @@ abbrev pub IsTooLong : InputChange → Type 0
 IsTooLong i = (text : List ℕ) × Consumes i.from i.to text × (length text ≡ 16777216 + 1)
 
 -- the marks were opened, the input was read, and its lines ended so
-abbrev pub HasFedLines : Catalogue → FaultCounts → InputChange → OutputChange → DiskChange → State → State → LinesEnd → Type 0
-HasFedLines c cabinet i o m s u e = (steps : List Step) × HasFed c cabinet m s u steps × ((text : List ℕ) × IsText i text × Ends c (lines_of text) o steps e)
+abbrev pub HasFedLines : Catalogue → FaultCounts → InputChange → OutputChange → DiskChange → State → State → FeedLinesEnd → Type 0
+HasFedLines c cabinet i o m s u e = (steps : List FeedStep) × HasFed c cabinet m s u steps × ((text : List ℕ) × IsText i text × FeedEndsAs c (lines_of text) o steps e)
 
 -- the marks were opened, and no change was made
 abbrev pub HasFedNone : Catalogue → FaultCounts → DiskChange → State → State → Type 0

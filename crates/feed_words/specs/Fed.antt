@@ -10,23 +10,23 @@ use Rattle.sessions.specs.Outside.{InputChange, OutputChange}
 use Rattle.command_status.specs.declared.status.Status.{Status}
 use Rattle.command_status.specs.declared.status.Status.TheVariants as status
 use Rattle.tile_service.specs.Lines.{lines_of}
-use Rattle.feed_words.specs.declared.lines.LinesEnd.{LinesEnd}
-use Rattle.feed_words.specs.declared.lines.LinesEnd.TheVariants as lines_end
+use Rattle.feed_words.specs.declared.lines.FeedLinesEnd.{FeedLinesEnd}
+use Rattle.feed_words.specs.declared.lines.FeedLinesEnd.TheVariants as lines_end
 use Rattle.feed_words.specs.Ends.{IsText, IsTooLong}
-use Rattle.feed_words.specs.Run.{Ends, Follow, IsLeftAs, MayEndAlong, Step}
+use Rattle.feed_words.specs.Run.{FeedEndsAs, FeedStep, Follow, IsLeftAs, MayEndAlong}
 
 -- from s the lines of a text led to t by these steps, and ended so
-pub record HasRunLines (told : Bool) (digest : List ℕ) (from to : DiskState) (o : OutputChange) (text : List ℕ) (s t : Pair) (e : LinesEnd) : Type 0 where
-  pub steps : List Step
+pub record HasRunLines (told : Bool) (digest : List ℕ) (from to : DiskState) (o : OutputChange) (text : List ℕ) (s t : Pair) (e : FeedLinesEnd) : Type 0 where
+  pub steps : List FeedStep
   pub last : Pair
   pub follow : Follow s steps last
-  pub ends : Ends s.cabinet.catalogue (lines_of text) o steps e
+  pub ends : FeedEndsAs s.cabinet.catalogue (lines_of text) o steps e
   pub left : IsLeftAs last t
   pub images : IsTrue told → Leaves from to (MayEndAlong digest s.stand steps)
   pub still_sound : IsSound s.cabinet → IsSound t.cabinet
 
 -- the input was read, and so were its lines
-abbrev pub HasRunText : InputChange → OutputChange → Bool → List ℕ → DiskState → DiskState → Pair → Pair → LinesEnd → Type 0
+abbrev pub HasRunText : InputChange → OutputChange → Bool → List ℕ → DiskState → DiskState → Pair → Pair → FeedLinesEnd → Type 0
 HasRunText i o told digest from to s t e = (text : List ℕ) × IsText i text × HasRunLines told digest from to o text s t e
 
 -- no line was run
@@ -53,7 +53,7 @@ RunsInput i o Stays told digest from to s t status.ListenFault = ⊥
 RunsInput i o Stays told digest from to s t status.ThreadFault = ⊥
 
 -- the end of a feed whose lines ended so
-abbrev pub end_of_lines : LinesEnd → Status
+abbrev pub end_of_lines : FeedLinesEnd → Status
 end_of_lines lines_end.Done = status.Done
 end_of_lines (lines_end.Line n) = status.Line n
 end_of_lines lines_end.WriteFault = status.WriteFault

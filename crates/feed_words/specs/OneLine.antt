@@ -11,8 +11,8 @@ use Rattle.opened_cache.specs.Change.{HasWritten, IsCutShort}
 use Rattle.sessions.specs.Outside.{OutputChange}
 use Rattle.served_covers.specs.OfCatalogue.{IsCoverOf}
 use Rattle.truncation_list.specs.Books.{AnswersForBook}
-use Rattle.feed_words.specs.declared.line.LineEnd.{LineEnd}
-use Rattle.feed_words.specs.declared.line.LineEnd.TheVariants as line_end
+use Rattle.feed_words.specs.declared.line.FeedLineEnd.{FeedLineEnd}
+use Rattle.feed_words.specs.declared.line.FeedLineEnd.TheVariants as line_end
 use Rattle.feed_words.specs.Orders.{change_in}
 use Rattle.feed_words.specs.Run.{IsLeftAs}
 use Rattle.feed_words.specs.Texts.{answer_text}
@@ -23,14 +23,14 @@ IsSent o text true = HasWritten o text
 IsSent o text false = IsCutShort o text
 
 -- what became of a change is told by its text
-abbrev pub IsToldAs : OutputChange → ℕ → Applied → LineEnd → Type 0
+abbrev pub IsToldAs : OutputChange → ℕ → Applied → FeedLineEnd → Type 0
 IsToldAs o number reply line_end.Told = HasWritten o (answer_text number reply)
 IsToldAs o number reply line_end.WriteFault = IsCutShort o (answer_text number reply)
 IsToldAs o number reply line_end.Refused = ⊥
 IsToldAs o number reply line_end.OutOfMemory = ⊥
 
 -- a change was answered by its row, and the answer was told; or memory ran out
-abbrev pub MakesChange : Change → OutputChange → Type 0 → Pair → Pair → LineEnd → Type 0
+abbrev pub MakesChange : Change → OutputChange → Type 0 → Pair → Pair → FeedLineEnd → Type 0
 MakesChange change o Stays s t line_end.Told = (reply : Applied) × Applies s change reply t × HasWritten o (answer_text change.number reply)
 MakesChange change o Stays s t line_end.WriteFault = (reply : Applied) × Applies s change reply t × IsCutShort o (answer_text change.number reply)
 MakesChange change o Stays s t line_end.Refused = ⊥
@@ -41,7 +41,7 @@ pub record IsOrderFor (s : Pair) (line : List ℕ) (change : Change) : Type 0 wh
   pub reads : change_in s.cabinet.catalogue line ≡ Some change
   pub cover : IsCoverOf s.cabinet.catalogue change.cover
 
-abbrev pub RunsLine : List ℕ → OutputChange → Type 0 → Pair → Pair → LineEnd → Type 0
+abbrev pub RunsLine : List ℕ → OutputChange → Type 0 → Pair → Pair → FeedLineEnd → Type 0
 RunsLine line o Stays s t line_end.Told = (change : Change) × IsOrderFor s line change × MakesChange change o Stays s t line_end.Told
 RunsLine line o Stays s t line_end.WriteFault = (change : Change) × IsOrderFor s line change × MakesChange change o Stays s t line_end.WriteFault
 RunsLine line o Stays s t line_end.Refused = (change_in s.cabinet.catalogue line ≡ None) × (t ≡ s) × Stays

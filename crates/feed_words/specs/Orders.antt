@@ -9,8 +9,8 @@ use Rattle.schedule_text.specs.declared.line.TheConstants.{LINE_LIMIT}
 use Rattle.schedule_text.specs.Line.{digits_len}
 use Rattle.truncation_list.specs.declared.cover.Cover.{Cover}
 use Rattle.wmts_kvp.specs.Rows.{is_number}
-use Rattle.feed_words.specs.declared.orders.Unread.{Unread}
-use Rattle.feed_words.specs.declared.orders.Unread.TheVariants as unread
+use Rattle.feed_words.specs.declared.orders.UnreadChange.{UnreadChange}
+use Rattle.feed_words.specs.declared.orders.UnreadChange.TheVariants as unread
 
 -- the number of 1 to 18 digits, of which the first is not 0 (48 in ASCII)
 abbrev pub number_in : List ℕ → Option ℕ
@@ -35,7 +35,7 @@ change_in c line =
     else None
 
 -- what a reading gave is that, unless memory ran out
-abbrev pub IsReadAs : Option Change → Result Change Unread → Type 0
+abbrev pub IsReadAs : Option Change → Result Change UnreadChange → Type 0
 IsReadAs order (Ok change) = order ≡ Some change
 IsReadAs order (Err unread.Refused) = order ≡ None
 IsReadAs order (Err unread.OutOfMemory) = ⊤

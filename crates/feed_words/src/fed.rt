@@ -14,7 +14,7 @@ use catalog::Catalogue;
 use command_status::{Status, status_of_opening};
 use disk_model::Disk;
 use http_wire::{ByteSink, ByteSource};
-use opened_cache::{Loan, closed, opened};
+use opened_cache::{Loan, close_cache, open_cache};
 use std::alloc::Global;
 use std::marker::Brand;
 
@@ -43,10 +43,10 @@ fn fed_over<'a, D: Disk, I: ByteSource, O: ByteSink, L: Loan>(
     ensures marks_told { D.told marks.new ≡ D.told marks.old }
     ensures loan { result.0.ghost_name ≡ L.disk }
 {
-    match opened::<D, L>(alloc, catalogue, clock, disk) {
+    match open_cache::<D, L>(alloc, catalogue, clock, disk) {
         Ok(mut cabinet) => {
             let end = feed_on(alloc, &mut cabinet, marks, input, output);
-            (closed(cabinet), end)
+            (close_cache(cabinet), end)
         }
         Err(refusal) => {
             let (fault, disk) = refusal;

@@ -9,7 +9,7 @@ ghost use Rattle.gate_journal.specs.Sound.{digest_of};
 ghost use Rattle.opened_cache.specs.Change.{DiskChange};
 ghost use Rattle.sessions.specs.Outside.{InputChange, OutputChange, counts};
 
-use crate::lines::{LinesEnd, run_lines};
+use crate::lines::{FeedLinesEnd, run_lines};
 use crate::marks::{closed_marks, opened_marks};
 use cabinet::Keeper;
 use cache_core::laws_of_lasting;
@@ -25,14 +25,14 @@ use std::marker::Brand;
 const FEED_LIMIT: usize = 16_777_216;
 
 /// The end of a feed whose lines ended so.
-fn end_of_lines(end: LinesEnd) -> Status
+fn end_of_lines(end: FeedLinesEnd) -> Status
     ensures { result ≡ end_of_lines end }
 {
     match end {
-        LinesEnd::Done => Status::Done,
-        LinesEnd::Line(n) => Status::Line(n),
-        LinesEnd::WriteFault => Status::WriteFault,
-        LinesEnd::OutOfMemory => Status::OutOfMemory,
+        FeedLinesEnd::Done => Status::Done,
+        FeedLinesEnd::Line(n) => Status::Line(n),
+        FeedLinesEnd::WriteFault => Status::WriteFault,
+        FeedLinesEnd::OutOfMemory => Status::OutOfMemory,
     }
 }
 

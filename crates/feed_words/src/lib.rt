@@ -21,10 +21,10 @@ mod text;
 mod word;
 mod words;
 
-pub use line::LineEnd;
-pub use lines::LinesEnd;
+pub use line::FeedLineEnd;
+pub use lines::FeedLinesEnd;
 pub use marks::{closed_marks, opened_marks};
-pub use orders::Unread;
+pub use orders::UnreadChange;
 pub use outboxes::{closed_outbox, opened_outbox};
 pub use word::run_feed;
 pub use words::{FeedWord, feed_word};

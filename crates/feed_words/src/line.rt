@@ -6,7 +6,7 @@ ghost use Rattle.gate_journal.specs.Sound.{digest_of};
 ghost use Rattle.served_covers.specs.OfCatalogue.{IsCoverOf};
 ghost use Rattle.sessions.specs.Outside.{OutputChange, counts};
 
-use crate::orders::{Unread, read_change};
+use crate::orders::{UnreadChange, read_change};
 use crate::text::send_answer;
 use cabinet::{Keeper, laws_of_rows};
 use change_feed::{Applied, Change, Feed};
@@ -16,7 +16,7 @@ use std::alloc::Global;
 
 /// How a line ended.
 #[derive(Clone, Copy, PartialEq, Eq)]
-pub enum LineEnd {
+pub enum FeedLineEnd {
     /// Its change was answered, and the answer went out.
     Told,
     /// It orders no change, and nothing happened.
@@ -28,14 +28,14 @@ pub enum LineEnd {
 }
 
 /// Tells what became of the change of a number.
-fn tell<O: ByteSink>(output: &mut O, number: u64, reply: Applied) -> LineEnd
+fn tell<O: ByteSink>(output: &mut O, number: u64, reply: Applied) -> FeedLineEnd
     ensures tells { IsToldAs (record { writes = counts (O.faults output.old) (O.faults output.new); from = O.taken output.old; to = O.taken output.new }) number reply result }
     ensures later { O.faults output.old ≤ O.faults output.new }
 {
     if send_answer(output, number, reply) {
-        LineEnd::Told
+        FeedLineEnd::Told
     } else {
-        LineEnd::WriteFault
+        FeedLineEnd::WriteFault
     }
 }
 
@@ -46,7 +46,7 @@ fn make_change<C: Keeper, D: Disk, O: ByteSink>(
     cabinet: &mut C,
     output: &mut O,
     change: &Change,
-) -> LineEnd
+) -> FeedLineEnd
     requires cover { IsCoverOf (C.state cabinet.old).catalogue change.now.cover }
     ensures makes { MakesChange change.now (record { writes = counts (O.faults output.old) (O.faults output.new); from = O.taken output.old; to = O.taken output.new }) (output.new ≡ output.old)
         (record { stand = feed.old.stand; faults = D.faults feed.old.file.disk; cabinet = C.state cabinet.old; cabinet_faults = C.faults cabinet.old })
@@ -63,7 +63,7 @@ fn make_change<C: Keeper, D: Disk, O: ByteSink>(
     laws_of_rows();
     match feed.apply(alloc, cabinet, change) {
         Ok(reply) => tell(output, change.number, reply),
-        Err(_) => LineEnd::OutOfMemory,
+        Err(_) => FeedLineEnd::OutOfMemory,
     }
 }
 
@@ -74,7 +74,7 @@ pub(crate) fn run_line<C: Keeper, D: Disk, O: ByteSink>(
     cabinet: &mut C,
     output: &mut O,
     line: &[u8],
-) -> LineEnd
+) -> FeedLineEnd
     requires { IsValid (C.state cabinet.old).catalogue }
     ensures runs { RunsLine line.now (record { writes = counts (O.faults output.old) (O.faults output.new); from = O.taken output.old; to = O.taken output.new }) (output.new ≡ output.old)
         (record { stand = feed.old.stand; faults = D.faults feed.old.file.disk; cabinet = C.state cabinet.old; cabinet_faults = C.faults cabinet.old })
@@ -89,7 +89,7 @@ pub(crate) fn run_line<C: Keeper, D: Disk, O: ByteSink>(
 {
     match read_change(alloc, cabinet.catalogue(), line) {
         Ok(change) => make_change(alloc, feed, cabinet, output, &change),
-        Err(Unread::Refused) => LineEnd::Refused,
-        Err(Unread::OutOfMemory) => LineEnd::OutOfMemory,
+        Err(UnreadChange::Refused) => FeedLineEnd::Refused,
+        Err(UnreadChange::OutOfMemory) => FeedLineEnd::OutOfMemory,
     }
 }

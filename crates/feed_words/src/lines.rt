@@ -6,7 +6,7 @@ ghost use Rattle.feed_words.specs.Fed.{HasRunLines};
 ghost use Rattle.gate_journal.specs.Sound.{digest_of};
 ghost use Rattle.sessions.specs.Outside.{OutputChange, counts};
 
-use crate::line::{LineEnd, run_line};
+use crate::line::{FeedLineEnd, run_line};
 use cabinet::Keeper;
 use cache_core::laws_of_lasting;
 use change_feed::Feed;
@@ -17,7 +17,7 @@ use tile_service::split_line;
 
 /// How the lines of a feed ended.
 #[derive(Clone, Copy, PartialEq, Eq)]
-pub enum LinesEnd {
+pub enum FeedLinesEnd {
     /// Each line was answered.
     Done,
     /// This line orders no change, counted from 1; the lines before it were answered.
@@ -35,7 +35,7 @@ pub(crate) fn run_lines<C: Keeper, D: Disk, O: ByteSink>(
     cabinet: &mut C,
     output: &mut O,
     text: &[u8],
-) -> LinesEnd
+) -> FeedLinesEnd
     requires valid { IsValid (C.state cabinet.old).catalogue }
     requires short { length text.now < 2 ^ 32 }
     ensures runs { HasRunLines (D.told feed.old.file.disk) (digest_of feed.old.file.journal) (D.state feed.old.file.disk) (D.state feed.new.file.disk)
@@ -53,12 +53,12 @@ pub(crate) fn run_lines<C: Keeper, D: Disk, O: ByteSink>(
         let (line, next) = split_line(rest);
         lines += 1;
         match run_line(alloc, feed, cabinet, output, line) {
-            LineEnd::Told => {}
-            LineEnd::Refused => return LinesEnd::Line(lines),
-            LineEnd::WriteFault => return LinesEnd::WriteFault,
-            LineEnd::OutOfMemory => return LinesEnd::OutOfMemory,
+            FeedLineEnd::Told => {}
+            FeedLineEnd::Refused => return FeedLinesEnd::Line(lines),
+            FeedLineEnd::WriteFault => return FeedLinesEnd::WriteFault,
+            FeedLineEnd::OutOfMemory => return FeedLinesEnd::OutOfMemory,
         }
         rest = next;
     }
-    LinesEnd::Done
+    FeedLinesEnd::Done
 }

@@ -10,7 +10,7 @@ use change_feed::Feed;
 use command_status::Status;
 use disk_model::Disk;
 use http_wire::ByteSink;
-use opened_cache::written;
+use opened_cache::write_text;
 
 /// Makes an empty file of marks, whatever stood there, and writes that it is made. Each end comes as `MakesMarks` says. It takes no
 /// memory.
@@ -26,7 +26,7 @@ pub(crate) fn make_marks<D: Disk, O: ByteSink>(
     ensures told { D.told marks.new ≡ D.told marks.old }
 {
     match Feed::make(catalogue, marks) {
-        Ok(()) => written(output, ArrayVec::new(), b"made\n"),
+        Ok(()) => write_text(output, ArrayVec::new(), b"made\n"),
         Err(_) => Status::DiskFault,
     }
 }

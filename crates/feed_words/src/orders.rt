@@ -14,7 +14,7 @@ use wmts_kvp::{is_number, short_number};
 
 /// Why a line gives no change.
 #[derive(Clone, Copy, PartialEq, Eq)]
-pub enum Unread {
+pub enum UnreadChange {
     /// It isn't a number, one blank and a cover, or the cover is refused.
     Refused,
     /// Memory ran out.
@@ -44,15 +44,15 @@ fn change_with(
     catalogue: &Catalogue,
     number: u64,
     text: &[u8],
-) -> Result<Change, Unread>
+) -> Result<Change, UnreadChange>
     requires { IsValid catalogue.now }
     ensures reads { IsReadAs (with_cover number (cover_of catalogue.now text.now)) result }
     ensures of { IfOk result (λ change. IsCoverOf catalogue.now change.cover) }
 {
     match read_cover(alloc, catalogue, text) {
         Ok(cover) => Ok(Change { number, cover }),
-        Err(JobFault::OutOfMemory) => Err(Unread::OutOfMemory),
-        Err(_) => Err(Unread::Refused),
+        Err(JobFault::OutOfMemory) => Err(UnreadChange::OutOfMemory),
+        Err(_) => Err(UnreadChange::Refused),
     }
 }
 
@@ -62,20 +62,20 @@ pub(crate) fn read_change(
     alloc: Global,
     catalogue: &Catalogue,
     line: &[u8],
-) -> Result<Change, Unread>
+) -> Result<Change, UnreadChange>
     requires { IsValid catalogue.now }
     ensures reads { IsReadAs (change_in catalogue.now line.now) result }
     ensures of { IfOk result (λ change. IsCoverOf catalogue.now change.cover) }
 {
     if line.len() > LINE_LIMIT {
-        return Err(Unread::Refused);
+        return Err(UnreadChange::Refused);
     }
     let (digits, behind) = line.split_at(digits_len(line));
     let [b' ', text @ ..] = behind else {
-        return Err(Unread::Refused);
+        return Err(UnreadChange::Refused);
     };
     match number_in(digits) {
         Some(number) => change_with(alloc, catalogue, number, text),
-        None => Err(Unread::Refused),
+        None => Err(UnreadChange::Refused),
     }
 }

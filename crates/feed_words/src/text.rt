@@ -11,7 +11,7 @@ use http_wire::ByteSink;
 use tile_requests::{add, add_number, send_behind};
 
 /// A label and a number after it.
-fn labelled(label: &[u8], number: u64) -> ArrayVec<u8, 1024>
+fn label_number(label: &[u8], number: u64) -> ArrayVec<u8, 1024>
     requires { length label.now ≤ 100 }
     ensures items { result.items ≡ label.now ++ decimal number }
     ensures short { array_vec_len result ≤ 120 }
@@ -23,7 +23,7 @@ fn labelled(label: &[u8], number: u64) -> ArrayVec<u8, 1024>
 }
 
 /// Sends a text in two parts; whether all of it went out, or a write failed.
-fn sent<O: ByteSink>(output: &mut O, front: ArrayVec<u8, 1024>, rest: &[u8]) -> bool
+fn send_text<O: ByteSink>(output: &mut O, front: ArrayVec<u8, 1024>, rest: &[u8]) -> bool
     requires { array_vec_len front ≤ 512 }
     ensures sent { IsSent (record { writes = counts (O.faults output.old) (O.faults output.new); from = O.taken output.old; to = O.taken output.new }) (front.items ++ rest.now) result }
     ensures later { O.faults output.old ≤ O.faults output.new }
@@ -41,7 +41,7 @@ fn send_one<O: ByteSink>(output: &mut O, label: &[u8], number: u64) -> bool
     ensures sent { IsSent (record { writes = counts (O.faults output.old) (O.faults output.new); from = O.taken output.old; to = O.taken output.new }) (one_number label.now number) result }
     ensures later { O.faults output.old ≤ O.faults output.new }
 {
-    sent(output, labelled(label, number), b"\n")
+    send_text(output, label_number(label, number), b"\n")
 }
 
 /// Sends a label with the number of a change, and a dash.
@@ -51,7 +51,7 @@ fn send_none<O: ByteSink>(output: &mut O, label: &[u8], number: u64) -> bool
     ensures sent { IsSent (record { writes = counts (O.faults output.old) (O.faults output.new); from = O.taken output.old; to = O.taken output.new }) (no_number label.now number) result }
     ensures later { O.faults output.old ≤ O.faults output.new }
 {
-    sent(output, labelled(label, number), b" -\n")
+    send_text(output, label_number(label, number), b" -\n")
 }
 
 /// Sends a label with the number of a change and another number.
@@ -61,10 +61,10 @@ fn send_two<O: ByteSink>(output: &mut O, label: &[u8], number: u64, other: u64) 
     ensures sent { IsSent (record { writes = counts (O.faults output.old) (O.faults output.new); from = O.taken output.old; to = O.taken output.new }) (two_numbers label.now number other) result }
     ensures later { O.faults output.old ≤ O.faults output.new }
 {
-    let mut text = labelled(label, number);
+    let mut text = label_number(label, number);
     add(&mut text, b" ");
     add_number(&mut text, other);
-    sent(output, text, b"\n")
+    send_text(output, text, b"\n")
 }
 
 /// Sends what became of the change of a number; whether all of it went out, or a write failed.

@@ -12,7 +12,7 @@ use crate::making::make_marks;
 use crate::words::{FeedWord, feed_word};
 use base::Clock;
 use catalog::Catalogue;
-use command_setup::{configured, status_of_refusal};
+use command_setup::{read_configuration, status_of_refusal};
 use command_status::Status;
 use disk_model::Disk;
 use exact_ratio::Words;
@@ -50,7 +50,7 @@ fn done_under<D: Disk, I: ByteSource, O: ByteSink>(
 }
 
 /// Does a word under the catalogue that is read.
-fn done<D: Disk, I: ByteSource, O: ByteSink>(
+fn do_word<D: Disk, I: ByteSource, O: ByteSink>(
     alloc: Global,
     word: FeedWord,
     catalogue: &mut I,
@@ -80,7 +80,7 @@ fn done<D: Disk, I: ByteSource, O: ByteSink>(
     ensures told { D.told disk.new ≡ D.told disk.old }
     ensures marks_told { D.told marks.new ≡ D.told marks.old }
 {
-    match configured(alloc, catalogue) {
+    match read_configuration(alloc, catalogue) {
         Ok(read) => done_under(alloc, word, read, input, output, clock, disk, marks),
         Err(refusal) => status_of_refusal(refusal),
     }
@@ -136,7 +136,7 @@ pub fn run_feed<D: Disk, I: ByteSource, O: ByteSink>(
     ensures marks_told { D.told marks.new ≡ D.told marks.old }
 {
     match feed_word(words) {
-        Some(word) => done(alloc, word, catalogue, input, output, clock, disk, marks),
+        Some(word) => do_word(alloc, word, catalogue, input, output, clock, disk, marks),
         None => Status::Usage,
     }
 }

@@ -40,8 +40,9 @@ use Rattle.tile_requests.specs.declared.outcome.Plain.TheVariants as plain
 use Rattle.tile_requests.specs.declared.request.Request.{Request}
 use Rattle.tile_requests.specs.declared.request.Request.TheVariants as request
 use Rattle.tile_requests.specs.Requests.{answered_at, is_made, told_at}
+use Rattle.tile_requests.specs.Routes.{spelling_of}
 use Rattle.hall_sessions.specs.Caused.{AsksFor, AsksOfJobs, HasAnswer, HasCutTurn, HasExpiryTurn, IsCaused, IsGiven, outcome_told}
-use Rattle.hall_sessions.specs.Exchanges.{AreExchanges, Exchange, IsExchange}
+use Rattle.hall_sessions.specs.Exchanges.{AreExchanges, HallExchange, IsExchange}
 use Rattle.hall_sessions.specs.Served.{IsJobMessageServed, IsOtherMessageServed, IsRequestServed}
 use Rattle.tile_requests.specs.Served.{IsCutServed, IsUsageServed, outcome_of_cut, outcome_of_expiry, outcome_of_get}
 use Rattle.hall_sessions.proofs.Unknown.{found_again}
@@ -92,15 +93,15 @@ none_is_some r e = absurd (cc)
 
 -- EACH CAUSE
 
-module _ (c : Catalogue) (told : Bool) (e : Exchange) where
+module _ (c : Catalogue) (told : Bool) (e : HallExchange) where
   -- the cause of an answer, or memory ran out for it
   or_memory : (made : Bool) (o : Outcome) → IsCaused c told e o → IsCaused c told e (if made then outcome.Plain plain.NoMemory else o)
   or_memory true o h = tt
   or_memory false o h = h
 
-  caused_told : (left : Bool) (o : Outcome) → IsCaused c told e o → IsCaused c told e (answered_at left o)
+  caused_told : (left : Bool) (o : Outcome) → IsCaused c told e o → IsCaused c told e (answered_at (spelling_of e.message) left o)
   caused_told true o h = h
-  caused_told false o h = or_memory (is_made o) o h
+  caused_told false o h = or_memory (is_made (spelling_of e.message) o) o h
 
   caused_while : (left : Bool) (o : Outcome) → IsCaused c told e o → IsCaused c told e (told_at left o)
   caused_while true o h = h
@@ -253,12 +254,12 @@ module _ (c : Catalogue) (told : Bool) (e : Exchange) where
 
 -- THE WHOLE
 
-pub has_answer : (c : Catalogue) (told : Bool) (e : Exchange) → IsExchange c told e → HasAnswer c told e
+pub has_answer : (c : Catalogue) (told : Bool) (e : HallExchange) → IsExchange c told e → HasAnswer c told e
 has_answer c told e h =
     let cause = caused_told c told e e.left e.came_to (message_caused c told e h.turns h.cause (job_request_for c e.message) refl h.served) in
     record { tiles = λ a asks. given_of c told e a asks (outcome_told e) refl cause; cause = cause }
 
-pub have_answers : (c : Catalogue) (told : Bool) (seen : FrontedBook) (board : BoardHolding) (renders : ℕ) (es : List Exchange) (sees : FrontedBook) (board_after : BoardHolding) (after : ℕ) → AreExchanges c told seen board renders es sees board_after after
+pub have_answers : (c : Catalogue) (told : Bool) (seen : FrontedBook) (board : BoardHolding) (renders : ℕ) (es : List HallExchange) (sees : FrontedBook) (board_after : BoardHolding) (after : ℕ) → AreExchanges c told seen board renders es sees board_after after
     → AllByRecursion (HasAnswer c told) es
 have_answers c told seen board renders [] sees board_after after are = tt
 have_answers c told seen board renders (e ∷ es) sees board_after after are = (has_answer c told e are.3, have_answers c told e.sees e.board_after e.renders_after es sees board_after after are.4)

@@ -11,24 +11,24 @@ use Rattle.turnstile.specs.declared.view.Made.{Made}
 use Rattle.turnstile.specs.Passes.{seen_by}
 use Rattle.cache_hall.specs.Turned.{HallPass}
 use Rattle.sessions.specs.declared.session.SessionEnd.{SessionEnd}
-use Rattle.sessions.specs.Exchanges.{AreServed, Standing, responses_of}
+use Rattle.sessions.specs.Exchanges.{AreServed, ServerStanding, responses_of}
 use Rattle.sessions.specs.Exchanges as sessions
 use Rattle.sessions.specs.Outside.{InputChange, OutputChange, counts}
 use Rattle.sessions.specs.SessionEnds.{Ends}
 use Rattle.sessions.specs.Sessions.{IsHeld}
 use Rattle.tile_requests.specs.declared.outcome.Outcome.{Outcome}
 use Rattle.tile_service.specs.Session.{responses}
-use Rattle.hall_sessions.specs.Exchanges.{AreExchanges, Exchange, answers_of, messages_of, turns_of}
-use Rattle.hall_sessions.specs.Served.{Serves, ServesLater}
+use Rattle.hall_sessions.specs.Exchanges.{AreExchanges, HallExchange, answers_of, messages_of, turns_of}
+use Rattle.hall_sessions.specs.Served.{ServesLater, ServesOverHall}
 use Rattle.hall_sessions.specs.Sessions.{HasHallSession}
 use Rattle.hall_sessions.proofs.Causing.{have_answers}
 
 -- how a hall and a board stand between two messages
 abbrev Hall : Type 0
-Hall = Standing HallPass BoardHolding
+Hall = ServerStanding HallPass BoardHolding
 
 -- the mark of being told stays
-pub marked : {c : Catalogue} {before after : ℕ} {m : Message} {p q : HallPass} {board board_after : BoardHolding} {o : Outcome} → Serves c before after m p q board board_after o → q.told ≡ p.told
+pub marked : {c : Catalogue} {before after : ℕ} {m : Message} {p q : HallPass} {board board_after : BoardHolding} {o : Outcome} → ServesOverHall c before after m p q board board_after o → q.told ≡ p.told
 marked serves = ap (λ (x : HallPass). x.told) serves.gains.is
 
 -- the pass with these turns
@@ -37,7 +37,7 @@ with_turns p book turns = record { table = p.table; charter = p.charter; told = 
 
 -- what these exchanges of a session came to at the hall and at the board, the first of which is that at this place
 pub record HaveExchanged (c : Catalogue) (document : List ℕ) (i : ℕ) (now last : Hall) (es : List (sessions.Exchange HallPass BoardHolding)) : Type 0 where
-  pub exchanges : List Exchange
+  pub exchanges : List HallExchange
   pub made : last.cache ≡ seen_by now.cache last.cache.book (turns_of exchanges)
   pub served : AreExchanges c now.cache.told now.cache.book now.jobs now.failures exchanges last.cache.book last.jobs last.failures
   pub are_messages : sessions.messages_of es ≡ messages_of exchanges
@@ -59,7 +59,7 @@ module _ (c : Catalogue) (document : List ℕ) where
       let serves = subst (λ (s : Hall). ServesLater c e.message e.outcome s e.after) are.0 are.1 in
       let first = serves.0 in
       let others = exchanged (i + 1) e.after last es are.2 in
-      let it : Exchange = record { message = e.message; request = first.request; gained = first.gained; came_to = e.outcome; left = e.left; seen = now.cache.book; sees = e.after.cache.book; board_before = now.jobs; board_after = e.after.jobs; renders_before = now.failures; renders_after = e.after.failures } in
+      let it : HallExchange = record { message = e.message; request = first.request; gained = first.gained; came_to = e.outcome; left = e.left; seen = now.cache.book; sees = e.after.cache.book; board_before = now.jobs; board_after = e.after.jobs; renders_before = now.failures; renders_after = e.after.failures } in
       record {
         exchanges = it ∷ others.exchanges;
         made =

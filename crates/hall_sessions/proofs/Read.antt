@@ -23,7 +23,7 @@ use Rattle.tile_requests.specs.Requests.{told_at}
 use Rattle.tile_requests.specs.Routes.{request_for}
 use Rattle.tile_requests.specs.Shown.{shown_message}
 use Rattle.hall_sessions.specs.Requested.{ServesRequest}
-use Rattle.hall_sessions.specs.Served.{IsJobMessageServed, IsOtherMessageServed, Serves}
+use Rattle.hall_sessions.specs.Served.{IsJobMessageServed, IsOtherMessageServed, ServesOverHall}
 
 -- WHERE A JOB IS ASKED FOR THE SOURCE HAS NO PART
 
@@ -68,11 +68,11 @@ unread_as c p m board (Some r) = (inr ((refl, refl), refl), refl)
 
 module _ (c : Catalogue) (before after : ℕ) (p : HallPass) where
   -- no memory was left to read the message
-  pub unread : (m : Message) (board : BoardHolding) → Serves c before after m p p board board (outcome.Plain plain.NoMemory)
+  pub unread : (m : Message) (board : BoardHolding) → ServesOverHall c before after m p p board board (outcome.Plain plain.NoMemory)
   unread m board = record { gained = []; gains = gains_none c p; request = None; served = unread_as c p m board (job_request_for c m); cause = λ e. absurd (cc) }
 
   -- the message asks this of jobs
-  pub served_at_board : (m : Message) (board board_after : BoardHolding) (r : JobRequest) (o : Outcome) → Some r ≡ job_request_for c m → ServesJob c r board board_after o → Serves c before after m p p board board_after o
+  pub served_at_board : (m : Message) (board board_after : BoardHolding) (r : JobRequest) (o : Outcome) → Some r ≡ job_request_for c m → ServesJob c r board board_after o → ServesOverHall c before after m p p board board_after o
   served_at_board m board board_after r o asks h = record {
     gained = [];
     gains = gains_none c p;
@@ -82,7 +82,7 @@ module _ (c : Catalogue) (before after : ℕ) (p : HallPass) where
   }
 
   -- the message asks nothing of jobs, and this by the table of paths
-  pub read_so : (q : HallPass) (m : Message) (board : BoardHolding) (r : Request) (o : Outcome) → None ≡ job_request_for c m → r ≡ request_for c m → ServesRequest c before after r p q o → Serves c before after m p q board board o
+  pub read_so : (q : HallPass) (m : Message) (board : BoardHolding) (r : Request) (o : Outcome) → None ≡ job_request_for c m → r ≡ request_for c m → ServesRequest c before after r p q o → ServesOverHall c before after m p q board board o
   read_so q m board r o other is h = record {
     gained = h.gained;
     gains = h.gains;

@@ -2,7 +2,7 @@
 use Rattle.std.proofs.Common.{ℕ, ◌≡◌, ◌≤◌, ◌-◌, ◌==◌, Bool, true, false, if◌then◌else◌, List, length, length-set, Option, Some, None, ap, subst, ◌∙◌, arith}
 use Rattle.std.proofs.lemmas.Option.{slice_get-get_or, slice_get_within}
 use Rattle.std.specs.Prelude.{slice_get}
-use Rattle.job_board.specs.Boards.{IsStopped, Looks, MayReply, Stops, watch_of}
+use Rattle.job_board.specs.Boards.{BoardMayReply, IsStopped, Looks, Stops, watch_of}
 use Rattle.job_board.specs.Calls.{BoardHolding, MakesOne}
 use Rattle.job_board.specs.declared.shown.Command.{Command}
 use Rattle.job_board.specs.declared.shown.Command.TheVariants as command
@@ -10,7 +10,7 @@ use Rattle.job_board.specs.declared.shown.Reply.{Reply}
 use Rattle.job_board.specs.declared.shown.Reply.TheVariants as reply
 use Rattle.job_board.specs.declared.shown.Shown.{Shown}
 use Rattle.job_board.specs.declared.progress.Progress.{Progress}
-use Rattle.job_board.specs.Hands.{Holding}
+use Rattle.job_board.specs.Hands.{SheetHolding}
 use Rattle.truncation_list.specs.declared.book.FrontedBook.{FrontedBook}
 
 same_stop : (x y : Bool) → reply.Stop x ≡ reply.Stop y → y ≡ x
@@ -21,21 +21,21 @@ same_look x y e = cc
 
 -- WHAT THE REPLIES SAY
 
-stopped_by : (b a : Shown) (n : ℕ) (does : Command) (r : Reply) → does ≡ command.Stop n → r ≡ reply.Stop true → MayReply b does r a → IsStopped b n a
+stopped_by : (b a : Shown) (n : ℕ) (does : Command) (r : Reply) → does ≡ command.Stop n → r ≡ reply.Stop true → BoardMayReply b does r a → IsStopped b n a
 stopped_by b a n does r is so may =
-    let h : MayReply b (command.Stop n) (reply.Stop true) a = subst (λ (z : Reply). MayReply b (command.Stop n) z a) so (subst (λ (d : Command). MayReply b d r a) is may) in
+    let h : BoardMayReply b (command.Stop n) (reply.Stop true) a = subst (λ (z : Reply). BoardMayReply b (command.Stop n) z a) so (subst (λ (d : Command). BoardMayReply b d r a) is may) in
     subst (λ (x : Bool). Stops b n x a) (same_stop true h.0 h.1) h.2
 
-unseen_by : (b a : Shown) (n : ℕ) (does : Command) (r : Reply) → does ≡ command.Look n → r ≡ reply.Look None → MayReply b does r a → watch_of b n ≡ None
+unseen_by : (b a : Shown) (n : ℕ) (does : Command) (r : Reply) → does ≡ command.Look n → r ≡ reply.Look None → BoardMayReply b does r a → watch_of b n ≡ None
 unseen_by b a n does r is so may =
-    let h : MayReply b (command.Look n) (reply.Look None) a = subst (λ (z : Reply). MayReply b (command.Look n) z a) so (subst (λ (d : Command). MayReply b d r a) is may) in
+    let h : BoardMayReply b (command.Look n) (reply.Look None) a = subst (λ (z : Reply). BoardMayReply b (command.Look n) z a) so (subst (λ (d : Command). BoardMayReply b d r a) is may) in
     let row : Looks b n None a = subst (λ (x : Option Progress). Looks b n x a) (same_look None h.0 h.1) h.2 in
     row.0
 
 -- HOW MANY JOBS THERE ARE
 
 -- where there are no fewer jobs, a number that had one has one
-has_one : (ws vs : List Holding) (at : ℕ) (w : Holding) (is_zero : Bool) → length ws ≤ length vs → (if is_zero then None else slice_get ws at) ≡ Some w → (if is_zero then None else slice_get vs at) ≡ None → ⊥
+has_one : (ws vs : List SheetHolding) (at : ℕ) (w : SheetHolding) (is_zero : Bool) → length ws ≤ length vs → (if is_zero then None else slice_get ws at) ≡ Some w → (if is_zero then None else slice_get vs at) ≡ None → ⊥
 has_one ws vs at w true more some none = absurd (cc)
 has_one ws vs at w false more some none =
     let within = slice_get_within ws at w some in

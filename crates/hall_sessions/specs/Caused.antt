@@ -35,14 +35,14 @@ use Rattle.tile_requests.specs.declared.outcome.Plain.TheVariants as plain
 use Rattle.tile_requests.specs.declared.request.Request.{Request}
 use Rattle.tile_requests.specs.declared.request.Request.TheVariants as request
 use Rattle.tile_requests.specs.Requests.{answered_at}
-use Rattle.tile_requests.specs.Routes.{request_for}
+use Rattle.tile_requests.specs.Routes.{request_for, spelling_of}
 use Rattle.tile_requests.specs.Texts.{dropped_text}
-use Rattle.hall_sessions.specs.Exchanges.{Exchange}
+use Rattle.hall_sessions.specs.Exchanges.{HallExchange}
 use Rattle.tile_requests.specs.Counted.{IsCounted}
 
 -- the outcome that a message is answered by: that of its answer and of its response
-abbrev pub outcome_told : Exchange → Outcome
-outcome_told e = answered_at e.left e.came_to
+abbrev pub outcome_told : HallExchange → Outcome
+outcome_told e = answered_at (spelling_of e.message) e.left e.came_to
 
 -- WHAT IS ASKED FOR
 
@@ -58,7 +58,7 @@ AsksOfJobs c m r = job_request_for c m ≡ Some r
 -- WHO ASKS FOR A TILE
 
 -- the answer is the tile of a get by the message's turns
-pub record IsGiven (c : Catalogue) (told : Bool) (a : Address) (e : Exchange) : Type 0 where
+pub record IsGiven (c : Catalogue) (told : Bool) (a : Address) (e : HallExchange) : Type 0 where
   pub tile : Tile
   pub is : outcome_told e ≡ outcome.Tile tile.hit tile.number tile.bytes
   pub got : HasGot c told a e.seen e.gained tile
@@ -66,7 +66,7 @@ pub record IsGiven (c : Catalogue) (told : Bool) (a : Address) (e : Exchange) : 
 -- WHO ASKS FOR A TILE GETS IT, with status 200, or 503 where memory ran out. The answer is that the source failed, only where its count
 -- of faults rose while the message was served; and that no number is left, only where the last ask was told so. That a disk failed is no
 -- cause.
-abbrev pub TilesAreGiven : Catalogue → Bool → Exchange → Type 0
+abbrev pub TilesAreGiven : Catalogue → Bool → HallExchange → Type 0
 TilesAreGiven c told e =
     (a : Address) → AsksFor c e.message (request.Tile a)
     → IsGiven c told a e ⊎ ((outcome_told e ≡ outcome.Plain plain.NoMemory) ⊎ (((outcome_told e ≡ outcome.SourceFailed) × Rose e.renders_before e.renders_after) ⊎ ((outcome_told e ≡ outcome.Plain plain.Spent) × HasMetSpent a e.gained)))
@@ -74,7 +74,7 @@ TilesAreGiven c told e =
 -- WHO CHANGES WHAT IS KEPT
 
 -- the message asks for a truncation, and its one turn at the cabinet was this truncation and was answered so
-pub record HasCutTurn (c : Catalogue) (e : Exchange) (r : CutReply) : Type 0 where
+pub record HasCutTurn (c : Catalogue) (e : HallExchange) (r : CutReply) : Type 0 where
   pub cover : Cover
   pub asks : AsksFor c e.message (request.Truncation cover)
   pub turn : Made Note
@@ -82,7 +82,7 @@ pub record HasCutTurn (c : Catalogue) (e : Exchange) (r : CutReply) : Type 0 whe
   pub of : IsOf (command.Cut cover) (reply.Cut r) turn
 
 -- the message asks for an expiry, and its one turn was one and was answered so
-pub record HasExpiryTurn (c : Catalogue) (e : Exchange) (r : Expired) : Type 0 where
+pub record HasExpiryTurn (c : Catalogue) (e : HallExchange) (r : Expired) : Type 0 where
   pub asks : AsksFor c e.message request.Expiry
   pub turn : Made Note
   pub one : e.gained ≡ turn ∷ []
@@ -92,22 +92,22 @@ pub record HasExpiryTurn (c : Catalogue) (e : Exchange) (r : Expired) : Type 0 w
 abbrev pub DiskFailedIn : Made Note → Type 0
 DiskFailedIn turn = Rose turn.note.before.faults turn.note.after.faults
 
-abbrev pub HasFailedCut : Catalogue → Exchange → Type 0
+abbrev pub HasFailedCut : Catalogue → HallExchange → Type 0
 HasFailedCut c e = (b : ℕ) × (a : ℕ) × (h : HasCutTurn c e (cut.DiskFault b a)) × DiskFailedIn h.turn
 
-abbrev pub HasFailedExpiry : Catalogue → Exchange → Type 0
+abbrev pub HasFailedExpiry : Catalogue → HallExchange → Type 0
 HasFailedExpiry c e = (b : ℕ) × (a : ℕ) × (h : HasExpiryTurn c e (expired.DiskFault b a)) × DiskFailedIn h.turn
 
 -- WHO ASKS FOR A JOB
 
 -- the message submits a job, and its one turn at the board did and was answered so
-pub record HasSubmitTurn (c : Catalogue) (e : Exchange) (n : Option ℕ) : Type 0 where
+pub record HasSubmitTurn (c : Catalogue) (e : HallExchange) (n : Option ℕ) : Type 0 where
   pub job : Job
   pub asks : AsksOfJobs c e.message (job_request.Submission job)
   pub one : MakesOne e.board_before e.board_after (board_command.Submit job (length (places c job))) (board_reply.Submit n)
 
 -- the message looks at the job of a number, or ends it early and then looks, and was told this of it
-pub record HasLookTurn (c : Catalogue) (e : Exchange) (n : ℕ) (p : Progress) : Type 0 where
+pub record HasLookTurn (c : Catalogue) (e : HallExchange) (n : ℕ) (p : Progress) : Type 0 where
   pub before : BoardHolding
   pub asks :
       (AsksOfJobs c e.message (job_request.Look n) × (before ≡ e.board_before))
@@ -115,19 +115,19 @@ pub record HasLookTurn (c : Catalogue) (e : Exchange) (n : ℕ) (p : Progress) :
   pub one : MakesOne before e.board_after (board_command.Look n) (board_reply.Look (Some p))
 
 -- the message asks for the job of a number, and its one turn found none of this number
-pub record HasNoJob (c : Catalogue) (e : Exchange) : Type 0 where
+pub record HasNoJob (c : Catalogue) (e : HallExchange) : Type 0 where
   pub number : ℕ
   pub found_none :
       (AsksOfJobs c e.message (job_request.Look number) × MakesOne e.board_before e.board_after (board_command.Look number) (board_reply.Look None))
       ⊎ (AsksOfJobs c e.message (job_request.Stop number) × MakesOne e.board_before e.board_after (board_command.Stop number) (board_reply.Stop false))
 
 -- what is told of a job
-abbrev pub IsJobText : Catalogue → Exchange → List ℕ → Type 0
+abbrev pub IsJobText : Catalogue → HallExchange → List ℕ → Type 0
 IsJobText c e text =
     ((n : ℕ) × HasSubmitTurn c e (Some n) × (text ≡ submitted_text n)) ⊎ ((n : ℕ) × (p : Progress) × HasLookTurn c e n p × (text ≡ progress_text n p))
 
 -- WHY THIS ANSWER: each has its cause, in what the message asks for and in the turns that were made for it. Want of memory alone is free.
-abbrev pub IsCaused : Catalogue → Bool → Exchange → Outcome → Type 0
+abbrev pub IsCaused : Catalogue → Bool → HallExchange → Outcome → Type 0
 IsCaused c told e (outcome.Tile hit k bytes) = (a : Address) × AsksFor c e.message (request.Tile a) × HasGot c told a e.seen e.gained (record { hit = hit; number = k; bytes = bytes })
 IsCaused c told e outcome.Document = AsksFor c e.message request.Capabilities
 IsCaused c told e (outcome.Refused code locator) = AsksFor c e.message (request.Refused code locator)
@@ -148,6 +148,6 @@ IsCaused c told e (outcome.Plain plain.DiskFault) = HasFailedCut c e ⊎ HasFail
 IsCaused c told e (outcome.Plain plain.NoMemory) = ⊤
 
 -- both of a message
-pub record HasAnswer (c : Catalogue) (told : Bool) (e : Exchange) : Type 0 where
+pub record HasAnswer (c : Catalogue) (told : Bool) (e : HallExchange) : Type 0 where
   pub tiles : TilesAreGiven c told e
   pub cause : IsCaused c told e (outcome_told e)

@@ -12,6 +12,7 @@ use Rattle.tile_requests.specs.declared.outcome.Outcome.{Outcome}
 use Rattle.tile_requests.specs.declared.outcome.Outcome.TheVariants as outcome
 use Rattle.tile_requests.specs.declared.request.Request.{Request}
 use Rattle.tile_requests.specs.Requests.{answered_at}
+use Rattle.tile_requests.specs.Routes.{spelling_of}
 use Rattle.tile_service.specs.Run.{Answer}
 use Rattle.tile_service.specs.Serving.{answer_to}
 use Rattle.hall_sessions.specs.Served.{IsMessageServed}
@@ -19,7 +20,7 @@ use Rattle.hall_sessions.specs.Served.{IsMessageServed}
 -- a message, what it asked for by the table of paths (none where it is for jobs, or no memory was left to read it), the turns that were
 -- made for it at the cabinet, its outcome, and whether memory was left for the text of its response; before it and after it the
 -- book that the pass had seen, the pass of the board, and how often the source had failed
-pub record Exchange : Type 0 where
+pub record HallExchange : Type 0 where
   pub message : Message
   pub request : Option Request
   pub gained : List (Made Note)
@@ -33,23 +34,23 @@ pub record Exchange : Type 0 where
   pub renders_after : ℕ
 
 -- the answer to a message at its place in the session, counted from 1
-abbrev pub answer_of : ℕ → Exchange → Answer
-answer_of i e = answer_to i e.message e.request 0 (answered_at e.left e.came_to)
+abbrev pub answer_of : ℕ → HallExchange → Answer
+answer_of i e = answer_to i e.message e.request 0 (answered_at (spelling_of e.message) e.left e.came_to)
 
 -- the answers, of which the first is that to the message at this place
-abbrev pub answers_of : ℕ → List Exchange → List Answer
+abbrev pub answers_of : ℕ → List HallExchange → List Answer
 answers_of i [] = []
 answers_of i (e ∷ es) = answer_of i e ∷ answers_of (i + 1) es
 
-abbrev pub messages_of : List Exchange → List Message
+abbrev pub messages_of : List HallExchange → List Message
 messages_of es = map (λ e. e.message) es
 
 -- all turns that were made at the cabinet
-abbrev pub turns_of : List Exchange → List (Made Note)
+abbrev pub turns_of : List HallExchange → List (Made Note)
 turns_of es = flat_map (λ e. e.gained) es
 
 -- the message was served by these turns, and its outcome says that the source failed only where its count rose
-pub record IsExchange (c : Catalogue) (told : Bool) (e : Exchange) : Type 0 where
+pub record IsExchange (c : Catalogue) (told : Bool) (e : HallExchange) : Type 0 where
   pub served : IsMessageServed c told e.seen e.message e.request e.gained e.board_before e.board_after e.came_to
   pub turns : AreTurns c told e.seen e.gained e.sees
   pub later : e.renders_before ≤ e.renders_after
@@ -57,7 +58,7 @@ pub record IsExchange (c : Catalogue) (told : Bool) (e : Exchange) : Type 0 wher
 
 -- one after the other: the pass had seen one book at first and sees the other one at last, and the board's pass and the source's count
 -- went from one to another
-abbrev pub AreExchanges : Catalogue → Bool → FrontedBook → BoardHolding → ℕ → List Exchange → FrontedBook → BoardHolding → ℕ → Type 0
+abbrev pub AreExchanges : Catalogue → Bool → FrontedBook → BoardHolding → ℕ → List HallExchange → FrontedBook → BoardHolding → ℕ → Type 0
 AreExchanges c told seen board renders [] sees board_after after = (sees ≡ seen) × (board_after ≡ board) × (after ≡ renders)
 AreExchanges c told seen board renders (e ∷ es) sees board_after after =
     (e.seen ≡ seen) × (e.board_before ≡ board) × (e.renders_before ≡ renders) × IsExchange c told e × AreExchanges c told e.sees e.board_after e.renders_after es sees board_after after

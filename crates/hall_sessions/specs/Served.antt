@@ -9,9 +9,9 @@ use Rattle.job_requests.specs.Routes.{request_for as job_request_for}
 use Rattle.job_requests.specs.Served.{ServesJob}
 use Rattle.truncation_list.specs.declared.book.FrontedBook.{FrontedBook}
 use Rattle.turnstile.specs.declared.view.Made.{Made}
-use Rattle.cache_hall.specs.Turned.{Gains, HallPass}
+use Rattle.cache_hall.specs.Turned.{GainsTurns, HallPass}
 use Rattle.base.specs.Causes.{Rose}
-use Rattle.sessions.specs.Exchanges.{Standing}
+use Rattle.sessions.specs.Exchanges.{ServerStanding}
 use Rattle.tile_requests.specs.declared.outcome.Outcome.{Outcome}
 use Rattle.tile_requests.specs.declared.outcome.Outcome.TheVariants as outcome
 use Rattle.tile_requests.specs.declared.outcome.Plain.TheVariants as plain
@@ -45,13 +45,13 @@ IsMessageServed c told seen m request gained board_before board_after o =
     MatchOption (job_request_for c m) (IsOtherMessageServed c told seen m request gained o × (board_after ≡ board_before)) (λ r. IsJobMessageServed c r gained board_before board_after o × (request ≡ None))
 
 -- a message was served over a hall and a board, while its source went from one count of faults to another: it failed only where that rose
-pub record Serves (c : Catalogue) (renders_before renders_after : ℕ) (m : Message) (before after : HallPass) (board_before board_after : BoardHolding) (o : Outcome) : Type 0 where
+pub record ServesOverHall (c : Catalogue) (renders_before renders_after : ℕ) (m : Message) (before after : HallPass) (board_before board_after : BoardHolding) (o : Outcome) : Type 0 where
   pub gained : List (Made Note)
-  pub gains : Gains c before after gained
+  pub gains : GainsTurns c before after gained
   pub request : Option Request
   pub served : IsMessageServed c before.told before.book m request gained board_before board_after o
   pub cause : o ≡ outcome.SourceFailed → Rose renders_before renders_after
 
 -- the same from one standing of a hall and a board to another, while the source's count doesn't fall
-abbrev pub ServesLater : Catalogue → Message → Outcome → Standing HallPass BoardHolding → Standing HallPass BoardHolding → Type 0
-ServesLater c m o before after = Serves c before.failures after.failures m before.cache after.cache before.jobs after.jobs o × (before.failures ≤ after.failures)
+abbrev pub ServesLater : Catalogue → Message → Outcome → ServerStanding HallPass BoardHolding → ServerStanding HallPass BoardHolding → Type 0
+ServesLater c m o before after = ServesOverHall c before.failures after.failures m before.cache after.cache before.jobs after.jobs o × (before.failures ≤ after.failures)

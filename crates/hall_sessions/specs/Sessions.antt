@@ -12,7 +12,7 @@ use Rattle.sessions.specs.Outside.{FaultCounts, InputChange, OutputChange}
 use Rattle.sessions.specs.SessionEnds.{Ends}
 use Rattle.tile_service.specs.Session.{responses}
 use Rattle.hall_sessions.specs.Caused.{HasAnswer}
-use Rattle.hall_sessions.specs.Exchanges.{AreExchanges, Exchange, answers_of, messages_of, turns_of}
+use Rattle.hall_sessions.specs.Exchanges.{AreExchanges, HallExchange, answers_of, messages_of, turns_of}
 
 -- what a session sees of its link's output: the faults of its writes, and the bytes that it has taken
 abbrev pub output_of : FaultCounts → Option (List ℕ) → Option (List ℕ) → OutputChange
@@ -23,7 +23,7 @@ output_of writes from to = record { writes = writes; from = from; to = to }
 -- too early, and those that are left now. The passes made the turns of the messages, in order, and no others. Who asked for a tile got it,
 -- and each other answer has its cause. The responses to the messages went out, as far as the end says.
 pub record HasHallSession (i : InputChange) (o : OutputChange) (renders : FaultCounts) (document : List ℕ) (c : Catalogue) (before after : HallPass) (board_before board_after : BoardHolding) (end : SessionEnd) : Type 0 where
-  pub exchanges : List Exchange
+  pub exchanges : List HallExchange
   pub held : List ℕ
   pub stand : StandIn i.from (messages_of exchanges) (prepend_known held i.to)
   pub made : after ≡ seen_by before after.book (turns_of exchanges)

@@ -11,6 +11,7 @@ use cabinet::Keeper;
 use cabinet_chest::CabinetChest;
 use http_wire::Message;
 use job_board::BoardPass;
+use png_text::CrcTables;
 use sessions::MessageServer;
 use source_render::Source;
 use std::alloc::Global;
@@ -52,11 +53,15 @@ impl<R: Wait, K: Keeper> MessageServer for HallServer<'_, R, K> {
         self.world.capabilities.bytes()
     }
 
-    fn begun(&self) {
+    fn crc_tables<'s>(&'s self, _cache: &'s Pass<CabinetChest<K>>) -> &'s CrcTables {
+        &self.world.tables.crc
+    }
+
+    fn begin_message(&self) {
         self.world.traffic.begin();
     }
 
-    fn answered(&self) {
+    fn end_message(&self) {
         self.world.traffic.end();
     }
 }

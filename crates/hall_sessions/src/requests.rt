@@ -3,7 +3,7 @@ ghost use Rattle.std.specs.Prelude.{◌≡◌, ◌≤◌, Some, true};
 ghost use Rattle.cache_hall.specs.Turned.{IsPassOf};
 ghost use Rattle.catalog.specs.Valid.{IsValid};
 ghost use Rattle.hall_sessions.specs.Requested.{ServesRequest};
-ghost use Rattle.hall_sessions.specs.Served.{Serves};
+ghost use Rattle.hall_sessions.specs.Served.{ServesOverHall};
 ghost use Rattle.job_board.specs.Calls.{IsBoardPass};
 ghost use Rattle.tile_requests.specs.Requests.{IsOf};
 
@@ -21,7 +21,7 @@ use tile_requests::{MessageRef, Outcome, Plain, Request, answer, read_request};
 use turnstile::Pass;
 
 /// A request, served to its outcome.
-fn served<R: Wait, K: Keeper, S: Source>(
+fn serve_request<R: Wait, K: Keeper, S: Source>(
     rt: &R,
     alloc: Global,
     hall: &Hall<K>,
@@ -56,7 +56,7 @@ pub fn serve<R: Wait, K: Keeper, S: Source>(
     requires valid { IsValid world.now.hall.catalogue }
     requires source { pass.old.told ≡ true → S.told source.old ≡ Some world.now.hall.catalogue.source }
     requires board { IsBoardPass world.now.board.turnstile.table board.old }
-    ensures serves { Serves world.now.hall.catalogue (S.faults source.old) (S.faults source.new) message.now pass.old pass.new board.old board.new result }
+    ensures serves { ServesOverHall world.now.hall.catalogue (S.faults source.old) (S.faults source.new) message.now pass.old pass.new board.old board.new result }
     ensures of { IsPassOf world.now.hall.turnstile.table world.now.hall.catalogue pass.new }
     ensures board { IsBoardPass world.now.board.turnstile.table board.new }
     ensures later { S.faults source.old ≤ S.faults source.new }
@@ -67,9 +67,9 @@ pub fn serve<R: Wait, K: Keeper, S: Source>(
     match read_job_request(alloc, catalogue, &parts) {
         Err(_) => Outcome::Plain(Plain::NoMemory),
         Ok(Some(request)) => serve_job(rt, alloc, catalogue, &world.board, board, request),
-        Ok(None) => match read_request(alloc, catalogue, &world.rest, &parts) {
+        Ok(None) => match read_request(alloc, catalogue, &world.tables.rest, &parts) {
             Err(_) => Outcome::Plain(Plain::NoMemory),
-            Ok(request) => served(rt, alloc, &world.hall, pass, source, request),
+            Ok(request) => serve_request(rt, alloc, &world.hall, pass, source, request),
         },
     }
 }

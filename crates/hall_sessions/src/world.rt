@@ -4,14 +4,14 @@ use cabinet::Keeper;
 use cache_hall::Hall;
 use exact_ratio::Words;
 use job_board::Board;
-use wmts_rest::RestTable;
+use tile_requests::Tables;
 
-/// Where many threads are served: a hall, the reading of paths, the capabilities document, a board of jobs, and the counts of requests.
+/// Where many threads are served: a hall, the tables of requests, the capabilities document, a board of jobs, and the counts of requests.
 #[derive(Drop)]
 pub struct World<K: Keeper> {
     pub hall: Hall<K>,
-    /// How paths of tiles are read.
-    pub rest: RestTable,
+    /// What requests are read by and responses are spelt by.
+    pub tables: Tables,
     /// The document of the service's capabilities, as the operator wrote it.
     pub capabilities: Words,
     /// The jobs that were submitted.

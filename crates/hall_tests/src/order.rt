@@ -13,8 +13,8 @@ use sessions::SessionEnd;
 use source_render::Numbered;
 use std::alloc::{AllocError, Global};
 use std::test::Fail;
+use tile_requests::Tables;
 use tile_service::{Counter, replay_session};
-use wmts_rest::RestTable;
 
 /// A connection in memory that notes, at each take, how many bytes have been put by then.
 #[derive(Drop)]
@@ -73,10 +73,10 @@ fn served<K: Keeper, L: Link>(
     requires valid { IsValid (K.state cabinet).catalogue }
     requires rest { IsAtRest (K.state cabinet) }
 {
-    let rest = RestTable::new(alloc)?;
+    let tables = Tables::new(alloc)?;
     let mut counter = Counter {
         cabinet,
-        rest,
+        tables,
         capabilities: Words::of(Vec::new(alloc)),
     };
     let mut source = Numbered::new(0);

@@ -5,7 +5,7 @@ ghost use Rattle.cache_hall.specs.Turned.{IsPassOf};
 ghost use Rattle.catalog.specs.Valid.{IsValid};
 ghost use Rattle.catalog.specs.declared.catalogue.Catalogue.{Catalogue};
 ghost use Rattle.job_board.specs.Calls.{IsBoardPass};
-ghost use Rattle.seed_jobs.specs.Idles.{IsReady};
+ghost use Rattle.seed_jobs.specs.Idles.{IsStandbyReady};
 
 use base::Clock;
 use cabinet::Cabinet;
@@ -98,7 +98,7 @@ fn runner_of<G: JobGate>(
 ) -> Result<Runner<Cabinet, Numbered, G>, AllocError>
     requires passes { length passes.items ≡ 8 }
     requires gates { length gates.items ≡ 8 }
-    ensures ready { (boards table : TableId) (c : Catalogue) → IsBoardPass boards board → All (IsPassOf table c) passes.items → All (λ p. p.told ≡ false) passes.items → IfOk result (λ r. IsReady boards table c r) }
+    ensures ready { (boards table : TableId) (c : Catalogue) → IsBoardPass boards board → All (IsPassOf table c) passes.items → All (λ p. p.told ≡ false) passes.items → IfOk result (λ r. IsStandbyReady boards table c r) }
 {
     let sources = vec![in alloc;
         Numbered::new(0),
@@ -128,7 +128,7 @@ pub struct Stage<G: JobGate> {
 pub fn new_stage<G: JobGate>(alloc: Global, gates: Vec<G>) -> Result<Option<Stage<G>>, AllocError>
     requires gates { length gates.items ≡ 8 }
     ensures valid { IfOk result (λ o. IfSome o (λ s. IsValid s.hall.catalogue)) }
-    ensures ready { IfOk result (λ o. IfSome o (λ s. IsReady s.board.turnstile.table s.hall.turnstile.table s.hall.catalogue s.runner)) }
+    ensures ready { IfOk result (λ o. IfSome o (λ s. IsStandbyReady s.board.turnstile.table s.hall.turnstile.table s.hall.catalogue s.runner)) }
     ensures pass { IfOk result (λ o. IfSome o (λ s. IsBoardPass s.board.turnstile.table s.pass)) }
 {
     let Ok(catalogue) = read_catalogue(alloc, WEB) else {
@@ -175,7 +175,7 @@ pub fn run<R: Threads + Wait + Sync, G: JobGate + Send>(
 ) -> Option<(Progress, Progress)>
     requires threads { (1 ≤ threads) × (threads ≤ 8) }
     requires valid { IsValid stage.hall.catalogue }
-    requires ready { IsReady stage.board.turnstile.table stage.hall.turnstile.table stage.hall.catalogue stage.runner }
+    requires ready { IsStandbyReady stage.board.turnstile.table stage.hall.turnstile.table stage.hall.catalogue stage.runner }
     requires pass { IsBoardPass stage.board.turnstile.table stage.pass }
 {
     let Stage {

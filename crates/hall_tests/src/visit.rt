@@ -15,8 +15,8 @@ use sessions::SessionEnd;
 use source_render::Scripted;
 use std::alloc::{AllocError, Global};
 use std::sync::Wait;
+use tile_requests::Tables;
 use turnstile::Pass;
-use wmts_rest::RestTable;
 
 /// A world, two passes of its hall, and one of its board.
 #[derive(Drop)]
@@ -41,19 +41,23 @@ fn new_board(alloc: Global) -> Result<Option<(Board, BoardPass)>, AllocError>
 /// What a world has beside its hall, and a pass of its board.
 #[derive(Drop)]
 struct Ground {
-    rest: RestTable,
+    tables: Tables,
     board: Board,
     pass: BoardPass,
 }
 
-/// A board without jobs, a pass of it, and the reading of paths.
+/// A board without jobs, a pass of it, and the tables of requests.
 fn new_ground(alloc: Global) -> Result<Option<Ground>, AllocError>
     ensures { IfOk result (λ o. IfSome o (λ g. IsBoardPass g.board.turnstile.table g.pass)) }
 {
-    let rest = RestTable::new(alloc)?;
+    let tables = Tables::new(alloc)?;
     match new_board(alloc)? {
         None => Ok(None),
-        Some((board, pass)) => Ok(Some(Ground { rest, board, pass })),
+        Some((board, pass)) => Ok(Some(Ground {
+            tables,
+            board,
+            pass,
+        })),
     }
 }
 
@@ -67,11 +71,15 @@ fn visit_on<K: Keeper>(alloc: Global, pair: Pair<K>, ground: Ground) -> Visit<K>
     ensures board { IsBoardPass result.world.board.turnstile.table result.board }
 {
     let Pair { hall, a, b } = pair;
-    let Ground { rest, board, pass } = ground;
+    let Ground {
+        tables,
+        board,
+        pass,
+    } = ground;
     Visit {
         world: World {
             hall,
-            rest,
+            tables,
             capabilities: Words::of(Vec::new(alloc)),
             board,
             traffic: Traffic::new(),

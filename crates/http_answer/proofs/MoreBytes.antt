@@ -4,8 +4,8 @@ use Rattle.std.proofs.lemmas.List.{drop-append-le, take-append-le}
 use Rattle.httparse.proofs.GrammarLemmas.{ReadsResponse-append}
 use Rattle.httparse.proofs.ChunkLemmas.{ReadsChunkLine-append}
 use Rattle.http_answer.specs.declared.fields.Framing.{Framing}
-use Rattle.http_answer.specs.declared.stage.Stage.{Stage}
-use Rattle.http_answer.specs.declared.stage.Stage.TheVariants.{Head, Counted, ToEnd, Chunks}
+use Rattle.http_answer.specs.declared.stage.ReadStage.{ReadStage}
+use Rattle.http_answer.specs.declared.stage.ReadStage.TheVariants.{Head, Counted, ToEnd, Chunks}
 use Rattle.http_answer.specs.declared.unchunking.Cursor.{Cursor}
 use Rattle.http_answer.specs.Heads.{IsGood}
 use Rattle.http_answer.specs.Chunks.{BeginsWithLine, IsChunk, AreChunks, none, more}
@@ -52,7 +52,7 @@ unchunked_more bytes came piece c u =
       count = omega (arith, length-append bytes piece, length-append came piece, u.count);
     }
 
-pub at_more : (bytes came piece : List ℕ) (stage : Stage) → IsAt bytes stage came → IsAt (bytes ++ piece) stage (came ++ piece)
+pub at_more : (bytes came piece : List ℕ) (stage : ReadStage) → IsAt bytes stage came → IsAt (bytes ++ piece) stage (came ++ piece)
 at_more bytes came piece Head at = ap (λ (l : List ℕ). l ++ piece) at
 at_more bytes came piece (Counted start size) at =
     let fits : start ≤ length came = subst (λ (l : List ℕ). start ≤ length l) at.0 at.1 in
@@ -63,7 +63,7 @@ at_more bytes came piece (ToEnd start) at =
 at_more bytes came piece (Chunks c) at = unchunked_more bytes came piece c at
 
 -- as many bytes are held as came
-pub held_all : (bytes came : List ℕ) (stage : Stage) → IsAt bytes stage came → length bytes ≡ length came
+pub held_all : (bytes came : List ℕ) (stage : ReadStage) → IsAt bytes stage came → length bytes ≡ length came
 held_all bytes came Head at = ap (λ (l : List ℕ). length l) at
 held_all bytes came (Counted start size) at = ap (λ (l : List ℕ). length l) at.0
 held_all bytes came (ToEnd start) at = ap (λ (l : List ℕ). length l) at.0

@@ -1,20 +1,20 @@
 -- What is told of the bytes that came.
 use Rattle.std.proofs.Common.{◌≡◌, ℕ, ◌-◌, ◌≤◌, List, ◌++◌, length, length-drop, length-take-le, take, drop, sym, ap, ◌∙◌, subst, arith, refl, false}
 use Rattle.std.proofs.lemmas.List.{take-append-drop}
-use Rattle.http_answer.specs.declared.fault.Fault.{Fault}
-use Rattle.http_answer.specs.declared.fault.Fault.TheVariants as faults
+use Rattle.http_answer.specs.declared.fault.AnswerFault.{AnswerFault}
+use Rattle.http_answer.specs.declared.fault.AnswerFault.TheVariants as faults
 use Rattle.http_answer.specs.declared.fields.Framing.{Framing}
 use Rattle.http_answer.specs.declared.fields.Framing.TheVariants as framings
 use Rattle.http_answer.specs.declared.head.Head.{Head}
-use Rattle.http_answer.specs.declared.stage.Stage.{Stage}
-use Rattle.http_answer.specs.declared.stage.Stage.TheVariants as stages
+use Rattle.http_answer.specs.declared.stage.ReadStage.{ReadStage}
+use Rattle.http_answer.specs.declared.stage.ReadStage.TheVariants as stages
 use Rattle.http_answer.specs.declared.unchunking.Cursor.{Cursor}
 use Rattle.http_answer.specs.Heads.{IsHead, IsGood, IsHeadFault}
 use Rattle.http_answer.specs.Chunks.{none}
 use Rattle.http_answer.specs.Answers.{IsAnswer, IsWaiting, IsFault}
 use Rattle.http_answer.specs.Reading.{IsCounted, IsUnchunked, Waits}
 
-pub head_fault : (limit : ℕ) (came : List ℕ) (fault : Fault) → IsHeadFault came fault → IsFault limit came false fault
+pub head_fault : (limit : ℕ) (came : List ℕ) (fault : AnswerFault) → IsHeadFault came fault → IsFault limit came false fault
 head_fault limit came faults.NotHttp h = h
 head_fault limit came faults.TooManyFields h = h
 head_fault limit came faults.HeadTooLong h = h
@@ -24,7 +24,7 @@ head_fault limit came faults.BrokenChunk h = absurd h
 head_fault limit came faults.TooLong h = absurd h
 head_fault limit came faults.CutOff h = absurd h
 
-pub still_waits : (came : List ℕ) (stage : Stage) → ((start : ℕ) → stage ≡ stages.ToEnd start → ⊥) → Waits stage came → IsWaiting came
+pub still_waits : (came : List ℕ) (stage : ReadStage) → ((start : ℕ) → stage ≡ stages.ToEnd start → ⊥) → Waits stage came → IsWaiting came
 still_waits came stages.Head other waits = waits
 still_waits came (stages.Counted start size) other waits = waits
 still_waits came (stages.ToEnd start) other waits = absurd (other start refl)

@@ -2,8 +2,8 @@
 use Rattle.std.specs.Prelude.{ℕ, ◌≡◌, ◌<◌, ◌⊎◌, List, ◌++◌, length, Bool, true}
 use Rattle.http_answer.specs.Heads.{IsGood, IsUnfinished, IsHeadFault}
 use Rattle.http_answer.specs.Chunks.{AreChunks, IsChunked, IsOpen, IsBroken}
-use Rattle.http_answer.specs.declared.fault.Fault.{Fault}
-use Rattle.http_answer.specs.declared.fault.Fault.TheVariants as faults
+use Rattle.http_answer.specs.declared.fault.AnswerFault.{AnswerFault}
+use Rattle.http_answer.specs.declared.fault.AnswerFault.TheVariants as faults
 use Rattle.http_answer.specs.declared.fields.Framing.{Framing}
 use Rattle.http_answer.specs.declared.fields.Framing.TheVariants.{Length, Chunked, ToEnd}
 
@@ -32,7 +32,7 @@ abbrev pub EndsWithStream : List ℕ → Type 0
 EndsWithStream bytes = (text : List ℕ) × IsGood bytes ToEnd text
 
 -- the bytes are refused for this reason
-abbrev pub IsFault : ℕ → List ℕ → Bool → Fault → Type 0
+abbrev pub IsFault : ℕ → List ℕ → Bool → AnswerFault → Type 0
 IsFault limit bytes ended faults.NotHttp = IsHeadFault bytes faults.NotHttp
 IsFault limit bytes ended faults.TooManyFields = IsHeadFault bytes faults.TooManyFields
 IsFault limit bytes ended faults.HeadTooLong = IsHeadFault bytes faults.HeadTooLong

@@ -2,8 +2,8 @@
 use Rattle.std.specs.Prelude.{ℕ, ◌≡◌, ◌+◌, ◌<◌, ◌≤◌, ◌⊎◌, List, [], ◌∷◌, ◌++◌, length, drop, slice_range}
 use Rattle.httparse.specs.Grammar.{ChunkLine, ReadsChunkLine, HasNoChunkLine, NeverHasChunkLine, MayBecomeChunkLine, chunk_size, LineEnd, Field, ReadsSection, HasNoSection, MayBecomeSection}
 use Rattle.httparse.specs.Spans.{SectionOverflows}
-use Rattle.http_answer.specs.declared.chunks.Chunk.{Chunk}
-use Rattle.http_answer.specs.declared.chunks.Chunk.TheVariants.{Data, Last, Open, Broken}
+use Rattle.http_answer.specs.declared.chunks.ChunkAt.{ChunkAt}
+use Rattle.http_answer.specs.declared.chunks.ChunkAt.TheVariants.{Data, Last, Open, Broken}
 
 -- the text is the line of a chunk of so many bytes, and the rest
 pub record BeginsWithLine (text : List ℕ) (size : ℕ) (rest : List ℕ) : Type 0 where
@@ -64,7 +64,7 @@ pub record IsDataAt (bytes : List ℕ) (at start end : ℕ) : Type 0 where
   pub within : end + 2 ≤ length bytes
 
 -- what stands at a place where a chunk begins
-abbrev pub StandsAt : List ℕ → ℕ → Chunk → Type 0
+abbrev pub StandsAt : List ℕ → ℕ → ChunkAt → Type 0
 StandsAt bytes at (Data start end) = IsDataAt bytes at start end
 StandsAt bytes at (Last end) = IsLastChunk (drop at bytes) (drop end bytes)
 StandsAt bytes at Open = IsOpen (drop at bytes)

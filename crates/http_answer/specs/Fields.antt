@@ -9,8 +9,8 @@ use Rattle.http_answer.specs.declared.fault.Misframed.{Misframed}
 use Rattle.http_answer.specs.declared.fault.Misframed.TheVariants.{NotALength, TwoLengths, OtherCoding, LengthBesideCoding}
 use Rattle.http_answer.specs.declared.fields.Framing.{Framing}
 use Rattle.http_answer.specs.declared.fields.Framing.TheVariants.{Length, Chunked, ToEnd}
-use Rattle.http_answer.specs.declared.fields.Named.{Named}
-use Rattle.http_answer.specs.declared.fields.Named.TheVariants.{Absent, Once, Several}
+use Rattle.http_answer.specs.declared.fields.NamedValues.{NamedValues}
+use Rattle.http_answer.specs.declared.fields.NamedValues.TheVariants.{Absent, Once, Several}
 
 -- the field has that name
 abbrev pub is_named : List ℕ → List ℕ × List ℕ → Bool
@@ -52,7 +52,7 @@ IsLengthOf text None = is_length text ≡ false
 IsLengthOf text (Some n) = (is_length text ≡ true) × (n ≡ digits_value 10 text)
 
 -- the values are none, this one, or several
-abbrev pub AreValues : List (List ℕ) → Named → Type 0
+abbrev pub AreValues : List (List ℕ) → NamedValues → Type 0
 AreValues values Absent = values ≡ []
 AreValues values (Once value) = values ≡ value.now ∷ []
 AreValues values Several = (first : List ℕ) × (second : List ℕ) × (more : List (List ℕ)) × (values ≡ first ∷ second ∷ more)

@@ -6,12 +6,12 @@ use Rattle.httparse.specs.Spans.{ResponseExceeds, IsResponseOf, IsResponseWithin
 use Rattle.httparse.specs.declared.spans.HeaderSpan.{HeaderSpan}
 use Rattle.http_answer.specs.Fields.{field_framing}
 use Rattle.http_answer.specs.declared.fault.Misframed.{Misframed}
-use Rattle.http_answer.specs.declared.fault.Fault.{Fault}
-use Rattle.http_answer.specs.declared.fault.Fault.TheVariants.{NotHttp, TooManyFields, HeadTooLong, Status, Framing, BrokenChunk, TooLong, CutOff}
+use Rattle.http_answer.specs.declared.fault.AnswerFault.{AnswerFault}
+use Rattle.http_answer.specs.declared.fault.AnswerFault.TheVariants.{NotHttp, TooManyFields, HeadTooLong, Status, Framing, BrokenChunk, TooLong, CutOff}
 use Rattle.http_answer.specs.declared.fields.Framing.{Framing as Framed}
 use Rattle.http_answer.specs.declared.head.Head.{Head}
-use Rattle.http_answer.specs.declared.head.Looked.{Looked}
-use Rattle.http_answer.specs.declared.head.Looked.TheVariants.{Whole, Unfinished, Hopeless, TooMany}
+use Rattle.http_answer.specs.declared.head.HeadLook.{HeadLook}
+use Rattle.http_answer.specs.declared.head.HeadLook.TheVariants.{Whole, Unfinished, Hopeless, TooMany}
 
 -- the bytes that a head may take
 abbrev pub front : List ℕ → List ℕ
@@ -40,7 +40,7 @@ pub record IsUnfinished (bytes : List ℕ) : Type 0 where
   pub may_become : MayBecomeResponse (front bytes)
 
 -- the head is refused for this reason
-abbrev pub IsHeadFault : List ℕ → Fault → Type 0
+abbrev pub IsHeadFault : List ℕ → AnswerFault → Type 0
 IsHeadFault bytes NotHttp = NeverHasResponse (front bytes)
 IsHeadFault bytes TooManyFields = ResponseExceeds 64 (front bytes)
 IsHeadFault bytes HeadTooLong = (16384 ≤ length bytes) × IsUnfinished bytes
@@ -56,19 +56,19 @@ pub record IsHead (bytes : List ℕ) (h : Head) : Type 0 where
   pub fits : h.start ≤ length bytes
 
 -- what a look says of the bytes, with room for so many fields
-abbrev pub LooksAs : List ℕ → ℕ → List HeaderSpan → Looked → Type 0
+abbrev pub LooksAs : List ℕ → ℕ → List HeaderSpan → HeadLook → Type 0
 LooksAs bytes room headers (Whole spans) = IsResponseOf bytes headers spans × IsResponseWithin bytes headers spans
 LooksAs bytes room headers Unfinished = HasNoResponse bytes × MayBecomeResponse bytes
 LooksAs bytes room headers Hopeless = NeverHasResponse bytes
 LooksAs bytes room headers TooMany = ResponseExceeds room bytes
 
 -- a head that stands there is taken, or refused
-abbrev pub Frames : List ℕ → Result Head Fault → Type 0
+abbrev pub Frames : List ℕ → Result Head AnswerFault → Type 0
 Frames bytes (Ok head) = IsHead bytes head
 Frames bytes (Err fault) = IsHeadFault bytes fault
 
 -- the same, where the head may still come
-abbrev pub Heads : List ℕ → Result (Option Head) Fault → Type 0
+abbrev pub Heads : List ℕ → Result (Option Head) AnswerFault → Type 0
 Heads bytes (Ok None) = (length bytes < 16384) × IsUnfinished bytes
 Heads bytes (Ok (Some head)) = IsHead bytes head
 Heads bytes (Err fault) = IsHeadFault bytes fault

@@ -5,15 +5,15 @@ use Rattle.http_answer.specs.Heads.{IsGood}
 use Rattle.http_answer.specs.Chunks.{AreChunks}
 use Rattle.http_answer.specs.Unchunking.{IsWithin}
 use Rattle.http_answer.specs.Answers.{IsAnswer, IsWaiting, EndsWithStream, IsFault}
-use Rattle.http_answer.specs.declared.answer.Answer.{Answer}
-use Rattle.http_answer.specs.declared.answer.Taken.{Taken}
-use Rattle.http_answer.specs.declared.answer.Taken.TheVariants.{More, Whole}
+use Rattle.http_answer.specs.declared.answer.HttpAnswer.{HttpAnswer}
+use Rattle.http_answer.specs.declared.answer.AnswerSoFar.{AnswerSoFar}
+use Rattle.http_answer.specs.declared.answer.AnswerSoFar.TheVariants.{More, Whole}
 use Rattle.http_answer.specs.declared.answer.AnswerError.{AnswerError}
 use Rattle.http_answer.specs.declared.answer.AnswerError.TheVariants.{Refused, OutOfMemory}
-use Rattle.http_answer.specs.declared.fault.Fault.{Fault}
+use Rattle.http_answer.specs.declared.fault.AnswerFault.{AnswerFault}
 use Rattle.http_answer.specs.declared.fields.Framing.TheVariants as framings
-use Rattle.http_answer.specs.declared.stage.Stage.{Stage}
-use Rattle.http_answer.specs.declared.stage.Stage.TheVariants.{Head, Counted, ToEnd, Chunks}
+use Rattle.http_answer.specs.declared.stage.ReadStage.{ReadStage}
+use Rattle.http_answer.specs.declared.stage.ReadStage.TheVariants.{Head, Counted, ToEnd, Chunks}
 use Rattle.http_answer.specs.declared.unchunking.Cursor.{Cursor}
 
 -- the data of the chunks that came stand at the front, and what follows them from a place on
@@ -29,37 +29,37 @@ abbrev pub IsCounted : List ℕ → ℕ → ℕ → List ℕ → Type 0
 IsCounted bytes start size came = (bytes ≡ came) × (start ≤ length bytes) × IsGood came (framings.Length size) (drop start came)
 
 -- the bytes are held that came, read as far as the stage says
-abbrev pub IsAt : List ℕ → Stage → List ℕ → Type 0
+abbrev pub IsAt : List ℕ → ReadStage → List ℕ → Type 0
 IsAt bytes Head came = bytes ≡ came
 IsAt bytes (Counted start size) came = IsCounted bytes start size came
 IsAt bytes (ToEnd start) came = (bytes ≡ came) × (start ≤ length bytes) × IsGood came framings.ToEnd (drop start came)
 IsAt bytes (Chunks c) came = IsUnchunked bytes c came
 
 -- the bytes that came are no whole answer, unless the stream ends
-abbrev pub Waits : Stage → List ℕ → Type 0
+abbrev pub Waits : ReadStage → List ℕ → Type 0
 Waits Head came = IsWaiting came
 Waits (Counted start size) came = IsWaiting came
 Waits (ToEnd start) came = ⊤
 Waits (Chunks c) came = IsWaiting came
 
 -- these bytes came, and are no whole answer unless the stream ends
-pub record IsReading (a : Answer) (came : List ℕ) : Type 0 where
+pub record IsReading (a : HttpAnswer) (came : List ℕ) : Type 0 where
   pub at : IsAt a.bytes.items a.stage came
   pub waits : Waits a.stage came
 
 -- what is told of the bytes that came, where the stream didn't end
-abbrev pub Goes : ℕ → List ℕ → Result Taken Fault → Type 0
+abbrev pub Goes : ℕ → List ℕ → Result AnswerSoFar AnswerFault → Type 0
 Goes limit came (Ok (More a)) = IsReading a came × (a.limit ≡ limit) × (IsWaiting came ⊎ EndsWithStream came)
 Goes limit came (Ok (Whole body)) = IsAnswer came false body.items
 Goes limit came (Err fault) = IsFault limit came false fault
 
 -- the same, where memory may run out: no more bytes are taken than the limit
-abbrev pub Takes : ℕ → List ℕ → Result Taken AnswerError → Type 0
+abbrev pub Takes : ℕ → List ℕ → Result AnswerSoFar AnswerError → Type 0
 Takes limit came (Ok taken) = (length came ≤ limit) × Goes limit came (Ok taken)
 Takes limit came (Err (Refused fault)) = Goes limit came (Err fault)
 Takes limit came (Err OutOfMemory) = ⊤
 
 -- what is told of the bytes that came, where the stream ended
-abbrev pub Ends : ℕ → List ℕ → Result (Vec ℕ Global) Fault → Type 0
+abbrev pub Ends : ℕ → List ℕ → Result (Vec ℕ Global) AnswerFault → Type 0
 Ends limit came (Ok body) = IsAnswer came true body.items
 Ends limit came (Err fault) = IsFault limit came true fault

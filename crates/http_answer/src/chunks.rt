@@ -7,7 +7,7 @@ use httparse::{Status, parse_chunk_size};
 
 /// What stands at a place of a body where a chunk begins.
 #[derive(Clone, Copy)]
-pub enum Chunk {
+pub enum ChunkAt {
     /// A chunk whose data have these bounds; the next one begins two bytes behind them.
     Data(usize, usize),
     /// The last chunk and the trailer, which end there.
@@ -27,37 +27,37 @@ fn ends_line(bytes: &[u8], at: usize) -> bool
 }
 
 /// What stands behind the line of the last chunk, which ends at this place.
-fn trailer_at(bytes: &[u8], from: usize, at: usize) -> Chunk
+fn trailer_at(bytes: &[u8], from: usize, at: usize) -> ChunkAt
     requires { IsLineAt bytes.now from at 0 }
     ensures { StandsAt bytes.now from result }
 {
     let mut headers = [EMPTY_HEADER_SPAN; 64];
     match parse_headers_from(bytes, at, &mut headers) {
-        Ok(Status::Complete((end, _))) => Chunk::Last(end),
-        Ok(Status::Partial) => Chunk::Open,
-        Err(_) => Chunk::Broken,
+        Ok(Status::Complete((end, _))) => ChunkAt::Last(end),
+        Ok(Status::Partial) => ChunkAt::Open,
+        Err(_) => ChunkAt::Broken,
     }
 }
 
 /// What stands behind the line of a chunk of so many bytes, which ends at this place.
-fn data_at(bytes: &[u8], from: usize, at: usize, size: u64) -> Chunk
+fn data_at(bytes: &[u8], from: usize, at: usize, size: u64) -> ChunkAt
     requires some { 0 < size }
     requires line { IsLineAt bytes.now from at size }
     ensures { StandsAt bytes.now from result }
 {
     let left = bytes.len() - at;
     if left < 2 || ((left - 2) as u64) < size {
-        return Chunk::Open;
+        return ChunkAt::Open;
     }
     let end = at + size as usize;
     if ends_line(bytes, end) {
-        return Chunk::Data(at, end);
+        return ChunkAt::Data(at, end);
     }
-    Chunk::Broken
+    ChunkAt::Broken
 }
 
 /// What stands at this place, where a chunk begins.
-pub fn chunk_at(bytes: &[u8], at: usize) -> Chunk
+pub fn chunk_at(bytes: &[u8], at: usize) -> ChunkAt
     requires { at ≤ length bytes.now }
     ensures { StandsAt bytes.now at result }
 {
@@ -69,7 +69,7 @@ pub fn chunk_at(bytes: &[u8], at: usize) -> Chunk
                 data_at(bytes, at, at + len, size)
             }
         }
-        Ok(Status::Partial) => Chunk::Open,
-        Err(_) => Chunk::Broken,
+        Ok(Status::Partial) => ChunkAt::Open,
+        Err(_) => ChunkAt::Broken,
     }
 }

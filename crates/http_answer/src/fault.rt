@@ -15,7 +15,7 @@ pub enum Misframed {
 
 /// Why an answer is refused.
 #[derive(Clone, Copy, Debug, PartialEq, Eq)]
-pub enum Fault {
+pub enum AnswerFault {
     /// No answer of HTTP/1.0 or 1.1 begins so.
     NotHttp,
     /// The head has more than 64 fields.

@@ -20,7 +20,7 @@ pub enum Framing {
 
 /// The values of the fields of one name.
 #[derive(Clone, Copy)]
-enum Named<'a> {
+enum NamedValues<'a> {
     Absent,
     Once(&'a [u8]),
     Several,
@@ -42,7 +42,7 @@ fn is_field(bytes: &[u8], header: &HeaderSpan, name: &[u8]) -> bool
 }
 
 /// The values of the fields of that name.
-fn values_under<'a>(bytes: &'a [u8], headers: &[HeaderSpan], name: &[u8]) -> Named<'a>
+fn values_under<'a>(bytes: &'a [u8], headers: &[HeaderSpan], name: &[u8]) -> NamedValues<'a>
     requires { All (IsHeaderWithin (length bytes.now)) headers.now }
     ensures { AreValues (values name.now (map (header_bytes bytes.now) headers.now)) result }
 {
@@ -50,14 +50,14 @@ fn values_under<'a>(bytes: &'a [u8], headers: &[HeaderSpan], name: &[u8]) -> Nam
     for header in headers {
         if is_field(bytes, header, name) {
             if found.is_some() {
-                return Named::Several;
+                return NamedValues::Several;
             }
             found = Some(header.value.of(bytes));
         }
     }
     match found {
-        Some(value) => Named::Once(value),
-        None => Named::Absent,
+        Some(value) => NamedValues::Once(value),
+        None => NamedValues::Absent,
     }
 }
 
@@ -79,16 +79,16 @@ fn length_of(text: &[u8]) -> Option<u64>
 }
 
 /// How the body ends that has no coding.
-fn length_framing(length: Named) -> Result<Framing, Misframed>
+fn length_framing(length: NamedValues) -> Result<Framing, Misframed>
     ensures { (lengths : List (List ℕ)) → AreValues lengths length.entry → result ≡ length_framing lengths }
 {
     match length {
-        Named::Absent => Ok(Framing::ToEnd),
-        Named::Once(text) => match length_of(text) {
+        NamedValues::Absent => Ok(Framing::ToEnd),
+        NamedValues::Once(text) => match length_of(text) {
             Some(size) => Ok(Framing::Length(size)),
             None => Err(Misframed::NotALength),
         },
-        Named::Several => Err(Misframed::TwoLengths),
+        NamedValues::Several => Err(Misframed::TwoLengths),
     }
 }
 
@@ -103,20 +103,20 @@ fn coded_framing(minor: u8, coding: &[u8]) -> Result<Framing, Misframed>
 }
 
 /// How the body ends that these values frame.
-fn framing_by(minor: u8, length: Named, coding: Named) -> Result<Framing, Misframed>
+fn framing_by(minor: u8, length: NamedValues, coding: NamedValues) -> Result<Framing, Misframed>
     ensures { (lengths codings : List (List ℕ)) → AreValues lengths length.entry → AreValues codings coding.entry → result ≡ framing_of minor lengths codings }
 {
     match coding {
-        Named::Absent => length_framing(length),
-        Named::Once(coding) => match length {
-            Named::Absent => coded_framing(minor, coding),
-            Named::Once(_) => Err(Misframed::LengthBesideCoding),
-            Named::Several => Err(Misframed::LengthBesideCoding),
+        NamedValues::Absent => length_framing(length),
+        NamedValues::Once(coding) => match length {
+            NamedValues::Absent => coded_framing(minor, coding),
+            NamedValues::Once(_) => Err(Misframed::LengthBesideCoding),
+            NamedValues::Several => Err(Misframed::LengthBesideCoding),
         },
-        Named::Several => match length {
-            Named::Absent => Err(Misframed::OtherCoding),
-            Named::Once(_) => Err(Misframed::LengthBesideCoding),
-            Named::Several => Err(Misframed::LengthBesideCoding),
+        NamedValues::Several => match length {
+            NamedValues::Absent => Err(Misframed::OtherCoding),
+            NamedValues::Once(_) => Err(Misframed::LengthBesideCoding),
+            NamedValues::Several => Err(Misframed::LengthBesideCoding),
         },
     }
 }

@@ -3,7 +3,7 @@ ghost use Rattle.std.specs.Prelude.{◌≡◌, length};
 ghost use Rattle.http_answer.specs.Heads.{front, LooksAs, Frames, Heads};
 ghost use Rattle.httparse.specs.Spans.{IsResponseOf, IsResponseWithin};
 
-use crate::fault::Fault;
+use crate::fault::AnswerFault;
 use crate::fields::{Framing, framing_of};
 use httparse::spans::{EMPTY_HEADER_SPAN, HeaderSpan, ResponseSpans, parse_response};
 use httparse::{Error, Status};
@@ -13,7 +13,7 @@ const HEAD_LIMIT: usize = 16384;
 
 /// What the front of the bytes is.
 #[derive(Clone, Copy)]
-enum Looked {
+enum HeadLook {
     Whole(ResponseSpans),
     Unfinished,
     Hopeless,
@@ -28,14 +28,14 @@ pub struct Head {
     pub framing: Framing,
 }
 
-fn look(bytes: &[u8], headers: &mut [HeaderSpan]) -> Looked
+fn look(bytes: &[u8], headers: &mut [HeaderSpan]) -> HeadLook
     ensures { LooksAs bytes.now (length headers.old) headers.new result }
 {
     match parse_response(bytes, headers) {
-        Ok(Status::Complete(spans)) => Looked::Whole(spans),
-        Ok(Status::Partial) => Looked::Unfinished,
-        Err(Error::TooManyHeaders) => Looked::TooMany,
-        Err(_) => Looked::Hopeless,
+        Ok(Status::Complete(spans)) => HeadLook::Whole(spans),
+        Ok(Status::Partial) => HeadLook::Unfinished,
+        Err(Error::TooManyHeaders) => HeadLook::TooMany,
+        Err(_) => HeadLook::Hopeless,
     }
 }
 
@@ -48,14 +48,14 @@ fn front_of(bytes: &[u8]) -> &[u8]
 }
 
 /// What is taken of the head that stands at the front of the bytes.
-fn framed(bytes: &[u8], headers: &[HeaderSpan], spans: ResponseSpans) -> Result<Head, Fault>
+fn framed(bytes: &[u8], headers: &[HeaderSpan], spans: ResponseSpans) -> Result<Head, AnswerFault>
     requires is { IsResponseOf (front bytes.now) headers.now spans }
     requires within { IsResponseWithin (front bytes.now) headers.now spans }
     requires room { length headers.now ≡ 64 }
     ensures { Frames bytes.now result }
 {
     if spans.code != 200 {
-        return Err(Fault::Status(spans.code));
+        return Err(AnswerFault::Status(spans.code));
     }
     let first = front_of(bytes);
     let (fields, _) = headers.split_at(spans.headers);
@@ -64,28 +64,28 @@ fn framed(bytes: &[u8], headers: &[HeaderSpan], spans: ResponseSpans) -> Result<
             start: spans.len,
             framing,
         }),
-        Err(fault) => Err(Fault::Framing(fault)),
+        Err(fault) => Err(AnswerFault::Framing(fault)),
     }
 }
 
 /// The head of the answer that begins with these bytes; `None` where more bytes may make one.
-pub fn head_of(bytes: &[u8]) -> Result<Option<Head>, Fault>
+pub fn head_of(bytes: &[u8]) -> Result<Option<Head>, AnswerFault>
     ensures { Heads bytes.now result }
 {
     let mut headers = [EMPTY_HEADER_SPAN; 64];
     match look(front_of(bytes), &mut headers) {
-        Looked::Whole(spans) => match framed(bytes, &headers, spans) {
+        HeadLook::Whole(spans) => match framed(bytes, &headers, spans) {
             Ok(head) => Ok(Some(head)),
             Err(fault) => Err(fault),
         },
-        Looked::Unfinished => {
+        HeadLook::Unfinished => {
             if bytes.len() < HEAD_LIMIT {
                 Ok(None)
             } else {
-                Err(Fault::HeadTooLong)
+                Err(AnswerFault::HeadTooLong)
             }
         }
-        Looked::Hopeless => Err(Fault::NotHttp),
-        Looked::TooMany => Err(Fault::TooManyFields),
+        HeadLook::Hopeless => Err(AnswerFault::NotHttp),
+        HeadLook::TooMany => Err(AnswerFault::TooManyFields),
     }
 }

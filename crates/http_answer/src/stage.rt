@@ -4,15 +4,15 @@ ghost use Rattle.http_answer.specs.Heads.{IsHead};
 ghost use Rattle.http_answer.specs.Reading.{IsAt, IsCounted, IsUnchunked, Goes};
 ghost use Rattle.http_answer.specs.Unchunking.{IsWithin};
 
-use crate::answer::{Answer, Taken};
-use crate::fault::Fault;
+use crate::answer::{AnswerSoFar, HttpAnswer};
+use crate::fault::AnswerFault;
 use crate::fields::Framing;
 use crate::head::{Head, head_of};
 use crate::unchunking::{Cursor, Unchunked, unchunk};
 
 /// How far an answer was read.
 #[derive(Clone, Copy)]
-pub enum Stage {
+pub enum ReadStage {
     /// The head may still come.
     Head,
     /// The body begins there, and has so many bytes.
@@ -34,41 +34,46 @@ pub fn part(mut bytes: Vec<u8>, start: usize, size: usize) -> Vec<u8>
 }
 
 /// The body of so many bytes from a place on, or the wait for it.
-fn counted(bytes: Vec<u8>, limit: usize, start: usize, size: u64) -> Result<Taken, Fault>
+fn counted(
+    bytes: Vec<u8>,
+    limit: usize,
+    start: usize,
+    size: u64,
+) -> Result<AnswerSoFar, AnswerFault>
     requires { start ≤ length bytes.items }
     ensures { (came : List ℕ) → IsCounted bytes.items start size came → Goes limit came result }
 {
     if ((bytes.len() - start) as u64) < size {
-        return Ok(Taken::More(Answer {
+        return Ok(AnswerSoFar::More(HttpAnswer {
             bytes,
             limit,
-            stage: Stage::Counted(start, size),
+            stage: ReadStage::Counted(start, size),
         }));
     }
-    Ok(Taken::Whole(part(bytes, start, size as usize)))
+    Ok(AnswerSoFar::Whole(part(bytes, start, size as usize)))
 }
 
 /// The body of the chunks that came, or the wait for more.
-fn chunked(mut bytes: Vec<u8>, limit: usize, from: Cursor) -> Result<Taken, Fault>
+fn chunked(mut bytes: Vec<u8>, limit: usize, from: Cursor) -> Result<AnswerSoFar, AnswerFault>
     requires { IsWithin (length bytes.items) from }
     ensures { (came : List ℕ) → IsUnchunked bytes.items from came → Goes limit came result }
 {
     match unchunk(&mut bytes, from) {
-        Unchunked::Open(cursor) => Ok(Taken::More(Answer {
+        Unchunked::Open(cursor) => Ok(AnswerSoFar::More(HttpAnswer {
             bytes,
             limit,
-            stage: Stage::Chunks(cursor),
+            stage: ReadStage::Chunks(cursor),
         })),
         Unchunked::Whole(to) => {
             bytes.truncate(to);
-            Ok(Taken::Whole(bytes))
+            Ok(AnswerSoFar::Whole(bytes))
         }
-        Unchunked::Broken => Err(Fault::BrokenChunk),
+        Unchunked::Broken => Err(AnswerFault::BrokenChunk),
     }
 }
 
 /// What comes of the bytes behind a head.
-fn framed(bytes: Vec<u8>, limit: usize, head: Head) -> Result<Taken, Fault>
+fn framed(bytes: Vec<u8>, limit: usize, head: Head) -> Result<AnswerSoFar, AnswerFault>
     requires { IsHead bytes.items head }
     ensures { Goes limit bytes.items result }
 {
@@ -81,35 +86,35 @@ fn framed(bytes: Vec<u8>, limit: usize, head: Head) -> Result<Taken, Fault>
             };
             chunked(bytes, limit, from)
         }
-        Framing::ToEnd => Ok(Taken::More(Answer {
+        Framing::ToEnd => Ok(AnswerSoFar::More(HttpAnswer {
             bytes,
             limit,
-            stage: Stage::ToEnd(head.start),
+            stage: ReadStage::ToEnd(head.start),
         })),
     }
 }
 
 /// What comes of the bytes that came, of which those before the last piece were read as far as the stage says.
-pub fn go_on(bytes: Vec<u8>, limit: usize, stage: Stage) -> Result<Taken, Fault>
+pub fn go_on(bytes: Vec<u8>, limit: usize, stage: ReadStage) -> Result<AnswerSoFar, AnswerFault>
     requires { (came : List ℕ) × IsAt bytes.items stage came }
     ensures { (came : List ℕ) → IsAt bytes.items stage came → Goes limit came result }
 {
     match stage {
-        Stage::Head => match head_of(bytes.as_slice()) {
+        ReadStage::Head => match head_of(bytes.as_slice()) {
             Ok(Some(head)) => framed(bytes, limit, head),
-            Ok(None) => Ok(Taken::More(Answer {
+            Ok(None) => Ok(AnswerSoFar::More(HttpAnswer {
                 bytes,
                 limit,
-                stage: Stage::Head,
+                stage: ReadStage::Head,
             })),
             Err(fault) => Err(fault),
         },
-        Stage::Counted(start, size) => counted(bytes, limit, start, size),
-        Stage::ToEnd(start) => Ok(Taken::More(Answer {
+        ReadStage::Counted(start, size) => counted(bytes, limit, start, size),
+        ReadStage::ToEnd(start) => Ok(AnswerSoFar::More(HttpAnswer {
             bytes,
             limit,
-            stage: Stage::ToEnd(start),
+            stage: ReadStage::ToEnd(start),
         })),
-        Stage::Chunks(cursor) => chunked(bytes, limit, cursor),
+        ReadStage::Chunks(cursor) => chunked(bytes, limit, cursor),
     }
 }

@@ -2,7 +2,7 @@
 ghost use Rattle.std.specs.Prelude.{◌≡◌, length};
 ghost use Rattle.http_answer.specs.Unchunking.{IsWithin, Unchunks};
 
-use crate::chunks::{Chunk, chunk_at};
+use crate::chunks::{ChunkAt, chunk_at};
 
 /// How far the chunks were taken.
 #[derive(Clone, Copy)]
@@ -34,14 +34,14 @@ fn unchunk_slice(bytes: &mut [u8], from: Cursor) -> Unchunked
     let mut at = from.at;
     'chunks: loop {
         match chunk_at(bytes, at) {
-            Chunk::Data(start, end) => {
+            ChunkAt::Data(start, end) => {
                 bytes.copy_within(start..end, to);
                 to += end - start;
                 at = end + 2;
             }
-            Chunk::Last(_) => return Unchunked::Whole(to),
-            Chunk::Open => return Unchunked::Open(Cursor { to, at }),
-            Chunk::Broken => return Unchunked::Broken,
+            ChunkAt::Last(_) => return Unchunked::Whole(to),
+            ChunkAt::Open => return Unchunked::Open(Cursor { to, at }),
+            ChunkAt::Broken => return Unchunked::Broken,
         }
     }
 }

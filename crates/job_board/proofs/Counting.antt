@@ -3,7 +3,7 @@ use Rattle.std.proofs.Common.{◌≡◌, ◌∙◌, ◌≢◌, ℕ, suc, ◌+◌
 use Rattle.std.proofs.lemmas.List.Sums.{get_or-le-sum_by, sum_by-append, sum_by-cons, sum_by_push}
 use mathlib.Core.Logic.{dite}
 use native.Mathlib.Decide.{ℕ_discrete}
-use Rattle.job_board.specs.declared.standing.Account.{Account}
+use Rattle.job_board.specs.declared.standing.HandAccount.{HandAccount}
 use Rattle.job_board.specs.Standings.{times}
 use Rattle.job_board.specs.Hands.{AreReports}
 use Rattle.job_board.specs.SheetCalls.{one_done, one_failed}
@@ -68,7 +68,7 @@ no_longer (x ∷ xs) ys less =
 
 -- A REPORT
 
-module _ (a : Account) (done failed : List ℕ) (reports : AreReports a done failed) (place : ℕ) (claimed : Contains a.claimed place) (not_done : ¬ (Contains done place)) (not_failed : ¬ (Contains failed place)) where
+module _ (a : HandAccount) (done failed : List ℕ) (reports : AreReports a done failed) (place : ℕ) (claimed : Contains a.claimed place) (not_done : ¬ (Contains done place)) (not_failed : ¬ (Contains failed place)) where
   -- the place can be reported once more
   room : (p : ℕ) → one_at p place + times p done + times p failed ≤ times p a.claimed
   room p = dite (ℕ_discrete place p)

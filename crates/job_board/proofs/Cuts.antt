@@ -4,10 +4,10 @@ use mathlib.Core.Option.{some, some-injective, some-ne-none}
 use lib.ListN.{get_elem?}
 use Rattle.atomic_table.specs.Table.{Splits, Joins, opening}
 use Rattle.atomic_table.proofs.Lists.{at_set, set_else}
-use Rattle.job_board.specs.declared.standing.Account.{Account}
-use Rattle.job_board.specs.declared.standing.Standing.{Standing}
-use Rattle.job_board.specs.declared.view.Size.{Size}
-use Rattle.job_board.specs.declared.view.View.{View}
+use Rattle.job_board.specs.declared.standing.HandAccount.{HandAccount}
+use Rattle.job_board.specs.declared.standing.SheetStanding.{SheetStanding}
+use Rattle.job_board.specs.declared.view.SheetSize.{SheetSize}
+use Rattle.job_board.specs.declared.view.SeatView.{SeatView}
 use Rattle.job_board.specs.Standings.{vain}
 use Rattle.job_board.specs.Hands.{fresh_standing}
 use Rattle.job_board.specs.Views.{Owns, claim_word, dealer, dealt_to, hearing, note_of, one_less, spent}
@@ -19,11 +19,11 @@ use Rattle.job_board.proofs.Rules.{changed, joined}
 none_some : (k : ℕ) → ◌≡◌ {A = Option ℕ} None (Some k) → ⊥
 none_some k e = absurd (cc)
 
-module _ {S : Type 0} (size : Size) where
+module _ {S : Type 0} (size : SheetSize) where
   -- A SEAT IS CUT IN TWO
 
   -- the two parts know what the seat knew, and answer for different numbers of those that it answered for
-  cuts : (id : ℕ) (v left right : View) → ((now : Standing) → Fits size now v → Fits size now left × Fits size now right)
+  cuts : (id : ℕ) (v left right : SeatView) → ((now : SheetStanding) → Fits size now v → Fits size now left × Fits size now right)
       → ((k : ℕ) → Owns left k → Owns v k) → ((k : ℕ) → Owns right k → Owns v k) → ((k : ℕ) → Owns left k → Owns right k → ⊥) → Splits (Kept {S = S} size) id v left right
   unfolding changed
   cuts id v left right fits less less' apart s r at =
@@ -31,11 +31,11 @@ module _ {S : Type 0} (size : Size) where
       let cut = changed size s r id v left at r.now s.words r.words r.sound (same_standing r.now) (λ k _. refl) f.0 less in
       joined size record { words = s.words; homes = s.homes; views = set s.views id left } cut right f.1
       (λ k at' u e mine theirs. ⊎_elim
-      (λ (t : (at' ≡ id) × (left ≡ u)). apart k (subst (λ (z : View). Owns z k) (sym t.1) theirs) mine)
+      (λ (t : (at' ≡ id) × (left ≡ u)). apart k (subst (λ (z : SeatView). Owns z k) (sym t.1) theirs) mine)
       (λ (t : (at' ≢ id) × (get_elem? s.views at' ≡ some u)). t.0 (r.alone at' id u v k t.1 at theirs (less' k mine)))
       (at_set s.views id at' left u e))
 
-  pub notes_of : (id : ℕ) (v : View) → Splits (Kept {S = S} size) id v v (note_of v)
+  pub notes_of : (id : ℕ) (v : SeatView) → Splits (Kept {S = S} size) id v v (note_of v)
   notes_of id v = cuts id v v (note_of v)
       (λ now f. (f, record { size_is = f.size_is; saw = f.saw; heard = f.heard; owns = λ k o. absurd (nothing k o) }))
       (λ k o. o) (λ k o. absurd (nothing k o)) (λ k _ o. nothing k o)
@@ -44,7 +44,7 @@ module _ {S : Type 0} (size : Size) where
       nothing k (inl e) = none_some k e
       nothing k (inr (le, lt)) = absurd (omega arith)
 
-  pub deals_of : (id : ℕ) (v : View) → v.number ≡ None → v.dealt < v.hands → Splits (Kept {S = S} size) id v (one_less v) (dealt_to v)
+  pub deals_of : (id : ℕ) (v : SeatView) → v.number ≡ None → v.dealt < v.hands → Splits (Kept {S = S} size) id v (one_less v) (dealt_to v)
   deals_of id v none some_left = cuts id v (one_less v) (dealt_to v)
       (λ now f. (
         record { size_is = f.size_is; saw = f.saw; heard = f.heard; owns = λ k o. f.owns k (left_less k o) },
@@ -69,7 +69,7 @@ module _ {S : Type 0} (size : Size) where
 
   -- A SEAT HEARS A NOTE
 
-  pub hears_of : (id : ℕ) (v : View) (other : ℕ) (w : View) → Joins (Kept {S = S} size) id v other w (hearing v w) spent
+  pub hears_of : (id : ℕ) (v : SeatView) (other : ℕ) (w : SeatView) → Joins (Kept {S = S} size) id v other w (hearing v w) spent
   unfolding changed
   hears_of id v other w s r at apart there =
       let b = hearing v w in
@@ -88,11 +88,11 @@ module _ {S : Type 0} (size : Size) where
 
 -- THE START
 
-alone_at : (v : View) (at : ℕ) (u : View) → get_elem? (v ∷ []) at ≡ some u → (at ≡ 0) × (v ≡ u)
+alone_at : (v : SeatView) (at : ℕ) (u : SeatView) → get_elem? (v ∷ []) at ≡ some u → (at ≡ 0) × (v ≡ u)
 alone_at v zero u e = (refl, some-injective v u e)
 alone_at v (suc at) u e = absurd (some-ne-none u (sym e))
 
-begins_fitting : (size : Size) → Fits size (fresh_standing size.hands) (dealer size 0)
+begins_fitting : (size : SheetSize) → Fits size (fresh_standing size.hands) (dealer size 0)
 begins_fitting size = record {
   size_is = λ _. (refl, refl);
   saw = same_standing (fresh_standing size.hands);
@@ -104,15 +104,15 @@ begins_fitting size = record {
     below k (inl e) = absurd (none_some k e)
     below k (inr (le, lt)) = lt
 
-pub begins : {S : Type 0} (size : Size) → Kept {S = S} size (opening (0 ∷ 0 ∷ 0 ∷ []) [] (dealer size 0))
+pub begins : {S : Type 0} (size : SheetSize) → Kept {S = S} size (opening (0 ∷ 0 ∷ 0 ∷ []) [] (dealer size 0))
 begins size = record {
   now = fresh_standing size.hands;
   sound = nothing_sound size.places size.hands;
   words =
-      let a = no_sum size.hands (λ (a : Account). length a.claimed) refl in
-      let b = no_sum size.hands (λ (a : Account). vain a.end) refl in
-      let c = no_sum size.hands (λ (a : Account). a.done) refl in
-      let d = no_sum size.hands (λ (a : Account). a.failed) refl in
+      let a = no_sum size.hands (λ (a : HandAccount). length a.claimed) refl in
+      let b = no_sum size.hands (λ (a : HandAccount). vain a.end) refl in
+      let c = no_sum size.hands (λ (a : HandAccount). a.done) refl in
+      let d = no_sum size.hands (λ (a : HandAccount). a.failed) refl in
       let w : 0 ≡ claim_word (fresh_standing size.hands) = omega arith in
       λ i. w i ∷ sym c i ∷ sym d i ∷ [];
   each = λ at u e. subst (Fits size (fresh_standing size.hands)) (alone_at (dealer size 0) at u e).1 (begins_fitting size);

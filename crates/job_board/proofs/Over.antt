@@ -6,7 +6,7 @@ use mathlib.Core.Logic.{dite}
 use native.Mathlib.Decide.{ℕ_discrete}
 use Rattle.job_board.specs.declared.progress.Progress.{Progress}
 use Rattle.job_board.specs.SheetCalls.{HasEnded, StaysEnded}
-use Rattle.job_board.specs.Hands.{Holding, Sheet}
+use Rattle.job_board.specs.Hands.{Sheet, SheetHolding}
 use Rattle.job_board.specs.declared.posted.Posted.{Posted}
 use Rattle.job_board.specs.declared.posted.WatchedJob.{WatchedJob}
 use Rattle.job_board.specs.declared.shown.Command.{Command}
@@ -14,7 +14,7 @@ use Rattle.job_board.specs.declared.shown.Command.TheVariants as command
 use Rattle.job_board.specs.declared.shown.Reply.{Reply}
 use Rattle.job_board.specs.declared.shown.Reply.TheVariants as reply
 use Rattle.job_board.specs.declared.shown.Shown.{Shown}
-use Rattle.job_board.specs.Boards.{Finishes, IsFinished, IsOver, KeepsOver, Looks, MayReply, Stops, Submits, TakesNext, TellsOfEnd, watch_of, with_watch}
+use Rattle.job_board.specs.Boards.{BoardMayReply, Finishes, IsFinished, IsOver, KeepsOver, Looks, Stops, Submits, TakesNext, TellsOfEnd, watch_of, with_watch}
 use Rattle.job_board.proofs.Watches.{is_zero, not_zero}
 
 -- WATCHES
@@ -22,38 +22,38 @@ use Rattle.job_board.proofs.Watches.{is_zero, not_zero}
 none_some : {X : Type 0} {x : X} → None ≡ Some x → ⊥
 none_some e = cc
 
-watch_at : (b : Shown) (n : ℕ) (w : Holding) → watch_of b n ≡ Some w → (n ≢ 0) × (slice_get b.watches (n - 1) ≡ Some w)
+watch_at : (b : Shown) (n : ℕ) (w : SheetHolding) → watch_of b n ≡ Some w → (n ≢ 0) × (slice_get b.watches (n - 1) ≡ Some w)
 watch_at b n w e = dite (ℕ_discrete n 0)
     (λ is. absurd (none_some (sym (ap (λ (t : Bool). if t then None else slice_get b.watches (n - 1)) (is_zero n is)) ∙ e)))
     (λ above. (above, sym (ap (λ (t : Bool). if t then None else slice_get b.watches (n - 1)) (not_zero n above)) ∙ e))
 
-watch_there : (b : Shown) (n : ℕ) (w : Holding) → n ≢ 0 → slice_get b.watches (n - 1) ≡ Some w → watch_of b n ≡ Some w
+watch_there : (b : Shown) (n : ℕ) (w : SheetHolding) → n ≢ 0 → slice_get b.watches (n - 1) ≡ Some w → watch_of b n ≡ Some w
 watch_there b n w above e = ap (λ (t : Bool). if t then None else slice_get b.watches (n - 1)) (not_zero n above) ∙ e
 
-get_set : (ws : List Holding) (i : ℕ) (w : Holding) → i < length ws → slice_get (slice_set ws i w) i ≡ Some w
+get_set : (ws : List SheetHolding) (i : ℕ) (w : SheetHolding) → i < length ws → slice_get (slice_set ws i w) i ≡ Some w
 get_set [] i w below = absurd (omega arith)
 get_set (x ∷ ws) zero w below = refl
 get_set (x ∷ ws) (suc i) w below = get_set ws i w (omega arith)
 
-get_else : (ws : List Holding) (i j : ℕ) (w : Holding) → i ≢ j → slice_get (slice_set ws i w) j ≡ slice_get ws j
+get_else : (ws : List SheetHolding) (i j : ℕ) (w : SheetHolding) → i ≢ j → slice_get (slice_set ws i w) j ≡ slice_get ws j
 get_else [] i j w ne = refl
 get_else (x ∷ ws) zero zero w ne = absurd (ne refl)
 get_else (x ∷ ws) zero (suc j) w ne = refl
 get_else (x ∷ ws) (suc i) zero w ne = refl
 get_else (x ∷ ws) (suc i) (suc j) w ne = get_else ws i j w (λ e. ne (ap suc e))
 
-get_more : (ws : List Holding) (i : ℕ) (v w : Holding) → slice_get ws i ≡ Some w → slice_get (ws ++ v ∷ []) i ≡ Some w
+get_more : (ws : List SheetHolding) (i : ℕ) (v w : SheetHolding) → slice_get ws i ≡ Some w → slice_get (ws ++ v ∷ []) i ≡ Some w
 get_more [] i v w e = absurd (none_some e)
 get_more (x ∷ ws) zero v w e = e
 get_more (x ∷ ws) (suc i) v w e = get_more ws i v w e
 
 -- the watch that was put there, and each other one
-set_here : (b : Shown) (n : ℕ) (watch left : Holding) → watch_of b n ≡ Some watch → watch_of (with_watch n left b) n ≡ Some left
+set_here : (b : Shown) (n : ℕ) (watch left : SheetHolding) → watch_of b n ≡ Some watch → watch_of (with_watch n left b) n ≡ Some left
 set_here b n watch left e =
     let at = watch_at b n watch e in
     watch_there (with_watch n left b) n left at.0 (get_set b.watches (n - 1) left (slice_get_within b.watches (n - 1) watch at.1))
 
-set_else : (b : Shown) (m n : ℕ) (watch left w : Holding) → m ≢ n → watch_of b m ≡ Some watch → watch_of b n ≡ Some w → watch_of (with_watch m left b) n ≡ Some w
+set_else : (b : Shown) (m n : ℕ) (watch left w : SheetHolding) → m ≢ n → watch_of b m ≡ Some watch → watch_of b n ≡ Some w → watch_of (with_watch m left b) n ≡ Some w
 set_else b m n watch left w ne e e' =
     let at = watch_at b n w e' in
     let there = watch_at b m watch e in
@@ -64,21 +64,21 @@ set_else b m n watch left w ne e e' =
 -- WHAT IS OVER STAYS SO
 
 over_same : (b a : Shown) (n done failed : ℕ) → a.watches ≡ b.watches → IsOver b n done failed → IsOver a n done failed
-over_same b a n done failed same o = record { watch = o.watch; of_job = ap (λ (ws : List Holding). if n == 0 then None else slice_get ws (n - 1)) same ∙ o.of_job; ended = o.ended }
+over_same b a n done failed same o = record { watch = o.watch; of_job = ap (λ (ws : List SheetHolding). if n == 0 then None else slice_get ws (n - 1)) same ∙ o.of_job; ended = o.ended }
 
-over_more : (b a : Shown) (n done failed : ℕ) (w : Holding) → a.watches ≡ b.watches ++ w ∷ [] → IsOver b n done failed → IsOver a n done failed
+over_more : (b a : Shown) (n done failed : ℕ) (w : SheetHolding) → a.watches ≡ b.watches ++ w ∷ [] → IsOver b n done failed → IsOver a n done failed
 over_more b a n done failed w more o =
     let at = watch_at b n o.watch o.of_job in
-    record { watch = o.watch; of_job = watch_there a n o.watch at.0 (ap (λ (ws : List Holding). slice_get ws (n - 1)) more ∙ get_more b.watches (n - 1) w o.watch at.1); ended = o.ended }
+    record { watch = o.watch; of_job = watch_there a n o.watch at.0 (ap (λ (ws : List SheetHolding). slice_get ws (n - 1)) more ∙ get_more b.watches (n - 1) w o.watch at.1); ended = o.ended }
 
 -- the board with a watch that has seen as much
-over_seen : (b a : Shown) (m n done failed : ℕ) (watch left : Holding) → a ≡ with_watch m left b → watch_of b m ≡ Some watch → left.sheet ≡ watch.sheet → StaysEnded watch.sheet.hands watch.seen left.seen → IsOver b n done failed → IsOver a n done failed
+over_seen : (b a : Shown) (m n done failed : ℕ) (watch left : SheetHolding) → a ≡ with_watch m left b → watch_of b m ≡ Some watch → left.sheet ≡ watch.sheet → StaysEnded watch.sheet.hands watch.seen left.seen → IsOver b n done failed → IsOver a n done failed
 over_seen b a m n done failed watch left is of_job sheet stays o =
     subst (λ (x : Shown). IsOver x n done failed) (sym is) (dite (ℕ_discrete m n)
     (λ same.
     let here = subst (λ (k : ℕ). watch_of b k ≡ Some watch) same of_job in
     let mine : o.watch ≡ watch = same_Some o.watch watch (sym o.of_job ∙ here) in
-    let was : HasEnded watch.sheet.hands watch.seen done failed = subst (λ (w : Holding). HasEnded w.sheet.hands w.seen done failed) mine o.ended in
+    let was : HasEnded watch.sheet.hands watch.seen done failed = subst (λ (w : SheetHolding). HasEnded w.sheet.hands w.seen done failed) mine o.ended in
     record {
       watch = left;
       of_job = subst (λ (k : ℕ). watch_of (with_watch m left b) k ≡ Some left) same (set_here b m watch left of_job);
@@ -86,7 +86,7 @@ over_seen b a m n done failed watch left is of_job sheet stays o =
     })
     (λ ne. record { watch = o.watch; of_job = set_else b m n watch left o.watch ne of_job o.of_job; ended = o.ended }))
 
-over_other : (b a : Shown) (m n done failed : ℕ) (watch left : Holding) → m ≢ n → a ≡ with_watch m left b → watch_of b m ≡ Some watch → IsOver b n done failed → IsOver a n done failed
+over_other : (b a : Shown) (m n done failed : ℕ) (watch left : SheetHolding) → m ≢ n → a ≡ with_watch m left b → watch_of b m ≡ Some watch → IsOver b n done failed → IsOver a n done failed
 over_other b a m n done failed watch left ne is of_job o =
     subst (λ (x : Shown). IsOver x n done failed) (sym is) (record { watch = o.watch; of_job = set_else b m n watch left o.watch ne of_job o.of_job; ended = o.ended })
 
@@ -101,17 +101,17 @@ module _ (b a : Shown) (n done failed : ℕ) (o : IsOver b n done failed) where
 
   look_keeps : (m : ℕ) (p : Option Progress) → Looks b m p a → IsOver a n done failed
   look_keeps m None row = over_same b a n done failed (ap (λ (x : Shown). x.watches) row.1) o
-  look_keeps m (Some p) row = over_seen b a m n done failed row.watch row.left row.is row.of_job (ap (λ (h : Holding). h.sheet) row.tells.is) row.stays o
+  look_keeps m (Some p) row = over_seen b a m n done failed row.watch row.left row.is row.of_job (ap (λ (h : SheetHolding). h.sheet) row.tells.is) row.stays o
 
   stop_keeps : (m : ℕ) (is : Bool) → Stops b m is a → IsOver a n done failed
   stop_keeps m false row = over_same b a n done failed (ap (λ (x : Shown). x.watches) row.1) o
-  stop_keeps m true row = over_seen b a m n done failed row.watch row.left row.is row.of_job (ap (λ (h : Holding). h.sheet) row.cancels.is) row.stays o
+  stop_keeps m true row = over_seen b a m n done failed row.watch row.left row.is row.of_job (ap (λ (h : SheetHolding). h.sheet) row.cancels.is) row.stays o
 
-  finish_keeps : (m : ℕ) (ended : Holding) (is : Bool) → m ≢ n → Finishes b m ended is a → IsOver a n done failed
+  finish_keeps : (m : ℕ) (ended : SheetHolding) (is : Bool) → m ≢ n → Finishes b m ended is a → IsOver a n done failed
   finish_keeps m ended false ne row = over_same b a n done failed (ap (λ (x : Shown). x.watches) row.1) o
   finish_keeps m ended true ne row = over_other b a m n done failed row.watch row.left ne row.is row.of_job o
 
-  stays_over : (does : Command) (r : Reply) → MayReply b does r a → ¬ (TellsOfEnd n does) → IsOver a n done failed
+  stays_over : (does : Command) (r : Reply) → BoardMayReply b does r a → ¬ (TellsOfEnd n does) → IsOver a n done failed
   stays_over (command.Submit job places) r may no_end = submit_keeps job places may.0 may.2
   stays_over command.Next r may no_end = next_keeps may.0 may.2
   stays_over (command.Look m) r may no_end = look_keeps m may.0 may.2
@@ -124,16 +124,16 @@ same_look x y e = cc
 same_finish : (x y : Bool) → reply.Finish x ≡ reply.Finish y → y ≡ x
 same_finish x y e = cc
 
-tells_over : (b a : Shown) (n done failed : ℕ) (p : Progress) (does : Command) (r : Reply) → MayReply b does r a → IsOver b n done failed → does ≡ command.Look n → r ≡ reply.Look (Some p) → (p.done ≡ done) × (p.failed ≡ failed)
+tells_over : (b a : Shown) (n done failed : ℕ) (p : Progress) (does : Command) (r : Reply) → BoardMayReply b does r a → IsOver b n done failed → does ≡ command.Look n → r ≡ reply.Look (Some p) → (p.done ≡ done) × (p.failed ≡ failed)
 tells_over b a n done failed p does r may o is so =
-    let h : MayReply b (command.Look n) (reply.Look (Some p)) a = subst (λ (z : Reply). MayReply b (command.Look n) z a) so (subst (λ (d : Command). MayReply b d r a) is may) in
+    let h : BoardMayReply b (command.Look n) (reply.Look (Some p)) a = subst (λ (z : Reply). BoardMayReply b (command.Look n) z a) so (subst (λ (d : Command). BoardMayReply b d r a) is may) in
     let row : Looks b n (Some p) a = subst (λ (x : Option Progress). Looks b n x a) (same_look (Some p) h.0 h.1) h.2 in
     let mine : o.watch ≡ row.watch = same_Some o.watch row.watch (sym o.of_job ∙ row.of_job) in
-    row.settled done failed (subst (λ (w : Holding). HasEnded w.sheet.hands w.seen done failed) mine o.ended)
+    row.settled done failed (subst (λ (w : SheetHolding). HasEnded w.sheet.hands w.seen done failed) mine o.ended)
 
-ends_over : (b a : Shown) (n done failed : ℕ) (job : WatchedJob) (does : Command) (r : Reply) → MayReply b does r a → does ≡ command.Finish n job → r ≡ reply.Finish true → HasEnded job.watch.sheet.hands job.watch.seen done failed → IsOver a n done failed
+ends_over : (b a : Shown) (n done failed : ℕ) (job : WatchedJob) (does : Command) (r : Reply) → BoardMayReply b does r a → does ≡ command.Finish n job → r ≡ reply.Finish true → HasEnded job.watch.sheet.hands job.watch.seen done failed → IsOver a n done failed
 ends_over b a n done failed job does r may is so ended =
-    let h : MayReply b (command.Finish n job) (reply.Finish true) a = subst (λ (z : Reply). MayReply b (command.Finish n job) z a) so (subst (λ (d : Command). MayReply b d r a) is may) in
+    let h : BoardMayReply b (command.Finish n job) (reply.Finish true) a = subst (λ (z : Reply). BoardMayReply b (command.Finish n job) z a) so (subst (λ (d : Command). BoardMayReply b d r a) is may) in
     let row : IsFinished b n job.watch a = subst (λ (x : Bool). Finishes b n job.watch x a) (same_finish true h.0 h.1) h.2 in
     subst (λ (x : Shown). IsOver x n done failed) (sym row.is) (record {
       watch = row.left;
@@ -141,7 +141,7 @@ ends_over b a n done failed job does r may is so ended =
       ended = subst (λ (s : Sheet). HasEnded s.hands row.left.seen done failed) (sym row.takes.same_sheet) (row.takes.ends done failed ended);
     })
 
-pub keeps_over : (b a : Shown) (does : Command) (r : Reply) → MayReply b does r a → KeepsOver b does r a
+pub keeps_over : (b a : Shown) (does : Command) (r : Reply) → BoardMayReply b does r a → KeepsOver b does r a
 keeps_over b a does r may = record {
   stays = λ n done failed o no_end. stays_over b a n done failed o does r may no_end;
   tells = λ n done failed p o is so. tells_over b a n done failed p does r may o is so;

@@ -4,10 +4,10 @@ use Rattle.std.proofs.lemmas.List.{length-replicate}
 use Rattle.std.proofs.lemmas.List.Folds.{sum_by-replicate}
 use mathlib.Core.Logic.{dite}
 use native.Mathlib.Decide.{ℕ_discrete}
-use Rattle.job_board.specs.declared.standing.Account.{Account}
-use Rattle.job_board.specs.declared.standing.End.{End}
-use Rattle.job_board.specs.declared.standing.End.TheVariants.{AllClaimed, Cancelled, Open}
-use Rattle.job_board.specs.declared.standing.Standing.{Standing}
+use Rattle.job_board.specs.declared.standing.HandAccount.{HandAccount}
+use Rattle.job_board.specs.declared.standing.HandEnd.{HandEnd}
+use Rattle.job_board.specs.declared.standing.HandEnd.TheVariants.{AllClaimed, Cancelled, Open}
+use Rattle.job_board.specs.declared.standing.SheetStanding.{SheetStanding}
 use Rattle.job_board.specs.Standings.{HasCause, IsSound, account, claimed_count, claims_of, ending, fresh, gaining, times, with_account}
 use Rattle.job_board.specs.Hands.{fresh_standing}
 use Rattle.job_board.specs.SheetCalls.{one_done, one_failed}
@@ -16,7 +16,7 @@ use Rattle.job_board.proofs.Accounts.{each_account, fresh_at, sum_same, sum_with
 
 -- CLAIMS
 
-module _ (places hands : ℕ) (s : Standing) (sound : IsSound places hands s) (k : ℕ) (h : k < hands) where
+module _ (places hands : ℕ) (s : SheetStanding) (sound : IsSound places hands s) (k : ℕ) (h : k < hands) where
   inside : k < length s.accounts
   inside = let a = sound.all in omega arith
 
@@ -25,22 +25,22 @@ module _ (places hands : ℕ) (s : Standing) (sound : IsSound places hands s) (k
     abbrev next : ℕ
     next = claimed_count s
 
-    abbrev gained : Standing
+    abbrev gained : SheetStanding
     gained = with_account k (gaining next (account s k)) s
 
     pub count_gained : claimed_count gained ≡ next + 1
     count_gained =
-        let t = sum_with (λ (a : Account). length a.claimed) s k (gaining next (account s k)) inside in
+        let t = sum_with (λ (a : HandAccount). length a.claimed) s k (gaining next (account s k)) inside in
         let l = length-append (account s k).claimed (next ∷ []) in
         omega arith
 
     claims_gained : (place : ℕ) → claims_of place gained ≡ claims_of place s + one_at place next
     claims_gained place =
-        let t = sum_with (λ (a : Account). times place a.claimed) s k (gaining next (account s k)) inside in
+        let t = sum_with (λ (a : HandAccount). times place a.claimed) s k (gaining next (account s k)) inside in
         let l = times_push place next (account s k).claimed in
         omega arith
 
-    cause_gained : (end : End) → HasCause places s end → HasCause places gained end
+    cause_gained : (end : HandEnd) → HasCause places s end → HasCause places gained end
     cause_gained Open c = tt
     cause_gained AllClaimed c = absurd (omega arith)
     cause_gained Cancelled c = c
@@ -68,7 +68,7 @@ module _ (places hands : ℕ) (s : Standing) (sound : IsSound places hands s) (k
 
   -- AN ACCOUNT CHANGES BUT ITS CLAIMS DON'T
 
-  pub soundly_with : (a : Account) → a.claimed ≡ (account s k).claimed → HasCause places s a.end → a.done + a.failed ≤ length a.claimed → IsSound places hands (with_account k a s)
+  pub soundly_with : (a : HandAccount) → a.claimed ≡ (account s k).claimed → HasCause places s a.end → a.done + a.failed ≤ length a.claimed → IsSound places hands (with_account k a s)
   soundly_with a same cause reported = record {
     all = length-set s.accounts k a ∙ sound.all;
     within = let c = count in let w = sound.within in omega arith;
@@ -79,17 +79,17 @@ module _ (places hands : ℕ) (s : Standing) (sound : IsSound places hands s) (k
   }
     where
       count : claimed_count (with_account k a s) ≡ claimed_count s
-      count = sum_same (λ (b : Account). length b.claimed) s k a inside (ap length same)
+      count = sum_same (λ (b : HandAccount). length b.claimed) s k a inside (ap length same)
 
       claims : (place : ℕ) → claims_of place (with_account k a s) ≡ claims_of place s
-      claims place = sum_same (λ (b : Account). times place b.claimed) s k a inside (ap (times place) same)
+      claims place = sum_same (λ (b : HandAccount). times place b.claimed) s k a inside (ap (times place) same)
 
-      cause_with : (end : End) → HasCause places s end → HasCause places (with_account k a s) end
+      cause_with : (end : HandEnd) → HasCause places s end → HasCause places (with_account k a s) end
       cause_with Open c = tt
       cause_with AllClaimed c = count ∙ c
       cause_with Cancelled c = c
 
-  pub ends_soundly : (end : End) → HasCause places s end → IsSound places hands (with_account k (ending end (account s k)) s)
+  pub ends_soundly : (end : HandEnd) → HasCause places s end → IsSound places hands (with_account k (ending end (account s k)) s)
   ends_soundly end cause = soundly_with (ending end (account s k)) refl cause (sound.reported k)
 
   pub reports_done_soundly : (account s k).done + (account s k).failed < length (account s k).claimed → IsSound places hands (with_account k (one_done (account s k)) s)
@@ -100,7 +100,7 @@ module _ (places hands : ℕ) (s : Standing) (sound : IsSound places hands s) (k
 
 -- CANCELLING
 
-pub cancels_soundly : (places hands : ℕ) (s : Standing) → IsSound places hands s → IsSound places hands (record s { cancelled = true })
+pub cancels_soundly : (places hands : ℕ) (s : SheetStanding) → IsSound places hands s → IsSound places hands (record s { cancelled = true })
 cancels_soundly places hands s sound = record {
   all = sound.all;
   within = sound.within;
@@ -110,7 +110,7 @@ cancels_soundly places hands s sound = record {
   reported = sound.reported;
 }
   where
-    cause_after : (end : End) → HasCause places s end → HasCause places (record s { cancelled = true }) end
+    cause_after : (end : HandEnd) → HasCause places s end → HasCause places (record s { cancelled = true }) end
     cause_after Open c = tt
     cause_after AllClaimed c = c
     cause_after Cancelled c = refl
@@ -118,15 +118,15 @@ cancels_soundly places hands s sound = record {
 -- THE START
 
 -- a sum over fresh accounts
-pub no_sum : (hands : ℕ) (f : Account → ℕ) → f fresh ≡ 0 → sum_by f (replicate hands fresh) ≡ 0
+pub no_sum : (hands : ℕ) (f : HandAccount → ℕ) → f fresh ≡ 0 → sum_by f (replicate hands fresh) ≡ 0
 no_sum hands f e = sum_by-replicate f hands fresh ∙ (ap (λ (n : ℕ). hands * n) e ∙ omega arith)
 
 pub nothing_sound : (places hands : ℕ) → IsSound places hands (fresh_standing hands)
 nothing_sound places hands = record {
   all = length-replicate hands fresh;
-  within = let c = no_sum hands (λ (a : Account). length a.claimed) refl in omega arith;
-  once = λ place lt. let c = no_sum hands (λ (a : Account). length a.claimed) refl in absurd (omega arith);
-  none_else = λ place le. no_sum hands (λ (a : Account). times place a.claimed) refl;
-  cause = λ j. subst (λ (a : Account). HasCause places (fresh_standing hands) a.end) (sym (fresh_at hands j)) tt;
-  reported = λ j. subst (λ (a : Account). a.done + a.failed ≤ length a.claimed) (sym (fresh_at hands j)) (omega arith);
+  within = let c = no_sum hands (λ (a : HandAccount). length a.claimed) refl in omega arith;
+  once = λ place lt. let c = no_sum hands (λ (a : HandAccount). length a.claimed) refl in absurd (omega arith);
+  none_else = λ place le. no_sum hands (λ (a : HandAccount). times place a.claimed) refl;
+  cause = λ j. subst (λ (a : HandAccount). HasCause places (fresh_standing hands) a.end) (sym (fresh_at hands j)) tt;
+  reported = λ j. subst (λ (a : HandAccount). a.done + a.failed ≤ length a.claimed) (sym (fresh_at hands j)) (omega arith);
 }

@@ -6,11 +6,11 @@ use native.Mathlib.Decide.{dec_lt}
 use Rattle.atomic_table.specs.Table.{Me}
 use Rattle.atomic_table.specs.declared.shared.Seat.{Seat}
 use Rattle.job_board.specs.declared.progress.Progress.{Progress}
-use Rattle.job_board.specs.declared.standing.Account.{Account}
-use Rattle.job_board.specs.declared.standing.Standing.{Standing}
-use Rattle.job_board.specs.declared.view.View.{View}
+use Rattle.job_board.specs.declared.standing.HandAccount.{HandAccount}
+use Rattle.job_board.specs.declared.standing.SheetStanding.{SheetStanding}
+use Rattle.job_board.specs.declared.view.SeatView.{SeatView}
 use Rattle.job_board.specs.Standings.{IsSound, Later, account, claimed_count, done_count, failed_count, fresh, vain_count}
-use Rattle.job_board.specs.Hands.{AreReports, Holding, own_of}
+use Rattle.job_board.specs.Hands.{AreReports, SheetHolding, own_of}
 use Rattle.job_board.specs.SheetCalls.{AddsUp, Cancels, Gathers, HasEnded, IsFinal, IsSettled, MayFind, StaysEnded, Tells, seeing}
 use Rattle.job_board.specs.Views.{claim_word, mark_of, seeing_now}
 use Rattle.job_board.specs.Steps.{HeardBy, ReadBy}
@@ -22,7 +22,7 @@ use Rattle.job_board.proofs.Held.{no_true, no_vain, yes_true}
 -- SUMS OVER TWO STANDINGS
 
 -- of two lists of accounts, as long as each other, each term of the first is within that of the second
-sum_within : (f g : Account → ℕ) (xs ys : List Account) → length xs ≡ length ys → ((k : ℕ) → k < length xs → f (get_or xs k fresh) ≤ g (get_or ys k fresh)) → sum_by f xs ≤ sum_by g ys
+sum_within : (f g : HandAccount → ℕ) (xs ys : List HandAccount) → length xs ≡ length ys → ((k : ℕ) → k < length xs → f (get_or xs k fresh) ≤ g (get_or ys k fresh)) → sum_by f xs ≤ sum_by g ys
 sum_within f g [] ys e each = omega arith
 sum_within f g (x ∷ xs) [] e each = absurd (omega arith)
 sum_within f g (x ∷ xs) (y ∷ ys) e each =
@@ -32,7 +32,7 @@ sum_within f g (x ∷ xs) (y ∷ ys) e each =
     let b = sum_by-cons g y ys in
     omega arith
 
-sum_plus : (f g : Account → ℕ) (xs : List Account) → sum_by (λ a. f a + g a) xs ≡ sum_by f xs + sum_by g xs
+sum_plus : (f g : HandAccount → ℕ) (xs : List HandAccount) → sum_by (λ a. f a + g a) xs ≡ sum_by f xs + sum_by g xs
 sum_plus f g [] = refl
 sum_plus f g (x ∷ xs) =
     let a = sum_by-cons (λ a. f a + g a) x xs in
@@ -41,18 +41,18 @@ sum_plus f g (x ∷ xs) =
     let d = sum_plus f g xs in
     omega arith
 
-module _ (places hands : ℕ) (a b : Standing) (as_many : length a.accounts ≡ hands) (sound : IsSound places hands b) (later : Later a b) where
+module _ (places hands : ℕ) (a b : SheetStanding) (as_many : length a.accounts ≡ hands) (sound : IsSound places hands b) (later : Later a b) where
   lengths : length a.accounts ≡ length b.accounts
   lengths = as_many ∙ sym sound.all
 
   pub more_done : done_count a ≤ done_count b
-  more_done = sum_within (λ (x : Account). x.done) (λ (x : Account). x.done) a.accounts b.accounts lengths (λ k lt. let l = later.accounts k in l.done)
+  more_done = sum_within (λ (x : HandAccount). x.done) (λ (x : HandAccount). x.done) a.accounts b.accounts lengths (λ k lt. let l = later.accounts k in l.done)
 
   pub more_failed : failed_count a ≤ failed_count b
-  more_failed = sum_within (λ (x : Account). x.failed) (λ (x : Account). x.failed) a.accounts b.accounts lengths (λ k lt. let l = later.accounts k in l.failed)
+  more_failed = sum_within (λ (x : HandAccount). x.failed) (λ (x : HandAccount). x.failed) a.accounts b.accounts lengths (λ k lt. let l = later.accounts k in l.failed)
 
   pub more_claimed : claimed_count a ≤ claimed_count b
-  more_claimed = sum_within (λ (x : Account). length x.claimed) (λ (x : Account). length x.claimed) a.accounts b.accounts lengths
+  more_claimed = sum_within (λ (x : HandAccount). length x.claimed) (λ (x : HandAccount). length x.claimed) a.accounts b.accounts lengths
       (λ k lt. let l = later.accounts k in let m = l.claimed in let e : length (account b k).claimed ≡ length ((account a k).claimed ++ m.0) = ap length m.1 in let n = length-append (account a k).claimed m.0 in omega arith)
 
   -- where each hand of a has met None and reported all, nothing changes any more
@@ -71,13 +71,13 @@ module _ (places hands : ℕ) (a b : Standing) (as_many : length a.accounts ≡ 
     pub as_done : done_count b ≡ done_count a
     as_done =
         let up = more_done in
-        let down = sum_within (λ (x : Account). x.done) (λ (x : Account). x.done) b.accounts a.accounts (sym lengths) (λ k lt. let s = sound.all in (no_more k (omega arith)).0) in
+        let down = sum_within (λ (x : HandAccount). x.done) (λ (x : HandAccount). x.done) b.accounts a.accounts (sym lengths) (λ k lt. let s = sound.all in (no_more k (omega arith)).0) in
         omega arith
 
     pub as_failed : failed_count b ≡ failed_count a
     as_failed =
         let up = more_failed in
-        let down = sum_within (λ (x : Account). x.failed) (λ (x : Account). x.failed) b.accounts a.accounts (sym lengths) (λ k lt. let s = sound.all in (no_more k (omega arith)).1) in
+        let down = sum_within (λ (x : HandAccount). x.failed) (λ (x : HandAccount). x.failed) b.accounts a.accounts (sym lengths) (λ k lt. let s = sound.all in (no_more k (omega arith)).1) in
         omega arith
 
     -- b is settled, too
@@ -95,9 +95,9 @@ module _ (places hands : ℕ) (a b : Standing) (as_many : length a.accounts ≡ 
 
     pub all_reported : done_count a + failed_count a ≡ claimed_count a
     all_reported =
-        let p = sum_plus (λ (x : Account). x.done) (λ (x : Account). x.failed) a.accounts in
-        let up = sum_within (λ (x : Account). x.done + x.failed) (λ (x : Account). length x.claimed) a.accounts a.accounts refl (λ k lt. let s = (settled k (omega arith)).1 in omega arith) in
-        let down = sum_within (λ (x : Account). length x.claimed) (λ (x : Account). x.done + x.failed) a.accounts a.accounts refl (λ k lt. let s = (settled k (omega arith)).1 in omega arith) in
+        let p = sum_plus (λ (x : HandAccount). x.done) (λ (x : HandAccount). x.failed) a.accounts in
+        let up = sum_within (λ (x : HandAccount). x.done + x.failed) (λ (x : HandAccount). length x.claimed) a.accounts a.accounts refl (λ k lt. let s = (settled k (omega arith)).1 in omega arith) in
+        let down = sum_within (λ (x : HandAccount). length x.claimed) (λ (x : HandAccount). x.done + x.failed) a.accounts a.accounts refl (λ k lt. let s = (settled k (omega arith)).1 in omega arith) in
         omega arith
 
   pub ended_still : StaysEnded hands a b
@@ -110,10 +110,10 @@ module _ (places hands : ℕ) (a b : Standing) (as_many : length a.accounts ≡ 
       }
 
 -- a cancel changes no account
-pub cancelled_still : (before after : Holding) (n : ℕ) → before.sheet.hands ≡ n → length before.seen.accounts ≡ before.sheet.hands → Cancels before after → StaysEnded n before.seen after.seen
+pub cancelled_still : (before after : SheetHolding) (n : ℕ) → before.sheet.hands ≡ n → length before.seen.accounts ≡ before.sheet.hands → Cancels before after → StaysEnded n before.seen after.seen
 cancelled_still before after n hands_are as_many c =
-    let left : Standing = record c.found { cancelled = true } in
-    let seen : after.seen ≡ left = ap (λ (h : Holding). h.seen) c.is in
+    let left : SheetStanding = record c.found { cancelled = true } in
+    let seen : after.seen ≡ left = ap (λ (h : SheetHolding). h.seen) c.is in
     let later = c.finds.later in
     let sound = subst (IsSound before.sheet.places before.sheet.hands) seen c.sound in
     subst (λ (k : ℕ). StaysEnded k before.seen after.seen) hands_are
@@ -123,9 +123,9 @@ cancelled_still before after n hands_are as_many c =
 -- WHAT THREE LOOKS TELL
 
 -- the standings that a hand found at three looks, at each of which it read one word
-pub record Looks (before after : Holding) (d f word : ℕ) : Type 0 where
-  pub first : Standing
-  pub second : Standing
+pub record Looks (before after : SheetHolding) (d f word : ℕ) : Type 0 where
+  pub first : SheetStanding
+  pub second : SheetStanding
   pub finds : MayFind before first
   pub then_finds : MayFind (seeing before first) second
   pub then_sees : MayFind (seeing before second) after.seen
@@ -144,7 +144,7 @@ mark_apart : (n : ℕ) (b : Bool) → n < 2 ^ 63 → leb (2 ^ 63) (n + mark_of b
 mark_apart n true small = yes_true (leb (2 ^ 63) (n + mark_of true)) (le→leb (2 ^ 63) (n + mark_of true) (omega arith))
 mark_apart n false small = no_true (leb (2 ^ 63) (n + mark_of false)) (λ t. let l = leb→le (2 ^ 63) (n + mark_of false) t in omega arith)
 
-pub tells : (before after : Holding) (d f word : ℕ) (p : Progress) → before.sheet.places ≤ 10000000 → before.sheet.hands ≤ 63 → Looks before after d f word
+pub tells : (before after : SheetHolding) (d f word : ℕ) (p : Progress) → before.sheet.places ≤ 10000000 → before.sheet.hands ≤ 63 → Looks before after d f word
     → p.places ≡ before.sheet.places → p.claimed ≡ min (word % 2 ^ 63) before.sheet.places → p.done ≡ d → p.failed ≡ f → p.cancelled ≡ leb (2 ^ 63) word → Tells before after p
 tells before after d f word p few some_hands l places claimed done failed cancelled =
     let s = l.then_sees.sound in
@@ -165,7 +165,7 @@ tells before after d f word p few some_hands l places claimed done failed cancel
       cancelled = cancelled ∙ (ap (leb (2 ^ 63)) l.word_is ∙ mark_apart n after.seen.cancelled (omega arith));
     }
 
-module _ (before after : Holding) (p : Progress) (as_many : length before.seen.accounts ≡ before.sheet.hands) (t : Tells before after p) where
+module _ (before after : SheetHolding) (p : Progress) (as_many : length before.seen.accounts ≡ before.sheet.hands) (t : Tells before after p) where
   abbrev places : ℕ
   places = before.sheet.places
 
@@ -230,51 +230,51 @@ module _ (before after : Holding) (p : Progress) (as_many : length before.seen.a
 
 module _ {S : Type 0} where
   -- what a hand that only looked sees: it is the same hand
-  pub same_hand : (me after : Me S View) (done failed : List ℕ) (left : Standing) → IsHand me done failed → IsSound me.0.places me.0.hands left → own_of me.0.number left ≡ own_of me.0.number me.0.seen → after ≡ (seeing_now me.0 left, me.1) → IsHand after done failed
-  same_hand me after done failed left hand sound same is = subst (λ (m : Me S View). IsHand m done failed) (sym is) record {
+  pub same_hand : (me after : Me S SeatView) (done failed : List ℕ) (left : SheetStanding) → IsHand me done failed → IsSound me.0.places me.0.hands left → own_of me.0.number left ≡ own_of me.0.number me.0.seen → after ≡ (seeing_now me.0 left, me.1) → IsHand after done failed
+  same_hand me after done failed left hand sound same is = subst (λ (m : Me S SeatView). IsHand m done failed) (sym is) record {
     live = hand.live;
     carries = hand.carries;
     dealt = hand.dealt;
     numbered = hand.numbered;
     sound = sound;
-    reports = subst (λ (a : Account). AreReports a done failed) (sym same) hand.reports;
+    reports = subst (λ (a : HandAccount). AreReports a done failed) (sym same) hand.reports;
   }
 
-  pub sees : (seat seat' : Seat S View) (done failed : List ℕ) (left : Standing) → seat'.table_id ≡ seat.table_id → seat'.me ≡ (seeing_now seat.me.0 left, seat.me.1) → holding_of seat' done failed ≡ seeing (holding_of seat done failed) left
+  pub sees : (seat seat' : Seat S SeatView) (done failed : List ℕ) (left : SheetStanding) → seat'.table_id ≡ seat.table_id → seat'.me ≡ (seeing_now seat.me.0 left, seat.me.1) → holding_of seat' done failed ≡ seeing (holding_of seat done failed) left
   sees seat seat' done failed left t e =
       λ i. record { sheet = record { table = t i; places = (e i).0.places; hands = (e i).0.hands }; number = (e i).0.number; seen = (e i).0.seen; done = done; failed = failed }
 
   -- GATHERING
 
-  module _ (seat seat' : Seat S View) (done failed : List ℕ) (hand : IsHand seat.me done failed) (same : seat'.table_id ≡ seat.table_id) (other : Me S View) (heard : HeardBy seat.me other seat'.me) where
+  module _ (seat seat' : Seat S SeatView) (done failed : List ℕ) (hand : IsHand seat.me done failed) (same : seat'.table_id ≡ seat.table_id) (other : Me S SeatView) (heard : HeardBy seat.me other seat'.me) where
     pub gathers_still : IsHand seat'.me done failed
     gathers_still = same_hand seat.me seat'.me done failed heard.found hand heard.sound heard.own_is heard.is
 
-    pub gathers_of : (h : Holding) → other.0.seen ≡ h.seen → Gathers (holding_of seat done failed) h (holding_of seat' done failed)
+    pub gathers_of : (h : SheetHolding) → other.0.seen ≡ h.seen → Gathers (holding_of seat done failed) h (holding_of seat' done failed)
     gathers_of h e =
-        let seen : heard.found ≡ seat'.me.0.seen = sym (ap (λ (m : Me S View). m.0.seen) heard.is) in
+        let seen : heard.found ≡ seat'.me.0.seen = sym (ap (λ (m : Me S SeatView). m.0.seen) heard.is) in
         record {
           finds = subst (MayFind (holding_of seat done failed)) seen record { sound = heard.sound; later = heard.later; own_is = heard.own_is };
-          heard = subst (Later h.seen) seen (subst (λ (s : Standing). Later s heard.found) e heard.heard);
+          heard = subst (Later h.seen) seen (subst (λ (s : SheetStanding). Later s heard.found) e heard.heard);
           is = sees seat seat' done failed heard.found same heard.is ∙ ap (seeing (holding_of seat done failed)) seen;
-          own_is = ap (λ (m : Me S View). own_of m.0.number m.0.seen) heard.is ∙ heard.own_is;
+          own_is = ap (λ (m : Me S SeatView). own_of m.0.number m.0.seen) heard.is ∙ heard.own_is;
         }
 
   -- PROGRESS
 
   -- a hand that took three looks
-  module _ (seat one two three : Seat S View) (done failed : List ℕ) (hand : IsHand seat.me done failed) (d f word : ℕ)
+  module _ (seat one two three : Seat S SeatView) (done failed : List ℕ) (hand : IsHand seat.me done failed) (d f word : ℕ)
       (first : ReadBy done_count seat.me d one.me) (second : ReadBy failed_count one.me f two.me) (third : ReadBy claim_word two.me word three.me) where
     after_first : one.me ≡ (seeing_now seat.me.0 first.0, seat.me.1)
     after_first = first.2.is
 
     read_second : ReadBy failed_count (seeing_now seat.me.0 first.0, seat.me.1) f two.me
-    read_second = subst (λ (m : Me S View). ReadBy failed_count m f two.me) after_first second
+    read_second = subst (λ (m : Me S SeatView). ReadBy failed_count m f two.me) after_first second
 
     read_third : ReadBy claim_word (seeing_now seat.me.0 read_second.0, seat.me.1) word three.me
-    read_third = subst (λ (m : Me S View). ReadBy claim_word m word three.me) read_second.2.is third
+    read_third = subst (λ (m : Me S SeatView). ReadBy claim_word m word three.me) read_second.2.is third
 
-    abbrev own : Standing → Account
+    abbrev own : SheetStanding → HandAccount
     own s = own_of seat.me.0.number s
 
     same_first : own first.0 ≡ own seat.me.0.seen
@@ -291,7 +291,7 @@ module _ {S : Type 0} where
 
     pub looks_of : one.table_id ≡ seat.table_id → two.table_id ≡ one.table_id → three.table_id ≡ two.table_id → Looks (holding_of seat done failed) (holding_of three done failed) d f word
     looks_of t t' t'' =
-        let seen : read_third.0 ≡ three.me.0.seen = sym (ap (λ (m : Me S View). m.0.seen) read_third.2.is) in
+        let seen : read_third.0 ≡ three.me.0.seen = sym (ap (λ (m : Me S SeatView). m.0.seen) read_third.2.is) in
         let h = holding_of seat done failed in
         let a = first.2.meets in
         let b = read_second.2.meets in
@@ -303,7 +303,7 @@ module _ {S : Type 0} where
           then_finds = record { sound = b.sound; later = b.later; own_is = b.own_is };
           then_sees = subst (MayFind (seeing h read_second.0)) seen record { sound = e.sound; later = e.later; own_is = e.own_is };
           is = sees seat three done failed read_third.0 (t'' ∙ (t' ∙ t)) read_third.2.is ∙ ap (seeing h) seen;
-          own_is = ap (λ (m : Me S View). own_of m.0.number m.0.seen) read_third.2.is ∙ same_third;
+          own_is = ap (λ (m : Me S SeatView). own_of m.0.number m.0.seen) read_third.2.is ∙ same_third;
           done_is = first.1;
           failed_is = read_second.1;
           word_is = read_third.1 ∙ ap claim_word seen;

@@ -8,14 +8,14 @@ use Rattle.std.proofs.lemmas.Option.{slice_get-map}
 use Rattle.job_board.specs.declared.progress.Progress.{Progress}
 use Rattle.job_board.specs.SheetCalls.{AddsUp, Cancels, HasEnded, IsFinal, IsSettled, StaysEnded, Tells}
 use Rattle.job_board.specs.Standings.{Later}
-use Rattle.job_board.specs.Hands.{Holding, Sheet}
+use Rattle.job_board.specs.Hands.{Sheet, SheetHolding}
 use Rattle.job_board.proofs.Accounts.{same_standing}
 use Rattle.job_board.specs.declared.posted.Posted.{Posted}
 use Rattle.job_board.specs.declared.posted.WatchedJob.{WatchedJob}
 use Rattle.job_board.specs.declared.shown.Shown.{Shown}
 use Rattle.job_board.specs.Boards.{HasNumber, IsFinished, IsLooked, IsStopped, TakesOver, watch_of}
 
-abbrev pub watched : WatchedJob → Holding
+abbrev pub watched : WatchedJob → SheetHolding
 watched j = j.watch
 
 -- a board of these jobs
@@ -45,7 +45,7 @@ looked waiting jobs n j k p above there tells adds sheet same final stays = reco
       let f = final (subst (λ (s : Sheet). IsSettled s.hands j.watch.seen) (j.own ∙ sym same) e.settled) in
       (f.done ∙ sym e.done_is, f.failed ∙ sym e.failed_is);
   stays = subst (λ (s : Sheet). StaysEnded s.hands j.watch.seen k.watch.seen) (same ∙ sym j.own) stays;
-  is = ap (λ (ws : List Holding). record { waiting = waiting; watches = ws }) (map-set watched jobs (n - 1) k);
+  is = ap (λ (ws : List SheetHolding). record { waiting = waiting; watches = ws }) (map-set watched jobs (n - 1) k);
 }
 
 pub stopped : (waiting : List Posted) (jobs : List WatchedJob) (n : ℕ) (j k : WatchedJob) → n ≢ 0 → slice_get jobs (n - 1) ≡ Some j → Cancels j.watch k.watch → (sheet : Sheet) → sheet ≡ j.sheet.value → StaysEnded sheet.hands j.watch.seen k.watch.seen
@@ -56,21 +56,21 @@ stopped waiting jobs n j k above there cancels sheet same stays = record {
   of_job = watch_is waiting jobs n j above there;
   cancels = cancels;
   stays = subst (λ (s : Sheet). StaysEnded s.hands j.watch.seen k.watch.seen) (same ∙ sym j.own) stays;
-  is = ap (λ (ws : List Holding). record { waiting = waiting; watches = ws }) (map-set watched jobs (n - 1) k);
+  is = ap (λ (ws : List SheetHolding). record { waiting = waiting; watches = ws }) (map-set watched jobs (n - 1) k);
 }
 
-pub finished : (waiting : List Posted) (jobs : List WatchedJob) (n : ℕ) (j k : WatchedJob) (ended : Holding) → n ≢ 0 → slice_get jobs (n - 1) ≡ Some j → TakesOver j.watch ended k.watch
+pub finished : (waiting : List Posted) (jobs : List WatchedJob) (n : ℕ) (j k : WatchedJob) (ended : SheetHolding) → n ≢ 0 → slice_get jobs (n - 1) ≡ Some j → TakesOver j.watch ended k.watch
     → IsFinished (board_of waiting jobs) n ended (board_of waiting (slice_set jobs (n - 1) k))
 finished waiting jobs n j k ended above there takes = record {
   watch = j.watch;
   left = k.watch;
   of_job = watch_is waiting jobs n j above there;
   takes = takes;
-  is = ap (λ (ws : List Holding). record { waiting = waiting; watches = ws }) (map-set watched jobs (n - 1) k);
+  is = ap (λ (ws : List SheetHolding). record { waiting = waiting; watches = ws }) (map-set watched jobs (n - 1) k);
 }
 
 -- what was handed in stays as it is where the job's watch knows of no cancel, and is cancelled else
-pub as_it_is : (watch left ended : Holding) (p : Progress) → AddsUp watch left p → p.cancelled ≡ false → TakesOver watch ended ended
+pub as_it_is : (watch left ended : SheetHolding) (p : Progress) → AddsUp watch left p → p.cancelled ≡ false → TakesOver watch ended ended
 as_it_is watch left ended p adds running = record {
   same_sheet = refl;
   later = same_standing ended.seen;
@@ -78,14 +78,14 @@ as_it_is watch left ended p adds running = record {
   cancelled = λ is. absurd (true≢false (sym (adds.cancelled is) ∙ running));
 }
 
-pub as_cancelled : (watch ended left : Holding) → Cancels ended left → StaysEnded ended.sheet.hands ended.seen left.seen → TakesOver watch ended left
+pub as_cancelled : (watch ended left : SheetHolding) → Cancels ended left → StaysEnded ended.sheet.hands ended.seen left.seen → TakesOver watch ended left
 as_cancelled watch ended left c stays =
     let later = c.finds.later in
     record {
-      same_sheet = ap (λ (h : Holding). h.sheet) c.is;
-      later = subst (Later ended.seen) (sym (ap (λ (h : Holding). h.seen) c.is)) (record { accounts = later.accounts; cancelled = λ _. refl });
+      same_sheet = ap (λ (h : SheetHolding). h.sheet) c.is;
+      later = subst (Later ended.seen) (sym (ap (λ (h : SheetHolding). h.seen) c.is)) (record { accounts = later.accounts; cancelled = λ _. refl });
       ends = stays;
-      cancelled = λ _. ap (λ (h : Holding). h.seen.cancelled) c.is;
+      cancelled = λ _. ap (λ (h : SheetHolding). h.seen.cancelled) c.is;
     }
 
 -- THE NUMBERS OF THOSE THAT WAIT
@@ -107,4 +107,4 @@ numbered_pushed waiting more jobs more_jobs p j more_wait more_are is all =
 
 -- one more job
 pub joined : (waiting : List Posted) (jobs : List WatchedJob) (p : Posted) (j : WatchedJob) → board_of (waiting ++ p ∷ []) (jobs ++ j ∷ []) ≡ record { waiting = waiting ++ p ∷ []; watches = map watched jobs ++ j.watch ∷ [] }
-joined waiting jobs p j = ap (λ (ws : List Holding). record { waiting = waiting ++ p ∷ []; watches = ws }) (map-append watched jobs (j ∷ []))
+joined waiting jobs p j = ap (λ (ws : List SheetHolding). record { waiting = waiting ++ p ∷ []; watches = ws }) (map-append watched jobs (j ∷ []))

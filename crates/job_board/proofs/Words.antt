@@ -5,15 +5,15 @@ use Rattle.std.proofs.lemmas.List.Sums.{sum_by-cons, sum_by-le}
 use Rattle.std.proofs.lemmas.Nat.{and_or_self, or_disjoint}
 use Rattle.std.proofs.lemmas.Nat.Bits.{and_pow}
 use Rattle.std.specs.Int.Bits.{or_add_and}
-use Rattle.job_board.specs.declared.standing.Account.{Account}
-use Rattle.job_board.specs.declared.standing.End.{End}
-use Rattle.job_board.specs.declared.standing.End.TheVariants.{AllClaimed, Cancelled, Open}
-use Rattle.job_board.specs.declared.standing.Standing.{Standing}
+use Rattle.job_board.specs.declared.standing.HandAccount.{HandAccount}
+use Rattle.job_board.specs.declared.standing.HandEnd.{HandEnd}
+use Rattle.job_board.specs.declared.standing.HandEnd.TheVariants.{AllClaimed, Cancelled, Open}
+use Rattle.job_board.specs.declared.standing.SheetStanding.{SheetStanding}
 use Rattle.job_board.specs.Standings.{IsSound, claimed_count, done_count, failed_count, fresh, vain, vain_count}
 use Rattle.job_board.specs.Views.{claim_word, mark_of}
 
 -- two sums are together within a third one, where each two terms are
-sum_of_two : (f g h : Account → ℕ) (xs : List Account) → ((k : ℕ) → k < length xs → f (get_or xs k fresh) + g (get_or xs k fresh) ≤ h (get_or xs k fresh)) → sum_by f xs + sum_by g xs ≤ sum_by h xs
+sum_of_two : (f g h : HandAccount → ℕ) (xs : List HandAccount) → ((k : ℕ) → k < length xs → f (get_or xs k fresh) + g (get_or xs k fresh) ≤ h (get_or xs k fresh)) → sum_by f xs + sum_by g xs ≤ sum_by h xs
 sum_of_two f g h [] each = omega arith
 sum_of_two f g h (x ∷ xs) each =
     let first : f x + g x ≤ h x = each 0 (omega arith) in
@@ -40,19 +40,19 @@ marked n true h =
 
 -- THE CLAIM WORD
 
-at_most_one : (end : End) → vain end ≤ 1
+at_most_one : (end : HandEnd) → vain end ≤ 1
 at_most_one Open = omega arith
 at_most_one AllClaimed = omega arith
 at_most_one Cancelled = omega arith
 
 -- each hand has met None at most once
-pub vain_few : (places hands : ℕ) (s : Standing) → IsSound places hands s → vain_count s ≤ hands
+pub vain_few : (places hands : ℕ) (s : SheetStanding) → IsSound places hands s → vain_count s ≤ hands
 vain_few places hands s sound =
-    let t = sum_by-le (λ (a : Account). vain a.end) 1 s.accounts (λ k d lt. at_most_one (get_or s.accounts k d).end) in
+    let t = sum_by-le (λ (a : HandAccount). vain a.end) 1 s.accounts (λ k d lt. at_most_one (get_or s.accounts k d).end) in
     let a = sound.all in
     omega arith
 
-module _ (places hands : ℕ) (s : Standing) (sound : IsSound places hands s) (few : places ≤ 10000000) (some_hands : hands ≤ 63) where
+module _ (places hands : ℕ) (s : SheetStanding) (sound : IsSound places hands s) (few : places ≤ 10000000) (some_hands : hands ≤ 63) where
   pub count_small : claimed_count s + vain_count s ≤ 10000063
   count_small = let v = vain_few places hands s sound in let w = sound.within in omega arith
 
@@ -67,9 +67,9 @@ module _ (places hands : ℕ) (s : Standing) (sound : IsSound places hands s) (f
 -- THE REPORTS
 
 -- no more places are reported than claimed
-module _ (places hands : ℕ) (s : Standing) (sound : IsSound places hands s) where
+module _ (places hands : ℕ) (s : SheetStanding) (sound : IsSound places hands s) where
   pub reported_within : done_count s + failed_count s ≤ claimed_count s
-  reported_within = let t = sum_of_two (λ (a : Account). a.done) (λ (a : Account). a.failed) (λ (a : Account). length a.claimed) s.accounts (λ k lt. sound.reported k) in t
+  reported_within = let t = sum_of_two (λ (a : HandAccount). a.done) (λ (a : HandAccount). a.failed) (λ (a : HandAccount). length a.claimed) s.accounts (λ k lt. sound.reported k) in t
 
   pub done_within : done_count s ≤ places
   done_within = let r = reported_within in let w = sound.within in omega arith

@@ -2,7 +2,7 @@
 use Rattle.std.specs.Prelude.{ℕ, ◌≡◌, ◌≤◌, ◌<◌, ◌+◌, ◌-◌, ◌==◌, ◌⊎◌, Bool, true, false, if◌then◌else◌, [], ◌∷◌, ◌++◌, length, Option, Some, None, slice_get, slice_set, ⊤}
 use Rattle.job_board.specs.declared.progress.Progress.{Progress}
 use Rattle.job_board.specs.SheetCalls.{AddsUp, Cancels, HasEnded, IsSettled, StaysEnded, Tells}
-use Rattle.job_board.specs.Hands.{Holding, fresh_holding}
+use Rattle.job_board.specs.Hands.{SheetHolding, fresh_holding}
 use Rattle.job_board.specs.Standings.{Later}
 use Rattle.job_forms.specs.declared.job.Job.{Job}
 use Rattle.truncation_list.specs.declared.book.FrontedBook.{FrontedBook}
@@ -35,7 +35,7 @@ pub record MaySubmit (job : Job) (places : ℕ) : Type 0 where
   pub places_most : places ≤ 10000000
 
 -- what is to be run, under this number, has a new sheet of the places for as many hands as the job has threads, which this watch watches
-pub record IsSubmission (number : ℕ) (job : Job) (places : ℕ) (p : Posted) (watch : Holding) : Type 0 where
+pub record IsSubmission (number : ℕ) (job : Job) (places : ℕ) (p : Posted) (watch : SheetHolding) : Type 0 where
   pub number_is : p.number ≡ number
   pub job_is : p.job ≡ job
   pub places_are : p.sheet.value.places ≡ places
@@ -45,7 +45,7 @@ pub record IsSubmission (number : ℕ) (job : Job) (places : ℕ) (p : Posted) (
 -- the job gets the next number, and is the last to wait; none where 64 wait or 1,024 were submitted
 abbrev pub Submits : Shown → Job → ℕ → Option ℕ → Shown → Type 0
 Submits b job places (Some n) a =
-    (length b.waiting < 64) × (submitted b < 1024) × (n ≡ submitted b + 1) × ((p : Posted) × (watch : Holding) × IsSubmission n job places p watch × (a ≡ record { waiting = b.waiting ++ p ∷ []; watches = b.watches ++ watch ∷ [] }))
+    (length b.waiting < 64) × (submitted b < 1024) × (n ≡ submitted b + 1) × ((p : Posted) × (watch : SheetHolding) × IsSubmission n job places p watch × (a ≡ record { waiting = b.waiting ++ p ∷ []; watches = b.watches ++ watch ∷ [] }))
 Submits b job places None a = ((64 ≤ length b.waiting) ⊎ (1024 ≤ submitted b)) × (a ≡ b)
 
 -- NEXT
@@ -63,17 +63,17 @@ TakesNext b None a = (b.waiting ≡ []) × (a ≡ b)
 -- LOOK AND STOP
 
 -- the watch of the job of this number, from 1
-abbrev pub watch_of : Shown → ℕ → Option Holding
+abbrev pub watch_of : Shown → ℕ → Option SheetHolding
 watch_of b n = if n == 0 then None else slice_get b.watches (n - 1)
 
 -- the board with another watch of that job
-abbrev pub with_watch : ℕ → Holding → Shown → Shown
+abbrev pub with_watch : ℕ → SheetHolding → Shown → Shown
 with_watch n watch b = record { waiting = b.waiting; watches = slice_set b.watches (n - 1) watch }
 
 -- how far the job is, as its watch finds; and of a job of which that has seen the end it tells how it ended
 pub record IsLooked (b : Shown) (n : ℕ) (p : Progress) (a : Shown) : Type 0 where
-  pub watch : Holding
-  pub left : Holding
+  pub watch : SheetHolding
+  pub left : SheetHolding
   pub of_job : watch_of b n ≡ Some watch
   pub tells : Tells watch left p
   pub adds_up : AddsUp watch left p
@@ -87,8 +87,8 @@ Looks b n None a = (watch_of b n ≡ None) × (a ≡ b)
 
 -- the job is cancelled by its watch
 pub record IsStopped (b : Shown) (n : ℕ) (a : Shown) : Type 0 where
-  pub watch : Holding
-  pub left : Holding
+  pub watch : SheetHolding
+  pub left : SheetHolding
   pub of_job : watch_of b n ≡ Some watch
   pub cancels : Cancels watch left
   pub stays : StaysEnded watch.sheet.hands watch.seen left.seen
@@ -102,21 +102,21 @@ Stops b n false a = (watch_of b n ≡ None) × (a ≡ b)
 
 -- The watch that was handed in takes the place of the job's: it has seen all that it had, and the end that it had; and where the job's was
 -- cancelled, so is it
-pub record TakesOver (watch ended left : Holding) : Type 0 where
+pub record TakesOver (watch ended left : SheetHolding) : Type 0 where
   pub same_sheet : left.sheet ≡ ended.sheet
   pub later : Later ended.seen left.seen
   pub ends : StaysEnded ended.sheet.hands ended.seen left.seen
   pub cancelled : watch.seen.cancelled ≡ true → left.seen.cancelled ≡ true
 
 -- the job has ended as this watch of its sheet has seen
-pub record IsFinished (b : Shown) (n : ℕ) (ended : Holding) (a : Shown) : Type 0 where
-  pub watch : Holding
-  pub left : Holding
+pub record IsFinished (b : Shown) (n : ℕ) (ended : SheetHolding) (a : Shown) : Type 0 where
+  pub watch : SheetHolding
+  pub left : SheetHolding
   pub of_job : watch_of b n ≡ Some watch
   pub takes : TakesOver watch ended left
   pub is : a ≡ with_watch n left b
 
-abbrev pub Finishes : Shown → ℕ → Holding → Bool → Shown → Type 0
+abbrev pub Finishes : Shown → ℕ → SheetHolding → Bool → Shown → Type 0
 Finishes b n ended true a = IsFinished b n ended a
 Finishes b n ended false a = (watch_of b n ≡ None) × (a ≡ b)
 
@@ -138,18 +138,18 @@ TakesNoMemory (command.Stop n) = ⊤
 TakesNoMemory (command.Finish n job) = ⊤
 
 -- the reply is of its command's kind, by the command's row
-abbrev pub MayReply : Shown → Command → Reply → Shown → Type 0
-MayReply b (command.Submit job places) r a = (n : Option ℕ) × (r ≡ reply.Submit n) × Submits b job places n a
-MayReply b command.Next r a = (p : Option Posted) × (r ≡ reply.Next p) × TakesNext b p a
-MayReply b (command.Look n) r a = (p : Option Progress) × (r ≡ reply.Look p) × Looks b n p a
-MayReply b (command.Stop n) r a = (is : Bool) × (r ≡ reply.Stop is) × Stops b n is a
-MayReply b (command.Finish n job) r a = (is : Bool) × (r ≡ reply.Finish is) × Finishes b n job.watch is a
+abbrev pub BoardMayReply : Shown → Command → Reply → Shown → Type 0
+BoardMayReply b (command.Submit job places) r a = (n : Option ℕ) × (r ≡ reply.Submit n) × Submits b job places n a
+BoardMayReply b command.Next r a = (p : Option Posted) × (r ≡ reply.Next p) × TakesNext b p a
+BoardMayReply b (command.Look n) r a = (p : Option Progress) × (r ≡ reply.Look p) × Looks b n p a
+BoardMayReply b (command.Stop n) r a = (is : Bool) × (r ≡ reply.Stop is) × Stops b n is a
+BoardMayReply b (command.Finish n job) r a = (is : Bool) × (r ≡ reply.Finish is) × Finishes b n job.watch is a
 
 -- A JOB THAT IS OVER
 
 -- the board has been told of the end of the job of this number: so many places done, and so many failed
 pub record IsOver (b : Shown) (n done failed : ℕ) : Type 0 where
-  pub watch : Holding
+  pub watch : SheetHolding
   pub of_job : watch_of b n ≡ Some watch
   pub ended : HasEnded watch.sheet.hands watch.seen done failed
 

@@ -13,7 +13,7 @@ use Rattle.job_board.specs.declared.shown.Command.TheVariants as command
 use Rattle.job_board.specs.declared.shown.Note.{Note}
 use Rattle.job_board.specs.declared.shown.Reply.{Reply}
 use Rattle.job_board.specs.declared.shown.Reply.TheVariants as reply
-use Rattle.job_board.specs.Boards.{KeepsOver, MayReply, book_of}
+use Rattle.job_board.specs.Boards.{BoardMayReply, KeepsOver, book_of}
 
 -- a pass of a board as contracts see it
 abbrev pub BoardHolding : Type 0
@@ -36,7 +36,7 @@ pub record IsBoardTurn (seen : FrontedBook) (m : Made Note) : Type 0 where
   pub found : m.found ≡ book_of m.note.before
   pub left : m.left ≡ book_of m.note.after
   pub answers : AnswersForFronted m.found seen
-  pub reply : MayReply m.note.before m.note.command m.note.reply m.note.after
+  pub reply : BoardMayReply m.note.before m.note.command m.note.reply m.note.after
   pub over : KeepsOver m.note.before m.note.command m.note.reply m.note.after
 
 -- a call made one turn, of this command and with this reply, and has seen the board that it left

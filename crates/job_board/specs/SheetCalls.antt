@@ -1,28 +1,28 @@
 -- What each call of a sheet does to its hand.
 use Rattle.std.specs.Prelude.{◌≡◌, ◌≢◌, ℕ, ◌+◌, ◌<◌, ◌≤◌, true, false, min, List, [], ◌∷◌, ◌++◌, Contains, length, sum_by}
 use Rattle.job_board.specs.declared.progress.Progress.{Progress}
-use Rattle.job_board.specs.declared.standing.Account.{Account}
-use Rattle.job_board.specs.declared.standing.End.{End}
-use Rattle.job_board.specs.declared.standing.End.TheVariants.{AllClaimed, Cancelled, Open}
-use Rattle.job_board.specs.declared.standing.Standing.{Standing}
+use Rattle.job_board.specs.declared.standing.HandAccount.{HandAccount}
+use Rattle.job_board.specs.declared.standing.HandEnd.{HandEnd}
+use Rattle.job_board.specs.declared.standing.HandEnd.TheVariants.{AllClaimed, Cancelled, Open}
+use Rattle.job_board.specs.declared.standing.SheetStanding.{SheetStanding}
 use Rattle.job_board.specs.Standings.{IsSound, Later, account, claimed_count, done_count, ending, failed_count, gaining, times, vain_count}
-use Rattle.job_board.specs.Hands.{Holding, MayReport, change_own, own, own_of}
+use Rattle.job_board.specs.Hands.{MayReport, SheetHolding, change_own, own, own_of}
 
 -- A standing that the hand may find at a step: a sound one, no earlier than what it has seen, in which its own account is as it left it
-pub record MayFind (h : Holding) (found : Standing) : Type 0 where
+pub record MayFind (h : SheetHolding) (found : SheetStanding) : Type 0 where
   pub sound : IsSound h.sheet.places h.sheet.hands found
   pub later : Later h.seen found
   pub own_is : own_of h.number found ≡ own h
 
 -- the hand has seen this standing, and nothing else of it changed
-abbrev pub seeing : Holding → Standing → Holding
+abbrev pub seeing : SheetHolding → SheetStanding → SheetHolding
 seeing h s = record h { seen = s }
 
 -- CLAIMS
 
 -- The job was not cancelled and not all places were claimed. The hand gains the next place, which is the least one that no hand had claimed, and may report it
-pub record Claims (before after : Holding) (place : ℕ) : Type 0 where
-  pub found : Standing
+pub record Claims (before after : SheetHolding) (place : ℕ) : Type 0 where
+  pub found : SheetStanding
   pub finds : MayFind before found
   pub running : found.cancelled ≡ false
   pub next : place ≡ claimed_count found
@@ -34,16 +34,16 @@ pub record Claims (before after : Holding) (place : ℕ) : Type 0 where
   pub sound : IsSound before.sheet.places before.sheet.hands after.seen
 
 -- the job was cancelled, or it was not and all places were claimed
-abbrev pub Refuses : ℕ → Standing → End → Type 0
+abbrev pub Refuses : ℕ → SheetStanding → HandEnd → Type 0
 Refuses places found Open = ⊥
 Refuses places found AllClaimed = (found.cancelled ≡ false) × (claimed_count found ≡ places)
 Refuses places found Cancelled = found.cancelled ≡ true
 
 -- the hand has met None, for this cause
-pub record MeetsNone (before after : Holding) : Type 0 where
-  pub found : Standing
+pub record MeetsNone (before after : SheetHolding) : Type 0 where
+  pub found : SheetStanding
   pub finds : MayFind before found
-  pub end : End
+  pub end : HandEnd
   pub why : Refuses before.sheet.places found end
   pub is : after ≡ seeing before (change_own before.number (ending end) found)
   pub own_is : own after ≡ ending end (own before)
@@ -51,22 +51,22 @@ pub record MeetsNone (before after : Holding) : Type 0 where
 
 -- REPORTS
 
-abbrev pub one_done : Account → Account
+abbrev pub one_done : HandAccount → HandAccount
 one_done a = record a { done = a.done + 1 }
 
-abbrev pub one_failed : Account → Account
+abbrev pub one_failed : HandAccount → HandAccount
 one_failed a = record a { failed = a.failed + 1 }
 
 -- the place joins what the hand has reported done, and nothing else changes
-pub record ReportsDone (before after : Holding) (place : ℕ) : Type 0 where
-  pub found : Standing
+pub record ReportsDone (before after : SheetHolding) (place : ℕ) : Type 0 where
+  pub found : SheetStanding
   pub finds : MayFind before found
   pub is : after ≡ record before { seen = change_own before.number one_done found; done = before.done ++ place ∷ [] }
   pub own_is : own after ≡ one_done (own before)
   pub sound : IsSound before.sheet.places before.sheet.hands after.seen
 
-pub record ReportsFailed (before after : Holding) (place : ℕ) : Type 0 where
-  pub found : Standing
+pub record ReportsFailed (before after : SheetHolding) (place : ℕ) : Type 0 where
+  pub found : SheetStanding
   pub finds : MayFind before found
   pub is : after ≡ record before { seen = change_own before.number one_failed found; failed = before.failed ++ place ∷ [] }
   pub own_is : own after ≡ one_failed (own before)
@@ -75,8 +75,8 @@ pub record ReportsFailed (before after : Holding) (place : ℕ) : Type 0 where
 -- CANCELLING
 
 -- the job is cancelled, and nothing else changes
-pub record Cancels (before after : Holding) : Type 0 where
-  pub found : Standing
+pub record Cancels (before after : SheetHolding) : Type 0 where
+  pub found : SheetStanding
   pub finds : MayFind before found
   pub is : after ≡ seeing before (record found { cancelled = true })
   pub own_is : own after ≡ own before
@@ -86,9 +86,9 @@ pub record Cancels (before after : Holding) : Type 0 where
 
 -- The numbers done and failed are those of two standings that the hand found, one after the other, and the others are those of a third one, which it has
 -- seen then. Each hand that met None has counted as claimed once in vain, but no more than all places count
-pub record Tells (before after : Holding) (p : Progress) : Type 0 where
-  pub first : Standing
-  pub second : Standing
+pub record Tells (before after : SheetHolding) (p : Progress) : Type 0 where
+  pub first : SheetStanding
+  pub second : SheetStanding
   pub finds : MayFind before first
   pub then_finds : MayFind (seeing before first) second
   pub then_sees : MayFind (seeing before second) after.seen
@@ -102,7 +102,7 @@ pub record Tells (before after : Holding) (p : Progress) : Type 0 where
 
 -- How the numbers stand to one another, and to what the hand has seen before and after: `claimed` is exact while the job is not cancelled, and may after
 -- that count one vain claim for each hand
-pub record AddsUp (before after : Holding) (p : Progress) : Type 0 where
+pub record AddsUp (before after : SheetHolding) (p : Progress) : Type 0 where
   pub reported : p.done + p.failed ≤ claimed_count after.seen
   pub claimed : claimed_count after.seen ≤ p.claimed
   pub exact : p.cancelled ≡ false → p.claimed ≡ claimed_count after.seen
@@ -113,50 +113,50 @@ pub record AddsUp (before after : Holding) (p : Progress) : Type 0 where
   pub cancelled : before.seen.cancelled ≡ true → p.cancelled ≡ true
 
 -- each hand has met None, and has reported all that it claimed
-abbrev pub IsSettled : ℕ → Standing → Type 0
+abbrev pub IsSettled : ℕ → SheetStanding → Type 0
 IsSettled hands s = (number : ℕ) → number < hands → ((account s number).end ≢ Open) × ((account s number).done + (account s number).failed ≡ length (account s number).claimed)
 
 -- no step changes any of these numbers any more
-pub record IsFinal (s : Standing) (p : Progress) : Type 0 where
+pub record IsFinal (s : SheetStanding) (p : Progress) : Type 0 where
   pub done : p.done ≡ done_count s
   pub failed : p.failed ≡ failed_count s
   pub all : p.done + p.failed ≡ claimed_count s
 
 -- a standing in which nothing is left to do or to report: so many places are done, and so many failed
-pub record HasEnded (hands : ℕ) (s : Standing) (done failed : ℕ) : Type 0 where
+pub record HasEnded (hands : ℕ) (s : SheetStanding) (done failed : ℕ) : Type 0 where
   pub settled : IsSettled hands s
   pub done_is : done ≡ done_count s
   pub failed_is : failed ≡ failed_count s
 
 -- what has ended with these numbers stays so
-abbrev pub StaysEnded : ℕ → Standing → Standing → Type 0
+abbrev pub StaysEnded : ℕ → SheetStanding → SheetStanding → Type 0
 StaysEnded hands before after = (done failed : ℕ) → HasEnded hands before done failed → HasEnded hands after done failed
 
 -- GATHERING
 
 -- the hand has seen all that the other one had
-pub record Gathers (before other after : Holding) : Type 0 where
+pub record Gathers (before other after : SheetHolding) : Type 0 where
   pub finds : MayFind before after.seen
   pub heard : Later other.seen after.seen
   pub is : after ≡ seeing before after.seen
   pub own_is : own after ≡ own before
 
 -- how many places these hands have claimed, and how often one
-abbrev pub claimed_by : List Holding → ℕ
-claimed_by hands = sum_by (λ (h : Holding). length (own h).claimed) hands
+abbrev pub claimed_by : List SheetHolding → ℕ
+claimed_by hands = sum_by (λ (h : SheetHolding). length (own h).claimed) hands
 
-abbrev pub claims_by : ℕ → List Holding → ℕ
-claims_by place hands = sum_by (λ (h : Holding). times place (own h).claimed) hands
+abbrev pub claims_by : ℕ → List SheetHolding → ℕ
+claims_by place hands = sum_by (λ (h : SheetHolding). times place (own h).claimed) hands
 
 -- how many places these hands have reported done, and failed
-abbrev pub done_by : List Holding → ℕ
-done_by hands = sum_by (λ (h : Holding). (own h).done) hands
+abbrev pub done_by : List SheetHolding → ℕ
+done_by hands = sum_by (λ (h : SheetHolding). (own h).done) hands
 
-abbrev pub failed_by : List Holding → ℕ
-failed_by hands = sum_by (λ (h : Holding). (own h).failed) hands
+abbrev pub failed_by : List SheetHolding → ℕ
+failed_by hands = sum_by (λ (h : SheetHolding). (own h).failed) hands
 
 -- what these hands have claimed is the places below how many they are, each claimed by one of them, once
-pub record ShareOut (places : ℕ) (hands : List Holding) : Type 0 where
+pub record ShareOut (places : ℕ) (hands : List SheetHolding) : Type 0 where
   pub within : claimed_by hands ≤ places
   pub once : (place : ℕ) → place < claimed_by hands → claims_by place hands ≡ 1
   pub none_else : (place : ℕ) → claimed_by hands ≤ place → claims_by place hands ≡ 0

@@ -3,14 +3,15 @@ ghost use Rattle.std.specs.Prelude.{◌≡◌, ◌≢◌, ◌<◌, ◌≤◌, tr
 ghost use Rattle.job_board.specs.Hands.{own_of};
 ghost use Rattle.job_board.specs.SheetCalls.{one_done, one_failed};
 ghost use Rattle.job_board.specs.Standings.{done_count, failed_count};
-ghost use Rattle.job_board.specs.Steps.{CancelledBy, ClaimedBy, HasNumber, HasUnreported, HeardBy, ReadBy, ReportedBy};
+ghost use Rattle.job_board.specs.Steps.{CancelledBy, ClaimedBy, HasSeatNumber, HasUnreported, HeardBy, ReadBy, ReportedBy};
 ghost use Rattle.job_board.specs.Views.{claim_word, dealer, dealt_to, note_of, one_less};
-ghost use Rattle.job_board.specs.declared.standing.End.TheVariants.{Open};
+ghost use Rattle.job_board.specs.declared.standing.HandEnd.TheVariants.{Open};
 
 use crate::plays::{
-    Cancel, Claim, Deal, Hear, Note, ReadClaims, ReadDone, ReadFailed, ReportDone, ReportFailed,
+    Cancel, Claim, DealHand, HearNote, ReadClaims, ReadDone, ReadFailed, ReportDone, ReportFailed,
+    TakeNote,
 };
-use crate::view::{OneStanding, Size, View};
+use crate::view::{OneStanding, SeatView, SheetSize};
 use atomic_table::{Seat, Table};
 use std::alloc::{AllocError, Global};
 
@@ -19,8 +20,8 @@ pub const CANCELLED: u64 = 0x8000_0000_0000_0000;
 
 /// The table with the three words, and its size.
 #[derive(Drop)]
-pub struct Counts {
-    pub table: Table<(), View, Size, OneStanding, Global>,
+pub struct SheetCounts {
+    pub table: Table<(), SeatView, SheetSize, OneStanding, Global>,
     pub places: u64,
     pub hands: u64,
     ghost sized: { (table.shared.table_id.words ≡ 3) × (table.shared.table_id.slots ≡ 0) },
@@ -28,22 +29,22 @@ pub struct Counts {
     ghost bounded: { (places ≤ 10000000) × (hands ≤ 63) },
 }
 
-impl Counts {
+impl SheetCounts {
     /// The table of a new sheet with its first seat, which has dealt out no hand.
     pub fn of(
         alloc: Global,
         places: u64,
         hands: u64,
-    ) -> Result<(Counts, Seat<(), View>), AllocError>
+    ) -> Result<(SheetCounts, Seat<(), SeatView>), AllocError>
         requires places { places ≤ 10000000 }
         requires hands { hands ≤ 63 }
         ensures size { IfOk result (λ t. (t.0.places ≡ places) × (t.0.hands ≡ hands)) }
         ensures seat { IfOk result (λ t. (t.1.table_id ≡ t.0.table.shared.table_id) × (t.1.me ≡ (dealer (record { places = places; hands = hands }) 0, []))) }
     {
-        let size = Size { places, hands };
+        let size = SheetSize { places, hands };
         let (table, seat) = Table::of_words(alloc, &[0, 0, 0], &size)?;
         Ok((
-            Counts {
+            SheetCounts {
                 table,
                 places,
                 hands,
@@ -53,21 +54,21 @@ impl Counts {
     }
 
     /// Deals out the seat of the next hand.
-    pub fn deal(&self, seat: &mut Seat<(), View>) -> Seat<(), View>
+    pub fn deal(&self, seat: &mut Seat<(), SeatView>) -> Seat<(), SeatView>
         requires own { seat.old.table_id ≡ self.now.table.shared.table_id }
         requires some { (seat.old.me.0.number ≡ None) × (seat.old.me.0.dealt < seat.old.me.0.hands) }
         ensures own { (seat.new.table_id ≡ seat.old.table_id) × (result.table_id ≡ seat.old.table_id) }
         ensures left { seat.new.me ≡ (one_less seat.old.me.0, seat.old.me.1) }
         ensures dealt { result.me ≡ (dealt_to seat.old.me.0, []) }
     {
-        self.table.shared.split_seat::<Deal>(seat)
+        self.table.shared.split_seat::<DealHand>(seat)
     }
 
     /// Claims the next place, and answers the claim word that it found.
-    pub fn claim(&self, seat: &mut Seat<(), View>) -> u64
+    pub fn claim(&self, seat: &mut Seat<(), SeatView>) -> u64
         requires own { seat.old.table_id ≡ self.now.table.shared.table_id }
         requires live { seat.old.me.0.live ≡ true }
-        requires hand { HasNumber seat.old.me.0 }
+        requires hand { HasSeatNumber seat.old.me.0 }
         requires open { (own_of seat.old.me.0.number seat.old.me.0.seen).end ≡ Open }
         ensures own { seat.new.table_id ≡ seat.old.table_id }
         ensures claimed { ClaimedBy seat.old.me result seat.new.me }
@@ -76,10 +77,10 @@ impl Counts {
     }
 
     /// Reports one more place done.
-    pub fn report_done(&self, seat: &mut Seat<(), View>)
+    pub fn report_done(&self, seat: &mut Seat<(), SeatView>)
         requires own { seat.old.table_id ≡ self.now.table.shared.table_id }
         requires live { seat.old.me.0.live ≡ true }
-        requires hand { HasNumber seat.old.me.0 }
+        requires hand { HasSeatNumber seat.old.me.0 }
         requires unreported { HasUnreported seat.old.me.0 }
         ensures own { seat.new.table_id ≡ seat.old.table_id }
         ensures reported { ReportedBy one_done seat.old.me seat.new.me }
@@ -88,10 +89,10 @@ impl Counts {
     }
 
     /// Reports one more place failed.
-    pub fn report_failed(&self, seat: &mut Seat<(), View>)
+    pub fn report_failed(&self, seat: &mut Seat<(), SeatView>)
         requires own { seat.old.table_id ≡ self.now.table.shared.table_id }
         requires live { seat.old.me.0.live ≡ true }
-        requires hand { HasNumber seat.old.me.0 }
+        requires hand { HasSeatNumber seat.old.me.0 }
         requires unreported { HasUnreported seat.old.me.0 }
         ensures own { seat.new.table_id ≡ seat.old.table_id }
         ensures reported { ReportedBy one_failed seat.old.me seat.new.me }
@@ -100,7 +101,7 @@ impl Counts {
     }
 
     /// Cancels the job.
-    pub fn cancel(&self, seat: &mut Seat<(), View>)
+    pub fn cancel(&self, seat: &mut Seat<(), SeatView>)
         requires own { seat.old.table_id ≡ self.now.table.shared.table_id }
         requires live { seat.old.me.0.live ≡ true }
         ensures own { seat.new.table_id ≡ seat.old.table_id }
@@ -110,7 +111,7 @@ impl Counts {
     }
 
     /// Reads the claim word.
-    pub fn read_claims(&self, seat: &mut Seat<(), View>) -> u64
+    pub fn read_claims(&self, seat: &mut Seat<(), SeatView>) -> u64
         requires own { seat.old.table_id ≡ self.now.table.shared.table_id }
         requires live { seat.old.me.0.live ≡ true }
         ensures own { seat.new.table_id ≡ seat.old.table_id }
@@ -120,7 +121,7 @@ impl Counts {
     }
 
     /// Reads how many places are reported done.
-    pub fn read_done(&self, seat: &mut Seat<(), View>) -> u64
+    pub fn read_done(&self, seat: &mut Seat<(), SeatView>) -> u64
         requires own { seat.old.table_id ≡ self.now.table.shared.table_id }
         requires live { seat.old.me.0.live ≡ true }
         ensures own { seat.new.table_id ≡ seat.old.table_id }
@@ -130,7 +131,7 @@ impl Counts {
     }
 
     /// Reads how many places are reported failed.
-    pub fn read_failed(&self, seat: &mut Seat<(), View>) -> u64
+    pub fn read_failed(&self, seat: &mut Seat<(), SeatView>) -> u64
         requires own { seat.old.table_id ≡ self.now.table.shared.table_id }
         requires live { seat.old.me.0.live ≡ true }
         ensures own { seat.new.table_id ≡ seat.old.table_id }
@@ -140,23 +141,23 @@ impl Counts {
     }
 
     /// A note of what a seat knows, for another one to hear.
-    pub fn note(&self, seat: &mut Seat<(), View>) -> Seat<(), View>
+    pub fn note(&self, seat: &mut Seat<(), SeatView>) -> Seat<(), SeatView>
         requires own { seat.old.table_id ≡ self.now.table.shared.table_id }
         ensures own { (seat.new.table_id ≡ seat.old.table_id) × (result.table_id ≡ seat.old.table_id) }
         ensures same { seat.new.me ≡ seat.old.me }
         ensures noted { result.me ≡ (note_of seat.old.me.0, []) }
     {
-        self.table.shared.split_seat::<Note>(seat)
+        self.table.shared.split_seat::<TakeNote>(seat)
     }
 
     /// Takes in what a note says.
-    pub fn hear(&self, seat: &mut Seat<(), View>, note: Seat<(), View>)
+    pub fn hear(&self, seat: &mut Seat<(), SeatView>, note: Seat<(), SeatView>)
         requires own { (seat.old.table_id ≡ self.now.table.shared.table_id) × (note.table_id ≡ self.now.table.shared.table_id) × (note.me.1 ≡ []) }
         requires live { seat.old.me.0.live ≡ true }
         ensures own { seat.new.table_id ≡ seat.old.table_id }
         ensures heard { HeardBy seat.old.me note.me seat.new.me }
     {
-        self.table.shared.join_seat::<Hear>(seat, note);
+        self.table.shared.join_seat::<HearNote>(seat, note);
         self.table.shared.load::<ReadClaims>(seat, 0);
     }
 }

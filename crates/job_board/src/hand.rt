@@ -4,7 +4,7 @@ ghost use Rattle.job_board.specs.Hands.{AreReports, fresh_holding, fresh_standin
 ghost use Rattle.job_board.specs.Seats.{IsHand, sheet_of};
 ghost use Rattle.job_board.specs.Standings.{IsSound};
 
-use crate::view::View;
+use crate::view::SeatView;
 use atomic_table::Seat;
 use base::Trace;
 use std::marker::Model;
@@ -15,16 +15,16 @@ use std::marker::Model;
 /// reported done and failed.
 #[derive(Drop)]
 pub struct Hand {
-    pub(crate) seat: Seat<(), View>,
+    pub(crate) seat: Seat<(), SeatView>,
     pub(crate) done: Trace<u64>,
     pub(crate) failed: Trace<u64>,
 }
 
 impl Model for Hand {
-    ghost use Rattle.job_board.specs.Hands.{Holding};
+    ghost use Rattle.job_board.specs.Hands.{SheetHolding};
     ghost use Rattle.job_board.specs.Seats.{IsHand, holding_of};
 
-    ghost Value = { Holding };
+    ghost Value = { SheetHolding };
 
     ghost view = { λ h. holding_of h.seat h.done.entries h.failed.entries };
 
@@ -43,7 +43,7 @@ impl Hand {
     }
 
     /// The hand of a new seat.
-    pub(crate) fn of(seat: Seat<(), View>) -> Hand
+    pub(crate) fn of(seat: Seat<(), SeatView>) -> Hand
         requires hand { IsHand seat.me [] [] }
         requires fresh { seat.me.0.seen ≡ fresh_standing seat.me.0.hands }
         ensures { result ≡ fresh_holding (sheet_of seat) seat.me.0.number }

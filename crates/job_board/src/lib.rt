@@ -37,5 +37,5 @@ pub use posts::Posts;
 pub use progress::Progress;
 pub use sheet::{Desk, JobSheet};
 pub use shown::{Command, Note, Reply, Shown};
-pub use standing::{Account, End, Standing};
-pub use view::{OneStanding, Size, View};
+pub use standing::{HandAccount, HandEnd, SheetStanding};
+pub use view::{OneStanding, SeatView, SheetSize};

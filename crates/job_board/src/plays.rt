@@ -1,11 +1,11 @@
 //! What each kind of step on the table tells the seat that takes it.
-use crate::view::View;
+use crate::view::SeatView;
 use atomic_table::{Join, Play, Split};
 
 /// A claim: a place is gained, or None is met.
 pub struct Claim;
 
-impl Play<(), View> for Claim {
+impl Play<(), SeatView> for Claim {
     ghost use Rattle.job_board.specs.Steps.{ClaimedBy};
 
     ghost then = { λ _. ClaimedBy };
@@ -14,7 +14,7 @@ impl Play<(), View> for Claim {
 /// One more place is reported done.
 pub struct ReportDone;
 
-impl Play<(), View> for ReportDone {
+impl Play<(), SeatView> for ReportDone {
     ghost use Rattle.job_board.specs.SheetCalls.{one_done};
     ghost use Rattle.job_board.specs.Steps.{ReportedBy};
 
@@ -24,7 +24,7 @@ impl Play<(), View> for ReportDone {
 /// One more place is reported failed.
 pub struct ReportFailed;
 
-impl Play<(), View> for ReportFailed {
+impl Play<(), SeatView> for ReportFailed {
     ghost use Rattle.job_board.specs.SheetCalls.{one_failed};
     ghost use Rattle.job_board.specs.Steps.{ReportedBy};
 
@@ -34,7 +34,7 @@ impl Play<(), View> for ReportFailed {
 /// The job is cancelled.
 pub struct Cancel;
 
-impl Play<(), View> for Cancel {
+impl Play<(), SeatView> for Cancel {
     ghost use Rattle.job_board.specs.Steps.{CancelledBy};
 
     ghost then = { λ _ me _ after. CancelledBy me after };
@@ -43,7 +43,7 @@ impl Play<(), View> for Cancel {
 /// A load of the claim word.
 pub struct ReadClaims;
 
-impl Play<(), View> for ReadClaims {
+impl Play<(), SeatView> for ReadClaims {
     ghost use Rattle.job_board.specs.Views.{claim_word};
     ghost use Rattle.job_board.specs.Steps.{ReadBy};
 
@@ -53,7 +53,7 @@ impl Play<(), View> for ReadClaims {
 /// A load of the number of places reported done.
 pub struct ReadDone;
 
-impl Play<(), View> for ReadDone {
+impl Play<(), SeatView> for ReadDone {
     ghost use Rattle.job_board.specs.Standings.{done_count};
     ghost use Rattle.job_board.specs.Steps.{ReadBy};
 
@@ -63,7 +63,7 @@ impl Play<(), View> for ReadDone {
 /// A load of the number of places reported failed.
 pub struct ReadFailed;
 
-impl Play<(), View> for ReadFailed {
+impl Play<(), SeatView> for ReadFailed {
     ghost use Rattle.job_board.specs.Standings.{failed_count};
     ghost use Rattle.job_board.specs.Steps.{ReadBy};
 
@@ -71,9 +71,9 @@ impl Play<(), View> for ReadFailed {
 }
 
 /// A split that deals out one more hand.
-pub struct Deal;
+pub struct DealHand;
 
-impl Split<View> for Deal {
+impl Split<SeatView> for DealHand {
     ghost use Rattle.job_board.specs.Views.{dealt_to, one_less};
 
     ghost left = { one_less };
@@ -82,9 +82,9 @@ impl Split<View> for Deal {
 }
 
 /// A split into a hand and a note of what it knows.
-pub struct Note;
+pub struct TakeNote;
 
-impl Split<View> for Note {
+impl Split<SeatView> for TakeNote {
     ghost use Rattle.job_board.specs.Views.{note_of};
 
     ghost left = { λ v. v };
@@ -93,9 +93,9 @@ impl Split<View> for Note {
 }
 
 /// A join, by which a hand hears a note.
-pub struct Hear;
+pub struct HearNote;
 
-impl Join<View> for Hear {
+impl Join<SeatView> for HearNote {
     ghost use Rattle.job_board.specs.Views.{hearing, spent};
 
     ghost both = { hearing };

@@ -26,7 +26,7 @@ impl Model for Posts {
 
 impl Chest for Posts {
     ghost use Rattle.std.specs.Prelude.{◌≡◌, ⊤};
-    ghost use Rattle.job_board.specs.Boards.{Admits, MayReply, TakesNoMemory, book_of};
+    ghost use Rattle.job_board.specs.Boards.{Admits, BoardMayReply, TakesNoMemory, book_of};
 
     type Command = Command;
 
@@ -56,7 +56,7 @@ impl Chest for Posts {
 
     ghost note = { λ command reply before after. record { command = command; reply = reply; before = before; after = after } };
 
-    ghost may_reply = { λ _ _ before after command reply. MayReply before command reply after };
+    ghost may_reply = { λ _ _ before after command reply. BoardMayReply before command reply after };
 
     fn act(&mut self, alloc: Global, command: Command) -> Result<Reply, AllocError> {
         match command {

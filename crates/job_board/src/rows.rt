@@ -18,7 +18,7 @@ pub const WAITING_LIMIT: usize = 64;
 pub const JOB_LIMIT: usize = 1024;
 
 /// A new job of so many places: what it takes to run it, and what stays on the board.
-fn prepared(
+fn new_job(
     alloc: Global,
     number: u64,
     job: Job,
@@ -101,7 +101,7 @@ impl Posts {
         self.waiting.reserve(1)?;
         self.jobs.reserve(1)?;
         let number = self.jobs.len() as u64 + 1;
-        let (posted, watched) = prepared(alloc, number, job, places)?;
+        let (posted, watched) = new_job(alloc, number, job, places)?;
         self.waiting.push_reserved(posted);
         self.jobs.push_reserved(watched);
         Ok(Some(number))

@@ -1,13 +1,13 @@
 //! A sheet: how it is dealt out, claimed from, reported to and gathered.
 ghost use Rattle.std.specs.Prelude.{◌≡◌, ◌≤◌, ◌<◌, IfOk, None, IfNone, IfSome, Contains, List};
-ghost use Rattle.job_board.specs.Hands.{AreFresh, fresh_holding, MayClaim, MayReport, AreApart, HasGathered, Holding, own, watching};
+ghost use Rattle.job_board.specs.Hands.{AreFresh, fresh_holding, MayClaim, MayReport, AreApart, HasGathered, SheetHolding, own, watching};
 ghost use Rattle.job_board.specs.Seats.{IsDealer};
 ghost use Rattle.job_board.specs.SheetCalls.{Cancels, Claims, MeetsNone, ReportsDone, ReportsFailed, StaysEnded, Gathers, ShareOut, claimed_by};
-ghost use Rattle.job_board.specs.declared.standing.End.TheVariants.{AllClaimed};
+ghost use Rattle.job_board.specs.declared.standing.HandEnd.TheVariants.{AllClaimed};
 
-use crate::counts::Counts;
+use crate::counts::SheetCounts;
 use crate::hand::Hand;
-use crate::view::View;
+use crate::view::SeatView;
 use atomic_table::Seat;
 use base::Trace;
 use std::alloc::{AllocError, Global};
@@ -18,7 +18,7 @@ use std::marker::Model;
 /// Contracts see it as the record of its table, its number of places and its number of hands.
 #[derive(Drop)]
 pub struct JobSheet {
-    pub(crate) counts: Counts,
+    pub(crate) counts: SheetCounts,
 }
 
 impl Model for JobSheet {
@@ -51,7 +51,7 @@ pub struct Desk {
 fn deal_out(
     alloc: Global,
     sheet: &JobSheet,
-    seat: &mut Seat<(), View>,
+    seat: &mut Seat<(), SeatView>,
 ) -> Result<Vec<Hand>, AllocError>
     requires dealer { IsDealer sheet.now 0 seat.old }
     ensures dealer { IfOk result (λ _. IsDealer sheet.now sheet.now.hands seat.new) }
@@ -76,7 +76,7 @@ impl JobSheet {
         ensures hands { IfOk result (λ d. AreFresh d.sheet d.hands.items) }
         ensures watch { IfOk result (λ d. d.watch ≡ fresh_holding d.sheet None) }
     {
-        let (counts, seat) = Counts::of(alloc, places, u64::from(hands))?;
+        let (counts, seat) = SheetCounts::of(alloc, places, u64::from(hands))?;
         let mut seat = seat;
         let sheet = JobSheet { counts };
         let hands = deal_out(alloc, &sheet, &mut seat)?;
@@ -164,8 +164,8 @@ impl JobSheet {
     /// all places. It does nothing.
     pub fn all_claimed(&self, hand: &Hand)
         requires own { hand.now.sheet ≡ self.now }
-        ensures shared { (hands : List Holding) → HasGathered hand.now hands → ShareOut self.now.places hands }
-        ensures all { (hands : List Holding) (h : Holding) → HasGathered hand.now hands → Contains hands h → (own h).end ≡ AllClaimed → claimed_by hands ≡ self.now.places }
+        ensures shared { (hands : List SheetHolding) → HasGathered hand.now hands → ShareOut self.now.places hands }
+        ensures all { (hands : List SheetHolding) (h : SheetHolding) → HasGathered hand.now hands → Contains hands h → (own h).end ≡ AllClaimed → claimed_by hands ≡ self.now.places }
     {
         let _seat = &hand.seat;
     }

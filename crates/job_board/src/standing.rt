@@ -2,7 +2,7 @@
 use std::collections::LinkedList;
 
 /// Whether a hand has met None, and why: all places were claimed, or the job was cancelled.
-pub enum End {
+pub enum HandEnd {
     Open,
     AllClaimed,
     Cancelled,
@@ -10,15 +10,15 @@ pub enum End {
 
 /// What one hand has claimed, in order, how many of these places it has reported done and failed, and whether it has met
 /// None.
-pub struct Account {
+pub struct HandAccount {
     pub claimed: LinkedList<u64>,
     pub done: u64,
     pub failed: u64,
-    pub end: End,
+    pub end: HandEnd,
 }
 
 /// The accounts of all hands of a sheet, in the order of their numbers, and whether the job is cancelled.
-pub struct Standing {
-    pub accounts: LinkedList<Account>,
+pub struct SheetStanding {
+    pub accounts: LinkedList<HandAccount>,
     pub cancelled: bool,
 }

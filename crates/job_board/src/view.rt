@@ -2,12 +2,12 @@
 //!
 //! Word 0 counts the claims, and has the mark of a cancelled job; word 1 counts the places reported done, and word 2 those
 //! reported failed.
-use crate::standing::Standing;
+use crate::standing::SheetStanding;
 use atomic_table::TableRule;
 
 /// What a table is made with: how many places and hands there are.
 #[derive(Drop)]
-pub struct Size {
+pub struct SheetSize {
     pub places: u64,
     pub hands: u64,
 }
@@ -17,20 +17,20 @@ pub struct Size {
 /// A seat is `live` until it is joined into another one. A hand's has its number. The first seat has dealt out so many
 /// hands, and every other one counts all as dealt. `seen` is how the sheet stood at the seat's last step, and `heard` is
 /// what another one told it, which a later load takes in.
-pub struct View {
+pub struct SeatView {
     pub live: bool,
     pub places: u64,
     pub hands: u64,
     pub number: Option<u64>,
     pub dealt: u64,
-    pub seen: Standing,
-    pub heard: Standing,
+    pub seen: SheetStanding,
+    pub heard: SheetStanding,
 }
 
 /// The rule of the table: one standing, which all views fit.
 pub struct OneStanding;
 
-impl TableRule<(), View, Size> for OneStanding {
+impl TableRule<(), SeatView, SheetSize> for OneStanding {
     ghost use Rattle.job_board.specs.Rule.{Kept};
     ghost use Rattle.job_board.specs.Views.{dealer};
 

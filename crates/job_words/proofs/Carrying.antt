@@ -9,7 +9,7 @@ use Rattle.cache_core.specs.Steps.{Stepped, advanced, began, disk_faults, ends}
 use Rattle.base.specs.Causes.{RoseBy}
 use Rattle.job_words.specs.Visit.{Chances}
 use Rattle.matrix_geometry.specs.declared.address.Address.{Address}
-use Rattle.tile_requests.specs.Events.{GoesFurther, Moves, RunsTo, ended_so}
+use Rattle.tile_requests.specs.Events.{GoesFurther, MovesRequest, RunsTo, ended_so}
 use Rattle.tile_requests.specs.Requests.{Chance, calm, disk_faults_in, further, is_at_work}
 use Rattle.tile_requests.proofs.Moving.{begun_moves, moves_further}
 use Rattle.sessions.specs.Outside.{FaultCounts, counts}
@@ -24,7 +24,7 @@ pub record CarriesOn (renders disk : FaultCounts) (force : Bool) (s : State) (a 
   pub made : ends t o ≡ further chances.ending (further chances.rendering (began s a force chances.asking.ask chances.asking.moment chances.asking.unread chances.asking.bytes))
   pub disk_later : disk.before ≤ disk.after
   pub faults : RoseBy (disk_faults_in chances.asking + disk_faults_in chances.rendering + disk_faults_in chances.ending) disk.before disk.after
-  pub moves : Moves None renders.before renders.after s actor.Idle a (length s.history) (ended_so o) t
+  pub moves : MovesRequest None renders.before renders.after s actor.Idle a (length s.history) (ended_so o) t
 
 -- ONE EVENT
 

@@ -39,7 +39,7 @@ use Rattle.job_words.proofs.Carrying.{CarriesOn, carries}
 use Rattle.job_words.proofs.AtRest.{cut_rests, refreshed_done}
 use Rattle.metatile_plan.specs.declared.metatile.MetaKey.{MetaKey}
 use Rattle.raster_field.specs.Blocks.{IsMeta, first_tile}
-use Rattle.tile_requests.specs.Events.{EndsAs, RunsTo, failing}
+use Rattle.tile_requests.specs.Events.{RefreshEndsAs, RunsTo, failing}
 use Rattle.tile_requests.specs.Requests.{calm}
 use Rattle.sessions.specs.Outside.{FaultCounts, counts}
 use Rattle.tile_service.specs.Session.{IsAtRest}
@@ -185,7 +185,7 @@ cause_of (Ok x) Cause h = tt
 cause_of (Err e) Cause h = λ is. h (ap Err is)
 
 -- the place ends by its refresh as by the outcome of its tile
-same_end : (r : Result Refreshed GetFault) (o : cached.TileOutcome) → EndsAs r o → end_of_refresh r ≡ end_of_tile o
+same_end : (r : Result Refreshed GetFault) (o : cached.TileOutcome) → RefreshEndsAs r o → end_of_refresh r ≡ end_of_tile o
 same_end (Ok x) o so = ap end_of_tile (sym so.1)
 same_end (Err got.SourceFault) o so = ap end_of_tile (sym so)
 same_end (Err got.Spent) o so = ap end_of_tile (sym so)
@@ -200,7 +200,7 @@ module _ (told : Option ℕ) (before after : ℕ) (x y : Shown) (job : Job) (res
   RefreshesSo =
       (m : MetaKey) (force : Bool) (gained : List (Made Note)) (result : Result Refreshed GetFault) → IsMeta x.state.catalogue m → AreSteps x.state.catalogue x gained y
       → CameTo x.state.catalogue Truth m force (fronted (now x.state)) gained result → before ≤ after → IfErr result (λ e. e ≡ got.SourceFault → Rose before after)
-      → (o : cached.TileOutcome) × RunsTo before after x.faults y.faults x.state (first_tile x.state.catalogue m) force o y.state × EndsAs result o
+      → (o : cached.TileOutcome) × RunsTo before after x.faults y.faults x.state (first_tile x.state.catalogue m) force o y.state × RefreshEndsAs result o
 
   module _ (refreshes : RefreshesSo) (metas : (m : MetaKey) → Contains (places x.state.catalogue job) (Metatile m) → IsMeta x.state.catalogue m) (still : told ≡ Some x.state.catalogue.source → IsSound x.state → IsSound y.state)
       (place : ℕ) (sees : FrontedBook) (gained : List (Made Note)) (steps : AreSteps x.state.catalogue x gained y) (end : PlaceEnd) where

@@ -7,7 +7,7 @@ use Rattle.job_places.specs.declared.tally.Tally.{Tally}
 use Rattle.job_places.specs.Tallies.{tally_of}
 use Rattle.job_forms.specs.declared.job.Job.{Job}
 use Rattle.job_words.specs.Ends.{IsDoneSo, RunsAndSaves, job_text, output_of}
-use Rattle.job_words.specs.Run.{IsRun}
+use Rattle.job_words.specs.Run.{IsJobRun}
 use Rattle.job_words.specs.Visit.{LoneVisit}
 use Rattle.command_status.specs.declared.status.Status.{Status}
 use Rattle.command_status.specs.declared.status.Status.TheVariants as status
@@ -21,7 +21,7 @@ use Rattle.sessions.specs.Outside.{FaultCounts, Outside, counts}
 
 -- a run and the saving after it, with the faults of the disk counted over the whole word
 pub runs_and_saves : (told : Option ℕ) (renders : FaultCounts) (before start mid after : ℕ) (job : Job) (visits : List LoneVisit) (s t u : State) → before ≤ start → mid ≤ after
-    → IsRun told renders (counts start mid) job visits s t → SavesAll (counts mid after) t u → RunsAndSaves told renders (counts before after) job visits s u
+    → IsJobRun told renders (counts start mid) job visits s t → SavesAll (counts mid after) t u → RunsAndSaves told renders (counts before after) job visits s u
 runs_and_saves told renders before start mid after job visits s t u earlier later run saves = record {
   ran = t;
   run = record {

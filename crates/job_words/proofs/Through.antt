@@ -16,12 +16,12 @@ use Rattle.job_places.proofs.Counting.{adds_up, one_counted, tally_more}
 use Rattle.job_forms.specs.declared.job.Job.{Job}
 use Rattle.job_forms.specs.Places.{Place, places}
 use Rattle.job_words.specs.Coming.{ComesTo}
-use Rattle.job_words.specs.Run.{GoesThrough, IsRun, disk_faults, source_faults}
+use Rattle.job_words.specs.Run.{GoesThroughPlaces, IsJobRun, disk_faults, source_faults}
 use Rattle.job_words.specs.Visit.{IsVisited, LoneVisit}
 use Rattle.sessions.specs.Outside.{FaultCounts, counts}
 
 -- one visit more
-goes_on : (force : Bool) (s t u : State) (vs : List LoneVisit) (v : LoneVisit) → GoesThrough force s vs t → IsVisited force t v u → GoesThrough force s (vs ++ v ∷ []) u
+goes_on : (force : Bool) (s t u : State) (vs : List LoneVisit) (v : LoneVisit) → GoesThroughPlaces force s vs t → IsVisited force t v u → GoesThroughPlaces force s (vs ++ v ∷ []) u
 goes_on force s t u [] v same visited = (u, subst (λ x. IsVisited force x v u) same visited, refl)
 goes_on force s t u (w ∷ vs) v goes visited = (goes.0, goes.1, goes_on force goes.0 t u vs v goes.2 visited)
 
@@ -43,7 +43,7 @@ all_counted tally visits is = subst (λ (t : Tally). t.done + t.failed ≡ t.pla
 pub record IsPart (told : Option ℕ) (renders disk : FaultCounts) (job : Job) (n : ℕ) (tally : Tally) (s here : State) : Type 0 where
   pub visits : List LoneVisit
   pub each : map (λ v. v.place) visits ≡ take n (places s.catalogue job)
-  pub goes : GoesThrough (forces job.kind) s visits here
+  pub goes : GoesThroughPlaces (forces job.kind) s visits here
   pub counted : tally ≡ tally_of (ends_of visits)
   pub many : tally.places ≡ n
   pub failed : RoseBy (source_faults visits) renders.before renders.after
@@ -114,5 +114,5 @@ module _ (told : Option ℕ) (renders disk : FaultCounts) (job : Job) (n : ℕ) 
   each_all : map (λ v. v.place) part.visits ≡ places s.catalogue job
   each_all = part.each ∙ subst (λ k. take k (places s.catalogue job) ≡ places s.catalogue job) (sym all) (take-length (places s.catalogue job))
 
-  pub runs_all : (visits : List LoneVisit) × (tally ≡ tally_of (map (λ v. v.end) visits)) × IsRun told renders disk job visits s u
+  pub runs_all : (visits : List LoneVisit) × (tally ≡ tally_of (map (λ v. v.end) visits)) × IsJobRun told renders disk job visits s u
   runs_all = (part.visits, part.counted, record { each = each_all; goes = part.goes; failed = part.failed; faults = part.faults; sound = part.sound })

@@ -10,7 +10,7 @@ use Rattle.job_forms.specs.declared.job.Job.{Job}
 use Rattle.job_forms.specs.declared.job.JobKind.{JobKind}
 use Rattle.job_forms.specs.declared.job.JobKind.TheVariants.{Seed, Reseed, Truncate}
 use Rattle.job_words.specs.Input.{IsFormedSo, IsJobIn, IsTooLong}
-use Rattle.job_words.specs.Run.{IsRun}
+use Rattle.job_words.specs.Run.{IsJobRun}
 use Rattle.job_words.specs.Visit.{LoneVisit}
 use Rattle.command_status.specs.declared.status.Status.{Status}
 use Rattle.command_status.specs.declared.status.Status.TheVariants as status
@@ -38,7 +38,7 @@ job_text kind tally =
 -- numbers, if what was opened was.
 pub record RunsAndSaves (told : Option ℕ) (renders disk : FaultCounts) (job : Job) (visits : List LoneVisit) (s u : State) : Type 0 where
   pub ran : State
-  pub run : IsRun told renders disk job visits s ran
+  pub run : IsJobRun told renders disk job visits s ran
   pub saves : SavesAll disk ran u
   pub sound : told ≡ Some s.catalogue.source → IsSound s → IsSound u
 

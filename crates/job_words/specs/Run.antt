@@ -15,9 +15,9 @@ use Rattle.tile_requests.specs.Requests.{disk_faults_in}
 use Rattle.sessions.specs.Outside.{FaultCounts}
 
 -- these visits, one after the other, led from s to u
-abbrev pub GoesThrough : Bool → State → List LoneVisit → State → Type 0
-GoesThrough force s [] u = u ≡ s
-GoesThrough force s (v ∷ vs) u = (t : State) × IsVisited force s v t × GoesThrough force t vs u
+abbrev pub GoesThroughPlaces : Bool → State → List LoneVisit → State → Type 0
+GoesThroughPlaces force s [] u = u ≡ s
+GoesThroughPlaces force s (v ∷ vs) u = (t : State) × IsVisited force s v t × GoesThroughPlaces force t vs u
 
 -- FAULTS
 
@@ -58,9 +58,9 @@ disk_faults visits = sum_by disk_faults_at visits
 -- faults to another. Each place of the job was visited once, in order. No more places failed by the source than its count rose by, and the
 -- visits name no more faults of the disk than its count rose by. Where the source is modelled as the catalogue's, a sound cabinet stays
 -- sound: what is kept is the picture of its number.
-pub record IsRun (told : Option ℕ) (renders disk : FaultCounts) (job : Job) (visits : List LoneVisit) (s u : State) : Type 0 where
+pub record IsJobRun (told : Option ℕ) (renders disk : FaultCounts) (job : Job) (visits : List LoneVisit) (s u : State) : Type 0 where
   pub each : map (λ v. v.place) visits ≡ places s.catalogue job
-  pub goes : GoesThrough (forces job.kind) s visits u
+  pub goes : GoesThroughPlaces (forces job.kind) s visits u
   pub failed : RoseBy (source_faults visits) renders.before renders.after
   pub faults : RoseBy (disk_faults visits) disk.before disk.after
   pub sound : told ≡ Some s.catalogue.source → IsSound s → IsSound u

@@ -7,7 +7,7 @@ ghost use Rattle.job_forms.specs.Places.{Place, places};
 ghost use Rattle.job_places.specs.Tallies.{tally_of};
 ghost use Rattle.job_places.specs.Visits.{forces};
 ghost use Rattle.job_words.specs.Coming.{ComesTo};
-ghost use Rattle.job_words.specs.Run.{IsRun};
+ghost use Rattle.job_words.specs.Run.{IsJobRun};
 ghost use Rattle.job_words.specs.Visit.{LoneVisit};
 ghost use Rattle.sessions.specs.Outside.{counts};
 ghost use Rattle.tile_service.specs.Session.{IsAtRest};
@@ -55,7 +55,7 @@ pub fn run_places<C: Keeper, S: Source>(
     requires fits { Fits (C.state cabinet.old).catalogue job.now }
     requires rest { IsAtRest (C.state cabinet.old) }
     ensures runs { (visits : List LoneVisit) × (result ≡ tally_of (map (λ v. v.end) visits))
-        × IsRun (S.told source.old) (counts (S.faults source.old) (S.faults source.new)) (counts (C.faults cabinet.old) (C.faults cabinet.new)) job.now visits (C.state cabinet.old) (C.state cabinet.new) }
+        × IsJobRun (S.told source.old) (counts (S.faults source.old) (S.faults source.new)) (counts (C.faults cabinet.old) (C.faults cabinet.new)) job.now visits (C.state cabinet.old) (C.state cabinet.new) }
     ensures adds_up { result.done + result.failed ≡ result.places }
     ensures later { C.faults cabinet.old ≤ C.faults cabinet.new }
     ensures told { S.told source.new ≡ S.told source.old }

@@ -10,7 +10,7 @@ use command_status::Status;
 use http_wire::ByteSink;
 use job_forms::JobKind;
 use job_places::Tally;
-use opened_cache::written;
+use opened_cache::write_text;
 use tile_requests::{add, add_number};
 
 /// The name of what a job does, as its text spells it.
@@ -46,5 +46,5 @@ pub fn told_tally<O: ByteSink>(output: &mut O, kind: JobKind, tally: &Tally) -> 
     add_numbered(&mut text, b" places ", tally.places);
     add_numbered(&mut text, b" done ", tally.done);
     add_numbered(&mut text, b" failed ", tally.failed);
-    written(output, text, b"\n")
+    write_text(output, text, b"\n")
 }

@@ -24,7 +24,7 @@ use disk_model::Disk;
 use http_wire::{ByteSink, ByteSource};
 use job_forms::Job;
 use job_places::Tally;
-use opened_cache::{Loan, closed, opened, save_all};
+use opened_cache::{Loan, close_cache, open_cache, save_all};
 use source_render::Source;
 use std::alloc::Global;
 use std::marker::Brand;
@@ -100,10 +100,10 @@ fn run_over<'a, D: Disk, S: Source, O: ByteSink, L: Loan>(
     ensures told { D.told result.0.now ≡ D.told disk.entry.now }
     ensures loan { result.0.ghost_name ≡ L.disk }
 {
-    match opened::<D, L>(alloc, catalogue, clock, disk) {
+    match open_cache::<D, L>(alloc, catalogue, clock, disk) {
         Ok(mut cabinet) => {
             let tally = run_and_save(alloc, &mut cabinet, source, job);
-            let disk = closed(cabinet);
+            let disk = close_cache(cabinet);
             (disk, told_tally(output, job.kind, &tally))
         }
         Err(refusal) => {

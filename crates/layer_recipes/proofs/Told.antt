@@ -17,7 +17,7 @@ use Rattle.raster_field.specs.Picture.{Scene, scene_of}
 use Rattle.raster_field.specs.Rasters.{picture_in, place_of}
 use Rattle.raster_field.specs.TileText.{bytes_of, text_in, tile_pixels, tile_text}
 use Rattle.raster_field.proofs.Windows.{window_colour}
-use Rattle.layer_recipes.specs.declared.place.Place.{Place}
+use Rattle.layer_recipes.specs.declared.place.TilePlace.{TilePlace}
 use Rattle.layer_recipes.specs.declared.recipe.Part.{Part}
 use Rattle.layer_recipes.specs.Composite.{black, colour_on, composite, is_same, laid_over, pictured, pictures, pixel_at, pixel_in, seen_through, shown, text_of, told_parts}
 use Rattle.layer_recipes.specs.OfCatalogue.{tile_at}
@@ -67,7 +67,7 @@ its_matrix c source number theme grid z m is =
     subst (λ (o : Option Matrix). IfSome (option_and_then (λ m. option_and_then (λ l. option_and_then (λ s. (let scene : Scene = record { source = source; number = number; theme = theme; matrix = m; layer = l; style = s } in Some scene)) (style_of c theme)) (layer_of c theme)) o) (λ s. s.matrix ≡ m))
     (sym is) (on_matrix source number theme m (layer_of c theme) (style_of c theme))
 
-part_shows : (c : Catalogue) (place : Place) (m : Matrix) (p : Part) (number x y : ℕ) → matrix_in c place.grid place.z ≡ Some m → x < m.tile_w → y < m.tile_h
+part_shows : (c : Catalogue) (place : TilePlace) (m : Matrix) (p : Part) (number x y : ℕ) → matrix_in c place.grid place.z ≡ Some m → x < m.tile_w → y < m.tile_h
     → pixel_in (tile_text c number (tile_at place p)) (pixel_at m x y) ≡ (pictured c (tile_at place p) number p.key).colour x y
 part_shows c place m p number x y is left up =
     shows m (scene_of c c.source number p.theme place.grid place.z) place.row place.col x y (its_matrix c c.source number p.theme place.grid place.z m is) left up
@@ -77,7 +77,7 @@ part_shows c place m p number x y is left up =
 below_same : (key a b s t : Colour) → a ≡ b → s ≡ t → (if is_same a key then s else a) ≡ (if is_same b key then t else b)
 below_same key a b s t e d = ap (λ (c : Colour). if is_same c key then s else c) e ∙ ap (λ (u : Colour). if is_same b key then u else b) d
 
-all_show : (c : Catalogue) (place : Place) (m : Matrix) (ps : List Part) (ks : List ℕ) (x y : ℕ) → matrix_in c place.grid place.z ≡ Some m → x < m.tile_w → y < m.tile_h
+all_show : (c : Catalogue) (place : TilePlace) (m : Matrix) (ps : List Part) (ks : List ℕ) (x y : ℕ) → matrix_in c place.grid place.z ≡ Some m → x < m.tile_w → y < m.tile_h
     → seen_through (map (shown m) (told_parts c place ps ks)) x y ≡ seen_through (pictures c place ps ks) x y
 all_show c place m [] ks x y is left up = refl
 all_show c place m (p ∷ ps) [] x y is left up = refl
@@ -103,7 +103,7 @@ text_same m f g same =
     same_within (λ i. bytes_of (f i j)) (λ i. bytes_of (g i j)) 0 m.tile_w (λ i least most.
     (let left : i < m.tile_w = omega (arith, most) in ap (λ (c : Colour). bytes_of c) (same i j left up))))))
 
-pub told_composite : (c : Catalogue) (place : Place) (m : Matrix) (parts : List Part) (numbers : List ℕ) → matrix_in c place.grid place.z ≡ Some m → laid_over m (told_parts c place parts numbers) ≡ composite c place parts numbers
+pub told_composite : (c : Catalogue) (place : TilePlace) (m : Matrix) (parts : List Part) (numbers : List ℕ) → matrix_in c place.grid place.z ≡ Some m → laid_over m (told_parts c place parts numbers) ≡ composite c place parts numbers
 told_composite c place m parts numbers is =
     text_same m (seen_through (map (shown m) (told_parts c place parts numbers))) (seen_through (pictures c place parts numbers)) (λ x y left up. all_show c place m parts numbers x y is left up)
     ∙ sym (ap (λ (o : Option Matrix). option_map_or (λ m. text_of m (seen_through (pictures c place parts numbers))) o []) is)

@@ -10,7 +10,7 @@ use Rattle.metatile_plan.specs.Texts.{header}
 use Rattle.raster_field.specs.declared.colour.Colour.{Colour}
 use Rattle.raster_field.specs.Picture.{Scene, colour_at, scene_of}
 use Rattle.raster_field.specs.TileText.{bytes_of, tile_text}
-use Rattle.layer_recipes.specs.declared.place.Place.{Place}
+use Rattle.layer_recipes.specs.declared.place.TilePlace.{TilePlace}
 use Rattle.layer_recipes.specs.declared.recipe.Part.{Part}
 use Rattle.layer_recipes.specs.OfCatalogue.{tile_at}
 
@@ -52,13 +52,13 @@ abbrev pub pictured : Catalogue → Address → ℕ → Colour → Layered
 pictured c a number key = record { colour = colour_on (scene_of c c.source number a.theme a.grid a.z) a.row a.col; key = key }
 
 -- the parts at their numbers
-abbrev pub pictures : Catalogue → Place → List Part → List ℕ → List Layered
+abbrev pub pictures : Catalogue → TilePlace → List Part → List ℕ → List Layered
 pictures c place [] numbers = []
 pictures c place (p ∷ ps) [] = []
 pictures c place (p ∷ ps) (number ∷ numbers) = pictured c (tile_at place p) number p.key ∷ pictures c place ps numbers
 
 -- the composite of parts at their numbers
-abbrev pub composite : Catalogue → Place → List Part → List ℕ → List ℕ
+abbrev pub composite : Catalogue → TilePlace → List Part → List ℕ → List ℕ
 composite c place parts numbers = option_map_or (λ m. text_of m (seen_through (pictures c place parts numbers))) (matrix_in c place.grid place.z) []
 
 -- PARTS THAT ARE ENCODED TILES
@@ -80,7 +80,7 @@ abbrev pub laid_over : Matrix → List (Colour × List ℕ) → List ℕ
 laid_over m parts = text_of m (seen_through (map (shown m) parts))
 
 -- the encoded tiles of parts at their numbers, with their keys
-abbrev pub told_parts : Catalogue → Place → List Part → List ℕ → List (Colour × List ℕ)
+abbrev pub told_parts : Catalogue → TilePlace → List Part → List ℕ → List (Colour × List ℕ)
 told_parts c place [] numbers = []
 told_parts c place (p ∷ ps) [] = []
 told_parts c place (p ∷ ps) (number ∷ numbers) = (p.key, tile_text c number (tile_at place p)) ∷ told_parts c place ps numbers

@@ -4,7 +4,7 @@ use Rattle.std.specs.List.{AllByRecursion}
 use Rattle.catalog.specs.declared.catalogue.Catalogue.{Catalogue}
 use Rattle.catalog.specs.LookUp.{HasValues, layer_of, matrix_in, style_of}
 use Rattle.matrix_geometry.specs.declared.address.Address.{Address}
-use Rattle.layer_recipes.specs.declared.place.Place.{Place}
+use Rattle.layer_recipes.specs.declared.place.TilePlace.{TilePlace}
 use Rattle.layer_recipes.specs.declared.recipe.Part.{Part}
 use Rattle.layer_recipes.specs.declared.recipe.Recipe.{Recipe}
 
@@ -21,9 +21,9 @@ pub record IsRecipeOf (c : Catalogue) (r : Recipe) : Type 0 where
   pub each : AllByRecursion (IsPartOf c r.grid) r.parts.items
 
 -- the place lies in the matrix
-abbrev pub IsPlaceIn : Catalogue → Place → Type 0
+abbrev pub IsPlaceIn : Catalogue → TilePlace → Type 0
 IsPlaceIn c place = IsSomeAnd (matrix_in c place.grid place.z) (λ m. (place.row < m.rows) × (place.col < m.cols))
 
 -- the tile of a part at a place
-abbrev pub tile_at : Place → Part → Address
+abbrev pub tile_at : TilePlace → Part → Address
 tile_at place p = record { theme = p.theme; grid = place.grid; z = place.z; row = place.row; col = place.col }

@@ -7,7 +7,7 @@ use Rattle.raster_field.specs.declared.colour.Colour.{Colour}
 use Rattle.layer_recipes.specs.Composite.{Layered, is_same, pixel_at, pixel_in, seen_through, shown}
 
 -- an encoded tile on a matrix; of each pixel, whether each part so far shows its key there
-pub record Sheet : Type 0 where
+pub record OverlaySheet : Type 0 where
   pub matrix : Matrix
   pub text : List ℕ
   pub clear : List Bool
@@ -18,7 +18,7 @@ are_keys [] x y = true
 are_keys (l ∷ ls) x y = is_same (l.colour x y) l.key && are_keys ls x y
 
 -- these parts were laid on it, from the top down
-pub record Lays (s : Sheet) (parts : List (Colour × List ℕ)) : Type 0 where
+pub record Lays (s : OverlaySheet) (parts : List (Colour × List ℕ)) : Type 0 where
   pub colour : (x y : ℕ) → x < s.matrix.tile_w → y < s.matrix.tile_h → pixel_in s.text (pixel_at s.matrix x y) ≡ seen_through (map (shown s.matrix) parts) x y
   pub clear : (x y : ℕ) → x < s.matrix.tile_w → y < s.matrix.tile_h → get_or s.clear (y * s.matrix.tile_w + x) false ≡ are_keys (map (shown s.matrix) parts) x y
 

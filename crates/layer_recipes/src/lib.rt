@@ -25,5 +25,5 @@ pub use composed::{ComposeFault, Composed};
 pub use fault::{RecipeFault, RecipeField};
 pub use laws::laws_of_composites;
 pub use overlay::Overlay;
-pub use place::Place;
+pub use place::TilePlace;
 pub use recipe::{Part, Recipe};

@@ -24,9 +24,9 @@ pub struct Overlay {
 }
 
 impl Model for Overlay {
-    ghost use Rattle.layer_recipes.specs.Overlaid.{IsSheet, Sheet};
+    ghost use Rattle.layer_recipes.specs.Overlaid.{IsSheet, OverlaySheet};
 
-    ghost Value = { Sheet };
+    ghost Value = { OverlaySheet };
 
     ghost view = { λ o. record { matrix = o.matrix; text = o.text.items; clear = o.clear.items } };
 

@@ -9,14 +9,14 @@ use matrix_geometry::Address;
 
 /// Where in the matrix of this number of a grid a tile lies.
 #[derive(Clone, Copy, PartialEq, Eq)]
-pub struct Place {
+pub struct TilePlace {
     pub grid: u32,
     pub z: u32,
     pub row: u32,
     pub col: u32,
 }
 
-impl Place {
+impl TilePlace {
     /// The tile of a part that lies here. It is a tile of each catalogue of which the part and the place are.
     pub fn tile(&self, part: &Part) -> Address
         ensures tile { result ≡ tile_at self.now part.now }

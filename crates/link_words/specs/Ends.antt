@@ -11,7 +11,7 @@ use Rattle.command_setup.specs.Held.{MayBe}
 use Rattle.command_setup.specs.Setup.{Configures, IsRead}
 use Rattle.cut_follower.specs.declared.ends.LinkEnd.{LinkEnd}
 use Rattle.cut_follower.specs.Following.{FollowsOn, MayEndAlong}
-use Rattle.cut_follower.specs.Leading.{Leads}
+use Rattle.cut_follower.specs.Leading.{LeadsLink}
 use Rattle.cut_follower.specs.Links.{LinkAt}
 use Rattle.disk_model.specs.Content.{Content, Same}
 use Rattle.disk_model.specs.Images.{ChangesBy, Every, Leaves}
@@ -38,7 +38,7 @@ IsQuiet d = IsTrue d.told → ChangesBy Same d.from d.to
 
 -- A LEADER
 
--- The outbox was opened, where it is modelled to the posts of its content, none of them heard as seen; and the link came to what `Leads`
+-- The outbox was opened, where it is modelled to the posts of its content, none of them heard as seen; and the link came to what `LeadsLink`
 -- says. The file was read and synced, and no more, and each image opens to the posts.
 pub record HasLed (c : Catalogue) (o : DiskChange) (a b : LinkAt) (e : LinkEnd) : Type 0 where
   pub first : Outgoing
@@ -46,7 +46,7 @@ pub record HasLed (c : Catalogue) (o : DiskChange) (a b : LinkAt) (e : LinkEnd) 
   pub opens : IsTrue o.told → OpensToPosts c o.from.seen first.posts
   pub silent : first.heard ≡ 0
   pub sure : first.undecided ≡ None
-  pub leads : Leads a b first last e
+  pub leads : LeadsLink a b first last e
   pub quiet : IsQuiet o
   pub left : IsTrue o.told → Every o.to.may_leave (MayOpenTo c last)
 
@@ -100,7 +100,7 @@ pub record HasOpenedAndFollowed (c : Catalogue) (clock : Readings) (d m : DiskCh
   pub follows : FollowsWith c d.faults m a b LinkStays first last end
 
 -- the cache was refused for this cause, and neither the marks nor the link was touched
-pub record IsUnopened (c : Catalogue) (d : DiskChange) (LinkStays MarksStay : Type 0) (fault : OpenFault) : Type 0 where
+pub record IsLinkUnopened (c : Catalogue) (d : DiskChange) (LinkStays MarksStay : Type 0) (fault : OpenFault) : Type 0 where
   pub refused : cache_file.IsRefusedAs d.told c d.from.seen d.faults.before d.faults.after fault
   pub leaves : RefusalLeaves c d fault
   pub stays : LinkStays
@@ -108,7 +108,7 @@ pub record IsUnopened (c : Catalogue) (d : DiskChange) (LinkStays MarksStay : Ty
 
 abbrev pub Follows : Catalogue → Readings → DiskChange → DiskChange → LinkAt → LinkAt → Type 0 → Type 0 → Result LinkEnd OpenFault → Type 0
 Follows c clock d m a b LinkStays MarksStay (Ok e) = HasOpenedAndFollowed c clock d m a b LinkStays (Ok e)
-Follows c clock d m a b LinkStays MarksStay (Err fault) = IsUnopened c d LinkStays MarksStay fault ⊎ HasOpenedAndFollowed c clock d m a b LinkStays (Err fault)
+Follows c clock d m a b LinkStays MarksStay (Err fault) = IsLinkUnopened c d LinkStays MarksStay fault ⊎ HasOpenedAndFollowed c clock d m a b LinkStays (Err fault)
 
 -- THE WORDS
 

@@ -16,7 +16,7 @@ use cut_follower::LinkEnd;
 use disk_model::Disk;
 use gate_journal::OpenFault;
 use http_wire::Link;
-use opened_cache::{Loan, closed, opened};
+use opened_cache::{Loan, close_cache, open_cache};
 use std::alloc::Global;
 use std::marker::Brand;
 
@@ -44,10 +44,10 @@ fn followed_over<'a, D: Disk, L: Link, M: Loan>(
     ensures marks_told { D.told marks.new ≡ D.told marks.old }
     ensures loan { result.0.ghost_name ≡ M.disk }
 {
-    match opened::<D, M>(alloc, catalogue, clock, disk) {
+    match open_cache::<D, M>(alloc, catalogue, clock, disk) {
         Ok(mut cabinet) => {
             let end = follow_on(alloc, &mut cabinet, marks, link);
-            (closed(cabinet), end)
+            (close_cache(cabinet), end)
         }
         Err(refusal) => {
             let (fault, disk) = refusal;

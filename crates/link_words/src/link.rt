@@ -15,7 +15,7 @@ use crate::lead::lead;
 use crate::words::{LinkWord, link_word};
 use base::Clock;
 use catalog::Catalogue;
-use command_setup::{configured, status_of_refusal};
+use command_setup::{read_configuration, status_of_refusal};
 use command_status::Status;
 use cut_follower::LinkEnd;
 use disk_model::Disk;
@@ -59,7 +59,7 @@ fn done_under<D: Disk, L: Link>(
 }
 
 /// Does a word under the catalogue that is read.
-fn done<D: Disk, I: ByteSource, L: Link>(
+fn do_word<D: Disk, I: ByteSource, L: Link>(
     alloc: Global,
     word: LinkWord,
     catalogue: &mut I,
@@ -87,7 +87,7 @@ fn done<D: Disk, I: ByteSource, L: Link>(
     ensures marks_told { D.told marks.new ≡ D.told marks.old }
     ensures outbox_told { D.told outbox.new ≡ D.told outbox.old }
 {
-    match configured(alloc, catalogue) {
+    match read_configuration(alloc, catalogue) {
         Ok(read) => ending_of(done_under(alloc, word, read, link, clock, disk, marks, outbox)),
         Err(refusal) => LinkingEnd::Status(status_of_refusal(refusal)),
     }
@@ -130,7 +130,7 @@ pub fn run_link<D: Disk, I: ByteSource, L: Link>(
     ensures outbox_told { D.told outbox.new ≡ D.told outbox.old }
 {
     match link_word(words) {
-        Some(word) => done(alloc, word, catalogue, link, clock, disk, marks, outbox),
+        Some(word) => do_word(alloc, word, catalogue, link, clock, disk, marks, outbox),
         None => LinkingEnd::Status(Status::Usage),
     }
 }

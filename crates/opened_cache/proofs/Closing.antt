@@ -13,7 +13,7 @@ use Rattle.durable_cabinet.specs.Outlasting.{StaysSettled}
 use Rattle.gate_journal.specs.declared.journal.Journal.{Journal}
 use Rattle.gate_journal.specs.Sound.{IsSettled}
 use Rattle.http_wire.proofs.TakesOn.{rose_before}
-use Rattle.opened_cache.specs.Crash.{IsClosed, IsLeftBy}
+use Rattle.opened_cache.specs.Crash.{IsCacheClosed, IsLeftBy}
 use Rattle.opened_cache.specs.Opened.{HasOpened, IsOpened}
 use Rattle.sessions.specs.Outside.{FaultCounts, counts}
 
@@ -27,7 +27,7 @@ when_settled told last_told before then after j j' Q same later settled (inr sta
 -- a cabinet that was opened, worked and was closed
 pub has_opened : (c : Catalogue) (clock : Readings) (told last_told : Bool) (mid_faults : FaultCounts) (before then after : ℕ) (j j' : Journal) (old mid new : DiskState) (s u : State)
     → IsValid c → IsOpened c clock (record { told = told; faults = mid_faults; from = old; to = mid }) s → u.catalogue ≡ s.catalogue → last_told ≡ told → before ≤ then → IsSettled j
-    → StaysSettled then after j j' → IsClosed last_told j' new u → HasOpened c clock (record { told = told; faults = counts before after; from = old; to = new }) s u
+    → StaysSettled then after j j' → IsCacheClosed last_told j' new u → HasOpened c clock (record { told = told; faults = counts before after; from = old; to = new }) s u
 has_opened c clock told last_told mid_faults before then after j j' old mid new s u valid opened same same_told later settled stays closed =
     let its : u.catalogue ≡ c = same ∙ ap (λ (x : State). x.catalogue) opened.begins in
     record {

@@ -12,7 +12,7 @@ use Rattle.disk_model.specs.Moments.{leaves_as, leaves_then}
 use Rattle.durable_cabinet.specs.Images.{IsLeft as IsLeftOn, IsOurs, IsSoundImage, OpensTo, Restores}
 use Rattle.durable_cabinet.specs.Outlasting.{AnswersAs, Outlasts}
 use Rattle.gate_journal.specs.declared.journal.Journal.{Journal}
-use Rattle.opened_cache.specs.Crash.{HadCut, HadOpening, IsLeftBy, OpensLater, IsTrueTo, KeepsNearly, Lasts, LeftByOpening, RestoresMissed}
+use Rattle.opened_cache.specs.Crash.{HadCut, HadOpening, IsLeftBy, OpensLater, IsTrueTo, KeepsNearly, ImageLasts, LeftByOpening, RestoresMissed}
 use Rattle.opened_cache.specs.Opened.{IsOpened}
 use Rattle.durable_cabinet.proofs.Imaging.{known_sound, missed_image}
 use Rattle.durable_cabinet.proofs.Lasting.{left_answers}
@@ -39,7 +39,7 @@ module _ (c : Catalogue) (old : DiskState) (lawful : IsLawful old) (r : Replayed
   no_less e n m first next = omega (arith, first, next)
 
   -- so does an image whose book answers for theirs
-  lasts_by : (image : Content) → AnswersAs c (opening_number r) (book_after r) image → LeftByOpening c old image ⊎ OpensLater c old image → IsOurs c image → Lasts c old image
+  lasts_by : (image : Content) → AnswersAs c (opening_number r) (book_after r) image → LeftByOpening c old image ⊎ OpensLater c old image → IsOurs c image → ImageLasts c old image
   lasts_by image a newer ours = record {
     opens = λ each. (a.replayed, a.opens);
     answers = λ cut each. record { replayed = a.replayed; opens = a.opens; answers = answers_for_cut (book_after a.replayed) (book_after r) cut a.answers (had cut each) };
@@ -49,7 +49,7 @@ module _ (c : Catalogue) (old : DiskState) (lawful : IsLawful old) (r : Replayed
   }
 
   -- under the number of the opening that followed
-  lasts_newer : (image : Content) → AnswersAs c (opening_number r + 1) (book_after r) image → IsOurs c image → Lasts c old image
+  lasts_newer : (image : Content) → AnswersAs c (opening_number r + 1) (book_after r) image → IsOurs c image → ImageLasts c old image
   lasts_newer image a ours =
       lasts_by image (record { replayed = a.replayed; opens = a.opens; later = no_less (opening_number r) (opening_number r + 1) (opening_number a.replayed) (omega arith) a.later; answers = a.answers })
       (inr (r, opens, record { replayed = a.replayed; opens = a.opens; later = a.later })) ours
@@ -58,20 +58,20 @@ same_or_next : (x r : Replayed) → (opening_number x ≡ opening_number r) ⊎ 
 same_or_next x r (inl same) = omega (arith, same)
 same_or_next x r (inr next) = let number : opening_number x ≡ opening_number r + 1 = ap (λ (o : Option ℕ). option_map_or (λ e. e) o 0) next in omega (arith, number)
 
-lasts_opening : (c : Catalogue) (old : DiskState) → IsLawful old → (image : Content) → LeftByOpening c old image → Lasts c old image
+lasts_opening : (c : Catalogue) (old : DiskState) → IsLawful old → (image : Content) → LeftByOpening c old image → ImageLasts c old image
 lasts_opening c old lawful image (inl was) = record { opens = λ each. each image was; answers = λ cut each. each image was; numbers = λ e each. each image was; newer = inl (inl was); ours = inl was }
 lasts_opening c old lawful image (inr (r, opens, like, ours)) =
     lasts_by c old lawful r opens image (record { replayed = like.replayed; opens = like.opens; later = same_or_next like.replayed r like.opening; answers = like.answers }) (inl (inr (r, opens, like, ours))) ours
 
-pub opening_lasts : (c : Catalogue) (old new : DiskState) → IsLawful old → Leaves old new (LeftByOpening c old) → Leaves old new (Lasts c old)
-opening_lasts c old new lawful leaves = leaves_as old new (LeftByOpening c old) (Lasts c old) leaves (lasts_opening c old lawful)
+pub opening_lasts : (c : Catalogue) (old new : DiskState) → IsLawful old → Leaves old new (LeftByOpening c old) → Leaves old new (ImageLasts c old)
+opening_lasts c old new lawful leaves = leaves_as old new (LeftByOpening c old) (ImageLasts c old) leaves (lasts_opening c old lawful)
 
 -- the work of a cabinet that was opened
-pub work_lasts : (c : Catalogue) (old mid new : DiskState) → IsLawful old → (r : Replayed) → OpensTo c old.seen r → Leaves old mid (Lasts c old)
-    → Leaves mid new (λ image. AnswersAs c (opening_number r + 1) (book_after r) image × IsOurs c image) → Leaves old new (Lasts c old)
+pub work_lasts : (c : Catalogue) (old mid new : DiskState) → IsLawful old → (r : Replayed) → OpensTo c old.seen r → Leaves old mid (ImageLasts c old)
+    → Leaves mid new (λ image. AnswersAs c (opening_number r + 1) (book_after r) image × IsOurs c image) → Leaves old new (ImageLasts c old)
 work_lasts c old mid new lawful r opens first next =
-    leaves_then old mid new (Lasts c old) first
-    (leaves_as mid new (λ image. AnswersAs c (opening_number r + 1) (book_after r) image × IsOurs c image) (Lasts c old) next (λ image left. lasts_newer c old lawful r opens image left.0 left.1))
+    leaves_then old mid new (ImageLasts c old) first
+    (leaves_as mid new (λ image. AnswersAs c (opening_number r + 1) (book_after r) image × IsOurs c image) (ImageLasts c old) next (λ image left. lasts_newer c old lawful r opens image left.0 left.1))
 
 -- WHAT IS LEFT by a cabinet between two commands
 
@@ -107,8 +107,8 @@ left_by s known j disk left ours = λ image is. record {
 
 -- a cabinet that was opened worked on to another state
 pub worked : (c : Catalogue) (clock : Readings) (told told' told'' : Bool) (faults : FaultCounts) (then after : ℕ) (j j' : Journal) (old mid new : DiskState) (s u : State)
-    → (IsTrue told → IsLawful old) → IsOpened c clock (record { told = told; faults = faults; from = old; to = mid }) s → (IsTrue told → Leaves old mid (Lasts c old))
-    → told' ≡ told → Outlasts told' told'' then after s u j j' mid new → IsTrue told → Leaves old new (Lasts c old)
+    → (IsTrue told → IsLawful old) → IsOpened c clock (record { told = told; faults = faults; from = old; to = mid }) s → (IsTrue told → Leaves old mid (ImageLasts c old))
+    → told' ≡ told → Outlasts told' told'' then after s u j j' mid new → IsTrue told → Leaves old new (ImageLasts c old)
 worked c clock told told' told'' faults then after j j' old mid new s u lawful opened first same outlasts is =
     let next = outlasts.images (subst IsTrue (sym same) is) in
     work_lasts c old mid new (lawful is) opened.replayed (opened.opens is) (first is)

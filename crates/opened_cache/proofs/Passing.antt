@@ -10,7 +10,7 @@ use Rattle.disk_model.specs.Moments.{leaves_as}
 use Rattle.durable_cabinet.specs.Images.{IsOurs}
 use Rattle.durable_cabinet.specs.Outlasting.{AnswersAs}
 use Rattle.gate_journal.specs.declared.journal.Journal.{Journal}
-use Rattle.opened_cache.specs.Crash.{Lasts}
+use Rattle.opened_cache.specs.Crash.{ImageLasts}
 use Rattle.opened_cache.specs.Opened.{IsOpened}
 use Rattle.opened_cache.specs.Passing.{LeavesNow, OutlastsLeft, PassesDisk}
 use Rattle.opened_cache.proofs.Lasting.{worked}
@@ -28,7 +28,7 @@ module _ {K D : Type 0} (last : K) (entry : D) (disk : K → D) (cabinet : K →
 
   -- a cabinet that was opened and left its disk so passed through a moment for each keeper that it led through
   pub leads_passes : (c : Catalogue) (clock : Readings) (counts : FaultCounts) (first : K) → IsOpened c clock (record { told = told entry; faults = counts; from = state entry; to = state (disk first) }) (cabinet first)
-      → (IsTrue (told entry) → Leaves (state entry) (state (disk first)) (Lasts c (state entry))) → told (disk first) ≡ told entry → LeavesNow (told (disk first)) (state (disk first)) (cabinet first)
+      → (IsTrue (told entry) → Leaves (state entry) (state (disk first)) (ImageLasts c (state entry))) → told (disk first) ≡ told entry → LeavesNow (told (disk first)) (state (disk first)) (cabinet first)
       → (s : State) → LeadsThrough K cabinet LeadsOn first last s → PassesDisk D state (told entry) (state entry) (state (disk last)) s
   leads_passes c clock counts first opened lasts same leaves s l = subst (λ (x : State). PassesDisk D state (told entry) (state entry) (state (disk last)) x) l.same passes
     where
@@ -56,7 +56,7 @@ module _ {K D : Type 0} (last : K) (entry : D) (disk : K → D) (cabinet : K →
       passes = record {
         mid = disk l.mid;
         earlier = λ is.
-            subst (λ x. Leaves (state entry) (state (disk l.mid)) (Lasts x (state entry))) (sym its_catalogue)
+            subst (λ x. Leaves (state entry) (state (disk l.mid)) (ImageLasts x (state entry))) (sym its_catalogue)
             (worked c clock (told entry) (told (disk first)) (told (disk l.mid)) counts (faults (disk first)) (faults (disk l.mid)) (journal first) (journal l.mid) (state entry) (state (disk first)) (state (disk l.mid)) (cabinet first) (cabinet l.mid)
             (lawful entry) opened lasts same l.before.outlasts.outlasts is);
         here = λ is. l.before.outlasts.leaves leaves (is_told is);

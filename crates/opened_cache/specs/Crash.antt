@@ -41,8 +41,8 @@ abbrev pub HadOpening : Catalogue → DiskState → ℕ → Type 0
 HadOpening c old e = Every old.may_leave (HasOpening c e)
 
 -- an image opens
-abbrev pub Opens : Catalogue → Content → Type 0
-Opens c image = (r : Replayed) × OpensTo c image r
+abbrev pub ImageOpens : Catalogue → Content → Type 0
+ImageOpens c image = (r : Replayed) × OpensTo c image r
 
 -- What an opening leaves: what might have been left at entry, or the file of a cabinet that opens to the same kept list as what was read, with the same blobs, and
 -- to a book that answers for that one.
@@ -56,8 +56,8 @@ OpensLater c old image = (r : Replayed) × OpensTo c old.seen r × HasOpening c 
 -- An image opens where every image at entry does, it answers for each cut for which every image at entry answers, its opening has no lesser number than
 -- each of theirs, and a greater one than what was read where it is more than what an opening leaves; and it is the file of a cabinet, unless it was an
 -- image at entry.
-pub record Lasts (c : Catalogue) (old : DiskState) (image : Content) : Type 0 where
-  pub opens : Every old.may_leave (Opens c) → Opens c image
+pub record ImageLasts (c : Catalogue) (old : DiskState) (image : Content) : Type 0 where
+  pub opens : Every old.may_leave (ImageOpens c) → ImageOpens c image
   pub answers : (cut : Cut) → HadCut c old cut → HasCut c cut image
   pub numbers : (e : ℕ) → HadOpening c old e → HasOpening c e image
   pub newer : LeftByOpening c old image ⊎ OpensLater c old image
@@ -65,7 +65,7 @@ pub record Lasts (c : Catalogue) (old : DiskState) (image : Content) : Type 0 wh
 
 -- at every moment of a word a crash leaves such an image, where the disk is modelled
 abbrev pub LastsThrough : Catalogue → DiskChange → Type 0
-LastsThrough c d = IsTrue d.told → Leaves d.from d.to (Lasts c d.from)
+LastsThrough c d = IsTrue d.told → Leaves d.from d.to (ImageLasts c d.from)
 
 -- WHERE NOTHING WAS DONE
 
@@ -110,7 +110,7 @@ pub record IsLeftBy (c : Catalogue) (s : State) (image : Content) : Type 0 where
 
 -- The cabinet of a modelled disk was closed at s, with this journal: each image is one of those; where no command has failed since the journal was settled
 -- it opens to exactly what the cabinet is, and where that is the pictures of its numbers, so is what the image opens to.
-pub record IsClosed (told : Bool) (j : Journal) (disk : DiskState) (s : State) : Type 0 where
+pub record IsCacheClosed (told : Bool) (j : Journal) (disk : DiskState) (s : State) : Type 0 where
   pub left : IsTrue told → Every disk.may_leave (IsLeftBy s.catalogue s)
   pub restores : IsTrue told → IsSettled j → Every disk.may_leave (Restores s)
   pub sound : IsTrue told → IsSettled j → IsSound s → Every disk.may_leave (IsSoundImage s.catalogue)

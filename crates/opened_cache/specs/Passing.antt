@@ -4,7 +4,7 @@ use Rattle.cabinet.specs.State.{State, now}
 use Rattle.disk_model.specs.Images.{DiskState, Every, Leaves}
 use Rattle.durable_cabinet.specs.Outlasting.{AnswersAs, Outlasts, outlasts_itself, outlasts_on}
 use Rattle.gate_journal.specs.declared.journal.Journal.{Journal}
-use Rattle.opened_cache.specs.Crash.{IsLeftBy, Lasts}
+use Rattle.opened_cache.specs.Crash.{ImageLasts, IsLeftBy}
 use Rattle.truncation_list.specs.Books.{AnswersForBook}
 
 -- a crash at this moment leaves what a cabinet in the state s leaves, where the disk is modelled
@@ -34,7 +34,7 @@ outlasts_left_on told told' told'' f f' f'' s t u j j' j'' old mid new answers f
 -- under no lesser number of an opening; and up to that moment it was what a crash leaves within any word.
 pub record PassesDisk (D : Type 0) (state : D → DiskState) (told : Bool) (from to : DiskState) (s : State) : Type 0 where
   pub mid : D
-  pub earlier : IsTrue told → Leaves from (state mid) (Lasts s.catalogue from)
+  pub earlier : IsTrue told → Leaves from (state mid) (ImageLasts s.catalogue from)
   pub here : LeavesNow told (state mid) s
   pub later : IsTrue told → (state mid).moment ≤ to.moment
   pub after : IsTrue told → Every (to.left_since (state mid).moment) (AnswersAs s.catalogue s.opening.number (now s).book)

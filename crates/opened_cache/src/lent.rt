@@ -5,7 +5,7 @@ ghost use Rattle.base.specs.Causes.{HasCause};
 ghost use Rattle.disk_model.specs.Content.{bytes_at, resized, written, Same, TornCut, TornWrite};
 ghost use Rattle.disk_model.specs.Images.{Only, Steps};
 
-use disk_model::{Disk, Failed};
+use disk_model::{BlobPart, Disk, Failed};
 use std::marker::{Brand, PhantomData};
 
 /// The loan of a disk, by name. A call that is generic over it picks it in its proof.
@@ -62,8 +62,22 @@ impl<D: Disk, L: Loan> Disk for LentDisk<'_, D, L> {
         self.disk.read(at, into)
     }
 
+    fn read_of(&mut self, part: BlobPart, at: u64, into: &mut [u8]) -> Result<(), Failed> {
+        self.disk.read_of(part, at, into)
+    }
+
     fn write_at(&mut self, at: u64, bytes: &[u8]) -> Result<(), Failed> {
         self.disk.write_at(at, bytes)
+    }
+
+    fn write_of(
+        &mut self,
+        part: BlobPart,
+        piece: u32,
+        at: u64,
+        bytes: &[u8],
+    ) -> Result<(), Failed> {
+        self.disk.write_of(part, piece, at, bytes)
     }
 
     fn cut(&mut self, length: u64) -> Result<(), Failed> {

@@ -19,6 +19,6 @@ mod writing;
 pub use input::text_in;
 pub use lent::{LentDisk, Loan};
 pub use lent_cabinet::{LentCabinet, leaves_now};
-pub use opening::{closed, opened};
+pub use opening::{close_cache, open_cache};
 pub use saving::save_all;
-pub use writing::{numbered, written};
+pub use writing::{number_text, write_text};

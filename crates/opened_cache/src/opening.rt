@@ -5,7 +5,7 @@ ghost use Rattle.durable_cabinet.specs.Filed.{IsRefusedAs};
 ghost use Rattle.durable_cabinet.specs.Images.{IsOurs};
 ghost use Rattle.gate_journal.specs.Sound.{IsSettled};
 ghost use Rattle.opened_cache.specs.Change.{DiskChange};
-ghost use Rattle.opened_cache.specs.Crash.{IsClosed, LastsThrough};
+ghost use Rattle.opened_cache.specs.Crash.{IsCacheClosed, LastsThrough};
 ghost use Rattle.opened_cache.specs.Opened.{IsOpened, RefusalLeaves};
 ghost use Rattle.sessions.specs.Outside.{counts};
 
@@ -18,7 +18,7 @@ use gate_journal::OpenFault;
 use std::alloc::Global;
 
 /// Opens the cabinet of a disk that is lent. A refusal hands the loan back.
-pub fn opened<'a, D: Disk, L: Loan>(
+pub fn open_cache<'a, D: Disk, L: Loan>(
     alloc: Global,
     catalogue: Catalogue,
     clock: Clock,
@@ -49,10 +49,10 @@ pub fn opened<'a, D: Disk, L: Loan>(
 }
 
 /// Closes the cabinet of a disk that is lent, and hands the loan back.
-pub fn closed<'a, D: Disk, L: Loan>(cabinet: Cabinet<LentDisk<'a, D, L>>) -> &'a mut D
+pub fn close_cache<'a, D: Disk, L: Loan>(cabinet: Cabinet<LentDisk<'a, D, L>>) -> &'a mut D
     ensures loan { result.ghost_name ≡ L.disk }
     ensures same { result.now ≡ cabinet.entry.file.disk.disk.now }
-    ensures closed { IsClosed (D.told result.now) cabinet.entry.file.journal (D.state result.now) cabinet.entry.state }
+    ensures closed { IsCacheClosed (D.told result.now) cabinet.entry.file.journal (D.state result.now) cabinet.entry.state }
 {
     cabinet.known();
     cabinet.images();

@@ -10,7 +10,7 @@ use http_wire::ByteSink;
 use tile_requests::{add, add_number, send_behind};
 
 /// Writes the text of a word, in two parts: `Done` where all of it went out, `WriteFault` where a write failed.
-pub fn written<O: ByteSink>(output: &mut O, front: ArrayVec<u8, 1024>, rest: &[u8]) -> Status
+pub fn write_text<O: ByteSink>(output: &mut O, front: ArrayVec<u8, 1024>, rest: &[u8]) -> Status
     requires { array_vec_len front ≤ 512 }
     ensures { Sends (record { writes = counts (O.faults output.old) (O.faults output.new); from = O.taken output.old; to = O.taken output.new }) (front.items ++ rest.now) result }
 {
@@ -21,7 +21,7 @@ pub fn written<O: ByteSink>(output: &mut O, front: ArrayVec<u8, 1024>, rest: &[u
 }
 
 /// A label and a number after it. It takes no memory.
-pub fn numbered(label: &[u8], number: u64) -> ArrayVec<u8, 1024>
+pub fn number_text(label: &[u8], number: u64) -> ArrayVec<u8, 1024>
     requires { length label.now ≤ 100 }
     ensures items { result.items ≡ label.now ++ decimal number }
     ensures short { array_vec_len result ≤ 512 }

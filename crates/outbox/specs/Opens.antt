@@ -5,10 +5,10 @@ use Rattle.gate_journal.specs.declared.fault.OpenFault.{OpenFault}
 use Rattle.gate_journal.specs.declared.fault.OpenFault.TheVariants as fault
 use Rattle.truncation_list.specs.declared.cover.Cover.{Cover}
 use Rattle.outbox.specs.Files.{ArePosts, IsBadBehind}
-use Rattle.outbox.specs.Posts.{Shown}
+use Rattle.outbox.specs.Posts.{ShownOutbox}
 
 -- the disk after an opening, which a refusal hands back
-abbrev pub disk_of : {D : Type 0} → Result (Shown D) (OpenFault × D) → D
+abbrev pub disk_of : {D : Type 0} → Result (ShownOutbox D) (OpenFault × D) → D
 disk_of (Ok outbox) = outbox.file.disk
 disk_of (Err refusal) = refusal.1
 

@@ -22,7 +22,7 @@ pub record Outgoing : Type 0 where
   pub heard : ℕ
 
 -- what contracts see of an outbox
-pub record Shown (D : Type 0) : Type 0 where
+pub record ShownOutbox (D : Type 0) : Type 0 where
   pub catalogue : Catalogue
   pub out : Outgoing
   pub file : CacheFile D

@@ -24,9 +24,9 @@ pub struct Outbox<D: Disk> {
 
 impl<D: Disk> Model for Outbox<D> {
     ghost use Rattle.outbox.specs.Files.{IsPosted};
-    ghost use Rattle.outbox.specs.Posts.{Shown};
+    ghost use Rattle.outbox.specs.Posts.{ShownOutbox};
 
-    ghost Value = { Shown D };
+    ghost Value = { ShownOutbox D };
 
     ghost view = { λ o. record { catalogue = o.catalogue.value; out = record { posts = o.posts.items; undecided = o.undecided; heard = o.heard }; file = o.file } };
 

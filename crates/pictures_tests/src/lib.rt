@@ -2,7 +2,7 @@
 //!
 //! It has no code of its own and promises nothing: what the crates promise is proved in each of them. What a whole run of the
 //! program shows is tested there.
-//! Stands on metatile_plan, raster_field, ppm_slice, png_text, ppm_reading and source_render, and on metatile_locks, catalog,
+//! Stands on metatile_plan, raster_field, ppm_slice, png_text, tile_png, ppm_reading and source_render, and on metatile_locks, catalog,
 //! matrix_geometry and exact_ratio for what they are called with.
 #![tactic(auto)]
 

@@ -1,6 +1,7 @@
-//! Tests of png_text: pictures whose bytes were put together by other programs (zlib and binascii of Python), and check values.
+//! Tests of png_text and tile_png: pictures whose bytes were put together by other programs (zlib and binascii of Python), and check values.
 use png_text::{CrcTables, write_png};
 use std::test::Fail;
+use tile_png::png_of_tile;
 
 // An orange pixel. The stream is what zlib makes at level 0.
 const ONE_PIXEL: [u8; 72] = [
@@ -45,5 +46,25 @@ fn check_values_of_the_crc(rt: HostRuntime) -> Result<(), Fail> {
     let tables = CrcTables::new(rt.alloc())?;
     assert_eq!(rt; tables.crc(b"123456789"), 0xcbf4_3926);
     assert_eq!(rt; tables.crc(b"IEND"), 0xae42_6082);
+    Ok(())
+}
+
+#[test]
+fn a_tile_is_spelt_as_the_picture_of_its_pixels(rt: HostRuntime) -> Result<(), Fail> {
+    let tables = CrcTables::new(rt.alloc())?;
+    let made = png_of_tile(rt.alloc(), &tables, b"P6\n1 1\n255\n\xff\x80\x00")?;
+    assert!(rt; matches!(&made, Some(png) if png.as_slice() == ONE_PIXEL.as_slice()));
+    Ok(())
+}
+
+// A byte is missing, one is too many, and the sizes aren't those of a picture.
+#[test]
+fn a_text_that_is_no_pixmap_has_no_spelling(rt: HostRuntime) -> Result<(), Fail> {
+    let tables = CrcTables::new(rt.alloc())?;
+    assert!(rt; png_of_tile(rt.alloc(), &tables, b"P6\n1 1\n255\n\xff\x80")?.is_none());
+    assert!(rt; png_of_tile(rt.alloc(), &tables, b"P6\n1 1\n255\n\xff\x80\x00\x00")?.is_none());
+    assert!(rt; png_of_tile(rt.alloc(), &tables, b"P6\n0 1\n255\n")?.is_none());
+    assert!(rt; png_of_tile(rt.alloc(), &tables, b"P6\n01 1\n255\n\xff\x80\x00")?.is_none());
+    assert!(rt; png_of_tile(rt.alloc(), &tables, b"P6")?.is_none());
     Ok(())
 }

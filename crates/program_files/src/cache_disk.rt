@@ -6,7 +6,7 @@ ghost use Rattle.disk_model.specs.Images.{silent};
 ghost use Rattle.program_files.specs.Faults.{faults_of_disk};
 
 use base::one_more;
-use disk_model::{Disk, Failed, FileDisk};
+use disk_model::{BlobPart, Disk, Failed, FileDisk};
 use std::fs::{File, OpenOptions};
 use std::io;
 use std::io::ErrorKind;
@@ -28,7 +28,7 @@ pub enum CacheDisk {
 
 /// Opens a file for reading and writing, for this program alone, and makes it where that is asked for and it isn't there. That it is
 /// there is then durable.
-fn opened<R: Files<File = File>>(rt: &R, path: &str, makes: bool) -> io::Result<File> {
+fn open_file<R: Files<File = File>>(rt: &R, path: &str, makes: bool) -> io::Result<File> {
     let file = OpenOptions::new()
         .read(true)
         .write(true)
@@ -46,7 +46,7 @@ fn opened<R: Files<File = File>>(rt: &R, path: &str, makes: bool) -> io::Result<
 impl CacheDisk {
     /// Opens the file of this name in the current folder; `makes` says whether it is made where it isn't there.
     pub fn open<R: Files<File = File>>(rt: &R, path: &str, makes: bool) -> CacheDisk {
-        match opened(rt, path, makes) {
+        match open_file(rt, path, makes) {
             Ok(file) => CacheDisk::File(FileDisk::new(file, HEADERS)),
             Err(error) if error.kind() == ErrorKind::NotFound && !makes => CacheDisk::Absent(0),
             Err(_) => CacheDisk::Shut(0),
@@ -82,9 +82,31 @@ impl Disk for CacheDisk {
         }
     }
 
+    fn read_of(&mut self, part: BlobPart, at: u64, into: &mut [u8]) -> Result<(), Failed> {
+        match self {
+            CacheDisk::File(file) => file.read_of(part, at, into),
+            CacheDisk::Absent(faults) => failed(faults),
+            CacheDisk::Shut(faults) => failed(faults),
+        }
+    }
+
     fn write_at(&mut self, at: u64, bytes: &[u8]) -> Result<(), Failed> {
         match self {
             CacheDisk::File(file) => file.write_at(at, bytes),
+            CacheDisk::Absent(faults) => failed(faults),
+            CacheDisk::Shut(faults) => failed(faults),
+        }
+    }
+
+    fn write_of(
+        &mut self,
+        part: BlobPart,
+        piece: u32,
+        at: u64,
+        bytes: &[u8],
+    ) -> Result<(), Failed> {
+        match self {
+            CacheDisk::File(file) => file.write_of(part, piece, at, bytes),
             CacheDisk::Absent(faults) => failed(faults),
             CacheDisk::Shut(faults) => failed(faults),
         }

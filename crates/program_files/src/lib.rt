@@ -1,14 +1,21 @@
-//! The files, the streams and the connection that the program works on.
+//! The files, the streams, the connection and the source of pictures that the program works with.
 //!
-//! Promises: a call of the cache's file, of an input, or of a connection fails only where its count of faults rose in that call. What the
-//! files hold, what comes over a connection, and what the system does with them, no clause says: this is trusted, and tried.
-//! Stands on disk_model and http_wire, whose forms of a file and of standard input it chooses among, and on base.
+//! Promises: a call of the cache's file, of an input, of a connection, or of the source fails only where its count of faults rose in that
+//! call. What the files hold, what comes over a connection, and what the system does with them, no clause says: this is trusted, and tried.
+//! Stands on disk_model, http_wire, source_render and renderer_link, whose forms of a file, of standard input and of a source it chooses
+//! among, on http_source, by which it reads which renderer is asked, and on base.
 #![tactic(auto)]
 
 mod cache_disk;
 mod input;
+mod program_source;
+mod source_choice;
+mod source_fault;
 mod stream_link;
 
 pub use cache_disk::CacheDisk;
 pub use input::Input;
+pub use program_source::ProgramSource;
+pub use source_choice::SourceChoice;
+pub use source_fault::SourceFault;
 pub use stream_link::StreamLink;

@@ -1,7 +1,7 @@
 //! Tests of http_answer: answers cut after each byte, and one of each fault.
 ghost use Rattle.std.specs.Prelude.{◌≤◌, length};
 
-use http_answer::{Answer, AnswerError, Fault, Misframed, Taken};
+use http_answer::{AnswerError, AnswerFault, AnswerSoFar, HttpAnswer, Misframed};
 use std::alloc::{AllocError, Global};
 use std::test::Fail;
 
@@ -10,14 +10,14 @@ fn body_of(alloc: Global, bytes: &[u8], cut: usize, limit: usize) -> Result<Vec<
     requires { cut ≤ length bytes.now }
 {
     let (first, second) = bytes.split_at(cut);
-    let answer = match Answer::new(alloc, limit).take(first) {
-        Ok(Taken::More(answer)) => answer,
-        Ok(Taken::Whole(body)) => return Ok(body),
+    let answer = match HttpAnswer::new(alloc, limit).take(first) {
+        Ok(AnswerSoFar::More(answer)) => answer,
+        Ok(AnswerSoFar::Whole(body)) => return Ok(body),
         Err(error) => return Err(error),
     };
     let answer = match answer.take(second) {
-        Ok(Taken::More(answer)) => answer,
-        Ok(Taken::Whole(body)) => return Ok(body),
+        Ok(AnswerSoFar::More(answer)) => answer,
+        Ok(AnswerSoFar::Whole(body)) => return Ok(body),
         Err(error) => return Err(error),
     };
     match answer.end() {
@@ -33,7 +33,7 @@ fn is_body(told: Result<Vec<u8>, AnswerError>, expected: &[u8]) -> bool {
     }
 }
 
-fn is_fault(told: Result<Vec<u8>, AnswerError>, expected: Fault) -> bool {
+fn is_fault(told: Result<Vec<u8>, AnswerError>, expected: AnswerFault) -> bool {
     match told {
         Ok(_) => false,
         Err(error) => error == AnswerError::Refused(expected),
@@ -51,7 +51,7 @@ fn gives(alloc: Global, bytes: &[u8], expected: &[u8]) -> bool {
 }
 
 /// Whether the answer is refused for this reason, wherever it is cut.
-fn refuses(alloc: Global, bytes: &[u8], expected: Fault) -> bool {
+fn refuses(alloc: Global, bytes: &[u8], expected: AnswerFault) -> bool {
     for cut in 0..bytes.len() {
         if !is_fault(body_of(alloc, bytes, cut, 1000), expected) {
             return false;
@@ -96,15 +96,21 @@ fn chunks_are_joined(rt: HostRuntime) {
 #[test]
 fn another_status_is_told(rt: HostRuntime) {
     let alloc = rt.alloc();
-    assert!(rt; refuses(alloc, b"HTTP/1.1 100 Continue\r\n\r\n", Fault::Status(100)));
+    assert!(rt;
+        refuses(
+            alloc,
+            b"HTTP/1.1 100 Continue\r\n\r\n",
+            AnswerFault::Status(100)
+        )
+    );
     assert!(rt;
         refuses(
             alloc,
             b"HTTP/1.1 404 Not Found\r\nContent-Length: x\r\n\r\n",
-            Fault::Status(404)
+            AnswerFault::Status(404)
         )
     );
-    assert!(rt; refuses(alloc, b"SSH-2.0-OpenSSH_9.2\r\n", Fault::NotHttp));
+    assert!(rt; refuses(alloc, b"SSH-2.0-OpenSSH_9.2\r\n", AnswerFault::NotHttp));
 }
 
 /// Whether an answer whose head has these fields is refused for this reason.
@@ -112,7 +118,7 @@ fn misframes(alloc: Global, fields: &[u8], expected: Misframed) -> Result<bool, 
     let mut head = Vec::from_slice(alloc, b"HTTP/1.1 200 OK\r\n")?;
     head.extend_from_slice(fields)?;
     head.extend_from_slice(b"\r\n\r\n")?;
-    Ok(refuses(alloc, head.as_slice(), Fault::Framing(expected)))
+    Ok(refuses(alloc, head.as_slice(), AnswerFault::Framing(expected)))
 }
 
 #[test]
@@ -146,7 +152,13 @@ fn a_wrong_framing_is_told(rt: HostRuntime) -> Result<(), Fail> {
 #[test]
 fn a_coding_in_an_old_version_is_told(rt: HostRuntime) {
     let bytes = b"HTTP/1.0 200 OK\r\nTransfer-Encoding: chunked\r\n\r\n";
-    assert!(rt; refuses(rt.alloc(), bytes, Fault::Framing(Misframed::OtherCoding)));
+    assert!(rt;
+        refuses(
+            rt.alloc(),
+            bytes,
+            AnswerFault::Framing(Misframed::OtherCoding)
+        )
+    );
 }
 
 #[test]
@@ -156,31 +168,31 @@ fn a_broken_or_cut_body_is_told(rt: HostRuntime) {
         refuses(
             alloc,
             b"HTTP/1.1 200 OK\r\nTransfer-Encoding: chunked\r\n\r\n1\r\nab\r\n",
-            Fault::BrokenChunk
+            AnswerFault::BrokenChunk
         )
     );
     assert!(rt;
         refuses(
             alloc,
             b"HTTP/1.1 200 OK\r\nTransfer-Encoding: chunked\r\n\r\n-1\r\n",
-            Fault::BrokenChunk
+            AnswerFault::BrokenChunk
         )
     );
     assert!(rt;
         refuses(
             alloc,
             b"HTTP/1.1 200 OK\r\nTransfer-Encoding: chunked\r\n\r\n1\r\na\r\n0\r\n",
-            Fault::CutOff
+            AnswerFault::CutOff
         )
     );
     assert!(rt;
         refuses(
             alloc,
             b"HTTP/1.1 200 OK\r\nContent-Length: 3\r\n\r\nab",
-            Fault::CutOff
+            AnswerFault::CutOff
         )
     );
-    assert!(rt; refuses(alloc, b"HTTP/1.1 200 OK\r\nContent-", Fault::CutOff));
+    assert!(rt; refuses(alloc, b"HTTP/1.1 200 OK\r\nContent-", AnswerFault::CutOff));
 }
 
 #[test]
@@ -188,13 +200,13 @@ fn a_long_answer_is_told(rt: HostRuntime) -> Result<(), Fail> {
     let alloc = rt.alloc();
     let bytes = b"HTTP/1.1 200 OK\r\n\r\nabc";
     assert!(rt; is_body(body_of(alloc, bytes, 10, 22), b"abc"));
-    assert!(rt; is_fault(body_of(alloc, bytes, 10, 21), Fault::TooLong));
+    assert!(rt; is_fault(body_of(alloc, bytes, 10, 21), AnswerFault::TooLong));
     let mut head = Vec::from_slice(alloc, b"HTTP/1.1 200 ")?;
     head.extend_from_slice(&[b'a'; 16384])?;
     assert!(rt;
         is_fault(
             body_of(alloc, head.as_slice(), 10, 20000),
-            Fault::HeadTooLong
+            AnswerFault::HeadTooLong
         )
     );
     Ok(())
@@ -214,7 +226,7 @@ fn many_fields_are_told(rt: HostRuntime) -> Result<(), Fail> {
     assert!(rt;
         is_fault(
             body_of(alloc, more.as_slice(), 0, 1000),
-            Fault::TooManyFields
+            AnswerFault::TooManyFields
         )
     );
     Ok(())

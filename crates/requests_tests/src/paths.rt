@@ -7,7 +7,7 @@ use matrix_geometry::{Address, Theme};
 use std::alloc::{AllocError, Global};
 use std::test::Fail;
 use wmts_kvp::Query;
-use wmts_rest::RestTable;
+use wmts_rest::{RestTable, read_picture};
 
 const TILE: Address = Address {
     theme: Theme {
@@ -66,5 +66,26 @@ fn a_path_names_a_tile_where_it_is_text(rt: HostRuntime) -> Result<(), Fail> {
     let catalogue = sea_catalogue(rt.alloc())?;
     catalogue.validate()?;
     assert!(rt; are_read(rt.alloc(), &catalogue)?);
+    Ok(())
+}
+
+/// Whether a picture's path names the tile, and that of the tile itself is no path of a picture.
+fn are_read_as_pictures(alloc: Global, catalogue: &Catalogue) -> Result<bool, AllocError>
+    requires { IsValid catalogue.now }
+{
+    let named = read_picture(alloc, catalogue, b"/png/s%65a/grey/b%3Ac/10/tiny/2/1/3.png")?;
+    let is_tile = matches!(&named, Some(Query::Tile(address)) if *address == TILE);
+    drop(named);
+    let other = read_picture(alloc, catalogue, b"/rest/wmts/sea/grey/b/10/tiny/2/1/3.ppm")?;
+    let is_none = other.is_none();
+    drop(other);
+    Ok(is_tile && is_none)
+}
+
+#[test]
+fn a_path_of_a_picture_names_its_tile(rt: HostRuntime) -> Result<(), Fail> {
+    let catalogue = sea_catalogue(rt.alloc())?;
+    catalogue.validate()?;
+    assert!(rt; are_read_as_pictures(rt.alloc(), &catalogue)?);
     Ok(())
 }

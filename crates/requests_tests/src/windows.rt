@@ -1,8 +1,4 @@
 //! Tests of window_request: templates as operators write them, each fault, and decimal texts that were worked out by hand.
-ghost use Rattle.std.specs.Prelude.{◌≡◌, ◌<ℤ◌, pos};
-ghost use Rattle.exact_ratio.specs.Lowest.{least_i128};
-
-use exact_ratio::Ratio;
 use std::alloc::{AllocError, Global};
 use std::test::Fail;
 use window_request::{DimensionValue, Template, TemplateFault, Values, decimal_text};
@@ -115,17 +111,11 @@ fn a_wrong_name_is_told_with_its_place(rt: HostRuntime) {
 }
 
 /// Whether a fraction of moderate size has this text.
-fn writes(alloc: Global, n: i128, d: i128, expected: &[u8]) -> Result<bool, AllocError>
-    requires positive { pos 0 <ℤ d }
-    requires bounded { least_i128 <ℤ n }
-{
-    let value = Ratio::lowest(n, d);
-    if value.n.unsigned_abs() > 100_000_000_000_000_000
-        || value.d.unsigned_abs() > 10_000_000_000_000
-    {
+fn writes(alloc: Global, n: i128, d: u128, expected: &[u8]) -> Result<bool, AllocError> {
+    if d == 0 || n.unsigned_abs() > 100_000_000_000_000_000 || d > 10_000_000_000_000 {
         return Ok(false);
     }
-    let text = decimal_text(alloc, &value)?;
+    let text = decimal_text(alloc, n, d)?;
     Ok(text.as_slice() == expected)
 }
 

@@ -7,7 +7,7 @@ use Rattle.cache_access.specs.declared.fault.GetFault.TheVariants as got
 use Rattle.cache_access.specs.declared.refreshed.Refreshed.{Refreshed}
 use Rattle.cache_access.specs.declared.refreshed.Refreshed.TheVariants.{AlreadyKept, Made as Remade, Unkept}
 use Rattle.cache_access.specs.Refreshes.{BecameOf, CameTo, IsRendered}
-use Rattle.cache_hall.specs.Turned.{Gains, HallPass}
+use Rattle.cache_hall.specs.Turned.{GainsTurns, HallPass}
 use Rattle.catalog.specs.declared.catalogue.Catalogue.{Catalogue}
 use Rattle.job_places.specs.declared.place.PlaceEnd.{PlaceEnd}
 use Rattle.job_places.specs.Visits.{IsVisit, IsWorkAt, Visit, Visits}
@@ -64,7 +64,7 @@ module _ (c : Catalogue) (P Q : Type 0) (less : Q → P) where
 
 -- if the pass tells a sound cabinet, the source is the catalogue's
 pub visited_so : (c : Catalogue) (Told : Type 0) (job : Job) (place before after : ℕ) (p q : HallPass) (end : PlaceEnd) → (p.told ≡ true → Told)
-    → Visits (Gains c) c ((p.told ≡ true) × Told) job place p.book q.book before after p q end → HasVisited c job place before after p q end
+    → Visits (GainsTurns c) c ((p.told ≡ true) × Told) job place p.book q.book before after p q end → HasVisited c job place before after p q end
 visited_so c Told job place before after p q end owes h = record {
   gained = h.gained;
   is = h.gains.is;

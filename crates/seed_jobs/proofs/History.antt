@@ -7,7 +7,7 @@ use Rattle.catalog.specs.declared.catalogue.Catalogue.{Catalogue}
 use Rattle.job_places.specs.declared.tally.Tally.{Tally}
 use Rattle.job_board.specs.declared.progress.Progress.{Progress}
 use Rattle.job_board.specs.SheetCalls.{HasEnded}
-use Rattle.job_board.specs.Hands.{Holding, Sheet}
+use Rattle.job_board.specs.Hands.{Sheet, SheetHolding}
 use Rattle.job_forms.specs.declared.job.Job.{Job}
 use Rattle.seed_jobs.specs.Crews.{SeesEnd, total_of}
 use Rattle.truncation_list.specs.declared.book.FrontedBook.{FrontedBook}
@@ -23,11 +23,11 @@ use Rattle.job_board.specs.declared.shown.Note.{Note}
 use Rattle.job_board.specs.declared.shown.Reply.{Reply}
 use Rattle.job_board.specs.declared.shown.Reply.TheVariants as reply
 use Rattle.job_board.specs.declared.shown.Shown.{Shown}
-use Rattle.job_board.specs.Boards.{Finishes, HasNumber, Looks, MayReply, Stops, Submits, TakesNext, book_of, watch_of}
+use Rattle.job_board.specs.Boards.{BoardMayReply, Finishes, HasNumber, Looks, Stops, Submits, TakesNext, book_of, watch_of}
 use Rattle.job_board.specs.Calls.{BoardHolding, IsBoardTurn, MakesOne}
 use Rattle.job_board.proofs.Watches.{not_zero}
 use Rattle.seed_jobs.specs.Idles.{Idle, Standby}
-use Rattle.seed_jobs.specs.Runs.{AreRun, DoesAfter, HasRun, HasRunOut, IsRun, IsRunnable, IsToldOfEnd, Round, Runs, RunsAll, RunsNext, turns_of}
+use Rattle.seed_jobs.specs.Runs.{AreRun, DoesAfter, HasRunJobs, HasRunOut, IsJobRunByCrew, IsRunnable, IsToldOfEnd, Round, Runs, RunsAll, RunsNext, turns_of}
 use Rattle.seed_jobs.specs.Turns.{AreBoardTurns, MakesTurns}
 
 -- TURNS, one after the other
@@ -64,10 +64,10 @@ run_too c [] r before mid after h does = (after, subst (λ (is : List Idle). Doe
 run_too c (x ∷ rs) r before mid after h does = (h.0, h.1, run_too c rs r h.0 mid after h.2 does)
 
 -- nothing has happened yet
-pub at_first : (c : Catalogue) (s : Standby) → HasRun c s s
+pub at_first : (c : Catalogue) (s : Standby) → HasRunJobs c s s
 at_first c s = record { rounds = []; makes = made_none s.board; are_run = refl }
 
-pub one_more : (c : Catalogue) (before mid after : Standby) (is_run : Bool) → HasRun c before mid → RunsNext c mid after is_run → HasRun c before after
+pub one_more : (c : Catalogue) (before mid after : Standby) (is_run : Bool) → HasRunJobs c before mid → RunsNext c mid after is_run → HasRunJobs c before after
 one_more c before mid after is_run had next =
     record {
       rounds = had.rounds ++ next.round ∷ [];
@@ -101,7 +101,7 @@ none_next c before after found is one same =
 -- WHAT THE RUNNER KNOWS OF THE BOARD
 
 -- no turn takes a job from the list of all
-no_fewer : (b a : Shown) (does : Command) (r : Reply) → MayReply b does r a → length b.watches ≤ length a.watches
+no_fewer : (b a : Shown) (does : Command) (r : Reply) → BoardMayReply b does r a → length b.watches ≤ length a.watches
 no_fewer b a (command.Submit job places) r may = submitted_more may.0 may.2
   where
     submitted_more : (n : Option ℕ) → Submits b job places n a → length b.watches ≤ length a.watches
@@ -146,7 +146,7 @@ no_ending c r ending before after is does =
     let h : (ending ≡ []) × (after ≡ before) = subst (λ (x : Reply). DoesAfter c x ending before after) is does in
     h.0
 
-pub all_run : (c : Catalogue) (before mid after : Standby) (is_run : Bool) → is_run ≡ false → HasRun c before mid → RunsNext c mid after is_run → RunsAll c before after
+pub all_run : (c : Catalogue) (before mid after : Standby) (is_run : Bool) → is_run ≡ false → HasRunJobs c before mid → RunsNext c mid after is_run → RunsAll c before after
 unfolding one_more
 all_run c before mid after is_run isnt had next =
     let none = next.none isnt in
@@ -169,7 +169,7 @@ numbered before after p found is one =
     let a = one.turn.note.after in
     let does = one.command_is in
     let so = one.reply_is ∙ ap reply.Next is in
-    let h : MayReply b command.Next (reply.Next (Some p)) a = subst (λ (z : Reply). MayReply b command.Next z a) so (subst (λ (d : Command). MayReply b d one.turn.note.reply a) does one.may.reply) in
+    let h : BoardMayReply b command.Next (reply.Next (Some p)) a = subst (λ (z : Reply). BoardMayReply b command.Next z a) so (subst (λ (d : Command). BoardMayReply b d one.turn.note.reply a) does one.may.reply) in
     let row : TakesNext b (Some p) a = subst (λ (x : Option Posted). TakesNext b x a) (same_next (Some p) h.0 h.1) h.2 in
     let front : after.book.front ≡ length a.watches = ap (λ (q : BoardHolding). q.book.front) one.is in
     let same : length b.watches ≡ length a.watches = ap (λ (x : Shown). length x.watches) row.1 in
@@ -185,7 +185,7 @@ finds_it before after p job true numbers one = refl
 finds_it before after p job false numbers one =
     let b = one.turn.note.before in
     let a = one.turn.note.after in
-    let h : MayReply b (command.Finish p.number job) (reply.Finish false) a = subst (λ (z : Reply). MayReply b (command.Finish p.number job) z a) one.reply_is (subst (λ (d : Command). MayReply b d one.turn.note.reply a) one.command_is one.may.reply) in
+    let h : BoardMayReply b (command.Finish p.number job) (reply.Finish false) a = subst (λ (z : Reply). BoardMayReply b (command.Finish p.number job) z a) one.reply_is (subst (λ (d : Command). BoardMayReply b d one.turn.note.reply a) one.command_is one.may.reply) in
     let row : Finishes b p.number job.watch false a = subst (λ (x : Bool). Finishes b p.number job.watch x a) (same_finish false h.0 h.1) h.2 in
     let found : one.turn.found.front ≡ length b.watches = ap (λ (f : FrontedBook). f.front) one.may.found in
     let least = numbers.least in
@@ -200,15 +200,15 @@ finds_it before after p job false numbers one =
 
 -- the job that was run, and the turn that told the board of its end
 pub run_out : (c : Catalogue) (p : Posted) (before after : BoardHolding) (idle_before idle_after : List Idle) (job : WatchedJob) (is : Bool) (sheet : Sheet) → sheet ≡ p.sheet.value
-    → ((r : IsRun c p.job sheet p.hands.items idle_before idle_after) × SeesEnd sheet (total_of r.tallies).done (total_of r.tallies).failed job.watch) → HasNumber before.book.front p → MakesOne before after (command.Finish p.number job) (reply.Finish is) → HasRunOut c p before after idle_before idle_after
+    → ((r : IsJobRunByCrew c p.job sheet p.hands.items idle_before idle_after) × SeesEnd sheet (total_of r.tallies).done (total_of r.tallies).failed job.watch) → HasNumber before.book.front p → MakesOne before after (command.Finish p.number job) (reply.Finish is) → HasRunOut c p before after idle_before idle_after
 run_out c p before after idle_before idle_after job is sheet same run numbers one =
-    let there : (r : IsRun c p.job p.sheet.value p.hands.items idle_before idle_after) × SeesEnd p.sheet.value (total_of r.tallies).done (total_of r.tallies).failed job.watch =
-    subst (λ (s : Sheet). (r : IsRun c p.job s p.hands.items idle_before idle_after) × SeesEnd s (total_of r.tallies).done (total_of r.tallies).failed job.watch) same run in
+    let there : (r : IsJobRunByCrew c p.job p.sheet.value p.hands.items idle_before idle_after) × SeesEnd p.sheet.value (total_of r.tallies).done (total_of r.tallies).failed job.watch =
+    subst (λ (s : Sheet). (r : IsJobRunByCrew c p.job s p.hands.items idle_before idle_after) × SeesEnd s (total_of r.tallies).done (total_of r.tallies).failed job.watch) same run in
     let r = there.0 in
     let sees = there.1 in
     let total = total_of r.tallies in
     let found : one.turn.note.reply ≡ reply.Finish true = one.reply_is ∙ ap reply.Finish (finds_it before after p job is numbers one) in
-    let of_sheet : job.watch.sheet ≡ p.sheet.value = ap (λ (h : Holding). h.sheet) sees.is in
+    let of_sheet : job.watch.sheet ≡ p.sheet.value = ap (λ (h : SheetHolding). h.sheet) sees.is in
     let ended : HasEnded job.watch.sheet.hands job.watch.seen total.done total.failed = subst (λ (s : Sheet). HasEnded s.hands job.watch.seen total.done total.failed) (sym of_sheet) sees.ended in
     let over = one.may.over in
     record {

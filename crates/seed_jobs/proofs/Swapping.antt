@@ -1,12 +1,12 @@
 -- Members that leave the end of one list and join the end of another.
 use Rattle.std.proofs.Common.{◌≡◌, ◌∙◌, ◌+◌, ℕ, List, [], ◌∷◌, ◌++◌, map, reverse, length, Option, ap, sym, arith}
 use Rattle.std.proofs.lemmas.List.{append-nil, append_assoc, length-append, length-map, length-reverse, map-append, reverse-append}
-use Rattle.job_board.specs.Hands.{Holding}
+use Rattle.job_board.specs.Hands.{SheetHolding}
 use Rattle.seed_jobs.specs.Idles.{Idle, all_idle, idle_of, without_hand}
 use Rattle.seed_jobs.specs.declared.runner.IdleMember.{IdleMember}
 use Rattle.seed_jobs.specs.Crews.{hands_of}
 use Rattle.seed_jobs.specs.Members.{worker_of, workers_of}
-use Rattle.seed_jobs.specs.Workers.{Worker}
+use Rattle.seed_jobs.specs.Workers.{JobWorker}
 use Rattle.seed_jobs.specs.declared.member.Member.{Member}
 
 moved : {A : Type 0} (rest xs : List A) (x : A) → (rest ++ x ∷ []) ++ reverse xs ≡ rest ++ reverse (xs ++ x ∷ [])
@@ -33,12 +33,12 @@ module _ {K S G : Type 0} (tells : S → Option ℕ) (faults : S → ℕ) where
       ∙ ap (λ ms. all_idle tells faults idle ++ back ms) (sym crew_is)
 
   -- the hands that are given out, and those that are left
-  pub handed : (crew more : List (Member K S G)) (m : Member K S G) (rest left all : List Holding) → more ≡ crew ++ m ∷ [] → rest ≡ m.hand ∷ left → hands_of (workers_of tells faults crew) ++ rest ≡ all
+  pub handed : (crew more : List (Member K S G)) (m : Member K S G) (rest left all : List SheetHolding) → more ≡ crew ++ m ∷ [] → rest ≡ m.hand ∷ left → hands_of (workers_of tells faults crew) ++ rest ≡ all
       → hands_of (workers_of tells faults more) ++ left ≡ all
   handed crew more m rest left all more_is rest_is whole =
       ap (λ ms. hands_of (workers_of tells faults ms) ++ left) more_is
       ∙ ap (λ ws. hands_of ws ++ left) (map-append (worker_of tells faults) crew (m ∷ []))
-      ∙ ap (λ hs. hs ++ left) (map-append (λ (w : Worker). w.hand) (workers_of tells faults crew) (worker_of tells faults m ∷ []))
+      ∙ ap (λ hs. hs ++ left) (map-append (λ (w : JobWorker). w.hand) (workers_of tells faults crew) (worker_of tells faults m ∷ []))
       ∙ append_assoc (hands_of (workers_of tells faults crew)) (m.hand ∷ []) left
       ∙ ap (λ hs. hands_of (workers_of tells faults crew) ++ hs) (sym rest_is)
       ∙ whole
@@ -49,16 +49,16 @@ module _ {K S G : Type 0} (tells : S → Option ℕ) (faults : S → ℕ) where
       omega (arith, ap length e, length-map idle (idle_of tells faults), length-map less (idle_of tells faults), length-append (all_idle tells faults less) (back crew), length-reverse (map without_hand (workers_of tells faults crew)), length-map (workers_of tells faults crew) without_hand, length-map crew (worker_of tells faults))
 
   pub as_many_hands : (crew : List (Member K S G)) → length (hands_of (workers_of tells faults crew)) ≡ length crew
-  as_many_hands crew = length-map (workers_of tells faults crew) (λ (w : Worker). w.hand) ∙ length-map crew (worker_of tells faults)
+  as_many_hands crew = length-map (workers_of tells faults crew) (λ (w : JobWorker). w.hand) ∙ length-map crew (worker_of tells faults)
 
   -- at first no hand is given out, and all are idle
-  pub none_handed : (crew : List (Member K S G)) (rest all : List Holding) → crew ≡ [] → rest ≡ all → hands_of (workers_of tells faults crew) ++ rest ≡ all
+  pub none_handed : (crew : List (Member K S G)) (rest all : List SheetHolding) → crew ≡ [] → rest ≡ all → hands_of (workers_of tells faults crew) ++ rest ≡ all
   none_handed crew rest all none same = ap (λ ms. hands_of (workers_of tells faults ms) ++ rest) none ∙ same
 
   pub none_swapped : (idle : List (IdleMember K S G)) (crew : List (Member K S G)) → crew ≡ [] → all_idle tells faults idle ++ back crew ≡ all_idle tells faults idle
   none_swapped idle crew none = ap (λ ms. all_idle tells faults idle ++ back ms) none ∙ append-nil (all_idle tells faults idle)
 
-  pub all_handed : (crew : List (Member K S G)) (rest all : List Holding) → rest ≡ [] → hands_of (workers_of tells faults crew) ++ rest ≡ all → hands_of (workers_of tells faults crew) ≡ all
+  pub all_handed : (crew : List (Member K S G)) (rest all : List SheetHolding) → rest ≡ [] → hands_of (workers_of tells faults crew) ++ rest ≡ all → hands_of (workers_of tells faults crew) ≡ all
   all_handed crew rest all none whole = sym (append-nil (hands_of (workers_of tells faults crew))) ∙ ap (λ hs. hands_of (workers_of tells faults crew) ++ hs) (sym none) ∙ whole
 
   pub as_many : (before after : List (Member K S G)) → length (workers_of tells faults after) ≡ length (workers_of tells faults before) → length after ≡ length before

@@ -5,12 +5,12 @@ use Rattle.job_forms.specs.declared.job.Job.{Job}
 use Rattle.seed_jobs.specs.declared.member.Member.{Member}
 use Rattle.seed_jobs.specs.Crews.{HaveWorked}
 use Rattle.seed_jobs.specs.Members.{tallies_of, worker_of, workers_of}
-use Rattle.seed_jobs.specs.Workers.{Worker}
+use Rattle.seed_jobs.specs.Workers.{JobWorker}
 use Rattle.seed_jobs.specs.Works.{Works}
 
 module _ {K S G : Type 0} (tells : S → Option ℕ) (faults : S → ℕ) where
   -- what holds of each worker holds of the one at a place
-  pub each_of : (P : Worker → Type 0) (ms : List (Member K S G)) → All P (workers_of tells faults ms) → (i : ℕ) (d : Member K S G) → i < length ms → P (worker_of tells faults (get_or ms i d))
+  pub each_of : (P : JobWorker → Type 0) (ms : List (Member K S G)) → All P (workers_of tells faults ms) → (i : ℕ) (d : Member K S G) → i < length ms → P (worker_of tells faults (get_or ms i d))
   each_of P [] all i d within = absurd (omega (arith, within))
   each_of P (m ∷ ms) all zero d within = all 0 (worker_of tells faults m) (omega arith)
   each_of P (m ∷ ms) all (suc i) d within = each_of P ms (λ k e below. all (suc k) e (omega (arith, below))) i d (omega (arith, within))

@@ -12,12 +12,12 @@ use Rattle.job_places.specs.Ends.{is_done}
 use Rattle.job_places.specs.Tallies.{one_more, tally_of}
 use Rattle.job_places.specs.Visits.{Visit, visit_of}
 use Rattle.job_places.proofs.Counting.{adds_up, one_counted, tally_more}
-use Rattle.job_board.specs.declared.standing.Account.{Account}
-use Rattle.job_board.specs.declared.standing.End.{End}
-use Rattle.job_board.specs.declared.standing.End.TheVariants.{AllClaimed, Cancelled, Open}
-use Rattle.job_board.specs.declared.standing.Standing.{Standing}
+use Rattle.job_board.specs.declared.standing.HandAccount.{HandAccount}
+use Rattle.job_board.specs.declared.standing.HandEnd.{HandEnd}
+use Rattle.job_board.specs.declared.standing.HandEnd.TheVariants.{AllClaimed, Cancelled, Open}
+use Rattle.job_board.specs.declared.standing.SheetStanding.{SheetStanding}
 use Rattle.job_board.specs.SheetCalls.{Claims, MeetsNone, Refuses}
-use Rattle.job_board.specs.Hands.{Holding, Sheet, own}
+use Rattle.job_board.specs.Hands.{Sheet, SheetHolding, own}
 use Rattle.job_board.specs.Standings.{ending, gaining}
 use Rattle.job_forms.specs.declared.job.Job.{Job}
 use Rattle.truncation_list.specs.declared.book.FrontedBook.{FrontedBook}
@@ -25,8 +25,8 @@ use Rattle.turnstile.specs.Passes.{seen_by}
 use Rattle.seed_jobs.specs.Reports.{Reports, place_if, reporting}
 use Rattle.seed_jobs.specs.Visited.{HasVisited}
 use Rattle.seed_jobs.specs.Visits.{AreVisits, IsPassVisit, done_of, failed_of, turns_of, visited}
-use Rattle.seed_jobs.specs.Workers.{MayWork, Worker}
-use Rattle.seed_jobs.specs.Works.{HasWorked, Works, gaining_all}
+use Rattle.seed_jobs.specs.Workers.{JobWorker, MayWork}
+use Rattle.seed_jobs.specs.Works.{HasWorkedAtJob, Works, gaining_all}
 
 append_nil : {X : Type 0} (xs : List X) → xs ++ [] ≡ xs
 append_nil [] = refl
@@ -92,10 +92,10 @@ passing_counted test (x ∷ vs) =
     let counted = sum_by-cons (λ (e : PlaceEnd). cond (test e) 1 0) x.end (ends_of vs) in
     omega (arith, one, split, counted, place_counted (test x.end) x.place, passing_counted test vs)
 
-same_account : {cs ds : List ℕ} {d e f g : ℕ} {x y : End} → cs ≡ ds → d ≡ e → f ≡ g → x ≡ y → ◌≡◌ {A = Account} (record { claimed = cs; done = d; failed = f; end = x }) (record { claimed = ds; done = e; failed = g; end = y })
+same_account : {cs ds : List ℕ} {d e f g : ℕ} {x y : HandEnd} → cs ≡ ds → d ≡ e → f ≡ g → x ≡ y → ◌≡◌ {A = HandAccount} (record { claimed = cs; done = d; failed = f; end = x }) (record { claimed = ds; done = e; failed = g; end = y })
 same_account a b c d = cc
 
-account_step : (b : Bool) (vis don fai : List ℕ) (place : ℕ) (a : Account) → reporting b (gaining place (record { claimed = a.claimed ++ vis; done = a.done + length don; failed = a.failed + length fai; end = Open }))
+account_step : (b : Bool) (vis don fai : List ℕ) (place : ℕ) (a : HandAccount) → reporting b (gaining place (record { claimed = a.claimed ++ vis; done = a.done + length don; failed = a.failed + length fai; end = Open }))
     ≡ record { claimed = a.claimed ++ (vis ++ place ∷ []); done = a.done + length (don ++ place_if b place); failed = a.failed + length (fai ++ place_if (not b) place); end = Open }
 account_step true vis don fai place a =
     same_account (append_assoc a.claimed vis (place ∷ [])) (omega (arith, length-append don (place ∷ []))) (ap (λ (ps : List ℕ). a.failed + length ps) (sym (append_nil fai))) refl
@@ -105,19 +105,19 @@ account_step false vis don fai place a =
 ends_more : (vs : List Visit) (v : Visit) → tally_of (ends_of vs ++ v.end ∷ []) ≡ tally_of (ends_of (vs ++ v ∷ []))
 ends_more vs v = ap tally_of (sym (map-append (λ (x : Visit). x.end) vs (v ∷ [])))
 
-account_more : (vs : List Visit) (v : Visit) (a : Account) → reporting (is_done v.end) (gaining v.place (gaining_all vs Open a)) ≡ gaining_all (vs ++ v ∷ []) Open a
+account_more : (vs : List Visit) (v : Visit) (a : HandAccount) → reporting (is_done v.end) (gaining v.place (gaining_all vs Open a)) ≡ gaining_all (vs ++ v ∷ []) Open a
 account_more vs v a =
     account_step (is_done v.end) (visited vs) (done_of vs) (failed_of vs) v.place a
     ∙ same_account (ap (λ ps. a.claimed ++ ps) (sym (visited_more vs v))) (ap (λ (ps : List ℕ). a.done + length ps) (sym (done_more vs v))) (ap (λ (ps : List ℕ). a.failed + length ps) (sym (failed_more vs v))) refl
 
-account_none : (a : Account) → a.end ≡ Open → a ≡ gaining_all [] Open a
+account_none : (a : HandAccount) → a.end ≡ Open → a ≡ gaining_all [] Open a
 account_none a e = same_account (sym (append_nil a.claimed)) (omega arith) (omega arith) e
 
-same_end : (b : Bool) (a : Account) → (reporting b a).end ≡ a.end
+same_end : (b : Bool) (a : HandAccount) → (reporting b a).end ≡ a.end
 same_end true a = refl
 same_end false a = refl
 
-not_open : (places : ℕ) (found : Standing) (end : End) → Refuses places found end → end ≢ Open
+not_open : (places : ℕ) (found : SheetStanding) (end : HandEnd) → Refuses places found end → end ≢ Open
 not_open places found Open why is = why
 not_open places found AllClaimed why is = cc
 not_open places found Cancelled why is = cc
@@ -125,7 +125,7 @@ not_open places found Cancelled why is = cc
 -- SO FAR
 
 -- nothing yet
-pub worked_none : (c : Catalogue) (job : Job) (w : Worker) → (own w.hand).end ≡ Open → HasWorked c job w w (record { places = 0; done = 0; failed = 0 }) Open
+pub worked_none : (c : Catalogue) (job : Job) (w : JobWorker) → (own w.hand).end ≡ Open → HasWorkedAtJob c job w w (record { places = 0; done = 0; failed = 0 }) Open
 worked_none c job w e = record {
   visits = [];
   made = ap (λ ms. record { table = w.pass.table; charter = w.pass.charter; told = w.pass.told; book = w.pass.book; made = ms }) (sym (append_nil w.pass.made));
@@ -136,15 +136,15 @@ worked_none c job w e = record {
 }
 
 -- a worker that may work, what it has done since it started, and that it claimed no more than all places
-pub record IsAtWork (table : TableId) (c : Catalogue) (job : Job) (sheet : Sheet) (start now : Worker) (tally : Tally) : Type 0 where
+pub record IsAtWork (table : TableId) (c : Catalogue) (job : Job) (sheet : Sheet) (start now : JobWorker) (tally : Tally) : Type 0 where
   pub may : MayWork table c sheet now
-  pub so_far : HasWorked c job start now tally Open
+  pub so_far : HasWorkedAtJob c job start now tally Open
   pub within : tally.places ≤ start.hand.sheet.places
 
-pub at_first : (table : TableId) (c : Catalogue) (job : Job) (sheet : Sheet) (w : Worker) → MayWork table c sheet w → IsAtWork table c job sheet w w (record { places = 0; done = 0; failed = 0 })
+pub at_first : (table : TableId) (c : Catalogue) (job : Job) (sheet : Sheet) (w : JobWorker) → MayWork table c sheet w → IsAtWork table c job sheet w w (record { places = 0; done = 0; failed = 0 })
 at_first table c job sheet w may = record { may = may; so_far = worked_none c job w may.may_claim.1; within = omega arith }
 
-module _ {table : TableId} {c : Catalogue} {job : Job} {sheet : Sheet} {start now : Worker} {tally : Tally} (w : IsAtWork table c job sheet start now tally) where
+module _ {table : TableId} {c : Catalogue} {job : Job} {sheet : Sheet} {start now : JobWorker} {tally : Tally} (w : IsAtWork table c job sheet start now tally) where
   counts_add_up : tally.done + tally.failed ≡ tally.places
   counts_add_up =
       let places = ap (λ (x : Tally). x.places) w.so_far.counts in
@@ -154,7 +154,7 @@ module _ {table : TableId} {c : Catalogue} {job : Job} {sheet : Sheet} {start no
       omega (arith, places, done, failed, all)
 
   -- AT THE END
-  pub works : (t : Holding) → MeetsNone now.hand t → Works c job start (record { hand = t; pass = now.pass; source = now.source; faults = now.faults }) tally
+  pub works : (t : SheetHolding) → MeetsNone now.hand t → Works c job start (record { hand = t; pass = now.pass; source = now.source; faults = now.faults }) tally
   works t none = record {
     end = none.end;
     met_none = not_open now.hand.sheet.places none.found none.end none.why;
@@ -163,11 +163,11 @@ module _ {table : TableId} {c : Catalogue} {job : Job} {sheet : Sheet} {start no
       made = w.so_far.made;
       are_visits = w.so_far.are_visits;
       gains = record {
-        same_sheet = ap (λ (h : Holding). h.sheet) none.is ∙ w.so_far.gains.same_sheet;
-        same_number = ap (λ (h : Holding). h.number) none.is ∙ w.so_far.gains.same_number;
+        same_sheet = ap (λ (h : SheetHolding). h.sheet) none.is ∙ w.so_far.gains.same_sheet;
+        same_number = ap (λ (h : SheetHolding). h.number) none.is ∙ w.so_far.gains.same_number;
         account = none.own_is ∙ ap (ending none.end) w.so_far.gains.account;
-        done = ap (λ (h : Holding). h.done) none.is ∙ w.so_far.gains.done;
-        failed = ap (λ (h : Holding). h.failed) none.is ∙ w.so_far.gains.failed;
+        done = ap (λ (h : SheetHolding). h.done) none.is ∙ w.so_far.gains.done;
+        failed = ap (λ (h : SheetHolding). h.failed) none.is ∙ w.so_far.gains.failed;
       };
       counts = w.so_far.counts;
       same_source = w.so_far.same_source;
@@ -177,20 +177,20 @@ module _ {table : TableId} {c : Catalogue} {job : Job} {sheet : Sheet} {start no
   }
 
   -- ONE MORE PLACE
-  module _ {claimed : Holding} {place : ℕ} (gained : Claims now.hand claimed place) where
+  module _ {claimed : SheetHolding} {place : ℕ} (gained : Claims now.hand claimed place) where
     same_sheet : claimed.sheet ≡ now.hand.sheet
-    same_sheet = ap (λ (h : Holding). h.sheet) gained.is
+    same_sheet = ap (λ (h : SheetHolding). h.sheet) gained.is
 
     same_number : claimed.number ≡ now.hand.number
-    same_number = ap (λ (h : Holding). h.number) gained.is
+    same_number = ap (λ (h : SheetHolding). h.number) gained.is
 
     -- there is room for it in the tally
     room : length (own claimed).claimed ≤ claimed.sheet.places → tally.places + 1 ≤ sheet.places
     room most =
         let counted = ap (λ (x : Tally). x.places) w.so_far.counts in
         let as_ends = as_many w.so_far.visits in
-        let mine : length (own claimed).claimed ≡ length ((own now.hand).claimed ++ place ∷ []) = ap (λ (a : Account). length a.claimed) gained.own_is in
-        let before : length (own now.hand).claimed ≡ length ((own start.hand).claimed ++ visited w.so_far.visits) = ap (λ (a : Account). length a.claimed) w.so_far.gains.account in
+        let mine : length (own claimed).claimed ≡ length ((own now.hand).claimed ++ place ∷ []) = ap (λ (a : HandAccount). length a.claimed) gained.own_is in
+        let before : length (own now.hand).claimed ≡ length ((own start.hand).claimed ++ visited w.so_far.visits) = ap (λ (a : HandAccount). length a.claimed) w.so_far.gains.account in
         let split = length-append (own start.hand).claimed (visited w.so_far.visits) in
         let one = length-append (own now.hand).claimed (place ∷ []) in
         let places = ap (λ (s : Sheet). s.places) (same_sheet ∙ w.may.of_sheet) in
@@ -199,18 +199,18 @@ module _ {table : TableId} {c : Catalogue} {job : Job} {sheet : Sheet} {start no
     pub countable : (places : ℕ) → length (own claimed).claimed ≤ claimed.sheet.places → sheet.places ≡ places → places ≤ 10000000 → (tally.places < 10000000) × (tally.done + tally.failed ≤ tally.places)
     countable places claims is most = let left = room claims in (omega (arith, left, is, most), omega (arith, counts_add_up))
 
-    module _ {reported : Holding} {pass : HallPass} {after : ℕ} {end : PlaceEnd} (source : Option ℕ) (went : HasVisited c job place now.faults after now.pass pass end) (told : source ≡ now.source)
+    module _ {reported : SheetHolding} {pass : HallPass} {after : ℕ} {end : PlaceEnd} (source : Option ℕ) (went : HasVisited c job place now.faults after now.pass pass end) (told : source ≡ now.source)
         (of : IsPassOf table c pass) (reports : Reports claimed reported place (is_done end)) where
       abbrev the_visit : Visit
       the_visit = visit_of place now.pass.book pass.book now.faults after went.gained end
 
-      abbrev then_is : Worker
+      abbrev then_is : JobWorker
       then_is = record { hand = reported; pass = pass; source = source; faults = after }
 
       is_visit : IsPassVisit c start.pass.told job the_visit
       is_visit = subst (λ (t : Bool). IsPassVisit c t job the_visit) (ap (λ (p : HallPass). p.told) w.so_far.made) went.visit
 
-      worked_more : HasWorked c job start then_is (one_more (is_done end) tally) Open
+      worked_more : HasWorkedAtJob c job start then_is (one_more (is_done end) tally) Open
       worked_more =
           let vs = w.so_far.visits in
           let gains = w.so_far.gains in
@@ -223,8 +223,8 @@ module _ {table : TableId} {c : Catalogue} {job : Job} {sheet : Sheet} {start no
               same_sheet = reports.same_sheet ∙ same_sheet ∙ gains.same_sheet;
               same_number = reports.same_number ∙ same_number ∙ gains.same_number;
               account = reports.account ∙ ap (reporting (is_done end)) (gained.own_is ∙ ap (gaining place) gains.account) ∙ account_more vs the_visit (own start.hand);
-              done = reports.done ∙ ap (λ ps. ps ++ place_if (is_done end) place) (ap (λ (h : Holding). h.done) gained.is ∙ gains.done) ∙ append_assoc start.hand.done (done_of vs) (place_if (is_done end) place) ∙ ap (λ ps. start.hand.done ++ ps) (sym (done_more vs the_visit));
-              failed = reports.failed ∙ ap (λ ps. ps ++ place_if (not (is_done end)) place) (ap (λ (h : Holding). h.failed) gained.is ∙ gains.failed) ∙ append_assoc start.hand.failed (failed_of vs) (place_if (not (is_done end)) place) ∙ ap (λ ps. start.hand.failed ++ ps) (sym (failed_more vs the_visit));
+              done = reports.done ∙ ap (λ ps. ps ++ place_if (is_done end) place) (ap (λ (h : SheetHolding). h.done) gained.is ∙ gains.done) ∙ append_assoc start.hand.done (done_of vs) (place_if (is_done end) place) ∙ ap (λ ps. start.hand.done ++ ps) (sym (done_more vs the_visit));
+              failed = reports.failed ∙ ap (λ ps. ps ++ place_if (not (is_done end)) place) (ap (λ (h : SheetHolding). h.failed) gained.is ∙ gains.failed) ∙ append_assoc start.hand.failed (failed_of vs) (place_if (not (is_done end)) place) ∙ ap (λ ps. start.hand.failed ++ ps) (sym (failed_more vs the_visit));
             };
             counts = ap (one_more (is_done end)) w.so_far.counts ∙ tally_more (ends_of vs) end ∙ ends_more vs the_visit;
             same_source = told ∙ w.so_far.same_source;
@@ -235,10 +235,10 @@ module _ {table : TableId} {c : Catalogue} {job : Job} {sheet : Sheet} {start no
         may = record {
           of_hall = of;
           of_sheet = reports.same_sheet ∙ same_sheet ∙ w.may.of_sheet;
-          may_claim = ((w.may.may_claim.0.0, reports.same_number ∙ same_number ∙ w.may.may_claim.0.1), ap (λ (a : Account). a.end) (reports.account ∙ ap (reporting (is_done end)) gained.own_is) ∙ same_end (is_done end) (gaining place (own now.hand)) ∙ w.may.may_claim.1);
+          may_claim = ((w.may.may_claim.0.0, reports.same_number ∙ same_number ∙ w.may.may_claim.0.1), ap (λ (a : HandAccount). a.end) (reports.account ∙ ap (reporting (is_done end)) gained.own_is) ∙ same_end (is_done end) (gaining place (own now.hand)) ∙ w.may.may_claim.1);
           source = λ e. told ∙ w.may.source (ap (λ (p : HallPass). p.told) (sym went.is) ∙ e);
         };
-        so_far = subst (λ (t : Tally). HasWorked c job start then_is t Open) (sym is) worked_more;
+        so_far = subst (λ (t : Tally). HasWorkedAtJob c job start then_is t Open) (sym is) worked_more;
         within =
             let one = one_counted (is_done end) tally in
             let counted = ap (λ (t : Tally). t.places) is in

@@ -2,15 +2,15 @@
 use Rattle.std.specs.Prelude.{◌≡◌, ℕ, List, [], ◌∷◌, map, sum_by, Contains, ⊤}
 use Rattle.catalog.specs.declared.catalogue.Catalogue.{Catalogue}
 use Rattle.job_places.specs.declared.tally.Tally.{Tally}
-use Rattle.job_board.specs.declared.standing.End.TheVariants.{AllClaimed}
+use Rattle.job_board.specs.declared.standing.HandEnd.TheVariants.{AllClaimed}
 use Rattle.job_board.specs.SheetCalls.{HasEnded, ShareOut, claimed_by}
-use Rattle.job_board.specs.Hands.{Holding, Sheet, own, watching}
+use Rattle.job_board.specs.Hands.{Sheet, SheetHolding, own, watching}
 use Rattle.job_forms.specs.declared.job.Job.{Job}
-use Rattle.seed_jobs.specs.Workers.{Worker}
+use Rattle.seed_jobs.specs.Workers.{JobWorker}
 use Rattle.seed_jobs.specs.Works.{Works}
 
 -- each worker worked, and came to the tally at its place
-abbrev pub HaveWorked : Catalogue → Job → List Worker → List Worker → List Tally → Type 0
+abbrev pub HaveWorked : Catalogue → Job → List JobWorker → List JobWorker → List Tally → Type 0
 HaveWorked c job [] [] [] = ⊤
 HaveWorked c job (b ∷ before) (a ∷ after) (t ∷ tallies) = Works c job b a t × HaveWorked c job before after tallies
 HaveWorked c job [] (a ∷ after) tallies = ⊥
@@ -22,18 +22,18 @@ HaveWorked c job (b ∷ before) (a ∷ after) [] = ⊥
 abbrev pub total_of : List Tally → Tally
 total_of ts = record { places = sum_by (λ (t : Tally). t.places) ts; done = sum_by (λ (t : Tally). t.done) ts; failed = sum_by (λ (t : Tally). t.failed) ts }
 
-abbrev pub hands_of : List Worker → List Holding
+abbrev pub hands_of : List JobWorker → List SheetHolding
 hands_of ws = map (λ w. w.hand) ws
 
 -- the places that they claimed are so many, each claimed by one hand, once; and where a hand met None since all places were claimed, these
 -- are all places
-pub record AreShared (sheet : Sheet) (hands : List Holding) (claimed : ℕ) : Type 0 where
+pub record AreShared (sheet : Sheet) (hands : List SheetHolding) (claimed : ℕ) : Type 0 where
   pub count : claimed ≡ claimed_by hands
   pub shared : ShareOut sheet.places hands
-  pub all : (h : Holding) → Contains hands h → (own h).end ≡ AllClaimed → claimed ≡ sheet.places
+  pub all : (h : SheetHolding) → Contains hands h → (own h).end ≡ AllClaimed → claimed ≡ sheet.places
 
 -- a watch of the sheet that has seen the end of the job: each hand has met None and reported all that it claimed, so many places done, and
 -- so many failed
-pub record SeesEnd (sheet : Sheet) (done failed : ℕ) (watch : Holding) : Type 0 where
+pub record SeesEnd (sheet : Sheet) (done failed : ℕ) (watch : SheetHolding) : Type 0 where
   pub is : watch ≡ watching sheet watch.seen
   pub ended : HasEnded sheet.hands watch.seen done failed

@@ -4,7 +4,7 @@ use Rattle.atomic_table.specs.Seated.{TableId}
 use Rattle.cache_hall.specs.Turned.{HallPass, IsPassOf}
 use Rattle.catalog.specs.declared.catalogue.Catalogue.{Catalogue}
 use Rattle.job_board.specs.Calls.{BoardHolding, IsBoardPass}
-use Rattle.seed_jobs.specs.Workers.{Worker}
+use Rattle.seed_jobs.specs.Workers.{JobWorker}
 use Rattle.truncation_list.specs.Books.{AnswersForFronted}
 use Rattle.turnstile.specs.Passes.{seen_by}
 use Rattle.seed_jobs.specs.declared.runner.IdleMember.{IdleMember}
@@ -32,7 +32,7 @@ abbrev pub passes_of : List Idle → List HallPass
 passes_of idle = map (λ i. i.pass) idle
 
 -- the worker of a crew without its hand
-abbrev pub without_hand : Worker → Idle
+abbrev pub without_hand : JobWorker → Idle
 without_hand w = record { pass = w.pass; source = w.source; faults = w.faults }
 
 -- its pass is of the hall, and where the hall is told to be sound its source renders the catalogue's pictures
@@ -41,7 +41,7 @@ pub record MayJoin (table : TableId) (c : Catalogue) (i : Idle) : Type 0 where
   pub source : i.pass.told ≡ true → i.source ≡ Some c.source
 
 -- the runner has a pass of this board, and its members may work over this hall
-pub record IsReady (boards table : TableId) (c : Catalogue) (r : Standby) : Type 0 where
+pub record IsStandbyReady (boards table : TableId) (c : Catalogue) (r : Standby) : Type 0 where
   pub of_board : IsBoardPass boards r.board
   pub idle : All (MayJoin table c) r.idle
 

@@ -2,14 +2,14 @@
 use Rattle.std.specs.Prelude.{ℕ, List, map, Option}
 use Rattle.job_places.specs.declared.tally.Tally.{Tally}
 use Rattle.seed_jobs.specs.declared.member.Member.{Member}
-use Rattle.seed_jobs.specs.Workers.{Worker}
+use Rattle.seed_jobs.specs.Workers.{JobWorker}
 
 -- by which number a source tells, and how often it has failed
 module _ {K S G : Type 0} (tells : S → Option ℕ) (faults : S → ℕ) where
-  abbrev pub worker_of : Member K S G → Worker
+  abbrev pub worker_of : Member K S G → JobWorker
   worker_of m = record { hand = m.hand; pass = m.pass; source = tells m.source; faults = faults m.source }
 
-  abbrev pub workers_of : List (Member K S G) → List Worker
+  abbrev pub workers_of : List (Member K S G) → List JobWorker
   workers_of ms = map worker_of ms
 
 module _ {K S G : Type 0} where

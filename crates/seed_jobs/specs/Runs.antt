@@ -10,12 +10,12 @@ use Rattle.job_board.specs.declared.shown.Reply.{Reply}
 use Rattle.job_board.specs.declared.shown.Reply.TheVariants as reply
 use Rattle.job_board.specs.Boards.{IsOver}
 use Rattle.job_board.specs.Calls.{BoardHolding}
-use Rattle.job_board.specs.Hands.{Holding, Sheet}
+use Rattle.job_board.specs.Hands.{Sheet, SheetHolding}
 use Rattle.job_forms.specs.declared.job.Job.{Job}
 use Rattle.job_forms.specs.Job.{Fits}
 use Rattle.job_forms.specs.Places.{places}
 use Rattle.seed_jobs.specs.Crews.{AreShared, HaveWorked, SeesEnd, hands_of, total_of}
-use Rattle.seed_jobs.specs.Workers.{Worker}
+use Rattle.seed_jobs.specs.Workers.{JobWorker}
 use Rattle.truncation_list.specs.Books.{AnswersForFronted}
 use Rattle.turnstile.specs.declared.view.Made.{Made}
 use Rattle.seed_jobs.specs.Idles.{Idle, Standby, without_hand}
@@ -29,10 +29,10 @@ pub record IsRunnable (c : Catalogue) (p : Posted) : Type 0 where
 
 -- The last members got the hands of the job's sheet, one each, and worked until each hand met None; then they were idle again, at their
 -- places. The others did nothing.
-pub record IsRun (c : Catalogue) (job : Job) (sheet : Sheet) (hands : List Holding) (before after : List Idle) : Type 0 where
+pub record IsJobRunByCrew (c : Catalogue) (job : Job) (sheet : Sheet) (hands : List SheetHolding) (before after : List Idle) : Type 0 where
   pub others : List Idle
-  pub crew : List Worker
-  pub crew_after : List Worker
+  pub crew : List JobWorker
+  pub crew_after : List JobWorker
   pub tallies : List Tally
   pub were : before ≡ others ++ reverse (map without_hand crew)
   pub are : after ≡ others ++ reverse (map without_hand crew_after)
@@ -52,7 +52,7 @@ pub record IsToldOfEnd (p : Posted) (total : Tally) (turn : Made Note) : Type 0 
 -- a job that can be run was run, and one turn told the board of its end, with all that its crew came to; any other was left
 abbrev pub Runs : Catalogue → Posted → List (Made Note) → List Idle → List Idle → Type 0
 Runs c p ending before after =
-    ((run : IsRun c p.job p.sheet.value p.hands.items before after) × (turn : Made Note) × (ending ≡ turn ∷ []) × IsToldOfEnd p (total_of run.tallies) turn) ⊎ (¬ (IsRunnable c p) × (ending ≡ []) × (after ≡ before))
+    ((run : IsJobRunByCrew c p.job p.sheet.value p.hands.items before after) × (turn : Made Note) × (ending ≡ turn ∷ []) × IsToldOfEnd p (total_of run.tallies) turn) ⊎ (¬ (IsRunnable c p) × (ending ≡ []) × (after ≡ before))
 
 -- a posted job became this, and these turns were made of it
 pub record HasRunOut (c : Catalogue) (p : Posted) (before after : BoardHolding) (idle_before idle_after : List Idle) : Type 0 where
@@ -92,14 +92,14 @@ pub record RunsNext (c : Catalogue) (before after : Standby) (is_run : Bool) : T
   pub none : is_run ≡ false → round.look.note.reply ≡ reply.Next None
 
 -- so far: these looks at the board and no other turns than they led to, and what was posted there was run
-pub record HasRun (c : Catalogue) (before after : Standby) : Type 0 where
+pub record HasRunJobs (c : Catalogue) (before after : Standby) : Type 0 where
   pub rounds : List Round
   pub makes : MakesTurns before.board after.board (turns_of rounds)
   pub are_run : AreRun c rounds before.idle after.idle
 
 -- THE WHOLE: the last look found no job waiting, on a board with all jobs of which the runner knew before
 pub record RunsAll (c : Catalogue) (before after : Standby) : Type 0 where
-  pub has_run : HasRun c before after
+  pub has_run : HasRunJobs c before after
   pub but_last : List Round
   pub last_look : Made Note
   pub rounds_are : has_run.rounds ≡ but_last ++ (record { look = last_look; ending = [] }) ∷ []

@@ -4,21 +4,21 @@ use Rattle.catalog.specs.declared.catalogue.Catalogue.{Catalogue}
 use Rattle.job_places.specs.declared.tally.Tally.{Tally}
 use Rattle.job_places.specs.Tallies.{tally_of}
 use Rattle.job_places.specs.Visits.{Visit}
-use Rattle.job_board.specs.declared.standing.Account.{Account}
-use Rattle.job_board.specs.declared.standing.End.{End}
-use Rattle.job_board.specs.declared.standing.End.TheVariants.{Open}
-use Rattle.job_board.specs.Hands.{Holding, own}
+use Rattle.job_board.specs.declared.standing.HandAccount.{HandAccount}
+use Rattle.job_board.specs.declared.standing.HandEnd.{HandEnd}
+use Rattle.job_board.specs.declared.standing.HandEnd.TheVariants.{Open}
+use Rattle.job_board.specs.Hands.{SheetHolding, own}
 use Rattle.job_forms.specs.declared.job.Job.{Job}
 use Rattle.turnstile.specs.Passes.{seen_by}
 use Rattle.seed_jobs.specs.Visits.{AreVisits, done_of, failed_of, turns_of, visited}
-use Rattle.seed_jobs.specs.Workers.{Worker}
+use Rattle.seed_jobs.specs.Workers.{JobWorker}
 
 -- an account that gained these visits and then stands so
-abbrev pub gaining_all : List Visit → End → Account → Account
+abbrev pub gaining_all : List Visit → HandEnd → HandAccount → HandAccount
 gaining_all vs end a = record { claimed = a.claimed ++ visited vs; done = a.done + length (done_of vs); failed = a.failed + length (failed_of vs); end = end }
 
 -- the hand claimed the places of these visits, in order, and reported each as it counts
-pub record HandGains (before after : Holding) (vs : List Visit) (end : End) : Type 0 where
+pub record HandGains (before after : SheetHolding) (vs : List Visit) (end : HandEnd) : Type 0 where
   pub same_sheet : after.sheet ≡ before.sheet
   pub same_number : after.number ≡ before.number
   pub account : own after ≡ gaining_all vs end (own before)
@@ -26,7 +26,7 @@ pub record HandGains (before after : Holding) (vs : List Visit) (end : End) : Ty
   pub failed : after.failed ≡ before.failed ++ failed_of vs
 
 -- so far: the hand stands so, and the pass made the turns of these visits and no others
-pub record HasWorked (c : Catalogue) (job : Job) (before after : Worker) (tally : Tally) (end : End) : Type 0 where
+pub record HasWorkedAtJob (c : Catalogue) (job : Job) (before after : JobWorker) (tally : Tally) (end : HandEnd) : Type 0 where
   pub visits : List Visit
   pub made : after.pass ≡ seen_by before.pass after.pass.book (turns_of visits)
   pub are_visits : AreVisits c before.pass.told job before.pass.book before.faults visits after.pass.book after.faults
@@ -35,9 +35,9 @@ pub record HasWorked (c : Catalogue) (job : Job) (before after : Worker) (tally 
   pub same_source : after.source ≡ before.source
 
 -- THE WHOLE: the hand has met None; what is done and what failed is all that it claimed, and no more than all places
-pub record Works (c : Catalogue) (job : Job) (before after : Worker) (tally : Tally) : Type 0 where
-  pub end : End
+pub record Works (c : Catalogue) (job : Job) (before after : JobWorker) (tally : Tally) : Type 0 where
+  pub end : HandEnd
   pub met_none : end ≢ Open
-  pub worked : HasWorked c job before after tally end
+  pub worked : HasWorkedAtJob c job before after tally end
   pub adds_up : tally.done + tally.failed ≡ tally.places
   pub within : tally.places ≤ before.hand.sheet.places

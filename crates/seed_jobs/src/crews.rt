@@ -7,7 +7,7 @@ ghost use Rattle.job_forms.specs.Places.{places};
 ghost use Rattle.seed_jobs.specs.Crews.{AreShared, HaveWorked, SeesEnd, hands_of, total_of};
 ghost use Rattle.seed_jobs.specs.Idles.{MayJoin, all_idle, without_hand};
 ghost use Rattle.seed_jobs.specs.Members.{tallies_of, workers_of};
-ghost use Rattle.seed_jobs.specs.Runs.{IsRun};
+ghost use Rattle.seed_jobs.specs.Runs.{IsJobRunByCrew};
 ghost use Rattle.seed_jobs.specs.Workers.{MayWork};
 
 use crate::crew::{CrewEnd, run_seed};
@@ -130,7 +130,7 @@ pub(crate) fn run_by_crew<
     requires idle { All (MayJoin hall.now.turnstile.table hall.now.catalogue) (all_idle S.told S.faults idle.old.items) }
     requires members { (length idle.old.items ≡ 8) × (8 ≤ vec_capacity idle.old) }
     requires room { (crew.old.items ≡ []) × (vec_capacity crew.old ≡ 8) }
-    ensures run { (r : IsRun hall.now.catalogue job.now sheet.now hands.items (all_idle S.told S.faults idle.old.items) (all_idle S.told S.faults idle.new.items))
+    ensures run { (r : IsJobRunByCrew hall.now.catalogue job.now sheet.now hands.items (all_idle S.told S.faults idle.old.items) (all_idle S.told S.faults idle.new.items))
         × SeesEnd sheet.now (total_of r.tallies).done (total_of r.tallies).failed result }
     ensures idle { All (MayJoin hall.now.turnstile.table hall.now.catalogue) (all_idle S.told S.faults idle.new.items) }
     ensures members { (length idle.new.items ≡ 8) × (8 ≤ vec_capacity idle.new) }

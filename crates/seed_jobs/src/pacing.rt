@@ -52,7 +52,7 @@ impl Pace {
     }
 
     /// How long they rest from now on.
-    fn left(&self, now: u64) -> u64 {
+    fn time_left(&self, now: u64) -> u64 {
         self.rests_until.load(Ordering::SeqCst).saturating_sub(now)
     }
 }
@@ -94,7 +94,7 @@ impl<'a, R: Clock> PacedGate<'a, R> {
     }
 
     /// How long the member has worked at its last place until now, 0 where the job has given it none.
-    fn worked(&self, now: u64) -> u64 {
+    fn time_worked(&self, now: u64) -> u64 {
         if self.has_worked {
             now.saturating_sub(self.passed)
         } else {
@@ -105,7 +105,7 @@ impl<'a, R: Clock> PacedGate<'a, R> {
     /// Rests with the others, unless no more requests come.
     fn rest(&mut self) {
         for _ in 0..LOOKS {
-            let left = self.pace.left(micros(self.clock));
+            let left = self.pace.time_left(micros(self.clock));
             if left == 0 {
                 return;
             }
@@ -120,7 +120,7 @@ impl<'a, R: Clock> PacedGate<'a, R> {
 impl<'a, R: Clock> Gate for PacedGate<'a, R> {
     fn at(&mut self, _place: u64) {
         let now = micros(self.clock);
-        let worked = self.worked(now);
+        let worked = self.time_worked(now);
         self.longest = self.longest.max(worked);
         if self.is_busy() {
             self.pace.rest_for(worked, now);
@@ -141,7 +141,7 @@ impl<'a, R: Clock> JobGate for PacedGate<'a, R> {
     /// than the places before.
     fn end(&mut self) {
         let now = micros(self.clock);
-        let mut worked = self.worked(now);
+        let mut worked = self.time_worked(now);
         if self.longest > 0 {
             worked = worked.min(self.longest);
         }

@@ -3,7 +3,7 @@ ghost use Rattle.std.specs.Prelude.{All, length, true, vec_capacity, [], ◌≡�
 ghost use Rattle.catalog.specs.Valid.{IsValid};
 ghost use Rattle.job_board.specs.Boards.{HasNumber};
 ghost use Rattle.job_board.specs.Calls.{IsBoardPass};
-ghost use Rattle.seed_jobs.specs.Idles.{IsReady, MayJoin, all_idle};
+ghost use Rattle.seed_jobs.specs.Idles.{IsStandbyReady, MayJoin, all_idle};
 ghost use Rattle.seed_jobs.specs.Runs.{HasRunOut, IsRunnable, RunsAll, RunsNext};
 
 use crate::crews::run_by_crew;
@@ -82,8 +82,8 @@ fn run_next<R: Threads + Wait + Sync, K: Keeper + Send, S: Source + Send, G: Job
     runner: &mut Runner<K, S, G>,
 ) -> bool
     requires valid { IsValid hall.now.catalogue }
-    requires ready { IsReady board.now.turnstile.table hall.now.turnstile.table hall.now.catalogue runner.old }
-    ensures ready { IsReady board.now.turnstile.table hall.now.turnstile.table hall.now.catalogue runner.new }
+    requires ready { IsStandbyReady board.now.turnstile.table hall.now.turnstile.table hall.now.catalogue runner.old }
+    ensures ready { IsStandbyReady board.now.turnstile.table hall.now.turnstile.table hall.now.catalogue runner.new }
     ensures next { RunsNext hall.now.catalogue runner.old runner.new result }
 {
     match board.next(rt, &mut runner.board) {
@@ -115,8 +115,8 @@ pub fn run_jobs<R: Threads + Wait + Sync, K: Keeper + Send, S: Source + Send, G:
     runner: &mut Runner<K, S, G>,
 )
     requires valid { IsValid hall.now.catalogue }
-    requires ready { IsReady board.now.turnstile.table hall.now.turnstile.table hall.now.catalogue runner.old }
-    ensures ready { IsReady board.now.turnstile.table hall.now.turnstile.table hall.now.catalogue runner.new }
+    requires ready { IsStandbyReady board.now.turnstile.table hall.now.turnstile.table hall.now.catalogue runner.old }
+    ensures ready { IsStandbyReady board.now.turnstile.table hall.now.turnstile.table hall.now.catalogue runner.new }
     ensures runs { RunsAll hall.now.catalogue runner.old runner.new }
 {
     'running: for _ in rt.forever() {

@@ -22,7 +22,7 @@ abbrev pub HoldsPictures : Option (List ℕ) → Content → Type 0
 HoldsPictures text seen = (c : Catalogue) → MayBe text c → IsSoundImage c seen
 
 -- the cabinet begins with the records that the disk opens to, where that is modelled
-pub record IsOpened {D : Type 0} (d : ServerDisk D) (c : Catalogue) (clock : Readings) (s : State) : Type 0 where
+pub record IsOpenedFromDisk {D : Type 0} (d : ServerDisk D) (c : Catalogue) (clock : Readings) (s : State) : Type 0 where
   pub replayed : Replayed
   pub opens : IsTrue d.told → OpensTo c d.seen replayed
   pub is : s ≡ opened_as d.told d.seen c clock replayed

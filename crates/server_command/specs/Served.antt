@@ -15,7 +15,7 @@ use Rattle.server_workers.specs.First.{first_pass}
 use Rattle.server_workers.specs.Served.{HasServedOver, Listened}
 use Rattle.server_workers.specs.Stints.{LinkReading, Service}
 use Rattle.sessions.specs.Outside.{FaultCounts, InputChange}
-use Rattle.server_command.specs.Opened.{IsOpened, IsUnopened, ServerDisk}
+use Rattle.server_command.specs.Opened.{IsOpenedFromDisk, IsUnopened, ServerDisk}
 
 -- WHAT A SERVER IS HANDED
 
@@ -48,16 +48,16 @@ listened h = record { connections = h.connections; given_before = h.given_before
 
 -- The cache of the disk was opened under the catalogue, and the links that the listener gave were served over it, by passes that had seen
 -- the opened cabinet's book.
-pub record HasServed {L D : Type 0} (h : ServerChange L) (d : ServerDisk D) (c : Catalogue) (document : List ℕ) : Type 0 where
+pub record HasOpenedAndServed {L D : Type 0} (h : ServerChange L) (d : ServerDisk D) (c : Catalogue) (document : List ℕ) : Type 0 where
   pub opened : State
-  pub is_opened : IsOpened d c h.clock opened
+  pub is_opened : IsOpenedFromDisk d c h.clock opened
   pub table : TableId
   pub board : TableId
   pub over : HasServedOver (service_of h c document table board opened) (listened h)
 
 -- so it was, and as many links were given as were asked for
 abbrev pub HasServedAll : {L D : Type 0} → ServerChange L → ServerDisk D → Catalogue → List ℕ → Type 0
-HasServedAll h d c document = (s : HasServed h d c document) × (length s.over.links ≡ h.connections)
+HasServedAll h d c document = (s : HasOpenedAndServed h d c document) × (length s.over.links ≡ h.connections)
 
 -- A cache is refused by neither a fault of the disk nor want of memory, which have statuses of their own.
 abbrev pub IsCacheRefused : {L D : Type 0} → ServerChange L → ServerDisk D → OpenFault → Type 0
@@ -71,7 +71,7 @@ IsCacheRefused h d fault.Spent = WithBoth h (λ c _. IsUnopened d fault.Spent c)
 -- What each status says. Every one but `Done` and `ListenFault` comes before the first link is asked for: the listener stays as it was.
 abbrev pub HasEnded : {L D : Type 0} → ServerChange L → ServerDisk D → Type 0 → Type 0 → Status → Type 0
 HasEnded h d CapabilitiesStay ListenerStays status.Done = WithBoth h (HasServedAll h d)
-HasEnded h d CapabilitiesStay ListenerStays status.ListenFault = WithBoth h (HasServed h d) × Rose h.accepts.before h.accepts.after
+HasEnded h d CapabilitiesStay ListenerStays status.ListenFault = WithBoth h (HasOpenedAndServed h d) × Rose h.accepts.before h.accepts.after
 HasEnded h d CapabilitiesStay ListenerStays (status.Catalogue f) = IsRefused h.catalogue h.capabilities CapabilitiesStay (unconfigured.Fault f) × ListenerStays
 HasEnded h d CapabilitiesStay ListenerStays status.ReadFault = IsRefused h.catalogue h.capabilities CapabilitiesStay unconfigured.ReadFault × ListenerStays
 HasEnded h d CapabilitiesStay ListenerStays status.TooLong = IsRefused h.catalogue h.capabilities CapabilitiesStay unconfigured.TooLong × ListenerStays

@@ -15,12 +15,12 @@ use Rattle.command_status.specs.Statuses.{status_of_opening}
 use Rattle.gate_journal.specs.declared.fault.OpenFault.{OpenFault}
 use Rattle.server_workers.specs.First.{first_pass}
 use Rattle.sessions.specs.Outside.{InputChange}
-use Rattle.server_command.specs.Opened.{IsOpened, IsUnopened, ServerDisk}
+use Rattle.server_command.specs.Opened.{IsOpenedFromDisk, IsUnopened, ServerDisk}
 
 -- each pass is a first one of this table, at the cabinet that the disk opens to
 pub record AreFirst {D : Type 0} (d : ServerDisk D) (c : Catalogue) (clock : Readings) (told : Bool) (table : TableId) (passes : List HallPass) : Type 0 where
   pub opened : State
-  pub is_opened : IsOpened d c clock opened
+  pub is_opened : IsOpenedFromDisk d c clock opened
   pub first : All (λ p. p ≡ first_pass table c told opened) passes
 
 -- both files were read, and the passes are first ones at the cabinet that the disk opens to

@@ -3,7 +3,7 @@ ghost use Rattle.std.specs.Prelude.{Bool, IfErr, IfOk, IsTrue, length, true, ◌
 ghost use Rattle.catalog.specs.Valid.{IsValid};
 ghost use Rattle.command_setup.specs.Held.{HoldsFile};
 ghost use Rattle.durable_cabinet.specs.Images.{IsOurs, IsSoundImage};
-ghost use Rattle.server_command.specs.Opened.{HoldsPictures, IsOpened};
+ghost use Rattle.server_command.specs.Opened.{HoldsPictures, IsOpenedFromDisk};
 ghost use Rattle.server_command.specs.Setup.{AreFirst, IsStaged, IsUnready, Refuses};
 ghost use Rattle.server_workers.specs.First.{AreFirstAtBoard};
 ghost use Rattle.sessions.specs.Outside.{InputChange, counts};
@@ -16,10 +16,10 @@ use disk_model::Disk;
 use durable_cabinet::Cabinet;
 use exact_ratio::Words;
 use http_wire::ByteSource;
-use server_workers::{BOARD_PASSES, PASSES, Stage, stage_of};
+use server_workers::{BOARD_PASSES, PASSES, ReadyServer, stage_of};
 use std::alloc::Global;
 use std::snapshot::Snapshot;
-use wmts_rest::RestTable;
+use tile_requests::Tables;
 
 /// Opens the cabinet of a disk.
 fn cabinet_of<D: Disk>(
@@ -30,7 +30,7 @@ fn cabinet_of<D: Disk>(
 ) -> Result<Cabinet<D>, Status>
     requires valid { IsValid catalogue }
     requires ours { IsTrue (D.told disk) → IsOurs catalogue (D.state disk).seen }
-    ensures opened { IfOk result (λ k. IsOpened (record { disk = disk; told = D.told disk; seen = (D.state disk).seen; faults = D.faults }) catalogue clock k.state) }
+    ensures opened { IfOk result (λ k. IsOpenedFromDisk (record { disk = disk; told = D.told disk; seen = (D.state disk).seen; faults = D.faults }) catalogue clock k.state) }
     ensures refused { IfErr result (λ end. Refuses (record { disk = disk; told = D.told disk; seen = (D.state disk).seen; faults = D.faults }) catalogue end) }
 {
     match Cabinet::open(alloc, catalogue, clock, disk) {
@@ -50,7 +50,7 @@ fn world_on<D: Disk>(
     capabilities: Words,
     clock: Clock,
     disk: D,
-) -> Result<Stage<Cabinet<D>>, Status>
+) -> Result<ReadyServer<Cabinet<D>>, Status>
     ghost told: { Bool }
     requires valid { IsValid catalogue }
     requires ours { IsTrue (D.told disk) → IsOurs catalogue (D.state disk).seen }
@@ -62,18 +62,18 @@ fn world_on<D: Disk>(
     ensures first { IfOk result (λ o. AreFirst (record { disk = disk; told = D.told disk; seen = (D.state disk).seen; faults = D.faults }) catalogue clock told o.world.hall.turnstile.table o.passes.items) }
     ensures refused { IfErr result (λ end. Refuses (record { disk = disk; told = D.told disk; seen = (D.state disk).seen; faults = D.faults }) catalogue end) }
 {
-    let Ok(rest) = RestTable::new(alloc) else {
+    let Ok(tables) = Tables::new(alloc) else {
         drop(catalogue);
         return Err(Status::OutOfMemory);
     };
     let cabinet = match cabinet_of(alloc, catalogue, clock, disk) {
         Ok(cabinet) => cabinet,
         Err(end) => {
-            drop(rest);
+            drop(tables);
             return Err(end);
         }
     };
-    match stage_of(alloc, rest, capabilities, cabinet) {
+    match stage_of(alloc, tables, capabilities, cabinet) {
         Ok(stage) => Ok(stage),
         Err(_) => Err(Status::OutOfMemory),
     }
@@ -88,7 +88,7 @@ pub(crate) fn made_ready<D: Disk, I: ByteSource>(
     clock: Clock,
     disk: D,
     _mark: &Snapshot<bool>,
-) -> Result<Stage<Cabinet<D>>, Status>
+) -> Result<ReadyServer<Cabinet<D>>, Status>
     ghost told: { Bool }
     requires holds { HoldsFile (I.left catalogue.old) (D.told disk) (D.state disk).seen }
     requires sound { told ≡ true → IsTrue (D.told disk) × HoldsPictures (I.left catalogue.old) (D.state disk).seen }

@@ -24,7 +24,7 @@ use Rattle.cache_access.proofs.Asked.{answered_by}
 use Rattle.catalog.specs.declared.catalogue.Catalogue.{Catalogue}
 use Rattle.catalog.specs.LookUp.{IsTile}
 use Rattle.catalog.specs.Valid.{IsValid}
-use Rattle.hall_sessions.specs.Exchanges.{AreExchanges, Exchange, turns_of}
+use Rattle.hall_sessions.specs.Exchanges.{AreExchanges, HallExchange, turns_of}
 use Rattle.job_board.specs.Calls.{BoardHolding}
 use Rattle.matrix_geometry.specs.declared.address.Address.{Address}
 use Rattle.truncation_list.specs.declared.book.Cut.{Cut}
@@ -64,7 +64,7 @@ module _ (c : Catalogue) where
   of_turns told seen left [] turns m (k, lt, _) = absurd (omega (arith, lt))
   of_turns told seen left (x ∷ xs) turns m at = ⊎_elim (λ (e : x ≡ m). subst (IsTurnAt c) e record { told = told; seen = seen; is = turns.0 }) (λ (d : Contains xs m). of_turns told (left_by x) left xs turns.1 m d) (first_or_later x m xs at)
 
-  of_exchanges : (told : Bool) (seen : FrontedBook) (board : BoardHolding) (renders : ℕ) (es : List Exchange) (sees : FrontedBook) (board_after : BoardHolding) (after : ℕ) → AreExchanges c told seen board renders es sees board_after after
+  of_exchanges : (told : Bool) (seen : FrontedBook) (board : BoardHolding) (renders : ℕ) (es : List HallExchange) (sees : FrontedBook) (board_after : BoardHolding) (after : ℕ) → AreExchanges c told seen board renders es sees board_after after
       → (m : Made Note) → Contains (turns_of es) m → IsTurnAt c m
   of_exchanges told seen board renders [] sees board_after after are m (k, lt, _) = absurd (omega (arith, lt))
   of_exchanges told seen board renders (e ∷ es) sees board_after after are m at =

@@ -15,7 +15,7 @@ use Rattle.link_queue.specs.Hands.{IsEven, IsHand, hand, with_other}
 use Rattle.link_queue.specs.Weights.{weigh}
 use Rattle.link_queue.specs.declared.hand.QueueHand.{QueueHand}
 use Rattle.truncation_list.specs.Books.{AnswersForFronted}
-use Rattle.server_workers.specs.Crew.{AreKept, AreServedBy, HasGathered, HasServedLinks, HasWorked, IsReady}
+use Rattle.server_workers.specs.Crew.{AreKept, AreServedBy, HasGathered, HasHeldSessions, HasServedLinks, IsWorkerReady}
 use Rattle.server_workers.specs.Stints.{HeldSession, IsStint, Service, Stint, boards_of, links_in, links_of, passes_of}
 use Rattle.turnstile.proofs.Notes.{the_one}
 use Rattle.server_workers.proofs.Hearing.{hears_none, hears_on, hears_one, tells_on}
@@ -32,12 +32,12 @@ keeps_one stints passes sessions pass board kept p c = ⊎_elim
     (Contains-append_cases (pass ∷ []) (passes_of stints) p c)
 
 module _ {L : Type 0} (s : Service L) where
-  pub gathers_none : (pass : HallPass) (board : BoardHolding) (renders : ℕ) (mine : Pass L (QueueHand L)) (r : Standby) → HasWorked s (hand 1 [] []) pass board renders mine → HasGathered s 1 pass board renders mine [] r r
+  pub gathers_none : (pass : HallPass) (board : BoardHolding) (renders : ℕ) (mine : Pass L (QueueHand L)) (r : Standby) → HasHeldSessions s (hand 1 [] []) pass board renders mine → HasGathered s 1 pass board renders mine [] r r
   gathers_none pass board renders mine r w = record { stints = []; held = tt; last = w; kept = λ p c. c; heard = hears_none r }
 
   -- one worker more
   pub gathers_one : (parts : ℕ) (pass other_pass : HallPass) (board other_board : BoardHolding) (renders other_renders : ℕ) (mine other later : Pass L (QueueHand L)) (passes : List HallPass) (before mid after : Standby) → HasGathered s parts pass board renders mine passes before mid
-      → HasWorked s (hand 1 [] []) other_pass other_board other_renders other → HasHeard mid after (other_board ∷ []) → view later ≡ with_other (view mine) (view other) → HasGathered s (parts + 1) pass board renders later (passes ++ other_pass ∷ []) before after
+      → HasHeldSessions s (hand 1 [] []) other_pass other_board other_renders other → HasHeard mid after (other_board ∷ []) → view later ≡ with_other (view mine) (view other) → HasGathered s (parts + 1) pass board renders later (passes ++ other_pass ∷ []) before after
   gathers_one parts pass other_pass board other_board renders other_renders mine other later passes before mid after g w heard took = record {
     stints = stint w.sessions other_pass other_board ∷ g.stints;
     kept = keeps_one g.stints passes w.sessions other_pass other_board g.kept;
@@ -55,7 +55,7 @@ module _ {L : Type 0} (s : Service L) where
 
   -- and the hand that put the links: it has taken none
   pub gathers_put : (parts more : ℕ) (put : List L) (pass : HallPass) (board : BoardHolding) (renders : ℕ) (mine other later : Pass L (QueueHand L)) (passes : List HallPass) (before after : Standby) (g : HasGathered s parts pass board renders mine passes before after) → view other ≡ hand more put []
-      → view later ≡ with_other (view mine) (view other) → HasWorked s (hand (parts + more) put (links_in g.stints)) pass board renders later
+      → view later ≡ with_other (view mine) (view other) → HasHeldSessions s (hand (parts + more) put (links_in g.stints)) pass board renders later
   gathers_put parts more put pass board renders mine other later passes before after g puts took = record {
     sessions = g.last.sessions;
     board_before = g.last.board_before;
@@ -67,7 +67,7 @@ module _ {L : Type 0} (s : Service L) where
 
   -- who is alone at the queue and has taken what was put has served all of it, with the others
   pub all_served : (parts : ℕ) (put : List L) (stints : List (Stint L)) (pass : HallPass) (board : BoardHolding) (renders : ℕ) (mine : Pass L (QueueHand L)) (passes : List HallPass) (before mid after : Standby) → AllByRecursion (IsStint s) stints → AreKept stints passes → HasHeard before mid (boards_of stints)
-      → HasWorked s (hand parts put (links_in stints)) pass board renders mine → IsEven (view mine) → HasHeard mid after (board ∷ []) → AreServedBy s put (passes ++ pass ∷ []) before after
+      → HasHeldSessions s (hand parts put (links_in stints)) pass board renders mine → IsEven (view mine) → HasHeard mid after (board ∷ []) → AreServedBy s put (passes ++ pass ∷ []) before after
   all_served parts put stints pass board renders mine passes before mid after held kept had w even heard = record {
     kept = keeps_one stints passes w.sessions pass board kept;
     heard = hears_one before mid after board (boards_of stints) had heard;
@@ -88,11 +88,11 @@ module _ {L : Type 0} (s : Service L) where
     pub each : gone + left ≡ all
     pub gathered : HasGathered s (1 + gone) pass board renders mine passes before after
 
-  pub gather_begins : (all : ℕ) (pass : HallPass) (board : BoardHolding) (renders : ℕ) (mine : Pass L (QueueHand L)) (r : Standby) → HasWorked s (hand 1 [] []) pass board renders mine → Gather all all pass board renders mine [] r r
+  pub gather_begins : (all : ℕ) (pass : HallPass) (board : BoardHolding) (renders : ℕ) (mine : Pass L (QueueHand L)) (r : Standby) → HasHeldSessions s (hand 1 [] []) pass board renders mine → Gather all all pass board renders mine [] r r
   gather_begins all pass board renders mine r w = record { gone = 0; each = omega arith; gathered = gathers_none pass board renders mine r w }
 
   pub gather_goes_on : (all left next : ℕ) (pass other_pass : HallPass) (board other_board : BoardHolding) (renders other_renders : ℕ) (mine other later : Pass L (QueueHand L)) (passes : List HallPass) (before mid after : Standby) → left ≡ next + 1 → Gather all left pass board renders mine passes before mid
-      → HasWorked s (hand 1 [] []) other_pass other_board other_renders other → HasHeard mid after (other_board ∷ []) → view later ≡ with_other (view mine) (view other) → Gather all next pass board renders later (passes ++ other_pass ∷ []) before after
+      → HasHeldSessions s (hand 1 [] []) other_pass other_board other_renders other → HasHeard mid after (other_board ∷ []) → view later ≡ with_other (view mine) (view other) → Gather all next pass board renders later (passes ++ other_pass ∷ []) before after
   gather_goes_on all left next pass other_pass board other_board renders other_renders mine other later passes before mid after e g w heard took = record {
     gone = g.gone + 1;
     each = omega (arith, e, g.each);
@@ -124,8 +124,8 @@ module _ {L : Type 0} (s : Service L) where
       }
 
 -- a worker that has taken over another hand may serve
-pub ready_with : {L : Type 0} (queue table at : TableId) (c : Catalogue) (tells : Option ℕ) (pass : HallPass) (board : BoardHolding) (mine other later : Pass L (QueueHand L)) → IsReady queue table at c tells pass board mine → IsHand queue (with_other (view mine) (view other)) later
-    → IsReady queue table at c tells pass board later
+pub ready_with : {L : Type 0} (queue table at : TableId) (c : Catalogue) (tells : Option ℕ) (pass : HallPass) (board : BoardHolding) (mine other later : Pass L (QueueHand L)) → IsWorkerReady queue table at c tells pass board mine → IsHand queue (with_other (view mine) (view other)) later
+    → IsWorkerReady queue table at c tells pass board later
 ready_with queue table at c tells pass board mine other later ready took = record {
   of = ready.of;
   at_board = ready.at_board;

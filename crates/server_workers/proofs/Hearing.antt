@@ -6,7 +6,7 @@ use Rattle.atomic_table.specs.Seated.{TableId}
 use Rattle.catalog.specs.declared.catalogue.Catalogue.{Catalogue}
 use Rattle.job_board.specs.declared.shown.Note.{Note}
 use Rattle.job_board.specs.Calls.{BoardHolding}
-use Rattle.seed_jobs.specs.Idles.{HasHeard, Idle, IsReady, MayJoin, Standby}
+use Rattle.seed_jobs.specs.Idles.{HasHeard, Idle, IsStandbyReady, MayJoin, Standby}
 use Rattle.truncation_list.specs.Books.{AnswersForFronted}
 use Rattle.truncation_list.specs.declared.book.FrontedBook.{FrontedBook}
 use Rattle.truncation_list.proofs.Answering.{fronted_itself, fronted_through}
@@ -49,7 +49,7 @@ tells_on mid told others heard more =
     All-weaker (λ (p : BoardHolding). AnswersForFronted mid.board.book p.book) (λ (p : BoardHolding). AnswersForFronted told.book p.book) (λ p h. fronted_through told.book mid.board.book p.book more h) others heard
 
 -- it may run jobs as before
-pub ready_heard : (boards table : TableId) (c : Catalogue) (before after : Standby) (others : List BoardHolding) → IsReady boards table c before → HasHeard before after others → IsReady boards table c after
+pub ready_heard : (boards table : TableId) (c : Catalogue) (before after : Standby) (others : List BoardHolding) → IsStandbyReady boards table c before → HasHeard before after others → IsStandbyReady boards table c after
 ready_heard boards table c before after others ready heard = record {
   of_board = record { same_table = ap (λ (p : BoardHolding). p.table) heard.is ∙ ready.of_board.same_table; charter = ap (λ (p : BoardHolding). p.charter) heard.is ∙ ready.of_board.charter };
   idle = subst (λ (is : List Idle). All (MayJoin table c) is) (sym heard.idle) ready.idle;

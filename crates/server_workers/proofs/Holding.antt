@@ -9,7 +9,7 @@ use Rattle.crossbeam_queue.specs.Passes.{Pass, view}
 use Rattle.job_board.specs.Calls.{BoardHolding, IsBoardPass}
 use Rattle.link_queue.specs.Hands.{IsHand, hand, with_taken}
 use Rattle.link_queue.specs.declared.hand.QueueHand.{QueueHand}
-use Rattle.server_workers.specs.Crew.{HasWorked, IsNew, IsReady}
+use Rattle.server_workers.specs.Crew.{HasHeldSessions, IsNew, IsWorkerReady}
 use Rattle.server_workers.specs.Stints.{AreHeld, HeldSession, IsHeld, IsStint, Service, links_of}
 
 module _ {L : Type 0} (s : Service L) where
@@ -20,8 +20,8 @@ module _ {L : Type 0} (s : Service L) where
   held_then pass board renders (x ∷ xs) pass' board' renders' h held p b r is =
       (held.0, held.1, held.2, held.3, held_then x.pass_after x.board_after x.renders.after xs pass' board' renders' h held.4 p b r is)
 
-  pub worked_once_more : (before : QueueHand L) (pass : HallPass) (board : BoardHolding) (renders : ℕ) (mine later : Pass L (QueueHand L)) (h : HeldSession L) → HasWorked s before pass board renders mine → view later ≡ with_taken (view mine) h.link → h.pass ≡ pass → h.board ≡ board
-      → h.renders.before ≡ renders → IsHeld s h → HasWorked s before h.pass_after h.board_after h.renders.after later
+  pub worked_once_more : (before : QueueHand L) (pass : HallPass) (board : BoardHolding) (renders : ℕ) (mine later : Pass L (QueueHand L)) (h : HeldSession L) → HasHeldSessions s before pass board renders mine → view later ≡ with_taken (view mine) h.link → h.pass ≡ pass → h.board ≡ board
+      → h.renders.before ≡ renders → IsHeld s h → HasHeldSessions s before h.pass_after h.board_after h.renders.after later
   worked_once_more before pass board renders mine later h w took p b r is = record {
     sessions = w.sessions ++ h ∷ [];
     board_before = w.board_before;
@@ -33,17 +33,17 @@ module _ {L : Type 0} (s : Service L) where
   }
 
   -- nothing at first
-  pub new_has_worked : (queue : TableId) (tells : Option ℕ) (pass : HallPass) (board : BoardHolding) (renders : ℕ) (mine : Pass L (QueueHand L)) → IsNew queue s tells pass board mine → HasWorked s (hand 1 [] []) pass board renders mine
+  pub new_has_worked : (queue : TableId) (tells : Option ℕ) (pass : HallPass) (board : BoardHolding) (renders : ℕ) (mine : Pass L (QueueHand L)) → IsNew queue s tells pass board mine → HasHeldSessions s (hand 1 [] []) pass board renders mine
   new_has_worked queue tells pass board renders mine new =
       record { sessions = []; board_before = board; at_board = new.at_board; renders_before = renders; held = (new.pass_is, refl, refl); took = new.hand_is.knows }
 
   -- what a worker held from its first hand on is a stint
-  pub stint_of : (before : QueueHand L) (pass : HallPass) (board : BoardHolding) (renders : ℕ) (mine : Pass L (QueueHand L)) (w : HasWorked s before pass board renders mine) → IsStint s (record { sessions = w.sessions; pass = pass; board = board })
+  pub stint_of : (before : QueueHand L) (pass : HallPass) (board : BoardHolding) (renders : ℕ) (mine : Pass L (QueueHand L)) (w : HasHeldSessions s before pass board renders mine) → IsStint s (record { sessions = w.sessions; pass = pass; board = board })
   stint_of before pass board renders mine w =
       record { board_before = w.board_before; at_board = w.at_board; renders_before = w.renders_before; renders_after = renders; held = w.held }
 
   -- a new worker may serve
-  pub new_is_ready : (queue table : TableId) (tells : Option ℕ) (pass : HallPass) (board : BoardHolding) (mine : Pass L (QueueHand L)) → s.first.table ≡ table → s.first.charter ≡ Some s.catalogue → IsNew queue s tells pass board mine → IsReady queue table s.board s.catalogue tells pass board mine
+  pub new_is_ready : (queue table : TableId) (tells : Option ℕ) (pass : HallPass) (board : BoardHolding) (mine : Pass L (QueueHand L)) → s.first.table ≡ table → s.first.charter ≡ Some s.catalogue → IsNew queue s tells pass board mine → IsWorkerReady queue table s.board s.catalogue tells pass board mine
   new_is_ready queue table tells pass board mine at charter new = record {
     of = record { same_table = ap (λ (p : HallPass). p.table) new.pass_is ∙ at; charter = ap (λ (p : HallPass). p.charter) new.pass_is ∙ charter };
     at_board = new.at_board.of;
@@ -53,8 +53,8 @@ module _ {L : Type 0} (s : Service L) where
   }
 
 -- after a session over a link that it took a worker may serve again
-pub ready_after : {L : Type 0} (queue table at : TableId) (c : Catalogue) (tells tells' : Option ℕ) (pass pass' : HallPass) (board board' : BoardHolding) (link : L) (mine later : Pass L (QueueHand L)) → IsReady queue table at c tells pass board mine → IsPassOf table c pass' → IsBoardPass at board'
-    → pass'.told ≡ pass.told → tells' ≡ tells → IsHand queue (with_taken (view mine) link) later → IsReady queue table at c tells' pass' board' later
+pub ready_after : {L : Type 0} (queue table at : TableId) (c : Catalogue) (tells tells' : Option ℕ) (pass pass' : HallPass) (board board' : BoardHolding) (link : L) (mine later : Pass L (QueueHand L)) → IsWorkerReady queue table at c tells pass board mine → IsPassOf table c pass' → IsBoardPass at board'
+    → pass'.told ≡ pass.told → tells' ≡ tells → IsHand queue (with_taken (view mine) link) later → IsWorkerReady queue table at c tells' pass' board' later
 ready_after queue table at c tells tells' pass pass' board board' link mine later ready of at_board mark same took = record {
   of = of;
   at_board = at_board;

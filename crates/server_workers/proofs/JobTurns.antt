@@ -14,12 +14,12 @@ use Rattle.job_board.specs.declared.shown.Reply.TheVariants as reply
 use Rattle.job_places.specs.declared.tally.Tally.{Tally}
 use Rattle.job_places.specs.Visits.{Visit}
 use Rattle.seed_jobs.specs.Idles.{Idle, MayJoin, Standby, passes_of, without_hand}
-use Rattle.seed_jobs.specs.Runs.{AreRun, DoesAfter, IsRun, Round}
-use Rattle.job_board.specs.Hands.{Holding, Sheet}
+use Rattle.seed_jobs.specs.Runs.{AreRun, DoesAfter, IsJobRunByCrew, Round}
+use Rattle.job_board.specs.Hands.{Sheet, SheetHolding}
 use Rattle.job_forms.specs.declared.job.Job.{Job}
 use Rattle.seed_jobs.specs.Crews.{HaveWorked}
 use Rattle.seed_jobs.specs.Visits.{AreVisits, turns_of}
-use Rattle.seed_jobs.specs.Workers.{Worker}
+use Rattle.seed_jobs.specs.Workers.{JobWorker}
 use Rattle.truncation_list.specs.declared.book.FrontedBook.{FrontedBook}
 use Rattle.turnstile.specs.declared.view.Made.{Made}
 use Rattle.turnstile.proofs.Notes.{back_of, front_of}
@@ -47,13 +47,13 @@ of_visits c told job seen faults (v ∷ vs) sees after are m at =
 
 -- A CREW
 
-abbrev WorkerHas : Catalogue → Worker → Type 0
+abbrev WorkerHas : Catalogue → JobWorker → Type 0
 WorkerHas c w = HasTurnsAt c w.pass
 
 abbrev IdleHas : Catalogue → Idle → Type 0
 IdleHas c i = HasTurnsAt c i.pass
 
-crew_keeps : (c : Catalogue) (job : Job) (crew crew_after : List Worker) (ts : List Tally) → HaveWorked c job crew crew_after ts → AllByRecursion (WorkerHas c) crew → AllByRecursion (WorkerHas c) crew_after
+crew_keeps : (c : Catalogue) (job : Job) (crew crew_after : List JobWorker) (ts : List Tally) → HaveWorked c job crew crew_after ts → AllByRecursion (WorkerHas c) crew → AllByRecursion (WorkerHas c) crew_after
 crew_keeps c job [] [] [] worked had = tt
 crew_keeps c job [] [] (t ∷ ts) worked had = absurd worked
 crew_keeps c job [] (a ∷ crew_after) ts worked had = absurd worked
@@ -65,17 +65,17 @@ crew_keeps c job (b ∷ crew) (a ∷ crew_after) (t ∷ ts) worked had =
       crew_keeps c job crew crew_after ts worked.1 had.1,
     )
 
-from_idle : (c : Catalogue) (crew : List Worker) → AllByRecursion (IdleHas c) (map without_hand crew) → AllByRecursion (WorkerHas c) crew
+from_idle : (c : Catalogue) (crew : List JobWorker) → AllByRecursion (IdleHas c) (map without_hand crew) → AllByRecursion (WorkerHas c) crew
 from_idle c [] had = tt
 from_idle c (w ∷ ws) had = (had.0, from_idle c ws had.1)
 
-to_idle : (c : Catalogue) (crew : List Worker) → AllByRecursion (WorkerHas c) crew → AllByRecursion (IdleHas c) (map without_hand crew)
+to_idle : (c : Catalogue) (crew : List JobWorker) → AllByRecursion (WorkerHas c) crew → AllByRecursion (IdleHas c) (map without_hand crew)
 to_idle c [] had = tt
 to_idle c (w ∷ ws) had = (had.0, to_idle c ws had.1)
 
 -- RUNS
 
-run_keeps : (c : Catalogue) (job : Job) (sheet : Sheet) (hands : List Holding) (before after : List Idle) → IsRun c job sheet hands before after → All (IdleHas c) before → All (IdleHas c) after
+run_keeps : (c : Catalogue) (job : Job) (sheet : Sheet) (hands : List SheetHolding) (before after : List Idle) → IsJobRunByCrew c job sheet hands before after → All (IdleHas c) before → All (IdleHas c) after
 run_keeps c job sheet hands before after r had =
     let crew = map without_hand r.crew in
     let crew_after = map without_hand r.crew_after in

@@ -6,7 +6,7 @@ use Rattle.std.specs.Prelude.{MatchOption}
 use Rattle.cabinet_chest.specs.declared.shown.Note as hall
 use Rattle.cache_hall.specs.Turned.{HallPass}
 use Rattle.catalog.specs.declared.catalogue.Catalogue.{Catalogue}
-use Rattle.hall_sessions.specs.Exchanges.{AreExchanges, Exchange}
+use Rattle.hall_sessions.specs.Exchanges.{AreExchanges, HallExchange}
 use Rattle.hall_sessions.specs.Served.{IsJobMessageServed, IsMessageServed, IsOtherMessageServed}
 use Rattle.http_wire.specs.declared.message.Message.{Message}
 use Rattle.job_board.specs.declared.shown.Command.{Command}
@@ -15,7 +15,7 @@ use Rattle.job_board.specs.declared.shown.Note.{Note}
 use Rattle.job_board.specs.declared.shown.Reply.{Reply}
 use Rattle.job_board.specs.declared.shown.Reply.TheVariants as reply
 use Rattle.job_board.specs.declared.shown.Shown.{Shown}
-use Rattle.job_board.specs.Boards.{MayReply, Submits, book_of}
+use Rattle.job_board.specs.Boards.{BoardMayReply, Submits, book_of}
 use Rattle.job_board.specs.Calls.{BoardHolding, MakesNone, MakesOne}
 use Rattle.job_requests.specs.declared.request.JobRequest.{JobRequest}
 use Rattle.job_requests.specs.declared.request.JobRequest.TheVariants as request
@@ -37,7 +37,7 @@ use Rattle.server_workers.proofs.Stopping.{stop_of}
 
 -- the turn was answered by its row, and this book knows the jobs of the board that it left
 pub record IsKnown (seen : FrontedBook) (turn : Made Note) : Type 0 where
-  pub answer : MayReply turn.note.before turn.note.command turn.note.reply turn.note.after
+  pub answer : BoardMayReply turn.note.before turn.note.command turn.note.reply turn.note.after
   pub knows : AnswersForFronted seen (book_of turn.note.after)
 
 abbrev KnowsOwn : BoardHolding → Type 0
@@ -100,7 +100,7 @@ after_message c told seen m asked gained before after o served had = after_eithe
 
 -- SESSIONS
 
-after_exchanges : (c : Catalogue) (told : Bool) (seen : FrontedBook) (board : BoardHolding) (renders : ℕ) (es : List Exchange) (sees : FrontedBook) (board_after : BoardHolding) (after : ℕ) → AreExchanges c told seen board renders es sees board_after after → KnowsOwn board → KnowsOwn board_after
+after_exchanges : (c : Catalogue) (told : Bool) (seen : FrontedBook) (board : BoardHolding) (renders : ℕ) (es : List HallExchange) (sees : FrontedBook) (board_after : BoardHolding) (after : ℕ) → AreExchanges c told seen board renders es sees board_after after → KnowsOwn board → KnowsOwn board_after
 after_exchanges c told seen board renders [] sees board_after after are had = same_place board board_after are.1 had
 after_exchanges c told seen board renders (e ∷ es) sees board_after after are had =
     after_exchanges c told e.sees e.board_after e.renders_after es sees board_after after are.4 (after_message c told e.seen e.message e.request e.gained e.board_before e.board_after e.came_to are.3.served (same_place board e.board_before are.1 had))
@@ -135,8 +135,8 @@ submitted : (seen : FrontedBook) (turn : Made Note) (n : ℕ) → IsKnown seen t
 submitted seen turn n is submit =
     let b = turn.note.before in
     let a = turn.note.after in
-    let may : MayReply b (command.Submit submit.job submit.places) (reply.Submit (Some n)) a =
-    subst (λ (r : Reply). MayReply b (command.Submit submit.job submit.places) r a) submit.gets (subst (λ (d : Command). MayReply b d turn.note.reply a) submit.does is.answer) in
+    let may : BoardMayReply b (command.Submit submit.job submit.places) (reply.Submit (Some n)) a =
+    subst (λ (r : Reply). BoardMayReply b (command.Submit submit.job submit.places) r a) submit.gets (subst (λ (d : Command). BoardMayReply b d turn.note.reply a) submit.does is.answer) in
     let row : Submits b submit.job submit.places (Some n) a = subst (λ (x : Option ℕ). Submits b submit.job submit.places x a) (same_submit (Some n) may.0 may.1) may.2 in
     let room = row.1 in
     let next = row.2 in

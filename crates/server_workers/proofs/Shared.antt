@@ -1,4 +1,4 @@
--- Threads may share a world. What it holds is given part by part, since the table of routes holds a tree.
+-- Threads may share a world. What it holds is given part by part, since the tables of requests hold a tree.
 use mathlib.Core.List.{List, [], ◌∷◌}
 use Prim.Native.Nat.{ℕ}
 use denote.RattleType.{RattleType}
@@ -15,10 +15,10 @@ use Rattle.exact_ratio.specs.contracts.words.Words as text
 use Rattle.hall_sessions.specs.contracts.world.World as world
 use Rattle.job_board.proofs.board.Board.TheSendSync as board
 use Rattle.base.proofs.traffic.Traffic.TheSendSync as traffic
-use Rattle.wmts_rest.specs.contracts.table.RestTable as rest
+use Rattle.tile_requests.specs.contracts.tables.Tables as tables
 
-pub world_sync : (K : RattleType) (g : _) → IsSync rest.the_row → IsSend K → IsSync (world.the_row K g)
-world_sync K g r k = declared_sync (world.the_type K g) (hall.the_sync K g k, (as_row_sync rest.the_field r, (as_row_sync text.the_field words.the_sync, (board.the_sync, (traffic.the_sync, tt)))))
+pub world_sync : (K : RattleType) (g : _) → IsSync tables.the_row → IsSend K → IsSync (world.the_row K g)
+world_sync K g r k = declared_sync (world.the_type K g) (hall.the_sync K g k, (r, (as_row_sync text.the_field words.the_sync, (board.the_sync, (traffic.the_sync, tt)))))
 
 -- a closure may go to another thread that borrows four things which threads may share, and one alone which may go to another thread
 pub borrower_send : (name : List ℕ) (a b c d e : Lifetime) (κa κb κc κd κe : Lft) (A B C D E : RattleType) → IsSync A → IsSync B → IsSync C → IsSync D → IsSend E

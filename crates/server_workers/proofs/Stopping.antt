@@ -8,12 +8,12 @@ use Rattle.job_board.specs.declared.shown.Command.TheVariants as command
 use Rattle.job_board.specs.declared.shown.Note.{Note}
 use Rattle.job_board.specs.declared.shown.Reply.TheVariants as reply
 use Rattle.job_board.specs.declared.shown.Shown.{Shown}
-use Rattle.job_board.specs.Boards.{MayReply, Stops, book_of}
+use Rattle.job_board.specs.Boards.{BoardMayReply, Stops, book_of}
 use Rattle.job_board.specs.Calls.{BoardHolding, IsBoardTurn, MakesOne}
 use Rattle.job_board.proofs.Watches.{not_zero}
 use Rattle.seed_jobs.specs.Turns.{AreBoardTurns}
 use Rattle.seed_jobs.proofs.History.{made_none, made_one, made_too, turn_knows}
-use Rattle.job_board.specs.Hands.{Holding}
+use Rattle.job_board.specs.Hands.{SheetHolding}
 use Rattle.truncation_list.specs.declared.book.FrontedBook.{FrontedBook}
 use Rattle.turnstile.specs.declared.view.Made.{Made}
 use Rattle.server_workers.specs.Cancelled.{HasStoppedTo, IsCancel, StopFrom}
@@ -47,7 +47,7 @@ stopped_too n number before mid after is next had one =
 none_some : {X : Type 0} {x : X} → None ≡ Some x → ⊥
 none_some e = cc
 
-watch_there : (ws : List Holding) (i : ℕ) → i < length ws → (w : Holding) × (slice_get ws i ≡ Some w)
+watch_there : (ws : List SheetHolding) (i : ℕ) → i < length ws → (w : SheetHolding) × (slice_get ws i ≡ Some w)
 watch_there [] i within = absurd (omega (arith, within))
 watch_there (w ∷ ws) zero within = (w, refl)
 watch_there (w ∷ ws) (suc i) within = watch_there ws i (omega (arith, within))
@@ -64,7 +64,7 @@ stop_finds : (seen : FrontedBook) (m : Made Note) (n : ℕ) → IsBoardTurn seen
 stop_finds seen m n turn does least known =
     let b = m.note.before in
     let a = m.note.after in
-    let may : MayReply b (command.Stop n) m.note.reply a = subst (λ (d : Command). MayReply b d m.note.reply a) does turn.reply in
+    let may : BoardMayReply b (command.Stop n) m.note.reply a = subst (λ (d : Command). BoardMayReply b d m.note.reply a) does turn.reply in
     let found : m.found.front ≡ length b.watches = ap (λ (f : FrontedBook). f.front) turn.found in
     let front = turn.answers.front in
     may.1 ∙ ap reply.Stop (is_there b a n may.0 may.2 least (omega (arith, known, found, front)))

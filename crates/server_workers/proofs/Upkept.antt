@@ -7,10 +7,10 @@ use Rattle.cabinet_chest.specs.declared.command.Reply.{Reply}
 use Rattle.cabinet_chest.specs.declared.shown.Note.{Note}
 use Rattle.cache_access.specs.declared.upkept.Upkept.{Upkept}
 use Rattle.cache_access.specs.declared.upkept.Upkept.TheVariants.{Done, DiskFault, Stopped}
-use Rattle.cache_access.specs.KeepsUp.{AreDone, Chore, EndsAs, KeepsUp, dropping, saving}
+use Rattle.cache_access.specs.KeepsUp.{AreDone, Chore, KeepsUp, UpkeepEndsAs, dropping, saving}
 use Rattle.cache_access.specs.Turned.{IsOf}
 use Rattle.cache_hall.specs.Gained.{gains_more, gains_none}
-use Rattle.cache_hall.specs.Turned.{Gains, HallPass}
+use Rattle.cache_hall.specs.Turned.{GainsTurns, HallPass}
 use Rattle.catalog.specs.declared.catalogue.Catalogue.{Catalogue}
 use Rattle.turnstile.specs.declared.view.Made.{Made}
 use Rattle.server_workers.specs.Upkept.{HasKeptUp, IsKeptUpBy, IsUpkeep, has_quota}
@@ -43,22 +43,22 @@ module _ (c : Catalogue) (chore : Chore) (may : (m : Made Note) → m.note.comma
   one_may : (ends : List (Made Note)) (m : Made Note) (r : Reply) → ends ≡ m ∷ [] → IsOf chore.does r m → All (IsUpkeep c) ends
   one_may ends m r one is = subst (All (IsUpkeep c)) (sym one) (All-cons (IsUpkeep c) m [] (may m is.command) (All-nil (IsUpkeep c)))
 
-  ends_may : (most many : ℕ) (ends : List (Made Note)) (r : Upkept) → EndsAs chore most many ends r → All (IsUpkeep c) ends
+  ends_may : (most many : ℕ) (ends : List (Made Note)) (r : Upkept) → UpkeepEndsAs chore most many ends r → All (IsUpkeep c) ends
   ends_may most many ends (Done n) (same, (m, one, is)) = one_may ends m chore.nothing one is
   ends_may most many ends (DiskFault n) (same, (m, b, a, one, is)) = one_may ends m (chore.failed b a) one is
   ends_may most many ends Stopped (same, none) = subst (All (IsUpkeep c)) (sym none) (All-nil (IsUpkeep c))
 
-  kept_by : (p q : HallPass) (most : ℕ) (r : Upkept) → KeepsUp (Gains c) chore most p q r → HasKeptUp c p q
+  kept_by : (p q : HallPass) (most : ℕ) (r : Upkept) → KeepsUp (GainsTurns c) chore most p q r → HasKeptUp c p q
   kept_by p q most r h = record {
     turns = h.turns ++ h.ends;
     gains = h.gains;
     all = All-append (IsUpkeep c) h.turns h.ends (all_may h.turns h.done) (ends_may most (length h.turns) h.ends r h.over);
   }
 
-pub kept_by_drops : (c : Catalogue) (p q : HallPass) (most : ℕ) (r : Upkept) → KeepsUp (Gains c) dropping most p q r → HasKeptUp c p q
+pub kept_by_drops : (c : Catalogue) (p q : HallPass) (most : ℕ) (r : Upkept) → KeepsUp (GainsTurns c) dropping most p q r → HasKeptUp c p q
 kept_by_drops c = kept_by c dropping (λ m is. inl is)
 
-pub kept_by_savings : (c : Catalogue) (p q : HallPass) (most : ℕ) (r : Upkept) → IsTrue (has_quota c) → KeepsUp (Gains c) saving most p q r → HasKeptUp c p q
+pub kept_by_savings : (c : Catalogue) (p q : HallPass) (most : ℕ) (r : Upkept) → IsTrue (has_quota c) → KeepsUp (GainsTurns c) saving most p q r → HasKeptUp c p q
 kept_by_savings c p q most r has h = kept_by c saving (λ m is. inr (is, has)) p q most r h
 
 -- such turns are at a cabinet of the catalogue

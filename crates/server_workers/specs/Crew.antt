@@ -15,7 +15,7 @@ use Rattle.truncation_list.specs.Books.{AnswersForFronted}
 use Rattle.server_workers.specs.Stints.{AreHeld, AreServed, HeldSession, IsStint, Service, Stint, boards_of, links_in, links_of, passes_of}
 
 -- a worker of this queue, of this turnstile and of this board may serve: where its pass is told, its source tells the catalogue's number
-pub record IsReady {L : Type 0} (queue table at : TableId) (c : Catalogue) (tells : Option ℕ) (pass : HallPass) (board : BoardHolding) (mine : Pass L (QueueHand L)) : Type 0 where
+pub record IsWorkerReady {L : Type 0} (queue table at : TableId) (c : Catalogue) (tells : Option ℕ) (pass : HallPass) (board : BoardHolding) (mine : Pass L (QueueHand L)) : Type 0 where
   pub of : IsPassOf table c pass
   pub at_board : IsBoardPass at board
   pub source : pass.told ≡ true → tells ≡ Some c.source
@@ -37,7 +37,7 @@ pub record IsNew {L : Type 0} (queue : TableId) (s : Service L) (tells : Option 
   pub hand_is : IsHand queue (hand 1 [] []) mine
 
 -- a worker has held a session over each link that it took since its hand was as before
-pub record HasWorked {L : Type 0} (s : Service L) (before : QueueHand L) (pass : HallPass) (board : BoardHolding) (renders : ℕ) (mine : Pass L (QueueHand L)) : Type 0 where
+pub record HasHeldSessions {L : Type 0} (s : Service L) (before : QueueHand L) (pass : HallPass) (board : BoardHolding) (renders : ℕ) (mine : Pass L (QueueHand L)) : Type 0 where
   pub sessions : List (HeldSession L)
   pub board_before : BoardHolding
   pub at_board : IsFirstBoardPass s.board board_before
@@ -54,7 +54,7 @@ AreKept stints passes = (p : HallPass) → Contains (passes_of stints) p → Con
 pub record HasGathered {L : Type 0} (s : Service L) (parts : ℕ) (pass : HallPass) (board : BoardHolding) (renders : ℕ) (mine : Pass L (QueueHand L)) (passes : List HallPass) (before after : Standby) : Type 0 where
   pub stints : List (Stint L)
   pub held : AllByRecursion (IsStint s) stints
-  pub last : HasWorked s (hand parts [] (links_in stints)) pass board renders mine
+  pub last : HasHeldSessions s (hand parts [] (links_in stints)) pass board renders mine
   pub kept : AreKept stints passes
   pub heard : HasHeard before after (boards_of stints)
 

@@ -3,7 +3,7 @@ use Rattle.std.specs.Prelude.{All, Bool, ◌≡◌, ◌⊎◌, ◌||◌, IsTrue,
 use Rattle.std.specs.List.{Contains, list_any}
 use Rattle.cabinet_chest.specs.declared.command.Command.TheVariants as command
 use Rattle.cabinet_chest.specs.declared.shown.Note.{Note}
-use Rattle.cache_hall.specs.Turned.{Gains, HallPass}
+use Rattle.cache_hall.specs.Turned.{GainsTurns, HallPass}
 use Rattle.catalog.specs.declared.catalogue.Catalogue.{Catalogue}
 use Rattle.turnstile.specs.declared.view.Made.{Made}
 
@@ -19,7 +19,7 @@ IsUpkeep c turn = (turn.note.command ≡ command.Expire) ⊎ ((turn.note.command
 -- a pass made such turns and no others: none that truncates, asks for a tile or begins a render
 pub record HasKeptUp (c : Catalogue) (before after : HallPass) : Type 0 where
   pub turns : List (Made Note)
-  pub gains : Gains c before after turns
+  pub gains : GainsTurns c before after turns
   pub all : All (IsUpkeep c) turns
 
 -- a pass that was this one has kept the cache up, and is among those

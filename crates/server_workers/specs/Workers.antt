@@ -9,11 +9,11 @@ use Rattle.hall_sessions.specs.declared.world.World.{World}
 use Rattle.job_board.specs.Calls.{BoardHolding}
 use Rattle.link_queue.specs.declared.hand.QueueHand.{QueueHand}
 use Rattle.server_workers.specs.declared.crew.Worker as code
-use Rattle.server_workers.specs.Crew.{HasWorked, IsNew, IsReady}
+use Rattle.server_workers.specs.Crew.{HasHeldSessions, IsNew, IsWorkerReady}
 use Rattle.server_workers.specs.Stints.{Service, serving}
 
 -- where links are served: a queue of them, a hall, a board of jobs, and the catalogue
-pub record Place : Type 0 where
+pub record ServingPlace : Type 0 where
   pub queue : TableId
   pub hall : TableId
   pub board : TableId
@@ -21,7 +21,7 @@ pub record Place : Type 0 where
 
 -- a worker: its pass of the hall, its place at the board, its hand at the queue, by which number its source tells, and how often that has
 -- failed
-pub record Worker (L : Type 0) : Type 0 where
+pub record SessionWorker (L : Type 0) : Type 0 where
   pub pass : HallPass
   pub board : BoardHolding
   pub hand : Pass L (QueueHand L)
@@ -30,7 +30,7 @@ pub record Worker (L : Type 0) : Type 0 where
 
 module _ {K : Type 0} where
   -- at this queue, and with what the threads share
-  abbrev pub place_of : World K → TableId → Place
+  abbrev pub place_of : World K → TableId → ServingPlace
   place_of w queue = record { queue = queue; hall = w.hall.turnstile.table; board = w.board.turnstile.table; catalogue = w.hall.catalogue }
 
   -- what is served with what the threads share, to links that are read so, under this first pass
@@ -38,25 +38,25 @@ module _ {K : Type 0} where
   service_of left taken reads writes w first = serving left taken reads writes w.capabilities w.hall.catalogue w.board.turnstile.table first
 
 module _ {K S L : Type 0} (tells : S → Option ℕ) (faults : S → ℕ) where
-  abbrev pub worker_of : code.Worker K S L → Worker L
+  abbrev pub worker_of : code.Worker K S L → SessionWorker L
   worker_of w = record { pass = w.pass; board = w.board; hand = w.hand; source = tells w.source; renders = faults w.source }
 
 module _ {L : Type 0} where
   -- the worker may serve at this place
-  abbrev pub MayServe : Place → Worker L → Type 0
-  MayServe p w = IsReady p.queue p.hall p.board p.catalogue w.source w.pass w.board w.hand
+  abbrev pub MayServe : ServingPlace → SessionWorker L → Type 0
+  MayServe p w = IsWorkerReady p.queue p.hall p.board p.catalogue w.source w.pass w.board w.hand
 
   -- it has held a session over each link that it took since its hand was so
-  abbrev pub HasServedSince : Service L → QueueHand L → Worker L → Type 0
-  HasServedSince s before w = HasWorked s before w.pass w.board w.renders w.hand
+  abbrev pub HasServedSince : Service L → QueueHand L → SessionWorker L → Type 0
+  HasServedSince s before w = HasHeldSessions s before w.pass w.board w.renders w.hand
 
   -- it has made nothing yet
-  abbrev pub IsNewWorker : TableId → Service L → Worker L → Type 0
+  abbrev pub IsNewWorker : TableId → Service L → SessionWorker L → Type 0
   IsNewWorker queue s w = IsNew queue s w.source w.pass w.board w.hand
 
 module _ {K S L : Type 0} (tells : S → Option ℕ) (faults : S → ℕ) where
   -- all of them may
-  abbrev pub MayAllServe : Place → List (code.Worker K S L) → Type 0
+  abbrev pub MayAllServe : ServingPlace → List (code.Worker K S L) → Type 0
   MayAllServe p ws = All (λ w. MayServe p (worker_of tells faults w)) ws
 
   -- all of them have

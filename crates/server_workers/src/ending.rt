@@ -36,7 +36,7 @@ fn gather<K: Keeper, S: Source, L: Link, G: JobGate>(
     requires room { length others.items ≤ vec_capacity passes.old }
     requires last { MayServe (place_of world.now (table_of queue.now.links)) (worker_of S.told S.faults last.old) }
     requires others { MayAllServe S.told S.faults (place_of world.now (table_of queue.now.links)) others.items }
-    requires runner { idles.IsReady world.now.board.turnstile.table world.now.hall.turnstile.table world.now.hall.catalogue runner.old }
+    requires runner { idles.IsStandbyReady world.now.board.turnstile.table world.now.hall.turnstile.table world.now.hall.catalogue runner.old }
     ensures ready { MayServe (place_of world.now (table_of queue.now.links)) (worker_of S.told S.faults last.new) }
     ensures of { All (λ p. p.table ≡ world.now.hall.turnstile.table) passes.new.items }
     ensures count { length passes.new.items ≡ length others.items }
@@ -44,7 +44,7 @@ fn gather<K: Keeper, S: Source, L: Link, G: JobGate>(
     ensures gathered { (s : Service L) → HasServedSince s (hand 1 [] []) (worker_of S.told S.faults last.old)
         → HaveServedSince S.told S.faults s (hand 1 [] []) others.items
         → HasGathered s (1 + length others.items) last.new.pass last.new.board (S.faults last.new.source) last.new.hand passes.new.items runner.old runner.new }
-    ensures runner { idles.IsReady world.now.board.turnstile.table world.now.hall.turnstile.table world.now.hall.catalogue runner.new }
+    ensures runner { idles.IsStandbyReady world.now.board.turnstile.table world.now.hall.turnstile.table world.now.hall.catalogue runner.new }
 {
     let mut others = others;
     'gathering: while let Some(other) = others.pop() {
@@ -80,14 +80,14 @@ pub(crate) fn serve_rest<R: Wait + std::time::Clock, K: Keeper, S: Source, L: Li
     requires none { (view mine).taken ≡ [] }
     requires parts { (view mine).parts + length workers.items ≡ all_parts }
     requires ready { MayAllServe S.told S.faults (place_of world.now (table_of queue.now.links)) workers.items }
-    requires runner { idles.IsReady world.now.board.turnstile.table world.now.hall.turnstile.table world.now.hall.catalogue runner.old }
+    requires runner { idles.IsStandbyReady world.now.board.turnstile.table world.now.hall.turnstile.table world.now.hall.catalogue runner.old }
     ensures of { All (λ p. p.table ≡ world.now.hall.turnstile.table) result.items }
     ensures count { length result.items ≡ length workers.items }
     ensures room { vec_capacity result ≡ vec_capacity passes }
     ensures served { (first : HallPass)
         → HaveServedSince S.told S.faults (service_of L.left L.taken L.ByteSource.faults L.ByteSink.faults world.now first) (hand 1 [] []) workers.items
         → AreServedBy (service_of L.left L.taken L.ByteSource.faults L.ByteSink.faults world.now first) (view mine).put result.items runner.old runner.new }
-    ensures runner { idles.IsReady world.now.board.turnstile.table world.now.hall.turnstile.table world.now.hall.catalogue runner.new }
+    ensures runner { idles.IsStandbyReady world.now.board.turnstile.table world.now.hall.turnstile.table world.now.hall.catalogue runner.new }
 {
     let mut workers = workers;
     let Some(last) = workers.pop() else {
@@ -118,7 +118,7 @@ pub(crate) fn close<K: Keeper>(world: World<K>, passes: Vec<Pass<CabinetChest<K>
 {
     let World {
         hall,
-        rest: _,
+        tables: _,
         capabilities: _,
         board: _,
         traffic: _,

@@ -27,4 +27,4 @@ mod workers;
 
 pub use ends::ServiceEnd;
 pub use service::serve_hall;
-pub use stage::{BOARD_PASSES, PASSES, SOURCES, Stage, stage_of};
+pub use stage::{BOARD_PASSES, PASSES, ReadyServer, SOURCES, stage_of};

@@ -16,7 +16,7 @@ use crate::ends::ServiceEnd;
 use crate::gates::paced_gates;
 use crate::roll_call::can_make;
 use crate::serving::{Served, serve_links};
-use crate::stage::{BOARD_PASSES, PASSES, SOURCES, Stage};
+use crate::stage::{BOARD_PASSES, PASSES, ReadyServer, SOURCES};
 use cabinet::Keeper;
 use hall_sessions::World;
 use http_wire::Listener;
@@ -45,7 +45,7 @@ pub fn serve_hall<
     rt: &R,
     alloc: Global,
     connections: u32,
-    stage: Stage<K>,
+    stage: ReadyServer<K>,
     sources: Vec<S>,
     listener: &mut N,
 ) -> ServiceEnd
@@ -68,7 +68,7 @@ where
         drop(sources);
         return ServiceEnd::NoThreads;
     }
-    let Stage {
+    let ReadyServer {
         world,
         passes,
         boards,

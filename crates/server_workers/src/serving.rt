@@ -30,6 +30,7 @@ use hall_sessions::World;
 use http_wire::{Link, Listener};
 use job_board::BoardPass;
 use link_queue::{LinkQueue, accept_all};
+use png_text::CrcTables;
 use seed_jobs::{JobGate, MEMBERS, Runner, run_jobs};
 use source_render::Source;
 use std::alloc::Global;
@@ -37,6 +38,7 @@ use std::convert::identity;
 use std::sync::Wait;
 use std::sync::atomic::{AtomicBool, Ordering};
 use std::thread::{Threads, for_each_mut, join_mut};
+use tile_requests::Tables;
 use turnstile::Pass;
 use wmts_rest::RestTable;
 
@@ -67,6 +69,7 @@ fn work_all<
     ensures stops { HasStoppedTo 1024 canceller.old canceller.new }
 {
     is_shared::<RestTable>();
+    is_shared::<CrcTables>();
     for_each_mut(
         rt,
         workers,
@@ -104,10 +107,10 @@ fn work_and_run<
 )
     requires valid { IsValid world.now.hall.catalogue }
     requires ready { MayAllServe S.told S.faults (place_of world.now (table_of queue.now.links)) workers.old }
-    requires runner { idles.IsReady world.now.board.turnstile.table world.now.hall.turnstile.table world.now.hall.catalogue runner.old }
+    requires runner { idles.IsStandbyReady world.now.board.turnstile.table world.now.hall.turnstile.table world.now.hall.catalogue runner.old }
     requires place { IsBoardPass world.now.board.turnstile.table canceller.old }
     ensures ready { MayAllServe S.told S.faults (place_of world.now (table_of queue.now.links)) workers.new }
-    ensures runner { idles.IsReady world.now.board.turnstile.table world.now.hall.turnstile.table world.now.hall.catalogue runner.new }
+    ensures runner { idles.IsStandbyReady world.now.board.turnstile.table world.now.hall.turnstile.table world.now.hall.catalogue runner.new }
     ensures runs { RunsAll world.now.hall.catalogue runner.old runner.new }
     ensures worked { (first : HallPass) (before : QueueHand L)
         → HaveServedSince S.told S.faults (service_of L.left L.taken L.ByteSource.faults L.ByteSink.faults world.now first) before workers.old
@@ -115,7 +118,7 @@ fn work_and_run<
     ensures place { IsBoardPass world.now.board.turnstile.table canceller.new }
     ensures stops { HasStoppedTo 1024 canceller.old canceller.new }
 {
-    is_shared::<RestTable>();
+    is_shared::<Tables>();
     let is_over = AtomicBool::new(false);
     let is_over = &is_over;
     // Each is lent on by a call, so that what a thread borrows is a variable of its own.
@@ -125,8 +128,8 @@ fn work_and_run<
     let ((), ()) = join_mut(
         rt,
         &mut ||
-            requires { IsValid world.now.hall.catalogue × idles.IsReady world.now.board.turnstile.table world.now.hall.turnstile.table world.now.hall.catalogue runner.now }
-            ensures ready { idles.IsReady world.entry.now.board.turnstile.table world.entry.now.hall.turnstile.table world.entry.now.hall.catalogue runner.exit.now }
+            requires { IsValid world.now.hall.catalogue × idles.IsStandbyReady world.now.board.turnstile.table world.now.hall.turnstile.table world.now.hall.catalogue runner.now }
+            ensures ready { idles.IsStandbyReady world.entry.now.board.turnstile.table world.entry.now.hall.turnstile.table world.entry.now.hall.catalogue runner.exit.now }
             ensures runs { RunsAll world.entry.now.hall.catalogue runner.entry.now runner.exit.now }
         { run_jobs(rt, alloc, &world.hall, &world.board, is_over, runner) },
         &mut ||
@@ -155,12 +158,12 @@ fn serve_all<
     requires valid { IsValid world.now.hall.catalogue }
     requires ready { MayAllServe S.told S.faults (place_of world.now (table_of queue.now.links)) crew.old.workers.items }
     requires upkeep { IsPassOf world.now.hall.turnstile.table world.now.hall.catalogue crew.old.upkeep }
-    requires runner { idles.IsReady world.now.board.turnstile.table world.now.hall.turnstile.table world.now.hall.catalogue crew.old.runner }
+    requires runner { idles.IsStandbyReady world.now.board.turnstile.table world.now.hall.turnstile.table world.now.hall.catalogue crew.old.runner }
     requires place { IsBoardPass world.now.board.turnstile.table crew.old.canceller }
     ensures ready { MayAllServe S.told S.faults (place_of world.now (table_of queue.now.links)) crew.new.workers.items }
     ensures upkeep { IsPassOf world.now.hall.turnstile.table world.now.hall.catalogue crew.new.upkeep }
     ensures keeps { HasKeptUp world.now.hall.catalogue crew.old.upkeep crew.new.upkeep }
-    ensures runner { idles.IsReady world.now.board.turnstile.table world.now.hall.turnstile.table world.now.hall.catalogue crew.new.runner }
+    ensures runner { idles.IsStandbyReady world.now.board.turnstile.table world.now.hall.turnstile.table world.now.hall.catalogue crew.new.runner }
     ensures runs { RunsAll world.now.hall.catalogue crew.old.runner crew.new.runner }
     ensures worked { (first : HallPass) (before : QueueHand L)
         → HaveServedSince S.told S.faults (service_of L.left L.taken L.ByteSource.faults L.ByteSink.faults world.now first) before crew.old.workers.items
@@ -169,7 +172,7 @@ fn serve_all<
     ensures place { IsBoardPass world.now.board.turnstile.table crew.new.canceller }
     ensures stops { HasStoppedTo 1024 crew.old.canceller crew.new.canceller }
 {
-    is_shared::<RestTable>();
+    is_shared::<Tables>();
     let shift = Shift::new();
     let shift = &shift;
     let Crew {
@@ -192,9 +195,9 @@ fn serve_all<
             ensures keeps { HasKeptUp hall.entry.now.catalogue upkeep.entry.now upkeep.exit.now }
         { keep_up(rt, hall, shift, upkeep) },
         &mut ||
-            requires { IsValid world.now.hall.catalogue × MayAllServe S.told S.faults (place_of world.now (table_of queue.now.links)) workers.now × idles.IsReady world.now.board.turnstile.table world.now.hall.turnstile.table world.now.hall.catalogue runner.now × IsBoardPass world.now.board.turnstile.table canceller.now }
+            requires { IsValid world.now.hall.catalogue × MayAllServe S.told S.faults (place_of world.now (table_of queue.now.links)) workers.now × idles.IsStandbyReady world.now.board.turnstile.table world.now.hall.turnstile.table world.now.hall.catalogue runner.now × IsBoardPass world.now.board.turnstile.table canceller.now }
             ensures ready { MayAllServe S.told S.faults (place_of world.entry.now (table_of queue.entry.now.links)) workers.exit.now }
-            ensures runner { idles.IsReady world.entry.now.board.turnstile.table world.entry.now.hall.turnstile.table world.entry.now.hall.catalogue runner.exit.now }
+            ensures runner { idles.IsStandbyReady world.entry.now.board.turnstile.table world.entry.now.hall.turnstile.table world.entry.now.hall.catalogue runner.exit.now }
             ensures runs { RunsAll world.entry.now.hall.catalogue runner.entry.now runner.exit.now }
             ensures worked { (first : HallPass) (before : QueueHand L)
                 → HaveServedSince S.told S.faults (service_of L.left L.taken L.ByteSource.faults L.ByteSink.faults world.entry.now first) before workers.entry.now
@@ -227,7 +230,7 @@ where
     requires valid { IsValid world.now.hall.catalogue }
     requires ready { MayAllServe S.told S.faults (place_of world.now (table_of queue.now.links)) staff.old.crew.workers.items }
     requires upkeep { IsPassOf world.now.hall.turnstile.table world.now.hall.catalogue staff.old.crew.upkeep }
-    requires runner { idles.IsReady world.now.board.turnstile.table world.now.hall.turnstile.table world.now.hall.catalogue staff.old.crew.runner }
+    requires runner { idles.IsStandbyReady world.now.board.turnstile.table world.now.hall.turnstile.table world.now.hall.catalogue staff.old.crew.runner }
     requires place { IsBoardPass world.now.board.turnstile.table staff.old.crew.canceller }
     requires acceptor { IsHand (table_of queue.now.links) (view staff.old.acceptor) staff.old.acceptor }
     requires parts { 0 < (view staff.old.acceptor).parts }
@@ -235,7 +238,7 @@ where
     ensures ready { MayAllServe S.told S.faults (place_of world.now (table_of queue.now.links)) staff.new.crew.workers.items }
     ensures upkeep { IsPassOf world.now.hall.turnstile.table world.now.hall.catalogue staff.new.crew.upkeep }
     ensures keeps { HasKeptUp world.now.hall.catalogue staff.old.crew.upkeep staff.new.crew.upkeep }
-    ensures runner { idles.IsReady world.now.board.turnstile.table world.now.hall.turnstile.table world.now.hall.catalogue staff.new.crew.runner }
+    ensures runner { idles.IsStandbyReady world.now.board.turnstile.table world.now.hall.turnstile.table world.now.hall.catalogue staff.new.crew.runner }
     ensures runs { RunsAll world.now.hall.catalogue staff.old.crew.runner staff.new.crew.runner }
     ensures each { length staff.new.crew.workers.items ≡ length staff.old.crew.workers.items }
     ensures place { IsBoardPass world.now.board.turnstile.table staff.new.crew.canceller }
@@ -244,7 +247,7 @@ where
         → HaveServedSince S.told S.faults (service_of N.L.left N.L.taken N.L.ByteSource.faults N.L.ByteSink.faults world.now first) before staff.old.crew.workers.items
         → HaveServedSince S.told S.faults (service_of N.L.left N.L.taken N.L.ByteSource.faults N.L.ByteSink.faults world.now first) before staff.new.crew.workers.items }
 {
-    is_shared::<RestTable>();
+    is_shared::<Tables>();
     let Staff { crew, acceptor } = staff;
     // As in `work_and_run`.
     let crew = identity(crew);
@@ -252,14 +255,14 @@ where
     let ((), all) = join_mut(
         rt,
         &mut ||
-            requires { IsValid world.now.hall.catalogue × MayAllServe S.told S.faults (place_of world.now (table_of queue.now.links)) crew.now.workers.items × IsPassOf world.now.hall.turnstile.table world.now.hall.catalogue crew.now.upkeep × idles.IsReady world.now.board.turnstile.table world.now.hall.turnstile.table world.now.hall.catalogue crew.now.runner × IsBoardPass world.now.board.turnstile.table crew.now.canceller }
+            requires { IsValid world.now.hall.catalogue × MayAllServe S.told S.faults (place_of world.now (table_of queue.now.links)) crew.now.workers.items × IsPassOf world.now.hall.turnstile.table world.now.hall.catalogue crew.now.upkeep × idles.IsStandbyReady world.now.board.turnstile.table world.now.hall.turnstile.table world.now.hall.catalogue crew.now.runner × IsBoardPass world.now.board.turnstile.table crew.now.canceller }
             ensures ready { MayAllServe S.told S.faults (place_of world.entry.now (table_of queue.entry.now.links)) crew.exit.now.workers.items }
             ensures worked { (first : HallPass) (before : QueueHand N.L)
                 → HaveServedSince S.told S.faults (service_of N.L.left N.L.taken N.L.ByteSource.faults N.L.ByteSink.faults world.entry.now first) before crew.entry.now.workers.items
                 → HaveServedSince S.told S.faults (service_of N.L.left N.L.taken N.L.ByteSource.faults N.L.ByteSink.faults world.entry.now first) before crew.exit.now.workers.items }
             ensures upkeep { IsPassOf world.entry.now.hall.turnstile.table world.entry.now.hall.catalogue crew.exit.now.upkeep }
             ensures keeps { HasKeptUp world.entry.now.hall.catalogue crew.entry.now.upkeep crew.exit.now.upkeep }
-            ensures runner { idles.IsReady world.entry.now.board.turnstile.table world.entry.now.hall.turnstile.table world.entry.now.hall.catalogue crew.exit.now.runner }
+            ensures runner { idles.IsStandbyReady world.entry.now.board.turnstile.table world.entry.now.hall.turnstile.table world.entry.now.hall.catalogue crew.exit.now.runner }
             ensures runs { RunsAll world.entry.now.hall.catalogue crew.entry.now.runner crew.exit.now.runner }
             ensures each { length crew.exit.now.workers.items ≡ length crew.entry.now.workers.items }
             ensures place { IsBoardPass world.entry.now.board.turnstile.table crew.exit.now.canceller }
@@ -304,7 +307,7 @@ where
     requires valid { IsValid world.now.hall.catalogue }
     requires ready { MayAllServe S.told S.faults (place_of world.now (table_of queue.now.links)) staff.crew.workers.items }
     requires upkeep { IsPassOf world.now.hall.turnstile.table world.now.hall.catalogue staff.crew.upkeep }
-    requires runner { idles.IsReady world.now.board.turnstile.table world.now.hall.turnstile.table world.now.hall.catalogue staff.crew.runner }
+    requires runner { idles.IsStandbyReady world.now.board.turnstile.table world.now.hall.turnstile.table world.now.hall.catalogue staff.crew.runner }
     requires place { IsBoardPass world.now.board.turnstile.table staff.crew.canceller }
     requires each { length staff.crew.workers.items ≡ WORKERS }
     requires empty { passes.items ≡ [] }

@@ -11,8 +11,8 @@ use exact_ratio::Words;
 use hall_sessions::World;
 use job_board::{Board, BoardEntry, BoardPass};
 use std::alloc::{AllocError, Global};
+use tile_requests::Tables;
 use turnstile::Pass;
-use wmts_rest::RestTable;
 
 /// How many sources a server takes: one for each worker, and one for each member of a job's crew.
 pub const SOURCES: usize = 12;
@@ -25,7 +25,7 @@ pub const BOARD_PASSES: u32 = 6;
 
 /// What is served, the passes of its hall, and the places at its board.
 #[derive(Drop)]
-pub struct Stage<K: Keeper> {
+pub struct ReadyServer<K: Keeper> {
     pub world: World<K>,
     pub passes: Vec<Pass<CabinetChest<K>>>,
     pub boards: Vec<BoardPass>,
@@ -35,10 +35,10 @@ pub struct Stage<K: Keeper> {
 /// being told, the cabinet is sound. `AllocError` where memory runs out; the cabinet is dropped then.
 pub fn stage_of<K: Keeper>(
     alloc: Global,
-    rest: RestTable,
+    tables: Tables,
     capabilities: Words,
     keeper: K,
-) -> Result<Stage<K>, AllocError>
+) -> Result<ReadyServer<K>, AllocError>
     ghost told: { Bool }
     requires sound { told ≡ true → IsSound (K.state keeper) }
     ensures catalogue { IfOk result (λ o. o.world.hall.catalogue ≡ (K.state keeper).catalogue) }
@@ -51,13 +51,13 @@ pub fn stage_of<K: Keeper>(
     let entry = match Board::make(alloc, BOARD_PASSES) {
         Ok(entry) => entry,
         Err(fault) => {
-            drop(rest);
+            drop(tables);
             return Err(fault);
         }
     };
     match Hall::make(alloc, keeper, PASSES) {
         Err(fault) => {
-            drop(rest);
+            drop(tables);
             drop(entry);
             Err(fault)
         }
@@ -66,10 +66,10 @@ pub fn stage_of<K: Keeper>(
                 board,
                 passes: boards,
             } = entry;
-            Ok(Stage {
+            Ok(ReadyServer {
                 world: World {
                     hall,
-                    rest,
+                    tables,
                     capabilities,
                     board,
                     traffic: Traffic::new(),

@@ -11,9 +11,11 @@ use Rattle.http_wire.proofs.StreamGrows.{stand_in_more}
 use Rattle.tile_requests.specs.declared.outcome.Outcome.{Outcome}
 use Rattle.tile_requests.specs.Requests.{answered_at}
 use Rattle.tile_requests.specs.Response.{response}
+use Rattle.tile_requests.specs.Routes.{spelling_of}
+use Rattle.tile_requests.specs.declared.spelling.Spelling.{Spelling}
 use Rattle.tile_requests.proofs.Known.{appends_more, appends_nothing}
 use Rattle.sessions.specs.Coming.{Wire}
-use Rattle.sessions.specs.Exchanges.{AreServed, Exchange, Standing, messages_of, response_at, responses_of}
+use Rattle.sessions.specs.Exchanges.{AreServed, Exchange, ServerStanding, messages_of, response_at, responses_of}
 use Rattle.sessions.specs.Responses.{MayTell}
 use Rattle.sessions.specs.SessionEnds.{AreOpen, all_of}
 
@@ -21,7 +23,7 @@ use Rattle.sessions.specs.SessionEnds.{AreOpen, all_of}
 
 -- how one message is served, from one standing to another
 abbrev pub Serving : Type 0 → Type 0 → Type 1
-Serving Cache Jobs = Message → Outcome → Standing Cache Jobs → Standing Cache Jobs → Type 0
+Serving Cache Jobs = Message → Outcome → ServerStanding Cache Jobs → ServerStanding Cache Jobs → Type 0
 
 module _ {Cache Jobs : Type 0} where
   messages_more : (es : List (Exchange Cache Jobs)) (e : Exchange Cache Jobs) → messages_of (es ++ e ∷ []) ≡ messages_of es ++ e.message ∷ []
@@ -38,23 +40,23 @@ module _ {Cache Jobs : Type 0} where
   length_messages [] = refl
   length_messages (x ∷ es) = let e = length_messages es in omega (arith, e)
 
-  served_more : (Serves : Serving Cache Jobs) (start : Standing Cache Jobs) (es : List (Exchange Cache Jobs)) (now : Standing Cache Jobs) (e : Exchange Cache Jobs) → AreServed Serves start es now
+  served_more : (Serves : Serving Cache Jobs) (start : ServerStanding Cache Jobs) (es : List (Exchange Cache Jobs)) (now : ServerStanding Cache Jobs) (e : Exchange Cache Jobs) → AreServed Serves start es now
       → e.before ≡ now → Serves e.message e.outcome e.before e.after → AreServed Serves start (es ++ e ∷ []) e.after
   served_more Serves start [] now e are same is = (same ∙ are, is, refl)
   served_more Serves start (x ∷ es) now e are same is = (are.0, are.1, served_more Serves x.after es now e are.2 same is)
 
 -- messages came from one standing to another, and these are their responses
-pub record HasServed {Cache Jobs : Type 0} (Serves : Serving Cache Jobs) (document : List ℕ) (start now : Standing Cache Jobs) (messages : List Message) (responses : List (List ℕ)) : Type 0 where
+pub record HasServed {Cache Jobs : Type 0} (Serves : Serving Cache Jobs) (document : List ℕ) (start now : ServerStanding Cache Jobs) (messages : List Message) (responses : List (List ℕ)) : Type 0 where
   pub exchanges : List (Exchange Cache Jobs)
   pub served : AreServed Serves start exchanges now
   pub are_messages : messages ≡ messages_of exchanges
   pub are_responses : responses ≡ responses_of document 1 exchanges
 
-pub served_none : {Cache Jobs : Type 0} (Serves : Serving Cache Jobs) (document : List ℕ) (start : Standing Cache Jobs) → HasServed Serves document start start [] []
+pub served_none : {Cache Jobs : Type 0} (Serves : Serving Cache Jobs) (document : List ℕ) (start : ServerStanding Cache Jobs) → HasServed Serves document start start [] []
 served_none Serves document start = record { exchanges = []; served = refl; are_messages = refl; are_responses = refl }
 
-served_next : {Cache Jobs : Type 0} {Serves : Serving Cache Jobs} {document : List ℕ} {start now there : Standing Cache Jobs} {messages : List Message} {responses : List (List ℕ)} (h : HasServed Serves document start now messages responses)
-    (m : Message) (o : Outcome) (left : Bool) → Serves m o now there → (n : ℕ) → length messages ≡ n → HasServed Serves document start there (messages ++ m ∷ []) (responses ++ response document m (n + 1) (answered_at left o) ∷ [])
+served_next : {Cache Jobs : Type 0} {Serves : Serving Cache Jobs} {document : List ℕ} {start now there : ServerStanding Cache Jobs} {messages : List Message} {responses : List (List ℕ)} (h : HasServed Serves document start now messages responses)
+    (m : Message) (o : Outcome) (left : Bool) → Serves m o now there → (n : ℕ) → length messages ≡ n → HasServed Serves document start there (messages ++ m ∷ []) (responses ++ response document m (n + 1) (answered_at (spelling_of m) left o) ∷ [])
 served_next {Cache} {Jobs} {Serves} {document} {start} {now} {there} {messages} {responses} h m o left serves n many =
     let e : Exchange Cache Jobs = record { message = m; outcome = o; left = left; before = now; after = there } in
     let all : length (messages_of h.exchanges) ≡ length h.exchanges = length_messages h.exchanges in
@@ -65,8 +67,8 @@ served_next {Cache} {Jobs} {Serves} {document} {start} {now} {there} {messages} 
       served = served_more Serves start h.exchanges now e h.served refl serves;
       are_messages = ap (λ ms. ms ++ m ∷ []) h.are_messages ∙ sym (messages_more h.exchanges e);
       are_responses =
-          ap (λ them. them ++ response document m (n + 1) (answered_at left o) ∷ []) h.are_responses
-          ∙ ap (λ i. responses_of document 1 h.exchanges ++ response document m i (answered_at left o) ∷ []) at
+          ap (λ them. them ++ response document m (n + 1) (answered_at (spelling_of m) left o) ∷ []) h.are_responses
+          ∙ ap (λ i. responses_of document 1 h.exchanges ++ response document m i (answered_at (spelling_of m) left o) ∷ []) at
           ∙ sym (responses_more document 1 h.exchanges e);
     }
 
@@ -74,7 +76,7 @@ served_next {Cache} {Jobs} {Serves} {document} {start} {now} {there} {messages} 
 
 -- how all stands at a moment of a session: the server, and the link
 pub record Moment (Cache Jobs : Type 0) : Type 0 where
-  pub server : Standing Cache Jobs
+  pub server : ServerStanding Cache Jobs
   pub wire : Wire
 
 -- since the start n messages were answered, none of them the last of its connection, and these bytes are held
@@ -115,7 +117,7 @@ pub record Meets {Cache Jobs : Type 0} (Serves : Serving Cache Jobs) (document :
   pub takes : TakesMessage (prepend_known held now.wire.left) m (prepend_known later there.wire.left)
   pub outcome : Outcome
   pub serves : Serves m outcome now.server there.server
-  pub sends : MayTell outcome (λ o. Sends now.wire.taken there.wire.taken (response document m (n + 1) o))
+  pub sends : MayTell (spelling_of m) outcome (λ o. Sends now.wire.taken there.wire.taken (response document m (n + 1) o))
 
 -- n messages were answered, none of them the last of its connection, and then m, whose response was sent so behind theirs
 pub record IsAnswered {Cache Jobs : Type 0} (Serves : Serving Cache Jobs) (document : List ℕ) (Sends : Sending) (start now : Moment Cache Jobs) (held : List ℕ) (n : ℕ) (m : Message) : Type 0 where
@@ -131,19 +133,19 @@ pub record IsAnswered {Cache Jobs : Type 0} (Serves : Serving Cache Jobs) (docum
   pub sent : Sends between now.wire.taken response
 
 -- what is told is told of the answer's outcome
-which_told : (o : Outcome) (P : Outcome → Type 0) → MayTell o P → (left : Bool) × P (answered_at left o)
-which_told o P (inl k) = (true, k)
-which_told o P (inr k) = (false, rw k.0 k.1)
+which_told : (spelling : Spelling) (o : Outcome) (P : Outcome → Type 0) → MayTell spelling o P → (left : Bool) × P (answered_at spelling left o)
+which_told spelling o P (inl k) = (true, k)
+which_told spelling o P (inr k) = (false, rw k.0 k.1)
 
 module _ {Cache Jobs : Type 0} {Serves : Serving Cache Jobs} {document : List ℕ} {Sends : Sending} {start now there : Moment Cache Jobs} {held later : List ℕ} {n : ℕ} {m : Message}
     (f : IsUnderWay Serves document start now held n) (met : Meets Serves document Sends now there held later n m) where
   pub answered : IsAnswered Serves document Sends start there later n m
   answered =
-      let k = which_told met.outcome (λ o. Sends now.wire.taken there.wire.taken (response document m (n + 1) o)) met.sends in
+      let k = which_told (spelling_of m) met.outcome (λ o. Sends now.wire.taken there.wire.taken (response document m (n + 1) o)) met.sends in
       record {
         earlier = f.messages;
         before_it = f.responses;
-        response = response document m (n + 1) (answered_at k.0 met.outcome);
+        response = response document m (n + 1) (answered_at (spelling_of m) k.0 met.outcome);
         all_open = f.all_open;
         many = f.many;
         stand = stand_in_more start.wire.left (prepend_known held now.wire.left) (prepend_known later there.wire.left) f.messages m f.stand met.takes;

@@ -4,14 +4,15 @@ use Rattle.http_wire.specs.declared.message.Message.{Message}
 use Rattle.tile_requests.specs.declared.outcome.Outcome.{Outcome}
 use Rattle.tile_requests.specs.Requests.{answered_at}
 use Rattle.tile_requests.specs.Response.{response}
+use Rattle.tile_requests.specs.Routes.{spelling_of}
 
 -- how a server stands between two messages: what it answers from, where jobs are submitted, and how often the source has failed
-pub record Standing (Cache Jobs : Type 0) : Type 0 where
+pub record ServerStanding (Cache Jobs : Type 0) : Type 0 where
   pub cache : Cache
   pub jobs : Jobs
   pub failures : ℕ
 
-abbrev pub standing : {Cache Jobs : Type 0} → Cache → Jobs → ℕ → Standing Cache Jobs
+abbrev pub standing : {Cache Jobs : Type 0} → Cache → Jobs → ℕ → ServerStanding Cache Jobs
 standing cache jobs failures = record { cache = cache; jobs = jobs; failures = failures }
 
 -- a message, the outcome that it came to, whether memory was left for the text of its response, and how the server stood before it
@@ -20,15 +21,15 @@ pub record Exchange (Cache Jobs : Type 0) : Type 0 where
   pub message : Message
   pub outcome : Outcome
   pub left : Bool
-  pub before : Standing Cache Jobs
-  pub after : Standing Cache Jobs
+  pub before : ServerStanding Cache Jobs
+  pub after : ServerStanding Cache Jobs
 
 abbrev pub messages_of : {Cache Jobs : Type 0} → List (Exchange Cache Jobs) → List Message
 messages_of es = map (λ e. e.message) es
 
 -- the response to a message at its place in the session, counted from 1
 abbrev pub response_at : {Cache Jobs : Type 0} → List ℕ → ℕ → Exchange Cache Jobs → List ℕ
-response_at document i e = response document e.message i (answered_at e.left e.outcome)
+response_at document i e = response document e.message i (answered_at (spelling_of e.message) e.left e.outcome)
 
 -- the responses, of which the first is that to the message at this place
 abbrev pub responses_of : {Cache Jobs : Type 0} → List ℕ → ℕ → List (Exchange Cache Jobs) → List (List ℕ)
@@ -36,6 +37,6 @@ responses_of document i [] = []
 responses_of document i (e ∷ es) = response_at document i e ∷ responses_of document (i + 1) es
 
 -- each was served so, one after the other, from one standing to another
-abbrev pub AreServed : {Cache Jobs : Type 0} → (Message → Outcome → Standing Cache Jobs → Standing Cache Jobs → Type 0) → Standing Cache Jobs → List (Exchange Cache Jobs) → Standing Cache Jobs → Type 0
+abbrev pub AreServed : {Cache Jobs : Type 0} → (Message → Outcome → ServerStanding Cache Jobs → ServerStanding Cache Jobs → Type 0) → ServerStanding Cache Jobs → List (Exchange Cache Jobs) → ServerStanding Cache Jobs → Type 0
 AreServed Serves before [] after = after ≡ before
 AreServed Serves before (e ∷ es) after = (e.before ≡ before) × Serves e.message e.outcome e.before e.after × AreServed Serves e.after es after

@@ -2,10 +2,11 @@
 ghost use Rattle.std.specs.Prelude.{◌≡◌, ℕ, List};
 ghost use Rattle.std.specs.declared.option.Option.{Option};
 ghost use Rattle.http_wire.specs.declared.message.Message.{Message};
-ghost use Rattle.sessions.specs.Exchanges.{Standing, standing};
+ghost use Rattle.sessions.specs.Exchanges.{ServerStanding, standing};
 ghost use Rattle.tile_requests.specs.declared.outcome.Outcome.{Outcome};
 
 use http_wire::Message;
+use png_text::CrcTables;
 use source_render::Source;
 use std::alloc::Global;
 use tile_requests::Outcome;
@@ -29,7 +30,7 @@ pub trait MessageServer {
     ghost document: { Self → Self.Cache → List ℕ };
 
     /// What a message came to, with a source that is modelled so, from one standing to another.
-    ghost serves: { Self → Option ℕ → Message → Outcome → Standing Self.Cache Self.Jobs → Standing Self.Cache Self.Jobs → Type 0 };
+    ghost serves: { Self → Option ℕ → Message → Outcome → ServerStanding Self.Cache Self.Jobs → ServerStanding Self.Cache Self.Jobs → Type 0 };
 
     /// Serves a message to its outcome. Where memory runs out, the outcome says so.
     fn serve<S: Source>(
@@ -50,9 +51,12 @@ pub trait MessageServer {
     fn capabilities<'s>(&'s self, cache: &'s Self::Cache) -> &'s [u8]
         ensures { result.now ≡ document self.now cache.now };
 
+    /// The tables by which pictures are spelt.
+    fn crc_tables<'s>(&'s self, cache: &'s Self::Cache) -> &'s CrcTables;
+
     /// A message has come, and is about to be served.
-    fn begun(&self);
+    fn begin_message(&self);
 
     /// A message was served, and its response was sent, as far as it went out.
-    fn answered(&self);
+    fn end_message(&self);
 }

@@ -7,6 +7,7 @@ ghost use Rattle.sessions.specs.Outside.{InputChange, OutputChange, counts};
 ghost use Rattle.sessions.specs.Responses.{MayTell};
 ghost use Rattle.sessions.specs.Sessions.{IsHeld};
 ghost use Rattle.tile_requests.specs.Response.{closes, response};
+ghost use Rattle.tile_requests.specs.Routes.{spelling_of};
 ghost use Rattle.tile_requests.specs.Sent.{AppendsFront};
 ghost use Rattle.tile_requests.specs.declared.outcome.Outcome.{Outcome};
 
@@ -16,6 +17,7 @@ use crate::server::MessageServer;
 use http_wire::{Link, Message, MessageReader, Sent};
 use source_render::Source;
 use std::alloc::Global;
+use tile_requests::spelling_at;
 
 /// How many messages a session answers at most.
 pub const SESSION_LIMIT: u64 = 10_000;
@@ -59,8 +61,8 @@ fn respond<M: MessageServer, S: Source, L: Link>(
 ) -> Result<(), Sent>
     requires ready { M.ready server.now cache.old jobs.old (S.told source.old) }
     ensures responds { (o : Outcome) × M.serves server.now (S.told source.old) message.now o (standing cache.old jobs.old (S.faults source.old)) (standing cache.new jobs.new (S.faults source.new))
-        × OnOk result (MayTell o (λ x. Appends (L.taken link.old) (L.taken link.new) (response (M.document server.now cache.old) message.now place x)))
-        × OnErr result (MayTell o (λ x. AppendsFront (L.taken link.old) (L.taken link.new) (response (M.document server.now cache.old) message.now place x))) }
+        × OnOk result (MayTell (spelling_of message.now) o (λ x. Appends (L.taken link.old) (L.taken link.new) (response (M.document server.now cache.old) message.now place x)))
+        × OnErr result (MayTell (spelling_of message.now) o (λ x. AppendsFront (L.taken link.old) (L.taken link.new) (response (M.document server.now cache.old) message.now place x))) }
     ensures ready { M.ready server.now cache.new jobs.new (S.told source.new) }
     ensures document { M.document server.now cache.new ≡ M.document server.now cache.old }
     ensures told { S.told source.new ≡ S.told source.old }
@@ -68,12 +70,19 @@ fn respond<M: MessageServer, S: Source, L: Link>(
     ensures left { L.left link.new ≡ L.left link.old }
     ensures read_faults { L.ByteSource.faults link.new ≡ L.ByteSource.faults link.old }
 {
-    server.begun();
+    server.begin_message();
     let outcome = server.serve(alloc, cache, jobs, source, message);
-    let document = server.capabilities(cache);
-    let sent = write_response(alloc, document, link, closes(message, place), &outcome);
+    let sent = write_response(
+        alloc,
+        server.crc_tables(cache),
+        server.capabilities(cache),
+        link,
+        spelling_at(message.target.bytes()),
+        closes(message, place),
+        &outcome,
+    );
     drop(outcome);
-    server.answered();
+    server.end_message();
     sent
 }
 

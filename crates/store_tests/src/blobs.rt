@@ -8,7 +8,7 @@ use std::test::Fail;
 fn a_blob_past_the_end_is_read_in_parts(rt: HostRuntime) -> Result<(), Fail> {
     let alloc = rt.alloc();
     let mut disk = MemoryDisk::new(alloc, b"ab".to_vec(alloc)?, Vec::new(alloc));
-    put(&mut disk, 4, b"metatile")?;
+    put(&mut disk, 7, 4, 4, b"metatile")?;
     let mut image = disk.crash(alloc, Pick::Noise)?;
     assert!(rt; image.bytes() == b"ab\0\0metatile".as_slice());
     let span = Span {
@@ -16,14 +16,14 @@ fn a_blob_past_the_end_is_read_in_parts(rt: HostRuntime) -> Result<(), Fail> {
         length: 4,
     };
     let mut tile = [0; 4];
-    read_tile(&mut image, 4, &span, &mut tile)?;
+    read_tile(&mut image, 7, 4, &span, &mut tile)?;
     assert!(rt; &tile == b"tile");
     Ok(())
 }
 
 /// Whether a put of two bytes fails.
 fn put_fails<D: Disk>(disk: &mut D) -> bool {
-    put(disk, 1, b"XY").is_err()
+    put(disk, 7, 2, 1, b"XY").is_err()
 }
 
 #[test]

@@ -47,7 +47,7 @@ fn keep(rt: &impl Abort, file: &mut CacheFile<MemoryDisk>, number: u8) -> bool
 {
     assert!(rt; file.settled());
     assert!(rt; file.room() > 0);
-    match file.put(8 * u64::from(number), &[number; 8]) {
+    match file.put(u64::from(number), 4, 8 * u64::from(number), &[number; 8]) {
         Ok(()) => file.record(&body(number)).is_ok(),
         Err(_) => false,
     }
@@ -85,7 +85,7 @@ fn part(file: &mut CacheFile<MemoryDisk>, number: u8) -> Result<[u8; 4], Fail>
         length: 4,
     };
     let mut part = [0; 4];
-    file.read(8 * u64::from(number), &span, &mut part)?;
+    file.read(u64::from(number), 8 * u64::from(number), &span, &mut part)?;
     Ok(part)
 }
 

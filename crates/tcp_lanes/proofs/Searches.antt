@@ -5,9 +5,9 @@ use Rattle.http_wire.specs.Looks.{HoldsHead, MayHaveHead}
 use Rattle.http_wire.specs.Messages.{IsNext, HoldsMessage}
 use Rattle.http_wire.specs.declared.message.Message.{Message}
 use Rattle.http_wire.proofs.NoHeadYet.{head_ends}
-use Rattle.tcp_lanes.specs.Ends.{NeedsBytes, EndsAs}
+use Rattle.tcp_lanes.specs.Ends.{NeedsBytes, MessageEndsAs}
 use Rattle.tcp_lanes.specs.declared.intake.Front.{Front}
-use Rattle.tcp_lanes.specs.declared.message_ends.End.TheVariants.{Whole}
+use Rattle.tcp_lanes.specs.declared.message_ends.MessageEnd.TheVariants.{Whole}
 use Rattle.tcp_lanes.specs.Intakes.{Taken, at_hand, IsSearched, HoldsNone, IsHopeful, LooksAs, SearchesAs}
 use Rattle.tcp_lanes.proofs.Messages.{none_held}
 
@@ -74,9 +74,9 @@ short_kept held slice message searched needed e all needs fits =
       λ _. subst (λ (n : ℕ). IsSearched held n needed) (sym all) searches.0,
     )
 
-pub whole_kept : (held slice : List ℕ) (n searched needed : ℕ) → slice ≡ held → EndsAs slice (Whole n) → (n ≤ length held) × (n ≡ 0 → IsSearched held searched needed)
+pub whole_kept : (held slice : List ℕ) (n searched needed : ℕ) → slice ≡ held → MessageEndsAs slice (Whole n) → (n ≤ length held) × (n ≡ 0 → IsSearched held searched needed)
 whole_kept held slice n searched needed e ends =
-    let here : EndsAs held (Whole n) = subst (λ (l : List ℕ). EndsAs l (Whole n)) e ends in (
+    let here : MessageEndsAs held (Whole n) = subst (λ (l : List ℕ). MessageEndsAs l (Whole n)) e ends in (
       here.0,
       λ zero. absurd (whole_is_some held n here.1 here.2 zero),
     )

@@ -27,7 +27,7 @@ pub enum Filled {
 
 /// What has become of the bytes of an answer.
 #[derive(Clone, Copy, PartialEq, Eq)]
-pub enum Sent {
+pub enum AnswerSent {
     /// The socket took all of them.
     All,
     /// Some wait until the socket takes them.
@@ -216,9 +216,9 @@ impl Conn {
     /// or there is no memory to keep it.
     pub fn send(&mut self, first: &[u8], second: &[u8], now: u64) -> bool {
         match self.flush(now) {
-            Sent::Failed => return false,
-            Sent::Rest => return self.keep(first, second, 0).is_ok(),
-            Sent::All => {}
+            AnswerSent::Failed => return false,
+            AnswerSent::Rest => return self.keep(first, second, 0).is_ok(),
+            AnswerSent::All => {}
         }
         let parts = [IoSlice::new(first), IoSlice::new(second)];
         match TcpStream::write_vectored(&self.stream, &parts) {
@@ -246,27 +246,27 @@ impl Conn {
     }
 
     /// Sends what is left of an answer, as far as the socket takes it.
-    pub fn flush(&mut self, now: u64) -> Sent {
+    pub fn flush(&mut self, now: u64) -> AnswerSent {
         for _ in 0..u32::MAX {
             let Some(rest) = self.answer.get(self.sent..) else {
-                return Sent::Failed;
+                return AnswerSent::Failed;
             };
             if rest.is_empty() {
                 self.answer = Vec::new(self.alloc);
                 self.sent = 0;
-                return Sent::All;
+                return AnswerSent::All;
             }
             match TcpStream::write_vectored(&self.stream, &[IoSlice::new(rest)]) {
-                Ok(0) => return Sent::Failed,
+                Ok(0) => return AnswerSent::Failed,
                 Ok(count) => {
                     self.sent = self.sent.saturating_add(count);
                     self.since = now;
                 }
-                Err(error) if error.kind() == ErrorKind::WouldBlock => return Sent::Rest,
-                Err(_) => return Sent::Failed,
+                Err(error) if error.kind() == ErrorKind::WouldBlock => return AnswerSent::Rest,
+                Err(_) => return AnswerSent::Failed,
             }
         }
-        Sent::Failed
+        AnswerSent::Failed
     }
 }
 
@@ -289,9 +289,9 @@ impl Conn {
     /// a socket that closes with bytes unread may take the answer back. Whether that is done.
     pub fn has_parted(&mut self, now: u64) -> bool {
         match self.flush(now) {
-            Sent::Failed => return true,
-            Sent::Rest => return false,
-            Sent::All => {}
+            AnswerSent::Failed => return true,
+            AnswerSent::Rest => return false,
+            AnswerSent::All => {}
         }
         self.closed || !self.shuts() || self.ignore_rest()
     }

@@ -1,5 +1,5 @@
 //! What a lane does with a socket that is ready: it accepts connections, reads what came, and sends what waits.
-use crate::conn::{Conn, Filled, Sent};
+use crate::conn::{AnswerSent, Conn, Filled};
 use crate::limits::{EMFILE, ENFILE, ENOBUFS, ENOMEM, PAUSE, WELCOMES};
 use crate::lobby::{Lobby, time};
 use crate::shared_lanes::{LISTENING, Ready};
@@ -19,7 +19,7 @@ pub struct AtHand {
 
 /// What a look at a socket came to.
 #[derive(Drop)]
-pub enum Looked {
+pub enum SocketLook {
     /// Nothing for a lane to serve.
     Nothing,
     /// A whole message is at hand.
@@ -32,13 +32,13 @@ pub enum Looked {
 
 impl Lobby {
     /// Looks at a socket that is ready.
-    pub fn look<R: Wait + Clock>(&self, rt: &R, ready: Ready) -> Looked {
+    pub fn look<R: Wait + Clock>(&self, rt: &R, ready: Ready) -> SocketLook {
         if ready.token == LISTENING {
             self.welcome(rt);
-            return Looked::Nothing;
+            return SocketLook::Nothing;
         }
         let Some(conn) = self.slots.claim(rt, ready) else {
-            return Looked::Nothing;
+            return SocketLook::Nothing;
         };
         let at_hand = AtHand {
             token: ready.token,
@@ -47,28 +47,28 @@ impl Lobby {
         let now = time(rt);
         if at_hand.conn.is_parting() {
             self.go_on_parting(rt, at_hand, now);
-            return Looked::Nothing;
+            return SocketLook::Nothing;
         }
         self.read_on(rt, at_hand, now)
     }
 
     /// Sends what is left of an answer, and reads on once it has gone.
-    fn read_on<R: Wait>(&self, rt: &R, mut at_hand: AtHand, now: u64) -> Looked {
+    fn read_on<R: Wait>(&self, rt: &R, mut at_hand: AtHand, now: u64) -> SocketLook {
         let filled = match at_hand.conn.flush(now) {
-            Sent::All => at_hand.conn.fill(now),
-            Sent::Rest => Filled::Part,
-            Sent::Failed => Filled::Gone,
+            AnswerSent::All => at_hand.conn.fill(now),
+            AnswerSent::Rest => Filled::Part,
+            AnswerSent::Failed => Filled::Gone,
         };
         match filled {
-            Filled::Whole => Looked::Message(at_hand),
-            Filled::Final => Looked::Final(at_hand),
+            Filled::Whole => SocketLook::Message(at_hand),
+            Filled::Final => SocketLook::Final(at_hand),
             Filled::Part => {
                 self.wait_on(rt, at_hand, now);
-                Looked::Nothing
+                SocketLook::Nothing
             }
             Filled::Gone => {
                 self.close(rt, at_hand);
-                Looked::Closed
+                SocketLook::Closed
             }
         }
     }

@@ -3,7 +3,7 @@ ghost use Rattle.std.specs.Prelude.{◌≡◌, ◌≤◌, ◌+◌, ◌-◌, ◌+
 ghost use Rattle.tcp_lanes.specs.Intakes.{waiting, at_hand, given_more, IsSearched, HoldsNone, HasNone, LooksAs, SearchesAs};
 
 use crate::limits::{LOOKING, READ_SIZE};
-use crate::message_ends::{End, may_end_head, message_end};
+use crate::message_ends::{MessageEnd, may_end_head, message_end};
 use http_wire::HEAD_LIMIT;
 use std::alloc::{AllocError, Global};
 use std::marker::Model;
@@ -130,16 +130,16 @@ impl Intake {
         self.searched = self.held.len();
         self.spent = self.spent.saturating_add(self.searched);
         match message_end(self.held.as_slice()) {
-            End::Whole(size) => {
+            MessageEnd::Whole(size) => {
                 self.message = size;
                 Some(Front::Whole)
             }
-            End::Headless => None,
-            End::Short(size) => {
+            MessageEnd::Headless => None,
+            MessageEnd::Short(size) => {
                 self.needed = size;
                 None
             }
-            End::Hopeless => {
+            MessageEnd::Hopeless => {
                 self.message = self.searched;
                 Some(Front::Hopeless)
             }

@@ -1,7 +1,7 @@
 //! A lane: the stream of whole messages that one worker serves, whoever sent them.
 ghost use Rattle.std.specs.Prelude.{◌≤◌, length};
 
-use crate::desk::{AtHand, Looked};
+use crate::desk::{AtHand, SocketLook};
 use crate::limits::HELD_BACK;
 use crate::lobby::{Lobby, time};
 use std::alloc::AllocError;
@@ -62,17 +62,17 @@ impl Lane {
         for _ in rt.forever() {
             let ready = self.lobby.next(rt);
             match self.lobby.look(rt, ready) {
-                Looked::Nothing => {}
-                Looked::Message(at_hand) => {
+                SocketLook::Nothing => {}
+                SocketLook::Message(at_hand) => {
                     self.at_hand = Some(at_hand);
                     return;
                 }
-                Looked::Final(at_hand) => {
+                SocketLook::Final(at_hand) => {
                     self.at_hand = Some(at_hand);
                     self.ended = true;
                     return;
                 }
-                Looked::Closed => {
+                SocketLook::Closed => {
                     self.ended = true;
                     return;
                 }

@@ -42,4 +42,4 @@ pub use limits::{
     PAUSE, READ_SIZE, SERVED, WATCH, WELCOMES,
 };
 pub use link::TcpLink;
-pub use message_ends::{End, may_end_head, message_end};
+pub use message_ends::{MessageEnd, may_end_head, message_end};

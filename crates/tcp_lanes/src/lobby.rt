@@ -1,6 +1,6 @@
 //! What the lanes share: the listening socket, the connections that rest, and the line of those that are ready.
 use crate::limits::{HELD_BACK, LANES, Limits, WATCH};
-use crate::shared_lanes::{ALARM, LISTENING, Poller, Ready, SharedLanes, Step, Vigil};
+use crate::shared_lanes::{ALARM, LISTENING, LaneStep, Poller, Ready, SharedLanes, Vigil};
 use crate::slots::Slots;
 use mio::net::TcpListener;
 use mio::{Interest, Registry, Token, Waker};
@@ -142,9 +142,9 @@ impl Lobby {
                 return ready;
             }
             shared_lanes = match shared_lanes.step(&mut vigil) {
-                Step::Watch => self.watch(rt, shared_lanes),
-                Step::Ask(poller) => self.ask(rt, shared_lanes, poller),
-                Step::Park => self.park(rt, shared_lanes, &mut vigil),
+                LaneStep::Watch => self.watch(rt, shared_lanes),
+                LaneStep::Ask(poller) => self.ask(rt, shared_lanes, poller),
+                LaneStep::Park => self.park(rt, shared_lanes, &mut vigil),
             };
         }
         unreachable!()

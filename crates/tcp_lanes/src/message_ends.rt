@@ -4,14 +4,14 @@ ghost use Rattle.http_wire.specs.Lines.{HasNoLineEnd};
 ghost use Rattle.http_wire.specs.Looks.{HoldsHead};
 ghost use Rattle.http_wire.specs.Messages.{front};
 ghost use Rattle.httparse.specs.Spans.{IsRequestOf, IsRequestWithin};
-ghost use Rattle.tcp_lanes.specs.Ends.{EndsAs};
+ghost use Rattle.tcp_lanes.specs.Ends.{MessageEndsAs};
 
 use http_wire::{Found, front_of, judge, step};
 use httparse::spans::{EMPTY_HEADER_SPAN, HeaderSpan, RequestSpans};
 
 /// Where the message at the front ends.
 #[derive(Clone, Copy, PartialEq, Eq)]
-pub enum End {
+pub enum MessageEnd {
     /// A whole message stands there, of so many bytes, head and body.
     Whole(usize),
     /// No whole head stands there, and more bytes can make one.
@@ -23,34 +23,34 @@ pub enum End {
 }
 
 /// Where the message ends whose head stands at the front.
-fn end_behind(held: &[u8], headers: &[HeaderSpan], spans: &RequestSpans) -> End
+fn end_behind(held: &[u8], headers: &[HeaderSpan], spans: &RequestSpans) -> MessageEnd
     requires is { IsRequestOf (front held.now) headers.now spans.now }
     requires within { IsRequestWithin (front held.now) headers.now spans.now }
     requires room { length headers.now ≡ 64 }
-    ensures { EndsAs held.now result }
+    ensures { MessageEndsAs held.now result }
 {
     let first = front_of(held);
     let (fields, _) = headers.split_at(spans.headers);
     let size = match judge(first, fields) {
         Ok(size) => size,
-        Err(_) => return End::Hopeless,
+        Err(_) => return MessageEnd::Hopeless,
     };
     let end = spans.len + size;
     if end <= held.len() {
-        End::Whole(end)
+        MessageEnd::Whole(end)
     } else {
-        End::Short(end)
+        MessageEnd::Short(end)
     }
 }
 
 /// Where the message at the front of these bytes ends.
-pub fn message_end(held: &[u8]) -> End
-    ensures { EndsAs held.now result }
+pub fn message_end(held: &[u8]) -> MessageEnd
+    ensures { MessageEndsAs held.now result }
 {
     let mut headers = [EMPTY_HEADER_SPAN; 64];
     match step(held, &mut headers) {
-        None => End::Headless,
-        Some(Found::Stopped(_)) => End::Hopeless,
+        None => MessageEnd::Headless,
+        Some(Found::Stopped(_)) => MessageEnd::Hopeless,
         Some(Found::Head(spans)) => end_behind(held, &headers, &spans),
     }
 }

@@ -43,7 +43,7 @@ impl Ready {
 
 /// What is known of a socket that is in line or isn't.
 #[derive(Clone, Copy, PartialEq, Eq)]
-struct Mark {
+struct SocketMark {
     queued: bool,
     hung_up: bool,
 }
@@ -61,7 +61,7 @@ pub struct Vigil {
 
 /// What a lane does that finds nobody in line.
 #[derive(Drop)]
-pub enum Step {
+pub enum LaneStep {
     Watch,
     Ask(Poller),
     Park,
@@ -72,7 +72,7 @@ pub enum Step {
 pub struct SharedLanes {
     limits: Limits,
     line: VecDeque<usize>,
-    marks: Vec<Mark>,
+    marks: Vec<SocketMark>,
     /// Absent while a lane asks the system.
     poller: Option<Poller>,
     /// How often the system was asked.
@@ -116,7 +116,7 @@ impl SharedLanes {
         let mut marks = Vec::with_capacity(alloc, sockets)?;
         let mut vacant = Vec::with_capacity(alloc, limits.connections)?;
         for token in 0..=limits.connections {
-            marks.push(Mark {
+            marks.push(SocketMark {
                 queued: false,
                 hung_up: false,
             })?;
@@ -209,12 +209,12 @@ impl SharedLanes {
 // Who waits.
 impl SharedLanes {
     /// What a lane does that finds nobody in line.
-    pub fn step(&mut self, vigil: &mut Vigil) -> Step {
+    pub fn step(&mut self, vigil: &mut Vigil) -> LaneStep {
         let idle = vigil.watches && self.poller.is_some() && self.asked == vigil.seen;
         let free = vigil.watches || !self.watched;
         if vigil.parked && free && !idle && !self.is_stale() && vigil.still < LOOKS {
             self.watch(vigil);
-            return Step::Watch;
+            return LaneStep::Watch;
         }
         self.end_watch(vigil);
         match self.poller.take() {
@@ -222,9 +222,9 @@ impl SharedLanes {
                 self.asked = self.asked.wrapping_add(1);
                 self.served = 0;
                 vigil.parked = false;
-                Step::Ask(poller)
+                LaneStep::Ask(poller)
             }
-            None => Step::Park,
+            None => LaneStep::Park,
         }
     }
 

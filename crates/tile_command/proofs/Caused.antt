@@ -34,7 +34,7 @@ use Rattle.disk_words.specs.Ends.{DropsAll, Makes, TellsUsage, Truncates}
 use Rattle.disk_words.specs.Runs.{HasReplayed, HasScheduled}
 use Rattle.tile_command.specs.Causes.{CutReplies, HasCause, HasReadFault, IsCaused, IsComplete, IsInOrder, NothingFails, OfDisk, OfDocument, OfInput, UnderBoth}
 use Rattle.tile_command.specs.Change.{CommandChange, Stays, output_of, without_disk}
-use Rattle.tile_command.specs.Command.{HasServed}
+use Rattle.tile_command.specs.Command.{StatusSays}
 use Rattle.tile_command.specs.Kept.{HasKeptUp, HasRun}
 use Rattle.tile_command.specs.Memory.{HasWorked, MemoryTells, status_of_drill}
 use Rattle.command_status.specs.Statuses.{status_of_schedule, status_of_session}
@@ -46,14 +46,14 @@ use Rattle.tile_service.specs.declared.schedule.ScheduleEnd.TheVariants as sched
 use Rattle.sessions.specs.declared.session.SessionEnd.{SessionEnd}
 use Rattle.sessions.specs.declared.session.SessionEnd.TheVariants as session_end
 use Rattle.sessions.specs.Outside.{Outside}
-use Rattle.tile_service.specs.Run.{World}
+use Rattle.tile_service.specs.Run.{RunState}
 use Rattle.truncation_list.specs.declared.cover.Cover.{Cover}
 use Rattle.tile_command.proofs.Causes.{IsOf, Tells, by_both, by_catalogue, by_schedule, by_session, document_of, over, read_in, whole_text}
 
 -- ON A CABINET IN MEMORY
 
 module _ (h : CommandChange) (stays : Stays) (d : DiskChange) (clock : Readings) where
-  by_drill : UnderBoth h (λ c document. ⊤) → (number : ℕ) (o : Outside) (U : Type 0) (n : ℕ) (w t : World) (e : DrillEnd) → (Rose o.writes.before o.writes.after → Rose h.outside.writes.before h.outside.writes.after)
+  by_drill : UnderBoth h (λ c document. ⊤) → (number : ℕ) (o : Outside) (U : Type 0) (n : ℕ) (w t : RunState) (e : DrillEnd) → (Rose o.writes.before o.writes.after → Rose h.outside.writes.before h.outside.writes.after)
       → Drills o U n w t e → IsCaused h d clock (word.InMemory (memory.Drill number)) (status_of_drill e)
   by_drill through number o U n w t drill_end.Done writes x = through
   by_drill through number o U n w t drill_end.WriteFault writes x = writes x.5
@@ -245,7 +245,7 @@ module _ (h : CommandChange) (stays : Stays) (d : DiskChange) (DiskStays : Type 
 -- ALL WORDS
 
 module _ (P : State → Type 0) (h : CommandChange) (stays : Stays) (d : DiskChange) (DiskStays : Type 0) (clock : Readings) where
-  by_word : (w : Word) (s : Status) → HasServed P h stays d DiskStays clock (Some w) s → IsCaused h d clock w s
+  by_word : (w : Word) (s : Status) → StatusSays P h stays d DiskStays clock (Some w) s → IsCaused h d clock w s
   by_word (word.InMemory w) s x = by_memory h stays d clock w s x.0
   by_word (word.Kept w) s (inl x) = subst (IsCaused h d clock (word.Kept w)) (sym x.0.1) (by_both h d clock (word.Kept w) (λ P p. p) stays.capabilities x.0.0 x.0.2)
   by_word (word.Kept w) s (inr x) =
@@ -308,7 +308,7 @@ module _ (h : CommandChange) (d : DiskChange) (clock : Readings) (w : Word) (val
 
 module _ (P : State → Type 0) (h : CommandChange) (stays : Stays) (d : DiskChange) (DiskStays : Type 0) (clock : Readings) where
   -- the words are a command
-  pub caused : (w : Word) (s : Status) → HasServed P h stays d DiskStays clock (Some w) s → (read : Option Word) → read ≡ Some w → HasCause h d clock read s
+  pub caused : (w : Word) (s : Status) → StatusSays P h stays d DiskStays clock (Some w) s → (read : Option Word) → read ≡ Some w → HasCause h d clock read s
   caused w s served read is = subst (λ r. HasCause h d clock r s) (sym is) (by_word P h stays d DiskStays clock w s served)
 
 pub completed : (h : CommandChange) (d : DiskChange) (clock : Readings) (read : Option Word) (s : Status) → HasCause h d clock read s → IsComplete h d clock read s

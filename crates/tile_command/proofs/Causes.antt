@@ -30,7 +30,7 @@ use Rattle.sessions.specs.declared.session.SessionEnd.TheVariants as session_end
 use Rattle.tile_requests.specs.Requests.{Chance}
 use Rattle.tile_service.specs.Lines.{lines_of}
 use Rattle.sessions.specs.Outside.{InputChange, Outside}
-use Rattle.tile_service.specs.Run.{World, free_seats, run, world_of}
+use Rattle.tile_service.specs.Run.{RunState, free_seats, run, run_state_of}
 use Rattle.tile_service.specs.Schedules.{Ends, GoesThrough, HasRunAll, Schedules}
 use Rattle.sessions.specs.SessionEnds.{AreOpen, GoBefore, GoOn, IsClosed, StopsThere}
 use Rattle.tile_service.specs.Replays.{HasSession}
@@ -90,16 +90,16 @@ module _ (h : CommandChange) (d : DiskChange) (clock : Readings) (w : Word) wher
 
 -- RUNS
 
-run_whole : (h : CommandChange) (o : Outside) (s : State) (document : List ℕ) (t : World) (end : RunEnd) (n : Option ℕ)
-    → ((lines : List (List ℕ)) (chances : List Chance) (u : World) → Ends o (world_of s document free_seats) lines chances u end → (run (world_of s document free_seats) 1 lines chances).refused ≡ n)
+run_whole : (h : CommandChange) (o : Outside) (s : State) (document : List ℕ) (t : RunState) (end : RunEnd) (n : Option ℕ)
+    → ((lines : List (List ℕ)) (chances : List Chance) (u : RunState) → Ends o (run_state_of s document free_seats) lines chances u end → (run (run_state_of s document free_seats) 1 lines chances).refused ≡ n)
     → ((all lines : List (List ℕ)) → GoesThrough all end lines → lines ≡ all)
-    → HasRunAll h.input o (world_of s document free_seats) t end → RunRefuses h o document s n
+    → HasRunAll h.input o (run_state_of s document free_seats) t end → RunRefuses h o document s n
 run_whole h o s document t end n refuses all r = (
   r.ran.chances,
   r.ran.faults,
-  whole_text (λ text. (length text ≤ 16777216) × RefusesSo o (world_of s document free_seats) (run (world_of s document free_seats) 1 (lines_of text) r.ran.chances) n) _ _ r.text r.read r.at_end (
+  whole_text (λ text. (length text ≤ 16777216) × RefusesSo o (run_state_of s document free_seats) (run (run_state_of s document free_seats) 1 (lines_of text) r.ran.chances) n) _ _ r.text r.read r.at_end (
     r.short,
-    subst (λ lines. RefusesSo o (world_of s document free_seats) (run (world_of s document free_seats) 1 lines r.ran.chances) n) (all _ _ r.ran.through) (refuses _ _ _ r.ran.ends, r.ran.upheld),
+    subst (λ lines. RefusesSo o (run_state_of s document free_seats) (run (run_state_of s document free_seats) 1 lines r.ran.chances) n) (all _ _ r.ran.through) (refuses _ _ _ r.ran.ends, r.ran.upheld),
   ),
 )
 
@@ -130,7 +130,7 @@ module _ (h : CommandChange) (d : DiskChange) (clock : Readings) (w : Word) (tak
       → (IsOver 16777216 h.input → IsCaused h d clock w status.TooLong)
       → (RunRefuses h o document s None → IsCaused h d clock w status.Done)
       → ((n : ℕ) → RunRefuses h o document s (Some n) → IsCaused h d clock w (status.Line n))
-      → (U : Type 0) (after : World) (e : ScheduleEnd) → Schedules h.input o U (world_of s document free_seats) after e → IsCaused h d clock w (status_of_schedule e)
+      → (U : Type 0) (after : RunState) (e : ScheduleEnd) → Schedules h.input o U (run_state_of s document free_seats) after e → IsCaused h d clock w (status_of_schedule e)
   by_schedule o s document writes long through line U after schedule_end.Done x = through (run_whole h o s document after run_end.Done None (λ lines chances u e. e.0) (λ all lines e. e) x)
   by_schedule o s document writes long through line U after (schedule_end.Line n) x = line n (run_whole h o s document after (run_end.Line n) (Some n) (λ lines chances u e. e.0) (λ all lines e. e) x)
   by_schedule o s document writes long through line U after schedule_end.ReadFault x = read_fails x.0

@@ -11,14 +11,14 @@ use Rattle.tile_command.proofs.Serving.{exactly_usage}
 use Rattle.tile_command.proofs.Tests.{exact}
 use Rattle.tile_command.specs.Causes.{HasCause}
 use Rattle.tile_command.specs.Change.{CommandChange, Stays}
-use Rattle.tile_command.specs.Command.{CommandRun, Commands, HasLastedBy, HasServed}
+use Rattle.tile_command.specs.Command.{CommandRun, Commands, HasLastedBy, StatusSays}
 
 module _ (P : State → Type 0) (h : CommandChange) (stays : Stays) (d : DiskChange) (DiskStays : Type 0) (clock : Readings) where
   abbrev seen : Option Word → Status → CommandRun
   seen read s = record { change = h; stays = stays; disk = d; disk_stays = DiskStays; clock = clock; word = read; status = s }
 
   -- the words are a command
-  pub commands : (w : Word) (s : Status) → HasServed P h stays d DiskStays clock (Some w) s → HasLastedBy h d DiskStays (Some w) → (read : Option Word) → read ≡ Some w → Commands P (seen read s)
+  pub commands : (w : Word) (s : Status) → StatusSays P h stays d DiskStays clock (Some w) s → HasLastedBy h d DiskStays (Some w) → (read : Option Word) → read ≡ Some w → Commands P (seen read s)
   commands w s served lasts read is = subst (λ r. Commands P (seen r s)) (sym is) (record {
     usage = exactly_usage P h stays d DiskStays clock w s served (Some w) refl;
     served = served;

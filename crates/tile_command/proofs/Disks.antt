@@ -14,7 +14,7 @@ use Rattle.job_forms.specs.Cover.{cover_of}
 use Rattle.job_forms.specs.declared.fault.JobFault.{JobFault}
 use Rattle.job_forms.specs.Reading.{job_of}
 use Rattle.opened_cache.specs.Change.{DiskChange}
-use Rattle.tile_command.specs.Causes.{AreCutsFull, BreaksStream, IsCacheRefused, IsCaused, IsInputOver, IsMalformed, IsOver, IsThrough, NothingFails, OfDocument, RefusesLine, UnderCatalogue, UnderInput, CutReplies, Opening}
+use Rattle.tile_command.specs.Causes.{AreCutsFull, BreaksStream, IsCacheRefused, IsCaused, IsInputOver, IsMalformed, IsOver, IsThrough, NothingFails, OfDocument, RefusesLine, UnderCatalogue, UnderInput, CutReplies, HoldsOnceOpened}
 use Rattle.tile_command.specs.Change.{CommandChange}
 use Rattle.tile_command.specs.Exact.{AreModelled, IsTold, OpensModelled}
 use Rattle.tile_command.proofs.Caused.{no_disk, no_read}
@@ -77,7 +77,7 @@ module _ (h : CommandChange) (d : DiskChange) (clock : Readings) (m : AreModelle
   Before = files.Past h d clock m quiet
 
   -- at the one catalogue of the text
-  apart : (x y : Before) → IsRefused x.0 d cause → (P : State → Type 0) → Opening d clock y.0 P → ⊥
+  apart : (x y : Before) → IsRefused x.0 d cause → (P : State → Type 0) → HoldsOnceOpened d clock y.0 P → ⊥
   apart x y refused P opens = not_opened y.0 d told clock opens.0 cause (subst (λ c. IsRefused c d cause) (files.same_catalogue h d clock m quiet x y) refused) opens.1
 
   alike : (x y : Before) (other : OpenFault) → IsRefused x.0 d cause → IsRefused y.0 d other → other ≡ cause

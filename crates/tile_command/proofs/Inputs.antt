@@ -15,7 +15,7 @@ use Rattle.job_forms.specs.declared.fault.JobFault.{JobFault}
 use Rattle.opened_cache.specs.Change.{DiskChange}
 use Rattle.opened_cache.specs.Opened.{IsRefused}
 use Rattle.opened_cache.proofs.Refusing.{not_opened}
-use Rattle.tile_command.specs.Causes.{AreCutsFull, BreaksOff, BreaksStream, ComesToEnd, IsCacheRefused, IsCaused, IsInputOver, IsMalformed, IsOver, IsThrough, NothingFails, OfDocument, Opening, RefusesLine, RunRefuses, UnderBoth, UnderCatalogue}
+use Rattle.tile_command.specs.Causes.{AreCutsFull, BreaksOff, BreaksStream, ComesToEnd, HoldsOnceOpened, IsCacheRefused, IsCaused, IsInputOver, IsMalformed, IsOver, IsThrough, NothingFails, OfDocument, RefusesLine, RunRefuses, UnderBoth, UnderCatalogue}
 use Rattle.tile_command.specs.Change.{CommandChange, without_disk}
 use Rattle.tile_command.specs.Exact.{AreModelled, EachRunRefuses, HasIllLine, IsBreakTold, IsIllAt, IsTold, IsToldBy, OfLines, OpensModelled, RefusesInAll, UnderSchedule}
 use Rattle.tile_command.proofs.Breaks.{broken_or_ended, one_break}
@@ -26,7 +26,7 @@ use Rattle.tile_requests.specs.Requests.{Chance}
 use Rattle.sessions.specs.declared.session.SessionEnd.{SessionEnd}
 use Rattle.tile_service.specs.Lines.{action_in, lines_of}
 use Rattle.sessions.specs.Outside.{Outside}
-use Rattle.tile_service.specs.Run.{Answer, Run, World, first_of, free_seats, goes_on, line_done, rest_of, run, world_of}
+use Rattle.tile_service.specs.Run.{Answer, Run, RunState, first_of, free_seats, goes_on, line_done, rest_of, run, run_state_of}
 
 -- A LINE THAT IS NONE
 
@@ -34,23 +34,23 @@ use Rattle.tile_service.specs.Run.{Answer, Run, World, first_of, free_seats, goe
 abbrev StopsBy : ℕ → Option ℕ → Type 0
 StopsBy n refused = (m : ℕ) × (refused ≡ Some m) × (m ≤ n)
 
-stops_here : (w : World) (k n : ℕ) (done : Option (World × List Answer)) (on : World → Run) → k ≤ n → done ≡ None → StopsBy n (goes_on w k done on).refused
+stops_here : (w : RunState) (k n : ℕ) (done : Option (RunState × List Answer)) (on : RunState → Run) → k ≤ n → done ≡ None → StopsBy n (goes_on w k done on).refused
 stops_here w k n None on le is = (k, refl, le)
 stops_here w k n (Some done) on le is = absurd (cc)
 
-stops_later : (w : World) (k n : ℕ) (done : Option (World × List Answer)) (on : World → Run) → k ≤ n → ((t : World) → StopsBy n (on t).refused) → StopsBy n (goes_on w k done on).refused
+stops_later : (w : RunState) (k n : ℕ) (done : Option (RunState × List Answer)) (on : RunState → Run) → k ≤ n → ((t : RunState) → StopsBy n (on t).refused) → StopsBy n (goes_on w k done on).refused
 stops_later w k n None on le later = (k, refl, le)
 stops_later w k n (Some done) on le later = later done.0
 
 -- lines of which this one is none: their run refuses that one or one before it
-stops_by : (w : World) (k i : ℕ) (lines : List (List ℕ)) (chances : List Chance) → IsSomeAnd (slice_get lines i) (λ line. action_in line ≡ None) → StopsBy (k + i) (run w k lines chances).refused
+stops_by : (w : RunState) (k i : ℕ) (lines : List (List ℕ)) (chances : List Chance) → IsSomeAnd (slice_get lines i) (λ line. action_in line ≡ None) → StopsBy (k + i) (run w k lines chances).refused
 stops_by w k i [] chances ill = absurd ill
 stops_by w k zero (line ∷ lines) chances ill =
     stops_here w k (k + zero) (line_done w k (first_of chances) (action_in line)) (λ t. run t (k + 1) lines (rest_of chances)) (omega arith) (ap (λ a. line_done w k (first_of chances) a) ill)
 stops_by w k (suc i) (line ∷ lines) chances ill =
     stops_later w k (k + suc i) (line_done w k (first_of chances) (action_in line)) (λ t. run t (k + 1) lines (rest_of chances)) (omega arith) (λ t. further t (stops_by t (k + 1) i lines (rest_of chances) ill))
   where
-    further : (t : World) → StopsBy (k + 1 + i) (run t (k + 1) lines (rest_of chances)).refused → StopsBy (k + suc i) (run t (k + 1) lines (rest_of chances)).refused
+    further : (t : RunState) → StopsBy (k + 1 + i) (run t (k + 1) lines (rest_of chances)).refused → StopsBy (k + suc i) (run t (k + 1) lines (rest_of chances)).refused
     further t x = (x.0, x.1, let le = x.2 in omega (arith, le))
 
 module _ (h : CommandChange) (d : DiskChange) (clock : Readings) (m : AreModelled h) (quiet : NothingFails h d) where
@@ -67,12 +67,12 @@ module _ (h : CommandChange) (d : DiskChange) (clock : Readings) (m : AreModelle
       let there : Q x.0 y.2.0 = subst (λ (c : Catalogue). Q c y.2.0) (files.same_catalogue h d clock m quiet (y.0, y.1, tt) (x.0, x.1, tt)) y.2.2 in
       subst (λ (document : List ℕ). Q x.0 document) (same_document P Q x y) there
 
-  at_opened : (told : IsTrue d.told) (c : Catalogue) (P Q : State → Type 0) (x : Opening d clock c P) (y : Opening d clock c Q) → Q x.0
+  at_opened : (told : IsTrue d.told) (c : Catalogue) (P Q : State → Type 0) (x : HoldsOnceOpened d clock c P) (y : HoldsOnceOpened d clock c Q) → Q x.0
   at_opened told c P Q x y = subst Q (opened_once h d clock m quiet told c y.0 x.0 y.1 x.1) y.2
 
-  opened_there : (told : IsTrue d.told) (P : Catalogue → List ℕ → State → Type 0) (x : UnderBoth h (λ c document. Opening d clock c (P c document))) (cause : OpenFault)
+  opened_there : (told : IsTrue d.told) (P : Catalogue → List ℕ → State → Type 0) (x : UnderBoth h (λ c document. HoldsOnceOpened d clock c (P c document))) (cause : OpenFault)
       → UnderBoth h (λ c document. IsRefused c d cause) → ⊥
-  opened_there told P x cause y = not_opened x.0 d told clock x.2.2.0 cause (at_one (λ c document. Opening d clock c (P c document)) (λ c document. IsRefused c d cause) x y) x.2.2.1
+  opened_there told P x cause y = not_opened x.0 d told clock x.2.2.0 cause (at_one (λ c document. HoldsOnceOpened d clock c (P c document)) (λ c document. IsRefused c d cause) x y) x.2.2.1
 
   -- A WORD THAT WORKS ON ITS INPUT, where all before that was passed: what its work comes to is told, or memory ran out
 
@@ -122,20 +122,20 @@ module _ (h : CommandChange) (d : DiskChange) (clock : Readings) (m : AreModelle
       (λ n y. line h.outside x.2.0 x.2.2.0 n x.2.2.2 (there (Some n) y))
       (λ end y. absurd y) s
     where
-      there : (refused : Option ℕ) → UnderBoth h (λ c document. Opening d clock c (λ t. RunRefuses h h.outside document t refused)) → RunRefuses h h.outside x.2.0 x.2.2.0 refused
+      there : (refused : Option ℕ) → UnderBoth h (λ c document. HoldsOnceOpened d clock c (λ t. RunRefuses h h.outside document t refused)) → RunRefuses h h.outside x.2.0 x.2.2.0 refused
       there refused y =
-          at_opened told x.0 _ (λ t. RunRefuses h h.outside x.2.0 t refused) x.2.2 (at_one _ (λ c document. Opening d clock c (λ t. RunRefuses h h.outside document t refused)) x y)
+          at_opened told x.0 _ (λ t. RunRefuses h h.outside x.2.0 t refused) x.2.2 (at_one _ (λ c document. HoldsOnceOpened d clock c (λ t. RunRefuses h h.outside document t refused)) x y)
   by_lines (word.Kept kept.Replay) T P modelled x out through line s = absurd x
   by_lines (word.Upkeep w) T P modelled x out through line s = absurd x
   by_lines word.Job T P modelled x out through line s = absurd x
 
   -- a run that this one may have been, and all of them
-  of_all : (o : Outside) (document : List ℕ) (s : State) (n : ℕ) (refused : Option ℕ) → OfLines h (EachRunRefuses o (world_of s document free_seats) n) → RunRefuses h o document s refused → refused ≡ Some n
+  of_all : (o : Outside) (document : List ℕ) (s : State) (n : ℕ) (refused : Option ℕ) → OfLines h (EachRunRefuses o (run_state_of s document free_seats) n) → RunRefuses h o document s refused → refused ≡ Some n
   of_all o document s n refused each ran = let t = files.one_text h.input.from m.input each ran.2 in sym t.2.1.0 ∙ t.1.1 ran.0 ran.1 t.2.1.1
 
   pub lines_told : (w : Word) (s : Status) → IsCaused h d clock w s → OpensModelled d w → (n : ℕ) → RefusesInAll h d clock w n → IsTold (status.Line n) s
   lines_told w s x modelled n all =
-      by_lines w (IsTold (status.Line n)) (λ o document t. EachRunRefuses o (world_of t document free_seats) n) modelled all (inr refl)
+      by_lines w (IsTold (status.Line n)) (λ o document t. EachRunRefuses o (run_state_of t document free_seats) n) modelled all (inr refl)
       (λ o document t each ran. absurd (none_refused (of_all o document t n None each ran)))
       (λ o document t k each ran. inl (same k (of_all o document t n (Some k) each ran))) s x
     where
@@ -150,7 +150,7 @@ module _ (h : CommandChange) (d : DiskChange) (clock : Readings) (m : AreModelle
   of_ill o document s n refused ill ran =
       let t = files.one_text h.input.from m.input ill ran.2 in
       let is = t.1.1.1 in
-      let stops = stops_by (world_of s document free_seats) 1 t.1.1.0 (lines_of t.0) ran.0 t.1.1.2 in
+      let stops = stops_by (run_state_of s document free_seats) 1 t.1.1.0 (lines_of t.0) ran.0 t.1.1.2 in
       (stops.0, sym t.2.1.0 ∙ stops.1, let le = stops.2 in omega (arith, le, is))
 
   pub ill_told : (w : Word) (s : Status) → IsCaused h d clock w s → OpensModelled d w → (n : ℕ) → HasIllLine h d clock w n → IsToldBy n s

@@ -18,7 +18,7 @@ use Rattle.command_setup.specs.declared.configuration.Unconfigured.TheVariants a
 use Rattle.job_words.specs.Ends.{RunsJob}
 use Rattle.opened_cache.specs.Change.{DiskChange}
 use Rattle.tile_command.specs.Change.{CommandChange, Stays, output_of, without_disk}
-use Rattle.tile_command.specs.Command.{HasServed}
+use Rattle.tile_command.specs.Command.{StatusSays}
 use Rattle.tile_command.specs.Kept.{HasKeptUp, HasRun}
 use Rattle.tile_command.specs.Memory.{MemoryTells, status_of_drill}
 use Rattle.command_setup.specs.Refusals.{status_of_refusal}
@@ -30,11 +30,11 @@ use Rattle.tile_service.specs.declared.schedule.ScheduleEnd.TheVariants as sched
 use Rattle.sessions.specs.declared.session.SessionEnd.{SessionEnd}
 use Rattle.sessions.specs.declared.session.SessionEnd.TheVariants as session_end
 use Rattle.sessions.specs.Outside.{InputChange, Outside}
-use Rattle.tile_service.specs.Run.{World}
+use Rattle.tile_service.specs.Run.{RunState}
 use Rattle.tile_service.specs.Schedules.{Schedules}
 
 -- where less stays as it was, the same can be said of a schedule
-pub less_stays : (i : InputChange) (o : Outside) (U V : Type 0) → (U → V) → (w t : World) (e : ScheduleEnd) → Schedules i o U w t e → Schedules i o V w t e
+pub less_stays : (i : InputChange) (o : Outside) (U V : Type 0) → (U → V) → (w t : RunState) (e : ScheduleEnd) → Schedules i o U w t e → Schedules i o V w t e
 less_stays i o U V less w t schedule_end.Done h = h
 less_stays i o U V less w t (schedule_end.Line n) h = h
 less_stays i o U V less w t schedule_end.WriteFault h = h
@@ -89,7 +89,7 @@ module _ (P : State → Type 0) (h : CommandChange) (stays : Stays) (d : DiskCha
   other_of_upkeep upkeep.Expire c done = done.0
   other_of_upkeep upkeep.Usage c done = done.0
 
-  other_of_word : (w : Word) (s : Status) → HasServed P h stays d DiskStays clock (Some w) s → s ≡ status.Usage → ⊥
+  other_of_word : (w : Word) (s : Status) → StatusSays P h stays d DiskStays clock (Some w) s → s ≡ status.Usage → ⊥
   other_of_word (word.InMemory w) s told is = other_in_memory w s told.0 is
   other_of_word (word.Kept w) s (inl refused) is = other_of_refusal refused.0.0 (sym refused.0.1 ∙ is)
   other_of_word (word.Kept w) s (inr done) is = other_of_run w done.0 done.1 (subst (HasRun P h.input h.outside stays d clock w done.0 done.1) is done.3)
@@ -99,7 +99,7 @@ module _ (P : State → Type 0) (h : CommandChange) (stays : Stays) (d : DiskCha
   other_of_word word.Job s (inr done, same) is = subst (RunsJob done.0 clock h.input h.outside d DiskStays (stays.output × stays.source)) is done.2
 
   -- so `Usage` is told exactly where words are no command
-  pub exactly_usage : (w : Word) (s : Status) → HasServed P h stays d DiskStays clock (Some w) s → (read : Option Word) → read ≡ Some w → (s ≡ status.Usage) ↔ (read ≡ None)
+  pub exactly_usage : (w : Word) (s : Status) → StatusSays P h stays d DiskStays clock (Some w) s → (read : Option Word) → read ≡ Some w → (s ≡ status.Usage) ↔ (read ≡ None)
   exactly_usage w s told read is = ((λ usage. absurd (other_of_word w s told usage)), (λ none. absurd (no_word none)))
     where
       no_word : read ≡ None → ⊥

@@ -35,7 +35,7 @@ use Rattle.sessions.specs.declared.session.SessionEnd.{SessionEnd}
 use Rattle.sessions.specs.declared.session.SessionEnd.TheVariants as session
 use Rattle.tile_service.specs.Lines.{lines_of}
 use Rattle.sessions.specs.Outside.{InputChange, Outside}
-use Rattle.tile_service.specs.Run.{Run, World, disk_faults, free_seats, run, world_of}
+use Rattle.tile_service.specs.Run.{Run, RunState, disk_faults, free_seats, run, run_state_of}
 use Rattle.tile_service.specs.Schedules.{IsUpheld}
 use Rattle.sessions.specs.SessionEnds.{AreOpen, GoOn, StopsThere}
 use Rattle.truncation_list.specs.declared.cover.Cover.{Cover}
@@ -84,8 +84,8 @@ abbrev pub UnderInput : {A : Type 0} → CommandChange → (Catalogue → List �
 UnderInput {A} h reading P = UnderCatalogue h (λ c. (x : A) × IfSome h.input.from (λ text. (length text ≤ 65536) × (reading c text ≡ Ok x)) × P c x)
 
 -- P holds of what the disk opens to
-abbrev pub Opening : DiskChange → Readings → Catalogue → (State → Type 0) → Type 0
-Opening d clock c P = (s : State) × IsOpened c clock d s × P s
+abbrev pub HoldsOnceOpened : DiskChange → Readings → Catalogue → (State → Type 0) → Type 0
+HoldsOnceOpened d clock c P = (s : State) × IsOpened c clock d s × P s
 
 -- THE FILES
 
@@ -102,7 +102,7 @@ abbrev pub IsInputOver : CommandChange → DiskChange → Readings → Word → 
 IsInputOver h d clock (word.InMemory memory.Schedule) = UnderBoth h (λ c document. IsOver 16777216 h.input)
 IsInputOver h d clock (word.InMemory memory.Replay) = ⊥
 IsInputOver h d clock (word.InMemory (memory.Drill number)) = ⊥
-IsInputOver h d clock (word.Kept kept.Schedule) = UnderBoth h (λ c document. Opening d clock c (λ s. IsOver 16777216 h.input))
+IsInputOver h d clock (word.Kept kept.Schedule) = UnderBoth h (λ c document. HoldsOnceOpened d clock c (λ s. IsOver 16777216 h.input))
 IsInputOver h d clock (word.Kept kept.Replay) = ⊥
 IsInputOver h d clock (word.Upkeep upkeep.Make) = ⊥
 IsInputOver h d clock (word.Upkeep upkeep.Truncate) = UnderCatalogue h (λ c. IsOver 65536 h.input)
@@ -135,7 +135,7 @@ IsMalformed h word.Job fault = IsMalformedAs h job_of fault
 -- LINES
 
 -- a run refuses this line, or none, and what is promised of its answers holds: so they tell no more failures of the source than its count rose by
-abbrev pub RefusesSo : Outside → World → Run → Option ℕ → Type 0
+abbrev pub RefusesSo : Outside → RunState → Run → Option ℕ → Type 0
 RefusesSo o w r refused = (r.refused ≡ refused) × IsUpheld o.told o.renders w r
 
 -- A run of the lines of the input from this cabinet refuses this line, or none, under chances that name no more faults of the disk than
@@ -143,14 +143,14 @@ RefusesSo o w r refused = (r.refused ≡ refused) × IsUpheld o.told o.renders w
 abbrev pub RunRefuses : CommandChange → Outside → List ℕ → State → Option ℕ → Type 0
 RunRefuses h o document s refused =
     (chances : List Chance) × RoseBy (disk_faults chances) o.disk.before o.disk.after
-    × IfSome h.input.from (λ text. (length text ≤ 16777216) × RefusesSo o (world_of s document free_seats) (run (world_of s document free_seats) 1 (lines_of text) chances) refused)
+    × IfSome h.input.from (λ text. (length text ≤ 16777216) × RefusesSo o (run_state_of s document free_seats) (run (run_state_of s document free_seats) 1 (lines_of text) chances) refused)
 
 -- so it is of the schedule of a word: it begins with a cabinet in which nothing has happened, or with what the disk opens to
 abbrev pub RefusesLine : CommandChange → DiskChange → Readings → Word → ℕ → Type 0
 RefusesLine h d clock (word.InMemory memory.Schedule) n = UnderBoth h (λ c document. RunRefuses h (without_disk h).outside document (fresh_state c clock) (Some n))
 RefusesLine h d clock (word.InMemory memory.Replay) n = ⊥
 RefusesLine h d clock (word.InMemory (memory.Drill number)) n = ⊥
-RefusesLine h d clock (word.Kept kept.Schedule) n = UnderBoth h (λ c document. Opening d clock c (λ s. RunRefuses h h.outside document s (Some n)))
+RefusesLine h d clock (word.Kept kept.Schedule) n = UnderBoth h (λ c document. HoldsOnceOpened d clock c (λ s. RunRefuses h h.outside document s (Some n)))
 RefusesLine h d clock (word.Kept kept.Replay) n = ⊥
 RefusesLine h d clock (word.Upkeep w) n = ⊥
 RefusesLine h d clock word.Job n = ⊥
@@ -182,7 +182,7 @@ BreaksStream h d clock (word.InMemory memory.Schedule) end = ⊥
 BreaksStream h d clock (word.InMemory memory.Replay) end = UnderBoth h (λ c document. BreaksOff h.input.from end)
 BreaksStream h d clock (word.InMemory (memory.Drill number)) end = ⊥
 BreaksStream h d clock (word.Kept kept.Schedule) end = ⊥
-BreaksStream h d clock (word.Kept kept.Replay) end = UnderBoth h (λ c document. Opening d clock c (λ s. BreaksOff h.input.from end))
+BreaksStream h d clock (word.Kept kept.Replay) end = UnderBoth h (λ c document. HoldsOnceOpened d clock c (λ s. BreaksOff h.input.from end))
 BreaksStream h d clock (word.Upkeep w) end = ⊥
 BreaksStream h d clock word.Job end = ⊥
 
@@ -190,7 +190,7 @@ BreaksStream h d clock word.Job end = ⊥
 
 -- the one cut of a cover, on what the disk opens to, has this reply
 abbrev pub CutReplies : DiskChange → Readings → Catalogue → Cover → CutReply → Type 0
-CutReplies d clock c cover reply = Opening d clock c (λ s. (u : State) × Cuts s cover reply u)
+CutReplies d clock c cover reply = HoldsOnceOpened d clock c (λ s. (u : State) × Cuts s cover reply u)
 
 -- the cache isn't opened for this cause, or no number is left for the one cut
 abbrev pub IsCacheRefused : CommandChange → DiskChange → Readings → Word → OpenFault → Type 0
@@ -219,13 +219,13 @@ abbrev pub IsThrough : CommandChange → DiskChange → Readings → Word → Ty
 IsThrough h d clock (word.InMemory memory.Schedule) = UnderBoth h (λ c document. RunRefuses h (without_disk h).outside document (fresh_state c clock) None)
 IsThrough h d clock (word.InMemory memory.Replay) = UnderBoth h (λ c document. ComesToEnd h.input.from)
 IsThrough h d clock (word.InMemory (memory.Drill number)) = UnderBoth h (λ c document. ⊤)
-IsThrough h d clock (word.Kept kept.Schedule) = UnderBoth h (λ c document. Opening d clock c (λ s. RunRefuses h h.outside document s None))
-IsThrough h d clock (word.Kept kept.Replay) = UnderBoth h (λ c document. Opening d clock c (λ s. ComesToEnd h.input.from))
+IsThrough h d clock (word.Kept kept.Schedule) = UnderBoth h (λ c document. HoldsOnceOpened d clock c (λ s. RunRefuses h h.outside document s None))
+IsThrough h d clock (word.Kept kept.Replay) = UnderBoth h (λ c document. HoldsOnceOpened d clock c (λ s. ComesToEnd h.input.from))
 IsThrough h d clock (word.Upkeep upkeep.Make) = UnderCatalogue h (λ c. ⊤)
 IsThrough h d clock (word.Upkeep upkeep.Truncate) = UnderInput h cover_of (λ c cover. (t : ℕ) × CutReplies d clock c cover (cut.Done t))
-IsThrough h d clock (word.Upkeep upkeep.Expire) = UnderCatalogue h (λ c. Opening d clock c (λ s. ⊤))
-IsThrough h d clock (word.Upkeep upkeep.Usage) = UnderCatalogue h (λ c. Opening d clock c (λ s. ⊤))
-IsThrough h d clock word.Job = UnderInput h job_of (λ c job. Opening d clock c (λ s. ⊤))
+IsThrough h d clock (word.Upkeep upkeep.Expire) = UnderCatalogue h (λ c. HoldsOnceOpened d clock c (λ s. ⊤))
+IsThrough h d clock (word.Upkeep upkeep.Usage) = UnderCatalogue h (λ c. HoldsOnceOpened d clock c (λ s. ⊤))
+IsThrough h d clock word.Job = UnderInput h job_of (λ c job. HoldsOnceOpened d clock c (λ s. ⊤))
 
 -- a status of words that are a command; want of memory alone is free
 abbrev pub IsCaused : CommandChange → DiskChange → Readings → Word → Status → Type 0

@@ -43,13 +43,13 @@ IsFitFor (Some word.Job) text told seen = HoldsFile text told seen
 
 -- What each status says, by what the words ask for; the clock has given this before. Words that are no command touch nothing. Of a run on the cache of
 -- the disk P holds of the cabinet after each line of its schedule, or after each message of its session.
-abbrev pub HasServed : (State → Type 0) → CommandChange → Stays → DiskChange → Type 0 → Readings → Option Word → Status → Type 0
-HasServed P h stays d DiskStays clock None s = stays.catalogue × stays.capabilities × stays.input × stays.output × stays.source × DiskStays
-HasServed P h stays d DiskStays clock (Some (word.InMemory w)) s = MemoryTells (without_disk h) stays clock w s × DiskStays
-HasServed P h stays d DiskStays clock (Some (word.Kept w)) s = RunTells P h stays d DiskStays clock w s
-HasServed P h stays d DiskStays clock (Some (word.Upkeep w)) s =
+abbrev pub StatusSays : (State → Type 0) → CommandChange → Stays → DiskChange → Type 0 → Readings → Option Word → Status → Type 0
+StatusSays P h stays d DiskStays clock None s = stays.catalogue × stays.capabilities × stays.input × stays.output × stays.source × DiskStays
+StatusSays P h stays d DiskStays clock (Some (word.InMemory w)) s = MemoryTells (without_disk h) stays clock w s × DiskStays
+StatusSays P h stays d DiskStays clock (Some (word.Kept w)) s = RunTells P h stays d DiskStays clock w s
+StatusSays P h stays d DiskStays clock (Some (word.Upkeep w)) s =
     UpkeepTells h.catalogue h.input (output_of h.outside) stays d DiskStays clock w s × stays.capabilities × stays.source
-HasServed P h stays d DiskStays clock (Some word.Job) s = JobTells h.catalogue h.input h.outside stays d DiskStays clock s × stays.capabilities
+StatusSays P h stays d DiskStays clock (Some word.Job) s = JobTells h.catalogue h.input h.outside stays d DiskStays clock s × stays.capabilities
 
 -- what a crash leaves, by what the words ask for
 abbrev pub HasLastedBy : CommandChange → DiskChange → Type 0 → Option Word → Type 0
@@ -76,7 +76,7 @@ pub record CommandRun : Type 1 where
 -- own: so what is in order is done, and what is refused of the files is told. At every moment a crash leaves of the disk what the word lets it.
 pub record Commands (P : State → Type 0) (r : CommandRun) : Type 0 where
   pub usage : (r.status ≡ status.Usage) ↔ (r.word ≡ None)
-  pub served : HasServed P r.change r.stays r.disk r.disk_stays r.clock r.word r.status
+  pub served : StatusSays P r.change r.stays r.disk r.disk_stays r.clock r.word r.status
   pub cause : HasCause r.change r.disk r.clock r.word r.status
   pub complete : IsComplete r.change r.disk r.clock r.word r.status
   pub exact : IsExact r.change r.disk r.clock r.word r.status

@@ -17,14 +17,14 @@ use Rattle.http_wire.specs.declared.message.Stop.TheVariants as stop
 use Rattle.http_wire.specs.Exceptions.{AgreeAfter}
 use Rattle.job_forms.specs.declared.fault.JobFault.{JobFault}
 use Rattle.opened_cache.specs.Change.{DiskChange}
-use Rattle.tile_command.specs.Causes.{AreCutsFull, BreaksStream, IsCacheRefused, IsFaulty, IsInputOver, IsMalformed, IsOver, NothingFails, OfDocument, Opening, UnderBoth, UnderCatalogue}
+use Rattle.tile_command.specs.Causes.{AreCutsFull, BreaksStream, HoldsOnceOpened, IsCacheRefused, IsFaulty, IsInputOver, IsMalformed, IsOver, NothingFails, OfDocument, UnderBoth, UnderCatalogue}
 use Rattle.tile_command.specs.Change.{CommandChange, without_disk}
 use Rattle.tile_requests.specs.Requests.{Chance}
 use Rattle.sessions.specs.declared.session.SessionEnd.{SessionEnd}
 use Rattle.sessions.specs.declared.session.SessionEnd.TheVariants as session
 use Rattle.tile_service.specs.Lines.{action_in, lines_of}
 use Rattle.sessions.specs.Outside.{Outside}
-use Rattle.tile_service.specs.Run.{World, disk_faults, free_seats, run, world_of}
+use Rattle.tile_service.specs.Run.{RunState, disk_faults, free_seats, run, run_state_of}
 use Rattle.tile_service.specs.Schedules.{IsUpheld}
 
 -- the files are modelled
@@ -52,7 +52,7 @@ abbrev pub UnderSchedule : CommandChange → DiskChange → Readings → Word �
 UnderSchedule h d clock (word.InMemory memory.Schedule) P = UnderBoth h (λ c document. P (without_disk h).outside document (fresh_state c clock))
 UnderSchedule h d clock (word.InMemory memory.Replay) P = ⊥
 UnderSchedule h d clock (word.InMemory (memory.Drill number)) P = ⊥
-UnderSchedule h d clock (word.Kept kept.Schedule) P = UnderBoth h (λ c document. Opening d clock c (λ s. P h.outside document s))
+UnderSchedule h d clock (word.Kept kept.Schedule) P = UnderBoth h (λ c document. HoldsOnceOpened d clock c (λ s. P h.outside document s))
 UnderSchedule h d clock (word.Kept kept.Replay) P = ⊥
 UnderSchedule h d clock (word.Upkeep w) P = ⊥
 UnderSchedule h d clock word.Job P = ⊥
@@ -63,13 +63,13 @@ OfLines h P = IfSome h.input.from (λ text. (length text ≤ 16777216) × P (lin
 
 -- Each run of these lines refuses this one, under whatever chances that name no more faults of the disk than its count rose by, where what is promised
 -- of its answers holds. What happens by chance isn't told, and can make a difference: an actor for whose message memory ran out isn't busy.
-abbrev pub EachRunRefuses : Outside → World → ℕ → List (List ℕ) → Type 0
+abbrev pub EachRunRefuses : Outside → RunState → ℕ → List (List ℕ) → Type 0
 EachRunRefuses o w n lines =
     (chances : List Chance) → RoseBy (disk_faults chances) o.disk.before o.disk.after → IsUpheld o.told o.renders w (run w 1 lines chances) → (run w 1 lines chances).refused ≡ Some n
 
 -- so it is of the schedule of a word
 abbrev pub RefusesInAll : CommandChange → DiskChange → Readings → Word → ℕ → Type 0
-RefusesInAll h d clock w n = UnderSchedule h d clock w (λ o document s. OfLines h (EachRunRefuses o (world_of s document free_seats) n))
+RefusesInAll h d clock w n = UnderSchedule h d clock w (λ o document s. OfLines h (EachRunRefuses o (run_state_of s document free_seats) n))
 
 -- this one of the lines, counted from 1, is no line of a schedule
 abbrev pub IsIllAt : ℕ → List (List ℕ) → Type 0

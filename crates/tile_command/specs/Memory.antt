@@ -14,7 +14,7 @@ use Rattle.tile_drill.specs.Drill.{Drills}
 use Rattle.tile_service.specs.declared.schedule.ScheduleEnd.{ScheduleEnd}
 use Rattle.sessions.specs.declared.session.SessionEnd.{SessionEnd}
 use Rattle.sessions.specs.Outside.{InputChange, Outside}
-use Rattle.tile_service.specs.Run.{World, free_seats, world_of}
+use Rattle.tile_service.specs.Run.{RunState, free_seats, run_state_of}
 use Rattle.tile_service.specs.Schedules.{Schedules}
 use Rattle.tile_service.specs.Replays.{HasSession}
 
@@ -28,11 +28,11 @@ status_of_drill drill_end.OutOfMemory = status.OutOfMemory
 -- is one that commands can make. A drill reads no input.
 abbrev pub HasWorked : InputChange → Outside → Stays → State → List ℕ → MemoryWord → Status → Type 0
 HasWorked i o stays cabinet document memory.Schedule s =
-    (e : ScheduleEnd) × (s ≡ status_of_schedule e) × (t : World) × IsKnown t.cabinet × Schedules i o (stays.output × stays.source) (world_of cabinet document free_seats) t e
+    (e : ScheduleEnd) × (s ≡ status_of_schedule e) × (t : RunState) × IsKnown t.cabinet × Schedules i o (stays.output × stays.source) (run_state_of cabinet document free_seats) t e
 HasWorked i o stays cabinet document memory.Replay s =
     (e : SessionEnd) × (s ≡ status_of_session e) × (t : State) × IsKnown t × HasSession i o document cabinet t e
 HasWorked i o stays cabinet document (memory.Drill number) s =
-    (e : DrillEnd) × (s ≡ status_of_drill e) × (t : World) × IsKnown t.cabinet × stays.input × Drills o stays.output number (world_of cabinet document free_seats) t e
+    (e : DrillEnd) × (s ≡ status_of_drill e) × (t : RunState) × IsKnown t.cabinet × stays.input × Drills o stays.output number (run_state_of cabinet document free_seats) t e
 
 -- What each status says of a run on a cabinet in memory: it was refused before it began, or done with a cabinet of the catalogue and
 -- the clock in which nothing has happened.

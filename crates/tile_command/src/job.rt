@@ -8,7 +8,7 @@ ghost use Rattle.tile_command.specs.Job.{JobTells};
 ghost use Rattle.tile_command.specs.Kept.{HasLasted};
 
 use base::Clock;
-use command_setup::{configured, status_of_refusal};
+use command_setup::{read_configuration, status_of_refusal};
 use command_status::Status;
 use disk_model::Disk;
 use http_wire::{ByteSink, ByteSource};
@@ -40,7 +40,7 @@ pub fn job_run<S: Source, D: Disk, I: ByteSource, O: ByteSink>(
         (record { told = D.told disk.old; faults = counts (D.faults disk.old) (D.faults disk.new); from = D.state disk.old; to = D.state disk.new })
         (disk.new ≡ disk.old) }
 {
-    match configured(alloc, catalogue) {
+    match read_configuration(alloc, catalogue) {
         Ok(read) => run_job(alloc, read, input, clock, disk, source, output),
         Err(refusal) => status_of_refusal(refusal),
     }

@@ -8,7 +8,7 @@ ghost use Rattle.tile_service.specs.Session.{IsAtRest};
 
 use base::Clock;
 use cabinet::Cabinet;
-use command_setup::{prepared, status_of_refusal};
+use command_setup::{prepare, status_of_refusal};
 use command_status::{Status, status_of_schedule, status_of_session};
 use command_words::MemoryWord;
 use http_wire::{ByteSink, ByteSource};
@@ -30,7 +30,7 @@ fn status_of_drill(end: DrillEnd) -> Status
 
 /// Does the work of a word with a counter at which nothing has happened: runs the lines of the input, serves its bytes as those of
 /// one connection, or makes and runs the lines of a number. Each end comes as `HasWorked` says.
-fn worked<S: Source, I: ByteSource, O: ByteSink>(
+fn do_work<S: Source, I: ByteSource, O: ByteSink>(
     alloc: Global,
     counter: &mut Counter<Cabinet>,
     word: MemoryWord,
@@ -86,9 +86,9 @@ pub fn in_memory<S: Source, I: ByteSource, O: ByteSink>(
         (record { catalogue = (catalogue.new ≡ catalogue.old); capabilities = (capabilities.new ≡ capabilities.old); input = (input.new ≡ input.old); output = (output.new ≡ output.old); source = (source.new ≡ source.old) })
         clock word result }
 {
-    match prepared(alloc, catalogue, capabilities, clock) {
+    match prepare(alloc, catalogue, capabilities, clock) {
         Ok(mut counter) => {
-            let status = worked(alloc, &mut counter, word, source, input, output);
+            let status = do_work(alloc, &mut counter, word, source, input, output);
             drop(counter);
             status
         }

@@ -9,7 +9,7 @@ ghost use Rattle.tile_command.specs.Kept.{HasKeptUp, StepLasts, UpkeepLasts, Upk
 
 use base::Clock;
 use catalog::Catalogue;
-use command_setup::{configured, status_of_refusal};
+use command_setup::{read_configuration, status_of_refusal};
 use command_status::Status;
 use command_words::UpkeepWord;
 use disk_model::Disk;
@@ -69,7 +69,7 @@ pub fn kept_up<D: Disk, I: ByteSource, O: ByteSink>(
         (record { told = D.told disk.old; faults = counts (D.faults disk.old) (D.faults disk.new); from = D.state disk.old; to = D.state disk.new })
         (disk.new ≡ disk.old) word }
 {
-    match configured(alloc, catalogue) {
+    match read_configuration(alloc, catalogue) {
         Ok(read) => step(alloc, word, read, input, output, disk, clock),
         Err(refusal) => status_of_refusal(refusal),
     }

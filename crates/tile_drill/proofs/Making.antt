@@ -6,12 +6,12 @@ use Rattle.std.proofs.lemmas.List.{length-map}
 use Rattle.std.proofs.lemmas.List.Sums.{sum_by-append}
 use Rattle.cabinet.specs.State.{State}
 use Rattle.catalog.specs.Valid.{IsValid}
-use Rattle.tile_service.specs.declared.one_line.LineEnd.{LineEnd}
-use Rattle.tile_service.specs.declared.one_line.LineEnd.TheVariants as line_end
+use Rattle.tile_service.specs.declared.one_line.ScheduleLineEnd.{ScheduleLineEnd}
+use Rattle.tile_service.specs.declared.one_line.ScheduleLineEnd.TheVariants as line_end
 use Rattle.tile_drill.specs.declared.drill_run.MadeEnd.{MadeEnd}
 use Rattle.tile_drill.specs.declared.drill_run.MadeEnd.TheVariants as made_end
-use Rattle.tile_service.specs.declared.seats.Seat.{Seat}
-use Rattle.tile_service.specs.declared.seats.Seat.TheVariants as seat
+use Rattle.tile_service.specs.declared.seats.ActorPlace.{ActorPlace}
+use Rattle.tile_service.specs.declared.seats.ActorPlace.TheVariants as seat
 use Rattle.tile_service.specs.declared.seats.TheConstants.{ACTORS}
 use Rattle.tile_service.specs.declared.cache_tally.CacheResult.{CacheResult}
 use Rattle.tile_service.specs.declared.cache_tally.CacheResult.TheVariants.{Hit, Miss, Other}
@@ -24,7 +24,7 @@ use Rattle.tile_drill.specs.Made.{Made as Line, drawn, made_line}
 use Rattle.tile_service.specs.OneLine.{seat_of}
 use Rattle.sessions.specs.Outside.{Outside, counts}
 use Rattle.tile_requests.specs.Requests.{Chance, calm}
-use Rattle.tile_service.specs.Run.{Answer, PendingRequest, World, answer_text, free_seats, line_done, output_of, run, world_of}
+use Rattle.tile_service.specs.Run.{Answer, PendingRequest, RunState, answer_text, free_seats, line_done, output_of, run, run_state_of}
 use Rattle.tile_service.specs.Seats.{pending_at}
 use Rattle.tile_service.specs.CacheTally.{both, is_hit, is_miss, is_other, one_of, result_of, tally_of, total}
 use Rattle.tile_service.specs.Written.{LineEnds, Writes}
@@ -41,7 +41,7 @@ pub record Moment : Type 0 where
   pub renders : ℕ
   pub cabinet : State
   pub document : List ℕ
-  pub seats : List Seat
+  pub seats : List ActorPlace
   pub x : ℕ
   pub text : List ℕ
 
@@ -50,8 +50,8 @@ abbrev pub seen : Moment → Moment → Outside
 seen a b = record { told = a.told; renders = record { before = a.renders; after = b.renders }; disk = counts 0 0; writes = counts 0 0; from = Some a.text; to = Some b.text }
 
 -- the world at a moment, by what the actors are busy with
-abbrev world_at : Moment → List (Option PendingRequest) → World
-world_at m busy = world_of m.cabinet m.document busy
+abbrev world_at : Moment → List (Option PendingRequest) → RunState
+world_at m busy = run_state_of m.cabinet m.document busy
 
 -- THE SEATS OF THE CODE
 
@@ -62,12 +62,12 @@ busy_same (Some b ∷ busy) zero = refl
 busy_same (b ∷ busy) (suc i) = busy_same busy i
 
 -- the line that the code makes by its seats is the one that is made in the world
-pub makes_at : (now there : Moment) (n : ℕ) (end : LineEnd) (line : List ℕ) → ◌≡◌ {A = Line} (record { line = line; x = there.x }) (made_line now.cabinet.catalogue (is_some (pending_at (slice_get now.seats (drawn 4 now.x)))) now.x)
+pub makes_at : (now there : Moment) (n : ℕ) (end : ScheduleLineEnd) (line : List ℕ) → ◌≡◌ {A = Line} (record { line = line; x = there.x }) (made_line now.cabinet.catalogue (is_some (pending_at (slice_get now.seats (drawn 4 now.x)))) now.x)
     → Writes (seen now there) now.cabinet now.document now.seats n line there.cabinet there.seats end → Makes (seen now there) now.cabinet now.document now.seats n now.x there.cabinet there.seats there.x end
 makes_at now there n end line e k busy is =
     let d = k busy is in
     let same = e ∙ ap (λ b. made_line now.cabinet.catalogue b now.x) (ap (λ ss. is_some (pending_at (slice_get ss (drawn 4 now.x)))) (sym is.same) ∙ busy_same busy (drawn 4 now.x)) in
-    (d.0, d.1, subst (λ l. LineEnds (seen now there) (world_at now busy) n l (world_of there.cabinet now.document d.0) end) (ap (λ m. m.line) same) d.2, ap (λ m. m.x) same)
+    (d.0, d.1, subst (λ l. LineEnds (seen now there) (world_at now busy) n l (run_state_of there.cabinet now.document d.0) end) (ap (λ m. m.line) same) d.2, ap (λ m. m.x) same)
 
 -- COUNTS
 
@@ -128,22 +128,22 @@ drilled_start {start} free empty =
 -- ONE LINE MORE
 
 -- the next line was made and run, and ended so
-pub record RanMade (now there : Moment) (lines : ℕ) (end : LineEnd) : Type 0 where
+pub record RanMade (now there : Moment) (lines : ℕ) (end : ScheduleLineEnd) : Type 0 where
   pub told : there.told ≡ now.told
   pub document : there.document ≡ now.document
   pub makes : Makes (seen now there) now.cabinet now.document now.seats (lines + 1) now.x there.cabinet there.seats there.x end
 
 -- one line, and then others
-one_made : (t u : World) (n x later : ℕ) (c : Chance) (news : List Answer) → line_done t n c (action_in (made t x).line) ≡ Some (u, news) → later ≡ (made t x).x
+one_made : (t u : RunState) (n x later : ℕ) (c : Chance) (news : List Answer) → line_done t n c (action_in (made t x).line) ≡ Some (u, news) → later ≡ (made t x).x
     → (count : ℕ) (more : List Chance) → made_lines (suc count) t n x (c ∷ more) ≡ (made t x).line ∷ made_lines count u (n + 1) later more
 unfolding made_lines
 one_made t u n x later c news e draws count more = rw (e, draws) refl
 
-none_made : (t : World) (n x : ℕ) (more : List Chance) → made_lines 0 t n x more ≡ []
+none_made : (t : RunState) (n x : ℕ) (more : List Chance) → made_lines 0 t n x more ≡ []
 unfolding made_lines
 none_made t n x more = refl
 
-module _ {start now there : Moment} {lines : ℕ} {tally : CacheTally} {end : LineEnd} (f : HasDrilled start now lines tally) (l : RanMade now there lines end) where
+module _ {start now there : Moment} {lines : ℕ} {tally : CacheTally} {end : ScheduleLineEnd} (f : HasDrilled start now lines tally) (l : RanMade now there lines end) where
   -- the line that is made in the world so far, and how it ended there
   abbrev line : Line
   line = made (world_at now f.busy) now.x
@@ -151,9 +151,9 @@ module _ {start now there : Moment} {lines : ℕ} {tally : CacheTally} {end : Li
   line_ended : (later : List (Option PendingRequest)) × (map seat_of later ≡ there.seats) × LineEnds (seen now there) (world_at now f.busy) (lines + 1) line.line (world_at there later) end × (there.x ≡ line.x)
   line_ended =
       let d = l.makes f.busy (record { same = f.seated; world = f.far.world }) in
-      (d.0, d.1, subst (λ x. LineEnds (seen now there) (world_at now f.busy) (lines + 1) line.line (world_of there.cabinet x d.0) end) (sym l.document) d.2, d.3)
+      (d.0, d.1, subst (λ x. LineEnds (seen now there) (world_at now f.busy) (lines + 1) line.line (run_state_of there.cabinet x d.0) end) (sym l.document) d.2, d.3)
 
-pub drilled_next : {start now there : Moment} {lines : ℕ} {tally : CacheTally} {answered : Option CacheResult} {end : LineEnd} → HasDrilled start now lines tally → RanMade now there lines end → end ≡ line_end.Done answered
+pub drilled_next : {start now there : Moment} {lines : ℕ} {tally : CacheTally} {answered : Option CacheResult} {end : ScheduleLineEnd} → HasDrilled start now lines tally → RanMade now there lines end → end ≡ line_end.Done answered
     → HasDrilled start there (lines + 1) (both tally (one_of answered))
 drilled_next {start} {now} {there} {lines} {tally} {answered} f l is =
     let d = line_ended f (subst (RanMade now there lines) is l) in
@@ -179,7 +179,7 @@ drilled_next {start} {now} {there} {lines} {tally} {answered} f l is =
     }
 
 -- in a valid catalogue the line is not refused
-pub drilled_accepted : {start now there : Moment} {lines : ℕ} {tally : CacheTally} {end : LineEnd} → HasDrilled start now lines tally → RanMade now there lines end → end ≡ line_end.Refused → IsValid now.cabinet.catalogue → length now.seats ≡ ACTORS → ⊥
+pub drilled_accepted : {start now there : Moment} {lines : ℕ} {tally : CacheTally} {end : ScheduleLineEnd} → HasDrilled start now lines tally → RanMade now there lines end → end ≡ line_end.Refused → IsValid now.cabinet.catalogue → length now.seats ≡ ACTORS → ⊥
 drilled_accepted {now = now} {there} {lines} f l is valid long =
     let d = line_ended f (subst (RanMade now there lines) is l) in
     let few : 4 ≤ length f.busy = let e = ap length f.seated in let m = length-map f.busy seat_of in omega arith in

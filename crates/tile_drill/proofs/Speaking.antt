@@ -19,7 +19,7 @@ use Rattle.tile_drill.specs.Drill.{made}
 use Rattle.tile_service.specs.Lines.{action_in, action_with, says_nothing}
 use Rattle.tile_drill.specs.Made.{Aimed, aimed_at, cols_at, cover_text, drawn, line_of_actor, made_idle, next_x, rows_at, said, target_of}
 use Rattle.tile_requests.specs.Requests.{Chance}
-use Rattle.tile_service.specs.Run.{Answer, PendingRequest, World, if_free, line_done, stepped}
+use Rattle.tile_service.specs.Run.{Answer, PendingRequest, RunState, if_free, line_done, stepped}
 use Rattle.tile_drill.proofs.Plain.{plain_cover, plain_target}
 
 -- LINES
@@ -151,10 +151,10 @@ idle_does c a actor x l =
     let s = says a.aim a.layer a.style a.grid z row col (drawn_small _ _) (drawn_small _ _) (drawn_small _ _) (drawn 16 x) in
     (s.verb, s.sends, does_said actor (said a.aim (drawn 16 x) z row col) s.verb l s.short s.spelt)
 
-free_done : (o : Option (Option PendingRequest)) (d : World × List Answer) → o ≡ Some None → if_free o d ≡ None → ⊥
+free_done : (o : Option (Option PendingRequest)) (d : RunState × List Answer) → o ≡ Some None → if_free o d ≡ None → ⊥
 free_done o d free e = none-some d (sym e ∙ ap (λ p. if_free p d) free)
 
-sends_done : (w : World) (n : ℕ) (c : Chance) (i : ℕ) (verb : Verb) (rest : List ℕ) → (verb ≡ Step → ⊥) → slice_get w.seats i ≡ Some None → line_done w n c (Some (action_with i verb rest)) ≡ None → ⊥
+sends_done : (w : RunState) (n : ℕ) (c : Chance) (i : ℕ) (verb : Verb) (rest : List ℕ) → (verb ≡ Step → ⊥) → slice_get w.seats i ≡ Some None → line_done w n c (Some (action_with i verb rest)) ≡ None → ⊥
 sends_done w n c i Get rest k free e = free_done _ _ free e
 sends_done w n c i Ask rest k free e = free_done _ _ free e
 sends_done w n c i Force rest k free e = free_done _ _ free e
@@ -162,7 +162,7 @@ sends_done w n c i Step rest k free e = k refl
 sends_done w n c i Truncate rest k free e = free_done _ _ free e
 sends_done w n c i Expire rest k free e = free_done _ _ free e
 
-module _ (w : World) (n : ℕ) (c : Chance) (x : ℕ) (refused : line_done w n c (action_in (made w x).line) ≡ None) where
+module _ (w : RunState) (n : ℕ) (c : Chance) (x : ℕ) (refused : line_done w n c (action_in (made w x).line) ≡ None) where
   refused_as : (line : List ℕ) (verb : Verb) (d : Does (drawn 4 x) verb line) → (made w x).line ≡ line → line_done w n c (Some (action_with (drawn 4 x) verb d.0)) ≡ None
   refused_as line verb d e = subst (λ o. line_done w n c o ≡ None) (ap action_in e ∙ d.1) refused
 
@@ -179,12 +179,12 @@ module _ (w : World) (n : ℕ) (c : Chance) (x : ℕ) (refused : line_done w n c
       let line : (made w x).line ≡ line_of_actor (drawn 4 x) (codes "STEP") = rw busy refl in
       none-some _ (sym (refused_as _ Step d line) ∙ ap (λ o. stepped w n c (drawn 4 x) o) busy)
 
-none_refused : (w : World) (n : ℕ) (c : Chance) (x : ℕ) → IsValid w.cabinet.catalogue → (seat : Option PendingRequest) → slice_get w.seats (drawn 4 x) ≡ Some seat → line_done w n c (action_in (made w x).line) ≡ None → ⊥
+none_refused : (w : RunState) (n : ℕ) (c : Chance) (x : ℕ) → IsValid w.cabinet.catalogue → (seat : Option PendingRequest) → slice_get w.seats (drawn 4 x) ≡ Some seat → line_done w n c (action_in (made w x).line) ≡ None → ⊥
 none_refused w n c x v None at e = idle_done w n c x e v at
 none_refused w n c x v (Some b) at e = busy_done w n c x e b at
 
 -- in a valid catalogue a made line is never refused
-pub never_refused : (w : World) (n : ℕ) (c : Chance) (x : ℕ) → IsValid w.cabinet.catalogue → 4 ≤ length w.seats → line_done w n c (action_in (made w x).line) ≡ None → ⊥
+pub never_refused : (w : RunState) (n : ℕ) (c : Chance) (x : ℕ) → IsValid w.cabinet.catalogue → 4 ≤ length w.seats → line_done w n c (action_in (made w x).line) ≡ None → ⊥
 never_refused w n c x v l e =
     let i = drawn_actor x in
     none_refused w n c x v (get_or w.seats (drawn 4 x) None) (slice_get-get_or w.seats (drawn 4 x) None (omega arith)) e

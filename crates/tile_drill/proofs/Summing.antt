@@ -8,7 +8,7 @@ use Rattle.base.specs.Causes.{Rose}
 use Rattle.sha2.specs.Sha256.{sha256}
 use Rattle.tile_drill.specs.declared.drill.DrillEnd.TheVariants.{Done, OutOfMemory, WriteFault}
 use Rattle.tile_drill.specs.declared.drill_run.MadeEnd.TheVariants as made_end
-use Rattle.tile_service.specs.declared.seats.Seat.TheVariants as seat
+use Rattle.tile_service.specs.declared.seats.ActorPlace.TheVariants as seat
 use Rattle.tile_service.specs.declared.seats.TheConstants.{ACTORS}
 use Rattle.tile_service.specs.declared.cache_tally.CacheResult.{CacheResult}
 use Rattle.tile_service.specs.declared.cache_tally.CacheResult.TheVariants.{Hit, Miss, Other}
@@ -16,7 +16,7 @@ use Rattle.tile_service.specs.declared.cache_tally.CacheTally.{CacheTally}
 use Rattle.tile_drill.specs.Drill.{Drills, counts_text, digest_text, drill_run, line_count, summary}
 use Rattle.tile_drill.specs.Drilling.{HasMade}
 use Rattle.sessions.specs.Outside.{FaultCounts, Outside, counts}
-use Rattle.tile_service.specs.Run.{Answer, Run, World, closed, free_seats, left_by, output_of, world_of}
+use Rattle.tile_service.specs.Run.{Answer, Run, RunState, closed, free_seats, left_by, output_of, run_state_of}
 use Rattle.tile_requests.specs.Sent.{AppendsFront}
 use Rattle.tile_service.specs.CacheTally.{is_hit, is_miss, is_other, result_of, tally_of, total}
 use Rattle.tile_drill.proofs.Making.{Moment, all_drilled, drilled_start}
@@ -49,7 +49,7 @@ outside told renders writes from to = record { told = told; renders = renders; d
 abbrev no_faults : FaultCounts
 no_faults = record { before = 0; after = 0 }
 
-module _ {told : Option ℕ} {renders : FaultCounts} {number : ℕ} {w last t : World} {tally : CacheTally} {digest : List ℕ}
+module _ {told : Option ℕ} {renders : FaultCounts} {number : ℕ} {w last t : RunState} {tally : CacheTally} {digest : List ℕ}
     (h : HasMade told renders w number last (made_end.Done tally digest)) (closes : t ≡ closed last) where
   its_text : counts_text number (total tally) tally ++ digest_text digest ≡ summary w.capabilities number (drill_run line_count w number h.0)
   its_text = summary_is w.capabilities number (drill_run line_count w number h.0) tally digest h.3 h.4
@@ -62,7 +62,7 @@ module _ {told : Option ℕ} {renders : FaultCounts} {number : ℕ} {w last t : 
   drills_cut from to before after sent rose = (h.0, last, h.1, closes, subst (AppendsFront from to) its_text sent, rose)
 
 -- memory ran out for a line
-pub drills_short : {Stays : Type 0} {told : Option ℕ} {renders : FaultCounts} {number : ℕ} {w last t : World} → HasMade told renders w number last made_end.OutOfMemory → t ≡ closed last → Stays
+pub drills_short : {Stays : Type 0} {told : Option ℕ} {renders : FaultCounts} {number : ℕ} {w last t : RunState} → HasMade told renders w number last made_end.OutOfMemory → t ≡ closed last → Stays
     → Drills (outside told renders no_faults None None) Stays number w t OutOfMemory
 drills_short {last = last} h closes stays = (h.0, h.1, h.2, last, h.3, closes, stays)
 
@@ -72,8 +72,8 @@ none_left s (suc n) = none_left s n
 
 -- before the first line
 pub drills_nothing : {Stays : Type 0} (told : Option ℕ) (renders number : ℕ) (s : State) (document : List ℕ) → Stays
-    → Drills (outside told (record { before = renders; after = renders }) no_faults None None) Stays number (world_of s document free_seats) (world_of s document free_seats) OutOfMemory
+    → Drills (outside told (record { before = renders; after = renders }) no_faults None None) Stays number (run_state_of s document free_seats) (run_state_of s document free_seats) OutOfMemory
 drills_nothing told renders number s document stays =
     let start : Moment = record { told = told; renders = renders; cabinet = s; document = document; seats = replicate ACTORS seat.Free; x = number; text = [] } in
     let drilled = drilled_start {start = start} refl refl in
-    (0, omega arith, [], world_of s document free_seats, all_drilled drilled, sym (ap (λ u. world_of u document free_seats) (none_left s ACTORS)), stays)
+    (0, omega arith, [], run_state_of s document free_seats, all_drilled drilled, sym (ap (λ u. run_state_of u document free_seats) (none_left s ACTORS)), stays)

@@ -12,7 +12,7 @@ use Rattle.tile_service.specs.Lines.{action_in}
 use Rattle.tile_drill.specs.Made.{Made, drawn, made_line}
 use Rattle.sessions.specs.Outside.{FaultCounts, Outside}
 use Rattle.tile_requests.specs.Requests.{Chance}
-use Rattle.tile_service.specs.Run.{Answer, IsFaultless, PendingRequest, Run, World, closed, first_of, line_done, output_of, rest_of, run}
+use Rattle.tile_service.specs.Run.{Answer, IsFaultless, PendingRequest, Run, RunState, closed, first_of, line_done, output_of, rest_of, run}
 use Rattle.tile_service.specs.Schedules.{IsUpheld}
 use Rattle.tile_requests.specs.Sent.{AppendsFront}
 use Rattle.tile_service.specs.CacheTally.{tally_of}
@@ -25,16 +25,16 @@ is_busy (Some None) = false
 is_busy (Some (Some b)) = true
 
 -- the line that is made in a world, where x is the number of the draws before it
-abbrev pub made : World → ℕ → Made
+abbrev pub made : RunState → ℕ → Made
 made w x = made_line w.cabinet.catalogue (is_busy (slice_get w.seats (drawn 4 x))) x
 
 -- after a refused line none is made
-abbrev pub lines_behind : Option (World × List Answer) → (World → List (List ℕ)) → List (List ℕ)
+abbrev pub lines_behind : Option (RunState × List Answer) → (RunState → List (List ℕ)) → List (List ℕ)
 lines_behind None on = []
 lines_behind (Some done) on = on done.0
 
 -- So many lines, of which the first has the number n: each is made in the world to which those before it came.
-unfoldable pub made_lines : ℕ → World → ℕ → ℕ → List Chance → List (List ℕ)
+unfoldable pub made_lines : ℕ → RunState → ℕ → ℕ → List Chance → List (List ℕ)
 made_lines zero w n x cs = []
 made_lines (suc count) w n x cs = (made w x).line ∷ lines_behind (line_done w n (first_of cs) (action_in (made w x).line)) (λ t. made_lines count t (n + 1) (made w x).x (rest_of cs))
 
@@ -45,16 +45,16 @@ abbrev pub line_count : ℕ
 line_count = 4096
 
 -- the first lines of the drill of a number
-abbrev pub drill_lines : ℕ → World → ℕ → List Chance → List (List ℕ)
+abbrev pub drill_lines : ℕ → RunState → ℕ → List Chance → List (List ℕ)
 drill_lines count w number chances = made_lines count w 1 number chances
 
 -- they are run as the lines of a schedule
-abbrev pub drill_run : ℕ → World → ℕ → List Chance → Run
+abbrev pub drill_run : ℕ → RunState → ℕ → List Chance → Run
 drill_run count w number chances = run w 1 (drill_lines count w number chances) chances
 
 -- From w so many lines of the drill were run under these chances; none was refused, and what is promised of the answers holds. The
 -- cabinet is one in memory: no chance names a fault of a disk.
-pub record IsDrilled (told : Option ℕ) (renders : FaultCounts) (w : World) (number count : ℕ) (chances : List Chance) (t : World) : Type 0 where
+pub record IsDrilled (told : Option ℕ) (renders : FaultCounts) (w : RunState) (number count : ℕ) (chances : List Chance) (t : RunState) : Type 0 where
   pub ends : (drill_run count w number chances).refused ≡ None
   pub world : t ≡ (drill_run count w number chances).world
   pub faultless : AllByRecursion IsFaultless chances
@@ -77,12 +77,12 @@ summary document number r = counts_text number (length r.answers) (tally_of r.an
 -- ENDS
 
 -- what each end says; `Stays` is that the output stays as it is
-abbrev pub Drills : Outside → Type 0 → ℕ → World → World → DrillEnd → Type 0
+abbrev pub Drills : Outside → Type 0 → ℕ → RunState → RunState → DrillEnd → Type 0
 Drills o Stays number w t Done =
-    (chances : List Chance) × (last : World) × IsDrilled o.told o.renders w number line_count chances last × (t ≡ closed last)
+    (chances : List Chance) × (last : RunState) × IsDrilled o.told o.renders w number line_count chances last × (t ≡ closed last)
     × (length (drill_lines line_count w number chances) ≡ line_count) × Appends o.from o.to (summary w.capabilities number (drill_run line_count w number chances))
 Drills o Stays number w t WriteFault =
-    (chances : List Chance) × (last : World) × IsDrilled o.told o.renders w number line_count chances last × (t ≡ closed last)
+    (chances : List Chance) × (last : RunState) × IsDrilled o.told o.renders w number line_count chances last × (t ≡ closed last)
     × AppendsFront o.from o.to (summary w.capabilities number (drill_run line_count w number chances)) × Rose o.writes.before o.writes.after
 Drills o Stays number w t OutOfMemory =
-    (count : ℕ) × (count ≤ line_count) × (chances : List Chance) × (last : World) × IsDrilled o.told o.renders w number count chances last × (t ≡ closed last) × Stays
+    (count : ℕ) × (count ≤ line_count) × (chances : List Chance) × (last : RunState) × IsDrilled o.told o.renders w number count chances last × (t ≡ closed last) × Stays

@@ -3,7 +3,7 @@ ghost use Rattle.std.specs.Prelude.{◌≡◌};
 ghost use Rattle.catalog.specs.Valid.{IsValid};
 ghost use Rattle.sessions.specs.Outside.{counts};
 ghost use Rattle.tile_drill.specs.Drill.{Drills};
-ghost use Rattle.tile_service.specs.Run.{free_seats, world_of};
+ghost use Rattle.tile_service.specs.Run.{free_seats, run_state_of};
 
 use crate::drill_run::{MadeEnd, run_made_lines};
 use crate::summary::send_summary;
@@ -38,7 +38,7 @@ pub fn run_drill<S: Source, O: ByteSink>(
     ensures { Drills
         (record { told = S.told source.old; renders = record { before = S.faults source.old; after = S.faults source.new }; disk = counts 0 0; writes = record { before = O.faults output.old; after = O.faults output.new }; from = O.taken output.old; to = O.taken output.new })
         (output.new ≡ output.old) number
-        (world_of counter.old.cabinet counter.old.capabilities free_seats) (world_of counter.new.cabinet counter.new.capabilities free_seats) result }
+        (run_state_of counter.old.cabinet counter.old.capabilities free_seats) (run_state_of counter.new.cabinet counter.new.capabilities free_seats) result }
 {
     let Ok(mut seats) = free_seats(alloc) else {
         return DrillEnd::OutOfMemory;

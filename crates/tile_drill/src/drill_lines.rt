@@ -9,17 +9,17 @@ use crate::draws::Draws;
 use catalog::{Catalogue, Dimension, Grid, Layer, Style};
 use std::alloc::{AllocError, Global};
 use tile_requests::push_number;
-use tile_service::{Seat, is_busy};
+use tile_service::{ActorPlace, is_busy};
 
 /// What a drill asks for: the first layer, its first style, and the first of its grids.
 #[derive(Clone, Copy)]
-pub struct Aim<'a> {
+pub struct DrillAim<'a> {
     pub layer: &'a Layer,
     pub style: &'a Style,
     pub grid: &'a Grid,
 }
 
-fn aim_of(catalogue: &Catalogue) -> Option<Aim<'_>>
+fn aim_of(catalogue: &Catalogue) -> Option<DrillAim<'_>>
     requires { IsValid catalogue.now }
     ensures aim { option_map shown_aim result ≡ aimed_at catalogue.now }
     ensures some { IsSome result }
@@ -29,7 +29,7 @@ fn aim_of(catalogue: &Catalogue) -> Option<Aim<'_>>
     let style = layer.styles.get(0)?;
     let number = layer.grids.get(0)?;
     let grid = catalogue.grids.get(*number as usize)?;
-    Some(Aim { layer, style, grid })
+    Some(DrillAim { layer, style, grid })
 }
 
 /// The name of a matrix.
@@ -117,7 +117,7 @@ fn add_dimensions(text: &mut Vec<u8>, dimensions: &[Dimension]) -> Result<(), Al
 #[tactic(auto, unfolding(crate::specs::Made::target_of))]
 fn add_target(
     text: &mut Vec<u8>,
-    aim: &Aim<'_>,
+    aim: &DrillAim<'_>,
     z: u32,
     row: u32,
     col: u32,
@@ -143,7 +143,7 @@ fn add_target(
 
 /// Adds the cover of the layer on this one matrix of the grid.
 #[tactic(auto, unfolding(crate::specs::Made::cover_text))]
-fn add_cover(text: &mut Vec<u8>, aim: &Aim<'_>, z: u32) -> Result<(), AllocError>
+fn add_cover(text: &mut Vec<u8>, aim: &DrillAim<'_>, z: u32) -> Result<(), AllocError>
     ensures { OnOk result (text.new.items ≡ text.old.items ++ cover_text (shown_aim aim.now) z) }
 {
     add_pair(text, b"{\"layer\":\"", aim.layer.id.bytes())?;
@@ -158,7 +158,7 @@ fn add_cover(text: &mut Vec<u8>, aim: &Aim<'_>, z: u32) -> Result<(), AllocError
 fn add_request(
     text: &mut Vec<u8>,
     verb: &[u8],
-    aim: &Aim<'_>,
+    aim: &DrillAim<'_>,
     z: u32,
     row: u32,
     col: u32,
@@ -170,7 +170,7 @@ fn add_request(
 }
 
 /// Adds a truncation of the layer on this one matrix of the grid.
-fn add_truncation(text: &mut Vec<u8>, aim: &Aim<'_>, z: u32) -> Result<(), AllocError>
+fn add_truncation(text: &mut Vec<u8>, aim: &DrillAim<'_>, z: u32) -> Result<(), AllocError>
     ensures { OnOk result (text.new.items ≡ text.old.items ++ codes "TRUNCATE " ++ cover_text (shown_aim aim.now) z) }
 {
     text.extend_from_slice(b"TRUNCATE ")?;
@@ -181,7 +181,7 @@ fn add_truncation(text: &mut Vec<u8>, aim: &Aim<'_>, z: u32) -> Result<(), Alloc
 #[tactic(auto, unfolding(crate::specs::Made::said))]
 fn add_said(
     text: &mut Vec<u8>,
-    aim: &Aim<'_>,
+    aim: &DrillAim<'_>,
     kind: u32,
     z: u32,
     row: u32,
@@ -211,7 +211,7 @@ fn front_of(alloc: Global, actor: u32) -> Result<Vec<u8>, AllocError>
 /// The line of an actor that is not busy.
 fn idle_line(
     alloc: Global,
-    aim: &Aim<'_>,
+    aim: &DrillAim<'_>,
     actor: u32,
     draws: &mut Draws,
 ) -> Result<Vec<u8>, AllocError>
@@ -233,7 +233,7 @@ fn idle_line(
 pub fn made_line(
     alloc: Global,
     catalogue: &Catalogue,
-    seats: &[Seat],
+    seats: &[ActorPlace],
     draws: &mut Draws,
 ) -> Result<Vec<u8>, AllocError>
     requires { IsValid catalogue.now }

@@ -4,7 +4,7 @@ ghost use Rattle.catalog.specs.Valid.{IsValid};
 ghost use Rattle.sessions.specs.Outside.{counts};
 ghost use Rattle.tile_drill.specs.Drilling.{HasMade, Makes};
 ghost use Rattle.tile_service.specs.OneLine.{IsSeated, seat_of};
-ghost use Rattle.tile_service.specs.Run.{PendingRequest, free_seats, world_of};
+ghost use Rattle.tile_service.specs.Run.{PendingRequest, free_seats, run_state_of};
 
 use crate::digest_sink::DigestSink;
 use crate::draws::Draws;
@@ -12,7 +12,7 @@ use crate::drill_lines::made_line;
 use cabinet::Cabinet;
 use source_render::Source;
 use std::alloc::{AllocError, Global};
-use tile_service::{ACTORS, CacheTally, Counter, LineEnd, Seat, run_line};
+use tile_service::{ACTORS, ActorPlace, CacheTally, Counter, ScheduleLineEnd, run_line};
 
 /// How many lines a drill has.
 pub const DRILL_LINES: u64 = 4096;
@@ -30,12 +30,12 @@ pub enum MadeEnd {
 fn run_made_line<S: Source>(
     alloc: Global,
     counter: &mut Counter<Cabinet>,
-    seats: &mut [Seat],
+    seats: &mut [ActorPlace],
     source: &mut S,
     output: &mut DigestSink,
     draws: &mut Draws,
     n: u64,
-) -> Result<LineEnd, AllocError>
+) -> Result<ScheduleLineEnd, AllocError>
     requires valid { IsValid counter.old.cabinet.catalogue }
     requires seated { (busy : List (Option PendingRequest)) × IsSeated counter.old.cabinet counter.old.capabilities seats.old busy }
     ensures makes { IfOk result (λ end. Makes
@@ -54,14 +54,14 @@ fn run_made_line<S: Source>(
 pub fn run_made_lines<S: Source>(
     alloc: Global,
     counter: &mut Counter<Cabinet>,
-    seats: &mut [Seat],
+    seats: &mut [ActorPlace],
     source: &mut S,
     number: u32,
 ) -> MadeEnd
     requires valid { IsValid counter.old.cabinet.catalogue }
-    requires free { seats.old ≡ replicate ACTORS Seat.Free }
+    requires free { seats.old ≡ replicate ACTORS ActorPlace.Free }
     ensures made { (busy : List (Option PendingRequest)) × (map seat_of busy ≡ seats.new) × HasMade (S.told source.old) (record { before = S.faults source.old; after = S.faults source.new })
-        (world_of counter.old.cabinet counter.old.capabilities free_seats) number (world_of counter.new.cabinet counter.new.capabilities busy) result }
+        (run_state_of counter.old.cabinet counter.old.capabilities free_seats) number (run_state_of counter.new.cabinet counter.new.capabilities busy) result }
     ensures capabilities { counter.new.capabilities ≡ counter.old.capabilities }
 {
     let mut draws = Draws {
@@ -81,11 +81,11 @@ pub fn run_made_lines<S: Source>(
             &mut draws,
             lines,
         ) {
-            Ok(LineEnd::Done(told)) => tally.count(told),
+            Ok(ScheduleLineEnd::Done(told)) => tally.count(told),
             // A made line says what its actor may do.
-            Ok(LineEnd::Refused) => unreachable!(),
+            Ok(ScheduleLineEnd::Refused) => unreachable!(),
             // A digest takes every byte.
-            Ok(LineEnd::WriteFault) => unreachable!(),
+            Ok(ScheduleLineEnd::WriteFault) => unreachable!(),
             Err(_) => return MadeEnd::OutOfMemory,
         }
     }

@@ -28,7 +28,7 @@ use Rattle.raster_field.specs.Blocks.{IsMeta, blob_size, block_of, factors_at, f
 use Rattle.raster_field.proofs.Firsts.{first_in}
 use Rattle.raster_field.proofs.Metas.{its_plan, parts}
 use Rattle.turnstile.specs.declared.view.Made.{Made}
-use Rattle.tile_requests.specs.Events.{EndsAs, RunsTo, ended_so}
+use Rattle.tile_requests.specs.Events.{RefreshEndsAs, RunsTo, ended_so}
 use Rattle.tile_requests.proofs.LoneTurns.{HasTicket, asked_hit, asked_spent, asked_ticket, at_once, begins_not, busy_never, failed_runs, force_never_busy, forced_spent, forced_ticket, rendered_runs, starved_runs}
 
 -- THE FIRST TILE of a metatile
@@ -83,7 +83,7 @@ module _ (x y : Shown) (meta : MetaKey) (valid : IsValid x.state.catalogue) (of 
 
   module _ (force : Bool) (before after : ℕ) (later : before ≤ after) where
     abbrev Comes : Result Refreshed GetFault → Type 0
-    Comes result = (o : TileOutcome) × RunsTo before after x.faults y.faults x.state first force o y.state × EndsAs result o
+    Comes result = (o : TileOutcome) × RunsTo before after x.faults y.faults x.state first force o y.state × RefreshEndsAs result o
 
     left_comes : (ask : Made Note) (ends : List (Made Note)) (k : ℕ) → IsLeft c meta force ask ends k → AreSteps c x (ask ∷ ends) y → Comes (Ok (AlreadyKept k))
     left_comes ask ends k h steps =

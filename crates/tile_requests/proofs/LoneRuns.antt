@@ -23,7 +23,7 @@ use Rattle.metatile_locks.specs.Tickets.{Ticketed}
 use Rattle.raster_field.specs.Blocks.{blob_size, tile_part}
 use Rattle.turnstile.specs.declared.view.Made.{Made}
 use Rattle.tile_requests.specs.declared.request.Mode.TheVariants.{Gets}
-use Rattle.tile_requests.specs.Events.{Opens, RunsTo, ended_by, ended_so}
+use Rattle.tile_requests.specs.Events.{BeginsByLine, RunsTo, ended_by, ended_so}
 use Rattle.tile_requests.proofs.LoneTurns.{HasTicket, asked_hit, asked_spent, asked_ticket, at_once, begins_not, busy_never, failed_runs, rendered_runs, starved_runs}
 use Rattle.tile_requests.proofs.Opening.{opens_gets}
 
@@ -119,7 +119,7 @@ got_true c Sound a x gained (Err OutOfMemory) h sound = tt
 
 pub get_opens : (told : Option ℕ) (x y : Shown) (a : Address) (before after : ℕ) (gained : List (Made Note)) (result : Result Tile GetFault) → IsTile x.state.catalogue a → IsAtRest x.state → AreSteps x.state.catalogue x gained y
     → IsGot x.state.catalogue (IsSound x.state × (told ≡ Some x.state.catalogue.source)) a (fronted (now x.state)) gained result → before ≤ after → IfErr result (λ e. e ≡ SourceFault → Rose before after)
-    → (told ≡ Some x.state.catalogue.source → IsSound x.state → IsSound y.state) → Opens told before after x.faults y.faults x.state a Gets (ended_so (ended_by result)) y.state
+    → (told ≡ Some x.state.catalogue.source → IsSound x.state → IsSound y.state) → BeginsByLine told before after x.faults y.faults x.state a Gets (ended_so (ended_by result)) y.state
 get_opens told x y a before after gained result tile rest steps got later cause still =
     let Sound = IsSound x.state × (told ≡ Some x.state.catalogue.source) in
     let r = get_runs x y a tile rest before after later Sound gained result steps got cause in

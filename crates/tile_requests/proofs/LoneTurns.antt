@@ -2,7 +2,7 @@
 use Rattle.std.proofs.Common.{◌≡◌, ◌≤◌, ℕ, Bool, true, false, List, [], length, Option, Some, None, inl, inr, refl, sym, ap, ◌∙◌, subst, append-nil, arith}
 use Rattle.std.specs.Prelude.{IsSome}
 use Rattle.cabinet.specs.Commands.{Abandons, Asks, Finishes, Forces, IsFreshForced, IsFreshReply, IsTrueHit, IsUnread}
-use Rattle.cabinet.specs.declared.entry.Entry.TheVariants as entry
+use Rattle.cabinet.specs.declared.entry.HistoryEntry.TheVariants as entry
 use Rattle.cabinet.specs.declared.replies.Asked.{Asked}
 use Rattle.cabinet.specs.declared.replies.Asked.TheVariants as asked
 use Rattle.cabinet.specs.declared.replies.Forced.{Forced}
@@ -26,7 +26,7 @@ use Rattle.cache_core.specs.declared.outcome.TileOutcome.{TileOutcome}
 use Rattle.cache_core.specs.declared.outcome.TileOutcome.TheVariants as outcome
 use Rattle.cache_core.specs.Advanced.{Advances}
 use Rattle.cache_core.specs.Begun.{Begins}
-use Rattle.cache_core.specs.Fits.{Extends, IsFit, IsFreshActor, IsFreshOutcome, place_of}
+use Rattle.cache_core.specs.Fits.{ExtendsHistory, IsFit, IsFreshActor, IsFreshOutcome, place_of}
 use Rattle.cache_core.specs.Steps.{advanced, disk_faults, ends, off, tile_at}
 use Rattle.cache_core.specs.Steps as steps
 use Rattle.cache_core.proofs.Beginnings.{hit_asked, spent_asked, spent_forced, ticket_asked, ticket_forced}
@@ -179,7 +179,7 @@ begins_not before after s t a force later tile same = record {
 
 -- the last event, of which nothing is said of a modelled source
 ending : (before after disk_before disk_after : ℕ) → before ≤ after → disk_before ≤ disk_after → (s t : State) (actor : Actor) (o : TileOutcome) (left unwritten : Bool)
-    → RoseBy (disk_faults false unwritten) disk_before disk_after → ends t o ≡ advanced s actor left 0 false None unwritten → Extends s.history t.history → t.catalogue ≡ s.catalogue
+    → RoseBy (disk_faults false unwritten) disk_before disk_after → ends t o ≡ advanced s actor left 0 false None unwritten → ExtendsHistory s.history t.history → t.catalogue ≡ s.catalogue
     → ((a : Address) (p : ℕ) → p ≤ length s.history → IsFreshActor s.catalogue s.history p a actor → IsFreshOutcome s.catalogue t.history (place_of actor (length s.history) p) a (Some o))
     → Advances None before after disk_before disk_after s actor (ended_so o) t
 ending before after disk_before disk_after later disk_later s t actor o left unwritten cause is grows same fresh = record {

@@ -11,22 +11,22 @@ use Rattle.cache_core.specs.declared.actor.Actor.TheVariants as actor
 use Rattle.cache_core.specs.declared.actor.Step.{Step}
 use Rattle.cache_core.specs.Advanced.{Advances}
 use Rattle.cache_core.specs.Begun.{Begins}
-use Rattle.cache_core.specs.Fits.{IsFit, IsFreshActor, Extends, place_of}
+use Rattle.cache_core.specs.Fits.{IsFit, IsFreshActor, ExtendsHistory, place_of}
 use Rattle.cache_core.specs.Shown.{shown, IsFailed, IsIdle}
 use Rattle.cache_core.specs.Steps.{Stepped, given, unless_busy, unless_kept, unless_unread, began, advanced}
 use Rattle.base.specs.Causes.{Rose}
 use Rattle.matrix_geometry.specs.declared.address.Address.{Address}
 use Rattle.metatile_locks.specs.Running.{running_for}
 use Rattle.raster_field.specs.Blocks.{block_of}
-use Rattle.tile_requests.specs.Events.{StayCovered, failing, GoesOn, Moves, GoesFurther}
+use Rattle.tile_requests.specs.Events.{StayCovered, failing, GoesOn, MovesRequest, GoesFurther}
 use Rattle.tile_requests.specs.Requests.{owed, is_at_work}
 
 -- HISTORIES GO ON
 
-pub longer : (h g f : History) → Extends h g → Extends g f → Extends h f
+pub longer : (h g f : History) → ExtendsHistory h g → ExtendsHistory g f → ExtendsHistory h f
 longer h g f x y = (x.0 ++ y.0, y.1 ∙ rw x.1 (append_assoc h x.0 y.0))
 
-pub within_longer : (h g : History) (p : ℕ) → Extends h g → p ≤ length h → p ≤ length g
+pub within_longer : (h g : History) (p : ℕ) → ExtendsHistory h g → p ≤ length h → p ≤ length g
 within_longer h g p x l = let e : length g ≡ length h + length x.0 = ap length x.1 ∙ length-append h x.0 in omega arith
 
 -- COUNTS
@@ -59,7 +59,7 @@ plain_began s a force false n unread bytes = (refl, refl)
 plain_began s a true true n unread bytes = let u = asked_at n s in plain_busy u a true (running_for (block_of s.catalogue a) (now u).out)
 plain_began s a false true n unread bytes = let u = asked_at n s in plain_kept u a bytes (unless_unread unread (answering u a))
 
-pub begun_moves : (told : Option ℕ) (n disk_before disk_after : ℕ) (s : State) (a : Address) (force : Bool) (step : Step) (t : State) → Begins disk_before disk_after s a force step t → Moves told n n s actor.Idle a (length s.history) step t
+pub begun_moves : (told : Option ℕ) (n disk_before disk_after : ℕ) (s : State) (a : Address) (force : Bool) (step : Step) (t : State) → Begins disk_before disk_after s a force step t → MovesRequest told n n s actor.Idle a (length s.history) step t
 begun_moves told n disk_before disk_after s a force step t h =
     let P : Stepped → Type 0 = Plain in
     let plain : Plain (shown step t) = subst P (sym h.began) (plain_began s a force h.left h.moment h.unread h.bytes) in
@@ -109,7 +109,7 @@ place_within (actor.Failed t) here p l = l
 
 pub advance_moves : (told : Option ℕ) (before after disk_before disk_after : ℕ) (s : State) (x : Actor) (a : Address) (p : ℕ) (step : Step) (t : State)
     → IsFit s.catalogue a x → (IsIdle x → ⊥) → p ≤ length s.history → IsFreshActor s.catalogue s.history p a x → Advances told before after disk_before disk_after s x step t
-    → Moves told before after s x a (place_of x (length s.history) p) step t
+    → MovesRequest told before after s x a (place_of x (length s.history) p) step t
 advance_moves told before after disk_before disk_after s x a p step t fit busy within fresh h =
     let P : Stepped → Type 0 = Further x in
     let after_it : Further x (shown step t) = subst P (sym h.advanced) (further_after s x h.left h.moment h.unread h.bytes h.unwritten busy) in
@@ -134,11 +134,11 @@ advance_moves told before after disk_before disk_after s x a p step t fit busy w
 
 -- ONE AFTER ANOTHER
 
-module _ (told : Option ℕ) (before mid after : ℕ) (s u t : State) (first : Actor) (a : Address) (p : ℕ) (old step : Step) (m : Moves told before mid s first a p old u) where
+module _ (told : Option ℕ) (before mid after : ℕ) (s u t : State) (first : Actor) (a : Address) (p : ℕ) (old step : Step) (m : MovesRequest told before mid s first a p old u) where
   both_covered : StayCovered mid after (owed old.actor) (failing step.outcome + owed step.actor) → StayCovered before after (owed first) (failing step.outcome + owed step.actor)
   both_covered k from others h = let j = m.failed from others h in k from others (omega arith)
 
-  joined : Moves told mid after u old.actor a p step t → Moves told before after s first a p step t
+  joined : MovesRequest told mid after u old.actor a p step t → MovesRequest told before after s first a p step t
   joined k =
       let tells : told ≡ Some s.catalogue.source → told ≡ Some u.catalogue.source = λ e. rw m.catalogue e in
       record {
@@ -171,11 +171,11 @@ place_stays (actor.Rendered t text tile) here p e = refl
 place_stays (actor.Failed t) here p e = refl
 
 -- the actor goes further, where it has work
-pub moves_further : (told : Option ℕ) (before mid after disk_mid disk_after : ℕ) (s u t : State) (first : Actor) (a : Address) (p : ℕ) (old step : Step) → Moves told before mid s first a p old u → p ≤ length u.history
-    → GoesFurther told mid after disk_mid disk_after u old step t → Moves told before after s first a p step t
+pub moves_further : (told : Option ℕ) (before mid after disk_mid disk_after : ℕ) (s u t : State) (first : Actor) (a : Address) (p : ℕ) (old step : Step) → MovesRequest told before mid s first a p old u → p ≤ length u.history
+    → GoesFurther told mid after disk_mid disk_after u old step t → MovesRequest told before after s first a p step t
 moves_further told before mid after disk_mid disk_after s u t first a p old step m within (inl h) =
-    let P : Step → State → Type 0 = λ x y. Moves told before after s first a p x y in
-    let stays : Moves told before after s first a p old u =
+    let P : Step → State → Type 0 = λ x y. MovesRequest told before after s first a p x y in
+    let stays : MovesRequest told before after s first a p old u =
     record {
       fits = m.fits;
       goes_on = m.goes_on;
@@ -192,7 +192,7 @@ moves_further told before mid after disk_mid disk_after s u t first a p old step
     } in
     rw (h.1, h.2) stays
 moves_further told before mid after disk_mid disk_after s u t first a p old step m within (inr h) =
-    let Q : ℕ → Type 0 = λ q. Moves told mid after u old.actor a q step t in
+    let Q : ℕ → Type 0 = λ q. MovesRequest told mid after u old.actor a q step t in
     joined told before mid after s u t first a p old step m
     (subst Q (place_stays old.actor (length u.history) p h.0)
     (advance_moves told mid after disk_mid disk_after u old.actor a p step t (rw m.catalogue m.fits) (busy_at_work old.actor h.0) within (rw m.catalogue m.held_fresh) h.1))

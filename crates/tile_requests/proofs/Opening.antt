@@ -17,7 +17,7 @@ use Rattle.metatile_locks.specs.Running.{running_for}
 use Rattle.raster_field.specs.Blocks.{block_of}
 use Rattle.tile_requests.specs.declared.request.Mode.{Mode}
 use Rattle.tile_requests.specs.declared.request.Mode.TheVariants.{Gets, Asks, Forces}
-use Rattle.tile_requests.specs.Events.{GoesFurther, Opens}
+use Rattle.tile_requests.specs.Events.{BeginsByLine, GoesFurther}
 use Rattle.tile_requests.specs.Requests.{Chance, is_at_work, further}
 use Rattle.tile_requests.proofs.Moving.{begun_moves, moves_further}
 
@@ -26,7 +26,7 @@ abbrev at_chance : Bool → ℕ → Bool → Bool → Option (ℕ → ℕ) → B
 at_chance ask moment unread work bytes unwritten = record { read = true; ask = ask; moment = moment; unread = unread; work = work; bytes = bytes; unwritten = unwritten; left = true }
 
 module _ (told : Option ℕ) (n disk_before disk_after : ℕ) (s : State) (a : Address) (mode : Mode) (step : Step) (t : State) where
-  pub opens_asks : mode ≡ Asks → Begins disk_before disk_after s a false step t → Opens told n n disk_before disk_after s a mode step t
+  pub opens_asks : mode ≡ Asks → Begins disk_before disk_after s a false step t → BeginsByLine told n n disk_before disk_after s a mode step t
   opens_asks e h = record {
     chance = at_chance h.left h.moment h.unread true h.bytes false;
     made = rw e h.began;
@@ -35,7 +35,7 @@ module _ (told : Option ℕ) (n disk_before disk_after : ℕ) (s : State) (a : A
     moves = begun_moves told n disk_before disk_after s a false step t h;
   }
 
-  pub opens_forces : mode ≡ Forces → Begins disk_before disk_after s a true step t → Opens told n n disk_before disk_after s a mode step t
+  pub opens_forces : mode ≡ Forces → Begins disk_before disk_after s a true step t → BeginsByLine told n n disk_before disk_after s a mode step t
   opens_forces e h = record {
     chance = at_chance h.left h.moment h.unread true h.bytes false;
     made = rw e h.began;
@@ -188,7 +188,7 @@ further_later told before after disk_before disk_after s t old step (inr h) = h.
 
 pub opens_gets : (told via : Option ℕ) (before mid after disk_before disk_asked disk_mid disk_after : ℕ) (s u v t : State) (a : Address) (mode : Mode) (asked rendered step : Step) → mode ≡ Gets
     → Begins disk_before disk_asked s a false asked u → GoesFurther told before mid disk_asked disk_mid u asked rendered v → via ≡ told → GoesFurther via mid after disk_mid disk_after v rendered step t
-    → Opens told before after disk_before disk_after s a mode step t
+    → BeginsByLine told before after disk_before disk_after s a mode step t
 opens_gets told via before mid after disk_before disk_asked disk_mid disk_after s u v t a mode asked rendered step e h f same k =
     let g : GoesFurther told mid after disk_mid disk_after v rendered step t = rw (sym same) k in
     let w = twice told before mid after disk_before disk_asked disk_mid disk_after s u v t a h.left h.moment h.unread h.bytes asked rendered step h.began h.cause f g in

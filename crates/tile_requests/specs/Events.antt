@@ -14,7 +14,7 @@ use Rattle.cache_core.specs.declared.outcome.TileOutcome.{TileOutcome}
 use Rattle.cache_core.specs.declared.outcome.TileOutcome.TheVariants as outcome
 use Rattle.cache_core.specs.Advanced.{Advances}
 use Rattle.cache_core.specs.Begun.{Begins}
-use Rattle.cache_core.specs.Fits.{IsFit, IsTrueActor, IsTrueOutcome, IsFreshActor, IsFreshOutcome, Extends}
+use Rattle.cache_core.specs.Fits.{IsFit, IsTrueActor, IsTrueOutcome, IsFreshActor, IsFreshOutcome, ExtendsHistory}
 use Rattle.cache_core.specs.Shown.{shown, IsIdle}
 use Rattle.base.specs.Causes.{RoseBy}
 use Rattle.matrix_geometry.specs.declared.address.Address.{Address}
@@ -40,7 +40,7 @@ GoesOn a (Some o) = a ≡ actor.Idle
 
 -- From s to t, while the source went from one count of faults to another, an actor that held what `first` holds came to this
 -- step of a request for the tile, whose last ask or force was made when the history had p entries.
-pub record Moves (told : Option ℕ) (before after : ℕ) (s : State) (first : Actor) (a : Address) (p : ℕ) (step : Step) (t : State) : Type 0 where
+pub record MovesRequest (told : Option ℕ) (before after : ℕ) (s : State) (first : Actor) (a : Address) (p : ℕ) (step : Step) (t : State) : Type 0 where
   pub fits : IsFit s.catalogue a step.actor
   pub goes_on : GoesOn step.actor step.outcome
   pub later : before ≤ after
@@ -51,7 +51,7 @@ pub record Moves (told : Option ℕ) (before after : ℕ) (s : State) (first : A
   pub within : p ≤ length t.history
   pub held_fresh : IsFreshActor s.catalogue t.history p a step.actor
   pub fresh : IsFreshOutcome s.catalogue t.history p a step.outcome
-  pub grows : Extends s.history t.history
+  pub grows : ExtendsHistory s.history t.history
   pub catalogue : t.catalogue ≡ s.catalogue
 
 -- one more event of an actor that has work
@@ -60,12 +60,12 @@ GoesFurther told before after disk_before disk_after s old step t =
     ((is_at_work old.actor ≡ false) × (step ≡ old) × (t ≡ s) × (before ≤ after) × (disk_before ≤ disk_after)) ⊎ ((is_at_work old.actor ≡ true) × Advances told before after disk_before disk_after s old.actor step t)
 
 -- the events of the line that asks for the tile, under some chance, which names no more faults of the disk than its count rose by
-pub record Opens (told : Option ℕ) (before after disk_before disk_after : ℕ) (s : State) (a : Address) (mode : Mode) (step : Step) (t : State) : Type 0 where
+pub record BeginsByLine (told : Option ℕ) (before after disk_before disk_after : ℕ) (s : State) (a : Address) (mode : Mode) (step : Step) (t : State) : Type 0 where
   pub chance : Chance
   pub made : shown step t ≡ events mode s a chance
   pub disk_later : disk_before ≤ disk_after
   pub disk_cause : RoseBy (disk_faults_in chance) disk_before disk_after
-  pub moves : Moves told before after s actor.Idle a (length s.history) step t
+  pub moves : MovesRequest told before after s actor.Idle a (length s.history) step t
 
 -- ONE AFTER ANOTHER, of a thread that has the cabinet for itself
 
@@ -95,8 +95,8 @@ ended_by (Err fault.Spent) = outcome.Spent
 ended_by (Err fault.OutOfMemory) = outcome.NoMemory
 
 -- a request whose refresh came to this has such an outcome: of a tile, the number is said
-abbrev pub EndsAs : Result Refreshed GetFault → TileOutcome → Type 0
-EndsAs (Ok x) o = (tile : Tile) × (o ≡ outcome.Tile tile) × (tile.number ≡ number_of x)
-EndsAs (Err fault.SourceFault) o = o ≡ outcome.SourceFailed
-EndsAs (Err fault.Spent) o = o ≡ outcome.Spent
-EndsAs (Err fault.OutOfMemory) o = o ≡ outcome.NoMemory
+abbrev pub RefreshEndsAs : Result Refreshed GetFault → TileOutcome → Type 0
+RefreshEndsAs (Ok x) o = (tile : Tile) × (o ≡ outcome.Tile tile) × (tile.number ≡ number_of x)
+RefreshEndsAs (Err fault.SourceFault) o = o ≡ outcome.SourceFailed
+RefreshEndsAs (Err fault.Spent) o = o ≡ outcome.Spent
+RefreshEndsAs (Err fault.OutOfMemory) o = o ≡ outcome.NoMemory

@@ -2,7 +2,7 @@
 -- which moment the clock gives, which bytes a rendering gives or that it fails, and that a disk fails, is taken as it happened, and so
 -- are the bytes of a kept blob where blobs are not modelled; all else is fixed.
 use Rattle.std.specs.Prelude.{length, nat_lt, ℕ, ◌≡◌, Bool, true, false, if◌then◌else◌, List, Option, Some, None, IfSome, ⊤}
-use Rattle.cabinet.specs.declared.entry.Entry.TheVariants as entry
+use Rattle.cabinet.specs.declared.entry.HistoryEntry.TheVariants as entry
 use Rattle.cabinet.specs.Fresh.{IsFresh}
 use Rattle.cabinet.specs.Commands.{book_before}
 use Rattle.cabinet.specs.Counted.{scope_exceeded, victim_in}
@@ -28,6 +28,8 @@ use Rattle.tile_requests.specs.declared.request.Mode.{Mode}
 use Rattle.tile_requests.specs.declared.request.Mode.TheVariants.{Gets, Asks, Forces}
 use Rattle.tile_requests.specs.declared.request.Request.{Request}
 use Rattle.tile_requests.specs.declared.request.Request.TheVariants as request
+use Rattle.tile_requests.specs.declared.spelling.Spelling.{Spelling}
+use Rattle.tile_requests.specs.declared.spelling.Spelling.TheVariants.{Ppm, Png}
 use Rattle.tile_requests.specs.Texts.{usage_text, dropped_text}
 
 -- CHANCES
@@ -90,23 +92,29 @@ outcome_of core.NoMemory = outcome.Plain plain.NoMemory
 abbrev pub told_at : Bool → Outcome → Outcome
 told_at left o = if left then o else outcome.Plain plain.NoMemory
 
--- the body of the response is a text that is made for it, which takes memory; a tile, the document and what was told already lie ready
-abbrev pub is_made : Outcome → Bool
-is_made (outcome.Tile hit k text) = false
-is_made outcome.Document = false
-is_made (outcome.Refused code locator) = true
-is_made (outcome.Plain p) = false
-is_made outcome.SourceFailed = true
-is_made (outcome.Usage text) = false
-is_made (outcome.Cut number) = true
-is_made (outcome.Unformed fault) = true
-is_made (outcome.Dropped text) = false
-is_made (outcome.Job text) = false
+-- a tile is spelt otherwise than it lies ready
+abbrev pub is_respelt : Spelling → Bool
+is_respelt Ppm = false
+is_respelt Png = true
+
+-- the body of the response is a text that is made for it, which takes memory; a tile as a pixmap, the document and what was told already
+-- lie ready
+abbrev pub is_made : Spelling → Outcome → Bool
+is_made spelling (outcome.Tile hit k text) = is_respelt spelling
+is_made spelling outcome.Document = false
+is_made spelling (outcome.Refused code locator) = true
+is_made spelling (outcome.Plain p) = false
+is_made spelling outcome.SourceFailed = true
+is_made spelling (outcome.Usage text) = false
+is_made spelling (outcome.Cut number) = true
+is_made spelling (outcome.Unformed fault) = true
+is_made spelling (outcome.Dropped text) = false
+is_made spelling (outcome.Job text) = false
 
 -- what is answered: where no memory is left for the text that is to be made, that
-abbrev pub answered_at : Bool → Outcome → Outcome
-answered_at true o = o
-answered_at false o = if is_made o then outcome.Plain plain.NoMemory else o
+abbrev pub answered_at : Spelling → Bool → Outcome → Outcome
+answered_at spelling true o = o
+answered_at spelling false o = if is_made spelling o then outcome.Plain plain.NoMemory else o
 
 -- COMMANDS
 

@@ -1,5 +1,6 @@
--- The bytes of answers: responses after HTTP/1.1 (RFC 9112), and the exception report of OWS Common 1.1 (OGC 06-121r3).
-use Rattle.std.specs.Prelude.{ℕ, Bool, if◌then◌else◌, ◌==◌, ◌||◌, List, [], ◌∷◌, ◌++◌, length, codes, decimal}
+-- The bytes of answers: responses after HTTP/1.1 (RFC 9112), the exception report of OWS Common 1.1 (OGC 06-121r3), and PNG (W3C, Portable
+-- Network Graphics, second edition).
+use Rattle.std.specs.Prelude.{ℕ, Bool, if◌then◌else◌, ◌==◌, ◌||◌, List, [], ◌∷◌, ◌++◌, length, Option, Some, None, codes, decimal}
 use Rattle.exception_report.specs.declared.code.Code.TheVariants.{NoApplicableCode}
 use Rattle.exception_report.specs.declared.code.Locator.TheVariants.{Nowhere}
 use Rattle.exception_report.specs.Report.{report_of}
@@ -13,6 +14,10 @@ use Rattle.tile_requests.specs.declared.outcome.Outcome.{Outcome}
 use Rattle.tile_requests.specs.declared.outcome.Outcome.TheVariants.{Tile, Document, Refused, SourceFailed, Usage, Cut, Unformed, Dropped, Job, Plain}
 use Rattle.tile_requests.specs.declared.outcome.Plain as constant
 use Rattle.tile_requests.specs.declared.outcome.Plain.TheVariants.{NotFound, WrongMethod, Spent, CutsFull, CutSpent, Within, BoardFull, DiskFault, NoMemory}
+use Rattle.tile_png.specs.Reading.{png_of_tile}
+use Rattle.tile_requests.specs.declared.spelling.Spelling.{Spelling}
+use Rattle.tile_requests.specs.declared.spelling.Spelling.TheVariants.{Ppm, Png}
+use Rattle.tile_requests.specs.Routes.{spelling_of}
 use Rattle.tile_requests.specs.Texts.{within_text}
 
 -- THE PARTS OF A RESPONSE
@@ -130,22 +135,40 @@ plain_parts BoardFull = json 409 (codes "{\"fault\":\"board full\"}\n")
 plain_parts DiskFault = json 500 (codes "{\"fault\":\"disk\"}\n")
 plain_parts NoMemory = bare 503
 
--- the parts of the response to a request with this outcome, where this is the capabilities document
-abbrev pub parts_of : List ℕ → Outcome → ResponseParts
-parts_of document (Tile hit number text) = record { status = 200; media_type = codes "image/x-portable-pixmap"; headers = tile_headers hit number; body = text }
-parts_of document Document = typed 200 (codes "text/xml") document
-parts_of document (Refused code locator) = typed (status_of code) (codes "text/xml") (report_of code locator)
-parts_of document SourceFailed = typed 500 (codes "text/xml") (report_of NoApplicableCode Nowhere)
-parts_of document (Usage text) = typed 200 (codes "text/plain") text
-parts_of document (Cut number) = json 200 (cut_text number)
-parts_of document (Unformed fault) = json 400 (fault_text (fault_kind fault) (field_of fault))
-parts_of document (Dropped text) = json 200 text
-parts_of document (Job text) = json 200 text
-parts_of document (Plain p) = plain_parts p
+-- a tile, or a picture of it
+abbrev pub pictured : List ℕ → Bool → ℕ → List ℕ → ResponseParts
+pictured media_type hit number body = record { status = 200; media_type = media_type; headers = tile_headers hit number; body = body }
+
+-- an encoded tile as it is
+abbrev pub as_it_is : Bool → ℕ → List ℕ → ResponseParts
+as_it_is hit number text = pictured (codes "image/x-portable-pixmap") hit number text
+
+-- a tile as PNG. Its text is a pixmap, unless bytes of it were changed where it is kept: then it is answered as it is
+abbrev pub png_parts : Bool → ℕ → List ℕ → Option (List ℕ) → ResponseParts
+png_parts hit number text (Some png) = pictured (codes "image/png") hit number png
+png_parts hit number text None = as_it_is hit number text
+
+-- a tile as it is to be spelt
+abbrev pub tile_parts : Spelling → Bool → ℕ → List ℕ → ResponseParts
+tile_parts Ppm hit number text = as_it_is hit number text
+tile_parts Png hit number text = png_parts hit number text (png_of_tile text)
+
+-- the parts of the response to a request with this outcome, where this is the capabilities document, and a tile is to be spelt so
+abbrev pub parts_of : List ℕ → Spelling → Outcome → ResponseParts
+parts_of document spelling (Tile hit number text) = tile_parts spelling hit number text
+parts_of document spelling Document = typed 200 (codes "text/xml") document
+parts_of document spelling (Refused code locator) = typed (status_of code) (codes "text/xml") (report_of code locator)
+parts_of document spelling SourceFailed = typed 500 (codes "text/xml") (report_of NoApplicableCode Nowhere)
+parts_of document spelling (Usage text) = typed 200 (codes "text/plain") text
+parts_of document spelling (Cut number) = json 200 (cut_text number)
+parts_of document spelling (Unformed fault) = json 400 (fault_text (fault_kind fault) (field_of fault))
+parts_of document spelling (Dropped text) = json 200 text
+parts_of document spelling (Job text) = json 200 text
+parts_of document spelling (Plain p) = plain_parts p
 
 -- the bytes of that response, which closes its connection or does not
-abbrev pub response_with : List ℕ → Bool → Outcome → List ℕ
-response_with document closes o = response_text closes (parts_of document o)
+abbrev pub response_with : List ℕ → Spelling → Bool → Outcome → List ℕ
+response_with document spelling closes o = response_text closes (parts_of document spelling o)
 
 -- a response closes its connection where its message is the last of it or the 10,000th of its session
 abbrev pub closes : Message → ℕ → Bool
@@ -153,7 +176,7 @@ closes message i = message.last || i == 10000
 
 -- the response to the i-th message of a session, counted from 1, by the outcome
 abbrev pub response : List ℕ → Message → ℕ → Outcome → List ℕ
-response document message i o = response_with document (closes message i) o
+response document message i o = response_with document (spelling_of message) (closes message i) o
 
 -- ANSWERS OF A SCHEDULE
 

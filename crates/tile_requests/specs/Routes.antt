@@ -1,4 +1,4 @@
--- The table of paths: what a message asks for, by its method, its target and its body.
+-- The table of paths: what a message asks for, by its method, its target and its body, and how a tile is spelt in its response.
 use Rattle.std.specs.Prelude.{ℕ, ◌+◌, ◌==◌, not, nat_eq, if◌then◌else◌, List, take, drop, Option, Some, None, Result, Ok, Err, codes}
 use Rattle.std.specs.List.{prefix_len, starts_with}
 use Rattle.std.specs.Str.{bytes_eq}
@@ -10,11 +10,13 @@ use Rattle.job_forms.specs.declared.fault.JobFault.{JobFault}
 use Rattle.job_forms.specs.Cover.{cover_of}
 use Rattle.tile_requests.specs.declared.request.Request.{Request}
 use Rattle.tile_requests.specs.declared.request.Request.TheVariants as request
+use Rattle.tile_requests.specs.declared.spelling.Spelling.{Spelling}
+use Rattle.tile_requests.specs.declared.spelling.Spelling.TheVariants.{Ppm, Png}
 use Rattle.truncation_list.specs.declared.cover.Cover.{Cover}
 use Rattle.wmts_kvp.specs.declared.query.Query.{Query}
 use Rattle.wmts_kvp.specs.declared.query.Query.TheVariants as query
 use Rattle.wmts_kvp.specs.Reading.{query_reading}
-use Rattle.wmts_rest.specs.Paths.{path_reading}
+use Rattle.wmts_rest.specs.Paths.{path_reading, picture_reading}
 
 -- the path of a target is what stands before its first ? (63 in ASCII), and the query what stands after it
 abbrev pub path_of : List ℕ → List ℕ
@@ -57,11 +59,22 @@ unfoldable pub request_at : Catalogue → Method → List ℕ → List ℕ → R
 request_at c method target body =
     if bytes_eq (path_of target) (codes "/wmts") then by_get method (request_of (query_reading c (query_of target))) else
     (if starts_with nat_eq (path_of target) (codes "/rest/wmts/") then by_get method (request_or_none (path_reading c (path_of target))) else
+    (if starts_with nat_eq (path_of target) (codes "/png/") then by_get method (request_or_none (picture_reading c (path_of target))) else
     (if bytes_eq (path_of target) (codes "/usage") then by_get method request.Usage else
     (if bytes_eq (path_of target) (codes "/truncate") then by_post method (truncation_of (cover_of c body)) else
     (if bytes_eq (path_of target) (codes "/expire") then by_post method request.Expiry else
-    request.NotFound))))
+    request.NotFound)))))
 
 -- what a message asks for, whether it is the last of its connection or not
 abbrev pub request_for : Catalogue → Message → Request
 request_for c m = request_at c m.method m.target m.body
+
+-- THE SPELLING
+
+-- a tile is answered as PNG where the path begins with `/png/`, and as the pixmap that it is elsewhere
+unfoldable pub spelling_at : List ℕ → Spelling
+spelling_at target = if starts_with nat_eq (path_of target) (codes "/png/") then Png else Ppm
+
+-- how a tile is spelt in the response to a message
+abbrev pub spelling_of : Message → Spelling
+spelling_of m = spelling_at m.target

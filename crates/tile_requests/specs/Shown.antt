@@ -6,8 +6,8 @@ use Rattle.tile_requests.specs.declared.message_ref.MessageRef.{MessageRef}
 use Rattle.tile_requests.specs.declared.parts.Body.{Body}
 use Rattle.tile_requests.specs.declared.parts.Body.TheVariants.{Borrowed, Made}
 use Rattle.tile_requests.specs.declared.parts.MediaType.{MediaType}
-use Rattle.tile_requests.specs.declared.parts.MediaType.TheVariants.{Ppm, Xml, Json, Plain}
-use Rattle.tile_requests.specs.declared.parts.Parts.{Parts}
+use Rattle.tile_requests.specs.declared.parts.MediaType.TheVariants.{Ppm, Png, Xml, Json, Plain}
+use Rattle.tile_requests.specs.declared.parts.LentResponse.{LentResponse}
 use Rattle.tile_requests.specs.declared.parts.TileHeaders.{TileHeaders}
 use Rattle.tile_requests.specs.Response.{ResponseParts, tile_headers}
 
@@ -19,6 +19,7 @@ shown_message message = record { method = message.method; target = message.targe
 
 abbrev pub media_type_name : MediaType → List ℕ
 media_type_name Ppm = codes "image/x-portable-pixmap"
+media_type_name Png = codes "image/png"
 media_type_name Xml = codes "text/xml"
 media_type_name Json = codes "application/json"
 media_type_name Plain = codes "text/plain"
@@ -39,5 +40,5 @@ body_text (Borrowed bytes) = bytes.now
 body_text (Made bytes) = bytes.items
 
 -- the parts of a response
-abbrev pub shown_parts : Parts → ResponseParts
+abbrev pub shown_parts : LentResponse → ResponseParts
 shown_parts p = record { status = p.status; media_type = media_type_text p.media_type; headers = headers_text p.tile; body = body_text p.body }

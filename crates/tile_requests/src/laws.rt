@@ -18,7 +18,7 @@ ghost use Rattle.matrix_geometry.specs.declared.address.Address.{Address};
 ghost use Rattle.metatile_plan.specs.declared.metatile.MetaKey.{MetaKey};
 ghost use Rattle.raster_field.specs.Blocks.{IsMeta, first_tile};
 ghost use Rattle.tile_requests.specs.Counted.{AreAllCounts, IsCounted};
-ghost use Rattle.tile_requests.specs.Events.{EndsAs, Opens, RunsTo, ended_by, ended_so};
+ghost use Rattle.tile_requests.specs.Events.{BeginsByLine, RefreshEndsAs, RunsTo, ended_by, ended_so};
 ghost use Rattle.tile_requests.specs.Immediate.{IsImmediate};
 ghost use Rattle.tile_requests.specs.Served.{IsServedAtOnce};
 ghost use Rattle.tile_requests.specs.Texts.{usage_text};
@@ -35,12 +35,12 @@ pub fn laws_of_lone_threads()
         → IsTile x.state.catalogue a → IsAtRest x.state → AreSteps x.state.catalogue x gained y
         → IsGot x.state.catalogue (IsSound x.state × (told ≡ Some x.state.catalogue.source)) a (fronted (now x.state)) gained result
         → before ≤ after → IfErr result (λ e. e ≡ SourceFault → Rose before after) → (told ≡ Some x.state.catalogue.source → IsSound x.state → IsSound y.state)
-        → Opens told before after x.faults y.faults x.state a Gets (ended_so (ended_by result)) y.state }
+        → BeginsByLine told before after x.faults y.faults x.state a Gets (ended_so (ended_by result)) y.state }
     ensures refreshes { (told : Option ℕ) (x y : Shown) (m : MetaKey) (force : Bool) (before after : ℕ) (gained : List (Made Note)) (result : Result Refreshed GetFault)
         → IsValid x.state.catalogue → IsMeta x.state.catalogue m → IsAtRest x.state → AreSteps x.state.catalogue x gained y
         → CameTo x.state.catalogue (IsSound x.state × (told ≡ Some x.state.catalogue.source)) m force (fronted (now x.state)) gained result
         → before ≤ after → IfErr result (λ e. e ≡ SourceFault → Rose before after)
-        → (o : TileOutcome) × RunsTo before after x.faults y.faults x.state (first_tile x.state.catalogue m) force o y.state × EndsAs result o }
+        → (o : TileOutcome) × RunsTo before after x.faults y.faults x.state (first_tile x.state.catalogue m) force o y.state × RefreshEndsAs result o }
     ensures later { (x y : Shown) (gained : List (Made Note)) → AreSteps x.state.catalogue x gained y → x.faults ≤ y.faults }
     ensures usage { (x y : Shown) (gained : List (Made Note)) (text : List ℕ) → AreSteps x.state.catalogue x gained y → IsCounted x.state.catalogue gained text → (text ≡ usage_text x.state) × (y.state ≡ x.state) }
     ensures counts { (x y : Shown) (gained : List (Made Note)) → AreSteps x.state.catalogue x gained y → AreAllCounts gained → y.state ≡ x.state }

@@ -6,6 +6,7 @@ ghost use Rattle.tile_requests.specs.Shown.{body_text, media_type_name};
 #[derive(Clone, Copy, PartialEq, Eq)]
 pub enum MediaType {
     Ppm,
+    Png,
     Xml,
     Json,
     Plain,
@@ -18,6 +19,7 @@ impl MediaType {
     {
         match self {
             MediaType::Ppm => b"image/x-portable-pixmap",
+            MediaType::Png => b"image/png",
             MediaType::Xml => b"text/xml",
             MediaType::Json => b"application/json",
             MediaType::Plain => b"text/plain",
@@ -57,7 +59,7 @@ pub struct TileHeaders {
 
 /// The parts of a response.
 #[derive(Drop)]
-pub struct Parts<'a> {
+pub struct LentResponse<'a> {
     pub status: u16,
     /// The type of the body; none where there is no body.
     pub media_type: Option<MediaType>,

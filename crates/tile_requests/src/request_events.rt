@@ -5,7 +5,7 @@ ghost use Rattle.cache_core.specs.Lasting.{Lasting};
 ghost use Rattle.cache_core.specs.Shown.{IsIdle};
 ghost use Rattle.catalog.specs.LookUp.{IsTile};
 ghost use Rattle.matrix_geometry.specs.declared.address.Address.{Address};
-ghost use Rattle.tile_requests.specs.Events.{GoesFurther, Opens};
+ghost use Rattle.tile_requests.specs.Events.{BeginsByLine, GoesFurther};
 ghost use Rattle.tile_requests.specs.Requests.{is_at_work};
 
 use crate::request::Mode;
@@ -50,7 +50,7 @@ pub fn events<C: Keeper, S: Source>(
     mode: Mode,
 ) -> Step
     requires { IsTile (C.state cabinet.old).catalogue address.now }
-    ensures opens { Opens (S.told source.old) (S.faults source.old) (S.faults source.new) (C.faults cabinet.old) (C.faults cabinet.new) (C.state cabinet.old) address.now mode result (C.state cabinet.new) }
+    ensures opens { BeginsByLine (S.told source.old) (S.faults source.old) (S.faults source.new) (C.faults cabinet.old) (C.faults cabinet.new) (C.state cabinet.old) address.now mode result (C.state cabinet.new) }
     ensures told { S.told source.new ≡ S.told source.old }
     ensures lasts { Lasting (C.outlasts cabinet.old cabinet.new) (C.state cabinet.old) (C.state cabinet.new) }
 {

@@ -2,22 +2,26 @@
 ghost use Rattle.std.specs.Prelude.{◌≡◌, ◌++◌, IfOk, OnErr, [], true};
 ghost use Rattle.exception_report.specs.Report.{report_of};
 ghost use Rattle.exception_report.specs.Status.{status_of};
-ghost use Rattle.tile_requests.specs.Requests.{is_made};
-ghost use Rattle.tile_requests.specs.Response.{bare, cut_text, fault_kind, fault_text, field_of, parts_of, plain_parts, spelt, typed};
-ghost use Rattle.tile_requests.specs.Shown.{media_type_name, shown_parts};
+ghost use Rattle.tile_png.specs.Reading.{png_of_tile};
+ghost use Rattle.tile_requests.specs.Requests.{is_made, is_respelt};
+ghost use Rattle.tile_requests.specs.Response.{bare, cut_text, fault_kind, fault_text, field_of, parts_of, pictured, plain_parts, png_parts, spelt, tile_parts, typed};
+ghost use Rattle.tile_requests.specs.Shown.{body_text, media_type_name, shown_parts};
 
 use crate::numbers::push_number;
 use crate::outcome::{Outcome, Plain};
-use crate::parts::{Body, MediaType, Parts, TileHeaders};
+use crate::parts::{Body, LentResponse, MediaType, TileHeaders};
+use crate::spelling::Spelling;
 use exception_report::{Code, Locator, report, status_of};
 use job_forms::{JobFault, JobField};
+use png_text::CrcTables;
 use std::alloc::{AllocError, Global};
+use tile_png::png_of_tile;
 
 /// A body that lies elsewhere.
-fn borrowed(status: u16, media_type: MediaType, body: &[u8]) -> Parts<'_>
+fn lend_response(status: u16, media_type: MediaType, body: &[u8]) -> LentResponse<'_>
     ensures { shown_parts result ≡ typed status (media_type_name media_type) body.now }
 {
-    Parts {
+    LentResponse {
         status,
         media_type: Some(media_type),
         tile: None,
@@ -26,10 +30,10 @@ fn borrowed(status: u16, media_type: MediaType, body: &[u8]) -> Parts<'_>
 }
 
 /// A body that was made for the response.
-fn made<'a>(status: u16, media_type: MediaType, body: Vec<u8>) -> Parts<'a>
+fn response_of<'a>(status: u16, media_type: MediaType, body: Vec<u8>) -> LentResponse<'a>
     ensures { shown_parts result ≡ typed status (media_type_name media_type) body.items }
 {
-    Parts {
+    LentResponse {
         status,
         media_type: Some(media_type),
         tile: None,
@@ -38,10 +42,10 @@ fn made<'a>(status: u16, media_type: MediaType, body: Vec<u8>) -> Parts<'a>
 }
 
 /// A status alone. It takes no memory.
-pub fn bare<'a>(status: u16) -> Parts<'a>
+pub fn bare<'a>(status: u16) -> LentResponse<'a>
     ensures { shown_parts result ≡ bare status }
 {
-    Parts {
+    LentResponse {
         status,
         media_type: None,
         tile: None,
@@ -49,32 +53,68 @@ pub fn bare<'a>(status: u16) -> Parts<'a>
     }
 }
 
-/// An encoded tile.
-fn tile(hit: bool, number: u64, text: &[u8]) -> Parts<'_>
-    ensures { shown_parts result ≡ parts_of [] (Outcome.Tile hit number text.now) }
+/// A tile, or a picture of it.
+fn pictured(media_type: MediaType, tile: TileHeaders, body: Body<'_>) -> LentResponse<'_>
+    ensures { shown_parts result ≡ pictured (media_type_name media_type) tile.hit tile.number (body_text body.entry) }
 {
-    Parts {
+    LentResponse {
         status: 200,
-        media_type: Some(MediaType::Ppm),
-        tile: Some(TileHeaders { hit, number }),
-        body: Body::Borrowed(text),
+        media_type: Some(media_type),
+        tile: Some(tile),
+        body,
     }
 }
 
-fn reported<'a>(alloc: Global, code: Code, locator: &Locator) -> Result<Parts<'a>, AllocError>
-    ensures { IfOk result (λ p. shown_parts p ≡ parts_of [] (Outcome.Refused code locator.now)) }
+/// An encoded tile as PNG, or as it is where it is no pixmap. `AllocError` where memory runs out.
+fn png<'a>(
+    alloc: Global,
+    tables: &CrcTables,
+    tile: TileHeaders,
+    text: &'a [u8],
+) -> Result<LentResponse<'a>, AllocError>
+    ensures { IfOk result (λ p. shown_parts p ≡ png_parts tile.hit tile.number text.now (png_of_tile text.now)) }
 {
-    let body = report(alloc, code, locator)?;
-    Ok(made(status_of(code), MediaType::Xml, body))
+    match png_of_tile(alloc, tables, text)? {
+        Some(png) => Ok(pictured(MediaType::Png, tile, Body::Made(png))),
+        None => Ok(pictured(MediaType::Ppm, tile, Body::Borrowed(text))),
+    }
 }
 
-fn cut<'a>(alloc: Global, number: u64) -> Result<Parts<'a>, AllocError>
-    ensures { IfOk result (λ p. shown_parts p ≡ parts_of [] (Outcome.Cut number)) }
+/// An encoded tile as it is to be spelt. `AllocError` where memory runs out for another spelling.
+fn tile<'a>(
+    alloc: Global,
+    tables: &CrcTables,
+    spelling: Spelling,
+    tile: TileHeaders,
+    text: &'a [u8],
+) -> Result<LentResponse<'a>, AllocError>
+    ensures parts { IfOk result (λ p. shown_parts p ≡ tile_parts spelling tile.hit tile.number text.now) }
+    ensures made { OnErr result (is_respelt spelling ≡ true) }
+{
+    match spelling {
+        Spelling::Ppm => Ok(pictured(MediaType::Ppm, tile, Body::Borrowed(text))),
+        Spelling::Png => png(alloc, tables, tile, text),
+    }
+}
+
+fn report_response<'a>(
+    alloc: Global,
+    code: Code,
+    locator: &Locator,
+) -> Result<LentResponse<'a>, AllocError>
+    ensures { IfOk result (λ p. shown_parts p ≡ parts_of [] Spelling.Ppm (Outcome.Refused code locator.now)) }
+{
+    let body = report(alloc, code, locator)?;
+    Ok(response_of(status_of(code), MediaType::Xml, body))
+}
+
+fn cut_response<'a>(alloc: Global, number: u64) -> Result<LentResponse<'a>, AllocError>
+    ensures { IfOk result (λ p. shown_parts p ≡ parts_of [] Spelling.Ppm (Outcome.Cut number)) }
 {
     let mut text = Vec::from_slice(alloc, b"{\"cut\":")?;
     push_number(&mut text, number)?;
     text.extend_from_slice(b"}\n")?;
-    Ok(made(200, MediaType::Json, text))
+    Ok(response_of(200, MediaType::Json, text))
 }
 
 /// The kind of a fault of a cover's text.
@@ -129,50 +169,59 @@ fn fault_text(alloc: Global, kind: &[u8], field: &[u8]) -> Result<Vec<u8>, Alloc
     Ok(text)
 }
 
-fn unformed<'a>(alloc: Global, fault: JobFault) -> Result<Parts<'a>, AllocError>
-    ensures { IfOk result (λ p. shown_parts p ≡ parts_of [] (Outcome.Unformed fault)) }
+fn form_response<'a>(alloc: Global, fault: JobFault) -> Result<LentResponse<'a>, AllocError>
+    ensures { IfOk result (λ p. shown_parts p ≡ parts_of [] Spelling.Ppm (Outcome.Unformed fault)) }
 {
     let text = fault_text(alloc, fault_kind(fault), field_of(fault))?;
-    Ok(made(400, MediaType::Json, text))
+    Ok(response_of(400, MediaType::Json, text))
 }
 
 /// A response that is the same whatever was asked for. It takes no memory.
-fn plain_parts<'a>(plain: Plain) -> Parts<'a>
+fn plain_parts<'a>(plain: Plain) -> LentResponse<'a>
     ensures { shown_parts result ≡ plain_parts plain }
 {
     match plain {
         Plain::NotFound => bare(404),
         Plain::WrongMethod => bare(405),
-        Plain::Spent => borrowed(500, MediaType::Plain, b"numbers spent\n"),
-        Plain::CutsFull => borrowed(409, MediaType::Json, b"{\"fault\":\"cuts full\"}\n"),
-        Plain::CutSpent => borrowed(500, MediaType::Json, b"{\"fault\":\"numbers spent\"}\n"),
-        Plain::Within => borrowed(200, MediaType::Json, b"{\"within\":true}\n"),
-        Plain::BoardFull => borrowed(409, MediaType::Json, b"{\"fault\":\"board full\"}\n"),
-        Plain::DiskFault => borrowed(500, MediaType::Json, b"{\"fault\":\"disk\"}\n"),
+        Plain::Spent => lend_response(500, MediaType::Plain, b"numbers spent\n"),
+        Plain::CutsFull => lend_response(409, MediaType::Json, b"{\"fault\":\"cuts full\"}\n"),
+        Plain::CutSpent => lend_response(500, MediaType::Json, b"{\"fault\":\"numbers spent\"}\n"),
+        Plain::Within => lend_response(200, MediaType::Json, b"{\"within\":true}\n"),
+        Plain::BoardFull => lend_response(409, MediaType::Json, b"{\"fault\":\"board full\"}\n"),
+        Plain::DiskFault => lend_response(500, MediaType::Json, b"{\"fault\":\"disk\"}\n"),
         Plain::NoMemory => bare(503),
     }
 }
 
-/// The parts of the response to a request with this outcome, where `document` is the capabilities document. A tile, the
-/// document and a text that was told are borrowed, and take no memory. `AllocError` where it runs out for another body.
+/// The parts of the response to a request with this outcome, where `document` is the capabilities document, and a tile is to be spelt so. A
+/// tile as the pixmap that it is, the document and a text that was told are borrowed, and take no memory. `AllocError` where it runs out
+/// for another body.
 pub fn parts_of<'a>(
     alloc: Global,
+    tables: &CrcTables,
     document: &'a [u8],
+    spelling: Spelling,
     outcome: &'a Outcome,
-) -> Result<Parts<'a>, AllocError>
-    ensures parts { IfOk result (λ p. shown_parts p ≡ parts_of document.now outcome.now) }
-    ensures made { OnErr result (is_made outcome.now ≡ true) }
+) -> Result<LentResponse<'a>, AllocError>
+    ensures parts { IfOk result (λ p. shown_parts p ≡ parts_of document.now spelling outcome.now) }
+    ensures made { OnErr result (is_made spelling outcome.now ≡ true) }
 {
     match outcome {
-        Outcome::Tile(hit, number, text) => Ok(tile(*hit, *number, text.bytes())),
-        Outcome::Document => Ok(borrowed(200, MediaType::Xml, document)),
-        Outcome::Refused(code, locator) => reported(alloc, *code, locator),
-        Outcome::SourceFailed => reported(alloc, Code::NoApplicableCode, &Locator::Nowhere),
-        Outcome::Usage(text) => Ok(borrowed(200, MediaType::Plain, text.bytes())),
-        Outcome::Cut(number) => cut(alloc, *number),
-        Outcome::Unformed(fault) => unformed(alloc, *fault),
-        Outcome::Dropped(text) => Ok(borrowed(200, MediaType::Json, text.bytes())),
-        Outcome::Job(text) => Ok(borrowed(200, MediaType::Json, text.bytes())),
+        Outcome::Tile(hit, number, text) => {
+            let headers = TileHeaders {
+                hit: *hit,
+                number: *number,
+            };
+            tile(alloc, tables, spelling, headers, text.bytes())
+        }
+        Outcome::Document => Ok(lend_response(200, MediaType::Xml, document)),
+        Outcome::Refused(code, locator) => report_response(alloc, *code, locator),
+        Outcome::SourceFailed => report_response(alloc, Code::NoApplicableCode, &Locator::Nowhere),
+        Outcome::Usage(text) => Ok(lend_response(200, MediaType::Plain, text.bytes())),
+        Outcome::Cut(number) => cut_response(alloc, *number),
+        Outcome::Unformed(fault) => form_response(alloc, *fault),
+        Outcome::Dropped(text) => Ok(lend_response(200, MediaType::Json, text.bytes())),
+        Outcome::Job(text) => Ok(lend_response(200, MediaType::Json, text.bytes())),
         Outcome::Plain(plain) => Ok(plain_parts(*plain)),
     }
 }

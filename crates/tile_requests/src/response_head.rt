@@ -4,7 +4,7 @@ ghost use Rattle.arrayvec.specs.ArrayVec.{array_vec_len};
 ghost use Rattle.tile_requests.specs.Response.{cache_result, close_header, head_text, status_text, tile_headers, type_header};
 ghost use Rattle.tile_requests.specs.Shown.{headers_text, media_type_text, shown_parts};
 
-use crate::parts::{MediaType, Parts, TileHeaders};
+use crate::parts::{LentResponse, MediaType, TileHeaders};
 use crate::small_text::{add, add_number};
 use arrayvec::ArrayVec;
 
@@ -100,7 +100,7 @@ fn close_header(closes: bool) -> &'static [u8]
 
 /// The head of a response, which closes its connection or does not.
 #[tactic(auto, unfolding(crate::specs::Response::head_text))]
-pub fn head(closes: bool, parts: &Parts<'_>) -> ArrayVec<u8, 1024>
+pub fn head(closes: bool, parts: &LentResponse<'_>) -> ArrayVec<u8, 1024>
     ensures items { result.items ≡ head_text closes (shown_parts parts.now) }
     ensures short { array_vec_len result ≤ 256 }
 {

@@ -5,19 +5,20 @@ ghost use Rattle.catalog.specs.Valid.{IsValid};
 ghost use Rattle.catalog.specs.declared.catalogue.Catalogue.{Catalogue};
 ghost use Rattle.job_forms.specs.Cover.{cover_of};
 ghost use Rattle.tile_requests.specs.Requests.{IsOf};
-ghost use Rattle.tile_requests.specs.Routes.{path_of, query_of, by_get, by_post, request_of, request_or_none, truncation_of, request_for};
+ghost use Rattle.tile_requests.specs.Routes.{path_of, query_of, by_get, by_post, request_of, request_or_none, truncation_of, request_for, spelling_at};
 ghost use Rattle.tile_requests.specs.Shown.{shown_message};
 ghost use Rattle.wmts_kvp.specs.Reading.{IsOfCatalogue, query_reading};
-ghost use Rattle.wmts_rest.specs.Paths.{path_reading};
+ghost use Rattle.wmts_rest.specs.Paths.{path_reading, picture_reading};
 
 use crate::message_ref::MessageRef;
 use crate::request::Request;
+use crate::spelling::Spelling;
 use catalog::Catalogue;
 use http_wire::Method;
 use job_forms::{JobFault, read_cover};
 use std::alloc::{AllocError, Global};
 use wmts_kvp::{Query, read_query};
-use wmts_rest::RestTable;
+use wmts_rest::{RestTable, read_picture};
 
 /// How many bytes the path of a target has.
 fn path_len(target: &[u8]) -> usize
@@ -150,6 +151,25 @@ fn by_path(
     }
 }
 
+/// What is asked for by the path of a picture. `AllocError` where memory runs out.
+fn by_picture(
+    alloc: Global,
+    catalogue: &Catalogue,
+    message: &MessageRef<'_>,
+) -> Result<Request, AllocError>
+    requires { IsValid catalogue.now }
+    ensures value { IfOk result (λ r. r ≡ by_get message.now.method (request_or_none (picture_reading catalogue.now (path_of message.now.target.now)))) }
+    ensures of { IfOk result (λ r. IsOf catalogue.now r) }
+{
+    match message.method {
+        Method::Get => {
+            let reading = read_picture(alloc, catalogue, path_of(message.target))?;
+            Ok(request_or_none(reading))
+        }
+        Method::Post | Method::Delete | Method::Other => Ok(Request::WrongMethod),
+    }
+}
+
 /// What is asked for by the cover of a body. `AllocError` where memory runs out.
 fn by_cover(
     alloc: Global,
@@ -185,6 +205,9 @@ pub fn read_request(
     if path.starts_with(b"/rest/wmts/") {
         return by_path(alloc, catalogue, rest, message);
     }
+    if path.starts_with(b"/png/") {
+        return by_picture(alloc, catalogue, message);
+    }
     if path == b"/usage".as_slice() {
         return Ok(by_get(message.method, Request::Usage));
     }
@@ -195,4 +218,15 @@ pub fn read_request(
         return Ok(by_post(message.method, Request::Expiry));
     }
     Ok(Request::NotFound)
+}
+
+/// How a tile is spelt in the response to a message for this target.
+#[tactic(auto, unfolding(crate::specs::Routes::spelling_at))]
+pub fn spelling_at(target: &[u8]) -> Spelling
+    ensures { result ≡ spelling_at target.now }
+{
+    if path_of(target).starts_with(b"/png/") {
+        return Spelling::Png;
+    }
+    Spelling::Ppm
 }

@@ -1,5 +1,5 @@
 //! The words of a feed: numbered changes, each made once on the cache.
-use crate::{CACHE, CATALOGUE, MARKS, ended};
+use crate::{CACHE, CATALOGUE, MARKS, exit_code};
 use base::Clock;
 use exact_ratio::Words;
 use feed_words::{FeedWord, feed_word, run_feed};
@@ -42,5 +42,5 @@ pub fn feed(rt: HostRuntime, words: &[Words]) -> ExitCode {
         &mut disk,
         &mut marks,
     );
-    ended(&rt, status)
+    exit_code(&rt, status)
 }

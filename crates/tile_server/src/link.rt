@@ -1,5 +1,5 @@
 //! The words of a link: a leader's posts go over a connection, or the changes that come over one are made on the cache.
-use crate::{CACHE, CATALOGUE, MARKS, OUTBOX, ended, unconnected};
+use crate::{CACHE, CATALOGUE, MARKS, OUTBOX, exit_code, status_of_error};
 use base::Clock;
 use exact_ratio::Words;
 use http_wire::FileSource;
@@ -55,7 +55,7 @@ pub fn link(rt: HostRuntime, words: &[Words]) -> ExitCode {
     let word = link_word(words);
     let mut link = match link_for(&rt, word) {
         Ok(link) => link,
-        Err(error) => return ended(&rt, unconnected(&error)),
+        Err(error) => return exit_code(&rt, status_of_error(&error)),
     };
     let mut catalogue = Input::File(FileSource::open(&rt, CATALOGUE));
     let mut disk = followers_file(&rt, word, CACHE);

@@ -8,6 +8,7 @@
 //! sockets it opens.
 #![tactic(auto)]
 
+mod cache;
 mod command;
 mod compose;
 mod feed;
@@ -15,19 +16,22 @@ mod link;
 mod serve;
 mod twin;
 
+ghost use Rattle.std.specs.Prelude.{◌<◌, IfOk};
+
 use base::Clock;
 use command_setup::{CATALOGUE_LIMIT, source_number};
 use command_status::Status;
 use command_words::{TopCall, top_call};
 use exact_ratio::Words;
 use http_wire::{FileSource, InputEnd, MemorySource, read_all};
-use program_files::Input;
-use std::alloc::AllocError;
+use program_files::{Input, SourceChoice, SourceFault};
 use std::fs::File;
 use std::io::{Eprint, Print};
+use std::net::Net;
 use std::process::ExitCode;
 use std::rt::{Env, Files};
 use std::{env, io};
+use tile_grain::grain_of;
 
 const HELP: &str = "tile_server: a cache of map tiles (the tile part of OGC WMTS 1.0.0)
 
@@ -57,14 +61,19 @@ It works with these files of the folder in which it is run:
   catalogue.json     layers, grids, styles, limits; where it is absent, the built-in catalogue of one layer, demo
   capabilities.xml   the capabilities document that GetCapabilities answers; where it is absent, one of no bytes
   source.grid        the cells of which pictures are made; where it is absent, the pictures of a formula
+  source.http        the renderer over HTTP that makes the pictures, in place of source.grid
   cache.disk         the cache; `make` makes it, and one program at a time may work on it
+  cache.sums         sums of its tiles, by which one that was changed is noticed; where it is absent, none is looked for
   cache.marks        which change of the feed was made last; `feed make` and `twin make` make it
   cache.outbox       the truncations that a leader has for its follower; `twin make` makes it
 
 It ends with a code, and all but the first are told by a line on standard error:
    0  done                                    8  not a cache, catalogue differs KEPT ASKED,
    2  usage: the words are no command            bad record SLOT, openings spent
-   3  catalogue KIND FIELD INDEX: its fault   9  cuts full: the truncation was not made
+   3  catalogue KIND FIELD INDEX: its fault,  9  cuts full: the truncation was not made
+      renderer KIND FIELD INDEX: that of
+      source.http; two sources: it stands
+      beside source.grid
    4  read fault                             10  out of memory
    5  write fault                            11  stream ..: the connection's bytes broke off
    6  disk fault                             12  too long: a file or the input is above its limit
@@ -89,8 +98,14 @@ const CAPABILITIES: &str = "capabilities.xml";
 /// The file of cells of that folder, which makes the pictures where it is there.
 const CELLS: &str = "source.grid";
 
+/// The file of that folder that names a renderer, where it is there.
+const RENDERER: &str = "source.http";
+
 /// The cache, a file of that folder.
 const CACHE: &str = "cache.disk";
+
+/// The sums of the cache's tiles, a file of that folder.
+const SUMS: &str = "cache.sums";
 
 /// Which change of a feed was made last on the cache, a file of that folder.
 const MARKS: &str = "cache.marks";
@@ -102,26 +117,44 @@ const OUTBOX: &str = "cache.outbox";
 const PIECE: usize = 4_096;
 
 /// The catalogue's bytes, read from its file to be handed on; the words are needed by the source before the command reads it.
-struct Catalogue {
+struct CatalogueInput {
     input: Input,
     /// The number of the source that it names; 0 where it is refused.
     source: u32,
+    /// Which source makes the pictures.
+    choice: SourceChoice,
+    /// No tile of it has fewer bytes.
+    grain: u32,
 }
 
-/// Reads the catalogue's file. What can't be read is handed on so that the command ends by the same cause.
-fn catalogue_of(rt: &(impl Files<File = File> + AllocGlobal)) -> Result<Catalogue, AllocError> {
+/// Reads the catalogue's file, and, for words that render, the one that names a renderer. What can't be read of the catalogue is handed on so that
+/// the command ends by the same cause.
+fn catalogue_of(
+    rt: &(impl Files<File = File> + Net + AllocGlobal),
+    renders: bool,
+) -> Result<CatalogueInput, SourceFault>
+    ensures { IfOk result (λ c. 8 < c.grain) }
+{
     let alloc = rt.alloc();
     let mut file = FileSource::open(rt, CATALOGUE);
     let (text, fails) = match read_all(alloc, &mut file, CATALOGUE_LIMIT) {
         Ok(text) => (text, Vec::new(alloc)),
         Err(InputEnd::ReadFault) => (Vec::new(alloc), vec![in alloc; 1]?),
         Err(InputEnd::TooLong) => (vec![in alloc; b' '; CATALOGUE_LIMIT + 1]?, Vec::new(alloc)),
-        Err(InputEnd::OutOfMemory) => return Err(AllocError),
+        Err(InputEnd::OutOfMemory) => return Err(SourceFault::OutOfMemory),
+    };
+    let choice = if renders && fails.is_empty() {
+        SourceChoice::read(rt, alloc, RENDERER, CELLS, text.as_slice())?
+    } else {
+        SourceChoice::Local
     };
     let source = source_number(alloc, text.as_slice())?;
-    Ok(Catalogue {
+    let grain = grain_of(alloc, text.as_slice())?;
+    Ok(CatalogueInput {
         input: Input::Read(MemorySource::new(text, PIECE, fails)),
         source,
+        choice,
+        grain,
     })
 }
 
@@ -138,32 +171,56 @@ fn main(rt: HostRuntime) -> ExitCode {
     let words = match words_of(&rt) {
         Ok(words) => words,
         Err(error) if error.kind() == io::ErrorKind::OutOfMemory => {
-            return ended(&rt, Status::OutOfMemory);
+            return exit_code(&rt, Status::OutOfMemory);
         }
-        Err(_) => return ended(&rt, Status::Usage),
+        Err(_) => return exit_code(&rt, Status::Usage),
     };
     match top_call(words.as_slice()) {
-        TopCall::Help => printed(&rt, HELP),
-        TopCall::Version => printed(&rt, VERSION),
-        TopCall::Command => command::command(rt, words.as_slice()),
+        TopCall::Help => print_text(&rt, HELP),
+        TopCall::Version => print_text(&rt, VERSION),
+        TopCall::Command => command::command(rt, rt, words.as_slice()),
         TopCall::Serve => serve::serve(&rt, words.as_slice(), Clock::system(rt)),
         TopCall::Feed => feed::feed(rt, words.as_slice()),
-        TopCall::Compose => compose::compose(rt, words.as_slice()),
-        TopCall::Twin => twin::twin(rt, words.as_slice()),
+        TopCall::Compose => compose::compose(rt, rt, words.as_slice()),
+        TopCall::Twin => twin::twin(rt, rt, words.as_slice()),
         TopCall::Link => link::link(rt, words.as_slice()),
     }
 }
 
 /// The status of words for which no connection is had, by the system's error.
-fn unconnected(error: &io::Error) -> Status {
+fn status_of_error(error: &io::Error) -> Status {
     if error.kind() == io::ErrorKind::OutOfMemory {
         return Status::OutOfMemory;
     }
     Status::ListenFault
 }
 
+/// The code of a source whose file is refused: that of a catalogue that is.
+const SOURCE_CODE: u8 = 3;
+
+/// The code of a source that is refused. A host that isn't found may be found later, as a port may be had later.
+fn code_of(fault: SourceFault) -> u8 {
+    match fault {
+        SourceFault::UnknownHost(_, _) => Status::ListenFault.code(),
+        _ => SOURCE_CODE,
+    }
+}
+
+/// Tells why there is no source, and gives the code: where another file of the program may fail so, that of such a fault.
+fn without_source(rt: &impl Eprint, fault: SourceFault) -> ExitCode {
+    match fault {
+        SourceFault::ReadFault => exit_code(rt, Status::ReadFault),
+        SourceFault::TooLong => exit_code(rt, Status::TooLong),
+        SourceFault::OutOfMemory => exit_code(rt, Status::OutOfMemory),
+        refused => {
+            let _ = eprintln!(rt; "{refused}");
+            ExitCode::from(code_of(refused))
+        }
+    }
+}
+
 /// Tells a status on standard error, `Done` apart, and gives its code. A standard error that takes nothing changes nothing.
-fn ended(rt: &impl Eprint, status: Status) -> ExitCode {
+fn exit_code(rt: &impl Eprint, status: Status) -> ExitCode {
     if status != Status::Done {
         let _ = eprintln!(rt; "{status}");
     }
@@ -171,9 +228,9 @@ fn ended(rt: &impl Eprint, status: Status) -> ExitCode {
 }
 
 /// Prints a text on standard output.
-fn printed(rt: &(impl Print + Eprint), text: &str) -> ExitCode {
+fn print_text(rt: &(impl Print + Eprint), text: &str) -> ExitCode {
     match rt.print(text) {
         Ok(()) => ExitCode::from(Status::Done.code()),
-        Err(_) => ended(rt, Status::WriteFault),
+        Err(_) => exit_code(rt, Status::WriteFault),
     }
 }

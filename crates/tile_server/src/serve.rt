@@ -1,20 +1,22 @@
 //! The word `serve`: a server on a port.
 ghost use Rattle.std.specs.Prelude.{IfOk, length, ◌≡◌, ◌≤◌};
 
-use crate::{CACHE, CAPABILITIES, CELLS, Catalogue, catalogue_of, ended, unconnected};
+use crate::cache::{open_cache, tell_unfit};
+use crate::{
+    CAPABILITIES, CELLS, CatalogueInput, catalogue_of, exit_code, status_of_error, without_source,
+};
 use base::Clock;
 use command_status::Status;
 use command_words::{ServeFault, ServeWords, serve_words};
 use exact_ratio::Words;
 use http_wire::FileSource;
-use program_files::{CacheDisk, Input};
+use program_files::{Input, ProgramSource, SourceChoice};
 use server_command::run_server;
 use server_workers::SOURCES;
-use source_render::AnySource;
 use std::alloc::AllocError;
 use std::fs::File;
 use std::io::Eprint;
-use std::net::Net;
+use std::net::{Net, TcpListener, TcpStream};
 use std::process::ExitCode;
 use std::rt::Files;
 use std::snapshot::Snapshot;
@@ -23,29 +25,33 @@ use std::thread::Threads;
 use tcp_lanes::TcpAccept;
 
 /// The sources that a server takes.
-fn sources_of<R: Files<File = File> + AllocGlobal + Copy + Drop>(
+fn sources_of<R>(
     rt: R,
+    choice: &SourceChoice,
     id: u32,
-) -> Result<Vec<AnySource<'static, R>>, AllocError>
+) -> Result<Vec<ProgramSource<'static, R>>, AllocError>
+where
+    R: Files<File = File> + Net + std::time::Clock + Wait + Eprint + AllocGlobal + Copy + Drop,
     ensures { IfOk result (λ sources. length sources.items ≡ SOURCES) }
 {
     let mut sources = Vec::new(rt.alloc());
     'opening: for _ in 0..SOURCES {
-        sources.push(AnySource::of_a_server(rt, CELLS, id))?;
+        sources.push(choice.of_a_server(rt, CELLS, id)?)?;
     }
     Ok(sources)
 }
 
 /// Serves so many connections at a port. The sources are sent to threads and open their files there, so all that the runtime opens may go
 /// there, folders among it.
-fn served<R>(rt: &R, words: ServeWords, clock: Clock) -> Status
+fn serve_links<R>(rt: &R, words: ServeWords, clock: Clock) -> ExitCode
 where
     R: Threads
         + Wait
-        + Net
+        + Net<Listener = TcpListener, Stream = TcpStream>
         + std::time::Clock
         + Files<File = File>
         + AllocGlobal
+        + Eprint
         + Copy
         + Drop
         + Send
@@ -53,24 +59,25 @@ where
     R::Dir: Send + Sync,
     requires { (1 ≤ words.connections) × (words.connections ≤ 1000000) }
 {
-    let Ok(
-        Catalogue {
-            input: mut catalogue,
-            source,
-        },
-    ) = catalogue_of(rt)
-    else {
-        return Status::OutOfMemory;
+    let CatalogueInput {
+        input: mut catalogue,
+        source,
+        choice,
+        grain,
+    } = match catalogue_of(rt, true) {
+        Ok(catalogue) => catalogue,
+        Err(fault) => return without_source(rt, fault),
     };
-    let Ok(sources) = sources_of(*rt, source) else {
-        return Status::OutOfMemory;
+    let Ok(sources) = sources_of(*rt, &choice, source) else {
+        return exit_code(rt, Status::OutOfMemory);
     };
     let mut capabilities = Input::File(FileSource::open(rt, CAPABILITIES));
     let mut listener = match TcpAccept::bind(*rt, rt.alloc(), words.port) {
         Ok(listener) => listener,
-        Err(error) => return unconnected(&error),
+        Err(error) => return exit_code(rt, status_of_error(&error)),
     };
-    run_server(
+    let mut cache = open_cache(rt, false, grain);
+    let status = run_server(
         rt,
         rt.alloc(),
         words.connections,
@@ -78,10 +85,12 @@ where
         &mut capabilities,
         &mut listener,
         sources,
-        CacheDisk::open(rt, CACHE, false),
+        &mut cache,
         clock,
         Snapshot::of(&false),
-    )
+    );
+    tell_unfit(rt, &cache);
+    exit_code(rt, status)
 }
 
 /// Does what the words of a server say: `serve`, and those after it.
@@ -89,7 +98,7 @@ pub fn serve<R>(rt: &R, words: &[Words], clock: Clock) -> ExitCode
 where
     R: Threads
         + Wait
-        + Net
+        + Net<Listener = TcpListener, Stream = TcpStream>
         + std::time::Clock
         + Files<File = File>
         + AllocGlobal
@@ -104,10 +113,9 @@ where
         [_, after @ ..] => after,
         [] => words,
     };
-    let status = match serve_words(rt.alloc(), after) {
-        Ok(words) => served(rt, words, clock),
-        Err(ServeFault::Usage) => Status::Usage,
-        Err(ServeFault::OutOfMemory) => Status::OutOfMemory,
-    };
-    ended(rt, status)
+    match serve_words(rt.alloc(), after) {
+        Ok(words) => serve_links(rt, words, clock),
+        Err(ServeFault::Usage) => exit_code(rt, Status::Usage),
+        Err(ServeFault::OutOfMemory) => exit_code(rt, Status::OutOfMemory),
+    }
 }

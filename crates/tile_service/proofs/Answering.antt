@@ -18,7 +18,7 @@ use Rattle.tile_requests.specs.declared.outcome.Outcome.TheVariants as outcome
 use Rattle.tile_requests.specs.declared.request.Mode.TheVariants.{Gets}
 use Rattle.tile_requests.specs.declared.request.Request.{Request}
 use Rattle.tile_requests.specs.declared.request.Request.TheVariants as request
-use Rattle.tile_requests.specs.Events.{Opens, ended_by, ended_so}
+use Rattle.tile_requests.specs.Events.{BeginsByLine, ended_by, ended_so}
 use Rattle.tile_requests.specs.Immediate.{IsImmediate}
 use Rattle.tile_requests.specs.Requests.{IsOf, tile_of}
 use Rattle.tile_requests.specs.Served.{IsServedAtOnce, IsTileServed, outcome_of_get}
@@ -52,7 +52,7 @@ module _ (told : Option ℕ) (x y : Shown) (before after : ℕ) (r : Request) (o
   pub answers_so : IsOf x.state.catalogue r → seen (tile_of r) → (o ≡ outcome.SourceFailed → Rose before after) → (tile_of r ≡ None → after ≡ before) → x.faults ≤ y.faults
       → (IsServedAtOnce x.state.catalogue r gained o → IsImmediate x.faults y.faults x.state r o y.state)
       → ((a : Address) (result : Result Tile GetFault) → IsTile x.state.catalogue a → IsGotBy x.state.catalogue Sound a (fronted (now x.state)) gained result → IfErr result (λ e. e ≡ fault.SourceFault → Rose before after)
-      → Opens told before after x.faults y.faults x.state a Gets (ended_so (ended_by result)) y.state)
+      → BeginsByLine told before after x.faults y.faults x.state a Gets (ended_so (ended_by result)) y.state)
       → comes (tile_of r)
   answers_so of served cause idle later at_once gets = by_case (tile_of r) refl
     where

@@ -9,7 +9,7 @@ use Rattle.tile_requests.specs.declared.request.Mode.{Mode}
 use Rattle.tile_requests.specs.declared.request.Request.{Request}
 use Rattle.tile_requests.specs.declared.request.Request.TheVariants as request
 use Rattle.tile_requests.specs.Requests.{Chance, at_once, told_usage, tile_of}
-use Rattle.tile_service.specs.Run.{World, asked, is_failed, told_in}
+use Rattle.tile_service.specs.Run.{RunState, asked, is_failed, told_in}
 use Rattle.tile_service.specs.Session.{IsAtRest}
 use Rattle.tile_service.proofs.AtRest.{RestsAfter, cut_rests, expired_rests}
 use Rattle.tile_service.proofs.LaterCabinets.{IsLater, cut_later, expired_later, same}
@@ -43,6 +43,6 @@ module _ (s : State) (c : Chance) where
 
 -- THE LINE THAT ASKS FOR IT
 
-pub asked_at_once : (w : World) (n : ℕ) (c : Chance) (mode : Mode) (i : ℕ) (m : Message) (r : Request) → tile_of r ≡ None → asked w n c mode i m r ≡ told_in w n c i m (Some r) (at_once w.cabinet c r)
+pub asked_at_once : (w : RunState) (n : ℕ) (c : Chance) (mode : Mode) (i : ℕ) (m : Message) (r : Request) → tile_of r ≡ None → asked w n c mode i m r ≡ told_in w n c i m (Some r) (at_once w.cabinet c r)
 asked_at_once w n c mode i m (request.Tile a) e = absurd (cc)
 asked_at_once w n c mode i m other e = refl

@@ -4,7 +4,7 @@ use Rattle.std.specs.Prelude.{nat_le, nat_lt}
 use Rattle.std.proofs.lemmas.Bool.{eq-eqb}
 use Rattle.cabinet.specs.Commands.{answering, book_before, kept_at, others, place_for}
 use Rattle.cabinet.specs.Counted.{scope_exceeded, victim_in}
-use Rattle.cabinet.specs.declared.entry.Entry.TheVariants as entry
+use Rattle.cabinet.specs.declared.entry.HistoryEntry.TheVariants as entry
 use Rattle.cabinet.specs.declared.kept.Kept.{Kept}
 use Rattle.cabinet.specs.Hits.{hits_of}
 use Rattle.cabinet.specs.History.{next, stored_entry}

@@ -7,35 +7,35 @@ use Rattle.std.proofs.lemmas.List.Sums.{sum_by-append}
 use Rattle.cabinet.specs.Fresh as cabinet
 use Rattle.cabinet.specs.History.{History}
 use Rattle.cabinet.specs.State.{State}
-use Rattle.cache_core.specs.Fits.{Extends}
+use Rattle.cache_core.specs.Fits.{ExtendsHistory}
 use Rattle.cache_core.proofs.Endings.{extends_fresh}
 use Rattle.catalog.specs.declared.catalogue.Catalogue.{Catalogue}
 use Rattle.base.specs.Causes.{RoseBy}
 use Rattle.matrix_geometry.specs.declared.address.Address.{Address}
 use Rattle.tile_requests.specs.declared.outcome.Outcome.{Outcome}
 use Rattle.tile_requests.specs.declared.request.Request.{Request}
-use Rattle.tile_service.specs.declared.seats.Seat.TheVariants as seat
+use Rattle.tile_service.specs.declared.seats.ActorPlace.TheVariants as seat
 use Rattle.tile_service.specs.declared.seats.TheConstants.{ACTORS}
 use Rattle.tile_service.specs.Lines.{action_in}
-use Rattle.tile_service.specs.OneLine.{IsLine, IsSeat, IsWorld, IsTrueSeat, IsTrueWorld, seat_of}
+use Rattle.tile_service.specs.OneLine.{IsLine, IsSeat, IsRunState, IsTrueSeat, IsTrueWorld, seat_of}
 use Rattle.tile_requests.specs.Requests.{Chance, calm, tile_of, tile_in, IsFreshTile}
 use Rattle.sessions.specs.Outside.{FaultCounts, counts}
-use Rattle.tile_service.specs.Run.{PendingRequest, free_seats, owed_at, World, Answer, Run, run, behind, disk_faults, line_done, failures, unanswered, IsTrue, IsFresh, IsFreshFor, world_of}
+use Rattle.tile_service.specs.Run.{PendingRequest, free_seats, owed_at, RunState, Answer, Run, run, behind, disk_faults, line_done, failures, unanswered, IsTrue, IsFresh, IsFreshFor, run_state_of}
 use Rattle.tile_service.specs.Schedules.{IsUpheld}
 use Rattle.tile_requests.proofs.Moving.{within_longer}
 use Rattle.tile_service.proofs.Tiles.{IsAnsweredRun, run_answered}
 
 -- FRESH LATER
 
-tile_later : (c : Catalogue) (h g : History) (p : ℕ) (a : Address) (t : Option (ℕ × List ℕ)) → Extends h g → p ≤ length h → IfSome t (λ u. cabinet.IsFresh c h p a u.0) → IfSome t (λ u. cabinet.IsFresh c g p a u.0)
+tile_later : (c : Catalogue) (h g : History) (p : ℕ) (a : Address) (t : Option (ℕ × List ℕ)) → ExtendsHistory h g → p ≤ length h → IfSome t (λ u. cabinet.IsFresh c h p a u.0) → IfSome t (λ u. cabinet.IsFresh c g p a u.0)
 tile_later c h g p a None more l f = tt
 tile_later c h g p a (Some t) more l f = extends_fresh c h g p a t.0 more l f
 
-answer_later : (c : Catalogue) (h g : History) (p : ℕ) (a : Option Address) (o : Outcome) → Extends h g → p ≤ length h → IfSome a (λ b. IsFreshTile c h p b o) → IfSome a (λ b. IsFreshTile c g p b o)
+answer_later : (c : Catalogue) (h g : History) (p : ℕ) (a : Option Address) (o : Outcome) → ExtendsHistory h g → p ≤ length h → IfSome a (λ b. IsFreshTile c h p b o) → IfSome a (λ b. IsFreshTile c g p b o)
 answer_later c h g p None o more l f = tt
 answer_later c h g p (Some a) o more l f = tile_later c h g p a (tile_in o) more l f
 
-for_later : (c : Catalogue) (h g : History) (p : ℕ) (r : Option Request) (o : Outcome) → Extends h g → p ≤ length h → IsFreshFor c h p r o → IsFreshFor c g p r o
+for_later : (c : Catalogue) (h g : History) (p : ℕ) (r : Option Request) (o : Outcome) → ExtendsHistory h g → p ≤ length h → IsFreshFor c h p r o → IsFreshFor c g p r o
 for_later c h g p None o more l f = tt
 for_later c h g p (Some r) o more l f = answer_later c h g p (tile_of r) o more l f
 
@@ -43,7 +43,7 @@ for_later c h g p (Some r) o more l f = answer_later c h g p (tile_of r) o more 
 abbrev pub IsPlaced : Catalogue → History → Answer → Type 0
 IsPlaced c h a = (a.place ≤ length h) × IsFresh c h a
 
-pub answers_later : (c : Catalogue) (h g : History) → Extends h g → (answers : List Answer) → AllByRecursion (IsPlaced c h) answers → AllByRecursion (IsPlaced c g) answers
+pub answers_later : (c : Catalogue) (h g : History) → ExtendsHistory h g → (answers : List Answer) → AllByRecursion (IsPlaced c h) answers → AllByRecursion (IsPlaced c g) answers
 answers_later c h g more [] all = tt
 answers_later c h g more (a ∷ answers) all = ((within_longer h g a.place more all.0.0, for_later c h g a.place a.request a.outcome more all.0.0 all.0.1), answers_later c h g more answers all.1)
 
@@ -54,12 +54,12 @@ all_fresh c h (a ∷ answers) all = (all.0.1, all_fresh c h answers all.1)
 -- HOW FAR
 
 -- n lines are done under these chances, and came to these answers
-pub record Far (told : Option ℕ) (before after : ℕ) (disk : FaultCounts) (w : World) (done : List (List ℕ)) (made : List Chance) (answers : List Answer) (n : ℕ) (t : World) : Type 0 where
+pub record Far (told : Option ℕ) (before after : ℕ) (disk : FaultCounts) (w : RunState) (done : List (List ℕ)) (made : List Chance) (answers : List Answer) (n : ℕ) (t : RunState) : Type 0 where
   pub goes : (tail : List (List ℕ)) (more : List Chance) → run w 1 (done ++ tail) (made ++ more) ≡ behind answers (run t (n + 1) tail more)
   pub later : before ≤ after
   pub failed : RoseBy (failures answers + unanswered t.seats) before after
   pub faults : RoseBy (disk_faults made) disk.before disk.after
-  pub world : IsWorld t
+  pub world : IsRunState t
   pub free : AllByRecursion (IsTrueSeat w.cabinet.catalogue) w.seats
   pub sound : told ≡ Some w.cabinet.catalogue.source → IsTrueWorld w → IsTrueWorld t
   pub truth : told ≡ Some w.cabinet.catalogue.source → IsTrueWorld w → AllByRecursion (IsTrue w.cabinet.catalogue) answers
@@ -67,7 +67,7 @@ pub record Far (told : Option ℕ) (before after : ℕ) (disk : FaultCounts) (w 
   pub catalogue : t.cabinet.catalogue ≡ w.cabinet.catalogue
   pub capabilities : t.capabilities ≡ w.capabilities
 
-far_start : (told : Option ℕ) (n faults : ℕ) (w : World) → IsWorld w → unanswered w.seats ≡ 0 → AllByRecursion (IsTrueSeat w.cabinet.catalogue) w.seats → Far told n n (counts faults faults) w [] [] [] 0 w
+far_start : (told : Option ℕ) (n faults : ℕ) (w : RunState) → IsRunState w → unanswered w.seats ≡ 0 → AllByRecursion (IsTrueSeat w.cabinet.catalogue) w.seats → Far told n n (counts faults faults) w [] [] [] 0 w
 far_start told n faults w world none free =
     record {
       goes = λ tail more. refl;
@@ -91,11 +91,11 @@ all_append P [] bs h k = k
 all_append P (a ∷ news) bs h k = (h.0, all_append P news bs h.1 k)
 
 -- one line, and then others
-one_line : (t u : World) (n : ℕ) (line : List ℕ) (c : Chance) (news : List Answer) → line_done t n c (action_in line) ≡ Some (u, news)
+one_line : (t u : RunState) (n : ℕ) (line : List ℕ) (c : Chance) (news : List Answer) → line_done t n c (action_in line) ≡ Some (u, news)
     → (tail : List (List ℕ)) (more : List Chance) → run t n (line ∷ tail) (c ∷ more) ≡ behind news (run u (n + 1) tail more)
 one_line t u n line c news e tail more = rw e refl
 
-module _ {told told' : Option ℕ} {before mid after disk_before disk_mid disk_after : ℕ} {w : World} {done : List (List ℕ)} {made : List Chance} {answers : List Answer} {n : ℕ} {line : List ℕ} {t u : World} {news : List Answer}
+module _ {told told' : Option ℕ} {before mid after disk_before disk_mid disk_after : ℕ} {w : RunState} {done : List (List ℕ)} {made : List Chance} {answers : List Answer} {n : ℕ} {line : List ℕ} {t u : RunState} {news : List Answer}
     (f : Far told before mid (counts disk_before disk_mid) w done made answers n t) (same : told' ≡ told) (l : IsLine told' mid after (counts disk_mid disk_after) t (n + 1) line u news) where
   goes_more : (tail : List (List ℕ)) (more : List Chance) → run w 1 ((done ++ line ∷ []) ++ tail) ((made ++ l.chance ∷ []) ++ more) ≡ behind (answers ++ news) (run u (n + 1 + 1) tail more)
   goes_more tail more =
@@ -145,7 +145,7 @@ module _ {told told' : Option ℕ} {before mid after disk_before disk_mid disk_a
       }
 
 -- nothing happens while the source goes on
-pub far_waits : {told : Option ℕ} {before mid after disk_before disk_mid disk_after : ℕ} {w : World} {done : List (List ℕ)} {made : List Chance} {answers : List Answer} {n : ℕ} {t : World} → Far told before mid (counts disk_before disk_mid) w done made answers n t → mid ≤ after → disk_mid ≤ disk_after
+pub far_waits : {told : Option ℕ} {before mid after disk_before disk_mid disk_after : ℕ} {w : RunState} {done : List (List ℕ)} {made : List Chance} {answers : List Answer} {n : ℕ} {t : RunState} → Far told before mid (counts disk_before disk_mid) w done made answers n t → mid ≤ after → disk_mid ≤ disk_after
     → Far told before after (counts disk_before disk_after) w done made answers n t
 far_waits f later disk_later =
     record {
@@ -164,7 +164,7 @@ far_waits f later disk_later =
 
 -- ENDS
 
-module _ {told : Option ℕ} {before after : ℕ} {disk : FaultCounts} {w : World} {done : List (List ℕ)} {made : List Chance} {answers : List Answer} {n : ℕ} {t : World} (f : Far told before after disk w done made answers n t) where
+module _ {told : Option ℕ} {before after : ℕ} {disk : FaultCounts} {w : RunState} {done : List (List ℕ)} {made : List Chance} {answers : List Answer} {n : ℕ} {t : RunState} (f : Far told before after disk w done made answers n t) where
   abbrev pub came_to : Option ℕ → Run
   came_to refused = record { answers = answers; world = t; refused = refused }
 
@@ -208,5 +208,5 @@ free_same zero = refl
 free_same (suc n) = ap (λ xs. seat.Free ∷ xs) (free_same n)
 
 -- at the start no actor is busy
-pub far_start_free : (told : Option ℕ) (n faults : ℕ) (s : State) (document : List ℕ) → Far told n n (counts faults faults) (world_of s document free_seats) [] [] [] 0 (world_of s document free_seats)
-far_start_free told n faults s document = far_start told n faults (world_of s document free_seats) (all_free (IsSeat s.catalogue s.history) tt ACTORS) (none_owed ACTORS) (all_free (IsTrueSeat s.catalogue) tt ACTORS)
+pub far_start_free : (told : Option ℕ) (n faults : ℕ) (s : State) (document : List ℕ) → Far told n n (counts faults faults) (run_state_of s document free_seats) [] [] [] 0 (run_state_of s document free_seats)
+far_start_free told n faults s document = far_start told n faults (run_state_of s document free_seats) (all_free (IsSeat s.catalogue s.history) tt ACTORS) (none_owed ACTORS) (all_free (IsTrueSeat s.catalogue) tt ACTORS)

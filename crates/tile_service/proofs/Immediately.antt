@@ -13,7 +13,7 @@ use Rattle.tile_requests.specs.Immediate.{IsImmediate}
 use Rattle.tile_requests.specs.Requests.{Chance, at_once, disk_faults_in, events, tile_of}
 use Rattle.tile_requests.specs.Routes.{request_for}
 use Rattle.sessions.specs.Outside.{FaultCounts}
-use Rattle.tile_service.specs.Run.{PendingRequest, World, asked, sent, told_in, world_of}
+use Rattle.tile_service.specs.Run.{PendingRequest, RunState, asked, run_state_of, sent, told_in}
 use Rattle.tile_service.specs.Session.{IsAtRest}
 use Rattle.tile_service.proofs.AtOnce.{asked_at_once, holds}
 use Rattle.tile_service.proofs.AtRest.{RestsAfter}
@@ -36,7 +36,7 @@ same_events Asks s a c read left = refl
 same_events Forces s a c read left = refl
 
 -- a message that was read asks for this
-pub read_asks : (w : World) (n : ℕ) (c : Chance) (mode : Mode) (i : ℕ) (m : Message) (r : Request) (left : Bool) → r ≡ request_for w.cabinet.catalogue m → sent w n (with_ends c true left) mode i m ≡ asked w n (with_ends c true left) mode i m r
+pub read_asks : (w : RunState) (n : ℕ) (c : Chance) (mode : Mode) (i : ℕ) (m : Message) (r : Request) (left : Bool) → r ≡ request_for w.cabinet.catalogue m → sent w n (with_ends c true left) mode i m ≡ asked w n (with_ends c true left) mode i m r
 read_asks w n c mode i m r left e = let P : Request → Type 0 = λ x. sent w n (with_ends c true left) mode i m ≡ asked w n (with_ends c true left) mode i m x in subst P (sym e) refl
 
 -- ITS ANSWER
@@ -44,7 +44,7 @@ read_asks w n c mode i m r left e = let P : Request → Type 0 = λ x. sent w n 
 -- under this chance a line answers the request so, whoever is busy, whether memory is left to write it or not
 pub record IsTold (disk : FaultCounts) (s : State) (r : Request) (done : State × Outcome) : Type 0 where
   pub chance : Chance
-  pub made : (document : List ℕ) (busy : List (Option PendingRequest)) (n : ℕ) (mode : Mode) (i : ℕ) (m : Message) (left : Bool) → asked (world_of s document busy) n (with_ends chance true left) mode i m r ≡ (world_of done.0 document busy, told_answer s n i m (Some r) done.1 left ∷ [])
+  pub made : (document : List ℕ) (busy : List (Option PendingRequest)) (n : ℕ) (mode : Mode) (i : ℕ) (m : Message) (left : Bool) → asked (run_state_of s document busy) n (with_ends chance true left) mode i m r ≡ (run_state_of done.0 document busy, told_answer s n i m (Some r) done.1 left ∷ [])
   pub faults : RoseBy (disk_faults_in chance) disk.before disk.after
   pub other : tile_of r ≡ None
   pub stays : Stays s done
@@ -56,7 +56,7 @@ immediate_told disk s r o t k =
     record {
       chance = k.chance;
       made = λ document busy n mode i m left.
-          let w : World = world_of s document busy in
+          let w : RunState = run_state_of s document busy in
           let c = with_ends k.chance true left in
           asked_at_once w n c mode i m r k.other ∙ ap (told_in w n c i m (Some r)) (same_at_once s k.chance true left r ∙ k.made);
       faults = k.faults;

@@ -3,10 +3,10 @@ use Rattle.std.proofs.Common.{◌≡◌, ℕ, ◌<◌, ◌≤◌, Bool, true, fa
 use Rattle.std.specs.Prelude.{nat_lt}
 use Rattle.cabinet.specs.Commands.{book_before}
 use Rattle.cabinet.specs.Counted.{scope_exceeded, victim_in}
-use Rattle.cabinet.specs.declared.entry.Entry.{Entry}
-use Rattle.cabinet.specs.declared.entry.Entry.TheVariants as entry
+use Rattle.cabinet.specs.declared.entry.HistoryEntry.{HistoryEntry}
+use Rattle.cabinet.specs.declared.entry.HistoryEntry.TheVariants as entry
 use Rattle.cabinet.specs.declared.kept.KeptBlob.{KeptBlob}
-use Rattle.cabinet.specs.History.{Standing, after, last_number, next}
+use Rattle.cabinet.specs.History.{CabinetStanding, after, last_number, next}
 use Rattle.cabinet.specs.State.{State, asked_at, grown, now}
 use Rattle.cabinet.proofs.Rows.{now_more}
 use Rattle.catalog.specs.declared.catalogue.Catalogue.{Catalogue}
@@ -35,7 +35,7 @@ later s t u a b = record { opening = b.opening ∙ a.opening; front = let i = a.
 pub before : (s t : State) → IsLater s t → HasNumbers t → HasNumbers s
 before s t a left = let i = a.front in let j : (now t).front < last_number s.opening = subst (λ o. (now t).front < last_number o) a.opening left in omega arith
 
-front_after : (c : Catalogue) (s : Standing) (e : Entry) → s.front ≤ (after c s e).front
+front_after : (c : Catalogue) (s : CabinetStanding) (e : HistoryEntry) → s.front ≤ (after c s e).front
 front_after c s (entry.At n) = omega arith
 front_after c s (entry.Started k m) = omega arith
 front_after c s (entry.Cut t cover) = omega arith
@@ -46,8 +46,8 @@ front_after c s (entry.Ended k) = omega arith
 front_after c s (entry.Used m) = omega arith
 front_after c s (entry.Dropped m) = omega arith
 
-pub grows : (s : State) (e : Entry) (blobs : Option (List KeptBlob)) → IsLater s (grown s e blobs)
-grows s e blobs = record { opening = refl; front = subst (λ (x : Standing). (now s).front ≤ x.front) (sym (now_more s e blobs)) (front_after s.catalogue (now s) e) }
+pub grows : (s : State) (e : HistoryEntry) (blobs : Option (List KeptBlob)) → IsLater s (grown s e blobs)
+grows s e blobs = record { opening = refl; front = subst (λ (x : CabinetStanding). (now s).front ≤ x.front) (sym (now_more s e blobs)) (front_after s.catalogue (now s) e) }
 
 pub asked_later : (s : State) (n : ℕ) → IsLater s (asked_at n s)
 asked_later s n = let g = grows s (entry.At n) s.blobs in record { opening = refl; front = g.front }

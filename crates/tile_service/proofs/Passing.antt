@@ -5,7 +5,7 @@ use Rattle.cache_core.specs.Lasting.{Lasting}
 use Rattle.http_wire.specs.declared.message.Message.{Message}
 use Rattle.tile_requests.specs.Requests.{Chance}
 use Rattle.tile_service.specs.Passing.{LeadsThrough, AfterLines, AfterMessages}
-use Rattle.tile_service.specs.Run.{World, run}
+use Rattle.tile_service.specs.Run.{RunState, run}
 use Rattle.tile_service.specs.Session.{lone, session}
 
 -- KEEPERS
@@ -52,18 +52,18 @@ last_seam n xs y = seam (take_seam n xs y [])
 -- LINES
 
 -- P holds of the cabinet after each number of these lines, whatever chances come behind these
-abbrev pub SoFar : (State → Type 0) → World → List (List ℕ) → List Chance → Type 0
+abbrev pub SoFar : (State → Type 0) → RunState → List (List ℕ) → List Chance → Type 0
 SoFar P w done made = (n : ℕ) (more : List Chance) → P (run w 1 (take n done) (made ++ more)).world.cabinet
 
-pub passed_none : (P : State → Type 0) (w : World) → P w.cabinet → SoFar P w [] []
+pub passed_none : (P : State → Type 0) (w : RunState) → P w.cabinet → SoFar P w [] []
 passed_none P w is n more = subst (λ (ls : List (List ℕ)). P (run w 1 ls more).world.cabinet) (sym (take_none n)) is
 
 -- those are all of the lines
-pub passed_all : (P : State → Type 0) (w : World) (lines : List (List ℕ)) (made : List Chance) → SoFar P w lines made → AfterLines P w lines made
+pub passed_all : (P : State → Type 0) (w : RunState) (lines : List (List ℕ)) (made : List Chance) → SoFar P w lines made → AfterLines P w lines made
 passed_all P w lines made so n = subst (λ (cs : List Chance). P (run w 1 (take n lines) cs).world.cabinet) (append-nil made) (so n [])
 
 -- one line more, which came to this cabinet
-pub passed_next : (P Q : State → Type 0) (w : World) (done : List (List ℕ)) (made : List Chance) (line : List ℕ) (c : Chance) (t : State) → SoFar P w done made → ((s : State) → P s → Q s)
+pub passed_next : (P Q : State → Type 0) (w : RunState) (done : List (List ℕ)) (made : List Chance) (line : List ℕ) (c : Chance) (t : State) → SoFar P w done made → ((s : State) → P s → Q s)
     → ((more : List Chance) → (run w 1 (done ++ line ∷ []) ((made ++ c ∷ []) ++ more)).world.cabinet ≡ t) → Q t → SoFar Q w (done ++ line ∷ []) (made ++ c ∷ [])
 passed_next P Q w done made line c t so onward there is n more = by (last_seam n done line)
   where
@@ -75,7 +75,7 @@ passed_next P Q w done made line c t so onward there is n more = by (last_seam n
     by (inr e) = subst (λ (ls : List (List ℕ)). Q (run w 1 ls ((made ++ c ∷ []) ++ more)).world.cabinet) (sym e) (subst Q (sym (there more)) is)
 
 -- the next line was refused, and the cabinet stayed
-pub passed_refused : (P : State → Type 0) (w : World) (done : List (List ℕ)) (made : List Chance) (line : List ℕ) (rest : List (List ℕ)) (t : State) → SoFar P w done made
+pub passed_refused : (P : State → Type 0) (w : RunState) (done : List (List ℕ)) (made : List Chance) (line : List ℕ) (rest : List (List ℕ)) (t : State) → SoFar P w done made
     → ((tail : List (List ℕ)) → (run w 1 (done ++ line ∷ tail) made).world.cabinet ≡ t) → P t → AfterLines P w (done ++ line ∷ rest) made
 passed_refused P w done made line rest t so there is n = by (take_seam n done line rest)
   where
@@ -84,7 +84,7 @@ passed_refused P w done made line rest t so there is n = by (take_seam n done li
     by (inr (m, e)) = subst (λ (ls : List (List ℕ)). P (run w 1 ls made).world.cabinet) (sym e) (subst P (sym (there (take m rest))) is)
 
 -- said of something weaker
-pub after_weaker : (P Q : State → Type 0) (w : World) (lines : List (List ℕ)) (chances : List Chance) → ((s : State) → P s → Q s) → AfterLines P w lines chances → AfterLines Q w lines chances
+pub after_weaker : (P Q : State → Type 0) (w : RunState) (lines : List (List ℕ)) (chances : List Chance) → ((s : State) → P s → Q s) → AfterLines P w lines chances → AfterLines Q w lines chances
 after_weaker P Q w lines chances onward after n = onward _ (after n)
 
 -- MESSAGES

@@ -6,7 +6,7 @@ use Rattle.cabinet.specs.State.{State}
 use Rattle.http_wire.specs.declared.message.Message.{Message}
 use Rattle.tile_requests.specs.declared.outcome.Outcome.{Outcome}
 use Rattle.sessions.specs.declared.session.SessionEnd.{SessionEnd}
-use Rattle.sessions.specs.Exchanges.{AreServed, Exchange, Standing, messages_of, response_at, responses_of}
+use Rattle.sessions.specs.Exchanges.{AreServed, Exchange, ServerStanding, messages_of, response_at, responses_of}
 use Rattle.sessions.specs.Outside.{FaultCounts, InputChange, Outside, counts}
 use Rattle.sessions.specs.SessionEnds.{Ends}
 use Rattle.sessions.specs.Sessions.{IsHeld}
@@ -19,15 +19,15 @@ use Rattle.tile_service.proofs.Passing.{Lasts, leads_here, leads_on}
 use Rattle.tile_service.proofs.SoFar.{HasServedThrough, is_served, served_next, served_start, the_answer}
 
 module _ {K Counter Jobs : Type 0} (Outlasts : K → K → Type 0) (state : K → State) (faults : K → ℕ) (keeper : Counter → K) (document : Counter → List ℕ) (told : Option ℕ) where
-  abbrev Serving : Message → Outcome → Standing Counter Jobs → Standing Counter Jobs → Type 0
+  abbrev Serving : Message → Outcome → ServerStanding Counter Jobs → ServerStanding Counter Jobs → Type 0
   Serving = ServesAndLasts Outlasts state faults keeper document told
 
   -- between the keepers of two standings
-  abbrev Leads : Standing Counter Jobs → Standing Counter Jobs → State → Type 0
+  abbrev Leads : ServerStanding Counter Jobs → ServerStanding Counter Jobs → State → Type 0
   Leads start now = LeadsThrough K state Outlasts (keeper start.cache) (keeper now.cache)
 
   -- from one standing to another these messages were answered by these responses
-  pub record HasReplayed (start now : Standing Counter Jobs) (messages : List Message) (texts : List (List ℕ)) : Type 0 where
+  pub record HasReplayed (start now : ServerStanding Counter Jobs) (messages : List Message) (texts : List (List ℕ)) : Type 0 where
     pub answers : List Answer
     pub many : ℕ
     pub through : HasServedThrough (Leads start now) told start.failures now.failures (counts (faults (keeper start.cache)) (faults (keeper now.cache))) (document start.cache) (state (keeper start.cache)) (state (keeper now.cache)) messages answers many
@@ -35,7 +35,7 @@ module _ {K Counter Jobs : Type 0} (Outlasts : K → K → Type 0) (state : K �
     pub same : document now.cache ≡ document start.cache
     pub lasts : Lasts state Outlasts (keeper start.cache) (keeper now.cache)
 
-  module _ (itself : (a : K) → Lasts state Outlasts a a) (on : (a b c : K) → Lasts state Outlasts a b → Lasts state Outlasts b c → Lasts state Outlasts a c) (start : Standing Counter Jobs) where
+  module _ (itself : (a : K) → Lasts state Outlasts a a) (on : (a b c : K) → Lasts state Outlasts a b → Lasts state Outlasts b c → Lasts state Outlasts a c) (start : ServerStanding Counter Jobs) where
     none_replayed : HasReplayed start start [] []
     none_replayed =
         let first = keeper start.cache in
@@ -48,9 +48,9 @@ module _ {K Counter Jobs : Type 0} (Outlasts : K → K → Type 0) (state : K �
           lasts = itself first;
         }
 
-    module _ {now : Standing Counter Jobs} {messages : List Message} {texts : List (List ℕ)} (h : HasReplayed start now messages texts) (e : Exchange Counter Jobs) (before : e.before ≡ now) (serves : Serving e.message e.outcome e.before e.after) where
+    module _ {now : ServerStanding Counter Jobs} {messages : List Message} {texts : List (List ℕ)} (h : HasReplayed start now messages texts) (e : Exchange Counter Jobs) (before : e.before ≡ now) (serves : Serving e.message e.outcome e.before e.after) where
       served : Serving e.message e.outcome now e.after
-      served = subst (λ (s : Standing Counter Jobs). Serving e.message e.outcome s e.after) before serves
+      served = subst (λ (s : ServerStanding Counter Jobs). Serving e.message e.outcome s e.after) before serves
 
       its_message : Serves told now.failures e.after.failures (counts (faults (keeper now.cache)) (faults (keeper e.after.cache))) (document start.cache) (state (keeper now.cache)) e.message e.outcome (state (keeper e.after.cache))
       its_message = subst (λ (d : List ℕ). Serves told now.failures e.after.failures (counts (faults (keeper now.cache)) (faults (keeper e.after.cache))) d (state (keeper now.cache)) e.message e.outcome (state (keeper e.after.cache))) h.same served.serves
@@ -71,10 +71,10 @@ module _ {K Counter Jobs : Type 0} (Outlasts : K → K → Type 0) (state : K �
             lasts = lasts;
           }
 
-    all_replayed : (es : List (Exchange Counter Jobs)) {last now : Standing Counter Jobs} {messages : List Message} {texts : List (List ℕ)} (h : HasReplayed start now messages texts) → AreServed Serving now es last
+    all_replayed : (es : List (Exchange Counter Jobs)) {last now : ServerStanding Counter Jobs} {messages : List Message} {texts : List (List ℕ)} (h : HasReplayed start now messages texts) → AreServed Serving now es last
         → HasReplayed start last (messages ++ messages_of es) (texts ++ responses_of (document start.cache) (h.many + 1) es)
     unfolding one_replayed
-    all_replayed [] {messages = messages} {texts = texts} h are = rw (append-nil messages, append-nil texts) (subst (λ (s : Standing Counter Jobs). HasReplayed start s messages texts) (sym are) h)
+    all_replayed [] {messages = messages} {texts = texts} h are = rw (append-nil messages, append-nil texts) (subst (λ (s : ServerStanding Counter Jobs). HasReplayed start s messages texts) (sym are) h)
     all_replayed (e ∷ es) {last = last} {messages = messages} {texts = texts} h are =
         let d = document start.cache in
         let next = one_replayed h e are.0 are.1 in
@@ -82,7 +82,7 @@ module _ {K Counter Jobs : Type 0} (Outlasts : K → K → Type 0) (state : K �
         (subst (λ (ts : List (List ℕ)). HasReplayed start last ((messages ++ e.message ∷ []) ++ messages_of es) ts) (append_assoc texts (response_at d (h.many + 1) e ∷ []) (responses_of d (h.many + 1 + 1) es)) (all_replayed es next are.2))
 
     -- a session that was held by such a server is one that is promised of its cabinet
-    module _ {last : Standing Counter Jobs} {i : InputChange} {writes : FaultCounts} {from to : Option (List ℕ)} {end : SessionEnd} (x : IsHeld Serving i (record { writes = writes; from = from; to = to }) (document start.cache) start last end) where
+    module _ {last : ServerStanding Counter Jobs} {i : InputChange} {writes : FaultCounts} {from to : Option (List ℕ)} {end : SessionEnd} (x : IsHeld Serving i (record { writes = writes; from = from; to = to }) (document start.cache) start last end) where
       whole : HasReplayed start last (messages_of x.exchanges) (responses_of (document start.cache) 1 x.exchanges)
       unfolding none_replayed
       whole = all_replayed x.exchanges none_replayed x.served

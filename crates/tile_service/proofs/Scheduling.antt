@@ -3,12 +3,12 @@ use Rattle.std.proofs.Common.{◌≡◌, ℕ, map, replicate, ◌+◌, ◌≤◌
 use Rattle.std.specs.Io.KnownBytes.{Appends}
 use Rattle.std.proofs.lemmas.Grind.{flat_map-append}
 use Rattle.cabinet.specs.State.{State}
-use Rattle.tile_service.specs.declared.one_line.LineEnd.{LineEnd}
-use Rattle.tile_service.specs.declared.one_line.LineEnd.TheVariants as line_end
+use Rattle.tile_service.specs.declared.one_line.ScheduleLineEnd.{ScheduleLineEnd}
+use Rattle.tile_service.specs.declared.one_line.ScheduleLineEnd.TheVariants as line_end
 use Rattle.tile_service.specs.declared.run_lines.RunEnd.{RunEnd}
 use Rattle.tile_service.specs.declared.run_lines.RunEnd.TheVariants.{Done, Line, WriteFault}
-use Rattle.tile_service.specs.declared.seats.Seat.{Seat}
-use Rattle.tile_service.specs.declared.seats.Seat.TheVariants as seat
+use Rattle.tile_service.specs.declared.seats.ActorPlace.{ActorPlace}
+use Rattle.tile_service.specs.declared.seats.ActorPlace.TheVariants as seat
 use Rattle.tile_service.specs.declared.seats.TheConstants.{ACTORS}
 use Rattle.tile_service.specs.declared.cache_tally.CacheResult.{CacheResult}
 use Rattle.tile_service.specs.Written.{LineEnds, Writes}
@@ -16,7 +16,7 @@ use Rattle.tile_service.specs.Lines.{lines_of}
 use Rattle.tile_service.specs.OneLine.{seat_of}
 use Rattle.sessions.specs.Outside.{Outside, counts}
 use Rattle.tile_requests.specs.Requests.{Chance}
-use Rattle.tile_service.specs.Run.{PendingRequest, free_seats, World, Answer, Run, answer_text, world_of}
+use Rattle.tile_service.specs.Run.{PendingRequest, free_seats, RunState, Answer, Run, answer_text, run_state_of}
 use Rattle.tile_service.specs.Schedules.{HasRunThrough}
 use Rattle.tile_requests.specs.Sent.{AppendsFront}
 use Rattle.tile_requests.proofs.Known.{appends_more, appends_nothing}
@@ -35,15 +35,15 @@ pub record Moment : Type 0 where
   pub taken : Option (List ℕ)
   pub cabinet : State
   pub document : List ℕ
-  pub seats : List Seat
+  pub seats : List ActorPlace
 
 -- what is seen of the source and the output from one moment to another
 abbrev pub seen : Moment → Moment → Outside
 seen a b = record { told = a.told; renders = record { before = a.renders; after = b.renders }; disk = counts a.disk b.disk; writes = record { before = a.writes; after = b.writes }; from = a.taken; to = b.taken }
 
 -- the world at a moment, by what the actors are busy with
-abbrev pub world_at : Moment → List (Option PendingRequest) → World
-world_at m busy = world_of m.cabinet m.document busy
+abbrev pub world_at : Moment → List (Option PendingRequest) → RunState
+world_at m busy = run_state_of m.cabinet m.document busy
 
 -- HOW FAR
 
@@ -84,7 +84,7 @@ reads_start {start} P is free = (
 -- ONE LINE MORE
 
 -- the next line was taken from the rest and run, and ended so
-pub record RanLine (now there : Moment) (lines : ℕ) (rest : List ℕ) (end : LineEnd) : Type 0 where
+pub record RanLine (now there : Moment) (lines : ℕ) (rest : List ℕ) (end : ScheduleLineEnd) : Type 0 where
   pub line : List ℕ
   pub next : List ℕ
   pub split : lines_of rest ≡ line ∷ lines_of next
@@ -97,7 +97,7 @@ pub record RanLine (now there : Moment) (lines : ℕ) (rest : List ℕ) (end : L
 abbrev pub HasEnded : (State → Type 0) → Moment → Moment → List ℕ → RunEnd → Type 0
 HasEnded P start now text end = (busy : List (Option PendingRequest)) × (map seat_of busy ≡ now.seats) × HasRunThrough P (seen start now) (world_at start free_seats) text (world_at now busy) end
 
-module _ {start now there : Moment} {text rest : List ℕ} {lines : ℕ} {end : LineEnd} (f : Reads start now text lines rest) (l : RanLine now there lines rest end) where
+module _ {start now there : Moment} {text rest : List ℕ} {lines : ℕ} {end : ScheduleLineEnd} (f : Reads start now text lines rest) (l : RanLine now there lines rest end) where
   split_more : lines_of text ≡ (f.done ++ l.line ∷ []) ++ lines_of l.next
   split_more = f.split ∙ rw l.split (sym (append_assoc f.done (l.line ∷ []) (lines_of l.next)))
 
@@ -105,7 +105,7 @@ module _ {start now there : Moment} {text rest : List ℕ} {lines : ℕ} {end : 
   line_ended : (later : List (Option PendingRequest)) × (map seat_of later ≡ there.seats) × LineEnds (seen now there) (world_at now f.busy) (lines + 1) l.line (world_at there later) end
   line_ended =
       let d = l.writes f.busy (record { same = f.seated; world = f.far.world }) in
-      (d.0, d.1, subst (λ x. LineEnds (seen now there) (world_at now f.busy) (lines + 1) l.line (world_of there.cabinet x d.0) end) (sym l.document) d.2)
+      (d.0, d.1, subst (λ x. LineEnds (seen now there) (world_at now f.busy) (lines + 1) l.line (run_state_of there.cabinet x d.0) end) (sym l.document) d.2)
 
 -- what held of the cabinets so far holds of them yet, said by a later keeper, and so it does of the one now
 module _ (P Q : State → Type 0) (onward : (s : State) → P s → Q s) where

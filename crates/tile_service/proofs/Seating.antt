@@ -1,6 +1,6 @@
 -- What holds of worlds after events of one actor.
 use Rattle.std.proofs.Common.{◌≡◌, ℕ, zero, suc, ◌+◌, ◌≤◌, Bool, true, false, List, [], ◌∷◌, length, slice_get, slice_set, Option, Some, None, refl, ap, subst, arith}
-use Rattle.std.specs.Prelude.{sum_by}
+use Rattle.std.specs.Prelude.{if◌then◌else◌, sum_by}
 use Rattle.std.specs.List.{AllByRecursion}
 use Rattle.std.proofs.lemmas.List.Sums.{sum_by-cons}
 use Rattle.cabinet.specs.History.{History}
@@ -10,14 +10,19 @@ use Rattle.cache_core.specs.declared.actor.Actor.TheVariants as actor
 use Rattle.cache_core.specs.declared.actor.Step.{Step}
 use Rattle.cache_core.specs.declared.outcome.TileOutcome as cached
 use Rattle.cache_core.specs.declared.outcome.TileOutcome.TheVariants as core
-use Rattle.cache_core.specs.Fits.{IsFreshActor, IsFreshOutcome, IsTrueActor, IsTrueOutcome, Extends}
+use Rattle.cache_core.specs.Fits.{IsFreshActor, IsFreshOutcome, IsTrueActor, IsTrueOutcome, ExtendsHistory}
 use Rattle.cache_core.proofs.Endings.{extends_fresh}
 use Rattle.catalog.specs.declared.catalogue.Catalogue.{Catalogue}
 use Rattle.matrix_geometry.specs.declared.address.Address.{Address}
-use Rattle.tile_requests.specs.Events.{StayCovered, failing, GoesOn, Moves}
-use Rattle.tile_requests.specs.Requests.{owed}
+use Rattle.tile_requests.specs.Events.{StayCovered, failing, GoesOn, MovesRequest}
+use Rattle.tile_requests.specs.declared.outcome.Outcome.{Outcome}
+use Rattle.tile_requests.specs.declared.outcome.Outcome.TheVariants as outcome
+use Rattle.tile_requests.specs.declared.outcome.Plain.TheVariants as plain
+use Rattle.tile_requests.specs.declared.request.Request.TheVariants as request
+use Rattle.tile_requests.specs.Requests.{is_respelt, owed}
+use Rattle.tile_requests.specs.Routes.{spelling_of}
 use Rattle.tile_service.specs.OneLine.{IsSeat, IsTrueSeat, Keeps}
-use Rattle.tile_service.specs.Run.{PendingRequest, seat_after, answers_after, failures, owed_at, unanswered, IsTrue, IsFresh, world_of}
+use Rattle.tile_service.specs.Run.{Answer, PendingRequest, seat_after, answers_after, failures, owed_at, unanswered, IsTrue, IsFresh, run_state_of}
 use Rattle.tile_requests.proofs.Moving.{within_longer}
 
 -- LISTS
@@ -58,24 +63,29 @@ sum_set f (z ∷ zs) (suc i) x y e =
 
 -- SEATS LATER
 
-actor_later : (c : Catalogue) (h g : History) (p : ℕ) (a : Address) (x : Actor) → Extends h g → p ≤ length h → IsFreshActor c h p a x → IsFreshActor c g p a x
+actor_later : (c : Catalogue) (h g : History) (p : ℕ) (a : Address) (x : Actor) → ExtendsHistory h g → p ≤ length h → IsFreshActor c h p a x → IsFreshActor c g p a x
 actor_later c h g p a actor.Idle more l f = tt
 actor_later c h g p a (actor.Waiting b force) more l f = tt
 actor_later c h g p a (actor.Holding t b) more l f = extends_fresh c h g p a t.number more l f
 actor_later c h g p a (actor.Rendered t blob tile) more l f = extends_fresh c h g p a tile.number more l f
 actor_later c h g p a (actor.Failed t) more l f = tt
 
-seat_later : (c : Catalogue) (h g : History) → Extends h g → (seat : Option PendingRequest) → IsSeat c h seat → IsSeat c g seat
+seat_later : (c : Catalogue) (h g : History) → ExtendsHistory h g → (seat : Option PendingRequest) → IsSeat c h seat → IsSeat c g seat
 seat_later c h g more None is = tt
 seat_later c h g more (Some b) is =
     record { fits = is.fits; busy = is.busy; open_after = is.open_after; within = within_longer h g b.place more is.within; fresh = actor_later c h g b.place b.address b.actor more is.within is.fresh }
 
-pub seats_later : (c : Catalogue) (h g : History) → Extends h g → (seats : List (Option PendingRequest)) → AllByRecursion (IsSeat c h) seats → AllByRecursion (IsSeat c g) seats
+pub seats_later : (c : Catalogue) (h g : History) → ExtendsHistory h g → (seats : List (Option PendingRequest)) → AllByRecursion (IsSeat c h) seats → AllByRecursion (IsSeat c g) seats
 seats_later c h g more seats all = all_mapped (IsSeat c h) (IsSeat c g) (seat_later c h g more) seats all
 
 -- AFTER EVENTS OF ONE ACTOR
 
-module _ (told : Option ℕ) (before after : ℕ) (s t : State) (first : Actor) (b : PendingRequest) (step : Step) (m : Moves told before after s first b.address b.place step t) (open_after : step.outcome ≡ None → b.message.last ≡ false) where
+-- an outcome, or that of no memory
+pub either : (P : Outcome → Type 0) (b : Bool) (o : Outcome) → P (outcome.Plain plain.NoMemory) → P o → P (if b then outcome.Plain plain.NoMemory else o)
+either P true o none some = none
+either P false o none some = some
+
+module _ (told : Option ℕ) (before after : ℕ) (s t : State) (first : Actor) (b : PendingRequest) (step : Step) (m : MovesRequest told before after s first b.address b.place step t) (open_after : step.outcome ≡ None → b.message.last ≡ false) where
   seat_kept : (o : Option cached.TileOutcome) → step.outcome ≡ o → IsSeat s.catalogue t.history (seat_after b step.actor o)
   seat_kept (Some o) e = tt
   seat_kept None e = let P : Option cached.TileOutcome → Type 0 = GoesOn step.actor in record { fits = m.fits; busy = subst P e m.goes_on; open_after = open_after e; within = m.within; fresh = m.held_fresh }
@@ -84,6 +94,10 @@ module _ (told : Option ℕ) (before after : ℕ) (s t : State) (first : Actor) 
   seat_true (Some o) held = tt
   seat_true None held = held
 
+  -- an answer of this outcome
+  abbrev answer_so : ℕ → ℕ → Outcome → Answer
+  answer_so n i o = record { line = n; actor = i; start = b.start; message = b.message; request = Some (request.Tile b.address); place = b.place; outcome = o }
+
   -- what is answered and what is owed is no more than the step has
   few : (n i : ℕ) (left : Bool) (o : Option cached.TileOutcome) → failures (answers_after n i left b o) + owed_at (seat_after b step.actor o) ≤ failing o + owed step.actor
   few n i left None = omega arith
@@ -91,7 +105,7 @@ module _ (told : Option ℕ) (before after : ℕ) (s t : State) (first : Actor) 
   few n i true (Some core.SourceFailed) = omega arith
   few n i true (Some core.Spent) = omega arith
   few n i true (Some core.NoMemory) = omega arith
-  few n i false (Some (core.Tile tile)) = omega arith
+  few n i false (Some (core.Tile tile)) = either (λ o. failures (answer_so n i o ∷ []) + 0 ≤ 0 + owed step.actor) (is_respelt (spelling_of b.message)) _ (omega arith) (omega arith)
   few n i false (Some core.SourceFailed) = omega arith
   few n i false (Some core.Spent) = omega arith
   few n i false (Some core.NoMemory) = omega arith
@@ -102,7 +116,7 @@ module _ (told : Option ℕ) (before after : ℕ) (s t : State) (first : Actor) 
   answers_true n i true (Some core.SourceFailed) h = (tt, tt)
   answers_true n i true (Some core.Spent) h = (tt, tt)
   answers_true n i true (Some core.NoMemory) h = (tt, tt)
-  answers_true n i false (Some (core.Tile tile)) h = (h, tt)
+  answers_true n i false (Some (core.Tile tile)) h = either (λ o. AllByRecursion (IsTrue s.catalogue) (answer_so n i o ∷ [])) (is_respelt (spelling_of b.message)) _ (tt, tt) (h, tt)
   answers_true n i false (Some core.SourceFailed) h = (tt, tt)
   answers_true n i false (Some core.Spent) h = (tt, tt)
   answers_true n i false (Some core.NoMemory) h = (tt, tt)
@@ -113,7 +127,7 @@ module _ (told : Option ℕ) (before after : ℕ) (s t : State) (first : Actor) 
   answers_fresh n i true (Some core.SourceFailed) h = ((m.within, tt), tt)
   answers_fresh n i true (Some core.Spent) h = ((m.within, tt), tt)
   answers_fresh n i true (Some core.NoMemory) h = ((m.within, tt), tt)
-  answers_fresh n i false (Some (core.Tile tile)) h = ((m.within, h), tt)
+  answers_fresh n i false (Some (core.Tile tile)) h = either (λ o. AllByRecursion (λ a. (a.place ≤ length t.history) × IsFresh s.catalogue t.history a) (answer_so n i o ∷ [])) (is_respelt (spelling_of b.message)) _ ((m.within, tt), tt) ((m.within, h), tt)
   answers_fresh n i false (Some core.SourceFailed) h = ((m.within, tt), tt)
   answers_fresh n i false (Some core.Spent) h = ((m.within, tt), tt)
   answers_fresh n i false (Some core.NoMemory) h = ((m.within, tt), tt)
@@ -131,7 +145,7 @@ module _ (told : Option ℕ) (before after : ℕ) (s t : State) (first : Actor) 
     seats_kept : AllByRecursion (IsSeat s.catalogue s.history) busy → AllByRecursion (IsSeat s.catalogue t.history) (slice_set busy i (seat_after b step.actor step.outcome))
     seats_kept all = all_set (IsSeat s.catalogue t.history) busy i _ (seats_later s.catalogue s.history t.history m.grows busy all) (seat_kept step.outcome refl)
 
-    pub settled_keeps : (n : ℕ) (left : Bool) → Keeps told before after (world_of s document busy) (world_of t document (slice_set busy i (seat_after b step.actor step.outcome))) (answers_after n i left b step.outcome)
+    pub settled_keeps : (n : ℕ) (left : Bool) → Keeps told before after (run_state_of s document busy) (run_state_of t document (slice_set busy i (seat_after b step.actor step.outcome))) (answers_after n i left b step.outcome)
     settled_keeps n left =
         record {
           later = m.later;

@@ -17,12 +17,12 @@ use Rattle.tile_requests.specs.declared.request.Request.{Request}
 use Rattle.tile_requests.specs.declared.request.Request.TheVariants as request
 use Rattle.tile_requests.specs.Immediate.{IsImmediate}
 use Rattle.tile_service.specs.Performing.{IsAnswered, IsGot}
-use Rattle.tile_requests.specs.Events.{Opens}
+use Rattle.tile_requests.specs.Events.{BeginsByLine}
 use Rattle.tile_service.specs.OneLine.{Keeps}
 use Rattle.tile_requests.specs.Requests.{calm, events, outcome_of, tile_of}
 use Rattle.tile_requests.specs.Routes.{request_for}
 use Rattle.sessions.specs.Outside.{FaultCounts}
-use Rattle.tile_service.specs.Run.{PendingRequest, World, seat_after, answers_after, settled, started, sent, world_of}
+use Rattle.tile_service.specs.Run.{PendingRequest, RunState, seat_after, answers_after, settled, started, sent, run_state_of}
 use Rattle.tile_service.specs.Serving.{Serves}
 use Rattle.tile_service.specs.Session.{IsAtRest, lone}
 use Rattle.tile_service.proofs.Answering.{is_tile}
@@ -34,7 +34,7 @@ use Rattle.tile_service.proofs.Telling.{same_stays, told_keeps}
 -- A MESSAGE IS SERVED
 
 -- what the events of a GET came to, where no render ran
-pub got_done : (told : Option ℕ) (before after : ℕ) (disk : FaultCounts) (s : State) (a : Address) (step : Step) (t : State) → IsAtRest s → Opens told before after disk.before disk.after s a Gets step t → IsDone (shown step t)
+pub got_done : (told : Option ℕ) (before after : ℕ) (disk : FaultCounts) (s : State) (a : Address) (step : Step) (t : State) → IsAtRest s → BeginsByLine told before after disk.before disk.after s a Gets step t → IsDone (shown step t)
 got_done told before after disk s a step t rest h = let P : Stepped → Type 0 = IsDone in subst P (sym h.made) (get_done a h.chance s rest)
 
 module _ (told : Option ℕ) (disk : FaultCounts) (document : List ℕ) (s : State) (m : Message) (rest : IsAtRest s) where
@@ -64,12 +64,12 @@ module _ (told : Option ℕ) (disk : FaultCounts) (document : List ℕ) (s : Sta
         rests = d.rests rest;
       }
 
-  module _ (before after : ℕ) (a : Address) (e : request.Tile a ≡ asks) (step : Step) (t : State) (h : Opens told before after disk.before disk.after s a Gets step t) where
+  module _ (before after : ℕ) (a : Address) (e : request.Tile a ≡ asks) (step : Step) (t : State) (h : BeginsByLine told before after disk.before disk.after s a Gets step t) where
     abbrev busy : ℕ → PendingRequest
     busy i = started (lone s document) i m a
 
-    abbrev there_after : PendingRequest → Option cached.TileOutcome → World
-    there_after b x = world_of t document (slice_set (None ∷ []) 0 (seat_after b step.actor x))
+    abbrev there_after : PendingRequest → Option cached.TileOutcome → RunState
+    there_after b x = run_state_of t document (slice_set (None ∷ []) 0 (seat_after b step.actor x))
 
     made_with : (i : ℕ) (left : Bool) (x : Option cached.TileOutcome) → step.outcome ≡ x → sent (lone s document) i (with_ends h.chance true left) Gets 0 m ≡ (there_after (busy i) x, answers_after i 0 left (busy i) x)
     made_with i left x is =

@@ -29,7 +29,7 @@ use Rattle.tile_requests.specs.declared.request.Request.TheVariants as request
 use Rattle.tile_service.specs.Lines.{Action, Nothing, Sends, Steps, action_in}
 use Rattle.tile_requests.specs.Requests.{Chance, at_once, is_at_work, further, carried_on, events, cut}
 use Rattle.tile_requests.specs.Routes.{request_for}
-use Rattle.tile_service.specs.Run.{PendingRequest, World, Answer, Run, seat_after, settled, started, resumed, asked, sent, if_free, stepped, line_done, goes_on, first_of, rest_of, run}
+use Rattle.tile_service.specs.Run.{PendingRequest, RunState, Answer, Run, seat_after, settled, started, resumed, asked, sent, if_free, stepped, line_done, goes_on, first_of, rest_of, run}
 use Rattle.tile_service.specs.Session.{session}
 use Rattle.tile_service.specs.Alike.{without_bytes, any_bytes}
 use Rattle.tile_service.proofs.AtOnce.{holds}
@@ -172,7 +172,7 @@ abbrev plain_seat : Option PendingRequest → Option PendingRequest
 plain_seat None = None
 plain_seat (Some b) = Some (record { start = b.start; message = b.message; address = b.address; place = b.place; actor = plain_actor b.actor })
 
-abbrev plain_world : World → World
+abbrev plain_world : RunState → RunState
 plain_world w = record { cabinet = plain w.cabinet; capabilities = w.capabilities; seats = map plain_seat w.seats }
 
 seats_twice : (seats : List (Option PendingRequest)) → map plain_seat (map plain_seat seats) ≡ map plain_seat seats
@@ -180,18 +180,18 @@ seats_twice [] = refl
 seats_twice (None ∷ seats) = ap (λ xs. None ∷ xs) (seats_twice seats)
 seats_twice (Some b ∷ seats) = rw (plain_twice b.actor, seats_twice seats) refl
 
-abbrev world_with : World → State → List (Option PendingRequest) → World
+abbrev world_with : RunState → State → List (Option PendingRequest) → RunState
 world_with w s seats = record { cabinet = s; capabilities = w.capabilities; seats = seats }
 
 -- a cabinet of the same shape, and the seats as they were
-same_seats : (w : World) (s t : State) → plain s ≡ plain t → plain_world (world_with w s w.seats) ≡ plain_world (world_with w t (map plain_seat w.seats))
+same_seats : (w : RunState) (s t : State) → plain s ≡ plain t → plain_world (world_with w s w.seats) ≡ plain_world (world_with w t (map plain_seat w.seats))
 same_seats w s t e = ap (λ u. world_with w u (map plain_seat w.seats)) e ∙ ap (world_with w (plain t)) (sym (seats_twice w.seats))
 
 seat_like : (b : PendingRequest) (x : Actor) (o : Option cached.TileOutcome) → plain_seat (seat_after b x o) ≡ seat_after b (plain_actor x) (marked o)
 seat_like b x None = refl
 seat_like b x (Some o) = refl
 
-settled_like : (w : World) (n i : ℕ) (c : Chance) (b d : PendingRequest) (r q : Stepped) → shape r ≡ shape q → ((x : Actor) (o : Option cached.TileOutcome) → seat_after b x o ≡ seat_after d x o)
+settled_like : (w : RunState) (n i : ℕ) (c : Chance) (b d : PendingRequest) (r q : Stepped) → shape r ≡ shape q → ((x : Actor) (o : Option cached.TileOutcome) → seat_after b x o ≡ seat_after d x o)
     → plain_world (settled w n c i b r).0 ≡ plain_world (settled (plain_world w) n (without_bytes c) i d q).0
 settled_like w n i c b d r q e same =
     let one : map plain_seat (slice_set w.seats i (seat_after b r.actor r.outcome)) ≡ slice_set (map plain_seat w.seats) i (seat_after b (plain_actor r.actor) (marked r.outcome)) =
@@ -204,24 +204,24 @@ settled_like w n i c b d r q e same =
 
 -- LINES
 
-abbrev world_in : World × List Answer → World
+abbrev world_in : RunState × List Answer → RunState
 world_in d = plain_world d.0
 
-asked_like : (w : World) (n : ℕ) (c : Chance) (mode : Mode) (i : ℕ) (m : Message) (r : Request) → world_in (asked w n c mode i m r) ≡ world_in (asked (plain_world w) n (without_bytes c) mode i m r)
+asked_like : (w : RunState) (n : ℕ) (c : Chance) (mode : Mode) (i : ℕ) (m : Message) (r : Request) → world_in (asked w n c mode i m r) ≡ world_in (asked (plain_world w) n (without_bytes c) mode i m r)
 asked_like w n c mode i m (request.Tile a) = settled_like w n i c (started w n m a) (started (plain_world w) n m a) (events mode w.cabinet a c) (events mode (plain w.cabinet) a (without_bytes c)) (events_like mode w.cabinet a c) (λ x o. refl)
 asked_like w n c mode i m other = same_seats w (at_once w.cabinet c other).0 (at_once (plain w.cabinet) c other).0 (holds w.cabinet c other).like
 
-either_like : (b : Bool) (d e f g : World × List Answer) → world_in d ≡ world_in f → world_in e ≡ world_in g → world_in (if b then d else e) ≡ world_in (if b then f else g)
+either_like : (b : Bool) (d e f g : RunState × List Answer) → world_in d ≡ world_in f → world_in e ≡ world_in g → world_in (if b then d else e) ≡ world_in (if b then f else g)
 either_like true d e f g h k = h
 either_like false d e f g h k = k
 
-sent_like : (w : World) (n : ℕ) (c : Chance) (mode : Mode) (i : ℕ) (m : Message) → world_in (sent w n c mode i m) ≡ world_in (sent (plain_world w) n (without_bytes c) mode i m)
+sent_like : (w : RunState) (n : ℕ) (c : Chance) (mode : Mode) (i : ℕ) (m : Message) → world_in (sent w n c mode i m) ≡ world_in (sent (plain_world w) n (without_bytes c) mode i m)
 sent_like w n c mode i m = either_like c.read _ _ _ _ (asked_like w n c mode i m (request_for w.cabinet.catalogue m)) (same_seats w w.cabinet (plain w.cabinet) refl)
 
-abbrev worlds : Option (World × List Answer) → Option World
+abbrev worlds : Option (RunState × List Answer) → Option RunState
 worlds d = option_map world_in d
 
-free_like : (x : Option (Option PendingRequest)) (d e : World × List Answer) → world_in d ≡ world_in e → worlds (if_free x d) ≡ worlds (if_free (option_map plain_seat x) e)
+free_like : (x : Option (Option PendingRequest)) (d e : RunState × List Answer) → world_in d ≡ world_in e → worlds (if_free x d) ≡ worlds (if_free (option_map plain_seat x) e)
 free_like None d e same = refl
 free_like (Some None) d e same = ap (λ t. Some t) same
 free_like (Some (Some b)) d e same = refl
@@ -233,11 +233,11 @@ place_like (actor.Holding t a) here place = refl
 place_like (actor.Rendered t blob tile) here place = refl
 place_like (actor.Failed t) here place = refl
 
-resumed_like : (w : World) (b d : PendingRequest) → plain_seat (Some b) ≡ Some d → (x : Actor) (o : Option cached.TileOutcome) → seat_after (resumed w b) x o ≡ seat_after (resumed (plain_world w) (record b { actor = plain_actor b.actor })) x o
+resumed_like : (w : RunState) (b d : PendingRequest) → plain_seat (Some b) ≡ Some d → (x : Actor) (o : Option cached.TileOutcome) → seat_after (resumed w b) x o ≡ seat_after (resumed (plain_world w) (record b { actor = plain_actor b.actor })) x o
 resumed_like w b d is x None = rw (place_like b.actor (length w.cabinet.history) b.place) refl
 resumed_like w b d is x (Some o) = refl
 
-stepped_like : (w : World) (n : ℕ) (c : Chance) (i : ℕ) (x : Option (Option PendingRequest)) → worlds (stepped w n c i x) ≡ worlds (stepped (plain_world w) n (without_bytes c) i (option_map plain_seat x))
+stepped_like : (w : RunState) (n : ℕ) (c : Chance) (i : ℕ) (x : Option (Option PendingRequest)) → worlds (stepped w n c i x) ≡ worlds (stepped (plain_world w) n (without_bytes c) i (option_map plain_seat x))
 stepped_like w n c i None = refl
 stepped_like w n c i (Some None) = refl
 stepped_like w n c i (Some (Some b)) =
@@ -245,7 +245,7 @@ stepped_like w n c i (Some (Some b)) =
     ap (λ t. Some t) (settled_like w n i c (resumed w b) (resumed (plain_world w) d) (advanced w.cabinet b.actor c.work c.moment c.unread c.bytes c.unwritten) (advanced (plain w.cabinet) (plain_actor b.actor) c.work c.moment c.unread (any_bytes c.bytes) c.unwritten)
     (advanced_like w.cabinet b.actor c.work c.moment c.unread c.bytes c.unwritten) (resumed_like w b d refl))
 
-done_like : (w : World) (n : ℕ) (c : Chance) (d : Option Action) → worlds (line_done w n c d) ≡ worlds (line_done (plain_world w) n (without_bytes c) d)
+done_like : (w : RunState) (n : ℕ) (c : Chance) (d : Option Action) → worlds (line_done w n c d) ≡ worlds (line_done (plain_world w) n (without_bytes c) d)
 done_like w n c None = refl
 done_like w n c (Some Nothing) = ap (λ t. Some t) (same_seats w w.cabinet (plain w.cabinet) refl)
 done_like w n c (Some (Sends mode i m)) = rw (slice_get-map plain_seat w.seats i) (free_like (slice_get w.seats i) (sent w n c mode i m) (sent (plain_world w) n (without_bytes c) mode i m) (sent_like w n c mode i m))
@@ -253,7 +253,7 @@ done_like w n c (Some (Steps i)) = rw (slice_get-map plain_seat w.seats i) (step
 
 -- RUNS
 
-abbrev told_of : Run → World × Option ℕ
+abbrev told_of : Run → RunState × Option ℕ
 told_of r = (plain_world r.world, r.refused)
 
 first_like : (cs : List Chance) → without_bytes (first_of cs) ≡ first_of (map without_bytes cs)
@@ -269,15 +269,15 @@ all_twice [] = refl
 all_twice (c ∷ cs) = rw (without_twice c, all_twice cs) refl
 
 -- a line more
-goes_like : (w v : World) (n : ℕ) (on off : World → Run) (x y : Option (World × List Answer)) → plain_world w ≡ plain_world v → worlds x ≡ worlds y
-    → ((t u : World) → plain_world t ≡ plain_world u → told_of (on t) ≡ told_of (off u)) → told_of (goes_on w n x on) ≡ told_of (goes_on v n y off)
-goes_like w v n on off None None e same h = ap (λ (t : World). let p : World × Option ℕ = (t, Some n) in p) e
+goes_like : (w v : RunState) (n : ℕ) (on off : RunState → Run) (x y : Option (RunState × List Answer)) → plain_world w ≡ plain_world v → worlds x ≡ worlds y
+    → ((t u : RunState) → plain_world t ≡ plain_world u → told_of (on t) ≡ told_of (off u)) → told_of (goes_on w n x on) ≡ told_of (goes_on v n y off)
+goes_like w v n on off None None e same h = ap (λ (t : RunState). let p : RunState × Option ℕ = (t, Some n) in p) e
 goes_like w v n on off None (Some d) e same h = cc
 goes_like w v n on off (Some d) None e same h = cc
 goes_like w v n on off (Some d) (Some f) e same h = let k : plain_world d.0 ≡ plain_world f.0 = cc in h d.0 f.0 k
 
-pub run_like : (lines : List (List ℕ)) (w v : World) (n : ℕ) (cs ds : List Chance) → plain_world w ≡ plain_world v → map without_bytes cs ≡ map without_bytes ds → told_of (run w n lines cs) ≡ told_of (run v n lines ds)
-run_like [] w v n cs ds e k = ap (λ (t : World). let p : World × Option ℕ = (t, None) in p) e
+pub run_like : (lines : List (List ℕ)) (w v : RunState) (n : ℕ) (cs ds : List Chance) → plain_world w ≡ plain_world v → map without_bytes cs ≡ map without_bytes ds → told_of (run w n lines cs) ≡ told_of (run v n lines ds)
+run_like [] w v n cs ds e k = ap (λ (t : RunState). let p : RunState × Option ℕ = (t, None) in p) e
 run_like (line ∷ lines) w v n cs ds e k =
     let d = action_in line in
     let first : without_bytes (first_of cs) ≡ without_bytes (first_of ds) = first_like cs ∙ ap first_of k ∙ sym (first_like ds) in
@@ -285,22 +285,22 @@ run_like (line ∷ lines) w v n cs ds e k =
     let same : worlds (line_done w n (first_of cs) d) ≡ worlds (line_done v n (first_of ds) d) = done_like w n (first_of cs) d ∙ (rw (e, first) refl) ∙ sym (done_like v n (first_of ds) d) in
     goes_like w v n _ _ (line_done w n (first_of cs) d) (line_done v n (first_of ds) d) e same (λ t u h. run_like lines t u (n + 1) (rest_of cs) (rest_of ds) h rest)
 
-pub history_like : (w : World) (n : ℕ) (lines : List (List ℕ)) (cs ds : List Chance) → map without_bytes cs ≡ map without_bytes ds → (run w n lines cs).world.cabinet.history ≡ (run w n lines ds).world.cabinet.history
-history_like w n lines cs ds e = ap (λ (r : World × Option ℕ). r.0.cabinet.history) (run_like lines w w n cs ds refl e)
+pub history_like : (w : RunState) (n : ℕ) (lines : List (List ℕ)) (cs ds : List Chance) → map without_bytes cs ≡ map without_bytes ds → (run w n lines cs).world.cabinet.history ≡ (run w n lines ds).world.cabinet.history
+history_like w n lines cs ds e = ap (λ (r : RunState × Option ℕ). r.0.cabinet.history) (run_like lines w w n cs ds refl e)
 
-pub refused_like : (w : World) (n : ℕ) (lines : List (List ℕ)) (cs ds : List Chance) → map without_bytes cs ≡ map without_bytes ds → (run w n lines cs).refused ≡ (run w n lines ds).refused
-refused_like w n lines cs ds e = ap (λ (r : World × Option ℕ). r.1) (run_like lines w w n cs ds refl e)
+pub refused_like : (w : RunState) (n : ℕ) (lines : List (List ℕ)) (cs ds : List Chance) → map without_bytes cs ≡ map without_bytes ds → (run w n lines cs).refused ≡ (run w n lines ds).refused
+refused_like w n lines cs ds e = ap (λ (r : RunState × Option ℕ). r.1) (run_like lines w w n cs ds refl e)
 
 -- SESSIONS
 
-session_shape : (messages : List Message) (w v : World) (i : ℕ) (cs ds : List Chance) → plain_world w ≡ plain_world v → map without_bytes cs ≡ map without_bytes ds → world_in (session w i messages cs) ≡ world_in (session v i messages ds)
+session_shape : (messages : List Message) (w v : RunState) (i : ℕ) (cs ds : List Chance) → plain_world w ≡ plain_world v → map without_bytes cs ≡ map without_bytes ds → world_in (session w i messages cs) ≡ world_in (session v i messages ds)
 session_shape [] w v i cs ds e k = e
 session_shape (m ∷ messages) w v i cs ds e k =
     let first : without_bytes (first_of cs) ≡ without_bytes (first_of ds) = first_like cs ∙ ap first_of k ∙ sym (first_like ds) in
     let rest : map without_bytes (rest_of cs) ≡ map without_bytes (rest_of ds) = rest_like cs ∙ ap rest_of k ∙ sym (rest_like ds) in
     let same : world_in (sent w i (first_of cs) Gets 0 m) ≡ world_in (sent v i (first_of ds) Gets 0 m) =
-    sent_like w i (first_of cs) Gets 0 m ∙ ap (λ (t : World). world_in (sent t i (without_bytes (first_of cs)) Gets 0 m)) e ∙ ap (λ (c : Chance). world_in (sent (plain_world v) i c Gets 0 m)) first ∙ sym (sent_like v i (first_of ds) Gets 0 m) in
+    sent_like w i (first_of cs) Gets 0 m ∙ ap (λ (t : RunState). world_in (sent t i (without_bytes (first_of cs)) Gets 0 m)) e ∙ ap (λ (c : Chance). world_in (sent (plain_world v) i c Gets 0 m)) first ∙ sym (sent_like v i (first_of ds) Gets 0 m) in
     session_shape messages (sent w i (first_of cs) Gets 0 m).0 (sent v i (first_of ds) Gets 0 m).0 (i + 1) (rest_of cs) (rest_of ds) same rest
 
-pub session_like : (w : World) (i : ℕ) (messages : List Message) (cs ds : List Chance) → map without_bytes cs ≡ map without_bytes ds → (session w i messages cs).0.cabinet.history ≡ (session w i messages ds).0.cabinet.history
-session_like w i messages cs ds e = ap (λ (t : World). t.cabinet.history) (session_shape messages w w i cs ds refl e)
+pub session_like : (w : RunState) (i : ℕ) (messages : List Message) (cs ds : List Chance) → map without_bytes cs ≡ map without_bytes ds → (session w i messages cs).0.cabinet.history ≡ (session w i messages ds).0.cabinet.history
+session_like w i messages cs ds e = ap (λ (t : RunState). t.cabinet.history) (session_shape messages w w i cs ds refl e)

@@ -8,13 +8,14 @@ use Rattle.base.specs.Causes.{RoseBy}
 use Rattle.http_wire.specs.declared.message.Message.{Message}
 use Rattle.tile_requests.specs.declared.outcome.Outcome.{Outcome}
 use Rattle.tile_requests.specs.declared.request.Mode.TheVariants.{Gets}
-use Rattle.tile_service.specs.OneLine.{IsWorld}
+use Rattle.tile_service.specs.OneLine.{IsRunState}
 use Rattle.tile_requests.specs.Requests.{Chance, answered_at}
+use Rattle.tile_requests.specs.Routes.{spelling_of}
 use Rattle.sessions.specs.Outside.{FaultCounts, counts}
 use Rattle.tile_service.specs.Passing.{AfterMessages}
-use Rattle.tile_service.specs.Run.{World, Answer, disk_faults, sent, failures, IsTrue}
+use Rattle.tile_service.specs.Run.{RunState, Answer, disk_faults, sent, failures, IsTrue}
 use Rattle.tile_service.specs.Serving.{answer_to, Serves}
-use Rattle.tile_service.specs.Session.{lone, and_then, session, IsServed}
+use Rattle.tile_service.specs.Session.{lone, and_then, session, IsSessionServed}
 use Rattle.tile_service.proofs.Passing.{ServedSoFar, served_all, served_more, served_none}
 use Rattle.tile_service.proofs.Far.{IsPlaced, answers_later, all_fresh, all_append}
 use Rattle.tile_service.proofs.Tiles.{AreAnswered, session_answered}
@@ -56,25 +57,25 @@ served_start P told count faults document s is = (
 )
 
 -- a session of one actor who isn't busy
-lone_world : (s : State) (document : List ℕ) → IsWorld (lone s document)
+lone_world : (s : State) (document : List ℕ) → IsRunState (lone s document)
 lone_world s document = (tt, tt)
 
 -- one message, and then others
-one_message : (w u : World) (n : ℕ) (m : Message) (c : Chance) (news : List Answer) → sent w n c Gets 0 m ≡ (u, news)
+one_message : (w u : RunState) (n : ℕ) (m : Message) (c : Chance) (news : List Answer) → sent w n c Gets 0 m ≡ (u, news)
     → (tail : List Message) (more : List Chance) → session w n (m ∷ tail) (c ∷ more) ≡ and_then (u, news) (λ x. session x (n + 1) tail more)
 one_message w u n m c news e tail more = rw e refl
 
 -- answers before what comes to others
-abbrev behind_answers : List Answer → World × List Answer → World × List Answer
+abbrev behind_answers : List Answer → RunState × List Answer → RunState × List Answer
 behind_answers answers r = (r.0, answers ++ r.1)
 
-behind_both : (answers news : List Answer) (r : World × List Answer) → behind_answers answers (behind_answers news r) ≡ behind_answers (answers ++ news) r
-behind_both answers news r = ap (λ (xs : List Answer). let p : World × List Answer = (r.0, xs) in p) (sym (append_assoc answers news r.1))
+behind_both : (answers news : List Answer) (r : RunState × List Answer) → behind_answers answers (behind_answers news r) ≡ behind_answers (answers ++ news) r
+behind_both answers news r = ap (λ (xs : List Answer). let p : RunState × List Answer = (r.0, xs) in p) (sym (append_assoc answers news r.1))
 
 module _ {told told' : Option ℕ} {before mid after disk_before disk_mid disk_after : ℕ} {document : List ℕ} {s t u : State} {messages : List Message} {answers : List Answer} {n : ℕ} {m : Message} {o : Outcome}
     (f : HasServed told before mid (counts disk_before disk_mid) document s t messages answers n) (same : told' ≡ told) (h : Serves told' mid after (counts disk_mid disk_after) document t m o u) (left : Bool) where
   abbrev pub the_answer : Answer
-  the_answer = answer_to (n + 1) m h.request (length t.history) (answered_at left o)
+  the_answer = answer_to (n + 1) m h.request (length t.history) (answered_at (spelling_of m) left o)
 
   goes_more : (tail : List Message) (more : List Chance) → session (lone s document) 1 ((messages ++ m ∷ []) ++ tail) ((f.made ++ h.chance left ∷ []) ++ more) ≡ and_then (lone u document, answers ++ the_answer ∷ []) (λ w. session w (n + 1 + 1) tail more)
   goes_more tail more =
@@ -109,7 +110,7 @@ module _ {told told' : Option ℕ} {before mid after disk_before disk_mid disk_a
       all_append (IsPlaced s.catalogue u.history) answers (the_answer ∷ []) (answers_later s.catalogue t.history u.history k.grows answers f.fresh) (rw (sym f.catalogue) (k.fresh (lone_world t document)))
 
   came_to : (more : List Chance) → (session (lone s document) 1 (messages ++ m ∷ []) ((f.made ++ h.chance left ∷ []) ++ more)).0.cabinet ≡ u
-  came_to more = subst (λ (ms : List Message). (session (lone s document) 1 ms ((f.made ++ h.chance left ∷ []) ++ more)).0.cabinet ≡ u) (append-nil (messages ++ m ∷ [])) (ap (λ (d : World × List Answer). d.0.cabinet) (goes_more [] more))
+  came_to more = subst (λ (ms : List Message). (session (lone s document) 1 ms ((f.made ++ h.chance left ∷ []) ++ more)).0.cabinet ≡ u) (append-nil (messages ++ m ∷ [])) (ap (λ (d : RunState × List Answer). d.0.cabinet) (goes_more [] more))
 
   pub served_next : (P Q : State → Type 0) → ((x : State) → P x → Q x) → ServedSoFar P document s messages f.made → Q u
       → HasServedThrough Q told before after (counts disk_before disk_after) document s u (messages ++ m ∷ []) (answers ++ the_answer ∷ []) (n + 1)
@@ -134,7 +135,7 @@ module _ {told told' : Option ℕ} {before mid after disk_before disk_mid disk_a
 -- that is what is promised
 pub is_served : (P : State → Type 0) {told : Option ℕ} {before now : ℕ} {disk : FaultCounts} {document : List ℕ} {s t : State} {messages : List Message} {answers : List Answer} {n : ℕ}
     → (f : HasServed told before now disk document s t messages answers n) → ServedSoFar P document s messages f.made
-    → (h : IsServed told (record { before = before; after = now }) disk document s t messages answers) × AfterMessages P document s messages h.chances
+    → (h : IsSessionServed told (record { before = before; after = now }) disk document s t messages answers) × AfterMessages P document s messages h.chances
 is_served P {document = document} {s} {t} {messages} {answers} f so =
     let made : session (lone s document) 1 messages f.made ≡ (lone t document, answers) = rw (append-nil messages, append-nil f.made, append-nil answers) at (f.goes [] []) in (
       record {

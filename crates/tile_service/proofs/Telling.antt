@@ -4,12 +4,12 @@ use Rattle.std.specs.Prelude.{nat_lt}
 use Rattle.std.specs.Option.{IfSome}
 use Rattle.cabinet.specs.Commands.{book_before}
 use Rattle.cabinet.specs.Counted.{scope_exceeded, victim_in}
-use Rattle.cabinet.specs.declared.entry.Entry.TheVariants as entry
+use Rattle.cabinet.specs.declared.entry.HistoryEntry.TheVariants as entry
 use Rattle.cabinet.specs.Hits.{hits_of}
 use Rattle.cabinet.specs.History.{History, is_of, next}
 use Rattle.cabinet.specs.State.{State, IsPictured, IsSound, blobs_spared, blobs_without, now, with_cut}
 use Rattle.cabinet.proofs.Modelled.{some_and_made}
-use Rattle.cache_core.specs.Fits.{Extends}
+use Rattle.cache_core.specs.Fits.{ExtendsHistory}
 use Rattle.catalog.specs.declared.catalogue.Catalogue.{Catalogue}
 use Rattle.catalog.specs.declared.catalogue.Scope.{Scope}
 use Rattle.http_wire.specs.declared.message.Message.{Message}
@@ -19,9 +19,11 @@ use Rattle.tile_requests.specs.declared.outcome.Outcome.{Outcome}
 use Rattle.tile_requests.specs.declared.outcome.Outcome.TheVariants as outcome
 use Rattle.tile_requests.specs.declared.outcome.Plain.TheVariants as plain
 use Rattle.tile_requests.specs.declared.request.Request.{Request}
+use Rattle.tile_requests.specs.declared.spelling.Spelling.{Spelling}
+use Rattle.tile_requests.specs.Routes.{spelling_of}
 use Rattle.tile_service.specs.OneLine.{Keeps}
 use Rattle.tile_requests.specs.Requests.{answered_at, is_made, told_at, told_usage, cut_at, cut_by, cut, dropped, expired_in, expired, tile_of}
-use Rattle.tile_service.specs.Run.{PendingRequest, Answer, is_failed, failures, unanswered, IsTrueFor, IsFreshFor, world_of}
+use Rattle.tile_service.specs.Run.{PendingRequest, Answer, is_failed, failures, unanswered, IsTrueFor, IsFreshFor, run_state_of}
 use Rattle.tile_requests.specs.Texts.{dropped_text, usage_text}
 use Rattle.tile_requests.proofs.Moving.{stay_covered, within_longer}
 use Rattle.tile_service.proofs.Seating.{seats_later}
@@ -31,7 +33,7 @@ use Rattle.truncation_list.specs.declared.cover.Cover.{Cover}
 
 -- the catalogue stays, the history goes on, what is kept stays true, and no failure is told
 abbrev pub Stays : State → State × Outcome → Type 0
-Stays s done = (done.0.catalogue ≡ s.catalogue) × Extends s.history done.0.history × (IsSound s → IsSound done.0) × (is_failed done.1 ≡ false)
+Stays s done = (done.0.catalogue ≡ s.catalogue) × ExtendsHistory s.history done.0.history × (IsSound s → IsSound done.0) × (is_failed done.1 ≡ false)
 
 pub same_stays : (s : State) (o : Outcome) → is_failed o ≡ false → Stays s (s, o)
 same_stays s o e = (refl, ([], sym (append-nil s.history)), λ is. is, e)
@@ -40,9 +42,9 @@ none_failed : (left : Bool) (o : Outcome) → is_failed o ≡ false → is_faile
 none_failed true o e = e
 none_failed false o e = refl
 
-answer_succeeds : (left : Bool) (o : Outcome) → is_failed o ≡ false → is_failed (answered_at left o) ≡ false
-answer_succeeds true o e = e
-answer_succeeds false o e = chosen (is_made o)
+answer_succeeds : (spelling : Spelling) (left : Bool) (o : Outcome) → is_failed o ≡ false → is_failed (answered_at spelling left o) ≡ false
+answer_succeeds spelling true o e = e
+answer_succeeds spelling false o e = chosen (is_made spelling o)
   where
     chosen : (b : Bool) → is_failed (if b then outcome.Plain plain.NoMemory else o) ≡ false
     chosen true = refl
@@ -99,13 +101,13 @@ one_failed a e = rw e refl
 
 -- an immediate answer in line n, by the actor i
 abbrev pub told_answer : State → ℕ → ℕ → Message → Option Request → Outcome → Bool → Answer
-told_answer s n i m r o left = record { line = n; actor = i; start = n; message = m; request = r; place = length s.history; outcome = answered_at left o }
+told_answer s n i m r o left = record { line = n; actor = i; start = n; message = m; request = r; place = length s.history; outcome = answered_at (spelling_of m) left o }
 
 pub told_keeps : (told : Option ℕ) (count : ℕ) (s t : State) (document : List ℕ) (busy : List (Option PendingRequest)) (n i : ℕ) (m : Message) (r : Option Request) (o : Outcome) (left : Bool) → Stays s (t, o) → AsksNoTile r
-    → Keeps told count count (world_of s document busy) (world_of t document busy) (told_answer s n i m r o left ∷ [])
+    → Keeps told count count (run_state_of s document busy) (run_state_of t document busy) (told_answer s n i m r o left ∷ [])
 told_keeps told count s t document busy n i m r o left k other =
     let a = told_answer s n i m r o left in
-    let none : failures (a ∷ []) ≡ 0 = one_failed a (answer_succeeds left o k.3) in
+    let none : failures (a ∷ []) ≡ 0 = one_failed a (answer_succeeds (spelling_of m) left o k.3) in
     record {
       later = omega arith;
       failed = stay_covered count count (unanswered busy) (failures (a ∷ []) + unanswered busy) (omega arith) (omega arith);

@@ -1,6 +1,6 @@
 -- While numbers are left, a request for a tile is answered with the tile, unless memory ran out or the source failed.
 use Rattle.std.proofs.Common.{◌≡◌, ℕ, ◌+◌, ◌<◌, Bool, true, false, List, [], ◌∷◌, ◌++◌, length, slice_get, Option, Some, None, inl, inr, refl, arith, if◌then◌else◌}
-use Rattle.std.specs.Prelude.{nat_le, nat_lt, ⊤}
+use Rattle.std.specs.Prelude.{IsSome, nat_le, nat_lt, ◌⊎◌, ⊤}
 use Rattle.std.specs.List.{AllByRecursion}
 use Rattle.std.proofs.lemmas.Bool.Decides.{nat_tests}
 use Rattle.cabinet.specs.Commands.{answering, others, place_for}
@@ -24,15 +24,16 @@ use Rattle.tile_requests.specs.declared.request.Mode.{Mode}
 use Rattle.tile_requests.specs.declared.request.Mode.TheVariants.{Gets, Asks, Forces}
 use Rattle.tile_requests.specs.declared.request.Request.{Request}
 use Rattle.tile_requests.specs.declared.request.Request.TheVariants as request
-use Rattle.tile_requests.specs.Requests.{Chance, further, events, is_at_work}
-use Rattle.tile_requests.specs.Routes.{request_for}
+use Rattle.tile_requests.specs.Requests.{Chance, further, events, is_at_work, is_respelt, tile_in}
+use Rattle.tile_requests.specs.Routes.{request_for, spelling_of}
 use Rattle.tile_service.specs.Lines as lines
 use Rattle.tile_service.specs.Lines.{Action, action_in}
 use Rattle.tile_service.specs.Run as runs
-use Rattle.tile_service.specs.Run.{Answer, HasNumbers, IsAnsweredTile, PendingRequest, Run, World, answers_after, first_of, goes_on, if_free, line_done, rest_of, resumed, run, sent, settled, started, stepped}
+use Rattle.tile_service.specs.Run.{Answer, HasNumbers, IsAnsweredTile, PendingRequest, Run, RunState, answers_after, first_of, goes_on, if_free, line_done, rest_of, resumed, run, sent, settled, started, stepped}
 use Rattle.tile_service.specs.Session.{session}
 use Rattle.tile_service.proofs.AtOnce.{holds}
 use Rattle.tile_service.proofs.LaterCabinets.{IsLater, asked_later, before, grows, later, same}
+use Rattle.tile_service.proofs.Seating.{either}
 
 -- EVENTS
 
@@ -143,21 +144,21 @@ AreAnswered s t answers = IsLater s t × (HasNumbers t → AllByRecursion IsAnsw
 after_event : (n i : ℕ) (left : Bool) (b : PendingRequest) (o : Option cached.TileOutcome) (t : State) → Tells o t → HasNumbers t → AllByRecursion IsAnsweredTile (answers_after n i left b o)
 after_event n i left b None t tells some = tt
 after_event n i true b (Some (core.Tile tile)) t tells some = (inl refl, tt)
-after_event n i false b (Some (core.Tile tile)) t tells some = (inl refl, tt)
+after_event n i false b (Some (core.Tile tile)) t tells some = (either (λ o. IsSome (tile_in o) ⊎ (o ≡ outcome.Plain plain.NoMemory) ⊎ (o ≡ outcome.SourceFailed)) (is_respelt (spelling_of b.message)) _ (inr (inl refl)) (inl refl), tt)
 after_event n i true b (Some core.SourceFailed) t tells some = (inr (inr refl), tt)
 after_event n i false b (Some core.SourceFailed) t tells some = (inr (inl refl), tt)
 after_event n i left b (Some core.Spent) t tells some = absurd (tells some)
 after_event n i true b (Some core.NoMemory) t tells some = (inr (inl refl), tt)
 after_event n i false b (Some core.NoMemory) t tells some = (inr (inl refl), tt)
 
-settled_answered : (w : World) (n : ℕ) (c : Chance) (i : ℕ) (b : PendingRequest) (r : Stepped) → IsFair w.cabinet r → AreAnswered w.cabinet r.cabinet (settled w n c i b r).1
+settled_answered : (w : RunState) (n : ℕ) (c : Chance) (i : ℕ) (b : PendingRequest) (r : Stepped) → IsFair w.cabinet r → AreAnswered w.cabinet r.cabinet (settled w n c i b r).1
 settled_answered w n c i b r f = (f.later, after_event n i c.left b r.outcome r.cabinet f.tells)
 
-request_answered : (w : World) (n : ℕ) (c : Chance) (mode : Mode) (i : ℕ) (m : Message) (r : Request) → AreAnswered w.cabinet (runs.asked w n c mode i m r).0.cabinet (runs.asked w n c mode i m r).1
+request_answered : (w : RunState) (n : ℕ) (c : Chance) (mode : Mode) (i : ℕ) (m : Message) (r : Request) → AreAnswered w.cabinet (runs.asked w n c mode i m r).0.cabinet (runs.asked w n c mode i m r).1
 request_answered w n c mode i m (request.Tile a) = settled_answered w n c i (started w n m a) (events mode w.cabinet a c) (events_fair mode w.cabinet a c)
 request_answered w n c mode i m other = ((holds w.cabinet c other).later, λ left. (tt, tt))
 
-message_answered : (w : World) (n : ℕ) (c : Chance) (mode : Mode) (i : ℕ) (m : Message) → AreAnswered w.cabinet (sent w n c mode i m).0.cabinet (sent w n c mode i m).1
+message_answered : (w : RunState) (n : ℕ) (c : Chance) (mode : Mode) (i : ℕ) (m : Message) → AreAnswered w.cabinet (sent w n c mode i m).0.cabinet (sent w n c mode i m).1
 message_answered w n c mode i m = chosen c.read
   where
     chosen : (b : Bool)
@@ -166,11 +167,11 @@ message_answered w n c mode i m = chosen c.read
     chosen false = (same w.cabinet, λ left. (tt, tt))
 
 -- a line that isn't refused
-abbrev IsAnsweredLine : World → Option (World × List Answer) → Type 0
+abbrev IsAnsweredLine : RunState → Option (RunState × List Answer) → Type 0
 IsAnsweredLine w None = ⊤
 IsAnsweredLine w (Some d) = AreAnswered w.cabinet d.0.cabinet d.1
 
-line_answered : (w : World) (n : ℕ) (c : Chance) (action : Option Action) → IsAnsweredLine w (line_done w n c action)
+line_answered : (w : RunState) (n : ℕ) (c : Chance) (action : Option Action) → IsAnsweredLine w (line_done w n c action)
 line_answered w n c None = tt
 line_answered w n c (Some lines.Nothing) = (same w.cabinet, λ left. tt)
 line_answered w n c (Some (lines.Sends mode i m)) = chosen (slice_get w.seats i)
@@ -198,16 +199,16 @@ and_more s t u first more a b = (later s t u a.0 b.0, λ left. all_behind IsAnsw
 abbrev pub IsAnsweredRun : State → Run → Type 0
 IsAnsweredRun s r = AreAnswered s r.world.cabinet r.answers
 
-line_then : (w : World) (n : ℕ) (d : Option (World × List Answer)) (on : World → Run) → IsAnsweredLine w d → ((t : World) → IsAnsweredRun t.cabinet (on t)) → IsAnsweredRun w.cabinet (goes_on w n d on)
+line_then : (w : RunState) (n : ℕ) (d : Option (RunState × List Answer)) (on : RunState → Run) → IsAnsweredLine w d → ((t : RunState) → IsAnsweredRun t.cabinet (on t)) → IsAnsweredRun w.cabinet (goes_on w n d on)
 line_then w n None on a onward = (same w.cabinet, λ left. tt)
 line_then w n (Some d) on a onward = and_more w.cabinet d.0.cabinet (on d.0).world.cabinet d.1 (on d.0).answers a (onward d.0)
 
-pub run_answered : (w : World) (n : ℕ) (ls : List (List ℕ)) (cs : List Chance) → IsAnsweredRun w.cabinet (run w n ls cs)
+pub run_answered : (w : RunState) (n : ℕ) (ls : List (List ℕ)) (cs : List Chance) → IsAnsweredRun w.cabinet (run w n ls cs)
 run_answered w n [] cs = (same w.cabinet, λ left. tt)
 run_answered w n (l ∷ ls) cs =
     line_then w n (line_done w n (first_of cs) (action_in l)) (λ t. run t (n + 1) ls (rest_of cs)) (line_answered w n (first_of cs) (action_in l)) (λ t. run_answered t (n + 1) ls (rest_of cs))
 
-pub session_answered : (w : World) (i : ℕ) (ms : List Message) (cs : List Chance) → AreAnswered w.cabinet (session w i ms cs).0.cabinet (session w i ms cs).1
+pub session_answered : (w : RunState) (i : ℕ) (ms : List Message) (cs : List Chance) → AreAnswered w.cabinet (session w i ms cs).0.cabinet (session w i ms cs).1
 session_answered w i [] cs = (same w.cabinet, λ left. tt)
 session_answered w i (m ∷ ms) cs =
     let d = sent w i (first_of cs) Gets 0 m in

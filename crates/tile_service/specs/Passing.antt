@@ -4,7 +4,7 @@ use Rattle.cabinet.specs.State.{State}
 use Rattle.cache_core.specs.Lasting.{Lasting}
 use Rattle.http_wire.specs.declared.message.Message.{Message}
 use Rattle.tile_requests.specs.Requests.{Chance}
-use Rattle.tile_service.specs.Run.{World, run}
+use Rattle.tile_service.specs.Run.{RunState, run}
 use Rattle.tile_service.specs.Session.{lone, session}
 
 -- Between the first keeper and the last there was one whose cabinet was s. From the first to it a crash leaves what answers for each
@@ -16,7 +16,7 @@ pub record LeadsThrough (K : Type 0) (state : K → State) (Outlasts : K → K �
   pub after : Lasting (Outlasts mid last) (state mid) (state last)
 
 -- P holds of the cabinet after each number of these lines, from none to all
-abbrev pub AfterLines : (State → Type 0) → World → List (List ℕ) → List Chance → Type 0
+abbrev pub AfterLines : (State → Type 0) → RunState → List (List ℕ) → List Chance → Type 0
 AfterLines P w lines chances = (n : ℕ) → P (run w 1 (take n lines) chances).world.cabinet
 
 -- P holds of the cabinet after each number of these messages, from none to all

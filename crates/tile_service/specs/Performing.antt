@@ -12,8 +12,9 @@ use Rattle.tile_requests.specs.declared.request.Mode.{Mode}
 use Rattle.tile_requests.specs.declared.request.Mode.TheVariants.{Gets}
 use Rattle.tile_requests.specs.declared.request.Request.{Request}
 use Rattle.tile_requests.specs.declared.request.Request.TheVariants as request
-use Rattle.tile_service.specs.declared.seats.Seat.{Seat}
-use Rattle.tile_requests.specs.Events.{Opens}
+use Rattle.tile_requests.specs.declared.spelling.Spelling.{Spelling}
+use Rattle.tile_service.specs.declared.seats.ActorPlace.{ActorPlace}
+use Rattle.tile_requests.specs.Events.{BeginsByLine}
 use Rattle.tile_requests.specs.Immediate.{IsImmediate}
 use Rattle.tile_requests.specs.Requests.{outcome_of, tile_of}
 use Rattle.sessions.specs.Outside.{FaultCounts}
@@ -23,7 +24,7 @@ use Rattle.tile_service.specs.Seats.{action_end_of, next_seat}
 
 -- the tile was asked for, rendered and finished one after the other, and this is its outcome
 abbrev pub IsGot : Option ℕ → ℕ → ℕ → FaultCounts → State → Address → Outcome → State → Type 0
-IsGot told before after disk s a o t = (step : Step) × (ended : cached.TileOutcome) × Opens told before after disk.before disk.after s a Gets step t × (step.outcome ≡ Some ended) × (o ≡ outcome_of ended)
+IsGot told before after disk s a o t = (step : Step) × (ended : cached.TileOutcome) × BeginsByLine told before after disk.before disk.after s a Gets step t × (step.outcome ≡ Some ended) × (o ≡ outcome_of ended)
 
 -- any request: a tile was got, and what is answered without a render was answered so, and no source asked
 abbrev pub IsAnswered : Option ℕ → ℕ → ℕ → FaultCounts → State → Request → Outcome → State → Type 0
@@ -33,7 +34,7 @@ IsAnswered told before after disk s r o t = MatchOption (tile_of r) (IsImmediate
 
 -- a request that an actor starts: a tile comes to its events and the seat after them, all else to its outcome, and nothing
 -- else happens
-abbrev pub IsAsked : Option ℕ → ℕ → ℕ → FaultCounts → State → List Seat → ℕ → Mode → ℕ → Request → State → List Seat → ActionEnd → Type 0
-IsAsked told before after disk s seats n mode i r t seats' end =
-    ((a : Address) × (step : Step) × (r ≡ request.Tile a) × Opens told before after disk.before disk.after s a mode step t × (end ≡ action_end_of i n step.outcome) × (seats' ≡ slice_set seats i (next_seat n a step.actor step.outcome)))
-    ⊎ ((o : Outcome) × IsImmediate disk.before disk.after s r o t × (end ≡ Answers (record { actor = i; start = n; outcome = o })) × (seats' ≡ seats) × (after ≡ before) × (disk.before ≤ disk.after))
+abbrev pub IsAsked : Option ℕ → ℕ → ℕ → FaultCounts → State → List ActorPlace → ℕ → Mode → ℕ → Spelling → Request → State → List ActorPlace → ActionEnd → Type 0
+IsAsked told before after disk s seats n mode i spelling r t seats' end =
+    ((a : Address) × (step : Step) × (r ≡ request.Tile a) × BeginsByLine told before after disk.before disk.after s a mode step t × (end ≡ action_end_of i n spelling step.outcome) × (seats' ≡ slice_set seats i (next_seat n spelling a step.actor step.outcome)))
+    ⊎ ((o : Outcome) × IsImmediate disk.before disk.after s r o t × (end ≡ Answers (record { actor = i; start = n; spelling = spelling; outcome = o })) × (seats' ≡ seats) × (after ≡ before) × (disk.before ≤ disk.after))

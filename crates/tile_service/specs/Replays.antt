@@ -15,7 +15,7 @@ use Rattle.sessions.specs.SessionEnds.{Ends, GoBefore, GoOn, IsClosed, StopsTher
 use Rattle.tile_requests.specs.Sent.{AppendsPart}
 use Rattle.tile_service.specs.Passing.{AfterMessages}
 use Rattle.tile_service.specs.Run.{Answer}
-use Rattle.tile_service.specs.Session.{IsServed, reply_text, responses}
+use Rattle.tile_service.specs.Session.{IsSessionServed, reply_text, responses}
 
 -- A session was held over a link, by a cabinet that came from s to t. Its messages stand at the front of the bytes that were
 -- left, where modelled; after them stand bytes that were taken from the link too early, and those that are left now.
@@ -24,7 +24,7 @@ pub record HasSession (i : InputChange) (o : Outside) (document : List ℕ) (s t
   pub answers : List Answer
   pub held : List ℕ
   pub stand : StandIn i.from messages (prepend_known held i.to)
-  pub served : IsServed o.told o.renders o.disk document s t messages answers
+  pub served : IsSessionServed o.told o.renders o.disk document s t messages answers
   pub ends : Ends i (output_in o) messages (responses document answers) held (prepend_known held i.to) end
 
 -- such a session, with P of the cabinet after each of its messages

@@ -21,7 +21,7 @@ use Rattle.tile_service.specs.declared.seats.TheConstants.{ACTORS}
 use Rattle.tile_service.specs.Lines.{Action, Nothing, Sends, Steps, action_in}
 use Rattle.tile_requests.specs.Requests.{owed, Chance, at_once, calm, disk_faults_in, events, outcome_of, answered_at, tile_in, tile_of, IsTrueAnswer, IsFreshAnswer}
 use Rattle.tile_requests.specs.Response.{answered}
-use Rattle.tile_requests.specs.Routes.{request_for}
+use Rattle.tile_requests.specs.Routes.{request_for, spelling_of}
 
 -- WORLDS
 
@@ -36,14 +36,14 @@ pub record PendingRequest : Type 0 where
 
 -- what a run goes through: the cabinet, the capabilities document, which stays as it is, and what each actor is busy
 -- with
-pub record World : Type 0 where
+pub record RunState : Type 0 where
   pub cabinet : State
   pub capabilities : List ℕ
   pub seats : List (Option PendingRequest)
 
 -- the world of these
-abbrev pub world_of : State → List ℕ → List (Option PendingRequest) → World
-world_of s document busy = record { cabinet = s; capabilities = document; seats = busy }
+abbrev pub run_state_of : State → List ℕ → List (Option PendingRequest) → RunState
+run_state_of s document busy = record { cabinet = s; capabilities = document; seats = busy }
 
 -- no actor is busy
 abbrev pub free_seats : List (Option PendingRequest)
@@ -55,7 +55,7 @@ left_by s None = s
 left_by s (Some b) = given_up s b.actor
 
 -- at the end of a run the actors that are busy give up, in order
-abbrev pub closed : World → World
+abbrev pub closed : RunState → RunState
 closed w = record { cabinet = fold left_by w.cabinet w.seats; capabilities = w.capabilities; seats = free_seats }
 
 -- ANSWERS
@@ -72,9 +72,9 @@ pub record Answer : Type 0 where
   pub outcome : Outcome
 
 -- an immediate answer, by the cabinet that it leaves and its outcome
-abbrev pub told_in : World → ℕ → Chance → ℕ → Message → Option Request → State × Outcome → World × List Answer
+abbrev pub told_in : RunState → ℕ → Chance → ℕ → Message → Option Request → State × Outcome → RunState × List Answer
 told_in w n c i m r done =
-    let answer : Answer = record { line = n; actor = i; start = n; message = m; request = r; place = length w.cabinet.history; outcome = answered_at c.left done.1 } in
+    let answer : Answer = record { line = n; actor = i; start = n; message = m; request = r; place = length w.cabinet.history; outcome = answered_at (spelling_of m) c.left done.1 } in
     (record { cabinet = done.0; capabilities = w.capabilities; seats = w.seats }, answer ∷ [])
 
 -- EVENTS
@@ -87,45 +87,45 @@ seat_after b actor (Some o) = None
 -- the outcome is answered, by the actor i in line n
 abbrev pub answers_after : ℕ → ℕ → Bool → PendingRequest → Option cached.TileOutcome → List Answer
 answers_after n i left b None = []
-answers_after n i left b (Some o) = record { line = n; actor = i; start = b.start; message = b.message; request = Some (request.Tile b.address); place = b.place; outcome = answered_at left (outcome_of o) } ∷ []
+answers_after n i left b (Some o) = record { line = n; actor = i; start = b.start; message = b.message; request = Some (request.Tile b.address); place = b.place; outcome = answered_at (spelling_of b.message) left (outcome_of o) } ∷ []
 
 -- what events of what the actor i is busy with come to
-abbrev pub settled : World → ℕ → Chance → ℕ → PendingRequest → Stepped → World × List Answer
+abbrev pub settled : RunState → ℕ → Chance → ℕ → PendingRequest → Stepped → RunState × List Answer
 settled w n c i b r = (record { cabinet = r.cabinet; capabilities = w.capabilities; seats = slice_set w.seats i (seat_after b r.actor r.outcome) }, answers_after n i c.left b r.outcome)
 
 -- what an actor that starts in line n is busy with
-abbrev pub started : World → ℕ → Message → Address → PendingRequest
+abbrev pub started : RunState → ℕ → Message → Address → PendingRequest
 started w n m a = record { start = n; message = m; address = a; place = length w.cabinet.history; actor = actor.Idle }
 
 -- what it is busy with at its next event: an actor that waits asks or forces anew
-abbrev pub resumed : World → PendingRequest → PendingRequest
+abbrev pub resumed : RunState → PendingRequest → PendingRequest
 resumed w b = record { start = b.start; message = b.message; address = b.address; place = place_of b.actor (length w.cabinet.history) b.place; actor = b.actor }
 
 -- LINES
 
 -- a tile is asked for; anything else is answered immediately
-abbrev pub asked : World → ℕ → Chance → Mode → ℕ → Message → Request → World × List Answer
+abbrev pub asked : RunState → ℕ → Chance → Mode → ℕ → Message → Request → RunState × List Answer
 asked w n c mode i m (request.Tile a) = settled w n c i (started w n m a) (events mode w.cabinet a c)
 asked w n c mode i m other = told_in w n c i m (Some other) (at_once w.cabinet c other)
 
 -- a message is answered; memory may run out before it is read
-abbrev pub sent : World → ℕ → Chance → Mode → ℕ → Message → World × List Answer
+abbrev pub sent : RunState → ℕ → Chance → Mode → ℕ → Message → RunState × List Answer
 sent w n c mode i m = if c.read then asked w n c mode i m (request_for w.cabinet.catalogue m) else told_in w n c i m None (w.cabinet, Plain NoMemory)
 
 -- there is the actor, and it is not busy
-abbrev pub if_free : Option (Option PendingRequest) → World × List Answer → Option (World × List Answer)
+abbrev pub if_free : Option (Option PendingRequest) → RunState × List Answer → Option (RunState × List Answer)
 if_free None d = None
 if_free (Some None) d = Some d
 if_free (Some (Some b)) d = None
 
 -- there is the actor, and it is busy
-abbrev pub stepped : World → ℕ → Chance → ℕ → Option (Option PendingRequest) → Option (World × List Answer)
+abbrev pub stepped : RunState → ℕ → Chance → ℕ → Option (Option PendingRequest) → Option (RunState × List Answer)
 stepped w n c i None = None
 stepped w n c i (Some None) = None
 stepped w n c i (Some (Some b)) = Some (settled w n c i (resumed w b) (advanced w.cabinet b.actor c.work c.moment c.unread c.bytes c.unwritten))
 
 -- what one line does: the world after it and its answers, unless it is refused
-abbrev pub line_done : World → ℕ → Chance → Option Action → Option (World × List Answer)
+abbrev pub line_done : RunState → ℕ → Chance → Option Action → Option (RunState × List Answer)
 line_done w n c None = None
 line_done w n c (Some Nothing) = Some (w, [])
 line_done w n c (Some (Sends mode i m)) = if_free (slice_get w.seats i) (sent w n c mode i m)
@@ -134,13 +134,13 @@ line_done w n c (Some (Steps i)) = stepped w n c i (slice_get w.seats i)
 -- what a run has come to: its answers, the world, and the number of the line that was refused
 pub record Run : Type 0 where
   pub answers : List Answer
-  pub world : World
+  pub world : RunState
   pub refused : Option ℕ
 
 abbrev pub behind : List Answer → Run → Run
 behind answers r = record { answers = answers ++ r.answers; world = r.world; refused = r.refused }
 
-abbrev pub goes_on : World → ℕ → Option (World × List Answer) → (World → Run) → Run
+abbrev pub goes_on : RunState → ℕ → Option (RunState × List Answer) → (RunState → Run) → Run
 goes_on w n None on = record { answers = []; world = w; refused = Some n }
 goes_on w n (Some done) on = behind done.1 (on done.0)
 
@@ -153,7 +153,7 @@ rest_of [] = []
 rest_of (c ∷ cs) = cs
 
 -- the run of these lines, of which the first has the number n, with a chance for each
-abbrev pub run : World → ℕ → List (List ℕ) → List Chance → Run
+abbrev pub run : RunState → ℕ → List (List ℕ) → List Chance → Run
 run w n [] cs = record { answers = []; world = w; refused = None }
 run w n (line ∷ lines) cs = goes_on w n (line_done w n (first_of cs) (action_in line)) (λ t. run t (n + 1) lines (rest_of cs))
 

@@ -13,7 +13,7 @@ use Rattle.tile_service.specs.Lines.{lines_of}
 use Rattle.sessions.specs.Outside.{FaultCounts, Outside, InputChange}
 use Rattle.tile_service.specs.Passing.{AfterLines}
 use Rattle.tile_requests.specs.Requests.{Chance}
-use Rattle.tile_service.specs.Run.{World, Answer, Run, run, answer_text, disk_faults, output_of, failures, unanswered, closed, HasNumbers, IsAnsweredTile, IsTrue, IsFresh}
+use Rattle.tile_service.specs.Run.{RunState, Answer, Run, run, answer_text, disk_faults, output_of, failures, unanswered, closed, HasNumbers, IsAnsweredTile, IsTrue, IsFresh}
 use Rattle.tile_requests.specs.Sent.{AppendsPart}
 
 -- THE LINES OF A TEXT WERE RUN
@@ -25,12 +25,12 @@ GoesThrough all (run_end.Line n) lines = lines ≡ all
 GoesThrough all run_end.WriteFault lines = (rest : List (List ℕ)) × (all ≡ lines ++ rest)
 
 -- a run came to t, with this line refused or none, and all that it writes went out
-abbrev pub IsWhole : Outside → List ℕ → Run → World → Option ℕ → Type 0
+abbrev pub IsWhole : Outside → List ℕ → Run → RunState → Option ℕ → Type 0
 IsWhole o document r t refused = (r.refused ≡ refused) × (t ≡ r.world) × Appends o.from o.to (output_of document r)
 
 -- The last of these lines has an answer of which only a front went out, and not all of it; all that the lines before it write
 -- went out.
-pub record IsCutInLast (o : Outside) (w : World) (lines : List (List ℕ)) (chances : List Chance) : Type 0 where
+pub record IsCutInLast (o : Outside) (w : RunState) (lines : List (List ℕ)) (chances : List Chance) : Type 0 where
   pub before : List (List ℕ)
   pub line : List ℕ
   pub whole : lines ≡ before ++ line ∷ []
@@ -39,7 +39,7 @@ pub record IsCutInLast (o : Outside) (w : World) (lines : List (List ℕ)) (chan
   pub sent : AppendsPart o.from o.to (output_of w.capabilities (run w 1 before chances)) (answer_text w.capabilities answer)
 
 -- how the run of these lines ends, and what went out of what they write; after a write that failed nothing is done
-abbrev pub Ends : Outside → World → List (List ℕ) → List Chance → World → RunEnd → Type 0
+abbrev pub Ends : Outside → RunState → List (List ℕ) → List Chance → RunState → RunEnd → Type 0
 Ends o w lines chances t run_end.Done = IsWhole o w.capabilities (run w 1 lines chances) t None
 Ends o w lines chances t (run_end.Line n) = IsWhole o w.capabilities (run w 1 lines chances) t (Some n)
 Ends o w lines chances t run_end.WriteFault = (t ≡ (run w 1 lines chances).world) × Rose o.writes.before o.writes.after × IsCutInLast o w lines chances
@@ -48,7 +48,7 @@ Ends o w lines chances t run_end.WriteFault = (t ≡ (run w 1 lines chances).wor
 -- to be answered, than its count rose by. Where the source is modelled as the catalogue's, each tile is the picture of its
 -- number, and so is all that is kept at the end where all that was kept at the start was; and each tile is fresh at its last ask or force. While numbers are left, each request for a tile is answered with the tile, but
 -- where memory ran out or the source failed: no fault of a disk comes between.
-pub record IsUpheld (told : Option ℕ) (renders : FaultCounts) (w : World) (r : Run) : Type 0 where
+pub record IsUpheld (told : Option ℕ) (renders : FaultCounts) (w : RunState) (r : Run) : Type 0 where
   pub failed : RoseBy (failures r.answers + unanswered r.world.seats) renders.before renders.after
   pub truth : told ≡ Some w.cabinet.catalogue.source → IsSound w.cabinet → AllByRecursion (IsTrue w.cabinet.catalogue) r.answers
   pub sound : told ≡ Some w.cabinet.catalogue.source → IsSound w.cabinet → IsSound r.world.cabinet
@@ -57,7 +57,7 @@ pub record IsUpheld (told : Option ℕ) (renders : FaultCounts) (w : World) (r :
 
 -- From w the lines of a text came to t: this is the end of their run, under some chances. These name no more faults of the disk than
 -- its count rose by.
-pub record HasRun (o : Outside) (w : World) (text : List ℕ) (t : World) (end : RunEnd) : Type 0 where
+pub record HasRunSchedule (o : Outside) (w : RunState) (text : List ℕ) (t : RunState) (end : RunEnd) : Type 0 where
   pub lines : List (List ℕ)
   pub chances : List Chance
   pub through : GoesThrough (lines_of text) end lines
@@ -66,19 +66,19 @@ pub record HasRun (o : Outside) (w : World) (text : List ℕ) (t : World) (end :
   pub upheld : IsUpheld o.told o.renders w (run w 1 lines chances)
 
 -- such a run, with P of the cabinet after each of its lines
-abbrev pub HasRunThrough : (State → Type 0) → Outside → World → List ℕ → World → RunEnd → Type 0
-HasRunThrough P o w text t end = (h : HasRun o w text t end) × AfterLines P w h.lines h.chances
+abbrev pub HasRunThrough : (State → Type 0) → Outside → RunState → List ℕ → RunState → RunEnd → Type 0
+HasRunThrough P o w text t end = (h : HasRunSchedule o w text t end) × AfterLines P w h.lines h.chances
 
 -- A SCHEDULE WAS READ AND RUN
 
 -- the input was read to its end, the lines of its text were run, and then the actors that were busy gave up
-pub record HasRunAll (i : InputChange) (o : Outside) (w t : World) (end : RunEnd) : Type 0 where
+pub record HasRunAll (i : InputChange) (o : Outside) (w t : RunState) (end : RunEnd) : Type 0 where
   pub text : List ℕ
   pub read : Consumes i.from i.to text
   pub at_end : IsAtEnd i.to
   pub short : length text ≤ SCHEDULE_LIMIT
-  pub last : World
-  pub ran : HasRun o w text last end
+  pub last : RunState
+  pub ran : HasRunSchedule o w text last end
   pub closes : t ≡ closed last
 
 -- one byte more than a schedule may have was taken
@@ -92,7 +92,7 @@ end_of (run_end.Line n) = Line n
 end_of run_end.WriteFault = WriteFault
 
 -- what each end says; before the lines are run, all but the input is as it was
-abbrev pub Schedules : InputChange → Outside → Type 0 → World → World → ScheduleEnd → Type 0
+abbrev pub Schedules : InputChange → Outside → Type 0 → RunState → RunState → ScheduleEnd → Type 0
 Schedules i o Untouched w t Done = HasRunAll i o w t run_end.Done
 Schedules i o Untouched w t (Line n) = HasRunAll i o w t (run_end.Line n)
 Schedules i o Untouched w t WriteFault = HasRunAll i o w t run_end.WriteFault
@@ -101,7 +101,7 @@ Schedules i o Untouched w t TooLong = IsTooLong i × Untouched
 Schedules i o Untouched w t OutOfMemory = Untouched
 
 -- the cabinet after each line that was run has P; where none was run nothing is said
-abbrev pub Passes : (P : State → Type 0) (i : InputChange) (o : Outside) (Untouched : Type 0) (w t : World) (end : ScheduleEnd) → Schedules i o Untouched w t end → Type 0
+abbrev pub Passes : (P : State → Type 0) (i : InputChange) (o : Outside) (Untouched : Type 0) (w t : RunState) (end : ScheduleEnd) → Schedules i o Untouched w t end → Type 0
 Passes P i o Untouched w t Done h = AfterLines P w h.ran.lines h.ran.chances
 Passes P i o Untouched w t (Line n) h = AfterLines P w h.ran.lines h.ran.chances
 Passes P i o Untouched w t WriteFault h = AfterLines P w h.ran.lines h.ran.chances
@@ -110,5 +110,5 @@ Passes P i o Untouched w t TooLong h = ⊤
 Passes P i o Untouched w t OutOfMemory h = ⊤
 
 -- a schedule ended so, with P of the cabinet after each line that was run
-abbrev pub SchedulesThrough : (State → Type 0) → InputChange → Outside → Type 0 → World → World → ScheduleEnd → Type 0
+abbrev pub SchedulesThrough : (State → Type 0) → InputChange → Outside → Type 0 → RunState → RunState → ScheduleEnd → Type 0
 SchedulesThrough P i o Untouched w t end = (h : Schedules i o Untouched w t end) × Passes P i o Untouched w t end h

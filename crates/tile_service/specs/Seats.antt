@@ -9,36 +9,37 @@ use Rattle.matrix_geometry.specs.declared.address.Address.{Address}
 use Rattle.tile_service.specs.declared.action_end.ActionEnd.{ActionEnd}
 use Rattle.tile_service.specs.declared.action_end.ActionEnd.TheVariants.{Silent, Answers}
 use Rattle.tile_service.specs.declared.seats.Pending.{Pending}
-use Rattle.tile_service.specs.declared.seats.Seat.{Seat}
-use Rattle.tile_service.specs.declared.seats.Seat.TheVariants.{Free, Busy}
+use Rattle.tile_service.specs.declared.seats.ActorPlace.{ActorPlace}
+use Rattle.tile_service.specs.declared.seats.ActorPlace.TheVariants.{Free, Busy}
+use Rattle.tile_requests.specs.declared.spelling.Spelling.{Spelling}
 use Rattle.tile_requests.specs.Requests.{outcome_of}
 
 -- there is the seat, and no actor sits there
-abbrev pub is_free : Option Seat → Bool
+abbrev pub is_free : Option ActorPlace → Bool
 is_free None = false
 is_free (Some Free) = true
 is_free (Some (Busy pending)) = false
 
 -- the pending request at a seat, where there is one
-abbrev pub pending_at : Option Seat → Option Pending
+abbrev pub pending_at : Option ActorPlace → Option Pending
 pending_at None = None
 pending_at (Some Free) = None
 pending_at (Some (Busy pending)) = Some pending
 
 -- the seat after events of a request, and how the action ends
-abbrev pub next_seat : ℕ → Address → Actor → Option core.TileOutcome → Seat
-next_seat start a actor None = Busy (record { start = start; address = a; actor = actor })
-next_seat start a actor (Some o) = Free
+abbrev pub next_seat : ℕ → Spelling → Address → Actor → Option core.TileOutcome → ActorPlace
+next_seat start spelling a actor None = Busy (record { start = start; spelling = spelling; address = a; actor = actor })
+next_seat start spelling a actor (Some o) = Free
 
-abbrev pub action_end_of : ℕ → ℕ → Option core.TileOutcome → ActionEnd
-action_end_of i start None = Silent
-action_end_of i start (Some o) = Answers (record { actor = i; start = start; outcome = outcome_of o })
+abbrev pub action_end_of : ℕ → ℕ → Spelling → Option core.TileOutcome → ActionEnd
+action_end_of i start spelling None = Silent
+action_end_of i start spelling (Some o) = Answers (record { actor = i; start = start; spelling = spelling; outcome = outcome_of o })
 
 -- the actor of a seat gives up
-abbrev pub left_at : State → Seat → State
+abbrev pub left_at : State → ActorPlace → State
 left_at s Free = s
 left_at s (Busy pending) = given_up s pending.actor
 
 -- the actors of all seats give up, in order
-abbrev pub all_left : State → List Seat → State
+abbrev pub all_left : State → List ActorPlace → State
 all_left s seats = fold left_at s seats

@@ -10,21 +10,21 @@ use Rattle.tile_requests.specs.declared.request.Mode.TheVariants.{Gets}
 use Rattle.sessions.specs.Outside.{FaultCounts}
 use Rattle.tile_requests.specs.Requests.{Chance}
 use Rattle.tile_requests.specs.Response.{response}
-use Rattle.tile_service.specs.Run.{World, Answer, disk_faults, sent, first_of, rest_of, failures, HasNumbers, IsAnsweredTile, IsTrue, IsFresh}
+use Rattle.tile_service.specs.Run.{RunState, Answer, disk_faults, sent, first_of, rest_of, failures, HasNumbers, IsAnsweredTile, IsTrue, IsFresh}
 
 -- no render runs
 abbrev pub IsAtRest : State → Type 0
 IsAtRest s = alone.IsAtRest s
 
 -- a session has one actor, who is not busy between its messages
-abbrev pub lone : State → List ℕ → World
+abbrev pub lone : State → List ℕ → RunState
 lone s document = record { cabinet = s; capabilities = document; seats = None ∷ [] }
 
-abbrev pub and_then : World × List Answer → (World → World × List Answer) → World × List Answer
+abbrev pub and_then : RunState × List Answer → (RunState → RunState × List Answer) → RunState × List Answer
 and_then done on = let later = on done.0 in (later.0, done.1 ++ later.1)
 
 -- the run of these messages, of which the first is the i-th of its session, with a chance for each
-abbrev pub session : World → ℕ → List Message → List Chance → World × List Answer
+abbrev pub session : RunState → ℕ → List Message → List Chance → RunState × List Answer
 session w i [] cs = (w, [])
 session w i (m ∷ ms) cs = and_then (sent w i (first_of cs) Gets 0 m) (λ t. session t (i + 1) ms (rest_of cs))
 
@@ -44,7 +44,7 @@ responses document answers = map (reply_text document) answers
 -- at the start was; and each tile is fresh at its ask. While numbers are
 -- left, each request for a tile is answered with the tile, but where memory ran out or the source failed: no fault of a disk comes
 -- between.
-pub record IsServed (told : Option ℕ) (renders disk : FaultCounts) (document : List ℕ) (s t : State) (messages : List Message) (answers : List Answer) : Type 0 where
+pub record IsSessionServed (told : Option ℕ) (renders disk : FaultCounts) (document : List ℕ) (s t : State) (messages : List Message) (answers : List Answer) : Type 0 where
   pub chances : List Chance
   pub made : session (lone s document) 1 messages chances ≡ (lone t document, answers)
   pub each : map (λ a. a.message) answers ≡ messages

@@ -1,12 +1,14 @@
 //! How the action of a line ends, before its answer is written.
-use tile_requests::Outcome;
+use tile_requests::{Outcome, Spelling};
 
 /// What a line answers.
 #[derive(Drop)]
-pub struct Answer {
+pub struct LineAnswer {
     pub actor: u32,
     /// The line in which the request started, counted from 1.
     pub start: u64,
+    /// How a tile is spelt in it.
+    pub spelling: Spelling,
     pub outcome: Outcome,
 }
 
@@ -18,5 +20,5 @@ pub enum ActionEnd {
     /// It was performed, and has no answer.
     Silent,
     /// It was performed, and this is its answer.
-    Answers(Answer),
+    Answers(LineAnswer),
 }

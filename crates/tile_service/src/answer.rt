@@ -9,12 +9,13 @@ ghost use Rattle.tile_requests.specs.Sent.{AppendsFront};
 ghost use Rattle.tile_requests.specs.Shown.{shown_parts};
 ghost use Rattle.tile_service.specs.CacheTally.{result_of};
 
-use crate::action_end::Answer;
+use crate::action_end::LineAnswer;
 use crate::cache_tally::{CacheResult, result_of};
 use arrayvec::ArrayVec;
 use http_wire::{ByteSink, Sent};
+use png_text::CrcTables;
 use std::alloc::Global;
-use tile_requests::{Parts, add, add_number, bare, head, parts_of, send_behind};
+use tile_requests::{LentResponse, add, add_number, bare, head, parts_of, send_behind};
 
 /// The line that stands before a response. It takes no memory.
 fn answer_line(line: u64, actor: u32, start: u64, bytes: u64) -> ArrayVec<u8, 1024>
@@ -40,7 +41,7 @@ fn send_answer<O: ByteSink>(
     line: u64,
     actor: u32,
     start: u64,
-    parts: &Parts<'_>,
+    parts: &LentResponse<'_>,
 ) -> Result<(), Sent>
     ensures ok { OnOk result (Appends (O.taken output.old) (O.taken output.new) (framed line actor start (response_text false (shown_parts parts.now)))) }
     ensures err { OnErr result (AppendsFront (O.taken output.old) (O.taken output.new) (framed line actor start (response_text false (shown_parts parts.now)))) }
@@ -58,16 +59,17 @@ fn send_answer<O: ByteSink>(
 /// out, the answer says so. Gives what the answer tells of the cache. `Sent` where a write failed.
 pub fn write_answer<O: ByteSink>(
     alloc: Global,
+    tables: &CrcTables,
     document: &[u8],
     output: &mut O,
     line: u64,
-    answer: &Answer,
+    answer: &LineAnswer,
 ) -> Result<CacheResult, Sent>
-    ensures ok { IfOk result (λ told. MayTell answer.now.outcome (λ o. (told ≡ result_of o) × Appends (O.taken output.old) (O.taken output.new) (framed line answer.now.actor answer.now.start (response_with document.now false o)))) }
-    ensures err { OnErr result (MayTell answer.now.outcome (λ o. AppendsFront (O.taken output.old) (O.taken output.new) (framed line answer.now.actor answer.now.start (response_with document.now false o)))) }
+    ensures ok { IfOk result (λ told. MayTell answer.now.spelling answer.now.outcome (λ o. (told ≡ result_of o) × Appends (O.taken output.old) (O.taken output.new) (framed line answer.now.actor answer.now.start (response_with document.now answer.now.spelling false o)))) }
+    ensures err { OnErr result (MayTell answer.now.spelling answer.now.outcome (λ o. AppendsFront (O.taken output.old) (O.taken output.new) (framed line answer.now.actor answer.now.start (response_with document.now answer.now.spelling false o)))) }
     ensures cause { HasCause (O.faults output.old) (O.faults output.new) result }
 {
-    match parts_of(alloc, document, &answer.outcome) {
+    match parts_of(alloc, tables, document, answer.spelling, &answer.outcome) {
         Ok(parts) => match send_answer(output, line, answer.actor, answer.start, &parts) {
             Ok(()) => Ok(result_of(&answer.outcome)),
             Err(sent) => Err(sent),

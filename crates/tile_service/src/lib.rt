@@ -28,14 +28,16 @@ mod serving;
 mod session;
 mod streams;
 
-pub use action_end::{ActionEnd, Answer};
+pub use action_end::{ActionEnd, LineAnswer};
 pub use answer::write_answer;
 pub use cache_tally::{CacheResult, CacheTally, result_of};
 pub use counter::Counter;
 pub use laws::{laws_of_memory, laws_of_replays, laws_of_runs};
 pub use lines::{Action, action_in, split_line};
-pub use one_line::{LineEnd, run_line};
+pub use one_line::{ScheduleLineEnd, run_line};
 pub use schedule::{ScheduleEnd, run_schedule};
-pub use seats::{ACTORS, Pending, Seat, close, free_seats, is_busy, is_free, pending_at, settle};
+pub use seats::{
+    ACTORS, ActorPlace, Pending, close, free_seats, is_busy, is_free, pending_at, settle,
+};
 pub use session::replay_session;
 pub use streams::replay_streams;

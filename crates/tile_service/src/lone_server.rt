@@ -9,6 +9,7 @@ use crate::counter::Counter;
 use crate::serving::serve;
 use cabinet::Keeper;
 use http_wire::Message;
+use png_text::CrcTables;
 use sessions::{MessageServer, NoJobs};
 use source_render::Source;
 use std::alloc::Global;
@@ -56,7 +57,11 @@ impl<C: Keeper> MessageServer for LoneServer<C> {
         cache.capabilities.bytes()
     }
 
-    fn begun(&self) {}
+    fn crc_tables<'s>(&'s self, cache: &'s Counter<C>) -> &'s CrcTables {
+        &cache.tables.crc
+    }
 
-    fn answered(&self) {}
+    fn begin_message(&self) {}
+
+    fn end_message(&self) {}
 }

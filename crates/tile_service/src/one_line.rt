@@ -13,7 +13,7 @@ use crate::answer::write_answer;
 use crate::cache_tally::CacheResult;
 use crate::counter::Counter;
 use crate::perform::perform;
-use crate::seats::Seat;
+use crate::seats::ActorPlace;
 use cabinet::Keeper;
 use http_wire::ByteSink;
 use source_render::Source;
@@ -21,7 +21,7 @@ use std::alloc::Global;
 
 /// How a line ended.
 #[derive(Clone, Copy, PartialEq, Eq)]
-pub enum LineEnd {
+pub enum ScheduleLineEnd {
     /// What its answer tells of the cache, where it has one.
     Done(Option<CacheResult>),
     /// It was refused, and nothing happened.
@@ -34,12 +34,12 @@ pub enum LineEnd {
 pub fn run_line<C: Keeper, S: Source, O: ByteSink>(
     alloc: Global,
     counter: &mut Counter<C>,
-    seats: &mut [Seat],
+    seats: &mut [ActorPlace],
     source: &mut S,
     output: &mut O,
     n: u64,
     line: &[u8],
-) -> LineEnd
+) -> ScheduleLineEnd
     requires valid { IsValid (C.state counter.old.cabinet).catalogue }
     requires seated { (busy : List (Option PendingRequest)) × IsSeated (C.state counter.old.cabinet) counter.old.capabilities seats.old busy }
     ensures writes { Writes
@@ -52,15 +52,15 @@ pub fn run_line<C: Keeper, S: Source, O: ByteSink>(
     ensures lasts { Lasting (C.outlasts counter.old.cabinet counter.new.cabinet) (C.state counter.old.cabinet) (C.state counter.new.cabinet) }
 {
     match perform(alloc, counter, seats, source, n, line) {
-        ActionEnd::Refused => LineEnd::Refused,
-        ActionEnd::Silent => LineEnd::Done(None),
+        ActionEnd::Refused => ScheduleLineEnd::Refused,
+        ActionEnd::Silent => ScheduleLineEnd::Done(None),
         ActionEnd::Answers(answer) => {
             let document = counter.capabilities.bytes();
-            let written = write_answer(alloc, document, output, n, &answer);
+            let written = write_answer(alloc, &counter.tables.crc, document, output, n, &answer);
             drop(answer);
             match written {
-                Ok(told) => LineEnd::Done(Some(told)),
-                Err(_) => LineEnd::WriteFault,
+                Ok(told) => ScheduleLineEnd::Done(Some(told)),
+                Err(_) => ScheduleLineEnd::WriteFault,
             }
         }
     }

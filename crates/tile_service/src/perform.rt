@@ -11,27 +11,28 @@ ghost use Rattle.tile_service.specs.OneLine.{Performs, IsSeated};
 ghost use Rattle.tile_service.specs.Performing.{IsAsked};
 ghost use Rattle.tile_service.specs.Run.{PendingRequest};
 
-use crate::action_end::{ActionEnd, Answer};
+use crate::action_end::{ActionEnd, LineAnswer};
 use crate::counter::Counter;
 use crate::lines::{Action, action_in};
-use crate::seats::{Pending, Seat, is_free, pending_at, settle};
+use crate::seats::{ActorPlace, Pending, is_free, pending_at, settle};
 use cabinet::Keeper;
 use cache_access::Alone;
 use cache_core::{advance, laws_of_lasting};
 use source_render::Source;
 use std::alloc::Global;
 use tile_requests::{
-    MessageRef, Mode, Outcome, Plain, Request, events, immediate, laws_of_lone_threads,
-    read_request,
+    MessageRef, Mode, Outcome, Plain, Request, Spelling, events, immediate, laws_of_lone_threads,
+    read_request, spelling_at,
 };
 
 /// An answer in the line in which the request starts.
-fn answered(actor: u32, line: u64, outcome: Outcome) -> ActionEnd
-    ensures { result ≡ ActionEnd.Answers (record { actor = actor; start = line; outcome = outcome }) }
+fn answer_in_line(actor: u32, line: u64, spelling: Spelling, outcome: Outcome) -> ActionEnd
+    ensures { result ≡ ActionEnd.Answers (record { actor = actor; start = line; spelling = spelling; outcome = outcome }) }
 {
-    ActionEnd::Answers(Answer {
+    ActionEnd::Answers(LineAnswer {
         actor,
         start: line,
+        spelling,
         outcome,
     })
 }
@@ -51,21 +52,22 @@ fn answered_at_once<C: Keeper>(alloc: Global, cabinet: &mut C, request: Request)
     immediate(&way, alloc, cabinet, request)
 }
 
-/// Serves a request that an actor starts in line `n`.
-fn asked<C: Keeper, S: Source>(
+/// Serves a request that an actor starts in line `n`, and in whose answer a tile is spelt so.
+fn start_request<C: Keeper, S: Source>(
     alloc: Global,
     counter: &mut Counter<C>,
-    seats: &mut [Seat],
+    seats: &mut [ActorPlace],
     source: &mut S,
     n: u64,
     mode: Mode,
     actor: u32,
+    spelling: Spelling,
     request: Request,
 ) -> ActionEnd
     requires valid { IsValid (C.state counter.old.cabinet).catalogue }
     requires of { IsOf (C.state counter.old.cabinet).catalogue request }
-    requires free { slice_get seats.old actor ≡ Some Seat.Free }
-    ensures asked { IsAsked (S.told source.old) (S.faults source.old) (S.faults source.new) (counts (C.faults counter.old.cabinet) (C.faults counter.new.cabinet)) (C.state counter.old.cabinet) seats.old n mode actor request (C.state counter.new.cabinet) seats.new result }
+    requires free { slice_get seats.old actor ≡ Some ActorPlace.Free }
+    ensures asked { IsAsked (S.told source.old) (S.faults source.old) (S.faults source.new) (counts (C.faults counter.old.cabinet) (C.faults counter.new.cabinet)) (C.state counter.old.cabinet) seats.old n mode actor spelling request (C.state counter.new.cabinet) seats.new result }
     ensures catalogue { (C.state counter.new.cabinet).catalogue ≡ (C.state counter.old.cabinet).catalogue }
     ensures capabilities { counter.new.capabilities ≡ counter.old.capabilities }
     ensures told { S.told source.new ≡ S.told source.old }
@@ -75,20 +77,28 @@ fn asked<C: Keeper, S: Source>(
     match request {
         Request::Tile(address) => {
             let step = events(alloc, &mut counter.cabinet, source, &address, mode);
-            settle(&mut counter.cabinet, seats, actor, n, &address, step)
+            settle(
+                &mut counter.cabinet,
+                seats,
+                actor,
+                n,
+                spelling,
+                &address,
+                step,
+            )
         }
         other => {
             let outcome = answered_at_once(alloc, &mut counter.cabinet, other);
-            answered(actor, n, outcome)
+            answer_in_line(actor, n, spelling, outcome)
         }
     }
 }
 
 /// An actor sends a message in line `n`.
-fn sent<C: Keeper, S: Source>(
+fn send_message<C: Keeper, S: Source>(
     alloc: Global,
     counter: &mut Counter<C>,
-    seats: &mut [Seat],
+    seats: &mut [ActorPlace],
     source: &mut S,
     n: u64,
     mode: Mode,
@@ -106,18 +116,21 @@ fn sent<C: Keeper, S: Source>(
     if !is_free(seats, actor) {
         return ActionEnd::Refused;
     }
+    let spelling = spelling_at(message.target);
     let catalogue = counter.cabinet.catalogue();
-    let Ok(request) = read_request(alloc, catalogue, &counter.rest, message) else {
-        return answered(actor, n, Outcome::Plain(Plain::NoMemory));
+    let Ok(request) = read_request(alloc, catalogue, &counter.tables.rest, message) else {
+        return answer_in_line(actor, n, spelling, Outcome::Plain(Plain::NoMemory));
     };
-    asked(alloc, counter, seats, source, n, mode, actor, request)
+    start_request(
+        alloc, counter, seats, source, n, mode, actor, spelling, request,
+    )
 }
 
 /// An actor makes the next event of its pending request.
-fn stepped<C: Keeper, S: Source>(
+fn step_actor<C: Keeper, S: Source>(
     alloc: Global,
     counter: &mut Counter<C>,
-    seats: &mut [Seat],
+    seats: &mut [ActorPlace],
     source: &mut S,
     n: u64,
     actor: u32,
@@ -135,12 +148,21 @@ fn stepped<C: Keeper, S: Source>(
         Some(
             Pending {
                 start,
+                spelling,
                 address,
                 actor: state,
             },
         ) => {
             let step = advance(alloc, &mut counter.cabinet, source, state);
-            settle(&mut counter.cabinet, seats, actor, start, &address, step)
+            settle(
+                &mut counter.cabinet,
+                seats,
+                actor,
+                start,
+                spelling,
+                &address,
+                step,
+            )
         }
     }
 }
@@ -149,7 +171,7 @@ fn stepped<C: Keeper, S: Source>(
 pub fn perform<C: Keeper, S: Source>(
     alloc: Global,
     counter: &mut Counter<C>,
-    seats: &mut [Seat],
+    seats: &mut [ActorPlace],
     source: &mut S,
     n: u64,
     line: &[u8],
@@ -167,8 +189,8 @@ pub fn perform<C: Keeper, S: Source>(
         None => ActionEnd::Refused,
         Some(Action::Nothing) => ActionEnd::Silent,
         Some(Action::Sends(mode, actor, message)) => {
-            sent(alloc, counter, seats, source, n, mode, actor, &message)
+            send_message(alloc, counter, seats, source, n, mode, actor, &message)
         }
-        Some(Action::Steps(actor)) => stepped(alloc, counter, seats, source, n, actor),
+        Some(Action::Steps(actor)) => step_actor(alloc, counter, seats, source, n, actor),
     }
 }

@@ -5,13 +5,13 @@ ghost use Rattle.catalog.specs.Valid.{IsValid};
 ghost use Rattle.sessions.specs.Outside.{counts};
 ghost use Rattle.tile_service.specs.OneLine.{seat_of};
 ghost use Rattle.tile_service.specs.Passing.{LeadsThrough};
-ghost use Rattle.tile_service.specs.Run.{PendingRequest, free_seats, world_of};
+ghost use Rattle.tile_service.specs.Run.{PendingRequest, free_seats, run_state_of};
 ghost use Rattle.tile_service.specs.Schedules.{HasRunThrough};
 
 use crate::counter::Counter;
 use crate::lines::split_line;
-use crate::one_line::{LineEnd, run_line};
-use crate::seats::{ACTORS, Seat};
+use crate::one_line::{ScheduleLineEnd, run_line};
+use crate::seats::{ACTORS, ActorPlace};
 use cabinet::Keeper;
 use cache_core::laws_of_lasting;
 use http_wire::ByteSink;
@@ -31,18 +31,18 @@ pub enum RunEnd {
 pub fn run_lines<C: Keeper, S: Source, O: ByteSink>(
     alloc: Global,
     counter: &mut Counter<C>,
-    seats: &mut [Seat],
+    seats: &mut [ActorPlace],
     source: &mut S,
     text: &[u8],
     output: &mut O,
 ) -> RunEnd
     requires valid { IsValid (C.state counter.old.cabinet).catalogue }
     requires short { length text.now < 2 ^ 32 }
-    requires free { seats.old ≡ replicate ACTORS Seat.Free }
+    requires free { seats.old ≡ replicate ACTORS ActorPlace.Free }
     ensures run { (busy : List (Option PendingRequest)) × (map seat_of busy ≡ seats.new) × HasRunThrough
         (LeadsThrough C C.state C.outlasts counter.old.cabinet counter.new.cabinet)
         (record { told = S.told source.old; renders = record { before = S.faults source.old; after = S.faults source.new }; disk = counts (C.faults counter.old.cabinet) (C.faults counter.new.cabinet); writes = record { before = O.faults output.old; after = O.faults output.new }; from = O.taken output.old; to = O.taken output.new })
-        (world_of (C.state counter.old.cabinet) counter.old.capabilities free_seats) text.now (world_of (C.state counter.new.cabinet) counter.new.capabilities busy) result }
+        (run_state_of (C.state counter.old.cabinet) counter.old.capabilities free_seats) text.now (run_state_of (C.state counter.new.cabinet) counter.new.capabilities busy) result }
     ensures capabilities { counter.new.capabilities ≡ counter.old.capabilities }
     ensures lasts { Lasting (C.outlasts counter.old.cabinet counter.new.cabinet) (C.state counter.old.cabinet) (C.state counter.new.cabinet) }
 {
@@ -53,9 +53,9 @@ pub fn run_lines<C: Keeper, S: Source, O: ByteSink>(
         let (line, next) = split_line(rest);
         lines += 1;
         match run_line(alloc, counter, seats, source, output, lines, line) {
-            LineEnd::Done(_) => {}
-            LineEnd::Refused => return RunEnd::Line(lines),
-            LineEnd::WriteFault => return RunEnd::WriteFault,
+            ScheduleLineEnd::Done(_) => {}
+            ScheduleLineEnd::Refused => return RunEnd::Line(lines),
+            ScheduleLineEnd::WriteFault => return RunEnd::WriteFault,
         }
         rest = next;
     }

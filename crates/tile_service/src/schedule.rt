@@ -4,7 +4,7 @@ ghost use Rattle.cache_core.specs.Lasting.{Lasting};
 ghost use Rattle.catalog.specs.Valid.{IsValid};
 ghost use Rattle.sessions.specs.Outside.{counts};
 ghost use Rattle.tile_service.specs.Passing.{LeadsThrough};
-ghost use Rattle.tile_service.specs.Run.{free_seats, world_of};
+ghost use Rattle.tile_service.specs.Run.{free_seats, run_state_of};
 ghost use Rattle.tile_service.specs.Schedules.{Schedules, SchedulesThrough, end_of};
 
 use crate::counter::Counter;
@@ -51,12 +51,12 @@ pub fn run_schedule<C: Keeper, S: Source, I: ByteSource, O: ByteSink>(
         (record { reads = record { before = I.faults input.old; after = I.faults input.new }; from = I.left input.old; to = I.left input.new })
         (record { told = S.told source.old; renders = record { before = S.faults source.old; after = S.faults source.new }; disk = counts (C.faults counter.old.cabinet) (C.faults counter.new.cabinet); writes = record { before = O.faults output.old; after = O.faults output.new }; from = O.taken output.old; to = O.taken output.new })
         ((output.new ≡ output.old) × (source.new ≡ source.old) × (counter.new ≡ counter.old))
-        (world_of (C.state counter.old.cabinet) counter.old.capabilities free_seats) (world_of (C.state counter.new.cabinet) counter.new.capabilities free_seats) result }
+        (run_state_of (C.state counter.old.cabinet) counter.old.capabilities free_seats) (run_state_of (C.state counter.new.cabinet) counter.new.capabilities free_seats) result }
     ensures leads { SchedulesThrough (LeadsThrough C C.state C.outlasts counter.old.cabinet counter.new.cabinet)
         (record { reads = record { before = I.faults input.old; after = I.faults input.new }; from = I.left input.old; to = I.left input.new })
         (record { told = S.told source.old; renders = record { before = S.faults source.old; after = S.faults source.new }; disk = counts (C.faults counter.old.cabinet) (C.faults counter.new.cabinet); writes = record { before = O.faults output.old; after = O.faults output.new }; from = O.taken output.old; to = O.taken output.new })
         ((output.new ≡ output.old) × (source.new ≡ source.old) × (counter.new ≡ counter.old))
-        (world_of (C.state counter.old.cabinet) counter.old.capabilities free_seats) (world_of (C.state counter.new.cabinet) counter.new.capabilities free_seats) result }
+        (run_state_of (C.state counter.old.cabinet) counter.old.capabilities free_seats) (run_state_of (C.state counter.new.cabinet) counter.new.capabilities free_seats) result }
     ensures lasts { Lasting (C.outlasts counter.old.cabinet counter.new.cabinet) (C.state counter.old.cabinet) (C.state counter.new.cabinet) }
 {
     laws_of_lasting::<C>();

@@ -20,7 +20,7 @@ use tile_requests::{
 };
 
 /// Answers a request in a cabinet in which no render runs: a tile is asked for, rendered and finished.
-fn answered<C: Keeper, S: Source>(
+fn answer_request<C: Keeper, S: Source>(
     alloc: Global,
     cabinet: &mut C,
     source: &mut S,
@@ -57,8 +57,8 @@ pub fn serve<C: Keeper, S: Source>(
     laws_of_lasting::<C>();
     let catalogue = counter.cabinet.catalogue();
     let parts = MessageRef::of(message);
-    let Ok(request) = read_request(alloc, catalogue, &counter.rest, &parts) else {
+    let Ok(request) = read_request(alloc, catalogue, &counter.tables.rest, &parts) else {
         return Outcome::Plain(Plain::NoMemory);
     };
-    answered(alloc, &mut counter.cabinet, source, request)
+    answer_request(alloc, &mut counter.cabinet, source, request)
 }

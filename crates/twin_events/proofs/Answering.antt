@@ -4,7 +4,7 @@ use Rattle.std.specs.Prelude.{IfOk, OnErr}
 use Rattle.std.specs.declared.alloc.AllocError.{AllocError}
 use Rattle.std.proofs.lemmas.List.{append_assoc, length-append}
 use Rattle.cabinet.specs.Commands.{Asks, IsFreshReply}
-use Rattle.cabinet.specs.declared.entry.Entry.TheVariants as entry
+use Rattle.cabinet.specs.declared.entry.HistoryEntry.TheVariants as entry
 use Rattle.cabinet.specs.declared.replies.Asked.{Asked}
 use Rattle.cabinet.specs.declared.replies.Asked.TheVariants as asked
 use Rattle.cabinet.specs.Fresh.{IsFresh}
@@ -12,7 +12,7 @@ use Rattle.cabinet.specs.History.{History}
 use Rattle.cabinet.specs.State.{IsKnown, IsKnownAs, IsSound, State}
 use Rattle.cabinet.proofs.Rows.{abandons_known, asks_known, finishes_known}
 use Rattle.cache_core.specs.declared.outcome.Tile.{Tile}
-use Rattle.cache_core.specs.Fits.{Extends, IsTicketFor}
+use Rattle.cache_core.specs.Fits.{ExtendsHistory, IsTicketFor}
 use Rattle.cache_core.proofs.Endings.{extends_fresh, finishes_grow}
 use Rattle.catalog.specs.declared.catalogue.Catalogue.{Catalogue}
 use Rattle.catalog.specs.LookUp.{IsTile}
@@ -23,12 +23,12 @@ use Rattle.raster_field.specs.TileText.{tile_text}
 use Rattle.tile_service.specs.Session.{IsAtRest}
 use Rattle.twin_events.specs.declared.got.Got.{Got}
 use Rattle.twin_events.specs.declared.got.Got.TheVariants as got
-use Rattle.twin_events.specs.Gets.{EndsRender, Failures, Gets, GetsIn, IsAnswered, IsGivenBack, IsMissed, RunsOut, events_of, failures}
-use Rattle.twin_events.specs.Twins.{IsReady, LeadsBy, Standing, standing}
+use Rattle.twin_events.specs.Gets.{EndsRender, Failures, Gets, GetsIn, IsGivenBack, IsMissed, IsTileAnswered, RunsOut, events_of, failures}
+use Rattle.twin_events.specs.Twins.{IsTwinReady, LeadsBy, TwinStanding, standing}
 use Rattle.twin_events.proofs.Leading.{asked_leads, commanded_leads, goes_known}
 use Rattle.twin_events.proofs.Resting.{abandoned_rests, finished_rests, given_alone, hit_rests, spent_rests}
 
-longer : (h g : History) → Extends h g → length h ≤ length g
+longer : (h g : History) → ExtendsHistory h g → length h ≤ length g
 longer h g more = omega (arith, length-append h more.0, ap length more.1)
 
 -- A RENDER THAT IS GIVEN
@@ -43,7 +43,7 @@ module _ (s mid : State) (a : Address) (ticket : Ticketed) (before between : ℕ
   pub ticket_then : IsTicketFor mid.catalogue a ticket
   ticket_then = subst (λ (c : Catalogue). IsTicketFor c a ticket) (sym given_known.same_catalogue) row.1.meta
 
-  given_grows : Extends s.history mid.history
+  given_grows : ExtendsHistory s.history mid.history
   given_grows = (
     entry.At mid.clock.moment ∷ entry.Started ticket.number (block_of s.catalogue a) ∷ [],
     ap (λ (x : State). x.history) row.1.state ∙ append_assoc s.history (entry.At mid.clock.moment ∷ []) (entry.Started ticket.number (block_of s.catalogue a) ∷ []),
@@ -80,7 +80,7 @@ pub record Keeps (s t : State) : Type 0 where
   pub rests : IsAtRest t
 
 module _ (told : Option ℕ) (s : State) (before after : Failures) (a : Address) (t : State) (known : IsKnown s) (tile : IsTile s.catalogue a) (rest : IsAtRest s) where
-  answered_keeps : (reply : Asked) (x : Tile) → IsAnswered told s before a reply x t after → Keeps s t
+  answered_keeps : (reply : Asked) (x : Tile) → IsTileAnswered told s before a reply x t after → Keeps s t
   answered_keeps (asked.Hit k bytes) x h = record {
     same = ap (λ (u : State). u.catalogue) h.gives.1 ∙ (asks_known before.cabinet h.between s h.mid a (asked.Hit k bytes) known tile h.row).same_catalogue;
     rests = subst IsAtRest (sym h.gives.1) (hit_rests before.cabinet h.between s h.mid a k bytes rest h.row);
@@ -117,8 +117,8 @@ module _ (told : Option ℕ) (s : State) (before after : Failures) (a : Address)
     | inr back ↦ given_back_keeps back.0 back.1
   ]
 
-module _ (told : Option ℕ) (c : Catalogue) (s : Standing) (before after : Failures) (a : Address) (t : State) (known : IsKnown s.cabinet) (ready : IsReady c s) (tile : IsTile c a) where
-  abbrev behind : Standing
+module _ (told : Option ℕ) (c : Catalogue) (s : TwinStanding) (before after : Failures) (a : Address) (t : State) (known : IsKnown s.cabinet) (ready : IsTwinReady c s) (tile : IsTile c a) where
+  abbrev behind : TwinStanding
   behind = standing s.out s.stand t s.sent
 
   tile_here : IsTile s.cabinet.catalogue a
@@ -127,7 +127,7 @@ module _ (told : Option ℕ) (c : Catalogue) (s : Standing) (before after : Fail
   mid_known : (mid : State) (between : ℕ) (reply : Asked) → Asks before.cabinet between s.cabinet a reply mid → IsKnown mid
   mid_known mid between reply row = (asks_known before.cabinet between s.cabinet mid a reply known tile_here row).known
 
-  answered_leads : (reply : Asked) (x : Tile) → IsAnswered told s.cabinet before a reply x t after → LeadsBy (events_of a reply) s behind
+  answered_leads : (reply : Asked) (x : Tile) → IsTileAnswered told s.cabinet before a reply x t after → LeadsBy (events_of a reply) s behind
   answered_leads (asked.Hit k bytes) x h =
       subst (λ (u : State). LeadsBy (events_of a (asked.Hit k bytes)) s (standing s.out s.stand u s.sent)) (sym h.gives.1) (asked_leads c s a (asked.Hit k bytes) before.cabinet h.between h.mid ready tile h.row)
   answered_leads (asked.Busy k) x h = absurd h.gives
@@ -158,7 +158,7 @@ module _ (told : Option ℕ) (c : Catalogue) (s : Standing) (before after : Fail
     | inr back ↦ inr (missed back.0 back.1)
   ]
 
-  pub gets_ready : (result : Result Got AllocError) → GetsIn told s.cabinet before a result t after → IsReady c behind
+  pub gets_ready : (result : Result Got AllocError) → GetsIn told s.cabinet before a result t after → IsTwinReady c behind
   gets_ready result h =
       let k = gets_keeps told s.cabinet before after a t known tile_here ready.rests result h in
       record { valid = ready.valid; same = k.same ∙ ready.same; rests = k.rests; served = ready.served }

@@ -21,14 +21,14 @@ use Rattle.truncation_list.specs.declared.cover.Cover.{Cover}
 use Rattle.twin_events.specs.declared.carried.Carried.{Carried}
 use Rattle.twin_events.specs.declared.carried.Carried.TheVariants as carried
 use Rattle.twin_events.specs.Carries.{Carries, Counts, FindsAt, HearsAs, IsHeardAt, IsStarvedAt, IsThere, RunsOut, TakesAs, follower}
-use Rattle.twin_events.specs.Twins.{IsReady, LeadsBy, Standing, standing}
+use Rattle.twin_events.specs.Twins.{IsTwinReady, LeadsBy, TwinStanding, standing}
 use Rattle.twin_events.proofs.Leading.{arrived_leads, heard_leads, starved_leads}
 use Rattle.twin_events.proofs.Resting.{applied_rests}
 
 -- WHAT WAS SENT IS OF THE CATALOGUE
 
 -- and a change that has a place can be taken
-pub served_at : (c : Catalogue) (s : Standing) (place at number : ℕ) (cover : Cover) → IsReady c s → IsThere s.sent place at (packets.Change number cover) → IsCoverOf s.cabinet.catalogue cover
+pub served_at : (c : Catalogue) (s : TwinStanding) (place at number : ℕ) (cover : Cover) → IsTwinReady c s → IsThere s.sent place at (packets.Change number cover) → IsCoverOf s.cabinet.catalogue cover
 served_at c s place at number cover ready there = subst (λ (x : Catalogue). IsCoverOf x cover) (sym ready.same) (got_all (IsOfCatalogue c) s.sent at (packets.Change number cover) ready.served there.found)
 
 pub found_as : (sent seen : List Packet) (place : ℕ) (p q : Packet) → seen ≡ sent → p ≡ q → FindsAt seen place (Some p) → (at : ℕ) × IsThere sent place at q
@@ -36,7 +36,7 @@ found_as sent seen place p q same is found = (found.0, subst (λ (x : List Packe
 
 -- A `Seen`
 
-pub hears_row : (s : Standing) (n : Counts) (place at i : ℕ) (out : Outgoing) (reply : Carried) → IsThere s.sent place at (packets.Seen i) → HearsAs s.out i reply out → Carries s n place (Some reply) (standing out s.stand s.cabinet s.sent) n
+pub hears_row : (s : TwinStanding) (n : Counts) (place at i : ℕ) (out : Outgoing) (reply : Carried) → IsThere s.sent place at (packets.Seen i) → HearsAs s.out i reply out → Carries s n place (Some reply) (standing out s.stand s.cabinet s.sent) n
 hears_row s n place at i out (carried.Taken number reply seen) there h = absurd h
 hears_row s n place at i out (carried.Heard j) there h =
     subst (λ (x : ℕ). IsHeardAt s n place x true (standing out s.stand s.cabinet s.sent) n) (sym h.0)
@@ -49,9 +49,9 @@ hears_row s n place at i out carried.Ignored there h = (i, record { at = at; the
 abbrev pub pair_of : Stand → State → Counts → Pair
 pair_of stand cabinet n = record { stand = stand; faults = n.marks; cabinet = cabinet; cabinet_faults = n.cabinet }
 
-module _ (c : Catalogue) (s : Standing) (before : Counts) (place at : ℕ) (change : Change) (stand : Stand) (cabinet : State) (then_sent : List Packet) (after : Counts)
-    (ready : IsReady c s) (there : IsThere s.sent place at (packet_of change)) where
-  abbrev behind : Standing
+module _ (c : Catalogue) (s : TwinStanding) (before : Counts) (place at : ℕ) (change : Change) (stand : Stand) (cabinet : State) (then_sent : List Packet) (after : Counts)
+    (ready : IsTwinReady c s) (there : IsThere s.sent place at (packet_of change)) where
+  abbrev behind : TwinStanding
   behind = standing s.out stand cabinet then_sent
 
   pub takes_row : (reply : Carried) → TakesAs (follower s before) change s.sent (Ok reply) (pair_of stand cabinet after) then_sent → Carries s before place (Some reply) behind after
@@ -94,7 +94,7 @@ module _ (c : Catalogue) (s : Standing) (before : Counts) (place at : ℕ) (chan
     | inr one ↦ inr (starved one h.0 h.2)
   ]
 
-  pub takes_ready : (result : Result Carried AllocError) → TakesAs (follower s before) change s.sent result (pair_of stand cabinet after) then_sent → cabinet.catalogue ≡ s.cabinet.catalogue → IsReady c behind
+  pub takes_ready : (result : Result Carried AllocError) → TakesAs (follower s before) change s.sent result (pair_of stand cabinet after) then_sent → cabinet.catalogue ≡ s.cabinet.catalogue → IsTwinReady c behind
   takes_ready (Ok (carried.Taken number reply seen)) h same = record {
     valid = ready.valid;
     same = same ∙ ready.same;

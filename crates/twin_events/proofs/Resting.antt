@@ -2,8 +2,8 @@
 use Rattle.std.proofs.Common.{◌≡◌, ℕ, List, [], ◌∷◌, ◌++◌, length, Some, None, refl, sym, ap, ◌∙◌, subst, inl, inr}
 use Rattle.std.proofs.lemmas.Bool.{eq-eqb}
 use Rattle.cabinet.specs.Commands.{Abandons, Asks, Cuts, Finishes, kept_at}
-use Rattle.cabinet.specs.declared.entry.Entry.{Entry}
-use Rattle.cabinet.specs.declared.entry.Entry.TheVariants as entry
+use Rattle.cabinet.specs.declared.entry.HistoryEntry.{HistoryEntry}
+use Rattle.cabinet.specs.declared.entry.HistoryEntry.TheVariants as entry
 use Rattle.cabinet.specs.declared.replies.Asked.TheVariants as asked
 use Rattle.cabinet.specs.declared.replies.CutReply.{CutReply}
 use Rattle.cabinet.specs.declared.replies.CutReply.TheVariants as cut
@@ -27,7 +27,7 @@ use Rattle.tile_service.specs.Session.{IsAtRest}
 use Rattle.truncation_list.specs.declared.cover.Cover.{Cover}
 
 -- the renders that run after one entry more
-runs_after : (s : State) (e : Entry) → (now (grown s e None)).out ≡ (after s.catalogue (now s) e).out
+runs_after : (s : State) (e : HistoryEntry) → (now (grown s e None)).out ≡ (after s.catalogue (now s) e).out
 runs_after s e = ap (λ x. x.out) (now_more s e None)
 
 same_rests : (s t : State) → t ≡ s → IsAtRest s → IsAtRest t

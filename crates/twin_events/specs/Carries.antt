@@ -11,7 +11,7 @@ use Rattle.outbox.specs.declared.packet.Packet.TheVariants as packets
 use Rattle.outbox.specs.Posts.{Hears, Outgoing}
 use Rattle.twin_events.specs.declared.carried.Carried.{Carried}
 use Rattle.twin_events.specs.declared.carried.Carried.TheVariants as carried
-use Rattle.twin_events.specs.Twins.{LeadsBy, Standing}
+use Rattle.twin_events.specs.Twins.{LeadsBy, TwinStanding}
 
 -- how often the disk of the marks has failed, and that of the cabinet
 pub record Counts : Type 0 where
@@ -22,7 +22,7 @@ abbrev pub counts : ℕ → ℕ → Counts
 counts marks cabinet = record { marks = marks; cabinet = cabinet }
 
 -- the follower, with its counts
-abbrev pub follower : Standing → Counts → Pair
+abbrev pub follower : TwinStanding → Counts → Pair
 follower s n = record { stand = s.stand; faults = n.marks; cabinet = s.cabinet; cabinet_faults = n.cabinet }
 
 -- no packet has the place
@@ -40,7 +40,7 @@ FindsAt sent place None = IsOutside place sent
 FindsAt sent place (Some packet) = (at : ℕ) × IsThere sent place at packet
 
 -- the change there came to the follower and was answered by its row, and what is seen then was sent, to this place
-pub record IsTakenAt (s : Standing) (before : Counts) (place number : ℕ) (reply : Applied) (seen : ℕ) (t : Standing) (after : Counts) : Type 0 where
+pub record IsTakenAt (s : TwinStanding) (before : Counts) (place number : ℕ) (reply : Applied) (seen : ℕ) (t : TwinStanding) (after : Counts) : Type 0 where
   pub at : ℕ
   pub change : Change
   pub there : IsThere s.sent place at (packet_of change)
@@ -50,28 +50,28 @@ pub record IsTakenAt (s : Standing) (before : Counts) (place number : ℕ) (repl
   pub leads : LeadsBy (arrived at change reply ∷ []) s t
 
 -- the `Seen` there came to the leader, and is news or not
-pub record IsHeardAt (s : Standing) (before : Counts) (place i : ℕ) (news : Bool) (t : Standing) (after : Counts) : Type 0 where
+pub record IsHeardAt (s : TwinStanding) (before : Counts) (place i : ℕ) (news : Bool) (t : TwinStanding) (after : Counts) : Type 0 where
   pub at : ℕ
   pub there : IsThere s.sent place at (packets.Seen i)
   pub same_counts : after ≡ before
   pub leads : LeadsBy (heard at i news ∷ []) s t
 
 -- THE ROWS
-abbrev pub Carries : Standing → Counts → ℕ → Option Carried → Standing → Counts → Type 0
+abbrev pub Carries : TwinStanding → Counts → ℕ → Option Carried → TwinStanding → Counts → Type 0
 Carries s before place None t after = IsOutside place s.sent × (t ≡ s) × (after ≡ before)
 Carries s before place (Some (carried.Taken number reply seen)) t after = IsTakenAt s before place number reply seen t after
 Carries s before place (Some (carried.Heard i)) t after = IsHeardAt s before place i true t after
 Carries s before place (Some carried.Ignored) t after = (i : ℕ) × IsHeardAt s before place i false t after
 
 -- memory ran out in the follower's call for the change there
-pub record IsStarvedAt (s : Standing) (place : ℕ) (t : Standing) : Type 0 where
+pub record IsStarvedAt (s : TwinStanding) (place : ℕ) (t : TwinStanding) : Type 0 where
   pub at : ℕ
   pub change : Change
   pub there : IsThere s.sent place at (packet_of change)
   pub leads : LeadsBy (ran_out at change ∷ []) s t
 
 -- where memory ran out: nothing changed, or it did in the follower's call
-abbrev pub RunsOut : Standing → ℕ → Standing → Type 0
+abbrev pub RunsOut : TwinStanding → ℕ → TwinStanding → Type 0
 RunsOut s place t = (t ≡ s) ⊎ IsStarvedAt s place t
 
 -- A TIE between the code and these definitions: the promise can be read without it.

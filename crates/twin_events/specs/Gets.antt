@@ -18,7 +18,7 @@ use Rattle.raster_field.specs.Blocks.{blob_size, tile_part}
 use Rattle.raster_field.specs.TileText.{tile_text}
 use Rattle.twin_events.specs.declared.got.Got.{Got}
 use Rattle.twin_events.specs.declared.got.Got.TheVariants as got
-use Rattle.twin_events.specs.Twins.{LeadsBy, Standing}
+use Rattle.twin_events.specs.Twins.{LeadsBy, TwinStanding}
 
 -- how often the source has failed, and the disk of the cabinet
 pub record Failures : Type 0 where
@@ -29,7 +29,7 @@ abbrev pub failures : ℕ → ℕ → Failures
 failures source cabinet = record { source = source; cabinet = cabinet }
 
 -- THE EVENTS: an ask, and where a render is given for it, the command that ends the render
-abbrev pub events_of : Address → Asked → List lossy.Event
+abbrev pub events_of : Address → Asked → List lossy.LinkEvent
 events_of a (asked.Hit k bytes) = lossy.asked a (asked.Hit k bytes) ∷ []
 events_of a (asked.Busy k) = lossy.asked a (asked.Busy k) ∷ []
 events_of a asked.Spent = lossy.asked a asked.Spent ∷ []
@@ -39,7 +39,7 @@ events_of a (asked.Ticket t) = lossy.asked a (asked.Ticket t) ∷ (lossy.command
 
 -- A render was finished, with the blob of its metatile, of which the tile is the part. It was kept unless a truncation overtook it, there
 -- was no room, or the disk failed.
-pub record IsRendered (mid : State) (between : ℕ) (a : Address) (ticket : Ticketed) (tile : Tile) (t : State) (after : ℕ) : Type 0 where
+pub record IsTileRendered (mid : State) (between : ℕ) (a : Address) (ticket : Ticketed) (tile : Tile) (t : State) (after : ℕ) : Type 0 where
   pub miss : tile.hit ≡ false
   pub blob : List ℕ
   pub long : length blob ≡ blob_size mid.catalogue ticket.meta
@@ -54,11 +54,11 @@ abbrev pub Gives : State → ℕ → Address → Asked → Tile → State → �
 Gives mid between a (asked.Hit k bytes) tile t after = (tile ≡ record { hit = true; number = k; bytes = bytes }) × (t ≡ mid) × (after ≡ between)
 Gives mid between a (asked.Busy k) tile t after = ⊥
 Gives mid between a asked.Spent tile t after = ⊥
-Gives mid between a (asked.Ticket ticket) tile t after = IsRendered mid between a ticket tile t after
+Gives mid between a (asked.Ticket ticket) tile t after = IsTileRendered mid between a ticket tile t after
 
 -- The tile was asked for, and this reply gave it. Its number is fresh at this ask. Where the source tells what it renders, and all that is
 -- kept is told, its bytes are the tile in the picture of its number.
-pub record IsAnswered (told : Option ℕ) (s : State) (before : Failures) (a : Address) (reply : Asked) (tile : Tile) (t : State) (after : Failures) : Type 0 where
+pub record IsTileAnswered (told : Option ℕ) (s : State) (before : Failures) (a : Address) (reply : Asked) (tile : Tile) (t : State) (after : Failures) : Type 0 where
   pub numbered : tile_number reply ≡ Some tile.number
   pub mid : State
   pub between : ℕ
@@ -75,23 +75,23 @@ pub record IsGivenBack (s : State) (before : Failures) (a : Address) (ticket : T
 
 -- THE ROWS
 
-pub record IsGot (told : Option ℕ) (s : Standing) (before : Failures) (a : Address) (tile : Tile) (t : Standing) (after : Failures) : Type 0 where
+pub record IsTileGot (told : Option ℕ) (s : TwinStanding) (before : Failures) (a : Address) (tile : Tile) (t : TwinStanding) (after : Failures) : Type 0 where
   pub reply : Asked
-  pub answered : IsAnswered told s.cabinet before a reply tile t.cabinet after
+  pub answered : IsTileAnswered told s.cabinet before a reply tile t.cabinet after
   pub leads : LeadsBy (events_of a reply) s t
 
-pub record IsMissed (s : Standing) (before : Failures) (a : Address) (t : Standing) (after : Failures) : Type 0 where
+pub record IsMissed (s : TwinStanding) (before : Failures) (a : Address) (t : TwinStanding) (after : Failures) : Type 0 where
   pub ticket : Ticketed
   pub given_back : IsGivenBack s.cabinet before a ticket t.cabinet after
   pub leads : LeadsBy (events_of a (asked.Ticket ticket)) s t
 
-abbrev pub Gets : Option ℕ → Standing → Failures → Address → Got → Standing → Failures → Type 0
-Gets told s before a (got.Tile tile) t after = IsGot told s before a tile t after
+abbrev pub Gets : Option ℕ → TwinStanding → Failures → Address → Got → TwinStanding → Failures → Type 0
+Gets told s before a (got.Tile tile) t after = IsTileGot told s before a tile t after
 Gets told s before a got.SourceFault t after = IsMissed s before a t after × Rose before.source after.source
 Gets told s before a got.Spent t after = Asks before.cabinet after.cabinet s.cabinet a asked.Spent t.cabinet × LeadsBy (events_of a asked.Spent) s t
 
 -- where memory ran out: nothing changed, or a render was given for the tile, and given back
-abbrev pub RunsOut : Standing → Failures → Address → Standing → Failures → Type 0
+abbrev pub RunsOut : TwinStanding → Failures → Address → TwinStanding → Failures → Type 0
 RunsOut s before a t after = (t ≡ s) ⊎ IsMissed s before a t after
 
 -- A TIE between the code and these definitions: the promise can be read without it.
@@ -99,14 +99,14 @@ RunsOut s before a t after = (t ≡ s) ⊎ IsMissed s before a t after
 -- what the end of a render came to
 abbrev pub EndsRender : Option ℕ → State → Failures → Address → Ticketed → Result Got AllocError → State → Failures → Type 0
 EndsRender told mid between a ticket (Ok (got.Tile tile)) t after =
-    IsRendered mid between.cabinet a ticket tile t after.cabinet × (tile.number ≡ ticket.number) × (told ≡ Some mid.catalogue.source → tile.bytes ≡ tile_text mid.catalogue tile.number a)
+    IsTileRendered mid between.cabinet a ticket tile t after.cabinet × (tile.number ≡ ticket.number) × (told ≡ Some mid.catalogue.source → tile.bytes ≡ tile_text mid.catalogue tile.number a)
 EndsRender told mid between a ticket (Ok got.SourceFault) t after = Abandons mid ticket t × (after.cabinet ≡ between.cabinet) × Rose between.source after.source
 EndsRender told mid between a ticket (Ok got.Spent) t after = ⊥
 EndsRender told mid between a ticket (Err fault) t after = Abandons mid ticket t × (after.cabinet ≡ between.cabinet)
 
 -- what getting a tile came to in the cabinet
 abbrev pub GetsIn : Option ℕ → State → Failures → Address → Result Got AllocError → State → Failures → Type 0
-GetsIn told s before a (Ok (got.Tile tile)) t after = (reply : Asked) × IsAnswered told s before a reply tile t after
+GetsIn told s before a (Ok (got.Tile tile)) t after = (reply : Asked) × IsTileAnswered told s before a reply tile t after
 GetsIn told s before a (Ok got.SourceFault) t after = ((ticket : Ticketed) × IsGivenBack s before a ticket t after) × Rose before.source after.source
 GetsIn told s before a (Ok got.Spent) t after = Asks before.cabinet after.cabinet s a asked.Spent t
 GetsIn told s before a (Err fault) t after = (t ≡ s) ⊎ ((ticket : Ticketed) × IsGivenBack s before a ticket t after)

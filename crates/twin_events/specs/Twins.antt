@@ -5,7 +5,7 @@ use Rattle.cabinet.specs.State.{State}
 use Rattle.catalog.specs.declared.catalogue.Catalogue.{Catalogue}
 use Rattle.catalog.specs.Valid.{IsValid}
 use Rattle.change_feed.specs.Files.{Stand}
-use Rattle.cut_follower.specs.Lossy.{Event, Lossy, Passes}
+use Rattle.cut_follower.specs.Lossy.{LinkEvent, Lossy, Passes}
 use Rattle.cut_follower.specs.Takes.{IsOfCatalogue}
 use Rattle.disk_model.specs.Content.{Content}
 use Rattle.outbox.specs.declared.packet.Packet.{Packet}
@@ -15,28 +15,28 @@ use Rattle.tile_service.specs.Session.{IsAtRest}
 use Rattle.truncation_list.specs.declared.cover.Cover.{Cover}
 
 -- the leader's posts, the follower's marks and cabinet, and what was sent
-pub record Standing : Type 0 where
+pub record TwinStanding : Type 0 where
   pub out : Outgoing
   pub stand : Stand
   pub cabinet : State
   pub sent : List Packet
 
-abbrev pub standing : Outgoing → Stand → State → List Packet → Standing
+abbrev pub standing : Outgoing → Stand → State → List Packet → TwinStanding
 standing out stand cabinet sent = record { out = out; stand = stand; cabinet = cabinet; sent = sent }
 
 -- A lossy link stands so. Which cuts were applied in it, and which one is unsure, is known to no file and to no memory.
-pub record IsAt (s : Standing) (l : Lossy) : Type 0 where
+pub record IsAt (s : TwinStanding) (l : Lossy) : Type 0 where
   pub out : l.out ≡ s.out
   pub stand : l.stores.stand ≡ s.stand
   pub cabinet : l.stores.cabinet ≡ s.cabinet
   pub sent : l.sent ≡ s.sent
 
 -- from each lossy link that stands as before, these events lead to one that stands as after
-abbrev pub LeadsBy : List Event → Standing → Standing → Type 0
+abbrev pub LeadsBy : List LinkEvent → TwinStanding → TwinStanding → Type 0
 LeadsBy events s t = (l : Lossy) → IsAt s l → (m : Lossy) × IsAt t m × Passes l events m
 
 -- what each call needs, and leaves: the cabinet has the catalogue, no render runs in it, and each change that was sent has a cover of it
-pub record IsReady (c : Catalogue) (s : Standing) : Type 0 where
+pub record IsTwinReady (c : Catalogue) (s : TwinStanding) : Type 0 where
   pub valid : IsValid c
   pub same : s.cabinet.catalogue ≡ c
   pub rests : IsAtRest s.cabinet

@@ -8,7 +8,7 @@ ghost use Rattle.disk_model.specs.Images.{Leaves};
 ghost use Rattle.gate_journal.specs.Sound.{digest_of};
 ghost use Rattle.served_covers.specs.OfCatalogue.{IsCoverOf};
 ghost use Rattle.twin_events.specs.Carries.{Carries, FindsAt, HearsAs, RunsOut, TakesAs, counts};
-ghost use Rattle.twin_events.specs.Twins.{IsReady, standing};
+ghost use Rattle.twin_events.specs.Twins.{IsTwinReady, standing};
 
 use crate::carried::Carried;
 use crate::twin::Twin;
@@ -92,13 +92,13 @@ impl<K: Keeper, M: Disk, N: Disk> Twin<K, M, N> {
     /// At every moment each image of the marks ends in a mark of the feed before the call or after it. `AllocError` where memory runs out:
     /// nothing has then changed, or memory ran out in the follower's call for the change.
     pub fn carry(&mut self, alloc: Global, place: u64) -> Result<Option<Carried>, AllocError>
-        requires ready { IsReady self.old.outbox.catalogue (standing self.old.outbox.out self.old.feed.stand (K.state self.old.cabinet) self.old.sent.items) }
+        requires ready { IsTwinReady self.old.outbox.catalogue (standing self.old.outbox.out self.old.feed.stand (K.state self.old.cabinet) self.old.sent.items) }
         ensures carries { IfOk result (λ found. Carries
             (standing self.old.outbox.out self.old.feed.stand (K.state self.old.cabinet) self.old.sent.items) (counts (M.faults self.old.feed.file.disk) (K.faults self.old.cabinet))
             place found
             (standing self.new.outbox.out self.new.feed.stand (K.state self.new.cabinet) self.new.sent.items) (counts (M.faults self.new.feed.file.disk) (K.faults self.new.cabinet))) }
         ensures err { OnErr result (RunsOut (standing self.old.outbox.out self.old.feed.stand (K.state self.old.cabinet) self.old.sent.items) place (standing self.new.outbox.out self.new.feed.stand (K.state self.new.cabinet) self.new.sent.items)) }
-        ensures ready { IsReady self.new.outbox.catalogue (standing self.new.outbox.out self.new.feed.stand (K.state self.new.cabinet) self.new.sent.items) }
+        ensures ready { IsTwinReady self.new.outbox.catalogue (standing self.new.outbox.out self.new.feed.stand (K.state self.new.cabinet) self.new.sent.items) }
         ensures catalogue { self.new.outbox.catalogue ≡ self.old.outbox.catalogue }
         ensures file { self.new.outbox.file ≡ self.old.outbox.file }
         ensures told { M.told self.new.feed.file.disk ≡ M.told self.old.feed.file.disk }

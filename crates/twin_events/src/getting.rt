@@ -6,12 +6,12 @@ ghost use Rattle.cache_core.specs.Lasting.{Lasting};
 ghost use Rattle.catalog.specs.LookUp.{IsTile};
 ghost use Rattle.tile_service.specs.Session.{IsAtRest};
 ghost use Rattle.twin_events.specs.Gets.{EndsRender, Gets, GetsIn, RunsOut, failures};
-ghost use Rattle.twin_events.specs.Twins.{IsReady, standing};
+ghost use Rattle.twin_events.specs.Twins.{IsTwinReady, standing};
 
 use crate::got::Got;
 use crate::twin::Twin;
 use cabinet::{Asked, Keeper};
-use cache_core::{RenderFault, Sliced, Tile, laws_of_lasting, painted};
+use cache_core::{RenderFault, Sliced, Tile, laws_of_lasting, paint};
 use disk_model::Disk;
 use matrix_geometry::Address;
 use metatile_locks::Ticket;
@@ -38,7 +38,7 @@ fn end_render<K: Keeper, S: Source>(
 {
     laws_of_metatiles();
     cabinet.known();
-    match painted(alloc, cabinet.catalogue(), source, &ticket, address) {
+    match paint(alloc, cabinet.catalogue(), source, &ticket, address) {
         Ok(Sliced { blob, bytes }) => {
             let number = ticket.number();
             let _ = cabinet.finish(ticket, blob);
@@ -101,7 +101,7 @@ impl<K: Keeper, M: Disk, N: Disk> Twin<K, M, N> {
         source: &mut S,
         address: &Address,
     ) -> Result<Got, AllocError>
-        requires ready { IsReady self.old.outbox.catalogue (standing self.old.outbox.out self.old.feed.stand (K.state self.old.cabinet) self.old.sent.items) }
+        requires ready { IsTwinReady self.old.outbox.catalogue (standing self.old.outbox.out self.old.feed.stand (K.state self.old.cabinet) self.old.sent.items) }
         requires tile { IsTile self.old.outbox.catalogue address.now }
         ensures gets { IfOk result (λ reply. Gets (S.told source.old)
             (standing self.old.outbox.out self.old.feed.stand (K.state self.old.cabinet) self.old.sent.items) (failures (S.faults source.old) (K.faults self.old.cabinet))
@@ -111,7 +111,7 @@ impl<K: Keeper, M: Disk, N: Disk> Twin<K, M, N> {
             (standing self.old.outbox.out self.old.feed.stand (K.state self.old.cabinet) self.old.sent.items) (failures (S.faults source.old) (K.faults self.old.cabinet))
             address.now
             (standing self.new.outbox.out self.new.feed.stand (K.state self.new.cabinet) self.new.sent.items) (failures (S.faults source.new) (K.faults self.new.cabinet))) }
-        ensures ready { IsReady self.new.outbox.catalogue (standing self.new.outbox.out self.new.feed.stand (K.state self.new.cabinet) self.new.sent.items) }
+        ensures ready { IsTwinReady self.new.outbox.catalogue (standing self.new.outbox.out self.new.feed.stand (K.state self.new.cabinet) self.new.sent.items) }
         ensures outbox { self.new.outbox ≡ self.old.outbox }
         ensures feed { self.new.feed ≡ self.old.feed }
         ensures sent { self.new.sent ≡ self.old.sent }

@@ -4,7 +4,7 @@ ghost use Rattle.cut_follower.specs.Lossy.{posted};
 ghost use Rattle.disk_model.specs.Images.{Leaves};
 ghost use Rattle.outbox.specs.Posts.{Posts};
 ghost use Rattle.served_covers.specs.OfCatalogue.{IsCoverOf};
-ghost use Rattle.twin_events.specs.Twins.{IsReady, LeadsBy, MayOpenBehind, standing};
+ghost use Rattle.twin_events.specs.Twins.{IsTwinReady, LeadsBy, MayOpenBehind, standing};
 
 use crate::twin::Twin;
 use cabinet::Keeper;
@@ -20,14 +20,14 @@ impl<K: Keeper, M: Disk, N: Disk> Twin<K, M, N> {
     /// At every moment each image of the outbox opens to the posts from before the call, to these and the one that a call may have left
     /// that failed, or to these and this one. `AllocError` where memory runs out; nothing has then changed.
     pub fn post(&mut self, alloc: Global, cover: &Cover) -> Result<Posted, AllocError>
-        requires ready { IsReady self.old.outbox.catalogue (standing self.old.outbox.out self.old.feed.stand (K.state self.old.cabinet) self.old.sent.items) }
+        requires ready { IsTwinReady self.old.outbox.catalogue (standing self.old.outbox.out self.old.feed.stand (K.state self.old.cabinet) self.old.sent.items) }
         requires cover { IsCoverOf self.old.outbox.catalogue cover.now }
         ensures row { IfOk result (λ reply. Posts self.old.outbox.out (N.faults self.old.outbox.file.disk) cover.now reply self.new.outbox.out (N.faults self.new.outbox.file.disk)) }
         ensures leads { IfOk result (λ reply. LeadsBy (posted cover.now reply ∷ [])
             (standing self.old.outbox.out self.old.feed.stand (K.state self.old.cabinet) self.old.sent.items)
             (standing self.new.outbox.out self.new.feed.stand (K.state self.new.cabinet) self.new.sent.items)) }
         ensures err { OnErr result (self.new ≡ self.old) }
-        ensures ready { IsReady self.new.outbox.catalogue (standing self.new.outbox.out self.new.feed.stand (K.state self.new.cabinet) self.new.sent.items) }
+        ensures ready { IsTwinReady self.new.outbox.catalogue (standing self.new.outbox.out self.new.feed.stand (K.state self.new.cabinet) self.new.sent.items) }
         ensures catalogue { self.new.outbox.catalogue ≡ self.old.outbox.catalogue }
         ensures cabinet { self.new.cabinet ≡ self.old.cabinet }
         ensures feed { self.new.feed ≡ self.old.feed }

@@ -10,21 +10,21 @@ use Rattle.sessions.specs.Outside.{OutputChange}
 use Rattle.tile_requests.specs.Sent.{AppendsPart}
 use Rattle.tile_service.specs.Lines.{lines_of}
 use Rattle.twin_events.specs.Carries.{IsOutside}
-use Rattle.twin_events.specs.Twins.{Standing}
+use Rattle.twin_events.specs.Twins.{TwinStanding}
 use Rattle.twin_lines.specs.declared.lines.Halt.{Halt}
 use Rattle.twin_lines.specs.declared.lines.Halt.TheVariants as halt
-use Rattle.twin_lines.specs.declared.order.Order.{Order}
-use Rattle.twin_lines.specs.declared.order.Order.TheVariants as order
+use Rattle.twin_lines.specs.declared.order.TwinOrder.{TwinOrder}
+use Rattle.twin_lines.specs.declared.order.TwinOrder.TheVariants as order
 use Rattle.twin_lines.specs.Orders.{order_in}
-use Rattle.twin_lines.specs.Steps.{AreTrue, Follow, IsLater, MayEndAlong, MayOpenAlong, Moment, Starves, Step, order_of}
+use Rattle.twin_lines.specs.Steps.{AreTrue, Follow, IsLater, MayEndAlong, MayOpenAlong, Starves, TwinMoment, TwinStep, order_of}
 use Rattle.twin_lines.specs.Texts.{answer_text, answers_from}
 
 -- each line gives the order that its step answers, and there are no other steps
-abbrev pub AreOrdered : Catalogue → List (List ℕ) → List Step → Type 0
+abbrev pub AreOrdered : Catalogue → List (List ℕ) → List TwinStep → Type 0
 AreOrdered c lines steps = map (order_in c) lines ≡ map (λ step. Some (order_of step.answer)) steps
 
 -- what was read is no event of a lossy link: it is no order, or one to carry from a place at which nothing was sent
-abbrev pub IsNoEvent : Option Order → Standing → Type 0
+abbrev pub IsNoEvent : Option TwinOrder → TwinStanding → Type 0
 IsNoEvent read s = (read ≡ None) ⊎ ((place : ℕ) × (read ≡ Some (order.Carry place)) × IsOutside place s.sent)
 
 -- these lines stand before the line, and others after it
@@ -32,22 +32,22 @@ abbrev pub IsAmong : List (List ℕ) → List (List ℕ) → List ℕ → Type 0
 IsAmong lines before line = (rest : List (List ℕ)) × (lines ≡ before ++ line ∷ rest)
 
 -- all that the steps before the last write went out, and of what the last one writes a front, and not all of it; a write failed
-pub record IsCutInLast (first : ℕ) (o : OutputChange) (steps : List Step) : Type 0 where
-  pub before : List Step
-  pub last : Step
+pub record IsCutInLast (first : ℕ) (o : OutputChange) (steps : List TwinStep) : Type 0 where
+  pub before : List TwinStep
+  pub last : TwinStep
   pub whole : steps ≡ before ++ last ∷ []
   pub sent : AppendsPart o.from o.to (answers_from first before) (answer_text (first + length before) last.answer)
   pub failed : Rose o.writes.before o.writes.after
 
 -- behind the steps memory ran out in a line
-pub record RunsShort (s t : Moment) : Type 0 where
+pub record RunsShort (s t : TwinMoment) : Type 0 where
   pub starves : Starves s.stands t.stands
   pub later : IsLater s.faults t.faults
 
 -- Which lines have a step, by the end, what was written, and the moment t at the end, by the moment s that the steps lead to. All of
 -- them; those before the first that orders a stop, behind which the rest of the text stands; those before the first that is no event;
 -- those up to one whose answer was cut short; those before one in which memory ran out.
-abbrev pub Ends : Catalogue → ℕ → List ℕ → OutputChange → List Step → Moment → Moment → Halt → Type 0
+abbrev pub Ends : Catalogue → ℕ → List ℕ → OutputChange → List TwinStep → TwinMoment → TwinMoment → Halt → Type 0
 Ends c first text o steps s t halt.Done = AreOrdered c (lines_of text) steps × HasWritten o (answers_from first steps) × (t ≡ s)
 Ends c first text o steps s t (halt.Stop which n rest) =
     (before : List (List ℕ)) × (line : List ℕ) × (lines_of text ≡ before ++ line ∷ lines_of rest.now) × AreOrdered c before steps × (n ≡ first + length before) × (order_in c line ≡ Some (order.Stop which)) × HasWritten o (answers_from first steps) × (t ≡ s)
@@ -79,9 +79,9 @@ passage told from to = record { told = told; from = from; to = to }
 -- disks are modelled or not, for none of them is a stop. `source` is what is modelled of the source; where it is the catalogue's, and all
 -- that the cabinet keeps is true, so are the tiles, and what it keeps then. At every moment an image of the marks ends in a mark of a
 -- stand along the steps, and one of the outbox opens to posts along them.
-pub record HasRunLines (c : Catalogue) (source : Option ℕ) (digest : List ℕ) (marks outbox : DiskPassage) (o : OutputChange) (first : ℕ) (text : List ℕ) (s t : Moment) (end : Halt) : Type 0 where
-  pub steps : List Step
-  pub reached : Moment
+pub record HasRunLines (c : Catalogue) (source : Option ℕ) (digest : List ℕ) (marks outbox : DiskPassage) (o : OutputChange) (first : ℕ) (text : List ℕ) (s t : TwinMoment) (end : Halt) : Type 0 where
+  pub steps : List TwinStep
+  pub reached : TwinMoment
   pub follow : (told : Bool) → Follow told source s steps reached
   pub ends : Ends c first text o steps reached t end
   pub truth : source ≡ Some c.source → IsSound s.stands.cabinet → AreTrue c steps

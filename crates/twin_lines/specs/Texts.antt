@@ -8,7 +8,7 @@ use Rattle.twin_events.specs.declared.carried.Carried.{Carried}
 use Rattle.twin_events.specs.declared.carried.Carried.TheVariants as arrival
 use Rattle.twin_events.specs.declared.got.Got.{Got}
 use Rattle.twin_events.specs.declared.got.Got.TheVariants as got
-use Rattle.twin_lines.specs.Steps.{Answer, Step, answered, carried, posted, sent, stopped}
+use Rattle.twin_lines.specs.Steps.{TwinAnswer, TwinStep, answered, carried, posted, sent, stopped}
 
 -- a label and a number
 unfoldable pub one_number : List ℕ → ℕ → List ℕ
@@ -62,7 +62,7 @@ got_text n (got.Tile tile) = tile_lines n tile.number tile.bytes
 got_text n got.SourceFault = line_with (one_number (codes "fault ") n)
 got_text n got.Spent = line_with (one_number (codes "spent ") n)
 
-abbrev pub answer_text : ℕ → Answer → List ℕ
+abbrev pub answer_text : ℕ → TwinAnswer → List ℕ
 answer_text n (posted cover reply) = posted_text n reply
 answer_text n (sent (Some place)) = line_with (two_numbers (codes "sent ") n place)
 answer_text n (sent None) = line_with (one_number (codes "nothing ") n)
@@ -71,6 +71,6 @@ answer_text n (stopped side) = line_with (one_number (codes "stopped ") n)
 answer_text n (answered address reply) = got_text n reply
 
 -- those of steps, of which the first is of this line, and each of the line behind the one before
-abbrev pub answers_from : ℕ → List Step → List ℕ
+abbrev pub answers_from : ℕ → List TwinStep → List ℕ
 answers_from n [] = []
 answers_from n (step ∷ steps) = answer_text n step.answer ++ answers_from (n + 1) steps

@@ -17,8 +17,8 @@ mod order;
 mod orders;
 mod text;
 
-pub use line_end::LineEnd;
+pub use line_end::TwinLineEnd;
 pub use lines::{Halt, run_lines};
-pub use order::{Order, Side};
-pub use orders::Unread;
+pub use order::{LinkSide, TwinOrder};
+pub use orders::UnreadTwinOrder;
 pub use text::tell_stopped;

@@ -5,16 +5,16 @@ ghost use Rattle.catalog.specs.LookUp.{IsTile};
 ghost use Rattle.gate_journal.specs.Sound.{digest_of};
 ghost use Rattle.served_covers.specs.OfCatalogue.{IsCoverOf};
 ghost use Rattle.sessions.specs.Outside.{OutputChange, counts};
-ghost use Rattle.twin_events.specs.Twins.{IsReady, standing};
+ghost use Rattle.twin_events.specs.Twins.{IsTwinReady, standing};
 ghost use Rattle.twin_lines.specs.Ends.{passage};
 ghost use Rattle.twin_lines.specs.OneLine.{GoesTo, RunsOrder};
 ghost use Rattle.twin_lines.specs.Orders.{IsOrderOf, IsReadAs, order_in};
 ghost use Rattle.twin_lines.specs.Steps.{faults, moment};
-ghost use Rattle.twin_lines.specs.declared.order.Order.TheVariants as order;
+ghost use Rattle.twin_lines.specs.declared.order.TwinOrder.TheVariants as order;
 
-use crate::line_end::LineEnd;
-use crate::order::Order;
-use crate::orders::{Unread, read_order};
+use crate::line_end::TwinLineEnd;
+use crate::order::TwinOrder;
+use crate::orders::{UnreadTwinOrder, read_order};
 use crate::text::{tell_carried, tell_got, tell_posted, tell_sent};
 use cabinet::Keeper;
 use cache_core::laws_of_lasting;
@@ -33,8 +33,8 @@ fn run_post<K: Keeper, M: Disk, N: Disk, O: ByteSink>(
     output: &mut O,
     line: u64,
     cover: &Cover,
-) -> LineEnd
-    requires ready { IsReady twin.old.outbox.catalogue (standing twin.old.outbox.out twin.old.feed.stand (K.state twin.old.cabinet) twin.old.sent.items) }
+) -> TwinLineEnd
+    requires ready { IsTwinReady twin.old.outbox.catalogue (standing twin.old.outbox.out twin.old.feed.stand (K.state twin.old.cabinet) twin.old.sent.items) }
     requires cover { IsCoverOf twin.old.outbox.catalogue cover.now }
     ensures runs { (source : Option ℕ) (failed : ℕ) → RunsOrder twin.old.outbox.catalogue source (passage (N.told twin.old.outbox.file.disk) (N.state twin.old.outbox.file.disk) (N.state twin.new.outbox.file.disk)) (Some (order.Post cover.now)) line (record { writes = counts (O.faults output.old) (O.faults output.new); from = O.taken output.old; to = O.taken output.new }) (output.new ≡ output.old)
         (moment (standing twin.old.outbox.out twin.old.feed.stand (K.state twin.old.cabinet) twin.old.sent.items) (faults failed (N.faults twin.old.outbox.file.disk) (M.faults twin.old.feed.file.disk) (K.faults twin.old.cabinet)))
@@ -42,7 +42,7 @@ fn run_post<K: Keeper, M: Disk, N: Disk, O: ByteSink>(
     ensures goes { (source : Option ℕ) (failed : ℕ) → GoesTo twin.old.outbox.catalogue source (digest_of twin.old.feed.file.journal) (passage (M.told twin.old.feed.file.disk) (M.state twin.old.feed.file.disk) (M.state twin.new.feed.file.disk))
         (moment (standing twin.old.outbox.out twin.old.feed.stand (K.state twin.old.cabinet) twin.old.sent.items) (faults failed (N.faults twin.old.outbox.file.disk) (M.faults twin.old.feed.file.disk) (K.faults twin.old.cabinet)))
         (moment (standing twin.new.outbox.out twin.new.feed.stand (K.state twin.new.cabinet) twin.new.sent.items) (faults failed (N.faults twin.new.outbox.file.disk) (M.faults twin.new.feed.file.disk) (K.faults twin.new.cabinet))) }
-    ensures ready { IsReady twin.new.outbox.catalogue (standing twin.new.outbox.out twin.new.feed.stand (K.state twin.new.cabinet) twin.new.sent.items) }
+    ensures ready { IsTwinReady twin.new.outbox.catalogue (standing twin.new.outbox.out twin.new.feed.stand (K.state twin.new.cabinet) twin.new.sent.items) }
     ensures catalogue { twin.new.outbox.catalogue ≡ twin.old.outbox.catalogue }
     ensures posts_told { N.told twin.new.outbox.file.disk ≡ N.told twin.old.outbox.file.disk }
     ensures marks_told { M.told twin.new.feed.file.disk ≡ M.told twin.old.feed.file.disk }
@@ -53,7 +53,7 @@ fn run_post<K: Keeper, M: Disk, N: Disk, O: ByteSink>(
     laws_of_lasting::<K>();
     match twin.post(alloc, cover) {
         Ok(reply) => tell_posted(output, line, reply),
-        Err(_) => LineEnd::OutOfMemory,
+        Err(_) => TwinLineEnd::OutOfMemory,
     }
 }
 
@@ -63,15 +63,15 @@ fn run_send<K: Keeper, M: Disk, N: Disk, O: ByteSink>(
     twin: &mut Twin<K, M, N>,
     output: &mut O,
     line: u64,
-) -> LineEnd
-    requires ready { IsReady twin.old.outbox.catalogue (standing twin.old.outbox.out twin.old.feed.stand (K.state twin.old.cabinet) twin.old.sent.items) }
+) -> TwinLineEnd
+    requires ready { IsTwinReady twin.old.outbox.catalogue (standing twin.old.outbox.out twin.old.feed.stand (K.state twin.old.cabinet) twin.old.sent.items) }
     ensures runs { (source : Option ℕ) (failed : ℕ) → RunsOrder twin.old.outbox.catalogue source (passage (N.told twin.old.outbox.file.disk) (N.state twin.old.outbox.file.disk) (N.state twin.new.outbox.file.disk)) (Some order.Send) line (record { writes = counts (O.faults output.old) (O.faults output.new); from = O.taken output.old; to = O.taken output.new }) (output.new ≡ output.old)
         (moment (standing twin.old.outbox.out twin.old.feed.stand (K.state twin.old.cabinet) twin.old.sent.items) (faults failed (N.faults twin.old.outbox.file.disk) (M.faults twin.old.feed.file.disk) (K.faults twin.old.cabinet)))
         (moment (standing twin.new.outbox.out twin.new.feed.stand (K.state twin.new.cabinet) twin.new.sent.items) (faults failed (N.faults twin.new.outbox.file.disk) (M.faults twin.new.feed.file.disk) (K.faults twin.new.cabinet))) result }
     ensures goes { (source : Option ℕ) (failed : ℕ) → GoesTo twin.old.outbox.catalogue source (digest_of twin.old.feed.file.journal) (passage (M.told twin.old.feed.file.disk) (M.state twin.old.feed.file.disk) (M.state twin.new.feed.file.disk))
         (moment (standing twin.old.outbox.out twin.old.feed.stand (K.state twin.old.cabinet) twin.old.sent.items) (faults failed (N.faults twin.old.outbox.file.disk) (M.faults twin.old.feed.file.disk) (K.faults twin.old.cabinet)))
         (moment (standing twin.new.outbox.out twin.new.feed.stand (K.state twin.new.cabinet) twin.new.sent.items) (faults failed (N.faults twin.new.outbox.file.disk) (M.faults twin.new.feed.file.disk) (K.faults twin.new.cabinet))) }
-    ensures ready { IsReady twin.new.outbox.catalogue (standing twin.new.outbox.out twin.new.feed.stand (K.state twin.new.cabinet) twin.new.sent.items) }
+    ensures ready { IsTwinReady twin.new.outbox.catalogue (standing twin.new.outbox.out twin.new.feed.stand (K.state twin.new.cabinet) twin.new.sent.items) }
     ensures catalogue { twin.new.outbox.catalogue ≡ twin.old.outbox.catalogue }
     ensures posts_told { N.told twin.new.outbox.file.disk ≡ N.told twin.old.outbox.file.disk }
     ensures marks_told { M.told twin.new.feed.file.disk ≡ M.told twin.old.feed.file.disk }
@@ -82,7 +82,7 @@ fn run_send<K: Keeper, M: Disk, N: Disk, O: ByteSink>(
     laws_of_lasting::<K>();
     match twin.send(alloc) {
         Ok(place) => tell_sent(output, line, place),
-        Err(_) => LineEnd::OutOfMemory,
+        Err(_) => TwinLineEnd::OutOfMemory,
     }
 }
 
@@ -93,15 +93,15 @@ fn run_carry<K: Keeper, M: Disk, N: Disk, O: ByteSink>(
     output: &mut O,
     line: u64,
     place: u64,
-) -> LineEnd
-    requires ready { IsReady twin.old.outbox.catalogue (standing twin.old.outbox.out twin.old.feed.stand (K.state twin.old.cabinet) twin.old.sent.items) }
+) -> TwinLineEnd
+    requires ready { IsTwinReady twin.old.outbox.catalogue (standing twin.old.outbox.out twin.old.feed.stand (K.state twin.old.cabinet) twin.old.sent.items) }
     ensures runs { (source : Option ℕ) (failed : ℕ) → RunsOrder twin.old.outbox.catalogue source (passage (N.told twin.old.outbox.file.disk) (N.state twin.old.outbox.file.disk) (N.state twin.new.outbox.file.disk)) (Some (order.Carry place)) line (record { writes = counts (O.faults output.old) (O.faults output.new); from = O.taken output.old; to = O.taken output.new }) (output.new ≡ output.old)
         (moment (standing twin.old.outbox.out twin.old.feed.stand (K.state twin.old.cabinet) twin.old.sent.items) (faults failed (N.faults twin.old.outbox.file.disk) (M.faults twin.old.feed.file.disk) (K.faults twin.old.cabinet)))
         (moment (standing twin.new.outbox.out twin.new.feed.stand (K.state twin.new.cabinet) twin.new.sent.items) (faults failed (N.faults twin.new.outbox.file.disk) (M.faults twin.new.feed.file.disk) (K.faults twin.new.cabinet))) result }
     ensures goes { (source : Option ℕ) (failed : ℕ) → GoesTo twin.old.outbox.catalogue source (digest_of twin.old.feed.file.journal) (passage (M.told twin.old.feed.file.disk) (M.state twin.old.feed.file.disk) (M.state twin.new.feed.file.disk))
         (moment (standing twin.old.outbox.out twin.old.feed.stand (K.state twin.old.cabinet) twin.old.sent.items) (faults failed (N.faults twin.old.outbox.file.disk) (M.faults twin.old.feed.file.disk) (K.faults twin.old.cabinet)))
         (moment (standing twin.new.outbox.out twin.new.feed.stand (K.state twin.new.cabinet) twin.new.sent.items) (faults failed (N.faults twin.new.outbox.file.disk) (M.faults twin.new.feed.file.disk) (K.faults twin.new.cabinet))) }
-    ensures ready { IsReady twin.new.outbox.catalogue (standing twin.new.outbox.out twin.new.feed.stand (K.state twin.new.cabinet) twin.new.sent.items) }
+    ensures ready { IsTwinReady twin.new.outbox.catalogue (standing twin.new.outbox.out twin.new.feed.stand (K.state twin.new.cabinet) twin.new.sent.items) }
     ensures catalogue { twin.new.outbox.catalogue ≡ twin.old.outbox.catalogue }
     ensures posts_told { N.told twin.new.outbox.file.disk ≡ N.told twin.old.outbox.file.disk }
     ensures marks_told { M.told twin.new.feed.file.disk ≡ M.told twin.old.feed.file.disk }
@@ -111,8 +111,8 @@ fn run_carry<K: Keeper, M: Disk, N: Disk, O: ByteSink>(
 {
     match twin.carry(alloc, place) {
         Ok(Some(carried)) => tell_carried(output, line, carried),
-        Ok(None) => LineEnd::Refused,
-        Err(_) => LineEnd::OutOfMemory,
+        Ok(None) => TwinLineEnd::Refused,
+        Err(_) => TwinLineEnd::OutOfMemory,
     }
 }
 
@@ -124,8 +124,8 @@ fn run_get<K: Keeper, M: Disk, N: Disk, S: Source, O: ByteSink>(
     output: &mut O,
     line: u64,
     address: &Address,
-) -> LineEnd
-    requires ready { IsReady twin.old.outbox.catalogue (standing twin.old.outbox.out twin.old.feed.stand (K.state twin.old.cabinet) twin.old.sent.items) }
+) -> TwinLineEnd
+    requires ready { IsTwinReady twin.old.outbox.catalogue (standing twin.old.outbox.out twin.old.feed.stand (K.state twin.old.cabinet) twin.old.sent.items) }
     requires tile { IsTile twin.old.outbox.catalogue address.now }
     ensures runs { RunsOrder twin.old.outbox.catalogue (S.told source.old) (passage (N.told twin.old.outbox.file.disk) (N.state twin.old.outbox.file.disk) (N.state twin.new.outbox.file.disk)) (Some (order.Get address.now)) line (record { writes = counts (O.faults output.old) (O.faults output.new); from = O.taken output.old; to = O.taken output.new }) (output.new ≡ output.old)
         (moment (standing twin.old.outbox.out twin.old.feed.stand (K.state twin.old.cabinet) twin.old.sent.items) (faults (S.faults source.old) (N.faults twin.old.outbox.file.disk) (M.faults twin.old.feed.file.disk) (K.faults twin.old.cabinet)))
@@ -133,7 +133,7 @@ fn run_get<K: Keeper, M: Disk, N: Disk, S: Source, O: ByteSink>(
     ensures goes { GoesTo twin.old.outbox.catalogue (S.told source.old) (digest_of twin.old.feed.file.journal) (passage (M.told twin.old.feed.file.disk) (M.state twin.old.feed.file.disk) (M.state twin.new.feed.file.disk))
         (moment (standing twin.old.outbox.out twin.old.feed.stand (K.state twin.old.cabinet) twin.old.sent.items) (faults (S.faults source.old) (N.faults twin.old.outbox.file.disk) (M.faults twin.old.feed.file.disk) (K.faults twin.old.cabinet)))
         (moment (standing twin.new.outbox.out twin.new.feed.stand (K.state twin.new.cabinet) twin.new.sent.items) (faults (S.faults source.new) (N.faults twin.new.outbox.file.disk) (M.faults twin.new.feed.file.disk) (K.faults twin.new.cabinet))) }
-    ensures ready { IsReady twin.new.outbox.catalogue (standing twin.new.outbox.out twin.new.feed.stand (K.state twin.new.cabinet) twin.new.sent.items) }
+    ensures ready { IsTwinReady twin.new.outbox.catalogue (standing twin.new.outbox.out twin.new.feed.stand (K.state twin.new.cabinet) twin.new.sent.items) }
     ensures catalogue { twin.new.outbox.catalogue ≡ twin.old.outbox.catalogue }
     ensures posts_told { N.told twin.new.outbox.file.disk ≡ N.told twin.old.outbox.file.disk }
     ensures marks_told { M.told twin.new.feed.file.disk ≡ M.told twin.old.feed.file.disk }
@@ -144,7 +144,7 @@ fn run_get<K: Keeper, M: Disk, N: Disk, S: Source, O: ByteSink>(
 {
     match twin.ask(alloc, source, address) {
         Ok(reply) => tell_got(output, line, &reply),
-        Err(_) => LineEnd::OutOfMemory,
+        Err(_) => TwinLineEnd::OutOfMemory,
     }
 }
 
@@ -155,9 +155,9 @@ fn run_order<K: Keeper, M: Disk, N: Disk, S: Source, O: ByteSink>(
     source: &mut S,
     output: &mut O,
     line: u64,
-    order: Order,
-) -> LineEnd
-    requires ready { IsReady twin.old.outbox.catalogue (standing twin.old.outbox.out twin.old.feed.stand (K.state twin.old.cabinet) twin.old.sent.items) }
+    order: TwinOrder,
+) -> TwinLineEnd
+    requires ready { IsTwinReady twin.old.outbox.catalogue (standing twin.old.outbox.out twin.old.feed.stand (K.state twin.old.cabinet) twin.old.sent.items) }
     requires of { IsOrderOf twin.old.outbox.catalogue order }
     ensures runs { RunsOrder twin.old.outbox.catalogue (S.told source.old) (passage (N.told twin.old.outbox.file.disk) (N.state twin.old.outbox.file.disk) (N.state twin.new.outbox.file.disk)) (Some order) line (record { writes = counts (O.faults output.old) (O.faults output.new); from = O.taken output.old; to = O.taken output.new }) (output.new ≡ output.old)
         (moment (standing twin.old.outbox.out twin.old.feed.stand (K.state twin.old.cabinet) twin.old.sent.items) (faults (S.faults source.old) (N.faults twin.old.outbox.file.disk) (M.faults twin.old.feed.file.disk) (K.faults twin.old.cabinet)))
@@ -165,7 +165,7 @@ fn run_order<K: Keeper, M: Disk, N: Disk, S: Source, O: ByteSink>(
     ensures goes { GoesTo twin.old.outbox.catalogue (S.told source.old) (digest_of twin.old.feed.file.journal) (passage (M.told twin.old.feed.file.disk) (M.state twin.old.feed.file.disk) (M.state twin.new.feed.file.disk))
         (moment (standing twin.old.outbox.out twin.old.feed.stand (K.state twin.old.cabinet) twin.old.sent.items) (faults (S.faults source.old) (N.faults twin.old.outbox.file.disk) (M.faults twin.old.feed.file.disk) (K.faults twin.old.cabinet)))
         (moment (standing twin.new.outbox.out twin.new.feed.stand (K.state twin.new.cabinet) twin.new.sent.items) (faults (S.faults source.new) (N.faults twin.new.outbox.file.disk) (M.faults twin.new.feed.file.disk) (K.faults twin.new.cabinet))) }
-    ensures ready { IsReady twin.new.outbox.catalogue (standing twin.new.outbox.out twin.new.feed.stand (K.state twin.new.cabinet) twin.new.sent.items) }
+    ensures ready { IsTwinReady twin.new.outbox.catalogue (standing twin.new.outbox.out twin.new.feed.stand (K.state twin.new.cabinet) twin.new.sent.items) }
     ensures catalogue { twin.new.outbox.catalogue ≡ twin.old.outbox.catalogue }
     ensures posts_told { N.told twin.new.outbox.file.disk ≡ N.told twin.old.outbox.file.disk }
     ensures marks_told { M.told twin.new.feed.file.disk ≡ M.told twin.old.feed.file.disk }
@@ -176,11 +176,11 @@ fn run_order<K: Keeper, M: Disk, N: Disk, S: Source, O: ByteSink>(
 {
     laws_of_lasting::<K>();
     match order {
-        Order::Post(cover) => run_post(alloc, twin, output, line, &cover),
-        Order::Send => run_send(alloc, twin, output, line),
-        Order::Carry(place) => run_carry(alloc, twin, output, line, place),
-        Order::Stop(side) => LineEnd::Stop(side),
-        Order::Get(address) => run_get(alloc, twin, source, output, line, &address),
+        TwinOrder::Post(cover) => run_post(alloc, twin, output, line, &cover),
+        TwinOrder::Send => run_send(alloc, twin, output, line),
+        TwinOrder::Carry(place) => run_carry(alloc, twin, output, line, place),
+        TwinOrder::Stop(side) => TwinLineEnd::Stop(side),
+        TwinOrder::Get(address) => run_get(alloc, twin, source, output, line, &address),
     }
 }
 
@@ -189,8 +189,8 @@ fn order_of<K: Keeper, M: Disk, N: Disk>(
     alloc: Global,
     twin: &Twin<K, M, N>,
     text: &[u8],
-) -> Result<Order, Unread>
-    requires ready { IsReady twin.now.outbox.catalogue (standing twin.now.outbox.out twin.now.feed.stand (K.state twin.now.cabinet) twin.now.sent.items) }
+) -> Result<TwinOrder, UnreadTwinOrder>
+    requires ready { IsTwinReady twin.now.outbox.catalogue (standing twin.now.outbox.out twin.now.feed.stand (K.state twin.now.cabinet) twin.now.sent.items) }
     ensures reads { IsReadAs (order_in twin.now.outbox.catalogue text.now) result }
     ensures of { IfOk result (IsOrderOf twin.now.outbox.catalogue) }
 {
@@ -205,15 +205,15 @@ pub(crate) fn run_line<K: Keeper, M: Disk, N: Disk, S: Source, O: ByteSink>(
     output: &mut O,
     line: u64,
     text: &[u8],
-) -> LineEnd
-    requires ready { IsReady twin.old.outbox.catalogue (standing twin.old.outbox.out twin.old.feed.stand (K.state twin.old.cabinet) twin.old.sent.items) }
+) -> TwinLineEnd
+    requires ready { IsTwinReady twin.old.outbox.catalogue (standing twin.old.outbox.out twin.old.feed.stand (K.state twin.old.cabinet) twin.old.sent.items) }
     ensures runs { RunsOrder twin.old.outbox.catalogue (S.told source.old) (passage (N.told twin.old.outbox.file.disk) (N.state twin.old.outbox.file.disk) (N.state twin.new.outbox.file.disk)) (order_in twin.old.outbox.catalogue text.now) line (record { writes = counts (O.faults output.old) (O.faults output.new); from = O.taken output.old; to = O.taken output.new }) (output.new ≡ output.old)
         (moment (standing twin.old.outbox.out twin.old.feed.stand (K.state twin.old.cabinet) twin.old.sent.items) (faults (S.faults source.old) (N.faults twin.old.outbox.file.disk) (M.faults twin.old.feed.file.disk) (K.faults twin.old.cabinet)))
         (moment (standing twin.new.outbox.out twin.new.feed.stand (K.state twin.new.cabinet) twin.new.sent.items) (faults (S.faults source.new) (N.faults twin.new.outbox.file.disk) (M.faults twin.new.feed.file.disk) (K.faults twin.new.cabinet))) result }
     ensures goes { GoesTo twin.old.outbox.catalogue (S.told source.old) (digest_of twin.old.feed.file.journal) (passage (M.told twin.old.feed.file.disk) (M.state twin.old.feed.file.disk) (M.state twin.new.feed.file.disk))
         (moment (standing twin.old.outbox.out twin.old.feed.stand (K.state twin.old.cabinet) twin.old.sent.items) (faults (S.faults source.old) (N.faults twin.old.outbox.file.disk) (M.faults twin.old.feed.file.disk) (K.faults twin.old.cabinet)))
         (moment (standing twin.new.outbox.out twin.new.feed.stand (K.state twin.new.cabinet) twin.new.sent.items) (faults (S.faults source.new) (N.faults twin.new.outbox.file.disk) (M.faults twin.new.feed.file.disk) (K.faults twin.new.cabinet))) }
-    ensures ready { IsReady twin.new.outbox.catalogue (standing twin.new.outbox.out twin.new.feed.stand (K.state twin.new.cabinet) twin.new.sent.items) }
+    ensures ready { IsTwinReady twin.new.outbox.catalogue (standing twin.new.outbox.out twin.new.feed.stand (K.state twin.new.cabinet) twin.new.sent.items) }
     ensures catalogue { twin.new.outbox.catalogue ≡ twin.old.outbox.catalogue }
     ensures posts_told { N.told twin.new.outbox.file.disk ≡ N.told twin.old.outbox.file.disk }
     ensures marks_told { M.told twin.new.feed.file.disk ≡ M.told twin.old.feed.file.disk }
@@ -225,7 +225,7 @@ pub(crate) fn run_line<K: Keeper, M: Disk, N: Disk, S: Source, O: ByteSink>(
     laws_of_lasting::<K>();
     match order_of(alloc, twin, text) {
         Ok(order) => run_order(alloc, twin, source, output, line, order),
-        Err(Unread::Refused) => LineEnd::Refused,
-        Err(Unread::OutOfMemory) => LineEnd::OutOfMemory,
+        Err(UnreadTwinOrder::Refused) => TwinLineEnd::Refused,
+        Err(UnreadTwinOrder::OutOfMemory) => TwinLineEnd::OutOfMemory,
     }
 }

@@ -1,13 +1,13 @@
 //! How a line ends.
-use crate::order::Side;
+use crate::order::LinkSide;
 
 /// How a line ended.
 #[derive(Clone, Copy, PartialEq, Eq)]
-pub enum LineEnd {
+pub enum TwinLineEnd {
     /// Its order was answered, and the answer went out.
     Told,
     /// It orders a stop of this side, and nothing happened.
-    Stop(Side),
+    Stop(LinkSide),
     /// It is no event of a lossy link, and nothing happened.
     Refused,
     /// Its order was answered, and a write of the answer failed.

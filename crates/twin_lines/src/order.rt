@@ -4,7 +4,7 @@ use truncation_list::Cover;
 
 /// One of the two sides of a lossy link.
 #[derive(Clone, Copy, PartialEq, Eq)]
-pub enum Side {
+pub enum LinkSide {
     /// The one that posts: an outbox.
     Leader,
     /// The one that applies: a cabinet and the marks of its feed.
@@ -13,7 +13,7 @@ pub enum Side {
 
 /// What a line orders.
 #[derive(Clone, Copy, PartialEq, Eq)]
-pub enum Order {
+pub enum TwinOrder {
     /// `POST <cover>`: the leader posts a cover.
     Post(Cover),
     /// `SEND`: the leader sends the first post that it hasn't heard as seen.
@@ -21,7 +21,7 @@ pub enum Order {
     /// `CARRY <n>`: the packet at this place among all that were ever sent, from 1, arrives at the side that it is for.
     Carry(u64),
     /// `STOP L` or `STOP F`: this side is closed and opened again.
-    Stop(Side),
+    Stop(LinkSide),
     /// `GET <target>`: this tile is asked of the follower.
     Get(Address),
 }

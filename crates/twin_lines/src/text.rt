@@ -6,7 +6,7 @@ ghost use Rattle.twin_lines.specs.OneLine.{IsToldAs};
 ghost use Rattle.twin_lines.specs.Steps.{sent};
 ghost use Rattle.twin_lines.specs.Texts.{answer_text, applied_text, carried_text, got_text, line_with, no_number, one_number, posted_text, taken_text, tile_lines, two_numbers};
 
-use crate::line_end::LineEnd;
+use crate::line_end::TwinLineEnd;
 use arrayvec::ArrayVec;
 use change_feed::Applied;
 use http_wire::ByteSink;
@@ -53,20 +53,20 @@ fn no_number(label: &[u8], number: u64) -> ArrayVec<u8, 1024>
 }
 
 /// Sends a text in two parts.
-fn send_parts<O: ByteSink>(output: &mut O, front: ArrayVec<u8, 1024>, rest: &[u8]) -> LineEnd
+fn send_parts<O: ByteSink>(output: &mut O, front: ArrayVec<u8, 1024>, rest: &[u8]) -> TwinLineEnd
     requires { array_vec_len front ≤ 512 }
     ensures told { IsToldAs (record { writes = counts (O.faults output.old) (O.faults output.new); from = O.taken output.old; to = O.taken output.new }) (front.items ++ rest.now) result }
     ensures later { O.faults output.old ≤ O.faults output.new }
 {
     match send_behind(output, front, rest) {
-        Ok(()) => LineEnd::Told,
-        Err(_) => LineEnd::WriteFault,
+        Ok(()) => TwinLineEnd::Told,
+        Err(_) => TwinLineEnd::WriteFault,
     }
 }
 
 /// Sends a text as a line.
 #[tactic(auto, unfolding(crate::specs::Texts::line_with))]
-fn send_line<O: ByteSink>(output: &mut O, text: ArrayVec<u8, 1024>) -> LineEnd
+fn send_line<O: ByteSink>(output: &mut O, text: ArrayVec<u8, 1024>) -> TwinLineEnd
     requires { array_vec_len text ≤ 100 }
     ensures told { IsToldAs (record { writes = counts (O.faults output.old) (O.faults output.new); from = O.taken output.old; to = O.taken output.new }) (line_with text.items) result }
     ensures later { O.faults output.old ≤ O.faults output.new }
@@ -92,7 +92,7 @@ fn applied_text(number: u64, reply: Applied) -> ArrayVec<u8, 1024>
 }
 
 /// Tells what became of a cover that was posted.
-pub(crate) fn tell_posted<O: ByteSink>(output: &mut O, line: u64, reply: Posted) -> LineEnd
+pub(crate) fn tell_posted<O: ByteSink>(output: &mut O, line: u64, reply: Posted) -> TwinLineEnd
     ensures told { IsToldAs (record { writes = counts (O.faults output.old) (O.faults output.new); from = O.taken output.old; to = O.taken output.new }) (posted_text line reply) result }
     ensures later { O.faults output.old ≤ O.faults output.new }
 {
@@ -104,7 +104,7 @@ pub(crate) fn tell_posted<O: ByteSink>(output: &mut O, line: u64, reply: Posted)
 }
 
 /// Tells the place of the packet that was sent, or that there was none to send.
-pub(crate) fn tell_sent<O: ByteSink>(output: &mut O, line: u64, place: Option<u64>) -> LineEnd
+pub(crate) fn tell_sent<O: ByteSink>(output: &mut O, line: u64, place: Option<u64>) -> TwinLineEnd
     ensures told { IsToldAs (record { writes = counts (O.faults output.old) (O.faults output.new); from = O.taken output.old; to = O.taken output.new }) (answer_text line (sent place)) result }
     ensures later { O.faults output.old ≤ O.faults output.new }
 {
@@ -122,7 +122,7 @@ fn tell_taken<O: ByteSink>(
     number: u64,
     reply: Applied,
     seen: u64,
-) -> LineEnd
+) -> TwinLineEnd
     ensures told { IsToldAs (record { writes = counts (O.faults output.old) (O.faults output.new); from = O.taken output.old; to = O.taken output.new }) (taken_text line number reply seen) result }
     ensures later { O.faults output.old ≤ O.faults output.new }
 {
@@ -135,7 +135,7 @@ fn tell_taken<O: ByteSink>(
 }
 
 /// Tells what became of a packet that was carried.
-pub(crate) fn tell_carried<O: ByteSink>(output: &mut O, line: u64, arrival: Carried) -> LineEnd
+pub(crate) fn tell_carried<O: ByteSink>(output: &mut O, line: u64, arrival: Carried) -> TwinLineEnd
     ensures told { IsToldAs (record { writes = counts (O.faults output.old) (O.faults output.new); from = O.taken output.old; to = O.taken output.new }) (carried_text line arrival) result }
     ensures later { O.faults output.old ≤ O.faults output.new }
 {
@@ -148,7 +148,7 @@ pub(crate) fn tell_carried<O: ByteSink>(output: &mut O, line: u64, arrival: Carr
 
 /// Tells the number of a tile and how many bytes it has, and sends it behind.
 #[tactic(auto, unfolding(crate::specs::Texts::tile_lines))]
-fn tell_tile<O: ByteSink>(output: &mut O, line: u64, number: u64, bytes: &[u8]) -> LineEnd
+fn tell_tile<O: ByteSink>(output: &mut O, line: u64, number: u64, bytes: &[u8]) -> TwinLineEnd
     ensures told { IsToldAs (record { writes = counts (O.faults output.old) (O.faults output.new); from = O.taken output.old; to = O.taken output.new }) (tile_lines line number bytes.now) result }
     ensures later { O.faults output.old ≤ O.faults output.new }
 {
@@ -160,7 +160,7 @@ fn tell_tile<O: ByteSink>(output: &mut O, line: u64, number: u64, bytes: &[u8]) 
 }
 
 /// Tells what became of a tile that was asked for.
-pub(crate) fn tell_got<O: ByteSink>(output: &mut O, line: u64, reply: &Got) -> LineEnd
+pub(crate) fn tell_got<O: ByteSink>(output: &mut O, line: u64, reply: &Got) -> TwinLineEnd
     ensures told { IsToldAs (record { writes = counts (O.faults output.old) (O.faults output.new); from = O.taken output.old; to = O.taken output.new }) (got_text line reply.now) result }
     ensures later { O.faults output.old ≤ O.faults output.new }
 {
@@ -172,7 +172,7 @@ pub(crate) fn tell_got<O: ByteSink>(output: &mut O, line: u64, reply: &Got) -> L
 }
 
 /// Tells that a side was closed and opened again. `WriteFault` or `Told`.
-pub fn tell_stopped<O: ByteSink>(output: &mut O, line: u64) -> LineEnd
+pub fn tell_stopped<O: ByteSink>(output: &mut O, line: u64) -> TwinLineEnd
     ensures told { IsToldAs (record { writes = counts (O.faults output.old) (O.faults output.new); from = O.taken output.old; to = O.taken output.new }) (line_with (one_number (codes "stopped ") line)) result }
     ensures later { O.faults output.old ≤ O.faults output.new }
 {

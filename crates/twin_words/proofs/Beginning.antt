@@ -10,7 +10,7 @@ use Rattle.change_feed.specs.declared.mark.Mark.{Mark}
 use Rattle.change_feed.specs.Files.{EndsIn, MayEndIn, Stand}
 use Rattle.change_feed.specs.Runs.{IsEither}
 use Rattle.base.specs.Readings.{Readings}
-use Rattle.cut_follower.specs.Lossy.{Event, Lossy, cabinet_opened, marks_opened, outbox_opened}
+use Rattle.cut_follower.specs.Lossy.{LinkEvent, Lossy, cabinet_opened, marks_opened, outbox_opened}
 use Rattle.disk_model.specs.Content.{Content, Same}
 use Rattle.disk_model.specs.Images.{After, DiskState, IsLawful, Leaves}
 use Rattle.disk_model.specs.Moments.{leaves_as, leaves_then}
@@ -24,24 +24,24 @@ use Rattle.opened_cache.proofs.Lasting.{opening_lasts, work_lasts}
 use Rattle.command_status.specs.declared.status.Status.{Status}
 use Rattle.opened_cache.specs.Change.{DiskChange}
 use Rattle.gate_journal.specs.declared.fault.OpenFault.{OpenFault}
-use Rattle.opened_cache.specs.Crash.{Lasts}
+use Rattle.opened_cache.specs.Crash.{ImageLasts}
 use Rattle.command_status.specs.Statuses.{status_of_input, status_of_opening}
 use Rattle.outbox.specs.Files.{MayOpenTo, OpensToPosts}
 use Rattle.outbox.specs.Posts.{MayBeFound, Outgoing}
 use Rattle.sessions.specs.Outside.{counts}
 use Rattle.truncation_list.specs.declared.cover.Cover.{Cover}
-use Rattle.twin_events.specs.Twins.{IsAt, Standing}
+use Rattle.twin_events.specs.Twins.{IsAt, TwinStanding}
 use Rattle.twin_lines.specs.declared.lines.Halt.{Halt}
 use Rattle.twin_lines.specs.declared.lines.Halt.TheVariants as halt
-use Rattle.twin_lines.specs.declared.order.Side.{Side}
-use Rattle.twin_lines.specs.declared.order.Side.TheVariants as side
-use Rattle.twin_lines.specs.Steps.{Follow, MayEndAlong, MayOpenAlong, Moment, Step}
+use Rattle.twin_lines.specs.declared.order.LinkSide.{LinkSide}
+use Rattle.twin_lines.specs.declared.order.LinkSide.TheVariants as side
+use Rattle.twin_lines.specs.Steps.{Follow, MayEndAlong, MayOpenAlong, TwinMoment, TwinStep}
 use Rattle.twin_words.proofs.Composing.{goes_on_later}
 use Rattle.twin_words.proofs.Kept.{AllInStep, TilesAbove, in_step_alone, opens_all, steps_kept}
 use Rattle.twin_words.specs.Ends.{EndsRefused, EndsRun, HasTwinned, IsText, RefusesAgain, Stays, TwinChange, Twins, all_told}
 use Rattle.twin_words.specs.Opens.{IsLeftFor, IsPairOn, LeavesTwin, OpensTwin}
 use Rattle.twin_words.specs.Promised.{KeepsPromise, without_packets}
-use Rattle.twin_words.specs.Works.{IsEndOf, IsUnread, RunsInput, RunsNone, StopsAt, Works, WorksTo}
+use Rattle.twin_words.specs.Works.{IsEndOf, IsUnread, RunsInput, RunsNone, StopsAt, TwinWorks, WorksTo}
 
 abbrev pub MarksEither : Type 0
 MarksEither = (digest : List ℕ) (s : Stand) (found : Option Mark) (image : Content) → MayEndIn digest s image → EndsIn digest found image → IsEither s found
@@ -49,7 +49,7 @@ MarksEither = (digest : List ℕ) (s : Stand) (found : Option Mark) (image : Con
 abbrev pub PostsFound : Type 0
 PostsFound = (c : Catalogue) (s : Outgoing) (found : List Cover) (image : Content) → MayOpenTo c s image → OpensToPosts c image found → MayBeFound s found
 
-opening_events : List Event
+opening_events : List LinkEvent
 opening_events = cabinet_opened ∷ marks_opened ∷ outbox_opened ∷ []
 
 -- each of three tests that hold together
@@ -62,7 +62,7 @@ was_there : (old : DiskState) (image : Content) → After Same old.may_leave ima
 was_there old image after = subst old.may_leave (sym after.2) after.1
 
 module _ (all : AllInStep) (tiles : TilesAbove) (either : MarksEither) (found : PostsFound)
-    (c : Catalogue) (clock : Readings) (h : TwinChange) (d m o : DiskState) (dn mn on : ℕ) (stands : Standing) (settled : Type 0)
+    (c : Catalogue) (clock : Readings) (h : TwinChange) (d m o : DiskState) (dn mn on : ℕ) (stands : TwinStanding) (settled : Type 0)
     (valid : IsValid c) (known : IsKnown stands.cabinet) (settles : settled)
     (lawful : IsTrue h.cache.told → IsLawful h.cache.from) (marks_lawful : IsTrue h.marks.told → IsLawful h.marks.from) (outbox_lawful : IsTrue h.outbox.told → IsLawful h.outbox.from)
     (later : h.cache.faults.before ≤ dn) (marks_later : h.marks.faults.before ≤ mn) (outbox_later : h.outbox.faults.before ≤ on)
@@ -78,13 +78,13 @@ module _ (all : AllInStep) (tiles : TilesAbove) (either : MarksEither) (found : 
   abbrev outbox_then : DiskChange
   outbox_then = record { told = h.outbox.told; faults = counts on h.outbox.faults.after; from = o; to = h.outbox.to }
 
-  abbrev first : Moment
+  abbrev first : TwinMoment
   first = record { stands = stands; faults = record { source = h.source.faults.before; outbox = on; marks = mn; cabinet = dn } }
 
-  abbrev Worked : Moment → Moment → List (List ℕ) → List Step → Type 0
-  Worked reached last lines steps = Works c h.source.told h.source.faults.after cache_then marks_then outbox_then settled first reached last lines steps
+  abbrev Worked : TwinMoment → TwinMoment → List (List ℕ) → List TwinStep → Type 0
+  Worked reached last lines steps = TwinWorks c h.source.told h.source.faults.after cache_then marks_then outbox_then settled first reached last lines steps
 
-  files : (last : Moment) (after : Lossy) → LeavesTwin c last.stands cache_then marks_then outbox_then → IsAt last.stands after → IsTrue h.cache.told → IsTrue h.marks.told → IsTrue h.outbox.told
+  files : (last : TwinMoment) (after : Lossy) → LeavesTwin c last.stands cache_then marks_then outbox_then → IsAt last.stands after → IsTrue h.cache.told → IsTrue h.marks.told → IsTrue h.outbox.told
       → (x y z : Content) → h.cache.to.may_leave x → h.marks.to.may_leave y → h.outbox.to.may_leave z → IsPairOn c after x y z
   files last after left at is marks_is outbox_is x y z in_x in_y in_z = record {
     same = ap (λ (s : State). s.catalogue) at.cabinet ∙ left.same;
@@ -93,7 +93,7 @@ module _ (all : AllInStep) (tiles : TilesAbove) (either : MarksEither) (found : 
     outbox = subst (λ (s : Outgoing). MayOpenTo c s z) (sym at.out) (left.outbox outbox_is z in_z);
   }
 
-  promise : (reached last : Moment) (lines : List (List ℕ)) (steps : List Step) → Worked reached last lines steps → IsTrue (all_told h) → (l : Lossy) → IsPairOn c l h.cache.from.seen h.marks.from.seen h.outbox.from.seen → KeepsPromise c h.cache h.marks h.outbox l first steps last
+  promise : (reached last : TwinMoment) (lines : List (List ℕ)) (steps : List TwinStep) → Worked reached last lines steps → IsTrue (all_told h) → (l : Lossy) → IsPairOn c l h.cache.from.seen h.marks.from.seen h.outbox.from.seen → KeepsPromise c h.cache h.marks h.outbox l first steps last
   unfolding opening_events
   promise reached last lines steps works told l pair =
       let is = both_true h.cache.told (h.marks.told && h.outbox.told) told in
@@ -121,13 +121,13 @@ module _ (all : AllInStep) (tiles : TilesAbove) (either : MarksEither) (found : 
       }
 
   -- at a moment of the opening, and then of the work
-  abbrev marks_of : (last : Moment) (steps : List Step) (image : Content) → Type 0
+  abbrev marks_of : (last : TwinMoment) (steps : List TwinStep) (image : Content) → Type 0
   marks_of last steps image = h.marks.from.may_leave image ⊎ (MayEndAlong c.digest stands.stand steps image ⊎ MayEndIn c.digest last.stands.stand image)
 
-  abbrev posts_of : (steps : List Step) (image : Content) → Type 0
+  abbrev posts_of : (steps : List TwinStep) (image : Content) → Type 0
   posts_of steps image = h.outbox.from.may_leave image ⊎ MayOpenAlong c stands.out steps image
 
-  pub twinned : (reached last : Moment) (lines : List (List ℕ)) (steps : List Step) → Worked reached last lines steps → HasTwinned c clock h steps reached last
+  pub twinned : (reached last : TwinMoment) (lines : List (List ℕ)) (steps : List TwinStep) → Worked reached last lines steps → HasTwinned c clock h steps reached last
   twinned reached last lines steps works =
       let f = opens.follower in
       record {
@@ -160,7 +160,7 @@ module _ (all : AllInStep) (tiles : TilesAbove) (either : MarksEither) (found : 
         ];
       }
     where
-      failed : (last : Moment) → last.faults.cabinet ≤ h.cache.faults.after → Rose dn last.faults.cabinet → Rose h.cache.faults.before h.cache.faults.after
+      failed : (last : TwinMoment) → last.faults.cabinet ≤ h.cache.faults.after → Rose dn last.faults.cabinet → Rose h.cache.faults.before h.cache.faults.after
       failed last below rose = let e = rose_before (2 ^ 64 - 1) h.cache.faults.before dn last.faults.cabinet later rose in omega (arith, e, below)
 
   -- THE CACHE
@@ -173,7 +173,7 @@ module _ (all : AllInStep) (tiles : TilesAbove) (either : MarksEither) (found : 
         left.ours,
       )
 
-  pub lasts_whole : (reached last : Moment) (lines : List (List ℕ)) (steps : List Step) → Worked reached last lines steps → IsTrue h.cache.told → Leaves h.cache.from h.cache.to (Lasts c h.cache.from)
+  pub lasts_whole : (reached last : TwinMoment) (lines : List (List ℕ)) (steps : List TwinStep) → Worked reached last lines steps → IsTrue h.cache.told → Leaves h.cache.from h.cache.to (ImageLasts c h.cache.from)
   lasts_whole reached last lines steps works is =
       let f = opens.follower in
       work_lasts c h.cache.from d h.cache.to (lawful is) f.cache.replayed (f.cache.opens is) (opening_lasts c h.cache.from d (lawful is) (f.leaves is))
@@ -181,7 +181,7 @@ module _ (all : AllInStep) (tiles : TilesAbove) (either : MarksEither) (found : 
 
   -- THE ENDS
 
-  refused_again : (last : Moment) (which : Side) (cause : OpenFault) → RefusesAgain c cache_then marks_then outbox_then last which cause → RefusesAgain c h.cache h.marks h.outbox last which cause
+  refused_again : (last : TwinMoment) (which : LinkSide) (cause : OpenFault) → RefusesAgain c cache_then marks_then outbox_then last which cause → RefusesAgain c h.cache h.marks h.outbox last which cause
   refused_again last side.Leader cause r = record { seen = r.seen; was_left = r.was_left; refused = r.refused }
   refused_again last side.Follower cause (inl r) = inl (record { seen = r.seen; was_left = r.was_left; refused = r.refused })
   refused_again last side.Follower cause (inr r) = inr (record { seen = r.seen; was_left = r.was_left; refused = r.refused })
@@ -224,7 +224,7 @@ module _ (all : AllInStep) (tiles : TilesAbove) (either : MarksEither) (found : 
   twins stays e (inl (text, is_text, inr (k, is, worked))) = inr (ends_lines stays e text is_text k is worked)
   twins stays e (inr r) = inr (subst (EndsRun c clock h stays) (sym r.1.1) (ends_unread stays r.1.0 r.1.2 r.0))
 
-  pub lasts : (InputStays OutputStays : Type 0) (e : Status) → RunsInput c h.source.told h.source.faults.after cache_then marks_then outbox_then settled h.input h.output first InputStays OutputStays e → IsTrue h.cache.told → Leaves h.cache.from h.cache.to (Lasts c h.cache.from)
+  pub lasts : (InputStays OutputStays : Type 0) (e : Status) → RunsInput c h.source.told h.source.faults.after cache_then marks_then outbox_then settled h.input h.output first InputStays OutputStays e → IsTrue h.cache.told → Leaves h.cache.from h.cache.to (ImageLasts c h.cache.from)
   lasts I O e (inl (text, is_text, inl (cause, is, stops))) told = lasts_whole stops.last stops.last stops.before stops.steps stops.works told
   lasts I O e (inl (text, is_text, inr (k, is, (steps, reached, last, lines, works, ends)))) told = lasts_whole reached last lines steps works told
   lasts I O e (inr r) told = lasts_whole first first [] [] r.0.works told

@@ -5,7 +5,7 @@ use Rattle.std.proofs.Common.{ℕ, ◌≡◌, ◌<◌, ◌≤◌, ◌+◌, ◌�
 use Rattle.cabinet.specs.State.{IsKnown, State, now}
 use Rattle.cabinet_records.specs.Replay.{Replayed, book_after, opening_number}
 use Rattle.catalog.specs.declared.catalogue.Catalogue.{Catalogue}
-use Rattle.change_feed.specs.Runs.{GoesOn}
+use Rattle.change_feed.specs.Runs.{CabinetGoesOn}
 use Rattle.base.specs.Readings.{Readings}
 use Rattle.disk_model.specs.Content.{Content}
 use Rattle.disk_model.specs.Images.{DiskState, Every, IsLawful, Leaves}
@@ -36,7 +36,7 @@ now_left old new P first next leaves image left = elim (leaves.each old.moment i
 
 -- a cabinet that is opened where what was read answers for the one that was closed goes on from that one
 pub record GoesOnLater (s t : State) : Type 0 where
-  pub goes : GoesOn s t
+  pub goes : CabinetGoesOn s t
   pub later : s.opening.number < t.opening.number
 
 pub goes_on_later : (c : Catalogue) (clock : Readings) (told : Bool) (seen : Content) (s t : State) (r : Replayed) → t ≡ opened_as told seen c clock r → OpensTo c seen r → IsKnown t → s.catalogue ≡ c → AnswersAs c s.opening.number (now s).book seen → GoesOnLater s t

@@ -17,30 +17,30 @@ use Rattle.outbox.specs.Posts.{Outgoing}
 use Rattle.tile_requests.proofs.Known.{appends_more}
 use Rattle.tile_service.specs.Lines.{lines_of, onto_first}
 use Rattle.truncation_list.proofs.Answering.{answers_itself, answers_through}
-use Rattle.twin_lines.specs.declared.order.Order.{Order}
-use Rattle.twin_lines.specs.declared.order.Order.TheVariants as order
-use Rattle.twin_lines.specs.declared.order.Side.{Side}
+use Rattle.twin_lines.specs.declared.order.TwinOrder.{TwinOrder}
+use Rattle.twin_lines.specs.declared.order.TwinOrder.TheVariants as order
+use Rattle.twin_lines.specs.declared.order.LinkSide.{LinkSide}
 use Rattle.twin_lines.specs.Ends.{AreOrdered, passage}
 use Rattle.twin_lines.specs.Orders.{order_in}
-use Rattle.twin_lines.specs.Steps.{Answer, AreTrue, Follow, IsLater, MayEndAlong, MayOpenAlong, MayOpenWhile, Moment, Step, answered, carried, order_of, posted, sent, stopped}
+use Rattle.twin_lines.specs.Steps.{AreTrue, Follow, IsLater, MayEndAlong, MayOpenAlong, MayOpenWhile, TwinAnswer, TwinMoment, TwinStep, answered, carried, order_of, posted, sent, stopped}
 use Rattle.twin_lines.specs.Texts.{answer_text, answers_from}
 use Rattle.twin_words.proofs.Composing.{left_before}
 use Rattle.twin_words.specs.Opens.{GoesFurther, IsLeftFor, Restarts}
-use Rattle.twin_words.specs.Works.{Part, weight}
+use Rattle.twin_words.specs.Works.{TwinPart, weight}
 
 rose_after : (bound before mid after : ℕ) → min (before + 1) bound ≤ mid → mid ≤ after → min (before + 1) bound ≤ after
 rose_after bound before mid after rose later = omega (arith, rose, later)
 
 -- STEPS
 
-pub follow_then : (told : Bool) (source : Option ℕ) (s m t : Moment) (first next : List Step) → Follow told source s first m → Follow told source m next t → Follow told source s (first ++ next) t
-follow_then told source s m t [] next f g = subst (λ (x : Moment). Follow told source x next t) f g
+pub follow_then : (told : Bool) (source : Option ℕ) (s m t : TwinMoment) (first next : List TwinStep) → Follow told source s first m → Follow told source m next t → Follow told source s (first ++ next) t
+follow_then told source s m t [] next f g = subst (λ (x : TwinMoment). Follow told source x next t) f g
 follow_then told source s m t (step ∷ steps) next f g = (f.0, f.1, follow_then told source step.after m t steps next f.2 g)
 
-pub later_itself : (s : Moment) → IsLater s.faults s.faults
+pub later_itself : (s : TwinMoment) → IsLater s.faults s.faults
 later_itself s = record { source = omega arith; outbox = omega arith; marks = omega arith; cabinet = omega arith }
 
-pub later_then : (a b c : Moment) → IsLater a.faults b.faults → IsLater b.faults c.faults → IsLater a.faults c.faults
+pub later_then : (a b c : TwinMoment) → IsLater a.faults b.faults → IsLater b.faults c.faults → IsLater a.faults c.faults
 later_then a b c f g = record {
   source = omega (arith, f.source, g.source);
   outbox = omega (arith, f.outbox, g.outbox);
@@ -48,73 +48,73 @@ later_then a b c f g = record {
   cabinet = omega (arith, f.cabinet, g.cabinet);
 }
 
-pub follow_later : (told : Bool) (source : Option ℕ) (s t : Moment) (steps : List Step) → Follow told source s steps t → IsLater s.faults t.faults
-follow_later told source s t [] f = subst (λ (x : Moment). IsLater s.faults x.faults) (sym f) (later_itself s)
+pub follow_later : (told : Bool) (source : Option ℕ) (s t : TwinMoment) (steps : List TwinStep) → Follow told source s steps t → IsLater s.faults t.faults
+follow_later told source s t [] f = subst (λ (x : TwinMoment). IsLater s.faults x.faults) (sym f) (later_itself s)
 follow_later told source s t (step ∷ steps) f = later_then s step.after t f.1 (follow_later told source step.after t steps f.2)
 
-abbrev given : Step → Option Order
+abbrev given : TwinStep → Option TwinOrder
 given step = Some (order_of step.answer)
 
-pub ordered_then : (c : Catalogue) (lines others : List (List ℕ)) (first next : List Step) → AreOrdered c lines first → AreOrdered c others next → AreOrdered c (lines ++ others) (first ++ next)
+pub ordered_then : (c : Catalogue) (lines others : List (List ℕ)) (first next : List TwinStep) → AreOrdered c lines first → AreOrdered c others next → AreOrdered c (lines ++ others) (first ++ next)
 ordered_then c lines others first next f g =
     map-append (order_in c) lines others
-    ∙ ap (λ (xs : List (Option Order)). xs ++ map (order_in c) others) f
-    ∙ ap (λ (xs : List (Option Order)). map given first ++ xs) g
+    ∙ ap (λ (xs : List (Option TwinOrder)). xs ++ map (order_in c) others) f
+    ∙ ap (λ (xs : List (Option TwinOrder)). map given first ++ xs) g
     ∙ sym (map-append given first next)
 
-pub ordered_length : (c : Catalogue) (lines : List (List ℕ)) (steps : List Step) → AreOrdered c lines steps → length lines ≡ length steps
+pub ordered_length : (c : Catalogue) (lines : List (List ℕ)) (steps : List TwinStep) → AreOrdered c lines steps → length lines ≡ length steps
 ordered_length c lines steps f = sym (length-map lines (order_in c)) ∙ ap length f ∙ length-map steps given
 
 -- TEXTS
 
-pub answers_then : (n : ℕ) (first next : List Step) → answers_from n (first ++ next) ≡ answers_from n first ++ answers_from (n + length first) next
+pub answers_then : (n : ℕ) (first next : List TwinStep) → answers_from n (first ++ next) ≡ answers_from n first ++ answers_from (n + length first) next
 answers_then n [] next = ap (λ (k : ℕ). answers_from k next) (omega arith)
 answers_then n (step ∷ steps) next =
     ap (λ (xs : List ℕ). answer_text n step.answer ++ xs) (answers_then (n + 1) steps next ∙ ap (λ (k : ℕ). answers_from (n + 1) steps ++ answers_from k next) (omega arith))
     ∙ sym (append_assoc (answer_text n step.answer) (answers_from (n + 1) steps) (answers_from (n + length (step ∷ steps)) next))
 
 -- what was written of the first steps, and then of the next ones
-pub written_then : (a b d : Option (List ℕ)) (n line : ℕ) (first next : List Step) → Appends a b (answers_from n first) → Appends b d (answers_from line next) → line ≡ n + length first → Appends a d (answers_from n (first ++ next))
+pub written_then : (a b d : Option (List ℕ)) (n line : ℕ) (first next : List TwinStep) → Appends a b (answers_from n first) → Appends b d (answers_from line next) → line ≡ n + length first → Appends a d (answers_from n (first ++ next))
 written_then a b d n line first next f g same =
     subst (Appends a d) (sym (answers_then n first next)) (appends_more a b d (answers_from n first) (answers_from (n + length first) next) f (subst (λ (k : ℕ). Appends b d (answers_from k next)) same g))
 
 -- IMAGES
 
-along_left : (digest : List ℕ) (s : Stand) (first next : List Step) (image : Content) → MayEndAlong digest s first image → MayEndAlong digest s (first ++ next) image
+along_left : (digest : List ℕ) (s : Stand) (first next : List TwinStep) (image : Content) → MayEndAlong digest s first image → MayEndAlong digest s (first ++ next) image
 along_left digest s [] [] image may = may
 along_left digest s [] (step ∷ steps) image may = inl may
 along_left digest s (step ∷ steps) next image (inl may) = inl may
 along_left digest s (step ∷ steps) next image (inr may) = inr (along_left digest step.after.stands.stand steps next image may)
 
-along_right : (told : Bool) (source : Option ℕ) (digest : List ℕ) (s m : Moment) (first next : List Step) (image : Content) → Follow told source s first m → MayEndAlong digest m.stands.stand next image → MayEndAlong digest s.stands.stand (first ++ next) image
-along_right told source digest s m [] next image f may = subst (λ (x : Moment). MayEndAlong digest x.stands.stand next image) f may
+along_right : (told : Bool) (source : Option ℕ) (digest : List ℕ) (s m : TwinMoment) (first next : List TwinStep) (image : Content) → Follow told source s first m → MayEndAlong digest m.stands.stand next image → MayEndAlong digest s.stands.stand (first ++ next) image
+along_right told source digest s m [] next image f may = subst (λ (x : TwinMoment). MayEndAlong digest x.stands.stand next image) f may
 along_right told source digest s m (step ∷ steps) next image f may = inr (along_right told source digest step.after m steps next image f.2 may)
 
-pub along_here : (told : Bool) (source : Option ℕ) (digest : List ℕ) (s m : Moment) (steps : List Step) (image : Content) → Follow told source s steps m → MayEndIn digest m.stands.stand image → MayEndAlong digest s.stands.stand steps image
-along_here told source digest s m [] image f may = subst (λ (x : Moment). MayEndIn digest x.stands.stand image) f may
+pub along_here : (told : Bool) (source : Option ℕ) (digest : List ℕ) (s m : TwinMoment) (steps : List TwinStep) (image : Content) → Follow told source s steps m → MayEndIn digest m.stands.stand image → MayEndAlong digest s.stands.stand steps image
+along_here told source digest s m [] image f may = subst (λ (x : TwinMoment). MayEndIn digest x.stands.stand image) f may
 along_here told source digest s m (step ∷ steps) image f may = inr (along_here told source digest step.after m steps image f.2 may)
 
-while_at : (c : Catalogue) (s : Outgoing) (answer : Answer) (image : Content) → MayOpenTo c s image → MayOpenWhile c s answer image
+while_at : (c : Catalogue) (s : Outgoing) (answer : TwinAnswer) (image : Content) → MayOpenTo c s image → MayOpenWhile c s answer image
 while_at c s (posted cover reply) image may = inl may
 while_at c s (sent place) image may = may
 while_at c s (carried place arrival) image may = may
 while_at c s (stopped which) image may = may
 while_at c s (answered address reply) image may = may
 
-posts_left : (c : Catalogue) (s : Outgoing) (first next : List Step) (image : Content) → MayOpenAlong c s first image → MayOpenAlong c s (first ++ next) image
+posts_left : (c : Catalogue) (s : Outgoing) (first next : List TwinStep) (image : Content) → MayOpenAlong c s first image → MayOpenAlong c s (first ++ next) image
 posts_left c s [] [] image may = may
 posts_left c s [] (step ∷ steps) image may = inl (while_at c s step.answer image may)
 posts_left c s (step ∷ steps) next image (inl may) = inl may
 posts_left c s (step ∷ steps) next image (inr may) = inr (posts_left c step.after.stands.out steps next image may)
 
-posts_right : (told : Bool) (source : Option ℕ) (c : Catalogue) (s m : Moment) (first next : List Step) (image : Content) → Follow told source s first m → MayOpenAlong c m.stands.out next image → MayOpenAlong c s.stands.out (first ++ next) image
-posts_right told source c s m [] next image f may = subst (λ (x : Moment). MayOpenAlong c x.stands.out next image) f may
+posts_right : (told : Bool) (source : Option ℕ) (c : Catalogue) (s m : TwinMoment) (first next : List TwinStep) (image : Content) → Follow told source s first m → MayOpenAlong c m.stands.out next image → MayOpenAlong c s.stands.out (first ++ next) image
+posts_right told source c s m [] next image f may = subst (λ (x : TwinMoment). MayOpenAlong c x.stands.out next image) f may
 posts_right told source c s m (step ∷ steps) next image f may = inr (posts_right told source c step.after m steps next image f.2 may)
 
 -- PARTS
 
 -- nothing happened
-pub no_part : (c : Catalogue) (source : Option ℕ) (dt mt ot : Bool) (d m o : DiskState) (settled : Type 0) (s : Moment) → Part c source (passage dt d d) (passage mt m m) (passage ot o o) settled settled s s s [] []
+pub no_part : (c : Catalogue) (source : Option ℕ) (dt mt ot : Bool) (d m o : DiskState) (settled : Type 0) (s : TwinMoment) → TwinPart c source (passage dt d d) (passage mt m m) (passage ot o o) settled settled s s s [] []
 no_part c source dt mt ot d m o settled s = record {
   ordered = refl;
   follow = refl;
@@ -127,15 +127,15 @@ no_part c source dt mt ot d m o settled s = record {
   sound = λ tells is settles sound. inr (settles, sound, tt);
 }
 
-all_then : (c : Catalogue) (first next : List Step) → AreTrue c first → AreTrue c next → AreTrue c (first ++ next)
+all_then : (c : Catalogue) (first next : List TwinStep) → AreTrue c first → AreTrue c next → AreTrue c (first ++ next)
 all_then c [] next f g = g
 all_then c (step ∷ steps) next f g = (f.0, all_then c steps next f.1 g)
 
 goes_then : (s m t : State) → GoesFurther s m → GoesFurther m t → GoesFurther s t
 goes_then s m t f g = record { later = let a = f.later in let b = g.later in omega (arith, a, b); answers = answers_through (now t).book (now m).book (now s).book g.answers f.answers }
 
-module _ (c : Catalogue) (source : Option ℕ) (dt mt ot : Bool) (d d_mid d_now m m_mid m_now o o_mid o_now : DiskState) (P Q R : Type 0) (s mid reached t : Moment) (lines others : List (List ℕ)) (first next : List Step)
-    (f : Part c source (passage dt d d_mid) (passage mt m m_mid) (passage ot o o_mid) P Q s mid mid lines first) (g : Part c source (passage dt d_mid d_now) (passage mt m_mid m_now) (passage ot o_mid o_now) Q R mid reached t others next) where
+module _ (c : Catalogue) (source : Option ℕ) (dt mt ot : Bool) (d d_mid d_now m m_mid m_now o o_mid o_now : DiskState) (P Q R : Type 0) (s mid reached t : TwinMoment) (lines others : List (List ℕ)) (first next : List TwinStep)
+    (f : TwinPart c source (passage dt d d_mid) (passage mt m m_mid) (passage ot o o_mid) P Q s mid mid lines first) (g : TwinPart c source (passage dt d_mid d_now) (passage mt m_mid m_now) (passage ot o_mid o_now) Q R mid reached t others next) where
   abbrev told : Bool
   told = dt && (mt && ot)
 
@@ -160,7 +160,7 @@ module _ (c : Catalogue) (source : Option ℕ) (dt mt ot : Bool) (d d_mid d_now 
   ]
 
   -- a part behind one that led on
-  pub part_then : Part c source (passage dt d d_now) (passage mt m m_now) (passage ot o o_now) P R s reached t (lines ++ others) (first ++ next)
+  pub part_then : TwinPart c source (passage dt d d_now) (passage mt m m_now) (passage ot o o_now) P R s reached t (lines ++ others) (first ++ next)
   part_then = record {
     ordered = ordered_then c lines others first next f.ordered g.ordered;
     follow = follow_then told source s mid reached first next f.follow g.follow;
@@ -183,10 +183,10 @@ module _ (c : Catalogue) (source : Option ℕ) (dt mt ot : Bool) (d d_mid d_now 
 
 -- A STOP as a part
 
-pub stop_part : (c : Catalogue) (source : Option ℕ) (d m o : DiskChange) (P Q : Type 0) (which : Side) (s t : Moment) (line : List ℕ) → order_in c line ≡ Some (order.Stop which) → Restarts c source d m o P Q which s t
-    → Part c source (passage d.told d.from d.to) (passage m.told m.from m.to) (passage o.told o.from o.to) P Q s t t (line ∷ []) (record { answer = stopped which; after = t } ∷ [])
+pub stop_part : (c : Catalogue) (source : Option ℕ) (d m o : DiskChange) (P Q : Type 0) (which : LinkSide) (s t : TwinMoment) (line : List ℕ) → order_in c line ≡ Some (order.Stop which) → Restarts c source d m o P Q which s t
+    → TwinPart c source (passage d.told d.from d.to) (passage m.told m.from m.to) (passage o.told o.from o.to) P Q s t t (line ∷ []) (record { answer = stopped which; after = t } ∷ [])
 stop_part c source d m o P Q which s t line reads r = record {
-  ordered = ap (λ (x : Option Order). x ∷ []) reads;
+  ordered = ap (λ (x : Option TwinOrder). x ∷ []) reads;
   follow = (r.runs, r.later, refl);
   more = ([], λ l at. (l, at, refl));
   later = r.later;

@@ -16,10 +16,10 @@ use Rattle.tile_service.specs.Lines.{lines_of}
 use Rattle.sessions.specs.Outside.{InputChange, counts}
 use Rattle.twin_lines.specs.declared.lines.Halt.{Halt}
 use Rattle.twin_lines.specs.declared.lines.Halt.TheVariants as halt
-use Rattle.twin_lines.specs.declared.order.Side.{Side}
-use Rattle.twin_lines.specs.declared.order.Side.TheVariants as side
+use Rattle.twin_lines.specs.declared.order.LinkSide.{LinkSide}
+use Rattle.twin_lines.specs.declared.order.LinkSide.TheVariants as side
 use Rattle.twin_lines.specs.Ends.{AreOrdered, Ends, IsAmong, IsCutInLast}
-use Rattle.twin_lines.specs.Steps.{Moment, Step}
+use Rattle.twin_lines.specs.Steps.{TwinMoment, TwinStep}
 use Rattle.twin_lines.specs.Texts.{answer_text, answers_from}
 use Rattle.twin_words.proofs.Going.{no_part, ordered_length, ordered_then, part_then, weight_counts, weight_of_text, weight_then, written_then}
 use Rattle.twin_words.proofs.Stretching.{change, left_as}
@@ -27,10 +27,10 @@ use Rattle.base.specs.Causes.{Rose}
 use Rattle.http_wire.specs.declared.inputs.InputEnd.{InputEnd}
 use Rattle.http_wire.specs.declared.inputs.InputEnd.TheVariants as input_end
 use Rattle.twin_words.specs.Ends.{IsTooLong, RefusesAgain}
-use Rattle.twin_words.specs.Works.{IsEndOf, IsUnread, RunsOn, RunsText, Works, weight}
+use Rattle.twin_words.specs.Works.{IsEndOf, IsUnread, RunsOn, RunsText, TwinWorks, weight}
 
 -- nothing was run yet
-pub nothing_on : (c : Catalogue) (source : Option ℕ) (dt mt ot : Bool) (d m o : DiskState) (nd nm po : ℕ) (P : Type 0) (a : Option (List ℕ)) (wa : ℕ) (text : List ℕ) (s : Moment)
+pub nothing_on : (c : Catalogue) (source : Option ℕ) (dt mt ot : Bool) (d m o : DiskState) (nd nm po : ℕ) (P : Type 0) (a : Option (List ℕ)) (wa : ℕ) (text : List ℕ) (s : TwinMoment)
     → RunsOn c source (change dt nd nd d d) (change mt nm nm m m) (change ot po po o o) P P (record { writes = counts wa wa; from = a; to = a }) 1 text s s 1 text
 nothing_on c source dt mt ot d m o nd nm po P a wa text s = record {
   before = [];
@@ -41,13 +41,13 @@ nothing_on c source dt mt ot d m o nd nm po P a wa text s = record {
   written = appends_nothing a;
 }
 
-again_as : (c : Catalogue) (dt mt ot : Bool) (d d' m m' o o' old old_m old_o : DiskState) (nd nd' nm nm' po po' kd km ko : ℕ) (s : Moment) (which : Side) (cause : OpenFault) → RefusesAgain c (change dt nd nd' d d') (change mt nm nm' m m') (change ot po po' o o') s which cause
+again_as : (c : Catalogue) (dt mt ot : Bool) (d d' m m' o o' old old_m old_o : DiskState) (nd nd' nm nm' po po' kd km ko : ℕ) (s : TwinMoment) (which : LinkSide) (cause : OpenFault) → RefusesAgain c (change dt nd nd' d d') (change mt nm nm' m m') (change ot po po' o o') s which cause
     → RefusesAgain c (change dt kd nd' old d') (change mt km nm' old_m m') (change ot ko po' old_o o') s which cause
 again_as c dt mt ot d d' m m' o o' old old_m old_o nd nd' nm nm' po po' kd km ko s side.Leader cause r = record { seen = r.seen; was_left = r.was_left; refused = r.refused }
 again_as c dt mt ot d d' m m' o o' old old_m old_o nd nd' nm nm' po po' kd km ko s side.Follower cause (inl r) = inl (record { seen = r.seen; was_left = r.was_left; refused = r.refused })
 again_as c dt mt ot d d' m m' o o' old old_m old_o nd nd' nm nm' po po' kd km ko s side.Follower cause (inr r) = inr (record { seen = r.seen; was_left = r.was_left; refused = r.refused })
 
-module _ (c : Catalogue) (source : Option ℕ) (dt mt ot : Bool) (d d1 d2 m m1 m2 o o1 o2 : DiskState) (nd nd1 nd2 nm nm1 nm2 po po1 po2 failed : ℕ) (P Q : Type 0) (a b e : Option (List ℕ)) (wa wb we : ℕ) (text rest : List ℕ) (s t : Moment) (line : ℕ)
+module _ (c : Catalogue) (source : Option ℕ) (dt mt ot : Bool) (d d1 d2 m m1 m2 o o1 o2 : DiskState) (nd nd1 nd2 nm nm1 nm2 po po1 po2 failed : ℕ) (P Q : Type 0) (a b e : Option (List ℕ)) (wa wb we : ℕ) (text rest : List ℕ) (s t : TwinMoment) (line : ℕ)
     (f : RunsOn c source (change dt nd nd1 d d1) (change mt nm nm1 m m1) (change ot po po1 o o1) P Q (record { writes = counts wa wb; from = a; to = b }) 1 text s t line rest) where
   numbered : line ≡ 1 + length f.steps
   numbered = let k = ordered_length c f.before f.steps f.part.ordered in f.counted ∙ ap (λ (x : ℕ). 1 + x) k
@@ -58,11 +58,11 @@ module _ (c : Catalogue) (source : Option ℕ) (dt mt ot : Bool) (d d1 d2 m m1 m
   joined_number : (n : ℕ) (before : List (List ℕ)) → n ≡ line + length before → n ≡ 1 + length (f.before ++ before)
   joined_number n before is = let more = length-append f.before before in let first = f.counted in omega (arith, is, more, first)
 
-  joined_written : (steps : List Step) → Appends b e (answers_from line steps) → Appends a e (answers_from 1 (f.steps ++ steps))
+  joined_written : (steps : List TwinStep) → Appends b e (answers_from line steps) → Appends a e (answers_from 1 (f.steps ++ steps))
   joined_written steps written = written_then a b e 1 line f.steps steps f.written written numbered
 
   -- a stretch more
-  pub on_then : (R : Type 0) (u : Moment) (k : ℕ) (next : List ℕ) → RunsOn c source (change dt nd1 nd2 d1 d2) (change mt nm1 nm2 m1 m2) (change ot po1 po2 o1 o2) Q R (record { writes = counts wb we; from = b; to = e }) line rest t u k next
+  pub on_then : (R : Type 0) (u : TwinMoment) (k : ℕ) (next : List ℕ) → RunsOn c source (change dt nd1 nd2 d1 d2) (change mt nm1 nm2 m1 m2) (change ot po1 po2 o1 o2) Q R (record { writes = counts wb we; from = b; to = e }) line rest t u k next
       → RunsOn c source (change dt nd nd2 d d2) (change mt nm nm2 m m2) (change ot po po2 o o2) P R (record { writes = counts wa we; from = a; to = e }) 1 text s u k next
   on_then R u k next g = record {
     before = f.before ++ g.before;
@@ -73,8 +73,8 @@ module _ (c : Catalogue) (source : Option ℕ) (dt mt ot : Bool) (d d1 d2 m m1 m
     written = joined_written g.steps g.written;
   }
 
-  joined_works : (reached last : Moment) (lines : List (List ℕ)) (steps : List Step) → Works c source failed (change dt nd1 nd2 d1 d2) (change mt nm1 nm2 m1 m2) (change ot po1 po2 o1 o2) Q t reached last lines steps
-      → Works c source failed (change dt nd nd2 d d2) (change mt nm nm2 m m2) (change ot po po2 o o2) P s reached last (f.before ++ lines) (f.steps ++ steps)
+  joined_works : (reached last : TwinMoment) (lines : List (List ℕ)) (steps : List TwinStep) → TwinWorks c source failed (change dt nd1 nd2 d1 d2) (change mt nm1 nm2 m1 m2) (change ot po1 po2 o1 o2) Q t reached last lines steps
+      → TwinWorks c source failed (change dt nd nd2 d d2) (change mt nm nm2 m m2) (change ot po po2 o o2) P s reached last (f.before ++ lines) (f.steps ++ steps)
   joined_works reached last lines steps w = record {
     part = part_then c source dt mt ot d d1 d2 m m1 m2 o o1 o2 P Q ⊤ s t reached last f.before lines f.steps steps f.part w.part;
     counted = record { source = w.counted.source; cache = w.counted.cache; marks = w.counted.marks; outbox = w.counted.outbox };
@@ -82,11 +82,11 @@ module _ (c : Catalogue) (source : Option ℕ) (dt mt ot : Bool) (d d1 d2 m m1 m
   }
 
   -- ends of the first steps, and then of the next ones
-  joined_cut : (steps : List Step) → wb ≡ wb → IsCutInLast line (record { writes = counts wb we; from = b; to = e }) steps → wa ≤ wb → IsCutInLast 1 (record { writes = counts wa we; from = a; to = e }) (f.steps ++ steps)
+  joined_cut : (steps : List TwinStep) → wb ≡ wb → IsCutInLast line (record { writes = counts wb we; from = b; to = e }) steps → wa ≤ wb → IsCutInLast 1 (record { writes = counts wa we; from = a; to = e }) (f.steps ++ steps)
   joined_cut steps same cut later = record {
     before = f.steps ++ cut.before;
     last = cut.last;
-    whole = ap (λ (xs : List Step). f.steps ++ xs) cut.whole ∙ sym (append_assoc f.steps cut.before (cut.last ∷ []));
+    whole = ap (λ (xs : List TwinStep). f.steps ++ xs) cut.whole ∙ sym (append_assoc f.steps cut.before (cut.last ∷ []));
     sent = record {
       between = cut.sent.between;
       whole = written_then a b cut.sent.between 1 line f.steps cut.before f.written cut.sent.whole numbered;
@@ -95,7 +95,7 @@ module _ (c : Catalogue) (source : Option ℕ) (dt mt ot : Bool) (d d1 d2 m m1 m
     failed = rose_before (2 ^ 64 - 1) wa wb we later cut.failed;
   }
 
-  joined_ends : (h : Halt) (kept : Status) → IsEndOf h kept → wa ≤ wb → (steps : List Step) (reached last : Moment) → Ends c line rest (record { writes = counts wb we; from = b; to = e }) steps reached last h
+  joined_ends : (h : Halt) (kept : Status) → IsEndOf h kept → wa ≤ wb → (steps : List TwinStep) (reached last : TwinMoment) → Ends c line rest (record { writes = counts wb we; from = b; to = e }) steps reached last h
       → Ends c 1 text (record { writes = counts wa we; from = a; to = e }) (f.steps ++ steps) reached last h
   joined_ends halt.Done kept is later steps reached last ends = (
     subst (λ (xs : List (List ℕ)). AreOrdered c xs (f.steps ++ steps)) (sym f.split) (ordered_then c f.before (lines_of rest) f.steps steps f.part.ordered ends.0),

@@ -6,20 +6,20 @@ use Rattle.cabinet.specs.declared.replies.Asked.TheVariants as asked
 use Rattle.cabinet.specs.Hits.{covers_in}
 use Rattle.cabinet.specs.State.{State}
 use Rattle.change_feed.specs.Files.{Stand}
-use Rattle.change_feed.specs.Runs.{GoesOn, IsEither}
+use Rattle.change_feed.specs.Runs.{CabinetGoesOn, IsEither}
 use Rattle.change_feed.specs.declared.mark.Mark.{Mark}
 use Rattle.cut_follower.specs.InStep.{IsInStep, IsNextIn, tile_number}
 use Rattle.cut_follower.specs.Lossy as lossy
-use Rattle.cut_follower.specs.Lossy.{Event, Happens, IsFound, IsOpenedFrom, Lossy, Passes, with_cuts, with_out, with_some, with_stores}
+use Rattle.cut_follower.specs.Lossy.{Happens, IsFound, IsOpenedFrom, LinkEvent, Lossy, Passes, with_cuts, with_out, with_some, with_stores}
 use Rattle.matrix_geometry.specs.declared.address.Address.{Address}
 use Rattle.outbox.specs.Posts.{Outgoing}
 use Rattle.truncation_list.specs.declared.book.Cut.{Cut}
 use Rattle.twin_events.specs.declared.carried.Carried.TheVariants as arrivals
 use Rattle.twin_events.specs.declared.got.Got.TheVariants as got
 use Rattle.twin_events.specs.Gets.{events_of}
-use Rattle.twin_events.specs.Twins.{IsAt, LeadsBy, Standing}
-use Rattle.twin_lines.specs.declared.order.Side.TheVariants as side
-use Rattle.twin_lines.specs.Steps.{Answer, Follow, Moment, Runs, Step, answered, carried, posted, sent, stopped}
+use Rattle.twin_events.specs.Twins.{IsAt, LeadsBy, TwinStanding}
+use Rattle.twin_lines.specs.declared.order.LinkSide.TheVariants as side
+use Rattle.twin_lines.specs.Steps.{Follow, Runs, TwinAnswer, TwinMoment, TwinStep, answered, carried, posted, sent, stopped}
 use Rattle.twin_words.specs.Promised.{AreKept, IsAboveCuts, IsKept, without_packets}
 
 -- OPENINGS
@@ -42,17 +42,17 @@ found_marks l stand (inr undecided) sure = (
 )
 
 -- the follower's files were opened, the cache first
-pub opens_follower : (s t : Standing) → GoesOn s.cabinet t.cabinet → IsEither s.stand t.stand.mark → t.stand.undecided ≡ None → t.out ≡ s.out → t.sent ≡ s.sent → LeadsBy (lossy.cabinet_opened ∷ lossy.marks_opened ∷ []) s t
+pub opens_follower : (s t : TwinStanding) → CabinetGoesOn s.cabinet t.cabinet → IsEither s.stand t.stand.mark → t.stand.undecided ≡ None → t.out ≡ s.out → t.sent ≡ s.sent → LeadsBy (lossy.cabinet_opened ∷ lossy.marks_opened ∷ []) s t
 opens_follower s t goes either sure same_out same_sent l at =
     let mid : Lossy = with_stores l (record { stand = l.stores.stand; cabinet = t.cabinet }) in
     let f = found_marks mid t.stand (subst (λ (x : Stand). IsEither x t.stand.mark) (sym at.stand) either) sure in (
       f.0,
       record { out = f.2 ∙ at.out ∙ sym same_out; stand = ap (λ x. x.stand) f.3; cabinet = ap (λ x. x.cabinet) f.3; sent = f.4 ∙ at.sent ∙ sym same_sent },
-      (mid, ((refl, subst (λ (x : State). GoesOn x t.cabinet) (sym at.cabinet) goes), refl), (f.0, f.1, refl)),
+      (mid, ((refl, subst (λ (x : State). CabinetGoesOn x t.cabinet) (sym at.cabinet) goes), refl), (f.0, f.1, refl)),
     )
 
 -- the leader's file was
-pub opens_leader : (s t : Standing) → IsOpenedFrom s.out t.out → t.stand ≡ s.stand → t.cabinet ≡ s.cabinet → t.sent ≡ s.sent → LeadsBy (lossy.outbox_opened ∷ []) s t
+pub opens_leader : (s t : TwinStanding) → IsOpenedFrom s.out t.out → t.stand ≡ s.stand → t.cabinet ≡ s.cabinet → t.sent ≡ s.sent → LeadsBy (lossy.outbox_opened ∷ []) s t
 opens_leader s t opened same_stand same_cabinet same_sent l at = (
   with_out l t.out,
   record { out = refl; stand = at.stand ∙ sym same_stand; cabinet = at.cabinet ∙ sym same_cabinet; sent = at.sent ∙ sym same_sent },
@@ -60,7 +60,7 @@ opens_leader s t opened same_stand same_cabinet same_sent l at = (
 )
 
 -- all three were, behind a stop of both sides
-pub opens_all : (l : Lossy) (s : Standing) → GoesOn l.stores.cabinet s.cabinet → IsEither l.stores.stand s.stand.mark → s.stand.undecided ≡ None → IsOpenedFrom l.out s.out → s.sent ≡ []
+pub opens_all : (l : Lossy) (s : TwinStanding) → CabinetGoesOn l.stores.cabinet s.cabinet → IsEither l.stores.stand s.stand.mark → s.stand.undecided ≡ None → IsOpenedFrom l.out s.out → s.sent ≡ []
     → (m : Lossy) × IsAt s m × Passes (without_packets l) (lossy.cabinet_opened ∷ lossy.marks_opened ∷ lossy.outbox_opened ∷ []) m
 opens_all l s goes either sure opened nothing =
     let first : Lossy = with_stores (without_packets l) (record { stand = l.stores.stand; cabinet = s.cabinet }) in
@@ -92,11 +92,11 @@ in_step_alone l is = record {
 -- STEPS
 
 abbrev pub AllInStep : Type 0
-AllInStep = (l m : Lossy) (events : List Event) → IsInStep l → Passes l events m → IsInStep m
+AllInStep = (l m : Lossy) (events : List LinkEvent) → IsInStep l → Passes l events m → IsInStep m
 
 abbrev pub TilesAbove : Type 0
 TilesAbove =
-    (l mid before m : Lossy) (events more : List Event) (i k : ℕ) (cut : Cut) (address : Address) (reply : Asked) → IsInStep l → Passes l events mid → slice_get mid.applied i ≡ Some cut → Passes mid more before
+    (l mid before m : Lossy) (events more : List LinkEvent) (i k : ℕ) (cut : Cut) (address : Address) (reply : Asked) → IsInStep l → Passes l events mid → slice_get mid.applied i ≡ Some cut → Passes mid more before
     → Happens before (lossy.asked address reply) m → tile_number reply ≡ Some k → IsTrue (covers_in before.stores.cabinet.catalogue cut.cover address) → cut.number < k
 
 -- the ask is the first event of a tile that is got
@@ -107,14 +107,14 @@ first_asked address asked.Spent l m passes = (passes.0, passes.1)
 first_asked address (asked.Ticket t) l m passes = (passes.0, passes.1)
 
 module _ (all : AllInStep) (tiles : TilesAbove) where
-  kept_by : (answer : Answer) (events : List Event) (after : Moment) (l : Lossy) → (m : Lossy) × IsAt after.stands m × Passes l events m → ((m : Lossy) → Passes l events m → IsInStep l → IsAboveCuts l answer)
+  kept_by : (answer : TwinAnswer) (events : List LinkEvent) (after : TwinMoment) (l : Lossy) → (m : Lossy) × IsAt after.stands m × Passes l events m → ((m : Lossy) → Passes l events m → IsInStep l → IsAboveCuts l answer)
       → (m : Lossy) × IsKept l (record { answer = answer; after = after }) m
   kept_by answer events after l led above = (
     led.0,
     record { events = events; passes = led.2; stands = led.1; in_step = λ st. all l led.0 events st led.2; above = λ st. above led.0 led.2 st },
   )
 
-  step_kept : (source : Option ℕ) (s : Moment) (answer : Answer) (t : Moment) → Runs true source s answer t → (l : Lossy) → IsAt s.stands l → (m : Lossy) × IsKept l (record { answer = answer; after = t }) m
+  step_kept : (source : Option ℕ) (s : TwinMoment) (answer : TwinAnswer) (t : TwinMoment) → Runs true source s answer t → (l : Lossy) → IsAt s.stands l → (m : Lossy) × IsKept l (record { answer = answer; after = t }) m
   step_kept source s (posted cover reply) t runs l at = kept_by (posted cover reply) (lossy.posted cover reply ∷ []) t l (runs.1 l at) (λ m p st. tt)
   step_kept source s (sent place) t runs l at = kept_by (sent place) (lossy.next_sent ∷ []) t l (runs.1 l at) (λ m p st. tt)
   step_kept source s (carried place (arrivals.Taken number reply seen)) t runs l at = kept_by (carried place (arrivals.Taken number reply seen)) (lossy.arrived runs.at runs.change reply ∷ []) t l (runs.leads l at) (λ m p st. tt)
@@ -128,8 +128,8 @@ module _ (all : AllInStep) (tiles : TilesAbove) where
   step_kept source s (answered address got.SourceFault) t runs l at = kept_by (answered address got.SourceFault) (events_of address (asked.Ticket runs.0.ticket)) t l (runs.0.leads l at) (λ m p st. tt)
   step_kept source s (answered address got.Spent) t runs l at = kept_by (answered address got.Spent) (events_of address asked.Spent) t l (runs.1 l at) (λ m p st. tt)
 
-  pub steps_kept : (source : Option ℕ) (s : Moment) (steps : List Step) (t : Moment) → Follow true source s steps t → (l : Lossy) → IsAt s.stands l → (m : Lossy) × IsAt t.stands m × AreKept l steps m
-  steps_kept source s [] t follow l at = (l, subst (λ (x : Moment). IsAt x.stands l) (sym follow) at, refl)
+  pub steps_kept : (source : Option ℕ) (s : TwinMoment) (steps : List TwinStep) (t : TwinMoment) → Follow true source s steps t → (l : Lossy) → IsAt s.stands l → (m : Lossy) × IsAt t.stands m × AreKept l steps m
+  steps_kept source s [] t follow l at = (l, subst (λ (x : TwinMoment). IsAt x.stands l) (sym follow) at, refl)
   steps_kept source s (step ∷ steps) t follow l at =
       let k = step_kept source s step.answer step.after follow.0 l at in
       let rest = steps_kept source step.after steps t follow.2 k.0 k.1.stands in

@@ -11,14 +11,14 @@ use Rattle.gate_journal.specs.declared.journal.Journal.{Journal}
 use Rattle.gate_journal.specs.Sound.{IsSettled}
 use Rattle.opened_cache.proofs.Closing.{has_opened}
 use Rattle.opened_cache.specs.Change.{DiskChange}
-use Rattle.opened_cache.specs.Crash.{IsClosed}
+use Rattle.opened_cache.specs.Crash.{IsCacheClosed}
 use Rattle.opened_cache.specs.Opened.{IsOpened}
 use Rattle.outbox.specs.Files as outbox_files
 use Rattle.sessions.specs.Outside.{counts}
 use Rattle.twin_words.specs.Opens.{IsQuiet, OpensAlone, RefusesMarks, RefusesOutbox}
 
 -- a cabinet was opened and closed again
-pub opens_alone : (c : Catalogue) (clock : Readings) (told told' : Bool) (before next : ℕ) (j : Journal) (old mid : DiskState) (s : State) → IsValid c → IsOpened c clock (record { told = told; faults = counts before next; from = old; to = mid }) s → told' ≡ told → before ≤ next → IsSettled j → IsClosed told' j mid s
+pub opens_alone : (c : Catalogue) (clock : Readings) (told told' : Bool) (before next : ℕ) (j : Journal) (old mid : DiskState) (s : State) → IsValid c → IsOpened c clock (record { told = told; faults = counts before next; from = old; to = mid }) s → told' ≡ told → before ≤ next → IsSettled j → IsCacheClosed told' j mid s
     → OpensAlone c clock (record { told = told; faults = counts before next; from = old; to = mid })
 opens_alone c clock told told' before next j old mid s valid opened same later settled closed =
     (s, has_opened c clock told told' (counts before next) before next next j j old mid mid s s valid opened refl same later settled (inr (λ h. h)) closed)

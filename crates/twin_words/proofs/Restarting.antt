@@ -16,12 +16,12 @@ use Rattle.gate_journal.specs.declared.fault.OpenFault.TheVariants as fault
 use Rattle.gate_journal.specs.declared.journal.Journal.{Journal}
 use Rattle.gate_journal.specs.Sound.{IsSettled}
 use Rattle.opened_cache.specs.Change.{DiskChange}
-use Rattle.opened_cache.specs.Crash.{IsClosed, IsLeftBy, LeftByOpening, OpeningLeaves}
+use Rattle.opened_cache.specs.Crash.{IsCacheClosed, IsLeftBy, LeftByOpening, OpeningLeaves}
 use Rattle.outbox.specs.Files.{MayOpenTo, OpensToPosts}
 use Rattle.truncation_list.proofs.Answering.{answers_itself}
 use Rattle.sessions.specs.Outside.{counts}
-use Rattle.twin_events.specs.Twins.{Standing}
-use Rattle.twin_lines.specs.declared.order.Side.TheVariants as side
+use Rattle.twin_events.specs.Twins.{TwinStanding}
+use Rattle.twin_lines.specs.declared.order.LinkSide.TheVariants as side
 use Rattle.twin_lines.specs.Steps.{faults, moment}
 use Rattle.twin_words.proofs.Beginning.{MarksEither, PostsFound, both_true}
 use Rattle.twin_words.proofs.Composing.{GoesOnLater, goes_on_later, left_for, left_opening, now_left}
@@ -42,19 +42,19 @@ quiet_left : (old new : DiskState) (P : Content → Type 0) → ChangesBy Same o
 quiet_left old new P quiet each image is = let after = quiet.crash image is in subst P (sym after.2) (each after.0 after.1)
 
 -- what a closed cabinet leaves
-pub closed_left : (c : Catalogue) (told : Bool) (j : Journal) (disk : DiskState) (s : State) → s.catalogue ≡ c → IsClosed told j disk s → IsTrue told → Every disk.may_leave (IsLeftFor c s)
+pub closed_left : (c : Catalogue) (told : Bool) (j : Journal) (disk : DiskState) (s : State) → s.catalogue ≡ c → IsCacheClosed told j disk s → IsTrue told → Every disk.may_leave (IsLeftFor c s)
 closed_left c told j disk s same closed is image left = left_for c s image (subst (λ (x : Catalogue). IsLeftBy x s image) same (closed.left is image left))
 
 pub marks_left : (told : Bool) (digest c_digest : List ℕ) (disk : DiskState) (s : Stand) → digest ≡ c_digest → (IsTrue told → Every disk.may_leave (MayEndIn digest s)) → IsTrue told → Every disk.may_leave (MayEndIn c_digest s)
 marks_left told digest c_digest disk s same left is = subst (λ (x : List ℕ). Every disk.may_leave (MayEndIn x s)) same (left is)
 
 -- what three closed files leave where nothing was opened
-pub leaves_twin : (c : Catalogue) (s : Standing) (d m o : DiskChange) → s.cabinet.catalogue ≡ c → (IsTrue d.told → Every d.to.may_leave (IsLeftFor c s.cabinet)) → (IsTrue m.told → Every m.to.may_leave (MayEndIn c.digest s.stand)) → (IsTrue o.told → Every o.to.may_leave (MayOpenTo c s.out)) → LeavesTwin c s d m o
+pub leaves_twin : (c : Catalogue) (s : TwinStanding) (d m o : DiskChange) → s.cabinet.catalogue ≡ c → (IsTrue d.told → Every d.to.may_leave (IsLeftFor c s.cabinet)) → (IsTrue m.told → Every m.to.may_leave (MayEndIn c.digest s.stand)) → (IsTrue o.told → Every o.to.may_leave (MayOpenTo c s.out)) → LeavesTwin c s d m o
 leaves_twin c s d m o same cache marks outbox = record { same = same; cache = cache; marks = marks; outbox = outbox }
 
 -- THE LEADER
 
-module _ (c : Catalogue) (dt mt ot : Bool) (d m o o' : DiskState) (nd nm po po' failed : ℕ) (s t : Standing) where
+module _ (c : Catalogue) (dt mt ot : Bool) (d m o o' : DiskState) (nd nm po po' failed : ℕ) (s t : TwinStanding) where
   abbrev same_cache : DiskChange
   same_cache = record { told = dt; faults = counts nd nd; from = d; to = d }
 
@@ -84,7 +84,7 @@ module _ (c : Catalogue) (dt mt ot : Bool) (d m o o' : DiskState) (nd nm po po' 
     still_sound = λ is settled sound. subst IsSound (sym same_cabinet) sound;
   }
 
-  pub leader_closed : (cause : OpenFault) (j : Journal) (digest : List ℕ) → (IsTrue dt → IsLawful d) → (IsTrue mt → IsLawful m) → (IsTrue ot → IsLawful o) → s.cabinet.catalogue ≡ c → digest ≡ c.digest → IsClosed dt j d s.cabinet → (IsTrue mt → Every m.may_leave (MayEndIn digest s.stand)) → (IsTrue ot → Every o.may_leave (MayOpenTo c s.out))
+  pub leader_closed : (cause : OpenFault) (j : Journal) (digest : List ℕ) → (IsTrue dt → IsLawful d) → (IsTrue mt → IsLawful m) → (IsTrue ot → IsLawful o) → s.cabinet.catalogue ≡ c → digest ≡ c.digest → IsCacheClosed dt j d s.cabinet → (IsTrue mt → Every m.may_leave (MayEndIn digest s.stand)) → (IsTrue ot → Every o.may_leave (MayOpenTo c s.out))
       → RefusesOutbox c then_outbox cause → StaysClosed c same_cache same_marks then_outbox side.Leader (moment s (faults failed po nm nd)) cause
   leader_closed cause j digest lawful marks_lawful posts_lawful same same_digest closed marks left refuses = record {
     refuses = refuses;
@@ -99,9 +99,9 @@ module _ (c : Catalogue) (dt mt ot : Bool) (d m o o' : DiskState) (nd nm po po' 
 
 -- THE FOLLOWER
 
-module _ (c : Catalogue) (dt mt ot : Bool) (d d' m m' o : DiskState) (nd nd' nm nm' po failed : ℕ) (s t : Standing)
+module _ (c : Catalogue) (dt mt ot : Bool) (d d' m m' o : DiskState) (nd nd' nm nm' po failed : ℕ) (s t : TwinStanding)
     (lawful : IsTrue dt → IsLawful d) (marks_lawful : IsTrue mt → IsLawful m) (same : s.cabinet.catalogue ≡ c)
-    (j : Journal) (closed : IsClosed dt j d s.cabinet) (digest : List ℕ) (same_digest : digest ≡ c.digest) (marks : IsTrue mt → Every m.may_leave (MayEndIn digest s.stand)) where
+    (j : Journal) (closed : IsCacheClosed dt j d s.cabinet) (digest : List ℕ) (same_digest : digest ≡ c.digest) (marks : IsTrue mt → Every m.may_leave (MayEndIn digest s.stand)) where
   abbrev then_cache : DiskChange
   then_cache = record { told = dt; faults = counts nd nd'; from = d; to = d' }
 
@@ -166,7 +166,7 @@ module _ (c : Catalogue) (dt mt ot : Bool) (d d' m m' o : DiskState) (nd nd' nm 
       stays_anyway (inr refused) = inr refused
 
 -- memory ran out before anything was closed
-pub starved_follower : (c : Catalogue) (dt mt ot : Bool) (d m o : DiskState) (nd nm po failed : ℕ) (s : Standing) (j : Journal) (digest : List ℕ) → (IsTrue dt → IsLawful d) → (IsTrue mt → IsLawful m) → (IsTrue ot → IsLawful o) → s.cabinet.catalogue ≡ c → digest ≡ c.digest → IsClosed dt j d s.cabinet → (IsTrue mt → Every m.may_leave (MayEndIn digest s.stand)) → (IsTrue ot → Every o.may_leave (MayOpenTo c s.out))
+pub starved_follower : (c : Catalogue) (dt mt ot : Bool) (d m o : DiskState) (nd nm po failed : ℕ) (s : TwinStanding) (j : Journal) (digest : List ℕ) → (IsTrue dt → IsLawful d) → (IsTrue mt → IsLawful m) → (IsTrue ot → IsLawful o) → s.cabinet.catalogue ≡ c → digest ≡ c.digest → IsCacheClosed dt j d s.cabinet → (IsTrue mt → Every m.may_leave (MayEndIn digest s.stand)) → (IsTrue ot → Every o.may_leave (MayOpenTo c s.out))
     → StaysClosed c (record { told = dt; faults = counts nd nd; from = d; to = d }) (record { told = mt; faults = counts nm nm; from = m; to = m }) (record { told = ot; faults = counts po po; from = o; to = o }) side.Follower (moment s (faults failed po nm nd)) fault.OutOfMemory
 starved_follower c dt mt ot d m o nd nm po failed s j digest lawful marks_lawful posts_lawful same same_digest closed marks posts = record {
   cache_seen = λ is. closed_left c dt j d s.cabinet same closed is d.seen (lawful is).reads_as;

@@ -18,9 +18,9 @@ use Rattle.opened_cache.specs.Change.{DiskChange}
 use Rattle.sessions.specs.Outside.{OutputChange, counts}
 use Rattle.twin_lines.specs.declared.lines.Halt.{Halt}
 use Rattle.twin_lines.specs.Ends.{AreOrdered, DiskPassage, Ends, HasRunLines, IsAmong, passage}
-use Rattle.twin_lines.specs.Steps.{AreTrue, IsLater, Moment, Step, faults, moment, stopped}
-use Rattle.twin_events.specs.Twins.{IsAt, LeadsBy, Standing}
-use Rattle.cut_follower.specs.Lossy.{Event}
+use Rattle.twin_lines.specs.Steps.{AreTrue, IsLater, TwinMoment, TwinStep, faults, moment, stopped}
+use Rattle.twin_events.specs.Twins.{IsAt, LeadsBy, TwinStanding}
+use Rattle.cut_follower.specs.Lossy.{LinkEvent}
 use Rattle.change_feed.specs.Files as marks_files
 use Rattle.durable_cabinet.specs.Filed as cache_files
 use Rattle.gate_journal.specs.declared.fault.OpenFault.{OpenFault}
@@ -34,22 +34,22 @@ use Rattle.tile_requests.specs.Sent.{AppendsFront}
 use Rattle.tile_service.specs.Lines.{lines_of}
 use Rattle.truncation_list.proofs.Answering.{answers_itself}
 use Rattle.twin_lines.specs.declared.lines.Halt.TheVariants as halt
-use Rattle.twin_lines.specs.declared.order.Order.TheVariants as order
-use Rattle.twin_lines.specs.declared.order.Side.{Side}
-use Rattle.twin_lines.specs.declared.order.Side.TheVariants as side
+use Rattle.twin_lines.specs.declared.order.TwinOrder.TheVariants as order
+use Rattle.twin_lines.specs.declared.order.LinkSide.{LinkSide}
+use Rattle.twin_lines.specs.declared.order.LinkSide.TheVariants as side
 use Rattle.twin_lines.specs.Orders.{order_in}
 use Rattle.twin_lines.specs.Texts.{answer_text, answers_from}
 use Rattle.twin_words.proofs.Going.{follow_later, later_itself, later_then, ordered_length, part_then, stop_part, written_then}
 use Rattle.twin_words.specs.Ends.{RefusesAgain}
 use Rattle.twin_words.specs.Opens.{IsLeftFor, LeavesTwin, Restarts, StaysClosed}
-use Rattle.twin_words.specs.Works.{IsEndOf, Part, RunsOn, RunsText}
+use Rattle.twin_words.specs.Works.{IsEndOf, RunsOn, RunsText, TwinPart}
 
 -- a disk over a part of a run
 abbrev pub change : Bool → ℕ → ℕ → DiskState → DiskState → DiskChange
 change told before after from to = record { told = told; faults = counts before after; from = from; to = to }
 
 -- a run of lines as a part
-module _ (c : Catalogue) (source : Option ℕ) (dt dt_then mt ot : Bool) (f f' : ℕ) (j j' : Journal) (d d_now m m_now o o_now : DiskState) (w : OutputChange) (n : ℕ) (text : List ℕ) (s t : Moment) (h : Halt)
+module _ (c : Catalogue) (source : Option ℕ) (dt dt_then mt ot : Bool) (f f' : ℕ) (j j' : Journal) (d d_now m m_now o o_now : DiskState) (w : OutputChange) (n : ℕ) (text : List ℕ) (s t : TwinMoment) (h : Halt)
     (run : HasRunLines c source c.digest (passage mt m m_now) (passage ot o o_now) w n text s t h)
     (lasting : Lasting (Outlasts dt dt_then f f' s.stands.cabinet t.stands.cabinet j j' d d_now) s.stands.cabinet t.stands.cabinet)
     (same : s.stands.cabinet.catalogue ≡ c) (fs : f ≡ s.faults.cabinet) (ft : f' ≡ t.faults.cabinet) where
@@ -62,8 +62,8 @@ module _ (c : Catalogue) (source : Option ℕ) (dt dt_then mt ot : Bool) (f f' :
     | inr stays ↦ inr (stays settles, run.still_sound tells sound, run.truth tells sound)
   ]
 
-  pub run_part : (lines : List (List ℕ)) → AreOrdered c lines run.steps → IsLater run.reached.faults t.faults → (events : List Event) × LeadsBy events run.reached.stands t.stands
-      → Part c source (passage dt d d_now) (passage mt m m_now) (passage ot o o_now) (IsSettled j) (IsSettled j') s run.reached t lines run.steps
+  pub run_part : (lines : List (List ℕ)) → AreOrdered c lines run.steps → IsLater run.reached.faults t.faults → (events : List LinkEvent) × LeadsBy events run.reached.stands t.stands
+      → TwinPart c source (passage dt d d_now) (passage mt m m_now) (passage ot o o_now) (IsSettled j) (IsSettled j') s run.reached t lines run.steps
   run_part lines ordered short more = record {
     ordered = ordered;
     follow = run.follow (dt && (mt && ot));
@@ -80,7 +80,7 @@ module _ (c : Catalogue) (source : Option ℕ) (dt dt_then mt ot : Bool) (f f' :
 
 -- BEHIND A STOP
 
-unsettled : (c : Catalogue) (source : Option ℕ) (d m o : DiskPassage) (P Q : Type 0) (s reached t : Moment) (lines : List (List ℕ)) (steps : List Step) → Part c source d m o P Q s reached t lines steps → Part c source d m o P ⊤ s reached t lines steps
+unsettled : (c : Catalogue) (source : Option ℕ) (d m o : DiskPassage) (P Q : Type 0) (s reached t : TwinMoment) (lines : List (List ℕ)) (steps : List TwinStep) → TwinPart c source d m o P Q s reached t lines steps → TwinPart c source d m o P ⊤ s reached t lines steps
 unsettled c source d m o P Q s reached t lines steps p = record {
   ordered = p.ordered;
   follow = p.follow;
@@ -97,8 +97,8 @@ unsettled c source d m o P Q s reached t lines steps p = record {
 }
 
 -- a part in which no line was run and the files were closed, or refused
-pub closed_part : (c : Catalogue) (source : Option ℕ) (d m o : DiskPassage) (P : Type 0) (s : Moment) → (IsTrue d.told → Leaves d.from d.to (IsLeftFor c s.stands.cabinet)) → (IsTrue m.told → Leaves m.from m.to (MayEndIn c.digest s.stands.stand)) → (IsTrue o.told → Leaves o.from o.to (MayOpenTo c s.stands.out))
-    → Part c source d m o P ⊤ s s s [] []
+pub closed_part : (c : Catalogue) (source : Option ℕ) (d m o : DiskPassage) (P : Type 0) (s : TwinMoment) → (IsTrue d.told → Leaves d.from d.to (IsLeftFor c s.stands.cabinet)) → (IsTrue m.told → Leaves m.from m.to (MayEndIn c.digest s.stands.stand)) → (IsTrue o.told → Leaves o.from o.to (MayOpenTo c s.stands.out))
+    → TwinPart c source d m o P ⊤ s s s [] []
 closed_part c source d m o P s cache marks posts = record {
   ordered = refl;
   follow = refl;
@@ -112,7 +112,7 @@ closed_part c source d m o P s cache marks posts = record {
 }
 
 -- what was refused at a stop, by the counts of the moment before it
-again : (c : Catalogue) (dt mt ot : Bool) (d d' m m' o o' whole whole_m whole_o : DiskState) (nd nd' nm nm' po po' kd km ko : ℕ) (s : Moment) → s.faults.outbox ≡ po → s.faults.marks ≡ nm → s.faults.cabinet ≡ nd → (which : Side) (cause : OpenFault)
+again : (c : Catalogue) (dt mt ot : Bool) (d d' m m' o o' whole whole_m whole_o : DiskState) (nd nd' nm nm' po po' kd km ko : ℕ) (s : TwinMoment) → s.faults.outbox ≡ po → s.faults.marks ≡ nm → s.faults.cabinet ≡ nd → (which : LinkSide) (cause : OpenFault)
     → StaysClosed c (change dt nd nd' d d') (change mt nm nm' m m') (change ot po po' o o') which s cause → RefusesAgain c (change dt kd nd' whole d') (change mt km nm' whole_m m') (change ot ko po' whole_o o') s which cause
 again c dt mt ot d d' m m' o o' whole whole_m whole_o nd nd' nm nm' po po' kd km ko s fo fm fd side.Leader cause stays =
     record { seen = o.seen; was_left = stays.posts_seen; refused = subst (λ (x : ℕ). outbox_files.IsRefusedAs ot c o.seen x po' cause) (sym fo) stays.refuses.refused }
@@ -121,13 +121,13 @@ again c dt mt ot d d' m m' o o' whole whole_m whole_o nd nd' nm nm' po po' kd km
   | inr marks ↦ inr (record { seen = m.seen; was_left = stays.marks_seen; refused = subst (λ (x : ℕ). marks_files.IsRefusedAs mt c.digest m.seen x nm' cause) (sym fm) marks.1.refused })
 ]
 
-pub left_as : (c : Catalogue) (dt mt ot : Bool) (d d' m m' o o' whole whole_m whole_o : DiskState) (nd nd' nm nm' po po' kd kd' km km' ko ko' : ℕ) (s : Standing) → LeavesTwin c s (change dt nd nd' d d') (change mt nm nm' m m') (change ot po po' o o')
+pub left_as : (c : Catalogue) (dt mt ot : Bool) (d d' m m' o o' whole whole_m whole_o : DiskState) (nd nd' nm nm' po po' kd kd' km km' ko ko' : ℕ) (s : TwinStanding) → LeavesTwin c s (change dt nd nd' d d') (change mt nm nm' m m') (change ot po po' o o')
     → LeavesTwin c s (change dt kd kd' whole d') (change mt km km' whole_m m') (change ot ko ko' whole_o o')
 left_as c dt mt ot d d' m m' o o' whole whole_m whole_o nd nd' nm nm' po po' kd kd' km km' ko ko' s left = record { same = left.same; cache = left.cache; marks = left.marks; outbox = left.outbox }
 
 -- the lines were run from s to t, where one orders a stop
-module _ (c : Catalogue) (source : Option ℕ) (dt mt ot : Bool) (d d1 d2 m m1 m2 o o1 o2 : DiskState) (nd nd1 nd2 nm nm1 nm2 po po1 po2 failed last_failed : ℕ) (P Q : Type 0) (a b : Option (List ℕ)) (wa wb : ℕ) (n : ℕ) (text : List ℕ) (s t : Moment) (before : List (List ℕ)) (steps : List Step) (k : ℕ) (line rest : List ℕ) (which : Side)
-    (part : Part c source (passage dt d d1) (passage mt m m1) (passage ot o o1) P Q s t t before steps)
+module _ (c : Catalogue) (source : Option ℕ) (dt mt ot : Bool) (d d1 d2 m m1 m2 o o1 o2 : DiskState) (nd nd1 nd2 nm nm1 nm2 po po1 po2 failed last_failed : ℕ) (P Q : Type 0) (a b : Option (List ℕ)) (wa wb : ℕ) (n : ℕ) (text : List ℕ) (s t : TwinMoment) (before : List (List ℕ)) (steps : List TwinStep) (k : ℕ) (line rest : List ℕ) (which : LinkSide)
+    (part : TwinPart c source (passage dt d d1) (passage mt m m1) (passage ot o o1) P Q s t t before steps)
     (split : lines_of text ≡ before ++ line ∷ lines_of rest) (counted : k ≡ n + length before) (reads : order_in c line ≡ Some (order.Stop which)) (written : Appends a b (answers_from n steps))
     (fs : t.faults ≡ record { source = failed; outbox = po1; marks = nm1; cabinet = nd1 }) where
   among : IsAmong (lines_of text) before line
@@ -153,8 +153,8 @@ module _ (c : Catalogue) (source : Option ℕ) (dt mt ot : Bool) (d d1 d2 m m1 m
           steps = steps;
           last = t;
           works = record {
-            part = subst (λ (x : List Step). Part c source (passage dt d d2) (passage mt m m2) (passage ot o o2) P ⊤ s t t before x) (append-nil steps)
-                (subst (λ (x : List (List ℕ)). Part c source (passage dt d d2) (passage mt m m2) (passage ot o o2) P ⊤ s t t x (steps ++ [])) (append-nil before) whole);
+            part = subst (λ (x : List TwinStep). TwinPart c source (passage dt d d2) (passage mt m m2) (passage ot o o2) P ⊤ s t t before x) (append-nil steps)
+                (subst (λ (x : List (List ℕ)). TwinPart c source (passage dt d d2) (passage mt m m2) (passage ot o o2) P ⊤ s t t x (steps ++ [])) (append-nil before) whole);
             counted = record { source = omega (arith, fr, source_later); cache = omega (arith, fd, later); marks = omega (arith, fm, marks_later); outbox = omega (arith, fo, posts_later) };
             left = left_as c dt mt ot d1 d2 m1 m2 o1 o2 d m o nd1 nd2 nm1 nm2 po1 po2 nd nd2 nm nm2 po po2 t.stands stays.left;
           };
@@ -168,11 +168,11 @@ module _ (c : Catalogue) (source : Option ℕ) (dt mt ot : Bool) (d d1 d2 m m1 m
       )
 
   -- it was opened again, at u
-  module _ (R : Type 0) (u : Moment) (e : Option (List ℕ)) (we : ℕ) (restarts : Restarts c source (change dt nd1 nd2 d1 d2) (change mt nm1 nm2 m1 m2) (change ot po1 po2 o1 o2) Q R which t u) where
-    abbrev stop : Step
+  module _ (R : Type 0) (u : TwinMoment) (e : Option (List ℕ)) (we : ℕ) (restarts : Restarts c source (change dt nd1 nd2 d1 d2) (change mt nm1 nm2 m1 m2) (change ot po1 po2 o1 o2) Q R which t u) where
+    abbrev stop : TwinStep
     stop = record { answer = stopped which; after = u }
 
-    whole_part : Part c source (passage dt d d2) (passage mt m m2) (passage ot o o2) P R s u u (before ++ line ∷ []) (steps ++ stop ∷ [])
+    whole_part : TwinPart c source (passage dt d d2) (passage mt m m2) (passage ot o o2) P R s u u (before ++ line ∷ []) (steps ++ stop ∷ [])
     whole_part = part_then c source dt mt ot d d1 d2 m m1 m2 o o1 o2 P Q R s t u u before (line ∷ []) steps (stop ∷ []) part (stop_part c source (change dt nd1 nd2 d1 d2) (change mt nm1 nm2 m1 m2) (change ot po1 po2 o1 o2) Q R which t u line reads restarts)
 
     pub stop_on : Appends b e (answer_text k (stopped which)) → RunsOn c source (change dt nd nd2 d d2) (change mt nm nm2 m m2) (change ot po po2 o o2) P R (record { writes = counts wa we; from = a; to = e }) n text s u (k + 1) rest
@@ -211,14 +211,14 @@ module _ (c : Catalogue) (source : Option ℕ) (dt mt ot : Bool) (d d1 d2 m m1 m
 
 -- THE ENDS OF A STRETCH
 
-lines_in : (c : Catalogue) (n : ℕ) (text : List ℕ) (w : OutputChange) (steps : List Step) (s t : Moment) (h : Halt) → Ends c n text w steps s t h → List (List ℕ)
+lines_in : (c : Catalogue) (n : ℕ) (text : List ℕ) (w : OutputChange) (steps : List TwinStep) (s t : TwinMoment) (h : Halt) → Ends c n text w steps s t h → List (List ℕ)
 lines_in c n text w steps s t halt.Done ends = lines_of text
 lines_in c n text w steps s t (halt.Line k) ends = ends.0
 lines_in c n text w steps s t halt.WriteFault ends = ends.0 ++ ends.1 ∷ []
 lines_in c n text w steps s t halt.OutOfMemory ends = ends.0
 lines_in c n text w steps s t (halt.Stop which k rest) ends = ends.0
 
-ordered_in : (c : Catalogue) (n : ℕ) (text : List ℕ) (w : OutputChange) (steps : List Step) (s t : Moment) (h : Halt) (ends : Ends c n text w steps s t h) → AreOrdered c (lines_in c n text w steps s t h ends) steps
+ordered_in : (c : Catalogue) (n : ℕ) (text : List ℕ) (w : OutputChange) (steps : List TwinStep) (s t : TwinMoment) (h : Halt) (ends : Ends c n text w steps s t h) → AreOrdered c (lines_in c n text w steps s t h ends) steps
 unfolding lines_in
 ordered_in c n text w steps s t halt.Done ends = ends.0
 ordered_in c n text w steps s t (halt.Line k) ends = ends.3
@@ -226,20 +226,20 @@ ordered_in c n text w steps s t halt.WriteFault ends = ends.3
 ordered_in c n text w steps s t halt.OutOfMemory ends = ends.3
 ordered_in c n text w steps s t (halt.Stop which k rest) ends = ends.3
 
-nothing_more : (s t : Moment) → t ≡ s → (events : List Event) × LeadsBy events s.stands t.stands
-nothing_more s t same = ([], λ l at. (l, subst (λ (x : Moment). IsAt x.stands l) (sym same) at, refl))
+nothing_more : (s t : TwinMoment) → t ≡ s → (events : List LinkEvent) × LeadsBy events s.stands t.stands
+nothing_more s t same = ([], λ l at. (l, subst (λ (x : TwinMoment). IsAt x.stands l) (sym same) at, refl))
 
-more_in : (c : Catalogue) (n : ℕ) (text : List ℕ) (w : OutputChange) (steps : List Step) (s t : Moment) (h : Halt) → Ends c n text w steps s t h → (events : List Event) × LeadsBy events s.stands t.stands
+more_in : (c : Catalogue) (n : ℕ) (text : List ℕ) (w : OutputChange) (steps : List TwinStep) (s t : TwinMoment) (h : Halt) → Ends c n text w steps s t h → (events : List LinkEvent) × LeadsBy events s.stands t.stands
 more_in c n text w steps s t halt.Done ends = nothing_more s t ends.2
 more_in c n text w steps s t (halt.Line k) ends = nothing_more s t ends.7
 more_in c n text w steps s t halt.WriteFault ends = nothing_more s t ends.5
 more_in c n text w steps s t halt.OutOfMemory ends = (ends.5.starves.events, ends.5.starves.leads)
 more_in c n text w steps s t (halt.Stop which k rest) ends = nothing_more s t ends.7
 
-no_later : (s t : Moment) → t ≡ s → IsLater s.faults t.faults
-no_later s t same = subst (λ (x : Moment). IsLater s.faults x.faults) (sym same) (later_itself s)
+no_later : (s t : TwinMoment) → t ≡ s → IsLater s.faults t.faults
+no_later s t same = subst (λ (x : TwinMoment). IsLater s.faults x.faults) (sym same) (later_itself s)
 
-later_in : (c : Catalogue) (n : ℕ) (text : List ℕ) (w : OutputChange) (steps : List Step) (s t : Moment) (h : Halt) → Ends c n text w steps s t h → IsLater s.faults t.faults
+later_in : (c : Catalogue) (n : ℕ) (text : List ℕ) (w : OutputChange) (steps : List TwinStep) (s t : TwinMoment) (h : Halt) → Ends c n text w steps s t h → IsLater s.faults t.faults
 later_in c n text w steps s t halt.Done ends = no_later s t ends.2
 later_in c n text w steps s t (halt.Line k) ends = no_later s t ends.7
 later_in c n text w steps s t halt.WriteFault ends = no_later s t ends.5
@@ -247,12 +247,12 @@ later_in c n text w steps s t halt.OutOfMemory ends = ends.5.later
 later_in c n text w steps s t (halt.Stop which k rest) ends = no_later s t ends.7
 
 -- the lines ended without a stop, and the twin was closed
-pub run_ended : (c : Catalogue) (source : Option ℕ) (dt dt_then mt ot : Bool) (j j' : Journal) (d d' m m' o o' : DiskState) (nd nd' nm nm' po po' failed failed' : ℕ) (w : OutputChange) (n : ℕ) (text : List ℕ) (s t : Standing) (h : Halt) (kept : Status) → IsEndOf h kept
+pub run_ended : (c : Catalogue) (source : Option ℕ) (dt dt_then mt ot : Bool) (j j' : Journal) (d d' m m' o o' : DiskState) (nd nd' nm nm' po po' failed failed' : ℕ) (w : OutputChange) (n : ℕ) (text : List ℕ) (s t : TwinStanding) (h : Halt) (kept : Status) → IsEndOf h kept
     → HasRunLines c source c.digest (passage mt m m') (passage ot o o') w n text (moment s (faults failed po nm nd)) (moment t (faults failed' po' nm' nd')) h → Lasting (Outlasts dt dt_then nd nd' s.cabinet t.cabinet j j' d d') s.cabinet t.cabinet → s.cabinet.catalogue ≡ c
     → LeavesTwin c t (change dt nd' nd' d' d') (change mt nm' nm' m' m') (change ot po' po' o' o') → RunsText c source failed' (change dt nd nd' d d') (change mt nm nm' m m') (change ot po po' o o') (IsSettled j) w n text (moment s (faults failed po nm nd)) kept
 run_ended c source dt dt_then mt ot j j' d d' m m' o o' nd nd' nm nm' po po' failed failed' w n text s t h kept is run lasting same left =
-    let before : Moment = moment s (faults failed po nm nd) in
-    let after : Moment = moment t (faults failed' po' nm' nd') in
+    let before : TwinMoment = moment s (faults failed po nm nd) in
+    let after : TwinMoment = moment t (faults failed' po' nm' nd') in
     let lines = lines_in c n text w run.steps run.reached after h run.ends in
     let part = run_part c source dt dt_then mt ot nd nd' j j' d d' m m' o o' w n text before after h run lasting same refl refl lines (ordered_in c n text w run.steps run.reached after h run.ends) (later_in c n text w run.steps run.reached after h run.ends) (more_in c n text w run.steps run.reached after h run.ends) in
     inr (
@@ -273,9 +273,9 @@ run_ended c source dt dt_then mt ot j j' d d' m m' o o' nd nd' nm nm' po po' fai
     )
 
 -- they ended at one that orders a stop
-pub run_to_stop : (c : Catalogue) (source : Option ℕ) (dt dt_then mt ot : Bool) (j j' : Journal) (d d' m m' o o' : DiskState) (nd nd' : ℕ) (w : OutputChange) (n : ℕ) (text : List ℕ) (s t : Moment) (h : Halt)
+pub run_to_stop : (c : Catalogue) (source : Option ℕ) (dt dt_then mt ot : Bool) (j j' : Journal) (d d' m m' o o' : DiskState) (nd nd' : ℕ) (w : OutputChange) (n : ℕ) (text : List ℕ) (s t : TwinMoment) (h : Halt)
     (run : HasRunLines c source c.digest (passage mt m m') (passage ot o o') w n text s t h) → Lasting (Outlasts dt dt_then nd nd' s.stands.cabinet t.stands.cabinet j j' d d') s.stands.cabinet t.stands.cabinet → s.stands.cabinet.catalogue ≡ c → nd ≡ s.faults.cabinet → nd' ≡ t.faults.cabinet
-    → t ≡ run.reached → (lines : List (List ℕ)) → AreOrdered c lines run.steps → Part c source (passage dt d d') (passage mt m m') (passage ot o o') (IsSettled j) (IsSettled j') s t t lines run.steps
+    → t ≡ run.reached → (lines : List (List ℕ)) → AreOrdered c lines run.steps → TwinPart c source (passage dt d d') (passage mt m m') (passage ot o o') (IsSettled j) (IsSettled j') s t t lines run.steps
 run_to_stop c source dt dt_then mt ot j j' d d' m m' o o' nd nd' w n text s t h run lasting same fs ft reached lines ordered =
-    subst (λ (x : Moment). Part c source (passage dt d d') (passage mt m m') (passage ot o o') (IsSettled j) (IsSettled j') s x t lines run.steps) (sym reached)
+    subst (λ (x : TwinMoment). TwinPart c source (passage dt d d') (passage mt m m') (passage ot o o') (IsSettled j) (IsSettled j') s x t lines run.steps) (sym reached)
     (run_part c source dt dt_then mt ot nd nd' j j' d d' m m' o o' w n text s t h run lasting same fs ft lines ordered (no_later run.reached t reached) (nothing_more run.reached t reached))

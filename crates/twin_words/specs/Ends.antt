@@ -26,15 +26,15 @@ use Rattle.durable_cabinet.specs.Filed as cache_files
 use Rattle.outbox.specs.Files as outbox_files
 use Rattle.outbox.specs.Files.{IsOutboxFile, MayOpenTo, OpensToPosts}
 use Rattle.tile_service.specs.Lines.{lines_of}
-use Rattle.twin_events.specs.Twins.{Standing}
+use Rattle.twin_events.specs.Twins.{TwinStanding}
 use Rattle.twin_lines.specs.declared.lines.Halt.{Halt}
 use Rattle.twin_lines.specs.declared.lines.Halt.TheVariants as halt
-use Rattle.twin_lines.specs.declared.order.Order.TheVariants as order
-use Rattle.twin_lines.specs.declared.order.Side.{Side}
-use Rattle.twin_lines.specs.declared.order.Side.TheVariants as side
+use Rattle.twin_lines.specs.declared.order.TwinOrder.TheVariants as order
+use Rattle.twin_lines.specs.declared.order.LinkSide.{LinkSide}
+use Rattle.twin_lines.specs.declared.order.LinkSide.TheVariants as side
 use Rattle.twin_lines.specs.Ends.{AreOrdered, Ends, IsAmong}
 use Rattle.twin_lines.specs.Orders.{order_in}
-use Rattle.twin_lines.specs.Steps.{AreTrue, Faults, Follow, IsLater, MayEndAlong, MayOpenAlong, Moment, Step, faults}
+use Rattle.twin_lines.specs.Steps.{AreTrue, Faults, Follow, IsLater, MayEndAlong, MayOpenAlong, TwinMoment, TwinStep, faults}
 use Rattle.twin_lines.specs.Texts.{answers_from}
 use Rattle.twin_words.specs.declared.words.TwinWord.{TwinWord}
 use Rattle.twin_words.specs.declared.words.TwinWord.TheVariants as twin
@@ -81,7 +81,7 @@ at_end h = faults h.source.faults.after h.outbox.faults.after h.marks.faults.aft
 -- THE OPENED TWIN
 
 -- the three files were opened, and nothing was sent: where a disk is modelled, from what it holds
-pub record IsBegun (c : Catalogue) (clock : Readings) (h : TwinChange) (s : Standing) : Type 0 where
+pub record IsTwinBegun (c : Catalogue) (clock : Readings) (h : TwinChange) (s : TwinStanding) : Type 0 where
   pub cache : IsOpened c clock h.cache s.cabinet
   pub marks : IsTrue h.marks.told → EndsIn c.digest s.stand.mark h.marks.from.seen
   pub marks_sure : s.stand.undecided ≡ None
@@ -95,9 +95,9 @@ pub record IsBegun (c : Catalogue) (clock : Readings) (h : TwinChange) (s : Stan
 -- of the marks is one of those at entry, or ends in a mark along the steps, and one of the outbox is one of those at entry, or opens to
 -- posts along them. Where the source tells what it renders, and the cache held its pictures, so has each tile its own, unless the disk of
 -- the cache failed.
-pub record HasTwinned (c : Catalogue) (clock : Readings) (h : TwinChange) (steps : List Step) (reached last : Moment) : Type 0 where
-  pub first : Moment
-  pub begun : IsBegun c clock h first.stands
+pub record HasTwinned (c : Catalogue) (clock : Readings) (h : TwinChange) (steps : List TwinStep) (reached last : TwinMoment) : Type 0 where
+  pub first : TwinMoment
+  pub begun : IsTwinBegun c clock h first.stands
   pub later_first : IsLater (at_entry h) first.faults
   pub follow : Follow (all_told h) h.source.told first steps reached
   pub later_last : IsLater last.faults (at_end h)
@@ -120,41 +120,41 @@ abbrev pub IsTooLong : InputChange → Type 0
 IsTooLong i = (text : List ℕ) × Consumes i.from i.to text × (length text ≡ 16777216 + 1)
 
 -- the lines of the input were run, and ended so
-abbrev pub HasRun : Catalogue → Readings → TwinChange → Halt → Type 0
-HasRun c clock h e = (steps : List Step) × (reached : Moment) × (last : Moment) × HasTwinned c clock h steps reached last × ((text : List ℕ) × IsText h.input text × Ends c 1 text h.output steps reached last e)
+abbrev pub HasRunTwin : Catalogue → Readings → TwinChange → Halt → Type 0
+HasRunTwin c clock h e = (steps : List TwinStep) × (reached : TwinMoment) × (last : TwinMoment) × HasTwinned c clock h steps reached last × ((text : List ℕ) × IsText h.input text × Ends c 1 text h.output steps reached last e)
 
 -- the files were opened, and no line was run
 abbrev pub HasRunNone : Catalogue → Readings → TwinChange → Type 0
-HasRunNone c clock h = (first : Moment) × HasTwinned c clock h [] first first
+HasRunNone c clock h = (first : TwinMoment) × HasTwinned c clock h [] first first
 
 -- THE REFUSALS
 
 -- What was read of the outbox, when it was opened again, is what a crash may leave of the posts, and was refused for this cause.
-pub record RefusesOutboxAgain (c : Catalogue) (o : DiskChange) (last : Moment) (cause : OpenFault) : Type 0 where
+pub record RefusesOutboxAgain (c : Catalogue) (o : DiskChange) (last : TwinMoment) (cause : OpenFault) : Type 0 where
   pub seen : Content
   pub was_left : IsTrue o.told → MayOpenTo c last.stands.out seen
   pub refused : outbox_files.IsRefusedAs o.told c seen last.faults.outbox o.faults.after cause
 
 -- so it is of the cache
-pub record RefusesCacheAgain (c : Catalogue) (d : DiskChange) (last : Moment) (cause : OpenFault) : Type 0 where
+pub record RefusesCacheAgain (c : Catalogue) (d : DiskChange) (last : TwinMoment) (cause : OpenFault) : Type 0 where
   pub seen : Content
   pub was_left : IsTrue d.told → IsLeftFor c last.stands.cabinet seen
   pub refused : cache_files.IsRefusedAs d.told c seen last.faults.cabinet d.faults.after cause
 
 -- and of the marks, behind a cache that was opened
-pub record RefusesMarksAgain (c : Catalogue) (m : DiskChange) (last : Moment) (cause : OpenFault) : Type 0 where
+pub record RefusesMarksAgain (c : Catalogue) (m : DiskChange) (last : TwinMoment) (cause : OpenFault) : Type 0 where
   pub seen : Content
   pub was_left : IsTrue m.told → MayEndIn c.digest last.stands.stand seen
   pub refused : marks_files.IsRefusedAs m.told c.digest seen last.faults.marks m.faults.after cause
 
-abbrev pub RefusesAgain : Catalogue → DiskChange → DiskChange → DiskChange → Moment → Side → OpenFault → Type 0
+abbrev pub RefusesAgain : Catalogue → DiskChange → DiskChange → DiskChange → TwinMoment → LinkSide → OpenFault → Type 0
 RefusesAgain c d m o last side.Leader cause = RefusesOutboxAgain c o last cause
 RefusesAgain c d m o last side.Follower cause = RefusesCacheAgain c d last cause ⊎ RefusesMarksAgain c m last cause
 
 -- the lines before one that orders a stop were run and answered, its side was closed, and was refused when it was opened again
 pub record HasRunToStop (c : Catalogue) (clock : Readings) (h : TwinChange) (cause : OpenFault) : Type 0 where
-  pub steps : List Step
-  pub last : Moment
+  pub steps : List TwinStep
+  pub last : TwinMoment
   pub twinned : HasTwinned c clock h steps last last
   pub text : List ℕ
   pub is_text : IsText h.input text
@@ -162,13 +162,13 @@ pub record HasRunToStop (c : Catalogue) (clock : Readings) (h : TwinChange) (cau
   pub line : List ℕ
   pub among : IsAmong (lines_of text) before line
   pub ordered : AreOrdered c before steps
-  pub which : Side
+  pub which : LinkSide
   pub stops : order_in c line ≡ Some (order.Stop which)
   pub written : HasWritten h.output (answers_from 1 steps)
   pub refused : RefusesAgain c h.cache h.marks h.outbox last which cause
 
 -- one of the files was refused at the start, and nothing else was done
-pub record IsUnopened (c : Catalogue) (clock : Readings) (h : TwinChange) (stays : Stays) (cause : OpenFault) : Type 0 where
+pub record IsTwinUnopened (c : Catalogue) (clock : Readings) (h : TwinChange) (stays : Stays) (cause : OpenFault) : Type 0 where
   pub refused : RefusesTwin c clock h.cache h.marks h.outbox stays.marks stays.outbox cause
   pub input : stays.input
   pub output : stays.output
@@ -178,14 +178,14 @@ pub record IsUnopened (c : Catalogue) (clock : Readings) (h : TwinChange) (stays
 
 -- a refusal ended the word so
 abbrev pub EndsRefused : Catalogue → Readings → TwinChange → Stays → Status → Type 0
-EndsRefused c clock h stays e = (cause : OpenFault) × (e ≡ status_of_opening cause) × (IsUnopened c clock h stays cause ⊎ HasRunToStop c clock h cause)
+EndsRefused c clock h stays e = (cause : OpenFault) × (e ≡ status_of_opening cause) × (IsTwinUnopened c clock h stays cause ⊎ HasRunToStop c clock h cause)
 
 -- the input was not read, or the lines ended so
 abbrev pub EndsRun : Catalogue → Readings → TwinChange → Stays → Status → Type 0
-EndsRun c clock h stays status.Done = HasRun c clock h halt.Done
-EndsRun c clock h stays (status.Line n) = HasRun c clock h (halt.Line n)
-EndsRun c clock h stays status.WriteFault = HasRun c clock h halt.WriteFault
-EndsRun c clock h stays status.OutOfMemory = HasRun c clock h halt.OutOfMemory ⊎ (HasRunNone c clock h × stays.output × stays.source)
+EndsRun c clock h stays status.Done = HasRunTwin c clock h halt.Done
+EndsRun c clock h stays (status.Line n) = HasRunTwin c clock h (halt.Line n)
+EndsRun c clock h stays status.WriteFault = HasRunTwin c clock h halt.WriteFault
+EndsRun c clock h stays status.OutOfMemory = HasRunTwin c clock h halt.OutOfMemory ⊎ (HasRunNone c clock h × stays.output × stays.source)
 EndsRun c clock h stays status.ReadFault = HasRunNone c clock h × Rose h.input.reads.before h.input.reads.after × stays.output × stays.source
 EndsRun c clock h stays status.TooLong = HasRunNone c clock h × IsTooLong h.input × stays.output × stays.source
 EndsRun c clock h stays (status.Cache cause) = ⊥

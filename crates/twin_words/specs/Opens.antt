@@ -18,10 +18,10 @@ use Rattle.opened_cache.specs.Opened.{HasOpened, IsOpened, RefusalLeaves}
 use Rattle.outbox.specs.Files.{MayOpenTo, OpensToPosts}
 use Rattle.outbox.specs.Files as outbox_files
 use Rattle.truncation_list.specs.Books.{AnswersForBook}
-use Rattle.twin_events.specs.Twins.{Standing}
-use Rattle.twin_lines.specs.declared.order.Side.{Side}
-use Rattle.twin_lines.specs.declared.order.Side.TheVariants as side
-use Rattle.twin_lines.specs.Steps.{IsLater, Moment, Runs, stopped}
+use Rattle.twin_events.specs.Twins.{TwinStanding}
+use Rattle.twin_lines.specs.declared.order.LinkSide.{LinkSide}
+use Rattle.twin_lines.specs.declared.order.LinkSide.TheVariants as side
+use Rattle.twin_lines.specs.Steps.{IsLater, Runs, TwinMoment, stopped}
 
 -- a file was read and synced, and no more: a crash leaves what it might have left at entry
 abbrev pub IsQuiet : DiskChange → Type 0
@@ -63,7 +63,7 @@ RefusesFollower c clock d m MarksStay cause = (RefusesCache c d cause × MarksSt
 -- ALL THREE
 
 -- the follower was opened, and then the outbox from its disk; nothing was sent
-pub record OpensTwin (c : Catalogue) (clock : Readings) (d m o : DiskChange) (s : Standing) : Type 0 where
+pub record OpensTwin (c : Catalogue) (clock : Readings) (d m o : DiskChange) (s : TwinStanding) : Type 0 where
   pub follower : OpensFollower c clock d m s.cabinet s.stand
   pub posts : IsTrue o.told → OpensToPosts c o.from.seen s.out.posts
   pub sure : s.out.undecided ≡ None
@@ -84,7 +84,7 @@ pub record IsLeftFor (c : Catalogue) (s : State) (image : Content) : Type 0 wher
   pub ours : IsOurs c image
 
 -- what a crash leaves of three closed files is left for a leader and a follower that stand so
-pub record LeavesTwin (c : Catalogue) (s : Standing) (d m o : DiskChange) : Type 0 where
+pub record LeavesTwin (c : Catalogue) (s : TwinStanding) (d m o : DiskChange) : Type 0 where
   pub same : s.cabinet.catalogue ≡ c
   pub cache : IsTrue d.told → Every d.to.may_leave (IsLeftFor c s.cabinet)
   pub marks : IsTrue m.told → Every m.to.may_leave (MayEndIn c.digest s.stand)
@@ -106,7 +106,7 @@ pub record GoesFurther (s t : State) : Type 0 where
 
 -- A side was closed and opened again, from s to t. At every moment an image of the cache was left for the cabinet of s, one of the marks
 -- ends in a mark of s, and one of the outbox opens to the posts of s. A cabinet whose journal was settled is sound where it was.
-pub record Restarts (c : Catalogue) (source : Option ℕ) (d m o : DiskChange) (settled then_settled : Type 0) (which : Side) (s t : Moment) : Type 0 where
+pub record Restarts (c : Catalogue) (source : Option ℕ) (d m o : DiskChange) (settled then_settled : Type 0) (which : LinkSide) (s t : TwinMoment) : Type 0 where
   pub runs : Runs (d.told && (m.told && o.told)) source s (stopped which) t
   pub later : IsLater s.faults t.faults
   pub goes : IsTrue d.told → GoesFurther s.stands.cabinet t.stands.cabinet
@@ -117,12 +117,12 @@ pub record Restarts (c : Catalogue) (source : Option ℕ) (d m o : DiskChange) (
   pub still_sound : IsTrue d.told → settled → IsSound s.stands.cabinet → IsSound t.stands.cabinet
 
 -- what was refused of the side that was closed
-abbrev pub Refuses : Catalogue → Side → Moment → DiskChange → DiskChange → DiskChange → OpenFault → Type 0
+abbrev pub Refuses : Catalogue → LinkSide → TwinMoment → DiskChange → DiskChange → DiskChange → OpenFault → Type 0
 Refuses c side.Leader s d m o cause = RefusesOutbox c o cause
 Refuses c side.Follower s d m o cause = RefusesFollower c s.stands.cabinet.clock d m ⊤ cause
 
 -- A side was closed at s and refused, and the other one was closed. What a crash left meanwhile, and leaves now, is left for s.
-pub record StaysClosed (c : Catalogue) (d m o : DiskChange) (which : Side) (s : Moment) (cause : OpenFault) : Type 0 where
+pub record StaysClosed (c : Catalogue) (d m o : DiskChange) (which : LinkSide) (s : TwinMoment) (cause : OpenFault) : Type 0 where
   pub refuses : Refuses c which s d m o cause
   pub cache_seen : IsTrue d.told → IsLeftFor c s.stands.cabinet d.from.seen
   pub marks_seen : IsTrue m.told → MayEndIn c.digest s.stands.stand m.from.seen

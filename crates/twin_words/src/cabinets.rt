@@ -3,7 +3,7 @@ ghost use Rattle.std.specs.Prelude.{◌≡◌, ◌≤◌, IfErr, IfOk, IsTrue};
 ghost use Rattle.catalog.specs.Valid.{IsValid};
 ghost use Rattle.durable_cabinet.specs.Images.{IsOurs};
 ghost use Rattle.gate_journal.specs.Sound.{IsSettled};
-ghost use Rattle.opened_cache.specs.Crash.{IsClosed, OpeningLeaves};
+ghost use Rattle.opened_cache.specs.Crash.{IsCacheClosed, OpeningLeaves};
 ghost use Rattle.opened_cache.specs.Opened.{IsOpened};
 ghost use Rattle.twin_words.specs.Made.{change_of};
 ghost use Rattle.twin_words.specs.Opens.{RefusesCache};
@@ -63,7 +63,7 @@ pub fn closed_with_clock<'d, D: Disk, L: Loan>(
     ensures loan { result.disk.ghost_name ≡ L.disk }
     ensures same { result.disk.now ≡ cabinet.entry.file.disk.disk.now }
     ensures clock { result.clock ≡ cabinet.entry.state.clock }
-    ensures closed { IsClosed (D.told result.disk.now) cabinet.entry.file.journal (D.state result.disk.now) cabinet.entry.state }
+    ensures closed { IsCacheClosed (D.told result.disk.now) cabinet.entry.file.journal (D.state result.disk.now) cabinet.entry.state }
 {
     cabinet.known();
     cabinet.images();

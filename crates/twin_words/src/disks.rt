@@ -3,7 +3,7 @@ use gate_journal::OpenFault;
 
 /// The disks of a twin that is closed, each one the disk that was lent.
 #[derive(Drop)]
-pub struct Disks<'d, 'm, 'o, D, M, N> {
+pub struct TwinDisks<'d, 'm, 'o, D, M, N> {
     /// The disk of the cache.
     pub cache: &'d mut D,
     /// The disk of the marks.
@@ -18,7 +18,7 @@ pub struct Unopened<'d, 'm, 'o, D, M, N> {
     /// Why the first of its files that wasn't opened was refused.
     pub cause: OpenFault,
     /// All three disks, closed.
-    pub disks: Disks<'d, 'm, 'o, D, M, N>,
+    pub disks: TwinDisks<'d, 'm, 'o, D, M, N>,
 }
 
 /// A follower that wasn't opened.

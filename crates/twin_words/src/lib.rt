@@ -24,7 +24,7 @@ mod twin;
 mod words;
 
 pub use cabinets::{Closed, closed_with_clock, opened_cabinet};
-pub use disks::{Disks, Unfollowed, Unopened};
+pub use disks::{TwinDisks, Unfollowed, Unopened};
 pub use feeds::opened_feed;
 pub use twin::run_twin;
 pub use words::{TwinWord, twin_word};

@@ -10,7 +10,7 @@ use change_feed::Feed;
 use command_status::Status;
 use disk_model::Disk;
 use http_wire::ByteSink;
-use opened_cache::written;
+use opened_cache::write_text;
 use outbox::Outbox;
 
 /// Makes an empty cache, an empty file of marks and an empty outbox, in this order, whatever stood there, and writes that they are made.
@@ -39,5 +39,5 @@ pub(crate) fn make_twin<D: Disk, O: ByteSink>(
     if Outbox::make(catalogue, outbox).is_err() {
         return Status::DiskFault;
     }
-    written(output, ArrayVec::new(), b"made\n")
+    write_text(output, ArrayVec::new(), b"made\n")
 }

@@ -6,14 +6,14 @@ ghost use Rattle.change_feed.specs.Files.{IsMarksFile, MayEndIn};
 ghost use Rattle.disk_model.specs.Images.{Every};
 ghost use Rattle.durable_cabinet.specs.Images.{IsOurs};
 ghost use Rattle.gate_journal.specs.Sound.{IsSettled, digest_of};
-ghost use Rattle.opened_cache.specs.Crash.{IsClosed, OpeningLeaves};
+ghost use Rattle.opened_cache.specs.Crash.{IsCacheClosed, OpeningLeaves};
 ghost use Rattle.outbox.specs.Files.{IsOutboxFile, MayOpenTo};
-ghost use Rattle.twin_events.specs.Twins.{IsReady, standing};
+ghost use Rattle.twin_events.specs.Twins.{IsTwinReady, standing};
 ghost use Rattle.twin_words.specs.Made.{change_of};
 ghost use Rattle.twin_words.specs.Opens.{IsQuiet, OpensFollower, OpensTwin, RefusesFollower, RefusesTwin};
 
 use crate::cabinets::opened_cabinet;
-use crate::disks::{Disks, Unfollowed, Unopened};
+use crate::disks::{TwinDisks, Unfollowed, Unopened};
 use crate::feeds::opened_feed;
 use base::Clock;
 use cabinet::Keeper;
@@ -22,7 +22,7 @@ use change_feed::Feed;
 use disk_model::Disk;
 use durable_cabinet::Cabinet;
 use feed_words::{closed_marks, closed_outbox, opened_outbox};
-use opened_cache::{LentDisk, Loan, closed};
+use opened_cache::{LentDisk, Loan, close_cache};
 use std::alloc::Global;
 use twin_events::Twin;
 
@@ -74,7 +74,7 @@ pub(crate) fn opened_follower<'d, 'm, D: Disk, M: Disk, A: Loan, B: Loan>(
                 Ok(feed) => Ok(Follower { cabinet, feed }),
                 Err(refusal) => {
                     let (cause, marks) = refusal;
-                    let cache = closed(cabinet);
+                    let cache = close_cache(cabinet);
                     Err(Unfollowed {
                         cause,
                         cache,
@@ -115,7 +115,7 @@ pub(crate) fn opened_twin<'d, 'm, 'o, D: Disk, M: Disk, N: Disk, A: Loan, B: Loa
     requires marks_ours { IsTrue (M.told marks.now) → IsMarksFile catalogue.digest (M.state marks.now).seen }
     requires outbox_ours { IsTrue (N.told outbox.now) → IsOutboxFile catalogue (N.state outbox.now).seen }
     ensures opens { IfOk result (λ t. OpensTwin catalogue clock (change_of D.told D.state D.faults disk.entry.now t.cabinet.file.disk.disk.now) (change_of M.told M.state M.faults marks.entry.now t.feed.file.disk.disk.now) (change_of N.told N.state N.faults outbox.entry.now t.outbox.file.disk.disk.now) (standing t.outbox.out t.feed.stand t.cabinet.state t.sent.items)) }
-    ensures ready { IfOk result (λ t. IsReady catalogue (standing t.outbox.out t.feed.stand t.cabinet.state t.sent.items)) }
+    ensures ready { IfOk result (λ t. IsTwinReady catalogue (standing t.outbox.out t.feed.stand t.cabinet.state t.sent.items)) }
     ensures catalogue { IfOk result (λ t. t.outbox.catalogue ≡ catalogue) }
     ensures known { IfOk result (λ t. IsKnown t.cabinet.state) }
     ensures settled { IfOk result (λ t. IsSettled t.cabinet.file.journal) }
@@ -147,11 +147,11 @@ pub(crate) fn opened_twin<'d, 'm, 'o, D: Disk, M: Disk, N: Disk, A: Loan, B: Loa
                 }),
                 Err(refusal) => {
                     let (cause, outbox) = refusal;
-                    let cache = closed(cabinet);
+                    let cache = close_cache(cabinet);
                     let marks = closed_marks(feed);
                     Err(Unopened {
                         cause,
-                        disks: Disks {
+                        disks: TwinDisks {
                             cache,
                             marks,
                             outbox,
@@ -168,7 +168,7 @@ pub(crate) fn opened_twin<'d, 'm, 'o, D: Disk, M: Disk, N: Disk, A: Loan, B: Loa
             } = refusal;
             Err(Unopened {
                 cause,
-                disks: Disks {
+                disks: TwinDisks {
                     cache,
                     marks,
                     outbox,
@@ -181,14 +181,14 @@ pub(crate) fn opened_twin<'d, 'm, 'o, D: Disk, M: Disk, N: Disk, A: Loan, B: Loa
 /// Closes a twin, and hands its three loans back.
 pub(crate) fn closed_twin<'d, 'm, 'o, D: Disk, M: Disk, N: Disk, A: Loan, B: Loan, C: Loan>(
     twin: Twin<Cabinet<LentDisk<'d, D, A>>, LentDisk<'m, M, B>, LentDisk<'o, N, C>>,
-) -> Disks<'d, 'm, 'o, D, M, N>
+) -> TwinDisks<'d, 'm, 'o, D, M, N>
     ensures loan { result.cache.ghost_name ≡ A.disk }
     ensures marks_loan { result.marks.ghost_name ≡ B.disk }
     ensures outbox_loan { result.outbox.ghost_name ≡ C.disk }
     ensures same { result.cache.now ≡ twin.entry.cabinet.file.disk.disk.now }
     ensures marks_same { result.marks.now ≡ twin.entry.feed.file.disk.disk.now }
     ensures outbox_same { result.outbox.now ≡ twin.entry.outbox.file.disk.disk.now }
-    ensures closed { IsClosed (D.told result.cache.now) twin.entry.cabinet.file.journal (D.state result.cache.now) twin.entry.cabinet.state }
+    ensures closed { IsCacheClosed (D.told result.cache.now) twin.entry.cabinet.file.journal (D.state result.cache.now) twin.entry.cabinet.state }
     ensures marks { IsTrue (M.told result.marks.now) → Every (M.state result.marks.now).may_leave (MayEndIn (digest_of twin.entry.feed.file.journal) twin.entry.feed.stand) }
     ensures outbox { IsTrue (N.told result.outbox.now) → Every (N.state result.outbox.now).may_leave (MayOpenTo twin.entry.outbox.catalogue twin.entry.outbox.out) }
 {
@@ -198,8 +198,8 @@ pub(crate) fn closed_twin<'d, 'm, 'o, D: Disk, M: Disk, N: Disk, A: Loan, B: Loa
         outbox,
         ..
     } = twin;
-    Disks {
-        cache: closed(cabinet),
+    TwinDisks {
+        cache: close_cache(cabinet),
         marks: closed_marks(feed),
         outbox: closed_outbox(outbox),
     }

@@ -1,14 +1,14 @@
 //! A stop of either side of a twin: its files are closed and opened again.
 ghost use Rattle.std.specs.Prelude.{◌≡◌, ◌≤◌, ℕ, IfErr, IfOk, Option};
 ghost use Rattle.gate_journal.specs.Sound.{IsSettled, digest_of};
-ghost use Rattle.twin_events.specs.Twins.{IsReady, standing};
+ghost use Rattle.twin_events.specs.Twins.{IsTwinReady, standing};
 ghost use Rattle.twin_lines.specs.Steps.{faults, moment};
-ghost use Rattle.twin_lines.specs.declared.order.Side.TheVariants as sides;
+ghost use Rattle.twin_lines.specs.declared.order.LinkSide.TheVariants as sides;
 ghost use Rattle.twin_words.specs.Made.{change_of};
 ghost use Rattle.twin_words.specs.Opens.{Restarts, StaysClosed};
 
 use crate::cabinets::{Closed, closed_with_clock};
-use crate::disks::{Disks, Unfollowed, Unopened};
+use crate::disks::{TwinDisks, Unfollowed, Unopened};
 use crate::opening::{Follower, closed_twin, opened_follower};
 use cabinet::Keeper;
 use change_feed::laws_of_marks;
@@ -16,11 +16,11 @@ use disk_model::Disk;
 use durable_cabinet::Cabinet;
 use feed_words::{closed_marks, closed_outbox, opened_outbox};
 use gate_journal::OpenFault;
-use opened_cache::{LentDisk, Loan, closed};
+use opened_cache::{LentDisk, Loan, close_cache};
 use outbox::laws_of_outboxes;
 use std::alloc::Global;
 use twin_events::Twin;
-use twin_lines::Side;
+use twin_lines::LinkSide;
 
 /// Closes the outbox of a twin and opens it again: it has its posts, or these and the one that was undecided, and has heard nothing. A
 /// refusal closes the twin.
@@ -31,13 +31,13 @@ fn restarted_leader<'d, 'm, 'o, D: Disk, M: Disk, N: Disk, A: Loan, B: Loan, C: 
     Twin<Cabinet<LentDisk<'d, D, A>>, LentDisk<'m, M, B>, LentDisk<'o, N, C>>,
     Unopened<'d, 'm, 'o, D, M, N>,
 >
-    requires ready { IsReady twin.outbox.catalogue (standing twin.outbox.out twin.feed.stand twin.cabinet.state twin.sent.items) }
+    requires ready { IsTwinReady twin.outbox.catalogue (standing twin.outbox.out twin.feed.stand twin.cabinet.state twin.sent.items) }
     requires digest { digest_of twin.feed.file.journal ≡ twin.outbox.catalogue.digest }
     ensures restarts { IfOk result (λ t. (source : Option ℕ) (failed : ℕ) → Restarts twin.entry.outbox.catalogue source (change_of D.told D.state D.faults twin.entry.cabinet.file.disk.disk.now t.cabinet.file.disk.disk.now) (change_of M.told M.state M.faults twin.entry.feed.file.disk.disk.now t.feed.file.disk.disk.now) (change_of N.told N.state N.faults twin.entry.outbox.file.disk.disk.now t.outbox.file.disk.disk.now)
         (IsSettled twin.entry.cabinet.file.journal) (IsSettled t.cabinet.file.journal) sides.Leader
         (moment (standing twin.entry.outbox.out twin.entry.feed.stand twin.entry.cabinet.state twin.entry.sent.items) (faults failed (N.faults twin.entry.outbox.file.disk.disk.now) (M.faults twin.entry.feed.file.disk.disk.now) (D.faults twin.entry.cabinet.file.disk.disk.now)))
         (moment (standing t.outbox.out t.feed.stand t.cabinet.state t.sent.items) (faults failed (N.faults t.outbox.file.disk.disk.now) (M.faults t.feed.file.disk.disk.now) (D.faults t.cabinet.file.disk.disk.now)))) }
-    ensures ready { IfOk result (λ t. IsReady t.outbox.catalogue (standing t.outbox.out t.feed.stand t.cabinet.state t.sent.items)) }
+    ensures ready { IfOk result (λ t. IsTwinReady t.outbox.catalogue (standing t.outbox.out t.feed.stand t.cabinet.state t.sent.items)) }
     ensures catalogue { IfOk result (λ t. t.outbox.catalogue ≡ twin.entry.outbox.catalogue) }
     ensures digest { IfOk result (λ t. digest_of t.feed.file.journal ≡ digest_of twin.entry.feed.file.journal) }
     ensures told { IfOk result (λ t. D.told t.cabinet.file.disk.disk.now ≡ D.told twin.entry.cabinet.file.disk.disk.now) }
@@ -74,8 +74,8 @@ fn restarted_leader<'d, 'm, 'o, D: Disk, M: Disk, N: Disk, A: Loan, B: Loan, C: 
             let (cause, outbox) = refusal;
             Err(Unopened {
                 cause,
-                disks: Disks {
-                    cache: closed(cabinet),
+                disks: TwinDisks {
+                    cache: close_cache(cabinet),
                     marks: closed_marks(feed),
                     outbox,
                 },
@@ -94,13 +94,13 @@ fn restarted_follower<'d, 'm, 'o, D: Disk, M: Disk, N: Disk, A: Loan, B: Loan, C
     Twin<Cabinet<LentDisk<'d, D, A>>, LentDisk<'m, M, B>, LentDisk<'o, N, C>>,
     Unopened<'d, 'm, 'o, D, M, N>,
 >
-    requires ready { IsReady twin.outbox.catalogue (standing twin.outbox.out twin.feed.stand twin.cabinet.state twin.sent.items) }
+    requires ready { IsTwinReady twin.outbox.catalogue (standing twin.outbox.out twin.feed.stand twin.cabinet.state twin.sent.items) }
     requires digest { digest_of twin.feed.file.journal ≡ twin.outbox.catalogue.digest }
     ensures restarts { IfOk result (λ t. (source : Option ℕ) (failed : ℕ) → Restarts twin.entry.outbox.catalogue source (change_of D.told D.state D.faults twin.entry.cabinet.file.disk.disk.now t.cabinet.file.disk.disk.now) (change_of M.told M.state M.faults twin.entry.feed.file.disk.disk.now t.feed.file.disk.disk.now) (change_of N.told N.state N.faults twin.entry.outbox.file.disk.disk.now t.outbox.file.disk.disk.now)
         (IsSettled twin.entry.cabinet.file.journal) (IsSettled t.cabinet.file.journal) sides.Follower
         (moment (standing twin.entry.outbox.out twin.entry.feed.stand twin.entry.cabinet.state twin.entry.sent.items) (faults failed (N.faults twin.entry.outbox.file.disk.disk.now) (M.faults twin.entry.feed.file.disk.disk.now) (D.faults twin.entry.cabinet.file.disk.disk.now)))
         (moment (standing t.outbox.out t.feed.stand t.cabinet.state t.sent.items) (faults failed (N.faults t.outbox.file.disk.disk.now) (M.faults t.feed.file.disk.disk.now) (D.faults t.cabinet.file.disk.disk.now)))) }
-    ensures ready { IfOk result (λ t. IsReady t.outbox.catalogue (standing t.outbox.out t.feed.stand t.cabinet.state t.sent.items)) }
+    ensures ready { IfOk result (λ t. IsTwinReady t.outbox.catalogue (standing t.outbox.out t.feed.stand t.cabinet.state t.sent.items)) }
     ensures catalogue { IfOk result (λ t. t.outbox.catalogue ≡ twin.entry.outbox.catalogue) }
     ensures digest { IfOk result (λ t. digest_of t.feed.file.journal ≡ digest_of twin.entry.feed.file.journal) }
     ensures told { IfOk result (λ t. D.told t.cabinet.file.disk.disk.now ≡ D.told twin.entry.cabinet.file.disk.disk.now) }
@@ -148,7 +148,7 @@ fn restarted_follower<'d, 'm, 'o, D: Disk, M: Disk, N: Disk, A: Loan, B: Loan, C
                     let outbox = closed_outbox(outbox);
                     Err(Unopened {
                         cause,
-                        disks: Disks {
+                        disks: TwinDisks {
                             cache,
                             marks,
                             outbox,
@@ -165,21 +165,21 @@ fn restarted_follower<'d, 'm, 'o, D: Disk, M: Disk, N: Disk, A: Loan, B: Loan, C
 }
 
 /// Closes a side of a twin and opens it again. A refusal closes the twin.
-pub(crate) fn restarted<'d, 'm, 'o, D: Disk, M: Disk, N: Disk, A: Loan, B: Loan, C: Loan>(
+pub(crate) fn restart_side<'d, 'm, 'o, D: Disk, M: Disk, N: Disk, A: Loan, B: Loan, C: Loan>(
     alloc: Global,
     twin: Twin<Cabinet<LentDisk<'d, D, A>>, LentDisk<'m, M, B>, LentDisk<'o, N, C>>,
-    side: Side,
+    side: LinkSide,
 ) -> Result<
     Twin<Cabinet<LentDisk<'d, D, A>>, LentDisk<'m, M, B>, LentDisk<'o, N, C>>,
     Unopened<'d, 'm, 'o, D, M, N>,
 >
-    requires ready { IsReady twin.outbox.catalogue (standing twin.outbox.out twin.feed.stand twin.cabinet.state twin.sent.items) }
+    requires ready { IsTwinReady twin.outbox.catalogue (standing twin.outbox.out twin.feed.stand twin.cabinet.state twin.sent.items) }
     requires digest { digest_of twin.feed.file.journal ≡ twin.outbox.catalogue.digest }
     ensures restarts { IfOk result (λ t. (source : Option ℕ) (failed : ℕ) → Restarts twin.entry.outbox.catalogue source (change_of D.told D.state D.faults twin.entry.cabinet.file.disk.disk.now t.cabinet.file.disk.disk.now) (change_of M.told M.state M.faults twin.entry.feed.file.disk.disk.now t.feed.file.disk.disk.now) (change_of N.told N.state N.faults twin.entry.outbox.file.disk.disk.now t.outbox.file.disk.disk.now)
         (IsSettled twin.entry.cabinet.file.journal) (IsSettled t.cabinet.file.journal) side
         (moment (standing twin.entry.outbox.out twin.entry.feed.stand twin.entry.cabinet.state twin.entry.sent.items) (faults failed (N.faults twin.entry.outbox.file.disk.disk.now) (M.faults twin.entry.feed.file.disk.disk.now) (D.faults twin.entry.cabinet.file.disk.disk.now)))
         (moment (standing t.outbox.out t.feed.stand t.cabinet.state t.sent.items) (faults failed (N.faults t.outbox.file.disk.disk.now) (M.faults t.feed.file.disk.disk.now) (D.faults t.cabinet.file.disk.disk.now)))) }
-    ensures ready { IfOk result (λ t. IsReady t.outbox.catalogue (standing t.outbox.out t.feed.stand t.cabinet.state t.sent.items)) }
+    ensures ready { IfOk result (λ t. IsTwinReady t.outbox.catalogue (standing t.outbox.out t.feed.stand t.cabinet.state t.sent.items)) }
     ensures catalogue { IfOk result (λ t. t.outbox.catalogue ≡ twin.entry.outbox.catalogue) }
     ensures digest { IfOk result (λ t. digest_of t.feed.file.journal ≡ digest_of twin.entry.feed.file.journal) }
     ensures told { IfOk result (λ t. D.told t.cabinet.file.disk.disk.now ≡ D.told twin.entry.cabinet.file.disk.disk.now) }
@@ -198,7 +198,7 @@ pub(crate) fn restarted<'d, 'm, 'o, D: Disk, M: Disk, N: Disk, A: Loan, B: Loan,
     ensures refused_outbox_loan { IfErr result (λ r. r.disks.outbox.ghost_name ≡ C.disk) }
 {
     match side {
-        Side::Leader => restarted_leader(alloc, twin),
-        Side::Follower => restarted_follower(alloc, twin),
+        LinkSide::Leader => restarted_leader(alloc, twin),
+        LinkSide::Follower => restarted_follower(alloc, twin),
     }
 }

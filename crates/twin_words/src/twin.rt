@@ -10,15 +10,15 @@ ghost use Rattle.twin_words.specs.Ends.{CacheLasts, IsFitFor, IsFitUnder, Source
 ghost use Rattle.twin_words.specs.Made.{change_of};
 ghost use Rattle.twin_words.specs.Words.{twin_word};
 
-use crate::disks::{Disks, Unopened};
+use crate::disks::{TwinDisks, Unopened};
 use crate::making::make_twin;
 use crate::opening::opened_twin;
-use crate::running::{Finished, run_input};
+use crate::running::{FinishedTwin, run_input};
 use crate::words::{TwinWord, twin_word};
 use base::Clock;
 use catalog::Catalogue;
 use change_feed::laws_of_marks;
-use command_setup::{configured, status_of_refusal};
+use command_setup::{read_configuration, status_of_refusal};
 use command_status::{Status, status_of_opening};
 use cut_follower::laws_of_lossy_links;
 use disk_model::Disk;
@@ -87,8 +87,8 @@ fn twin_over<
     laws_of_outboxes();
     match opened_twin::<D, M, N, A, B, C>(alloc, catalogue, clock, disk, marks, outbox) {
         Ok(twin) => {
-            let Finished { end, disks } = run_input(alloc, twin, source, input, output);
-            let Disks {
+            let FinishedTwin { end, disks } = run_input(alloc, twin, source, input, output);
+            let TwinDisks {
                 cache,
                 marks,
                 outbox,
@@ -97,7 +97,7 @@ fn twin_over<
         }
         Err(refusal) => {
             let Unopened { cause, disks } = refusal;
-            let Disks {
+            let TwinDisks {
                 cache,
                 marks,
                 outbox,
@@ -188,7 +188,7 @@ fn done_under<D: Disk, S: Source, I: ByteSource, O: ByteSink>(
 }
 
 /// Does a word under the catalogue that is read.
-fn done<D: Disk, S: Source, I: ByteSource, O: ByteSink>(
+fn do_word<D: Disk, S: Source, I: ByteSource, O: ByteSink>(
     alloc: Global,
     word: TwinWord,
     catalogue: &mut I,
@@ -220,7 +220,7 @@ fn done<D: Disk, S: Source, I: ByteSource, O: ByteSink>(
     ensures outbox_told { D.told outbox.new ≡ D.told outbox.old }
     ensures source_told { S.told source.new ≡ S.told source.old }
 {
-    match configured(alloc, catalogue) {
+    match read_configuration(alloc, catalogue) {
         Ok(read) => done_under(
             alloc, word, read, input, output, source, clock, disk, marks, outbox,
         ),
@@ -272,7 +272,7 @@ pub fn run_twin<D: Disk, S: Source, I: ByteSource, O: ByteSink>(
     ensures source_told { S.told source.new ≡ S.told source.old }
 {
     match twin_word(words) {
-        Some(word) => done(
+        Some(word) => do_word(
             alloc, word, catalogue, input, output, source, clock, disk, marks, outbox,
         ),
         None => Status::Usage,

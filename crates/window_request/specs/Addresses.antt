@@ -5,7 +5,7 @@ use Rattle.std.specs.Char.{is_ascii_digit, is_ascii_alphanumeric}
 use Rattle.std.specs.List.{list_all, prefix_len}
 use Rattle.std.specs.Str.Parse.{digits_value}
 use Rattle.window_request.specs.Pieces.{differs}
-use Rattle.window_request.specs.declared.address.Address.{Address}
+use Rattle.window_request.specs.declared.address.HostPort.{HostPort}
 
 abbrev pub is_host_byte : ℕ → Bool
 is_host_byte b = is_ascii_alphanumeric b || (b == 46) || (b == 45) || (b == 95)
@@ -39,5 +39,5 @@ address_of authority =
     if is_host host then option_map (λ port. (host, port)) (port_behind (drop (prefix_len (differs 58) authority) authority)) else None
 
 -- the two parts of an address
-abbrev pub named : Address → List ℕ × ℕ
+abbrev pub named : HostPort → List ℕ × ℕ
 named a = (a.host.now, a.port)

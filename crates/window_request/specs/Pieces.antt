@@ -1,15 +1,15 @@
 -- The pieces of a template's target: plain text, and names in braces.
 use Rattle.std.specs.Prelude.{ℕ, ◌≡◌, ◌<◌, ◌==◌, ◌&&◌, List, [], ◌∷◌, ◌++◌, length, drop, Bool, true, false, not, nat_lt, codes, Option, Some, None, ⊤}
 use Rattle.std.specs.List.{list_all}
-use Rattle.window_request.specs.declared.field.Field.{Field}
-use Rattle.window_request.specs.declared.field.Field.TheVariants as fields
+use Rattle.window_request.specs.declared.field.TemplateField.{TemplateField}
+use Rattle.window_request.specs.declared.field.TemplateField.TheVariants as fields
 use Rattle.window_request.specs.declared.piece.Piece.{Piece}
 use Rattle.window_request.specs.declared.piece.Piece.TheVariants.{Plain, Field as Named, Dimension}
-use Rattle.window_request.specs.declared.piece.Step.{Step}
-use Rattle.window_request.specs.declared.piece.Step.TheVariants as steps
+use Rattle.window_request.specs.declared.piece.TemplateStep.{TemplateStep}
+use Rattle.window_request.specs.declared.piece.TemplateStep.TheVariants as steps
 
 -- the name in braces
-abbrev pub field_name : Field → List ℕ
+abbrev pub field_name : TemplateField → List ℕ
 field_name fields.Layer = codes "layer"
 field_name fields.Style = codes "style"
 field_name fields.Grid = codes "grid"
@@ -70,7 +70,7 @@ abbrev pub IsUnknown : List ℕ → Type 0
 IsUnknown text = (name : List ℕ) × (more : List ℕ) × (text ≡ braced name ++ more) × (list_all (differs 125) name ≡ true) × NamesPiece name None
 
 -- what stands at the front
-abbrev pub StepsTo : List ℕ → Step → Type 0
+abbrev pub StepsTo : List ℕ → TemplateStep → Type 0
 StepsTo text (steps.Piece piece len) = BeginsWithPiece text piece len
 StepsTo text steps.Byte = BeginsWrongly text
 StepsTo text steps.OpenBrace = IsOpen text

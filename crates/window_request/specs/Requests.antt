@@ -3,8 +3,8 @@ use Rattle.std.specs.Prelude.{ℕ, Bool, ◌==◌, ◌||◌, List, [], ◌∷◌
 use Rattle.std.specs.Char.{is_ascii_alphanumeric}
 use Rattle.std.specs.List.{flat_map}
 use Rattle.percent_encoding.specs.Percent.{percent_encode_byte}
-use Rattle.window_request.specs.declared.field.Field.{Field}
-use Rattle.window_request.specs.declared.field.Field.TheVariants as fields
+use Rattle.window_request.specs.declared.field.TemplateField.{TemplateField}
+use Rattle.window_request.specs.declared.field.TemplateField.TheVariants as fields
 use Rattle.window_request.specs.declared.piece.Piece.{Piece}
 use Rattle.window_request.specs.declared.piece.Piece.TheVariants as pieces
 use Rattle.window_request.specs.declared.template.Template.{Template}
@@ -23,7 +23,7 @@ abbrev pub encoded : List ℕ → List ℕ
 encoded value = flat_map encoded_byte value
 
 -- what a name stands for
-abbrev pub value_of : Values → Field → List ℕ
+abbrev pub value_of : Values → TemplateField → List ℕ
 value_of v fields.Layer = v.layer.now
 value_of v fields.Style = v.style.now
 value_of v fields.Grid = v.grid.now

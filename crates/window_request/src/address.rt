@@ -12,7 +12,7 @@ const DEFAULT_PORT: u16 = 80;
 
 /// A host and a port.
 #[derive(Clone, Copy)]
-pub struct Address<'a> {
+pub struct HostPort<'a> {
     pub host: &'a [u8],
     pub port: u16,
 }
@@ -80,7 +80,7 @@ fn port_behind(text: &[u8]) -> Option<u16>
 /// The host and the port of `HOST` or `HOST:PORT`; `None` for any other text (RFC 3986, section 3.2, without user information and
 /// addresses in brackets).
 #[tactic(auto, unfolding(crate::specs::Addresses::address_of))]
-pub fn address_of(authority: &[u8]) -> Option<Address>
+pub fn address_of(authority: &[u8]) -> Option<HostPort>
     ensures { option_map named result ≡ address_of authority.now }
 {
     let (host, behind) = authority.split_at(len_until(authority, b':'));
@@ -88,5 +88,5 @@ pub fn address_of(authority: &[u8]) -> Option<Address>
         return None;
     }
     let port = port_behind(behind)?;
-    Some(Address { host, port })
+    Some(HostPort { host, port })
 }

@@ -1,9 +1,8 @@
 //! The decimal text of a fraction.
-ghost use Rattle.std.specs.Prelude.{◌≡◌, ◌+◌, ◌*◌, ◌<◌, ◌≤◌, ◌^◌, ◌∷◌, [], OnOk, IfOk, unsigned_abs, ◌/◌, if◌then◌else◌};
+ghost use Rattle.std.specs.Prelude.{◌≡◌, ◌+◌, ◌*◌, ◌<◌, ◌≤◌, ◌^◌, ◌∷◌, [], OnOk, IfOk, pos, ◌/◌, if◌then◌else◌};
 ghost use Rattle.window_request.specs.Decimals.{IsPrintable, IsDecimalOf, Writes, Pads};
 
 use crate::rounding::rounded;
-use exact_ratio::Ratio;
 use itoa::Buffer;
 use std::alloc::{AllocError, Global};
 
@@ -80,12 +79,12 @@ fn written(alloc: Global, negative: bool, units: u128, places: u32) -> Result<Ve
     Ok(text)
 }
 
-/// The text of a fraction with 12 digits behind the point, rounded to the nearest; halves go away from 0. A negative fraction has a
+/// The text of the fraction n / d with 12 digits behind the point, rounded to the nearest; halves go away from 0. A negative fraction has a
 /// minus, also where it is rounded to 0. `AllocError` where memory runs out.
-pub fn decimal_text(alloc: Global, value: &Ratio) -> Result<Vec<u8>, AllocError>
-    requires { IsPrintable value.now }
-    ensures { IfOk result (λ text. IsDecimalOf value.now text.items) }
+pub fn decimal_text(alloc: Global, n: i128, d: u128) -> Result<Vec<u8>, AllocError>
+    requires { IsPrintable (record { n = n; d = pos d }) }
+    ensures { IfOk result (λ text. IsDecimalOf (record { n = n; d = pos d }) text.items) }
 {
-    let units = rounded(value.n.unsigned_abs(), value.d.unsigned_abs(), PLACES);
-    written(alloc, value.n < 0, units, PLACES)
+    let units = rounded(n.unsigned_abs(), d, PLACES);
+    written(alloc, n < 0, units, PLACES)
 }

@@ -4,7 +4,7 @@ ghost use Rattle.window_request.specs.Pieces.{field_name};
 
 /// What a name in braces stands for.
 #[derive(Clone, Copy, Debug, PartialEq, Eq)]
-pub enum Field {
+pub enum TemplateField {
     /// The name of the layer.
     Layer,
     /// The name of the style.
@@ -30,21 +30,21 @@ pub enum Field {
 }
 
 /// What a name stands for; `None` where it is none of the names.
-pub fn field_named(name: &[u8]) -> Option<Field>
-    ensures { MatchOption result ((field : Field) → ¬ (field_name field ≡ name.now)) (λ field. field_name field ≡ name.now) }
+pub fn field_named(name: &[u8]) -> Option<TemplateField>
+    ensures { MatchOption result ((field : TemplateField) → ¬ (field_name field ≡ name.now)) (λ field. field_name field ≡ name.now) }
 {
     match name {
-        b"layer" => Some(Field::Layer),
-        b"style" => Some(Field::Style),
-        b"grid" => Some(Field::Grid),
-        b"matrix" => Some(Field::Matrix),
-        b"minx" => Some(Field::MinX),
-        b"miny" => Some(Field::MinY),
-        b"maxx" => Some(Field::MaxX),
-        b"maxy" => Some(Field::MaxY),
-        b"width" => Some(Field::Width),
-        b"height" => Some(Field::Height),
-        b"number" => Some(Field::Number),
+        b"layer" => Some(TemplateField::Layer),
+        b"style" => Some(TemplateField::Style),
+        b"grid" => Some(TemplateField::Grid),
+        b"matrix" => Some(TemplateField::Matrix),
+        b"minx" => Some(TemplateField::MinX),
+        b"miny" => Some(TemplateField::MinY),
+        b"maxx" => Some(TemplateField::MaxX),
+        b"maxy" => Some(TemplateField::MaxY),
+        b"width" => Some(TemplateField::Width),
+        b"height" => Some(TemplateField::Height),
+        b"number" => Some(TemplateField::Number),
         _ => None,
     }
 }

@@ -19,7 +19,7 @@ mod values;
 
 pub use crate::decimal::decimal_text;
 pub use crate::fault::TemplateFault;
-pub use crate::field::Field;
+pub use crate::field::TemplateField;
 pub use crate::piece::Piece;
 pub use crate::template::Template;
 pub use crate::values::{DimensionValue, Values};

@@ -3,7 +3,7 @@ ghost use Rattle.std.specs.List.{list_all, prefix_len};
 ghost use Rattle.std.specs.Prelude.{◌≡◌, ◌<◌, ◌≤◌, ◌∷◌, ◌++◌, length, IfOk, true, codes};
 ghost use Rattle.window_request.specs.Pieces.{is_plain, differs, NamesPiece, StepsTo};
 
-use crate::field::{Field, field_named};
+use crate::field::{TemplateField, field_named};
 use std::alloc::{AllocError, Global};
 
 /// A piece of a template.
@@ -12,14 +12,14 @@ pub enum Piece {
     /// Text that is sent as it is.
     Plain(Vec<u8>),
     /// `{name}`: the value of that name.
-    Field(Field),
+    Field(TemplateField),
     /// `{dim:NAME}`: the value of the dimension of that name.
     Dimension(Vec<u8>),
 }
 
 /// What stands at a place of a target.
 #[derive(Drop)]
-pub enum Step {
+pub enum TemplateStep {
     /// A piece of so many bytes.
     Piece(Piece, usize),
     /// A byte that isn't sent as it is.
@@ -90,32 +90,32 @@ fn named_piece(alloc: Global, name: &[u8]) -> Result<Option<Piece>, AllocError>
 }
 
 /// What stands where a brace opens, before this text.
-fn braced(alloc: Global, more: &[u8]) -> Result<Step, AllocError>
+fn braced(alloc: Global, more: &[u8]) -> Result<TemplateStep, AllocError>
     ensures { IfOk result (StepsTo (123 ∷ more.now)) }
 {
     let len = len_until(more, b'}');
     if len == more.len() {
-        return Ok(Step::OpenBrace);
+        return Ok(TemplateStep::OpenBrace);
     }
     match named_piece(alloc, &more[..len])? {
-        Some(piece) => Ok(Step::Piece(piece, len + 2)),
-        None => Ok(Step::UnknownName),
+        Some(piece) => Ok(TemplateStep::Piece(piece, len + 2)),
+        None => Ok(TemplateStep::UnknownName),
     }
 }
 
 /// The plain piece at the front, which has a byte.
-fn plain(alloc: Global, text: &[u8], len: usize) -> Result<Step, AllocError>
+fn plain(alloc: Global, text: &[u8], len: usize) -> Result<TemplateStep, AllocError>
     requires count { len ≡ prefix_len is_plain text.now }
     requires within { len ≤ length text.now }
     requires some { 0 < len }
     ensures { IfOk result (StepsTo text.now) }
 {
     let plain = Vec::from_slice(alloc, &text[..len])?;
-    Ok(Step::Piece(Piece::Plain(plain), len))
+    Ok(TemplateStep::Piece(Piece::Plain(plain), len))
 }
 
 /// What stands at the front of a target. `AllocError` where memory runs out.
-pub fn next_step(alloc: Global, text: &[u8]) -> Result<Step, AllocError>
+pub fn next_step(alloc: Global, text: &[u8]) -> Result<TemplateStep, AllocError>
     requires { 0 < length text.now }
     ensures { IfOk result (StepsTo text.now) }
 {
@@ -124,7 +124,7 @@ pub fn next_step(alloc: Global, text: &[u8]) -> Result<Step, AllocError>
     }
     let len = plain_len(text);
     if len == 0 {
-        return Ok(Step::Byte);
+        return Ok(TemplateStep::Byte);
     }
     plain(alloc, text, len)
 }

@@ -4,7 +4,7 @@ ghost use Rattle.window_request.specs.Templates.{is_http, Reads, ReadsTarget};
 
 use crate::address::address_of;
 use crate::fault::TemplateFault;
-use crate::piece::{Piece, Step, len_until, next_step};
+use crate::piece::{Piece, TemplateStep, len_until, next_step};
 use std::alloc::{AllocError, Global};
 
 /// The template of a renderer's URL: `http://HOST[:PORT]/PATH?QUERY`, with names in braces.
@@ -27,13 +27,13 @@ fn pieces_of(alloc: Global, text: &[u8], start: usize) -> Result<Vec<Piece>, Tem
     let mut at = start;
     'reading: while at < text.len() {
         match next_step(alloc, &text[at..])? {
-            Step::Piece(piece, len) => {
+            TemplateStep::Piece(piece, len) => {
                 pieces.push(piece)?;
                 at += len;
             }
-            Step::Byte => return Err(TemplateFault::Byte(at)),
-            Step::OpenBrace => return Err(TemplateFault::OpenBrace(at)),
-            Step::UnknownName => return Err(TemplateFault::UnknownName(at)),
+            TemplateStep::Byte => return Err(TemplateFault::Byte(at)),
+            TemplateStep::OpenBrace => return Err(TemplateFault::OpenBrace(at)),
+            TemplateStep::UnknownName => return Err(TemplateFault::UnknownName(at)),
         }
     }
     Ok(pieces)

@@ -2,7 +2,7 @@
 ghost use Rattle.std.specs.Prelude.{◌≡◌};
 ghost use Rattle.window_request.specs.Requests.{value_of, dimension_in};
 
-use crate::field::Field;
+use crate::field::TemplateField;
 
 /// The value that a dimension has.
 #[derive(Clone, Copy)]
@@ -29,21 +29,21 @@ pub struct Values<'a> {
 }
 
 /// The text that a name stands for.
-pub fn value_of<'a>(values: &Values<'a>, field: Field) -> &'a [u8]
+pub fn value_of<'a>(values: &Values<'a>, field: TemplateField) -> &'a [u8]
     ensures { result.now ≡ value_of values.now field }
 {
     match field {
-        Field::Layer => values.layer,
-        Field::Style => values.style,
-        Field::Grid => values.grid,
-        Field::Matrix => values.matrix,
-        Field::MinX => values.min_x,
-        Field::MinY => values.min_y,
-        Field::MaxX => values.max_x,
-        Field::MaxY => values.max_y,
-        Field::Width => values.width,
-        Field::Height => values.height,
-        Field::Number => values.number,
+        TemplateField::Layer => values.layer,
+        TemplateField::Style => values.style,
+        TemplateField::Grid => values.grid,
+        TemplateField::Matrix => values.matrix,
+        TemplateField::MinX => values.min_x,
+        TemplateField::MinY => values.min_y,
+        TemplateField::MaxX => values.max_x,
+        TemplateField::MaxY => values.max_y,
+        TemplateField::Width => values.width,
+        TemplateField::Height => values.height,
+        TemplateField::Number => values.number,
     }
 }
 

@@ -1,3 +1,4 @@
 pub mod Matching
 pub mod Pairs
 pub mod Paths
+pub mod SecondPaths

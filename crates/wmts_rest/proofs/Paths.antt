@@ -12,7 +12,7 @@ use Rattle.wmts_rest.specs.declared.route.Route.TheVariants as routes
 use Rattle.wmts_rest.specs.Paths.{after, before, front, inside, segments_of, segments_reading, capabilities_path, path_reading}
 use Rattle.wmts_rest.specs.Routes.{route_at, tile_or_none}
 
-not_utf8 : (path : List ℕ) → ¬ (IsUtf8 path) → is_utf8 path ≡ false
+pub not_utf8 : (path : List ℕ) → ¬ (IsUtf8 path) → is_utf8 path ≡ false
 not_utf8 path un = by (is_utf8 path) refl
   where
     by : (b : Bool) → is_utf8 path ≡ b → b ≡ false

@@ -95,3 +95,17 @@ path_reading c path =
     if not (is_utf8 path) then None
     else if bytes_eq path capabilities_path then Some Capabilities
     else option_and_then (segments_reading c) (segments_of path)
+
+-- THE SAME TILES AS PICTURES: each has a second path, `/png/<layer>/{Style}/{each dimension}/{TileMatrixSet}/{TileMatrix}/{TileRow}/{TileCol}.png`
+
+-- what stands between `/png/` and `.png`
+unfoldable pub inside_picture : List ℕ → Option (List ℕ)
+inside_picture path = option_and_then (before (codes ".png")) (after (codes "/png/") path)
+
+-- the segments after `/png/`, the last one without its `.png`
+abbrev pub picture_segments_of : List ℕ → Option (List (List ℕ))
+picture_segments_of path = option_map (slice_split (λ b. b == 47)) (inside_picture path)
+
+-- what such a path asks for, where it asks for anything: what its segments ask for between `/rest/wmts/` and `.ppm`
+unfoldable pub picture_reading : Catalogue → List ℕ → Option Query
+picture_reading c path = if not (is_utf8 path) then None else option_and_then (segments_reading c) (picture_segments_of path)

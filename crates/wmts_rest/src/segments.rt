@@ -1,7 +1,7 @@
 //! The segments of a tile's path, and their texts.
 ghost use Rattle.std.specs.List.{list_all, slice_split};
 ghost use Rattle.std.specs.Prelude.{◌≡◌, ◌==◌, nat_lt, IfOk, length, map, option_copied};
-ghost use Rattle.wmts_rest.specs.Paths.{after, before, inside, are_segments, text_of};
+ghost use Rattle.wmts_rest.specs.Paths.{after, before, inside, inside_picture, are_segments, text_of};
 
 use exact_ratio::Words;
 use percent_encoding::percent_decode;
@@ -27,6 +27,14 @@ pub fn inside(path: &[u8]) -> Option<&[u8]>
     before(b".ppm", after(b"/rest/wmts/", path)?)
 }
 
+/// What stands between `/png/` and `.png`, where a path begins and ends so.
+#[tactic(auto, unfolding(crate::specs::Paths::inside_picture))]
+pub fn inside_picture(path: &[u8]) -> Option<&[u8]>
+    ensures { option_copied result ≡ inside_picture path.now }
+{
+    before(b".png", after(b"/png/", path)?)
+}
+
 /// The parts of a text between its slashes. `AllocError` where memory runs out.
 pub fn segments_of(alloc: Global, text: &[u8]) -> Result<Vec<&[u8]>, AllocError>
     ensures { IfOk result (λ segments. map (λ s. s.now) segments.items ≡ slice_split (λ b. b == 47) text.now) }
@@ -45,7 +53,7 @@ fn are_filled(segments: &[&[u8]]) -> bool
     true
 }
 
-/// Whether these segments, of which the last one lost its `.ppm`, are those of a tile: 6 to 10, and none of them was empty.
+/// Whether these segments, of which the last one lost its ending, are those of a tile: 6 to 10, and none of them was empty.
 #[tactic(auto, unfolding(crate::specs::Paths::are_segments))]
 pub fn are_segments(segments: &[&[u8]]) -> bool
     ensures { result ≡ are_segments (map (λ s. s.now) segments.now) }

@@ -35,7 +35,7 @@ impl Model for RestTable {
 
 /// Reads segments. `AllocError` where memory runs out.
 #[tactic(auto, unfolding(crate::specs::Paths::segments_reading), using(crate::proofs::Pairs::six_texts))]
-fn read_segments(
+pub fn read_segments(
     alloc: Global,
     catalogue: &Catalogue,
     segments: &[&[u8]],

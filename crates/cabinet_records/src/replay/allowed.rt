@@ -10,7 +10,7 @@ ghost use Rattle.catalog.specs.Valid.{IsValid};
 
 use crate::replay::newer::is_newer;
 use crate::replay::places::place_of;
-use crate::replay::progress::Progress;
+use crate::replay::progress::ReplayProgress;
 use cabinet::{Kept, Store};
 use catalog::Catalogue;
 use metatile_plan::MetaKey;
@@ -52,7 +52,7 @@ fn is_below(floor: u64, store: &Store) -> bool
 }
 
 /// Whether an opening with this number and floor may follow.
-pub fn may_open(progress: &Progress, opening: u32, floor: u64) -> bool
+pub fn may_open(progress: &ReplayProgress, opening: u32, floor: u64) -> bool
     ensures { (result ≡ true) ↔ MayOpen (replayed_of progress.now) opening floor }
 {
     if !is_later(progress.opening, opening) {
@@ -66,7 +66,7 @@ pub fn may_open(progress: &Progress, opening: u32, floor: u64) -> bool
 
 /// Whether the metatile is of the catalogue, and kept under this number.
 pub fn is_kept_under(
-    progress: &Progress,
+    progress: &ReplayProgress,
     catalogue: &Catalogue,
     number: u64,
     meta: &MetaKey,
@@ -95,7 +95,7 @@ fn is_above(cuts: &CutList, number: u64) -> bool
 }
 
 /// Whether a cut with this number and cover may follow.
-pub fn may_cut(progress: &Progress, catalogue: &Catalogue, number: u64, cover: &Cover) -> bool
+pub fn may_cut(progress: &ReplayProgress, catalogue: &Catalogue, number: u64, cover: &Cover) -> bool
     requires { progress.now.cuts.book.floor ≡ 0 }
     ensures { (result ≡ true) ↔ MayCut catalogue.now (replayed_of progress.now) number cover.now }
 {
@@ -109,7 +109,7 @@ pub fn may_cut(progress: &Progress, catalogue: &Catalogue, number: u64, cover: &
 }
 
 /// Whether nothing else that is kept has the number that a metatile is to be kept under.
-fn is_own(progress: &Progress, number: u64, meta: &MetaKey) -> bool
+fn is_own(progress: &ReplayProgress, number: u64, meta: &MetaKey) -> bool
     requires { (next : ℕ) × AreTiedIn next progress.now }
     ensures { (result ≡ true) ↔ AllByRecursion (λ u. number ≢ u.number) (but meta.now (listed progress.now.store.blobs)) }
 {
@@ -123,7 +123,7 @@ fn is_own(progress: &Progress, number: u64, meta: &MetaKey) -> bool
 }
 
 /// Whether a metatile may be stored, but for its region.
-pub fn may_keep(progress: &Progress, catalogue: &Catalogue, kept: &Kept) -> bool
+pub fn may_keep(progress: &ReplayProgress, catalogue: &Catalogue, kept: &Kept) -> bool
     requires valid { IsValid catalogue.now }
     requires tied { (next : ℕ) × AreTiedIn next progress.now }
     ensures { (result ≡ true) ↔ MayKeep catalogue.now (replayed_of progress.now) kept.now }

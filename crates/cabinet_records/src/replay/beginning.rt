@@ -5,7 +5,7 @@ ghost use Rattle.cabinet_records.specs.Replay.{unplayed};
 ghost use Rattle.catalog.specs.Valid.{IsValid};
 
 use crate::replay::cuts::ReplayCuts;
-use crate::replay::progress::Progress;
+use crate::replay::progress::ReplayProgress;
 use cabinet::Store;
 use catalog::Catalogue;
 use extent_map::Extents;
@@ -13,7 +13,7 @@ use indexmap::IndexMap;
 use std::alloc::{AllocError, Global};
 
 /// Nothing was played yet. `AllocError` where memory runs out.
-pub fn begin(alloc: Global, catalogue: &Catalogue) -> Result<Progress, AllocError>
+pub fn begin(alloc: Global, catalogue: &Catalogue) -> Result<ReplayProgress, AllocError>
     requires { IsValid catalogue.now }
     ensures none { IfOk result (λ p. replayed_of p ≡ unplayed) }
     ensures played { IfOk result (λ p. IsPlayed catalogue.now 0 p) }
@@ -26,7 +26,7 @@ pub fn begin(alloc: Global, catalogue: &Catalogue) -> Result<Progress, AllocErro
         Err(fault) => return Err(fault),
         Ok(cuts) => cuts,
     };
-    Ok(Progress {
+    Ok(ReplayProgress {
         opening: None,
         floor: 0,
         store: Store::new(alloc),

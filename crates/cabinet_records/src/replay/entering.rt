@@ -1,10 +1,10 @@
 //! How a record of any kind changes what a replay holds.
-ghost use Rattle.cabinet_records.specs.Played.{IsPlayed, Steps};
+ghost use Rattle.cabinet_records.specs.Played.{IsPlayed, PlaysOrLacks};
 ghost use Rattle.catalog.specs.Valid.{IsValid};
 
 use crate::replay::cutting::cut;
-use crate::replay::keeping::{counted, dropped, opened, stored};
-use crate::replay::progress::Progress;
+use crate::replay::keeping::{play_counted, play_dropped, play_opened, play_stored};
+use crate::replay::progress::ReplayProgress;
 use cabinet::Kept;
 use catalog::Catalogue;
 use record_text::Record;
@@ -13,7 +13,7 @@ use std::alloc::{AllocError, Global};
 /// Plays a record, and tells whether a cache has it there. Where none has, what is held means nothing any more. `AllocError` where
 /// memory runs out; what is held then means what it did before.
 pub fn play(
-    progress: &mut Progress,
+    progress: &mut ReplayProgress,
     alloc: Global,
     catalogue: &Catalogue,
     entry: &Record,
@@ -21,10 +21,10 @@ pub fn play(
 ) -> Result<bool, AllocError>
     requires valid { IsValid catalogue.now }
     requires played { IsPlayed catalogue.now place progress.old }
-    ensures { Steps catalogue.now place progress.old entry.now result progress.new }
+    ensures { PlaysOrLacks catalogue.now place progress.old entry.now result progress.new }
 {
     match entry {
-        Record::Opened(opening, floor) => Ok(opened(progress, *opening, *floor)),
+        Record::Opened(opening, floor) => Ok(play_opened(progress, *opening, *floor)),
         Record::Stored(number, meta, at, length, moment, uses) => {
             let kept = Kept {
                 number: *number,
@@ -34,12 +34,12 @@ pub fn play(
                 moment: *moment,
                 uses: *uses,
             };
-            stored(progress, alloc, catalogue, kept, place)
+            play_stored(progress, alloc, catalogue, kept, place)
         }
-        Record::Dropped(number, meta) => Ok(dropped(progress, catalogue, *number, meta)),
+        Record::Dropped(number, meta) => Ok(play_dropped(progress, catalogue, *number, meta)),
         Record::Cut(number, cover) => cut(progress, alloc, catalogue, *number, cover),
         Record::Uses(number, meta, uses) => {
-            Ok(counted(progress, catalogue, *number, meta, *uses))
+            Ok(play_counted(progress, catalogue, *number, meta, *uses))
         }
     }
 }

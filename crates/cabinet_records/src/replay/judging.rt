@@ -6,7 +6,7 @@ ghost use Rattle.catalog.specs.Valid.{IsValid};
 ghost use Rattle.record_text.specs.declared.entries.Record.{Record as Entry};
 
 use crate::replay::entering::play;
-use crate::replay::progress::Progress;
+use crate::replay::progress::ReplayProgress;
 use catalog::Catalogue;
 use record_text::Record;
 use std::alloc::{AllocError, Global};
@@ -14,7 +14,7 @@ use std::alloc::{AllocError, Global};
 /// Plays one more record, which stands in the slot `count`, unless a record before it is one that no cache has. Answers the slot of
 /// the first record that no cache has. `AllocError` where memory runs out.
 pub fn judge(
-    progress: &mut Progress,
+    progress: &mut ReplayProgress,
     alloc: Global,
     catalogue: &Catalogue,
     entry: &Option<Record>,

@@ -2,7 +2,7 @@
 ghost use Rattle.std.specs.Prelude.{Contains, IfNone, IfSome, IsSome, OnOk, Some, find, ℕ, ◌<◌, ◌==◌, ◌≡◌, ◌≤◌, if◌then◌else◌};
 ghost use Rattle.cabinet.specs.Gaps.{region};
 ghost use Rattle.cabinet_records.specs.Placed.{place_in};
-ghost use Rattle.cabinet_records.specs.Played.{Claims, HasRoom, IsPlayed, LeavesAll, Plays, Steps, places_but};
+ghost use Rattle.cabinet_records.specs.Played.{ClaimsRegion, HasRoom, IsPlayed, LeavesAll, Plays, PlaysOrLacks, places_but};
 ghost use Rattle.catalog.specs.Valid.{IsValid};
 ghost use Rattle.catalog.specs.declared.catalogue.Catalogue.{Catalogue};
 ghost use Rattle.indexmap.specs.IndexMap.{spare};
@@ -10,7 +10,7 @@ ghost use Rattle.indexmap.specs.IndexMap.{spare};
 use crate::replay::allowed::{is_kept_under, may_keep, may_open};
 use crate::replay::newer::aim;
 use crate::replay::places::{Places, drop_place, put_place};
-use crate::replay::progress::Progress;
+use crate::replay::progress::ReplayProgress;
 use cabinet::{Kept, Text, give_back, law_of_extents};
 use catalog::Catalogue;
 use extent_map::Extents;
@@ -19,7 +19,7 @@ use record_text::Record;
 use std::alloc::{AllocError, Global};
 
 /// Makes room for one more to be kept. `AllocError` where memory runs out.
-fn make_room(progress: &mut Progress, alloc: Global) -> Result<(), AllocError>
+fn make_room(progress: &mut ReplayProgress, alloc: Global) -> Result<(), AllocError>
     ensures same { LeavesAll progress.old progress.new }
     ensures room { OnOk result (HasRoom progress.new) }
 {
@@ -45,7 +45,7 @@ fn claim(regions: &mut Extents, older: Option<Kept>, kept: &Kept) -> bool
     requires some { 1 ≤ kept.now.length }
     requires spare { 1 ≤ regions.old.spare }
     requires older { IfSome older (λ t. Contains regions.old.parts (region t)) }
-    ensures { Claims regions.old older (region kept.now) result regions.new }
+    ensures { ClaimsRegion regions.old older (region kept.now) result regions.new }
 {
     give_back(regions, older);
     regions.claim_at(kept.place, kept.length)
@@ -65,7 +65,7 @@ fn move_place(places: &mut Places, older: Option<Kept>, number: u64, place: u64)
 
 /// Plays a record that stores a metatile, with the cuts as they are.
 fn put(
-    progress: &mut Progress,
+    progress: &mut ReplayProgress,
     alloc: Global,
     catalogue: &Catalogue,
     kept: Kept,
@@ -73,7 +73,7 @@ fn put(
 ) -> Result<bool, AllocError>
     requires valid { IsValid catalogue.now }
     requires played { IsPlayed catalogue.now place progress.old }
-    ensures { Steps catalogue.now place progress.old (Record.Stored kept.number kept.meta kept.place kept.length kept.moment kept.uses) result progress.new }
+    ensures { PlaysOrLacks catalogue.now place progress.old (Record.Stored kept.number kept.meta kept.place kept.length kept.moment kept.uses) result progress.new }
 {
     if !may_keep(progress, catalogue, &kept) {
         return Ok(false);
@@ -92,8 +92,8 @@ fn put(
 }
 
 /// Plays a record that stores a metatile. The cuts are aimed first.
-pub fn stored(
-    progress: &mut Progress,
+pub fn play_stored(
+    progress: &mut ReplayProgress,
     alloc: Global,
     catalogue: &Catalogue,
     kept: Kept,
@@ -101,7 +101,7 @@ pub fn stored(
 ) -> Result<bool, AllocError>
     requires valid { IsValid catalogue.now }
     requires played { IsPlayed catalogue.now place progress.old }
-    ensures { Steps catalogue.now place progress.old (Record.Stored kept.number kept.meta kept.place kept.length kept.moment kept.uses) result progress.new }
+    ensures { PlaysOrLacks catalogue.now place progress.old (Record.Stored kept.number kept.meta kept.place kept.length kept.moment kept.uses) result progress.new }
 {
     aim(
         &mut progress.cuts,
@@ -114,7 +114,12 @@ pub fn stored(
 }
 
 /// Plays a record that drops a metatile.
-pub fn dropped(progress: &mut Progress, catalogue: &Catalogue, number: u64, meta: &MetaKey) -> bool
+pub fn play_dropped(
+    progress: &mut ReplayProgress,
+    catalogue: &Catalogue,
+    number: u64,
+    meta: &MetaKey,
+) -> bool
     requires valid { IsValid catalogue.now }
     requires played { (next : ℕ) × IsPlayed catalogue.now next progress.old }
     ensures { (next : ℕ) → IsPlayed catalogue.now next progress.old → Plays catalogue.now next progress.old (Record.Dropped number meta.now) result progress.new }
@@ -132,8 +137,8 @@ pub fn dropped(progress: &mut Progress, catalogue: &Catalogue, number: u64, meta
 }
 
 /// Plays a record of uses.
-pub fn counted(
-    progress: &mut Progress,
+pub fn play_counted(
+    progress: &mut ReplayProgress,
     catalogue: &Catalogue,
     number: u64,
     meta: &MetaKey,
@@ -150,7 +155,7 @@ pub fn counted(
 }
 
 /// Plays a record of an opening.
-pub fn opened(progress: &mut Progress, opening: u32, floor: u64) -> bool
+pub fn play_opened(progress: &mut ReplayProgress, opening: u32, floor: u64) -> bool
     ensures { (c : Catalogue) (next : ℕ) → IsPlayed c next progress.old → Plays c next progress.old (Record.Opened opening floor) result progress.new }
 {
     if !may_open(progress, opening, floor) {

@@ -8,7 +8,7 @@ ghost use Rattle.cabinet_records.specs.Replay.{book_after};
 ghost use Rattle.catalog.specs.declared.catalogue.Catalogue.{Catalogue};
 
 use crate::replay::places::{Places, place_of};
-use crate::replay::progress::Progress;
+use crate::replay::progress::ReplayProgress;
 use crate::restored::Restored;
 use cabinet::{Kept, Store};
 
@@ -56,7 +56,7 @@ fn in_order(store: &Store, places: &Places, out: Vec<Kept>) -> Vec<Kept>
 }
 
 /// What was played is restored to; `None` where more cuts are left than may be.
-pub fn finished(progress: Progress, limit: u32) -> Option<Restored>
+pub fn restore_within(progress: ReplayProgress, limit: u32) -> Option<Restored>
     requires { (c : Catalogue) × (next : ℕ) × IsPlayed c next progress }
     ensures opening { IfSome result (λ r. r.opening ≡ progress.opening) }
     ensures kept { IfSome result (λ r. r.kept.items ≡ listed progress.store.blobs) }
@@ -64,7 +64,7 @@ pub fn finished(progress: Progress, limit: u32) -> Option<Restored>
     ensures few { IfSome result (λ r. length (book_after (replayed_of progress)).cuts ≤ limit) }
     ensures many { IfNone result (limit < length (book_after (replayed_of progress)).cuts) }
 {
-    let Progress {
+    let ReplayProgress {
         opening,
         floor,
         store,

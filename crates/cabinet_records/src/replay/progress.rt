@@ -6,7 +6,7 @@ use extent_map::Extents;
 
 /// What is held while records are played.
 #[derive(Drop)]
-pub struct Progress {
+pub struct ReplayProgress {
     /// The number of the last opening.
     pub opening: Option<u32>,
     pub floor: u64,

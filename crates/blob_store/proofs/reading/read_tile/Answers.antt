@@ -10,4 +10,4 @@ returns-clause-part g c told blob held fits =
     let place : ℕ = c.args.place in
     let span = c.args.span.now in
     let here : c.from-start.result ≡ span.start = c.from-start.ensures in
-    on_ok_weaker c.read.result (λ is. is ∙ (λ k. bytes_at seen (place + here k) (c.requires.size k)) ∙ part_of_blob seen place span.start span.length blob held fits) (c.read.ensures.bytes told)
+    on_ok_weaker c.read_of.result (λ is. is ∙ (λ k. bytes_at seen (place + here k) (c.requires.size k)) ∙ part_of_blob seen place span.start span.length blob held fits) (c.read_of.ensures.bytes told)

@@ -1,5 +1,5 @@
 use Rattle.std.proofs.Common.{rules, subst}
-use Rattle.cabinet.specs.Commands.{Forces, IsBusy, IsGiven, IsSpent}
+use Rattle.cabinet.specs.Commands.{Forces, IsBusy, IsSpent, IsTicketGiven}
 use Rattle.cabinet.specs.declared.replies.Forced.{Forced}
 use Rattle.cabinet.specs.declared.replies.Forced.TheVariants as forced
 use Rattle.cabinet.specs.State.{asked_at}
@@ -13,7 +13,7 @@ returns-in-Ok-Ticket-clause-begins g c =
     let x = c.in-Ok-Ticket in
     let s = g.C.Keeper.state c.args.cabinet.now in let t = g.C.Keeper.state c.force.new.self in let b = g.C.Keeper.faults c.args.cabinet.now in let a = g.C.Keeper.faults c.force.new.self in
     let P : Forced → Type 0 = λ r. Forces s c.block_of-meta.result r t in
-    let Q : MetaKey → Type 0 = λ m. IsGiven (asked_at t.clock.moment s) m x.ticket t in
+    let Q : MetaKey → Type 0 = λ m. IsTicketGiven (asked_at t.clock.moment s) m x.ticket t in
     let row = subst P x.field-0-is x.ensures.forced in
     let at_block = subst Q (search rules) row in
     let fresh = c.laws_of_rows.ensures.forces_fresh s t c.args.address.now (forced.Ticket x.ticket) c.known.ensures c.requires at_block in

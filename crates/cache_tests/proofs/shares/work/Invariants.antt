@@ -1,5 +1,5 @@
 use Rattle.std.proofs.Common.{◌≡◌, ◌-◌, ◌≤◌, ℕ, Some, length}
-use Rattle.job_board.specs.declared.standing.End.TheVariants.{Open}
+use Rattle.job_board.specs.declared.standing.HandEnd.TheVariants.{Open}
 use Rattle.job_board.specs.Hands.{own}
 use Rattle.cache_tests.proofs.shares.work.Given as goal
 

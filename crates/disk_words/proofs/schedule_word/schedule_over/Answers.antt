@@ -8,7 +8,7 @@ use Rattle.disk_words.proofs.schedule_word.schedule_over.Goals as goal
 
 pub returns-in-Ok-clause-runs : goal.returns-in-Ok-clause-runs
 returns-in-Ok-clause-runs g c =
-    let same = c.closed.ensures.same in
+    let same = c.close_cache.ensures.same in
     let o = c.in-Ok.ensures in
     let work = c.run_and_save-end in
     let faults = g.D.Disk.faults in
@@ -20,7 +20,7 @@ returns-in-Ok-clause-runs g c =
     (schedule_tells _ _ _ _ _ _ _ _ _ work.result (
       first.state,
       last.state,
-      has_opened _ _ _ _ _ (faults c.args.disk.now) (faults first.file.disk.disk.now) (faults last.file.disk.disk.now) first.file.journal last.file.journal _ _ _ _ _ c.requires.valid o.opened outlasts.same_catalogue told o.later o.settled outlasts.settled (rw (sym same) c.closed.ensures.closed),
+      has_opened _ _ _ _ _ (faults c.args.disk.now) (faults first.file.disk.disk.now) (faults last.file.disk.disk.now) first.file.journal last.file.journal _ _ _ _ _ c.requires.valid o.opened outlasts.same_catalogue told o.later o.settled outlasts.settled (rw (sym same) c.close_cache.ensures.closed),
       runs_weaker _ _
           (leads_passes work.new.counter.cabinet c.args.disk.now (λ k. k.cabinet.file.disk.disk.now) (λ k. k.cabinet.state) (λ k. k.cabinet.file.journal) g.D.Disk.told g.D.Disk.faults g.D.Disk.state g.met.D.Disk.lawful
           _ _ _ (record { cabinet = first }) o.opened o.lasts o.told c.leaves_now.ensures)
@@ -30,7 +30,7 @@ returns-in-Ok-clause-runs g c =
 pub returns-in-Ok-clause-lasts : goal.returns-in-Ok-clause-lasts
 returns-in-Ok-clause-lasts g c =
     let o = c.in-Ok.ensures in
-    rw c.closed.ensures.same
+    rw c.close_cache.ensures.same
     (worked _ _ _ _ _ _ _ _ _ _ _ _ _ _ _ (λ told. g.met.D.Disk.lawful c.args.disk.now told) o.opened o.lasts o.told c.run_and_save-end.ensures.lasts.outlasts.outlasts)
 
 pub returns-in-Err-clause-runs : goal.returns-in-Err-clause-runs

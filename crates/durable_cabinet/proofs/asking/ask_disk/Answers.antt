@@ -1,6 +1,6 @@
 use Rattle.std.proofs.Common.{Bool, rules, subst, sym}
 use Rattle.durable_cabinet.specs.Hot.{IsHot}
-use Rattle.durable_cabinet.specs.Tiles.{IsPartOf}
+use Rattle.durable_cabinet.specs.Tiles.{IsTilePartOf}
 use Rattle.durable_cabinet.proofs.Forcing.{filed_alike}
 use Rattle.durable_cabinet.proofs.Heating.{hot_seen, hot_written, part_seen}
 use Rattle.durable_cabinet.proofs.Warming.{hot_itself}
@@ -40,6 +40,6 @@ returns-in-Ok-Some-clause-hot g c =
     let old = (g.D.Disk.state c.args.file.now.disk).seen in
     let new = (g.D.Disk.state n.disk).seen in
     let same = c.read_part.ensures.rests.same in
-    let read : IsPartOf told s.catalogue old c.args.address.now c.args.kept c.in-Ok-Some.bytes.items = search rules in
+    let read : IsTilePartOf told s.catalogue old c.args.address.now c.args.kept c.in-Ok-Some.bytes.items = search rules in
     let part = part_seen told s old new c.args.address.now c.args.kept c.in-Ok-Some.bytes.items same c.requires.kept read in
     subst (λ (b : Bool). IsHot b u new c.ask_warming.new.hot) (sym c.read_part.ensures.told) (c.ask_warming.ensures.hot told new part (hot_seen told s old new c.args.hot.now same c.requires.hot))

@@ -3,7 +3,7 @@ use Rattle.cabinet.specs.declared.replies.Forced.{Forced}
 use Rattle.cabinet.specs.State.{now}
 use Rattle.cabinet.specs.Steps.{AsksKept}
 use Rattle.durable_cabinet.specs.Hot.{IsHotTile, hot_tile}
-use Rattle.durable_cabinet.specs.Tiles.{IsPartOf}
+use Rattle.durable_cabinet.specs.Tiles.{IsTilePartOf}
 use Rattle.durable_cabinet.proofs.AskingTiles.{hit_on}
 use Rattle.durable_cabinet.proofs.Heating.{hit_hot, hot_put, hot_stays, part_hot, unhit_hot}
 use Rattle.durable_cabinet.proofs.asking.ask_warming.Goals as goal
@@ -15,7 +15,7 @@ returns-in-None-clause-asked c told seen before after part =
     let a = c.args.address.now in
     let row : AsksKept s a None u = subst (λ (o : Option Forced). AsksKept s a o u) c.in-None.is c.in-Ok-ask_kept.ensures.asks in
     let same : c.in-Ok.text ≡ c.args.bytes.items = search rules in
-    let shared = subst (IsPartOf told s.catalogue seen a c.args.kept) (sym same) part in
+    let shared = subst (IsTilePartOf told s.catalogue seen a c.args.kept) (sym same) part in
     hit_on s a told seen u u.clock.moment c.args.kept c.in-Ok.text c.requires.kept shared row.0 row.1
 
 pub returns-in-None-clause-hot : goal.returns-in-None-clause-hot

@@ -1,7 +1,7 @@
 use Rattle.std.proofs.Common.{ℕ, ◌≡◌, ◌∙◌, IsTrue, length, subst, sym, arith}
 use Rattle.cache_file.specs.File.{IsApart, Stays}
 use Rattle.cabinet.specs.State.{now}
-use Rattle.durable_cabinet.specs.Backing.{Enters, Leads, with_away}
+use Rattle.durable_cabinet.specs.Backing.{Enters, RecordLeads, with_away}
 use Rattle.durable_cabinet.specs.Filed.{IsFiled}
 use Rattle.durable_cabinet.proofs.Blobs.{AreSpared}
 use Rattle.durable_cabinet.proofs.Gapped.{roomy}
@@ -76,5 +76,5 @@ returns-in-Ok-put-clause-stores g c missed leads =
     (put_images told s c.known.ensures m.start m.journal d1 c.ready.ensures.filed settled (IsApart t.place bytes) free d2 stays reads) c.enter.result e.start e.journal d3
     (λ is. stands_at s t blob m.start d2 start_is c.requires.long (c.in-Ok-put.ensures.holds (subst IsTrue (sym c.ready.ensures.told) is)) (reads is))
     (subst (λ b. Enters c.enter.result b s missed (with_away s t) e.start e.journal d2 d3) told_then
-    (c.enter.ensures.enters missed (with_away s t) (subst (Leads s missed (with_away s t)) (sym c.stored.ensures.is) leads)
+    (c.enter.ensures.enters missed (with_away s t) (subst (RecordLeads s missed (with_away s t)) (sym c.record_of_keep.ensures.is) leads)
     (λ is. let was = subst IsTrue told_then is in away_held s t blob m.start d2 start_is c.requires.long (c.in-Ok-put.ensures.holds (subst IsTrue (sym c.ready.ensures.told) was)) (reads was) (filed.on was).holds)))

@@ -16,8 +16,8 @@ putting-preserved c =
     let within = slice_get_within xs at k c.cut_at-number.ensures in
     record {
       bodies = c.push_reserved.ensures.items ∙ ap (λ (l : List (List ℕ)). l ++ body ∷ []) c.putting.invariant.bodies
-          ∙ put_more cut_record spelling c.args.bodies.now.items xs at k body c.cut_at-number.ensures (c.encode.ensures ∙ ap spelling c.truncated-entry.ensures.is);
-      fits = fit_more cut_record Fits xs at k c.cut_at-number.ensures (subst Fits c.truncated-entry.ensures.is c.truncated-entry.ensures.fits) c.putting.invariant.fits;
+          ∙ put_more cut_record spelling c.args.bodies.now.items xs at k body c.cut_at-number.ensures (c.encode.ensures ∙ ap spelling c.record_of_cut-entry.ensures.is);
+      fits = fit_more cut_record Fits xs at k c.cut_at-number.ensures (subst Fits c.record_of_cut-entry.ensures.is c.record_of_cut-entry.ensures.fits) c.putting.invariant.fits;
       within = omega (arith, within);
       room = c.push_reserved.ensures.capacity ∙ c.putting.invariant.room;
     }

@@ -15,8 +15,8 @@ putting-preserved c =
     let within = slice_get_within xs at t c.get-kept.ensures in
     record {
       bodies = c.push_reserved.ensures.items ∙ ap (λ (l : List (List ℕ)). l ++ body ∷ []) c.putting.invariant.bodies
-          ∙ put_more stored_record spelling c.args.bodies.now.items xs at t body c.get-kept.ensures (c.encode.ensures ∙ ap spelling c.stored-entry.ensures.is);
-      fits = fit_more stored_record Fits xs at t c.get-kept.ensures (subst Fits c.stored-entry.ensures.is c.stored-entry.ensures.fits) c.putting.invariant.fits;
+          ∙ put_more stored_record spelling c.args.bodies.now.items xs at t body c.get-kept.ensures (c.encode.ensures ∙ ap spelling c.record_of_keep-entry.ensures.is);
+      fits = fit_more stored_record Fits xs at t c.get-kept.ensures (subst Fits c.record_of_keep-entry.ensures.is c.record_of_keep-entry.ensures.fits) c.putting.invariant.fits;
       within = omega (arith, within);
       room = c.push_reserved.ensures.capacity ∙ c.putting.invariant.room;
     }

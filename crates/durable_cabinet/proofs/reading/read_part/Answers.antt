@@ -2,7 +2,7 @@ use Rattle.std.proofs.Common.{◌≡◌, ◌+◌, ◌≤◌, ◌++◌, IsTrue, L
 use Rattle.std.proofs.Math.Seq.{take-append_seam}
 use Rattle.catalog.specs.declared.catalogue.Catalogue.{Catalogue}
 use Rattle.durable_cabinet.specs.Filed.{IsFiled}
-use Rattle.durable_cabinet.specs.Tiles.{IsPartOf}
+use Rattle.durable_cabinet.specs.Tiles.{IsTilePartOf}
 use Rattle.durable_cabinet.proofs.ReadingTiles.{read_filed, read_part_of, read_rests, region_of}
 use Rattle.raster_field.specs.Blocks.{blob_size, block_of, part_of, tile_part}
 use Rattle.durable_cabinet.proofs.reading.read_part.Goals as goal
@@ -61,5 +61,5 @@ returns-in-Ok-read-clause-part g c =
     let rest = drop (length into) c.in-Ok.bytes.items in
     let meets : length into ≡ c.in-Ok.bytes.len = search rules in
     let all : take c.in-Ok.bytes.len (into ++ rest) ≡ into = subst (λ (n : ℕ). take n (into ++ rest) ≡ into) meets (take-append_seam into rest) in
-    subst (IsPartOf (g.D.Disk.told f.disk) s.catalogue (g.D.Disk.state f.disk).seen a c.args.kept) (sym all)
+    subst (IsTilePartOf (g.D.Disk.told f.disk) s.catalogue (g.D.Disk.state f.disk).seen a c.args.kept) (sym all)
     (read_part_of s c.known.ensures a c.args.kept c.requires.kept span part inside (g.D.Disk.told f.disk) f.start (g.D.Disk.state f.disk) into c.requires.filed.start_is (λ is. (c.requires.filed.on is).holds) long c.in-Ok-read.ensures.part)

@@ -17,4 +17,4 @@ pub returns-in-Ok-clause-serves : goal.returns-in-Ok-clause-serves
 returns-in-Ok-clause-serves g c =
     let same = asked_of_jobs _ c.of-parts.result _ c.of-parts.ensures.method c.of-parts.ensures.target c.of-parts.ensures.body in
     read_so _ _ _ _ _ _ _ c.in-Ok.request _ (sym c.in-Ok-None.field-0-is ∙ c.in-Ok-None.ensures.value ∙ same)
-    (c.in-Ok.ensures.value ∙ rw (c.of-parts.ensures.method, c.of-parts.ensures.target, c.of-parts.ensures.body) refl) c.served.ensures.serves
+    (c.in-Ok.ensures.value ∙ rw (c.of-parts.ensures.method, c.of-parts.ensures.target, c.of-parts.ensures.body) refl) c.serve_request.ensures.serves

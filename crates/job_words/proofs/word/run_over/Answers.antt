@@ -15,7 +15,7 @@ run_and_save-tally-requires-clause-rest g c = subst IsAtRest (sym c.in-Ok.ensure
 
 pub returns-in-Ok-clause-runs : goal.returns-in-Ok-clause-runs
 returns-in-Ok-clause-runs g c =
-    let same = c.closed-disk.ensures.same in
+    let same = c.close_cache-disk.ensures.same in
     let o = c.in-Ok.ensures in
     let work = c.run_and_save-tally in
     let faults = g.D.Disk.faults in
@@ -26,11 +26,11 @@ returns-in-Ok-clause-runs g c =
     let runs = work.ensures.runs (faults c.args.disk.now) o.later in
     rw same
     (job_tells _ _ c.args.job.now _ _ _ first.state last.state runs.0
-    (has_opened _ _ _ _ _ (faults c.args.disk.now) (faults first.file.disk.disk.now) (faults last.file.disk.disk.now) first.file.journal last.file.journal _ _ _ _ _ c.requires.valid o.opened outlasts.same_catalogue told o.later o.settled outlasts.settled (rw (sym same) c.closed-disk.ensures.closed))
+    (has_opened _ _ _ _ _ (faults c.args.disk.now) (faults first.file.disk.disk.now) (faults last.file.disk.disk.now) first.file.journal last.file.journal _ _ _ _ _ c.requires.valid o.opened outlasts.same_catalogue told o.later o.settled outlasts.settled (rw (sym same) c.close_cache-disk.ensures.closed))
     runs.2 work.result runs.1 c.told_tally.result c.told_tally.ensures)
 
 pub returns-in-Ok-clause-lasts : goal.returns-in-Ok-clause-lasts
 returns-in-Ok-clause-lasts g c =
     let o = c.in-Ok.ensures in
-    rw c.closed-disk.ensures.same
+    rw c.close_cache-disk.ensures.same
     (worked _ _ _ _ _ _ _ _ _ _ _ _ _ _ _ (λ told. g.met.D.Disk.lawful c.args.disk.now told) o.opened o.lasts o.told c.run_and_save-tally.ensures.lasts.outlasts)

@@ -1,5 +1,5 @@
 use Rattle.std.proofs.Common.{arith, ap, subst, sym, List, length}
-use Rattle.job_board.specs.Hands.{AreFresh, Holding}
+use Rattle.job_board.specs.Hands.{AreFresh, SheetHolding}
 use Rattle.seed_jobs.specs.Members.{tallies_of, workers_of}
 use Rattle.seed_jobs.specs.Idles.{all_idle}
 use Rattle.seed_jobs.proofs.Counting.{counts}
@@ -9,23 +9,23 @@ use Rattle.seed_jobs.proofs.crews.run_by_crew.Goals as goal
 
 pub crew_works-watch-requires-clause-size : goal.crew_works-watch-requires-clause-size
 crew_works-watch-requires-clause-size g c =
-    let hands = ap (λ (hs : List Holding). length hs) c.assemble.ensures.hands in
+    let hands = ap (λ (hs : List SheetHolding). length hs) c.assemble.ensures.hands in
     let same = as_many_hands g.S.Source.told g.S.Source.faults c.assemble.new.crew.items in
     let few = c.requires.few in
     omega (arith, hands, same, few)
 
 pub crew_works-watch-requires-clause-fresh : goal.crew_works-watch-requires-clause-fresh
-crew_works-watch-requires-clause-fresh g c κs within = subst (λ (hs : List Holding). AreFresh c.args.sheet.now hs) (sym c.assemble.ensures.hands) c.requires.fresh
+crew_works-watch-requires-clause-fresh g c κs within = subst (λ (hs : List SheetHolding). AreFresh c.args.sheet.now hs) (sym c.assemble.ensures.hands) c.requires.fresh
 
 pub crew_works-watch-requires-clause-crew : goal.crew_works-watch-requires-clause-crew
 crew_works-watch-requires-clause-crew g c κs within =
     let workers = workers_of g.S.Source.told g.S.Source.faults c.assemble.new.crew.items in
-    may_work c.args.hall.now.turnstile.table c.args.hall.now.catalogue c.args.sheet.now workers (subst (λ (hs : List Holding). AreFresh c.args.sheet.now hs) (sym c.assemble.ensures.hands) c.requires.fresh)
+    may_work c.args.hall.now.turnstile.table c.args.hall.now.catalogue c.args.sheet.now workers (subst (λ (hs : List SheetHolding). AreFresh c.args.sheet.now hs) (sym c.assemble.ensures.hands) c.requires.fresh)
     (may_join_of c.args.hall.now.turnstile.table c.args.hall.now.catalogue _ (all_idle g.S.Source.told g.S.Source.faults c.assemble.new.idle.items) workers c.assemble.ensures.members c.requires.idle)
 
 pub crew_works-watch-requires-clause-some : goal.crew_works-watch-requires-clause-some
 crew_works-watch-requires-clause-some g c =
-    let hands = ap (λ (hs : List Holding). length hs) c.assemble.ensures.hands in
+    let hands = ap (λ (hs : List SheetHolding). length hs) c.assemble.ensures.hands in
     let same = as_many_hands g.S.Source.told g.S.Source.faults c.assemble.new.crew.items in
     let some = c.requires.some in
     omega (arith, hands, same, some)

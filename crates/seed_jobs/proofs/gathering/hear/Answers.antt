@@ -1,5 +1,5 @@
 use Rattle.std.proofs.Common.{arith, subst, sym, ap, ◌∙◌}
-use Rattle.job_board.specs.Hands.{Holding, watching}
+use Rattle.job_board.specs.Hands.{SheetHolding, watching}
 use Rattle.seed_jobs.specs.Crews.{hands_of}
 use Rattle.seed_jobs.specs.Gathered.{HasHeard}
 use Rattle.seed_jobs.specs.Members.{workers_of}
@@ -16,11 +16,11 @@ hearing-preserved g c =
 
 pub returns-clause-heard : goal.returns-clause-heard
 returns-clause-heard g c =
-    subst (λ (h : Holding). HasHeard c.args.hand.now h (hands_of (workers_of g.S.Source.told g.S.Source.faults c.args.members.now))) (sym c.watch_from.ensures.same)
+    subst (λ (h : SheetHolding). HasHeard c.args.hand.now h (hands_of (workers_of g.S.Source.told g.S.Source.faults c.args.members.now))) (sym c.watch_from.ensures.same)
     (hears_all g.S.Source.told g.S.Source.faults c.args.hand.now c.hearing.hand c.args.members.now c.hearing.members c.hearing.i c.hearing.invariant (omega (arith, c.hearing-test.false)))
 
 pub watch_from-requires : goal.watch_from-requires
-watch_from-requires g c = record { own = ap (λ (h : Holding). h.sheet) c.hearing.invariant.is ∙ c.requires.own }
+watch_from-requires g c = record { own = ap (λ (h : SheetHolding). h.sheet) c.hearing.invariant.is ∙ c.requires.own }
 
 pub returns-clause-watch : goal.returns-clause-watch
-returns-clause-watch g c = c.watch_from.ensures.watch ∙ ap (λ (h : Holding). watching c.args.sheet.now h.seen) (sym c.watch_from.ensures.same)
+returns-clause-watch g c = c.watch_from.ensures.watch ∙ ap (λ (h : SheetHolding). watching c.args.sheet.now h.seen) (sym c.watch_from.ensures.same)

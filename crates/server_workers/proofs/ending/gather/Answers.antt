@@ -1,7 +1,7 @@
 use Rattle.std.proofs.Common.{rules, arith, ◌≡◌, ◌∙◌, [], ◌∷◌, length, length-append, ap, refl}
 use Rattle.std.proofs.lemmas.List.Elements.{All-nil}
 use Rattle.link_queue.specs.Hands.{hand, table_of}
-use Rattle.server_workers.specs.Crew.{HasWorked, IsReady}
+use Rattle.server_workers.specs.Crew.{HasHeldSessions, IsWorkerReady}
 use Rattle.server_workers.proofs.Crews.{one_longer, popped, pushed}
 use Rattle.server_workers.proofs.Gathering.{gather_begins, gather_goes_on, gather_ends, ready_with}
 use Rattle.server_workers.proofs.Hearing.{ready_heard}
@@ -24,7 +24,7 @@ gathering-preserved g c =
     let i = c.gathering.invariant in
     let last = c.gathering.last in
     let other = c.in-Some.other in
-    let r = popped (λ w. IsReady (table_of c.args.queue.now.links) c.args.world.now.hall.turnstile.table c.args.world.now.board.turnstile.table c.args.world.now.hall.catalogue (g.S.Source.told w.source) w.pass w.board w.hand)
+    let r = popped (λ w. IsWorkerReady (table_of c.args.queue.now.links) c.args.world.now.hall.turnstile.table c.args.world.now.board.turnstile.table c.args.world.now.hall.catalogue (g.S.Source.told w.source) w.pass w.board w.hand)
     c.gathering.others.items c.pop.new.self.items other c.in-Some.ensures.items i.others in
     record {
       last = ready_with _ _ _ _ _ _ _ last.hand other.hand c.take_over.new.mine i.last c.take_over.ensures;
@@ -34,7 +34,7 @@ gathering-preserved g c =
       room = c.push_reserved.ensures.capacity ∙ i.room;
       gathered = λ s began others.
           let had = i.gathered s began others in
-          let w = popped (λ w. HasWorked s (hand 1 [] []) w.pass w.board (g.S.Source.faults w.source) w.hand) c.gathering.others.items c.pop.new.self.items other c.in-Some.ensures.items had.0 in
+          let w = popped (λ w. HasHeldSessions s (hand 1 [] []) w.pass w.board (g.S.Source.faults w.source) w.hand) c.gathering.others.items c.pop.new.self.items other c.in-Some.ensures.items had.0 in
           (w.0, rw c.push_reserved.ensures.items (gather_goes_on s _ _ _ last.pass other.pass _ _ _ _ last.hand other.hand c.take_over.new.mine c.gathering.passes.items c.args.runner.now c.gathering.runner c.hear.new.self left had.1 w.1 c.hear.ensures.heard c.take_over.ensures.knows));
       runner = ready_heard _ _ _ c.gathering.runner c.hear.new.self _ i.runner c.hear.ensures.heard;
     }

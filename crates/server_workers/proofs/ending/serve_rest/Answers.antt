@@ -1,7 +1,7 @@
 use Rattle.std.proofs.Common.{arith, ap, []}
 use Rattle.crossbeam_queue.specs.Passes.{view}
 use Rattle.link_queue.specs.Hands.{hand}
-use Rattle.server_workers.specs.Crew.{HasWorked}
+use Rattle.server_workers.specs.Crew.{HasHeldSessions}
 use Rattle.server_workers.specs.Stints.{Service, serving}
 use Rattle.server_workers.proofs.Crews.{one_longer, popped}
 use Rattle.server_workers.proofs.Gathering.{all_served, gathers_put}
@@ -12,7 +12,7 @@ pub returns-clause-served : goal.returns-clause-served
 returns-clause-served g c = λ first all.
     let s : Service g.row.L.Denot = serving g.L.ByteSource.left g.L.ByteSink.taken g.L.ByteSource.faults g.L.ByteSink.faults c.args.world.now.capabilities c.args.world.now.hall.catalogue c.args.world.now.board.turnstile.table first in
     let mine = view c.args.mine in
-    let w = popped (λ w. HasWorked s (hand 1 [] []) w.pass w.board (g.S.Source.faults w.source) w.hand) c.args.workers.items c.pop.new.self.items c.in-Some.last c.in-Some.ensures.items all in
+    let w = popped (λ w. HasHeldSessions s (hand 1 [] []) w.pass w.board (g.S.Source.faults w.source) w.hand) c.args.workers.items c.pop.new.self.items c.in-Some.last c.in-Some.ensures.items all in
     let gathered = c.gather.ensures.gathered s w.1 w.0 in
     let over = gathers_put s _ mine.parts mine.put _ _ _ c.gather.new.last.hand c.args.mine c.take_over.new.mine _ _ _ gathered (ap (hand mine.parts mine.put) c.requires.none) c.take_over.ensures.knows in
     let worked = c.work.ensures.worked first _ over in

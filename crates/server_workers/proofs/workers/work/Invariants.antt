@@ -1,7 +1,7 @@
 use Rattle.cache_hall.specs.Turned.{HallPass}
 use Rattle.link_queue.specs.Hands.{table_of}
 use Rattle.link_queue.specs.declared.hand.QueueHand.{QueueHand}
-use Rattle.server_workers.specs.Crew.{HasWorked, IsReady}
+use Rattle.server_workers.specs.Crew.{HasHeldSessions, IsWorkerReady}
 use Rattle.server_workers.specs.Stints.{Service, serving}
 use Rattle.server_workers.proofs.workers.work.Given as goal
 
@@ -9,7 +9,7 @@ abbrev pub invariant-working : goal.invariant-working
 invariant-working g l =
     let service : HallPass → Service g.row.L.Denot = serving g.L.ByteSource.left g.L.ByteSink.taken g.L.ByteSource.faults g.L.ByteSink.faults l.world.capabilities l.world.hall.catalogue l.world.board.turnstile.table in
     record {
-      ready : IsReady (table_of l.queue.links) l.world.hall.turnstile.table l.world.board.turnstile.table l.world.hall.catalogue (g.S.Source.told l.worker.source) l.worker.pass l.worker.board l.worker.hand;
-      worked : (first : HallPass) (before : QueueHand g.row.L.Denot) → HasWorked (service first) before l.initial.worker.pass l.initial.worker.board (g.S.Source.faults l.initial.worker.source) l.initial.worker.hand
-          → HasWorked (service first) before l.worker.pass l.worker.board (g.S.Source.faults l.worker.source) l.worker.hand;
+      ready : IsWorkerReady (table_of l.queue.links) l.world.hall.turnstile.table l.world.board.turnstile.table l.world.hall.catalogue (g.S.Source.told l.worker.source) l.worker.pass l.worker.board l.worker.hand;
+      worked : (first : HallPass) (before : QueueHand g.row.L.Denot) → HasHeldSessions (service first) before l.initial.worker.pass l.initial.worker.board (g.S.Source.faults l.initial.worker.source) l.initial.worker.hand
+          → HasHeldSessions (service first) before l.worker.pass l.worker.board (g.S.Source.faults l.worker.source) l.worker.hand;
     }

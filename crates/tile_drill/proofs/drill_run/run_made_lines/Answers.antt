@@ -1,7 +1,7 @@
 use Rattle.std.proofs.Common.{◌≡◌, ◌∙◌, length, ap, subst, sym, refl, arith}
 use Rattle.std.proofs.lemmas.List.{length-replicate}
 use Rattle.catalog.specs.Valid.{IsValid}
-use Rattle.tile_service.specs.declared.seats.Seat.TheVariants as seat
+use Rattle.tile_service.specs.declared.seats.ActorPlace.TheVariants as seat
 use Rattle.tile_service.specs.declared.seats.TheConstants.{ACTORS}
 use Rattle.tile_drill.specs.Drill.{line_count}
 use Rattle.tile_drill.proofs.Making.{drilled_start, drilled_next, drilled_accepted, drilled_short, drilled_done}

@@ -12,4 +12,4 @@ returns-in-Some-Nothing-clause-performs g c =
 pub returns-in-Some-Sends-clause-performs : goal.returns-in-Some-Sends-clause-performs
 returns-in-Some-Sends-clause-performs g c =
     let e = sym c.action_in.ensures ∙ ap (option_map shown_action) (c.in-Some-Sends.is ∙ ap Some c.in-Some-Sends.field-0-is) in
-    rw e c.sent.ensures.performs
+    rw e c.send_message.ensures.performs

@@ -1,5 +1,5 @@
 use Rattle.std.proofs.Common.{◌≡◌, replicate}
-use Rattle.tile_service.specs.declared.seats.Seat.TheVariants.{Free}
+use Rattle.tile_service.specs.declared.seats.ActorPlace.TheVariants.{Free}
 use Rattle.tile_service.proofs.seats.free_seats.Given as goal
 
 abbrev pub invariant-loop : goal.invariant-loop

@@ -11,4 +11,4 @@ returns-clause-serves g c =
     let s = g.C.Keeper.state c.args.counter.now.cabinet in
     let m = c.args.message.now in
     let asks : c.in-Ok.request ≡ request_for s.catalogue m = c.in-Ok.ensures.value ∙ rw (c.catalogue-catalogue.ensures, c.of-parts.ensures.method, c.of-parts.ensures.target, c.of-parts.ensures.body) refl in
-    answered_serves _ _ c.args.counter.now.capabilities s m c.requires.rest _ _ c.in-Ok.request _ _ asks c.answered.ensures.answers
+    answered_serves _ _ c.args.counter.now.capabilities s m c.requires.rest _ _ c.in-Ok.request _ _ asks c.answer_request.ensures.answers

@@ -4,7 +4,7 @@ use Rattle.gate_journal.specs.Sound.{IsSettled}
 use Rattle.outbox.specs.Files.{MayOpenTo}
 use Rattle.twin_events.specs.Twins.{standing}
 use Rattle.twin_lines.specs.Ends.{passage}
-use Rattle.twin_lines.specs.Steps.{Moment, faults, moment}
+use Rattle.twin_lines.specs.Steps.{TwinMoment, faults, moment}
 use Rattle.twin_words.proofs.Joining.{same_count, same_leaves, unread_by}
 use Rattle.twin_words.proofs.Stretching.{closed_part}
 use Rattle.twin_words.specs.Opens.{IsLeftFor}
@@ -34,7 +34,7 @@ returns-in-Err-clause-runs g c =
     let d' = c.end_run.result.disks.cache.now in
     let m' = c.end_run.result.disks.marks.now in
     let o' = c.end_run.result.disks.outbox.now in
-    let s : Moment = moment (standing twin.outbox.out twin.feed.stand twin.cabinet.state twin.sent.items) (faults (g.S.Source.faults c.args.source.now) (o_failed o) (m_failed m) (failed d)) in
+    let s : TwinMoment = moment (standing twin.outbox.out twin.feed.stand twin.cabinet.state twin.sent.items) (faults (g.S.Source.faults c.args.source.now) (o_failed o) (m_failed m) (failed d)) in
     inr (
       record {
         works = record {

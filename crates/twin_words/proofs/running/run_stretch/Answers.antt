@@ -5,7 +5,7 @@ use Rattle.gate_journal.specs.Sound.{IsSettled}
 use Rattle.command_status.specs.declared.status.Status.TheVariants as status
 use Rattle.twin_events.specs.Twins.{standing}
 use Rattle.twin_lines.specs.declared.lines.Halt.TheVariants as halt
-use Rattle.twin_lines.specs.Steps.{Moment, faults, moment}
+use Rattle.twin_lines.specs.Steps.{TwinMoment, faults, moment}
 use Rattle.twin_words.proofs.Going.{weight_counts, weight_then}
 use Rattle.twin_words.proofs.Stretching.{run_ended, run_to_stop, stop_cut, stop_on, stop_refused}
 use Rattle.twin_words.specs.Works.{weight}
@@ -153,8 +153,8 @@ returns-in-Err-clause-ended g c =
     let source_then = g.S.Source.faults c.run_lines.new.source in
     let run = rw c.requires.digest at c.in-Stop.ensures.runs in
     let ends = run.ends in
-    let before : Moment = moment s (faults source_failed (o_failed o) (m_failed m) (failed d)) in
-    let after : Moment = moment t (faults source_then (o_failed o1) (m_failed m1) (failed d1)) in
+    let before : TwinMoment = moment s (faults source_failed (o_failed o) (m_failed m) (failed d)) in
+    let after : TwinMoment = moment t (faults source_then (o_failed o1) (m_failed m1) (failed d1)) in
     let source = g.S.Source.told c.args.source.now in
     let part = run_to_stop old.outbox.catalogue source (told d) (told d1) (m_told m) (o_told o) old.cabinet.file.journal new.cabinet.file.journal (state d) (state d1) (m_state m) (m_state m1) (o_state o) (o_state o1) (failed d) (failed d1) _ c.args.line c.args.text.now before after (halt.Stop c.in-Stop.side c.in-Stop.number c.in-Stop.rest) run r.lasts c.requires.ready.same refl refl ends.7 ends.0 ends.3 in
     let e = c.in-Err.ensures in
@@ -193,8 +193,8 @@ returns-then-told_stopped-clause-on g c =
     let source_then = g.S.Source.faults c.run_lines.new.source in
     let run = rw c.requires.digest at c.in-Stop.ensures.runs in
     let ends = run.ends in
-    let before : Moment = moment s (faults source_failed (o_failed o) (m_failed m) (failed d)) in
-    let after : Moment = moment t (faults source_then (o_failed o1) (m_failed m1) (failed d1)) in
+    let before : TwinMoment = moment s (faults source_failed (o_failed o) (m_failed m) (failed d)) in
+    let after : TwinMoment = moment t (faults source_then (o_failed o1) (m_failed m1) (failed d1)) in
     let source = g.S.Source.told c.args.source.now in
     let part = run_to_stop old.outbox.catalogue source (told d) (told d1) (m_told m) (o_told o) old.cabinet.file.journal new.cabinet.file.journal (state d) (state d1) (m_state m) (m_state m1) (o_state o) (o_state o1) (failed d) (failed d1) _ c.args.line c.args.text.now before after (halt.Stop c.in-Stop.side c.in-Stop.number c.in-Stop.rest) run r.lasts c.requires.ready.same refl refl ends.7 ends.0 ends.3 in
     let restarts = c.in-Ok.ensures in
@@ -203,7 +203,7 @@ returns-then-told_stopped-clause-on g c =
     let m2 = again.feed.file.disk.disk.now in
     let o2 = again.outbox.file.disk.disk.now in
     let u = standing again.outbox.out again.feed.stand again.cabinet.state again.sent.items in
-    let last : Moment = moment u (faults source_then (o_failed o2) (m_failed m2) (failed d2)) in
+    let last : TwinMoment = moment u (faults source_then (o_failed o2) (m_failed m2) (failed d2)) in
     let opened = rw (r.catalogue, r.lasts.outlasts.same_told, r.marks_told, r.posts_told) at (restarts.restarts source source_then) in
     stop_on old.outbox.catalogue source (told d) (m_told m) (o_told o) (state d) (state d1) (state d2) (m_state m) (m_state m1) (m_state m2) (o_state o) (o_state o1) (o_state o2) (failed d) (failed d1) (failed d2) (m_failed m) (m_failed m1) (m_failed m2) (o_failed o) (o_failed o1) (o_failed o2) source_then source_then
     (IsSettled old.cabinet.file.journal) (IsSettled new.cabinet.file.journal) (g.O.ByteSink.taken c.args.output.now) (g.O.ByteSink.taken c.run_lines.new.output) (g.O.ByteSink.faults c.args.output.now) (g.O.ByteSink.faults c.run_lines.new.output) c.args.line c.args.text.now before after ends.0 run.steps c.in-Stop.number ends.1 c.in-Stop.rest.now c.in-Stop.side part ends.2 ends.4 ends.5 ends.6 refl
@@ -236,8 +236,8 @@ returns-else-told_stopped-clause-ended g c =
     let source_then = g.S.Source.faults c.run_lines.new.source in
     let run = rw c.requires.digest at c.in-Stop.ensures.runs in
     let ends = run.ends in
-    let before : Moment = moment s (faults source_failed (o_failed o) (m_failed m) (failed d)) in
-    let after : Moment = moment t (faults source_then (o_failed o1) (m_failed m1) (failed d1)) in
+    let before : TwinMoment = moment s (faults source_failed (o_failed o) (m_failed m) (failed d)) in
+    let after : TwinMoment = moment t (faults source_then (o_failed o1) (m_failed m1) (failed d1)) in
     let source = g.S.Source.told c.args.source.now in
     let part = run_to_stop old.outbox.catalogue source (told d) (told d1) (m_told m) (o_told o) old.cabinet.file.journal new.cabinet.file.journal (state d) (state d1) (m_state m) (m_state m1) (o_state o) (o_state o1) (failed d) (failed d1) _ c.args.line c.args.text.now before after (halt.Stop c.in-Stop.side c.in-Stop.number c.in-Stop.rest) run r.lasts c.requires.ready.same refl refl ends.7 ends.0 ends.3 in
     let restarts = c.in-Ok.ensures in
@@ -246,7 +246,7 @@ returns-else-told_stopped-clause-ended g c =
     let m2 = again.feed.file.disk.disk.now in
     let o2 = again.outbox.file.disk.disk.now in
     let u = standing again.outbox.out again.feed.stand again.cabinet.state again.sent.items in
-    let last : Moment = moment u (faults source_then (o_failed o2) (m_failed m2) (failed d2)) in
+    let last : TwinMoment = moment u (faults source_then (o_failed o2) (m_failed m2) (failed d2)) in
     let opened = rw (r.catalogue, r.lasts.outlasts.same_told, r.marks_told, r.posts_told) at (restarts.restarts source source_then) in
     let e = c.end_run-else-told_stopped.ensures in
     let cut = c.if-told_stopped.ensures.told c.in-Stop.side in

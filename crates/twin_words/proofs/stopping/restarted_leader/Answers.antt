@@ -60,7 +60,7 @@ returns-in-Err-clause-closed g c = λ failed.
     let outbox = twin.outbox.file.disk.disk.now in
     let then_disk = e.refusal.1.now in
     let s = standing twin.outbox.out twin.feed.stand twin.cabinet.state twin.sent.items in
-    rw (c.closed.ensures.same, c.closed_marks.ensures.same)
+    rw (c.close_cache.ensures.same, c.closed_marks.ensures.same)
     (leader_closed twin.outbox.catalogue (told cache) (m_told marks) (o_told outbox) (state cache) (m_state marks) (o_state outbox) (o_state then_disk) (faults cache) (m_faults marks) (o_faults outbox) (o_faults then_disk) failed s s e.refusal.0 twin.cabinet.file.journal (digest_of twin.feed.file.journal)
-    (λ is. g.met.D.Disk.lawful cache is) (λ is. g.met.M.Disk.lawful marks is) (λ is. g.met.N.Disk.lawful outbox is) c.requires.ready.same c.requires.digest (rw c.closed.ensures.same at c.closed.ensures.closed) (rw c.closed_marks.ensures.same at c.closed_marks.ensures.left) (rw same at c.closed_outbox-disk.ensures.left)
+    (λ is. g.met.D.Disk.lawful cache is) (λ is. g.met.M.Disk.lawful marks is) (λ is. g.met.N.Disk.lawful outbox is) c.requires.ready.same c.requires.digest (rw c.close_cache.ensures.same at c.close_cache.ensures.closed) (rw c.closed_marks.ensures.same at c.closed_marks.ensures.left) (rw same at c.closed_outbox-disk.ensures.left)
     (refuses_outbox twin.outbox.catalogue c.catalogue.result.now (change_of o_told o_state o_faults outbox then_disk) e.refusal.0 asked (rw same at e.ensures.refused) (rw same at e.ensures.refused_quiet)))

@@ -1,5 +1,5 @@
 use Rattle.std.proofs.Common.{rules, ℕ, ◌≡◌, ◌++◌, ◌∷◌, [], ap, ◌∙◌}
-use Rattle.cabinet.specs.declared.entry.Entry.TheVariants as entry
+use Rattle.cabinet.specs.declared.entry.HistoryEntry.TheVariants as entry
 use Rattle.metatile_locks.specs.Running.{without}
 use Rattle.cabinet.specs.Consistent.{Parts}
 use Rattle.cabinet.proofs.Consistent.{after_ended}

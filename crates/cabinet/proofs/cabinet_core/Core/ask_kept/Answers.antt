@@ -3,7 +3,7 @@ use Rattle.std.specs.Prelude.{IfSome, IsSome}
 use Rattle.catalog.specs.declared.catalogue.Catalogue.{Catalogue}
 use Rattle.metatile_plan.specs.declared.metatile.MetaKey.{MetaKey}
 use Rattle.raster_field.specs.Blocks.{IsMeta, block_of}
-use Rattle.cabinet.specs.declared.entry.Entry.TheVariants as entry
+use Rattle.cabinet.specs.declared.entry.HistoryEntry.TheVariants as entry
 use Rattle.cabinet.specs.declared.kept.KeptBlob.{KeptBlob}
 use Rattle.cabinet.specs.declared.turns.Turn.{Turn}
 use Rattle.cabinet.specs.Commands.{IsForcedOf, IsUnkept, answering}
@@ -81,8 +81,8 @@ returns-then-is_within-clause-asks c =
     (λ j. record { catalogue = touched.catalogue j; opening = opening_of i.start; history = whole (opening_of i.start) entries; since = entries; blobs = Some (touched.blobs j); clock = c.now-self-inside.new.self }) in
     (subst (λ (s : State). IsSome (answering s a)) then some, subst (λ (s : State). new ≡ with_entry s (entry.Used (block_of s.catalogue a))) then row)
 
-pub taken-forced-requires : goal.taken-forced-requires
-taken-forced-requires c =
+pub take_turn-forced-requires : goal.take_turn-forced-requires
+take_turn-forced-requires c =
     let i = c.self.inside in
     let p : Parts = record { opening = opening_of i.start; shelf = i.shelf; last = i.last; moment = i.moment; clock = i.clock; renders = i.locks.renders; book = i.cuts.book } in
     let h = i.past.entries in
@@ -121,9 +121,9 @@ invariant_of-self-2 c =
     let k = after_asked p h c.self.invariant n g q c.and-self-inside.ensures l e c.turn_where.ensures.no_less in
     let from = c.next-next.ensures ∙ sym (ap (λ (v : State). next v.opening (now v)) state_is) ∙ ap (next (opening_of i.start)) c.self.invariant.stands in
     let turns = subst (λ (o : Option Turn). IfSome o (IsTurn m c.next-next.result locks c.turn_where.new.shelf)) c.in-Some-turn.is c.in_ok-turn.ensures.turn in
-    let new : Progress = record { renders = c.taken-forced.new.locks.renders; last = c.taken-forced.new.last; past = c.taken-forced.new.past.entries } in
+    let new : Progress = record { renders = c.take_turn-forced.new.locks.renders; last = c.take_turn-forced.new.last; past = c.take_turn-forced.new.past.entries } in
     let meta = subst (λ (x : Catalogue). IsMeta x m) (c.catalogue.ensures.catalogue ∙ sym l.catalogue) c.block_of-meta.ensures.is_meta in
-    after_taken q g k m c.next-next.result locks refl from c.in-Some-turn.turn c.taken-forced.result new _ meta turns c.taken-forced.ensures refl
+    after_taken q g k m c.next-next.result locks refl from c.in-Some-turn.turn c.take_turn-forced.result new _ meta turns c.take_turn-forced.ensures refl
 
 pub returns-clause-asks : goal.returns-clause-asks
 returns-clause-asks c =
@@ -149,10 +149,10 @@ returns-clause-asks c =
     let its = subst (λ (o : MetaKey). find (is_of o) (listed q.shelf.blobs) ≡ Some t) is there in
     let limit = c.limit_for-limit.ensures ∙ ap (λ (x : Catalogue). limit_for x a) (c.catalogue-2.ensures.catalogue ∙ sym l.catalogue) in
     let then = asked_is p h c.self.invariant n g q c.and-self-inside.ensures l e c.now-self-inside.ensures ∙ ap (asked_at q.clock.moment) state_is in
-    let new : Progress = record { renders = c.taken-forced.new.locks.renders; last = c.taken-forced.new.last; past = c.taken-forced.new.past.entries } in
+    let new : Progress = record { renders = c.take_turn-forced.new.locks.renders; last = c.take_turn-forced.new.last; past = c.take_turn-forced.new.past.entries } in
     let left : State = record { catalogue = c.turn_where.new.shelf.catalogue; opening = opening_of i.start; history = whole (opening_of i.start) new.past; since = new.past; blobs = Some c.turn_where.new.shelf.blobs; clock = c.now-self-inside.new.self } in
-    let row = taken_row q g k m c.next-next.result locks refl from c.in-Some-turn.turn c.taken-forced.result new left turns c.taken-forced.ensures refl in
+    let row = taken_row q g k m c.next-next.result locks refl from c.in-Some-turn.turn c.take_turn-forced.result new left turns c.take_turn-forced.ensures refl in
     let unkept = older_unkept q g k a t c.limit_for-limit.result its limit (sym c.is_within.ensures ∙ c.if-is_within.false) in (
       subst (λ (s : State). IsUnkept s a) then unkept,
-      subst (λ (s : State). IsForcedOf s (block_of s.catalogue a) c.taken-forced.result left) then (subst (λ (o : MetaKey). IsForcedOf (seen q g) o c.taken-forced.result left) is row),
+      subst (λ (s : State). IsForcedOf s (block_of s.catalogue a) c.take_turn-forced.result left) then (subst (λ (o : MetaKey). IsForcedOf (seen q g) o c.take_turn-forced.result left) is row),
     )

@@ -2,7 +2,7 @@ use Rattle.std.proofs.Common.{ℕ, ◌≡◌, ◌++◌, ◌∷◌, [], Some, ap,
 use Rattle.truncation_list.specs.Purge.{added}
 use Rattle.metatile_locks.specs.Running.{overtaken}
 use Rattle.served_covers.specs.OfCatalogue.{IsCoverOf}
-use Rattle.cabinet.specs.declared.entry.Entry.TheVariants as entry
+use Rattle.cabinet.specs.declared.entry.HistoryEntry.TheVariants as entry
 use Rattle.cabinet.specs.declared.judged.Admitted.TheVariants as admitted
 use Rattle.cabinet.specs.Consistent.{Parts}
 use Rattle.cabinet.specs.History.{next}

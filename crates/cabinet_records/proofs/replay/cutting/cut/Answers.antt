@@ -4,7 +4,7 @@ use Rattle.std.proofs.lemmas.List.Elements.{All-from_recursion}
 use Rattle.record_text.specs.declared.entries.Record.TheVariants as record_of
 use Rattle.truncation_list.specs.declared.book.Book.{Book}
 use Rattle.truncation_list.specs.declared.book.Cut.{Cut}
-use Rattle.cabinet_records.specs.declared.replay.progress.Progress.{Progress}
+use Rattle.cabinet_records.specs.declared.replay.progress.ReplayProgress.{ReplayProgress}
 use Rattle.cabinet_records.specs.Placed.{place_in}
 use Rattle.cabinet_records.specs.Played.{replayed_of}
 use Rattle.cabinet_records.specs.Replay.{MayCut, replayed}
@@ -19,7 +19,7 @@ enter-requires-clause-above c =
     All-from_recursion (λ (k : Cut). k.number < c.args.number) c.reserve.new.self.book.cuts (subst (λ (b : Book). AllByRecursion (λ k. k.number < c.args.number) b.cuts) (sym c.reserve.ensures.book) may.above)
 
 -- what is held at the end
-abbrev later : goal.After-enter → Progress
+abbrev later : goal.After-enter → ReplayProgress
 later c =
     let p = c.args.progress.now in
     record { opening = p.opening; floor = p.floor; store = c.spare.new.store; regions = c.spare.new.regions; places = c.spare.new.places; cuts = c.enter.new.self; out = p.out }

@@ -1,6 +1,6 @@
 use Rattle.std.proofs.Common.{◌≡◌, ◌+◌, true, sym, ap, subst, ◌∙◌, arith}
 use Rattle.record_text.specs.declared.entries.Record.TheVariants as record_of
-use Rattle.cabinet_records.specs.declared.replay.progress.Progress.{Progress}
+use Rattle.cabinet_records.specs.declared.replay.progress.ReplayProgress.{ReplayProgress}
 use Rattle.cabinet.specs.History.{but}
 use Rattle.cabinet_records.specs.Placed.{AreTied, place_in}
 use Rattle.cabinet_records.specs.Played.{MayKeep, places_but, replayed_of}
@@ -12,7 +12,7 @@ use Rattle.cabinet_records.proofs.Tied.{pushed_tied}
 use Rattle.cabinet_records.proofs.replay.keeping.put.Goals as goal
 
 -- what is held at the end
-abbrev later : goal.After-move_place → Progress
+abbrev later : goal.After-move_place → ReplayProgress
 later c =
     let p = c.make_room.new.progress in
     record { opening = p.opening; floor = p.floor; store = c.put.new.self; regions = c.claim.new.regions; places = c.move_place.new.places; cuts = p.cuts; out = p.out }

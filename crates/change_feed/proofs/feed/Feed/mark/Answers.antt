@@ -10,7 +10,7 @@ pub returns-in-Ok-clause-done : goal.returns-in-Ok-clause-done
 returns-in-Ok-clause-done g c told =
     let i = c.self.inside in
     let f = i.file in
-    let n = c.recorded.new.file in
+    let n = c.write_mark.new.file in
     let m = c.self.invariant in
     let is = subst (λ v. IsTrue (g.D.Disk.told v.file.disk)) (sym c.self.view_is) told in
     let on = m.on_disk is in

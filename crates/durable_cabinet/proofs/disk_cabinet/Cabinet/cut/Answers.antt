@@ -1,12 +1,12 @@
 use Rattle.std.proofs.Common.{rules, ℕ, ◌≡◌, ◌+◌, ◌≤◌, IsTrue, subst, sym, arith}
 use Rattle.served_covers.specs.OfCatalogue.{IsCoverOf}
-use Rattle.cabinet.specs.declared.entry.Entry.TheVariants as entry
+use Rattle.cabinet.specs.declared.entry.HistoryEntry.TheVariants as entry
 use Rattle.cabinet.specs.declared.judged.Admitted.TheVariants as admitted
 use Rattle.cabinet.specs.declared.replies.CutReply.TheVariants as reply
 use Rattle.cabinet.specs.Commands.{Cuts}
 use Rattle.cabinet.specs.State.{IsKnown, State, with_cut, with_entry}
 use Rattle.cabinet.specs.Steps.{Admits}
-use Rattle.durable_cabinet.specs.Backing.{Leads}
+use Rattle.durable_cabinet.specs.Backing.{RecordLeads}
 use Rattle.durable_cabinet.specs.Drafts.{HasRoom, needed}
 use Rattle.durable_cabinet.specs.Filed.{IsFiled, on_disk}
 use Rattle.durable_cabinet.specs.Hot.{IsHot}
@@ -31,7 +31,7 @@ invariant_of-self-in-Err-write g c =
     let of_core : IsCoverOf i.core.state.catalogue cover = subst (λ v. IsCoverOf v.state.catalogue cover) (sym c.self.view_is) c.requires in
     let of_all : IsCoverOf s.catalogue cover = subst (λ (x : State). IsCoverOf x.catalogue cover) (sym same) of_core in
     let admits : Admits s cover (admitted.Number number) = subst (λ (x : State). Admits x cover (admitted.Number number)) (sym same) (search rules) in
-    let leads = subst (Leads s (with_entry s (entry.Missed number)) (with_cut s number cover)) (sym c.truncated-entry.ensures.is) (cut_leads s known cover of_all number admits) in
+    let leads = subst (RecordLeads s (with_entry s (entry.Missed number)) (with_cut s number cover)) (sym c.record_of_cut-entry.ensures.is) (cut_leads s known cover of_all number admits) in
     let regions = cut_regions s known cover of_all number admits in
     let enough : needed s + 1 ≤ c.reserve_one_more.new.draft.room = subst (λ (x : State). needed x + 1 ≤ c.reserve_one_more.new.draft.room) (sym same) c.in-Ok.ensures.room in
     let w = c.in-Err-write.ensures.writes (with_entry s (entry.Missed number)) (with_cut s number cover) leads regions in
@@ -59,7 +59,7 @@ invariant_of-self-in-Ok-write g c =
     let of_core : IsCoverOf i.core.state.catalogue cover = subst (λ v. IsCoverOf v.state.catalogue cover) (sym c.self.view_is) c.requires in
     let of_all : IsCoverOf s.catalogue cover = subst (λ (x : State). IsCoverOf x.catalogue cover) (sym same) of_core in
     let admits : Admits s cover (admitted.Number number) = subst (λ (x : State). Admits x cover (admitted.Number number)) (sym same) (search rules) in
-    let leads = subst (Leads s (with_entry s (entry.Missed number)) (with_cut s number cover)) (sym c.truncated-entry.ensures.is) (cut_leads s known cover of_all number admits) in
+    let leads = subst (RecordLeads s (with_entry s (entry.Missed number)) (with_cut s number cover)) (sym c.record_of_cut-entry.ensures.is) (cut_leads s known cover of_all number admits) in
     let regions = cut_regions s known cover of_all number admits in
     let enough : needed s + 1 ≤ c.reserve_one_more.new.draft.room = subst (λ (x : State). needed x + 1 ≤ c.reserve_one_more.new.draft.room) (sym same) c.in-Ok.ensures.room in
     let w = c.in-Ok-write.ensures.writes (with_entry s (entry.Missed number)) (with_cut s number cover) leads regions in
@@ -86,7 +86,7 @@ returns-in-Err-write-clause-cuts g c =
     let of_core : IsCoverOf i.core.state.catalogue cover = subst (λ v. IsCoverOf v.state.catalogue cover) (sym c.self.view_is) c.requires in
     let of_all : IsCoverOf s.catalogue cover = subst (λ (x : State). IsCoverOf x.catalogue cover) (sym same) of_core in
     let admits : Admits s cover (admitted.Number number) = subst (λ (x : State). Admits x cover (admitted.Number number)) (sym same) (search rules) in
-    let leads = subst (Leads s (with_entry s (entry.Missed number)) (with_cut s number cover)) (sym c.truncated-entry.ensures.is) (cut_leads s known cover of_all number admits) in
+    let leads = subst (RecordLeads s (with_entry s (entry.Missed number)) (with_cut s number cover)) (sym c.record_of_cut-entry.ensures.is) (cut_leads s known cover of_all number admits) in
     let regions = cut_regions s known cover of_all number admits in
     let enough : needed s + 1 ≤ c.reserve_one_more.new.draft.room = subst (λ (x : State). needed x + 1 ≤ c.reserve_one_more.new.draft.room) (sym same) c.in-Ok.ensures.room in
     let w = c.in-Err-write.ensures.writes (with_entry s (entry.Missed number)) (with_cut s number cover) leads regions in
@@ -113,7 +113,7 @@ returns-in-Err-write-clause-images g c =
     let of_core : IsCoverOf i.core.state.catalogue cover = subst (λ v. IsCoverOf v.state.catalogue cover) (sym c.self.view_is) c.requires in
     let of_all : IsCoverOf s.catalogue cover = subst (λ (x : State). IsCoverOf x.catalogue cover) (sym same) of_core in
     let admits : Admits s cover (admitted.Number number) = subst (λ (x : State). Admits x cover (admitted.Number number)) (sym same) (search rules) in
-    let leads = subst (Leads s (with_entry s (entry.Missed number)) (with_cut s number cover)) (sym c.truncated-entry.ensures.is) (cut_leads s known cover of_all number admits) in
+    let leads = subst (RecordLeads s (with_entry s (entry.Missed number)) (with_cut s number cover)) (sym c.record_of_cut-entry.ensures.is) (cut_leads s known cover of_all number admits) in
     let regions = cut_regions s known cover of_all number admits in
     let enough : needed s + 1 ≤ c.reserve_one_more.new.draft.room = subst (λ (x : State). needed x + 1 ≤ c.reserve_one_more.new.draft.room) (sym same) c.in-Ok.ensures.room in
     let w = c.write.ensures.writes (with_entry s (entry.Missed number)) (with_cut s number cover) leads regions in
@@ -137,7 +137,7 @@ returns-in-Ok-write-clause-images g c =
     let of_core : IsCoverOf i.core.state.catalogue cover = subst (λ v. IsCoverOf v.state.catalogue cover) (sym c.self.view_is) c.requires in
     let of_all : IsCoverOf s.catalogue cover = subst (λ (x : State). IsCoverOf x.catalogue cover) (sym same) of_core in
     let admits : Admits s cover (admitted.Number number) = subst (λ (x : State). Admits x cover (admitted.Number number)) (sym same) (search rules) in
-    let leads = subst (Leads s (with_entry s (entry.Missed number)) (with_cut s number cover)) (sym c.truncated-entry.ensures.is) (cut_leads s known cover of_all number admits) in
+    let leads = subst (RecordLeads s (with_entry s (entry.Missed number)) (with_cut s number cover)) (sym c.record_of_cut-entry.ensures.is) (cut_leads s known cover of_all number admits) in
     let regions = cut_regions s known cover of_all number admits in
     let enough : needed s + 1 ≤ c.reserve_one_more.new.draft.room = subst (λ (x : State). needed x + 1 ≤ c.reserve_one_more.new.draft.room) (sym same) c.in-Ok.ensures.room in
     let w = c.write.ensures.writes (with_entry s (entry.Missed number)) (with_cut s number cover) leads regions in
@@ -161,7 +161,7 @@ returns-in-Ok-write-clause-cuts g c =
     let of_core : IsCoverOf i.core.state.catalogue cover = subst (λ v. IsCoverOf v.state.catalogue cover) (sym c.self.view_is) c.requires in
     let of_all : IsCoverOf s.catalogue cover = subst (λ (x : State). IsCoverOf x.catalogue cover) (sym same) of_core in
     let admits : Admits s cover (admitted.Number number) = subst (λ (x : State). Admits x cover (admitted.Number number)) (sym same) (search rules) in
-    let leads = subst (Leads s (with_entry s (entry.Missed number)) (with_cut s number cover)) (sym c.truncated-entry.ensures.is) (cut_leads s known cover of_all number admits) in
+    let leads = subst (RecordLeads s (with_entry s (entry.Missed number)) (with_cut s number cover)) (sym c.record_of_cut-entry.ensures.is) (cut_leads s known cover of_all number admits) in
     let regions = cut_regions s known cover of_all number admits in
     let enough : needed s + 1 ≤ c.reserve_one_more.new.draft.room = subst (λ (x : State). needed x + 1 ≤ c.reserve_one_more.new.draft.room) (sym same) c.in-Ok.ensures.room in
     let w = c.in-Ok-write.ensures.writes (with_entry s (entry.Missed number)) (with_cut s number cover) leads regions in

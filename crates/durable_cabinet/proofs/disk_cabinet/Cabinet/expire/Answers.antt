@@ -3,7 +3,7 @@ use Rattle.cabinet.specs.declared.replies.Expired.TheVariants as expired
 use Rattle.cabinet.specs.Commands.{Expires}
 use Rattle.cabinet.specs.State.{State, with_dropped}
 use Rattle.metatile_plan.specs.declared.metatile.MetaKey.{MetaKey}
-use Rattle.durable_cabinet.specs.Backing.{Leads}
+use Rattle.durable_cabinet.specs.Backing.{RecordLeads}
 use Rattle.durable_cabinet.specs.Drafts.{HasRoom}
 use Rattle.durable_cabinet.specs.Filed.{IsFiled, on_disk}
 use Rattle.durable_cabinet.specs.Hot.{IsHot}
@@ -21,7 +21,7 @@ invariant_of-self g c =
     let s = i.core.state in
     let t = c.in-Some.kept in
     let n = c.write.new.file in
-    let leads = subst (Leads s s (with_dropped s t.meta)) (sym c.dropped-entry.ensures.is) (drop_leads s c.known.ensures t c.in-Some.ensures) in
+    let leads = subst (RecordLeads s s (with_dropped s t.meta)) (sym c.record_of_drop-entry.ensures.is) (drop_leads s c.known.ensures t c.in-Some.ensures) in
     let w = c.in-Err.ensures.writes s (with_dropped s t.meta) leads (drop_regions s c.known.ensures t c.in-Some.ensures) in (
       subst (λ b. IsFiled s b n.start n.journal (g.D.Disk.state n.disk)) (sym c.write.ensures.told) w.written.err,
       omega (arith, c.self.invariant.1, c.write.ensures.room),
@@ -34,7 +34,7 @@ invariant_of-self-in-Ok g c =
     let s = i.core.state in
     let t = c.in-Some.kept in
     let n = c.write.new.file in
-    let leads = subst (Leads s s (with_dropped s t.meta)) (sym c.dropped-entry.ensures.is) (drop_leads s c.known.ensures t c.in-Some.ensures) in
+    let leads = subst (RecordLeads s s (with_dropped s t.meta)) (sym c.record_of_drop-entry.ensures.is) (drop_leads s c.known.ensures t c.in-Some.ensures) in
     let w = c.in-Ok.ensures.writes s (with_dropped s t.meta) leads (drop_regions s c.known.ensures t c.in-Some.ensures) in
     subst (λ (x : State). IsFiled x (g.D.Disk.told n.disk) n.start n.journal (g.D.Disk.state n.disk) × HasRoom x c.write.new.draft × IsHot (g.D.Disk.told n.disk) x (g.D.Disk.state n.disk).seen i.hot) (sym c.drop_kept.ensures) (
       subst (λ b. IsFiled (with_dropped s t.meta) b n.start n.journal (g.D.Disk.state n.disk)) (sym c.write.ensures.told) w.written.ok,
@@ -51,7 +51,7 @@ returns-in-Err-clause-expires g c =
     let n = c.write.new.file in
     let old = g.D.Disk.state f.disk in
     let new = g.D.Disk.state n.disk in
-    let leads = subst (Leads s s (with_dropped s t.meta)) (sym c.dropped-entry.ensures.is) (drop_leads s c.known.ensures t c.in-Some.ensures) in
+    let leads = subst (RecordLeads s s (with_dropped s t.meta)) (sym c.record_of_drop-entry.ensures.is) (drop_leads s c.known.ensures t c.in-Some.ensures) in
     let w = c.in-Err.ensures.writes s (with_dropped s t.meta) leads (drop_regions s c.known.ensures t c.in-Some.ensures) in
     subst (λ v. Expires v.state (expired.DiskFault c.fault_count-before.result c.fault_count.result) (on_disk (g.D.Disk.told n.disk) new.seen s)) c.self.view_is
     (subst (λ b. Expires (on_disk (g.D.Disk.told f.disk) old.seen s) (expired.DiskFault c.fault_count-before.result c.fault_count.result) (on_disk b new.seen s)) (sym c.write.ensures.told)
@@ -64,7 +64,7 @@ returns-in-Err-clause-images g c =
     let t = c.in-Some.kept in
     let f = i.file in
     let n = c.write.new.file in
-    let leads = subst (Leads s s (with_dropped s t.meta)) (sym c.dropped-entry.ensures.is) (drop_leads s c.known.ensures t c.in-Some.ensures) in
+    let leads = subst (RecordLeads s s (with_dropped s t.meta)) (sym c.record_of_drop-entry.ensures.is) (drop_leads s c.known.ensures t c.in-Some.ensures) in
     let w = c.write.ensures.writes s (with_dropped s t.meta) leads (drop_regions s c.known.ensures t c.in-Some.ensures) in
     subst (λ v. IsTrue (g.D.Disk.told v.file.disk) → Lasts v.state (λ u. (m : MetaKey) × Expires v.state (expired.Dropped m) u) v.file.journal (g.D.Disk.state v.file.disk) (g.D.Disk.state n.disk)) c.self.view_is
     (drop_images (g.D.Disk.told f.disk) s t c.in-Some.ensures (g.D.Disk.state f.disk) (g.D.Disk.state n.disk) c.write.result n.start f.journal n.journal w)
@@ -78,7 +78,7 @@ returns-in-Ok-clause-expires g c =
     let n = c.write.new.file in
     let old = g.D.Disk.state f.disk in
     let new = g.D.Disk.state n.disk in
-    let leads = subst (Leads s s (with_dropped s t.meta)) (sym c.dropped-entry.ensures.is) (drop_leads s c.known.ensures t c.in-Some.ensures) in
+    let leads = subst (RecordLeads s s (with_dropped s t.meta)) (sym c.record_of_drop-entry.ensures.is) (drop_leads s c.known.ensures t c.in-Some.ensures) in
     let w = c.in-Ok.ensures.writes s (with_dropped s t.meta) leads (drop_regions s c.known.ensures t c.in-Some.ensures) in
     subst (λ v. Expires v.state (expired.Dropped t.meta) (on_disk (g.D.Disk.told n.disk) new.seen c.drop_kept.new.self.state)) c.self.view_is
     (subst (λ (x : State). Expires (on_disk (g.D.Disk.told f.disk) old.seen s) (expired.Dropped t.meta) (on_disk (g.D.Disk.told n.disk) new.seen x)) (sym c.drop_kept.ensures)
@@ -92,7 +92,7 @@ returns-in-Ok-clause-images g c =
     let t = c.in-Some.kept in
     let f = i.file in
     let n = c.write.new.file in
-    let leads = subst (Leads s s (with_dropped s t.meta)) (sym c.dropped-entry.ensures.is) (drop_leads s c.known.ensures t c.in-Some.ensures) in
+    let leads = subst (RecordLeads s s (with_dropped s t.meta)) (sym c.record_of_drop-entry.ensures.is) (drop_leads s c.known.ensures t c.in-Some.ensures) in
     let w = c.write.ensures.writes s (with_dropped s t.meta) leads (drop_regions s c.known.ensures t c.in-Some.ensures) in
     subst (λ v. IsTrue (g.D.Disk.told v.file.disk) → Lasts v.state (λ u. (m : MetaKey) × Expires v.state (expired.Dropped m) u) v.file.journal (g.D.Disk.state v.file.disk) (g.D.Disk.state n.disk)) c.self.view_is
     (drop_images (g.D.Disk.told f.disk) s t c.in-Some.ensures (g.D.Disk.state f.disk) (g.D.Disk.state n.disk) c.write.result n.start f.journal n.journal w)

@@ -3,7 +3,7 @@ use Rattle.cabinet.specs.declared.replies.Finished.TheVariants as finished
 use Rattle.cabinet.specs.Commands.{Finishes}
 use Rattle.cabinet.specs.State.{State, with_blob}
 use Rattle.raster_field.specs.Blocks.{blob_size}
-use Rattle.durable_cabinet.specs.Backing.{Stores, with_away}
+use Rattle.durable_cabinet.specs.Backing.{StoresBlob, with_away}
 use Rattle.durable_cabinet.specs.Drafts.{HasRoom}
 use Rattle.durable_cabinet.specs.Filed.{IsFiled, on_disk}
 use Rattle.durable_cabinet.specs.Hot.{IsHot}
@@ -97,7 +97,7 @@ returns-in-Err-clause-images g c =
     let blob : List ℕ = c.args.blob in
     let long : length blob ≡ blob_size s.catalogue t.meta = subst (λ v. length blob ≡ blob_size v.state.catalogue t.meta) (sym c.self.view_is) c.requires.blob in
     let leads = finish_leads s c.known.ensures t x c.in-Fits.ensures in
-    let w = subst (λ (b : List ℕ). Stores c.keep.result told s (unkept s c.known.ensures t x c.in-Fits.ensures) x b n.start f.journal n.journal old new) (search rules) (c.keep.ensures.stores (unkept s c.known.ensures t x c.in-Fits.ensures) leads) in
+    let w = subst (λ (b : List ℕ). StoresBlob c.keep.result told s (unkept s c.known.ensures t x c.in-Fits.ensures) x b n.start f.journal n.journal old new) (search rules) (c.keep.ensures.stores (unkept s c.known.ensures t x c.in-Fits.ensures) leads) in
     subst (λ v. IsTrue (g.D.Disk.told v.file.disk) → Lasts v.state (λ u. Finishes v.state t blob finished.Kept u) v.file.journal (g.D.Disk.state v.file.disk) new) c.self.view_is
     (finish_images s c.known.ensures t x c.in-Fits.ensures told blob old new c.keep.result n.start f.journal n.journal long w)
 
@@ -138,7 +138,7 @@ returns-clause-finished g c =
     let long : length blob ≡ blob_size s.catalogue t.meta = subst (λ v. length blob ≡ blob_size v.state.catalogue t.meta) (sym c.self.view_is) c.requires.blob in
     let leads = finish_leads s c.known.ensures t x c.in-Fits.ensures in
     let same : c.bytes.result.now ≡ blob = search rules in
-    let w = subst (λ (b : List ℕ). Stores (Ok c.in-Ok.field-0) told s (unkept s c.known.ensures t x c.in-Fits.ensures) x b n.start f.journal n.journal old new) same (c.in-Ok.ensures.stores (unkept s c.known.ensures t x c.in-Fits.ensures) leads) in
+    let w = subst (λ (b : List ℕ). StoresBlob (Ok c.in-Ok.field-0) told s (unkept s c.known.ensures t x c.in-Fits.ensures) x b n.start f.journal n.journal old new) same (c.in-Ok.ensures.stores (unkept s c.known.ensures t x c.in-Fits.ensures) leads) in
     let is : c.keep-in-Ok.new.self.state ≡ with_away s x = c.keep-in-Ok.ensures ∙ ap (λ text. with_blob s x text) c.away.ensures in
     subst (λ v. Finishes v.state t blob finished.Kept (on_disk (g.D.Disk.told n.disk) new.seen c.keep-in-Ok.new.self.state)) c.self.view_is
     (subst (λ (y : State). Finishes (on_disk told old.seen s) t blob finished.Kept (on_disk (g.D.Disk.told n.disk) new.seen y)) (sym is)
@@ -159,6 +159,6 @@ returns-clause-images g c =
     let blob : List ℕ = c.args.blob in
     let long : length blob ≡ blob_size s.catalogue t.meta = subst (λ v. length blob ≡ blob_size v.state.catalogue t.meta) (sym c.self.view_is) c.requires.blob in
     let leads = finish_leads s c.known.ensures t x c.in-Fits.ensures in
-    let w = subst (λ (b : List ℕ). Stores c.keep.result told s (unkept s c.known.ensures t x c.in-Fits.ensures) x b n.start f.journal n.journal old new) (search rules) (c.keep.ensures.stores (unkept s c.known.ensures t x c.in-Fits.ensures) leads) in
+    let w = subst (λ (b : List ℕ). StoresBlob c.keep.result told s (unkept s c.known.ensures t x c.in-Fits.ensures) x b n.start f.journal n.journal old new) (search rules) (c.keep.ensures.stores (unkept s c.known.ensures t x c.in-Fits.ensures) leads) in
     subst (λ v. IsTrue (g.D.Disk.told v.file.disk) → Lasts v.state (λ u. Finishes v.state t blob finished.Kept u) v.file.journal (g.D.Disk.state v.file.disk) new) c.self.view_is
     (finish_images s c.known.ensures t x c.in-Fits.ensures told blob old new c.keep.result n.start f.journal n.journal long w)

@@ -4,7 +4,7 @@ use Rattle.cabinet.specs.Commands.{Saves}
 use Rattle.cabinet.specs.State.{State, with_counted}
 use Rattle.cabinet.specs.Counted.{uses}
 use Rattle.metatile_plan.specs.declared.metatile.MetaKey.{MetaKey}
-use Rattle.durable_cabinet.specs.Backing.{Leads}
+use Rattle.durable_cabinet.specs.Backing.{RecordLeads}
 use Rattle.durable_cabinet.specs.Drafts.{HasRoom}
 use Rattle.durable_cabinet.specs.Filed.{IsFiled, on_disk}
 use Rattle.durable_cabinet.specs.Hot.{IsHot}
@@ -23,7 +23,7 @@ invariant_of-self g c =
     let t = c.in-Some.found in
     let m = t.kept.meta in
     let n = c.write.new.file in
-    let leads = subst (Leads s s (with_counted s m (uses s.history m))) (sym c.used-entry.ensures.is) (save_leads s c.known.ensures t c.in-Some.ensures) in
+    let leads = subst (RecordLeads s s (with_counted s m (uses s.history m))) (sym c.record_of_uses-entry.ensures.is) (save_leads s c.known.ensures t c.in-Some.ensures) in
     let w = c.in-Err.ensures.writes s (with_counted s m (uses s.history m)) leads (save_regions s c.known.ensures t c.in-Some.ensures) in (
       subst (λ b. IsFiled s b n.start n.journal (g.D.Disk.state n.disk)) (sym c.write.ensures.told) w.written.err,
       omega (arith, c.self.invariant.1, c.write.ensures.room),
@@ -37,7 +37,7 @@ invariant_of-self-in-Ok g c =
     let t = c.in-Some.found in
     let m = t.kept.meta in
     let n = c.write.new.file in
-    let leads = subst (Leads s s (with_counted s m (uses s.history m))) (sym c.used-entry.ensures.is) (save_leads s c.known.ensures t c.in-Some.ensures) in
+    let leads = subst (RecordLeads s s (with_counted s m (uses s.history m))) (sym c.record_of_uses-entry.ensures.is) (save_leads s c.known.ensures t c.in-Some.ensures) in
     let w = c.in-Ok.ensures.writes s (with_counted s m (uses s.history m)) leads (save_regions s c.known.ensures t c.in-Some.ensures) in
     subst (λ (x : State). IsFiled x (g.D.Disk.told n.disk) n.start n.journal (g.D.Disk.state n.disk) × HasRoom x c.write.new.draft × IsHot (g.D.Disk.told n.disk) x (g.D.Disk.state n.disk).seen i.hot) (sym c.save.ensures) (
       subst (λ b. IsFiled (with_counted s m (uses s.history m)) b n.start n.journal (g.D.Disk.state n.disk)) (sym c.write.ensures.told) w.written.ok,
@@ -55,7 +55,7 @@ returns-in-Err-clause-saves g c =
     let n = c.write.new.file in
     let old = g.D.Disk.state f.disk in
     let new = g.D.Disk.state n.disk in
-    let leads = subst (Leads s s (with_counted s m (uses s.history m))) (sym c.used-entry.ensures.is) (save_leads s c.known.ensures t c.in-Some.ensures) in
+    let leads = subst (RecordLeads s s (with_counted s m (uses s.history m))) (sym c.record_of_uses-entry.ensures.is) (save_leads s c.known.ensures t c.in-Some.ensures) in
     let w = c.in-Err.ensures.writes s (with_counted s m (uses s.history m)) leads (save_regions s c.known.ensures t c.in-Some.ensures) in
     subst (λ v. Saves v.state (saved.DiskFault c.fault_count-before.result c.fault_count.result) (on_disk (g.D.Disk.told n.disk) new.seen s)) c.self.view_is
     (subst (λ b. Saves (on_disk (g.D.Disk.told f.disk) old.seen s) (saved.DiskFault c.fault_count-before.result c.fault_count.result) (on_disk b new.seen s)) (sym c.write.ensures.told)
@@ -69,7 +69,7 @@ returns-in-Err-clause-images g c =
     let m = t.kept.meta in
     let f = i.file in
     let n = c.write.new.file in
-    let leads = subst (Leads s s (with_counted s m (uses s.history m))) (sym c.used-entry.ensures.is) (save_leads s c.known.ensures t c.in-Some.ensures) in
+    let leads = subst (RecordLeads s s (with_counted s m (uses s.history m))) (sym c.record_of_uses-entry.ensures.is) (save_leads s c.known.ensures t c.in-Some.ensures) in
     let w = c.write.ensures.writes s (with_counted s m (uses s.history m)) leads (save_regions s c.known.ensures t c.in-Some.ensures) in
     subst (λ v. IsTrue (g.D.Disk.told v.file.disk) → Lasts v.state (λ u. (k : MetaKey) × Saves v.state (saved.Done k) u) v.file.journal (g.D.Disk.state v.file.disk) (g.D.Disk.state n.disk)) c.self.view_is
     (save_images (g.D.Disk.told f.disk) s t c.in-Some.ensures (g.D.Disk.state f.disk) (g.D.Disk.state n.disk) c.write.result n.start f.journal n.journal w)
@@ -84,7 +84,7 @@ returns-in-Ok-clause-saves g c =
     let n = c.write.new.file in
     let old = g.D.Disk.state f.disk in
     let new = g.D.Disk.state n.disk in
-    let leads = subst (Leads s s (with_counted s m (uses s.history m))) (sym c.used-entry.ensures.is) (save_leads s c.known.ensures t c.in-Some.ensures) in
+    let leads = subst (RecordLeads s s (with_counted s m (uses s.history m))) (sym c.record_of_uses-entry.ensures.is) (save_leads s c.known.ensures t c.in-Some.ensures) in
     let w = c.in-Ok.ensures.writes s (with_counted s m (uses s.history m)) leads (save_regions s c.known.ensures t c.in-Some.ensures) in
     subst (λ v. Saves v.state (saved.Done m) (on_disk (g.D.Disk.told n.disk) new.seen c.save.new.self.state)) c.self.view_is
     (subst (λ (x : State). Saves (on_disk (g.D.Disk.told f.disk) old.seen s) (saved.Done m) (on_disk (g.D.Disk.told n.disk) new.seen x)) (sym c.save.ensures)
@@ -99,7 +99,7 @@ returns-in-Ok-clause-images g c =
     let m = t.kept.meta in
     let f = i.file in
     let n = c.write.new.file in
-    let leads = subst (Leads s s (with_counted s m (uses s.history m))) (sym c.used-entry.ensures.is) (save_leads s c.known.ensures t c.in-Some.ensures) in
+    let leads = subst (RecordLeads s s (with_counted s m (uses s.history m))) (sym c.record_of_uses-entry.ensures.is) (save_leads s c.known.ensures t c.in-Some.ensures) in
     let w = c.write.ensures.writes s (with_counted s m (uses s.history m)) leads (save_regions s c.known.ensures t c.in-Some.ensures) in
     subst (λ v. IsTrue (g.D.Disk.told v.file.disk) → Lasts v.state (λ u. (k : MetaKey) × Saves v.state (saved.Done k) u) v.file.journal (g.D.Disk.state v.file.disk) (g.D.Disk.state n.disk)) c.self.view_is
     (save_images (g.D.Disk.told f.disk) s t c.in-Some.ensures (g.D.Disk.state f.disk) (g.D.Disk.state n.disk) c.write.result n.start f.journal n.journal w)

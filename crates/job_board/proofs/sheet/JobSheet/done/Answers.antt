@@ -1,5 +1,5 @@
 use Rattle.std.proofs.Common.{ℕ, List, sym, subst}
-use Rattle.job_board.specs.Hands.{Holding, MayReport}
+use Rattle.job_board.specs.Hands.{MayReport, SheetHolding}
 use Rattle.job_board.specs.SheetCalls.{ReportsDone}
 use Rattle.job_board.specs.Seats.{IsHand, holding_of}
 use Rattle.job_board.proofs.Held.{done_still, reports_done_of, reports_number, reports_some}
@@ -7,23 +7,23 @@ use Rattle.job_board.proofs.sheet.JobSheet.done.Goals as goal
 
 pub report_done-requires-clause-hand : goal.report_done-requires-clause-hand
 report_done-requires-clause-hand c =
-    let may = subst (λ (h : Holding). MayReport h c.args.place) (sym c.hand.view_is) c.requires.unreported in
+    let may = subst (λ (h : SheetHolding). MayReport h c.args.place) (sym c.hand.view_is) c.requires.unreported in
     reports_number c.hand.inside.seat c.hand.inside.done.entries c.hand.inside.failed.entries c.args.place may
 
 pub report_done-requires-clause-unreported : goal.report_done-requires-clause-unreported
 report_done-requires-clause-unreported c =
-    let may = subst (λ (h : Holding). MayReport h c.args.place) (sym c.hand.view_is) c.requires.unreported in
+    let may = subst (λ (h : SheetHolding). MayReport h c.args.place) (sym c.hand.view_is) c.requires.unreported in
     reports_some c.hand.inside.seat c.hand.inside.done.entries c.hand.inside.failed.entries c.args.place c.hand.invariant may
 
 pub invariant_of-hand : goal.invariant_of-hand
 invariant_of-hand c =
-    let may = subst (λ (h : Holding). MayReport h c.args.place) (sym c.hand.view_is) c.requires.unreported in
+    let may = subst (λ (h : SheetHolding). MayReport h c.args.place) (sym c.hand.view_is) c.requires.unreported in
     subst (λ (l : List ℕ). IsHand c.report_done.new.seat.me l c.hand.inside.failed.entries) (sym c.and-hand-inside.ensures)
     (done_still c.hand.inside.seat c.report_done.new.seat c.hand.inside.done.entries c.hand.inside.failed.entries c.hand.invariant c.report_done.ensures.own c.args.place may c.report_done.ensures.reported)
 
 pub returns : goal.returns
 returns c =
-    let may = subst (λ (h : Holding). MayReport h c.args.place) (sym c.hand.view_is) c.requires.unreported in
-    subst (λ (h : Holding). ReportsDone h (holding_of c.report_done.new.seat c.and-hand-inside.result.entries c.hand.inside.failed.entries) c.args.place) c.hand.view_is
+    let may = subst (λ (h : SheetHolding). MayReport h c.args.place) (sym c.hand.view_is) c.requires.unreported in
+    subst (λ (h : SheetHolding). ReportsDone h (holding_of c.report_done.new.seat c.and-hand-inside.result.entries c.hand.inside.failed.entries) c.args.place) c.hand.view_is
     (subst (λ (l : List ℕ). ReportsDone (holding_of c.hand.inside.seat c.hand.inside.done.entries c.hand.inside.failed.entries) (holding_of c.report_done.new.seat l c.hand.inside.failed.entries) c.args.place) (sym c.and-hand-inside.ensures)
     (reports_done_of c.hand.inside.seat c.report_done.new.seat c.hand.inside.done.entries c.hand.inside.failed.entries c.hand.invariant c.report_done.ensures.own c.args.place may c.report_done.ensures.reported))

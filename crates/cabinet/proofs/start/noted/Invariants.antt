@@ -1,5 +1,0 @@
-use Rattle.std.proofs.Common.{◌≡◌, take}
-use Rattle.cabinet.proofs.start.noted.Given as goal
-
-abbrev pub invariant-noting : goal.invariant-noting
-invariant-noting l = record { entries : l.notes.entries ≡ take l.at l.kept }

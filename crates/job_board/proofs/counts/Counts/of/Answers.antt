@@ -1,5 +1,0 @@
-use Rattle.job_board.proofs.Cuts.{begins}
-use Rattle.job_board.proofs.counts.Counts.of.Goals as goal
-
-pub of_words-requires : goal.of_words-requires
-of_words-requires c = begins _

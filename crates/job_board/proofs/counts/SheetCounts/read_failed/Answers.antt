@@ -1,0 +1,11 @@
+use Rattle.std.proofs.Common.{rules, refl, arith}
+use Rattle.job_board.specs.Standings.{failed_count}
+use Rattle.job_board.proofs.Moves.{reads_as}
+use Rattle.job_board.proofs.counts.SheetCounts.read_failed.Goals as goal
+
+pub load-requires : goal.load-requires
+load-requires c =
+    let sized = c.args.self.now.sized in
+    let keyed = c.args.self.now.keyed in
+    let bounded = c.args.self.now.bounded in
+    (search rules, omega arith, reads_as c.args.self.now.table.shared.key (omega arith) (omega arith) _ _ _ c.requires.live 2 failed_count (λ _. refl))
