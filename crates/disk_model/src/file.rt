@@ -6,6 +6,7 @@ ghost use Rattle.disk_model.specs.Images.{silent};
 
 use crate::blob_part::BlobPart;
 use crate::disk::{Disk, Failed};
+use crate::file_fault::{FileCall, FileFault};
 use base::one_more;
 use std::fs::File;
 use std::io;
@@ -23,6 +24,8 @@ pub struct FileDisk {
     /// A read that begins below this place finds zeros past the end of the file; each other one past the end fails.
     padded: u64,
     faults: u64,
+    /// The call that failed last, and why.
+    last: Option<FileFault>,
 }
 
 impl FileDisk {
@@ -35,17 +38,24 @@ impl FileDisk {
             file,
             padded,
             faults: 0,
+            last: None,
         }
     }
 
-    /// Counts a fault where the system told one.
-    fn answer(&mut self, done: io::Result<()>) -> Result<(), Failed>
+    /// The call that failed last, and what the system said of it; `None` where none has failed.
+    pub fn last_fault(&self) -> Option<FileFault> {
+        self.last
+    }
+
+    /// Counts a fault of this call, from this place on, where the system told one, and keeps why.
+    fn answer(&mut self, call: FileCall, at: u64, done: io::Result<()>) -> Result<(), Failed>
         ensures { HasCause self.old.faults self.new.faults result }
     {
         match done {
             Ok(()) => Ok(()),
-            Err(_) => {
+            Err(error) => {
                 self.faults = one_more(self.faults);
+                self.last = Some(FileFault::of(call, at, &error));
                 Err(Failed)
             }
         }
@@ -93,18 +103,18 @@ impl Disk for FileDisk {
         } else {
             self.file.read_exact_at(into, at)
         };
-        self.answer(done)
+        self.answer(FileCall::Read, at, done)
     }
 
     // What was written of a blob is lost where the file ends before it.
     fn read_of(&mut self, _part: BlobPart, at: u64, into: &mut [u8]) -> Result<(), Failed> {
         let done = self.file.read_exact_at(into, at);
-        self.answer(done)
+        self.answer(FileCall::Read, at, done)
     }
 
     fn write_at(&mut self, at: u64, bytes: &[u8]) -> Result<(), Failed> {
         let done = self.file.write_all_at(bytes, at);
-        self.answer(done)
+        self.answer(FileCall::Write, at, done)
     }
 
     fn write_of(
@@ -119,12 +129,12 @@ impl Disk for FileDisk {
 
     fn cut(&mut self, length: u64) -> Result<(), Failed> {
         let done = cut_to(&self.file, length);
-        self.answer(done)
+        self.answer(FileCall::Cut, length, done)
     }
 
     fn sync(&mut self) -> Result<(), Failed> {
         let done = self.file.sync_data();
-        self.answer(done)
+        self.answer(FileCall::Sync, 0, done)
     }
 
     fn fault_count(&self) -> u64 {

@@ -25,3 +25,4 @@ mod texts;
 
 pub use disk_cabinet::{Cabinet, make};
 pub use parts::Parts;
+pub use replaying::{replay, slots_for};

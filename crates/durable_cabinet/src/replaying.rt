@@ -14,8 +14,8 @@ use disk_model::Disk;
 use gate_journal::OpenFault;
 use std::alloc::Global;
 
-/// How many slots a half of the journal has.
-pub(crate) fn slots_for(catalogue: &Catalogue) -> u64
+/// How many slots a half of the journal of a catalogue's cache has.
+pub fn slots_for(catalogue: &Catalogue) -> u64
     ensures { result ≡ slots_for catalogue.now }
 {
     2 * (u64::from(catalogue.kept_limit) + u64::from(catalogue.cut_limit)) + 64
@@ -35,8 +35,10 @@ fn asked_for(digest: &[u8; 32], fault: OpenFault) -> OpenFault
     }
 }
 
-/// Opens the journal of a disk and replays its records. A refusal hands the disk back. The disk is only read and synced.
-pub(crate) fn replay<D: Disk>(
+/// Opens the journal of a disk and replays its records, and opens no cabinet: no number of an opening is spent, and the disk is only read and
+/// synced. A refusal hands the disk back: the records are no cache of the catalogue, the disk failed, or memory ran out, as `Cabinet::open`
+/// refuses them; that the openings are spent is no refusal here.
+pub fn replay<D: Disk>(
     alloc: Global,
     catalogue: &Catalogue,
     disk: D,
